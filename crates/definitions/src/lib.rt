@@ -1,0 +1,6 @@
+//! What the index promises, as definitions over plain lists, numbers and data types.
+#![tactic(auto)]
+
+mod fault;
+
+pub use fault::Fault;
