@@ -6,6 +6,10 @@ use Rattle.definitions.specs.Recorded.{count_of, holds, positions_of}
 use Rattle.definitions.specs.Schema.{Schema}
 use Rattle.definitions.specs.Values.{Document}
 
+-- past every document: where a cursor stands that has none left
+abbrev pub terminated : ℕ
+terminated = 2147483647
+
 -- a document's place, how often it has the term, and where
 pub record Posting : Type 0 where
   pub doc : ℕ
