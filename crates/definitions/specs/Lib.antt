@@ -3,6 +3,7 @@ pub mod FaultNames
 pub mod Values
 pub mod Schema
 pub mod Facets
+pub mod FieldPaths
 pub mod Analyzers
 pub mod Terms
 pub mod Places
@@ -18,12 +19,15 @@ pub mod Stored
 pub mod Printed
 pub mod Query
 pub mod Phrases
+pub mod Walking
 pub mod Matching
 pub mod Scoring
 pub mod Refusing
 pub mod Scanning
+pub mod ScanLaws
 pub mod State
 pub mod Calls
+pub mod HistoryLaws
 pub mod Alive
 pub mod Postings
 pub mod Blocks

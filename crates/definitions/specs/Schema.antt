@@ -1,7 +1,9 @@
 -- Fields: their names, their kinds and what their options say.
-use Rattle.std.specs.Prelude.{[], ⊤, ◌&&◌, ◌<◌, ◌^◌, ◌∷◌, ◌≡◌, ◌≢◌, Bool, IsTrue, IsUtf8, List, Option, bytes_eq, codes, false, if◌then◌else◌, length, nat_eq, not, slice_get, true, ℕ}
+use Rattle.std.specs.Prelude.{[], ⊤, ◌&&◌, ◌++◌, ◌∷◌, ◌≡◌, ◌≢◌, ◌≤◌, Bool, Err, IsTrue, IsUtf8, List, Ok, Option, Result, bytes_eq, codes, false, if◌then◌else◌, is_some, length, nat_eq, nat_le, not, slice_get, true, ℕ}
 use Rattle.std.specs.List.{AllByRecursion, position_from, starts_with}
 use Rattle.std.specs.Option.{option_map_or}
+use Rattle.definitions.specs.declared.fault.Fault.{Fault}
+use Rattle.definitions.specs.declared.fault.Fault.TheVariants.{BadName, DuplicateName, TooManyFields}
 
 pub data Kind : Type 0 where
   text_kind : Kind
@@ -13,6 +15,22 @@ pub data Kind : Type 0 where
   bytes_kind : Kind
   json_kind : Kind
   ip_addr_kind : Kind
+
+-- the kinds, in the order in which they are listed
+abbrev pub all_kinds : List Kind
+all_kinds = text_kind ∷ u64_kind ∷ i64_kind ∷ bool_kind ∷ date_kind ∷ facet_kind ∷ bytes_kind ∷ json_kind ∷ ip_addr_kind ∷ []
+
+-- a kind's name in JSON
+abbrev pub kind_name : Kind → List ℕ
+kind_name text_kind = codes "text"
+kind_name u64_kind = codes "u64"
+kind_name i64_kind = codes "i64"
+kind_name bool_kind = codes "bool"
+kind_name date_kind = codes "date"
+kind_name facet_kind = codes "facet"
+kind_name bytes_kind = codes "bytes"
+kind_name json_kind = codes "json_object"
+kind_name ip_addr_kind = codes "ip_addr"
 
 -- what is recorded of a text term: its documents, with counts, or with positions too
 pub data IndexRecordOption : Type 0 where
@@ -77,10 +95,21 @@ field_has test schema field = option_map_or test (slice_get schema field) false
 abbrev pub field_named : Schema → List ℕ → Option ℕ
 field_named schema name = position_from (λ e. bytes_eq e.name name) 0 schema
 
--- ---- which of these are schemas
+-- ---- making a schema
 
+-- the most fields that a schema has
+abbrev pub max_fields : ℕ
+max_fields = 4294967295
+
+-- a name may not be empty, nor begin with `-`
 abbrev pub is_valid_field_name : List ℕ → Bool
 is_valid_field_name name = not (bytes_eq name []) && not (starts_with nat_eq name (codes "-"))
+
+-- the schema with one more field, or why it can't be added
+abbrev pub with_field : Schema → Entry → Result Schema Fault
+with_field schema e = if is_some (field_named schema e.name) then Err DuplicateName else (if not (is_valid_field_name e.name) then Err BadName else (if nat_le max_fields (length schema) then Err TooManyFields else Ok (schema ++ (e ∷ []))))
+
+-- ---- which of these are schemas
 
 -- what stands without an indexing
 abbrev pub without_indexing : Entry → Entry
@@ -113,4 +142,4 @@ AreDistinct (e ∷ es) = AllByRecursion (λ f. f.name ≢ e.name) es × AreDisti
 pub record IsSchema (schema : Schema) : Type 0 where
   pub entries : AllByRecursion IsEntry schema
   pub distinct : AreDistinct schema
-  pub few : length schema < 2 ^ 32
+  pub few : length schema ≤ max_fields

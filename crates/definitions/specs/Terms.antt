@@ -4,7 +4,7 @@ use Rattle.std.specs.List.{after_first, join_with_byte}
 use Rattle.std.specs.Option.{option_map_or}
 use Rattle.std.specs.Int.{from_be_bytes, to_be_bytes, w128, w32, w64}
 use Rattle.definitions.specs.Facets.{encoded}
-use Rattle.definitions.specs.Schema.{Kind, bool_kind, bytes_kind, date_kind, facet_kind, i64_kind, ip_addr_kind, is_text, json_kind, text_kind, u64_kind}
+use Rattle.definitions.specs.Schema.{Kind, all_kinds, bool_kind, bytes_kind, date_kind, facet_kind, i64_kind, ip_addr_kind, is_text, json_kind, text_kind, u64_kind}
 use Rattle.definitions.specs.Values.{Value, bool, bytes, date, facet, i64, ip_addr, str, u64}
 
 abbrev pub type_code : Kind → List ℕ
@@ -76,6 +76,14 @@ field_of t = from_be_bytes w32 (take 4 t)
 
 abbrev pub has_kind : Kind → List ℕ → Bool
 has_kind kind t = bytes_eq (take 1 (drop 4 t)) (type_code kind)
+
+-- the kind that a term's code names; there is one where the term has its code
+abbrev pub kind_in : List ℕ → Option Kind
+kind_in t = find (λ kind. has_kind kind t) all_kinds
+
+-- what stands behind field and code
+abbrev pub payload_of : List ℕ → List ℕ
+payload_of t = drop 5 t
 
 -- the kinds of leaves
 abbrev pub leaf_kinds : List Kind

@@ -2,5 +2,9 @@
 #![tactic(auto)]
 
 mod fault;
+pub mod history_laws;
+pub mod scan_laws;
+pub mod score_laws;
+pub mod word_laws;
 
 pub use fault::Fault;

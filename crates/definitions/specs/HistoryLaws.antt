@@ -1,0 +1,31 @@
+-- What laws over histories say: states that no search can tell apart.
+use Rattle.std.specs.Prelude.{[], ⊤, ◌-◌, ◌∷◌, ◌≡◌, ◌≤◌, List, drop, filter, flat_map, not, take, ℕ}
+use Rattle.definitions.specs.Calls.{Call, Configuration, after, is_merge, merge_range}
+use Rattle.definitions.specs.State.{State, committed}
+use Rattle.definitions.specs.Values.{Document}
+
+-- the documents of the groups from one place to another
+abbrev pub documents_within : ℕ → ℕ → State → List Document
+documents_within from to s = flat_map (λ group. group) (take (to - from) (drop from s.groups))
+
+-- the same committed documents, and the same calls that wait
+abbrev pub SameList : State → State → Type 0
+SameList s t = (committed s ≡ committed t) × (s.pending ≡ t.pending)
+
+-- the configuration with so many documents in a segment
+abbrev pub with_segments_of : ℕ → Configuration → Configuration
+with_segments_of n c = record c { docs_per_segment = n }
+
+-- the state after calls, one after the other, of which none is refused
+abbrev pub after_all : Configuration → State → List Call → State
+after_all c s [] = s
+after_all c s (call ∷ calls) = after_all c (after c s call) calls
+
+-- the calls but for merges
+abbrev pub without_merges : List Call → List Call
+without_merges calls = filter (λ call. not (is_merge call)) calls
+
+-- whether a merge's range doesn't end before it begins
+abbrev pub HasRange : Call → Type 0
+HasRange (merge_range from to) = from ≤ to
+HasRange _ = ⊤
