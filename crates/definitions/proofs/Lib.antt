@@ -11,3 +11,4 @@ pub mod StableSorts
 pub mod HitsOfScans
 pub mod Joins
 pub mod Histories
+pub mod OnLiterals

@@ -32,3 +32,4 @@ pub mod Alive
 pub mod Postings
 pub mod Blocks
 pub mod Sinks
+pub mod Examples

@@ -1,6 +1,7 @@
 //! What the index promises, as definitions over plain lists, numbers and data types.
 #![tactic(auto)]
 
+pub mod examples;
 mod fault;
 pub mod history_laws;
 pub mod scan_laws;

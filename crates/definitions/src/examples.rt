@@ -1,0 +1,15 @@
+//! Worked examples, each computed over the definitions.
+
+pub mod addresses;
+pub mod blocks;
+pub mod calls;
+pub mod dates;
+pub mod history;
+pub mod matching;
+pub mod phrases;
+pub mod ranking;
+pub mod reading;
+pub mod refusals;
+pub mod terms;
+pub mod texts;
+pub mod written;
