@@ -12,3 +12,7 @@ pub mod HitsOfScans
 pub mod Joins
 pub mod Histories
 pub mod OnLiterals
+pub mod QueriesByKeys
+pub mod SettingsInRange
+pub mod ReplyTexts
+pub mod Steps

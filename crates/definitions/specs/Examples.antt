@@ -42,6 +42,7 @@ books = text_entry "title" ∷ indexed_entry "year" u64_kind ∷ []
 abbrev pub data_of : Kind → Schema
 data_of field_kind = indexed_entry "data" field_kind ∷ []
 
+-- the same with a field that coerces
 abbrev pub coercing_data : Kind → Schema
 coercing_data field_kind = coercing (indexed_entry "data" field_kind) ∷ []
 
@@ -51,6 +52,7 @@ json_data = record (indexed_entry "data" json_kind) { record_option = with_freqs
 
 -- ---- documents
 
+-- a book of that title and year
 abbrev pub book : String → ℕ → Document
 book title year = (0, str (codes title)) ∷ (1, u64 year) ∷ []
 
@@ -74,6 +76,7 @@ titled titles = map (λ title. (0, str (codes title))) titles
 abbrev pub letters : List Document
 letters = titled ("a b c" ∷ []) ∷ titled ("a c e" ∷ []) ∷ titled ("d f g" ∷ []) ∷ titled ("z z z" ∷ []) ∷ titled ("c i b" ∷ []) ∷ []
 
+-- one member, and none after it
 abbrev pub last_member : String → Value → Members
 last_member key v = member (codes key) v no_members
 
@@ -81,20 +84,22 @@ last_member key v = member (codes key) v no_members
 abbrev pub one_member : String → Value → Value
 one_member key v = object (last_member key v)
 
--- an object with so many arrays in one another
+-- so many arrays in one another
 abbrev pub nested_arrays : ℕ → Value
 nested_arrays zero = null
 nested_arrays (suc more) = array (value (nested_arrays more) no_values)
 
+-- an object with so many arrays in one another
 abbrev pub arrays : ℕ → Value
 arrays n = one_member "a" (nested_arrays n)
 
 -- ---- terms and queries
 
--- two hexadecimal digits for each byte
+-- a number below 16 as a digit
 abbrev pub hex_digit : ℕ → ℕ
 hex_digit n = if nat_lt n 10 then 48 + n else 87 + n
 
+-- two hexadecimal digits for each byte
 abbrev pub hex : List ℕ → List ℕ
 hex bs = flat_map (λ b. hex_digit (b / 16) ∷ hex_digit (b % 16) ∷ []) bs
 
@@ -102,9 +107,11 @@ hex bs = flat_map (λ b. hex_digit (b / 16) ∷ hex_digit (b % 16) ∷ []) bs
 abbrev pub json_hex : Value → List (List ℕ)
 json_hex v = map (λ p. hex p.0) (terms_of json_data raw_and_default ((0, v) ∷ []))
 
+-- the term of a date in a date field
 abbrev pub date_term : ℤ → List ℕ
 date_term nanos = term_bytes 0 date_kind (signed_bytes (whole_seconds nanos))
 
+-- the terms of titles and of years
 abbrev pub title_term : String → List ℕ
 title_term token = term_bytes 0 text_kind (codes token)
 
@@ -115,6 +122,7 @@ year_term year = term_bytes 1 u64_kind (to_be_bytes w64 year)
 abbrev pub word : String → Query
 word token = term (title_term token) with_freqs_and_positions
 
+-- the books of a year
 abbrev pub of_year : ℕ → Query
 of_year year = term (year_term year) basic
 
@@ -127,6 +135,7 @@ shoulds (q ∷ qs) = clause should q (shoulds qs)
 abbrev pub bool_of : Clauses → Query
 bool_of cs = boolean cs (default_minimum cs)
 
+-- titles with `sea`, `wind` or both
 abbrev pub sea_or_wind : Query
 sea_or_wind = bool_of (shoulds (word "sea" ∷ word "wind" ∷ []))
 
@@ -134,6 +143,7 @@ sea_or_wind = bool_of (shoulds (word "sea" ∷ word "wind" ∷ []))
 abbrev pub sea_and_a_point : Query
 sea_and_a_point = bool_of (clause must (bool_of (shoulds (word "wind" ∷ all ∷ []))) (clause must (word "sea") no_clauses))
 
+-- a list of queries, as a query holds them
 abbrev pub queries_of : List Query → Queries
 queries_of [] = no_queries
 queries_of (q ∷ qs) = query q (queries_of qs)
@@ -169,6 +179,7 @@ weighing n = record { weight = λ t. n; norms = replicate 256 1 }
 abbrev pub best : ℕ → List Document → Query → List Hit
 best k docs q = scan books raw_and_default (weighing 60) docs q k
 
+-- how many match
 abbrev pub count_in : List Document → Query → ℕ
 count_in docs q = scan_count books raw_and_default docs q
 
@@ -191,6 +202,7 @@ after_calls docs_in_segment (call ∷ calls) s = after_calls docs_in_segment cal
 abbrev pub add_and_commit : List Document → List Call
 add_and_commit docs = map add_document docs ++ (commit_pending ∷ [])
 
+-- the three books, added and committed
 abbrev pub of_three_books : ℕ → State
 of_three_books docs_in_segment = after_calls docs_in_segment (add_and_commit three_books) nothing_yet
 

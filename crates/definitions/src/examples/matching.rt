@@ -4,7 +4,7 @@ ghost use Rattle.std.specs.Prelude.{[], ◌∷◌, ◌≡◌, codes, false, filt
 ghost use Rattle.definitions.specs.Analyzers.{raw_and_default};
 ghost use Rattle.definitions.specs.Examples.{bare, best, best_of, books, bool_of, count_in, hit, letters, of_year, old_sea, sea_wind, shoulds, text_entry, three_books, title_term, titled, wind, word, words};
 ghost use Rattle.definitions.specs.Matching.{matches};
-ghost use Rattle.definitions.specs.Query.{all, boolean, clause, empty, must, must_not, no_clauses, should, term};
+ghost use Rattle.definitions.specs.Query.{all, boolean, clause, default_minimum, empty, must, must_not, no_clauses, should, term};
 ghost use Rattle.definitions.specs.Recorded.{holds};
 ghost use Rattle.definitions.specs.Schema.{basic, facet_kind, text_kind};
 ghost use Rattle.definitions.specs.Terms.{term_bytes};
@@ -67,4 +67,12 @@ pub fn so_many_words_of_four()
 pub fn fields_are_found_where_they_are_indexed()
     ensures text { holds (record (text_entry "title") { indexed = false } ∷ []) raw_and_default (title_term "sea") sea_wind ≡ false }
     ensures facet { holds (bare "data" facet_kind ∷ []) raw_and_default (term_bytes 0 facet_kind (codes "a")) ((0, facet (codes "a" ∷ [])) ∷ []) ≡ true }
+{}
+
+/// Where no minimum is given it is 1 if all clauses are should clauses, and else 0.
+pub fn minimums_follow_the_clauses()
+    ensures should_clauses { default_minimum (shoulds (all ∷ all ∷ [])) ≡ 1 }
+    ensures with_a_must { default_minimum (clause should all (clause must all no_clauses)) ≡ 0 }
+    ensures with_a_must_not { default_minimum (clause should all (clause must_not all no_clauses)) ≡ 0 }
+    ensures no_clause { default_minimum no_clauses ≡ 0 }
 {}

@@ -2,11 +2,12 @@
 #![tactic(auto, unfolding(crate::proofs::OnLiterals::definitions_on_literals))]
 
 ghost use Rattle.std.specs.Prelude.{[], ◌++◌, ◌-◌, ◌^◌, ◌∷◌, ◌≡◌, codes, false, negsuc, pos, true};
-ghost use Rattle.definitions.specs.Calls.{document_json};
-ghost use Rattle.definitions.specs.Examples.{best, book, books, coercing_data, data_of, json_data, old_sea, one_member, titled};
+ghost use Rattle.definitions.specs.Calls.{add_json, commit_pending, document_json};
+ghost use Rattle.definitions.specs.Examples.{after_calls, best, book, books, coercing_data, data_of, json_data, old_sea, one_member, titled};
 ghost use Rattle.definitions.specs.Query.{all};
 ghost use Rattle.definitions.specs.Reading.{read_json};
 ghost use Rattle.definitions.specs.Schema.{bool_kind, bytes_kind, date_kind, facet_kind, i64_kind, ip_addr_kind, text_kind, u64_kind};
+ghost use Rattle.definitions.specs.State.{committed, nothing_yet};
 ghost use Rattle.definitions.specs.Values.{array, bool, bytes, date, facet, i64, ip_addr, member, no_members, no_values, null, object, str, u64, value};
 ghost use Rattle.definitions.specs.declared.fault.Fault.TheVariants as faults;
 ghost use Rattle.serde_json.specs.Data as json;
@@ -17,7 +18,7 @@ pub fn documents_are_objects()
     ensures array { read_json books (codes "[1]") ≡ Err faults.NotAnObject }
     ensures no_json { read_json books (codes "{\"year\":") ≡ Err faults.NotAnObject }
     ensures no_field { read_json books (codes "{\"x\":1.5}") ≡ Ok [] }
-    ensures found { best 10 ([] ∷ []) all ≡ (1, []) ∷ [] }
+    ensures found { best 10 (committed (after_calls 2 (add_json (codes "{\"x\":1.5}") ∷ commit_pending ∷ []) nothing_yet)) all ≡ (1, []) ∷ [] }
 {}
 
 /// An array gives a value for each element, also none.

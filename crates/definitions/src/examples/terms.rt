@@ -62,6 +62,7 @@ pub fn keys_are_joined()
     ensures empty_first { hex (path_of_keys false ([] ∷ codes "a" ∷ [])) ≡ codes "0161" }
     ensures empty_last { hex (path_of_keys false (codes "a" ∷ [] ∷ [])) ≡ codes "6101" }
     ensures empty_alone { path_of_keys false ([] ∷ []) ≡ [] }
+    ensures dots_in_a_document { map (λ l. hex l.0) (leaves true [] (one_member "a.b" (bool true))) ≡ codes "610162" ∷ [] }
 {}
 
 /// A JSON term has the path, a byte 0, and the leaf's kind and value.

@@ -1,13 +1,14 @@
 //! Texts in words, their lengths, and what is recorded of them.
 
-ghost use Rattle.std.specs.Prelude.{[], ◌++◌, ◌∷◌, ◌≡◌, codes, false, length, map, replicate, true};
+ghost use Rattle.std.specs.Prelude.{[], ◌++◌, ◌∷◌, ◌≡◌, codes, false, length, map, pos, replicate, true};
 ghost use Rattle.definitions.specs.Analyzers.{default_tokens, is_raw_or_default, one_token, raw, raw_and_default};
-ghost use Rattle.definitions.specs.Examples.{books, indexed_entry, sea_wind, text_entry, title_term, titled, year_term};
+ghost use Rattle.definitions.specs.Examples.{books, indexed_entry, json_data, one_member, sea_wind, text_entry, title_term, titled, year_term};
 ghost use Rattle.definitions.specs.Lengths.{fieldnorm_to_id, id_to_fieldnorm, len_of};
 ghost use Rattle.definitions.specs.Recorded.{ascending, count_of, holds, positions_of};
 ghost use Rattle.definitions.specs.Schema.{basic, facet_kind, json_kind, keeps_length, with_freqs};
 ghost use Rattle.definitions.specs.Stored.{stored_values};
-ghost use Rattle.definitions.specs.Values.{pre_tok_str, str, u64};
+ghost use Rattle.definitions.specs.Terms.{json_term, signed_bytes};
+ghost use Rattle.definitions.specs.Values.{array, no_values, pre_tok_str, str, u64, value};
 
 /// Letters, digits and characters past ASCII make words, which are lowered and numbered.
 pub fn words_are_lowered_and_numbered()
@@ -72,6 +73,9 @@ pub fn texts_have_counts_and_positions()
     ensures positions { positions_of books raw_and_default (title_term "sea") sea_wind ≡ 0 ∷ 1 ∷ [] }
     ensures number_count { count_of books raw_and_default (year_term 1) ((1, u64 1) ∷ (1, u64 1) ∷ []) ≡ 1 }
     ensures number_positions { positions_of books raw_and_default (year_term 1) ((1, u64 1) ∷ (1, u64 1) ∷ []) ≡ [] }
+    ensures number_in_json { count_of json_data raw_and_default (json_term 0 (codes "a") (codes "i" ++ signed_bytes (pos 5))) ((0, one_member "a" (array (value (u64 5) (value (u64 5) no_values)))) ∷ []) ≡ 1 }
+    ensures number_in_json_positions { positions_of json_data raw_and_default (json_term 0 (codes "a") (codes "i" ++ signed_bytes (pos 5))) ((0, one_member "a" (array (value (u64 5) (value (u64 5) no_values)))) ∷ []) ≡ [] }
+    ensures text_in_json { count_of json_data raw_and_default (json_term 0 (codes "a") (codes "sx")) ((0, one_member "a" (str (codes "x x"))) ∷ []) ≡ 2 }
     ensures documents_only { count_of (record (text_entry "title") { record_option = basic } ∷ []) raw_and_default (title_term "sea") sea_wind ≡ 1 }
     ensures counts_only { count_of (record (text_entry "title") { record_option = with_freqs } ∷ []) raw_and_default (title_term "sea") sea_wind ≡ 2 }
     ensures no_positions { positions_of (record (text_entry "title") { record_option = with_freqs } ∷ []) raw_and_default (title_term "sea") sea_wind ≡ [] }

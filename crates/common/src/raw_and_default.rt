@@ -1,0 +1,103 @@
+//! The two analyzers that are always there.
+
+ghost use Rattle.std.specs.Prelude.{◌++◌, ◌≡◌, IfOk, OnOk, map, option_to_list};
+ghost use Rattle.definitions.specs.Analyzers.{default_tokens, is_raw_or_default, is_word_byte, max_run_len, raw, raw_and_default, run_token};
+ghost use Rattle.common.specs.Token.{token_of};
+
+use crate::analyzer::Analyzer;
+use crate::token::Token;
+use std::alloc::{AllocError, Global};
+
+/// The analyzers `raw`, whose one token is the whole text, and `default`, whose tokens are the words.
+///
+/// A word is a longest run of ASCII letters, ASCII digits and characters past ASCII. One of more
+/// than 40 bytes takes its place and gives no token; the others have their ASCII letters lowered.
+#[derive(Clone, Copy, Debug)]
+pub struct RawAndDefault;
+
+impl Analyzer for RawAndDefault {
+    ghost use Rattle.definitions.proofs.TokenTexts.{raw_and_default_analyzes};
+
+    ghost knows_name = { λ _. is_raw_or_default };
+
+    ghost analyze = { λ _. raw_and_default };
+
+    ghost is_analyzer = { λ _. raw_and_default_analyzes };
+
+    fn knows(&self, name: &str) -> bool {
+        name == "raw" || name == "default"
+    }
+
+    fn tokens(&self, alloc: Global, name: &str, text: &str) -> Result<Vec<Token>, AllocError> {
+        if name == "raw" {
+            raw_tokens(alloc, text)
+        } else if name == "default" {
+            default_tokens(alloc, text)
+        } else {
+            Ok(Vec::new(alloc))
+        }
+    }
+}
+
+/// The longest word that is a token, in bytes.
+const MAX_WORD_LEN: usize = 40;
+
+fn raw_tokens(alloc: Global, text: &str) -> Result<Vec<Token>, AllocError>
+    ensures { IfOk result (λ ts. map token_of ts.items ≡ raw text.now) }
+{
+    let mut tokens = Vec::new(alloc);
+    tokens.push(Token {
+        position: 0,
+        position_length: 1,
+        text: String::from_str(alloc, text)?,
+    })?;
+    Ok(tokens)
+}
+
+// Each byte is looked at once. From `start` on there are only bytes of one word, or none yet.
+fn default_tokens(alloc: Global, text: &str) -> Result<Vec<Token>, AllocError>
+    ensures { IfOk result (λ ts. map token_of ts.items ≡ default_tokens text.now) }
+{
+    let mut tokens = Vec::new(alloc);
+    let mut position = 0;
+    let mut start = 0;
+    for (i, byte) in text.as_bytes().iter().enumerate() {
+        if !is_word_byte(*byte) {
+            if start < i {
+                push_word(&mut tokens, alloc, position, &text[start..i])?;
+                position += 1;
+            }
+            start = i + 1;
+        }
+    }
+    if start < text.len() {
+        push_word(&mut tokens, alloc, position, &text[start..])?;
+    }
+    Ok(tokens)
+}
+
+fn is_word_byte(byte: u8) -> bool
+    ensures { result ≡ is_word_byte byte }
+{
+    byte.is_ascii_alphanumeric() || byte >= 128
+}
+
+fn push_word(
+    tokens: &mut Vec<Token>,
+    alloc: Global,
+    position: usize,
+    word: &str,
+) -> Result<(), AllocError>
+    ensures { OnOk result (map token_of tokens.new.items
+        ≡ map token_of tokens.old.items ++ option_to_list (run_token (position, word.now))) }
+{
+    if word.len() <= MAX_WORD_LEN {
+        let text = word.to_ascii_lowercase(alloc)?;
+        tokens.push(Token {
+            position,
+            position_length: 1,
+            text,
+        })?;
+    }
+    Ok(())
+}

@@ -1,0 +1,14 @@
+//! Why serving requests ended before the input did.
+
+use thiserror::Error;
+
+/// Why a run ended before its input did.
+#[derive(Clone, Copy, Debug, PartialEq, Eq, Error)]
+pub enum RunFault {
+    /// The input can't be read.
+    #[error("read fault")]
+    ReadFault,
+    /// The output can't be written.
+    #[error("write fault")]
+    WriteFault,
+}

@@ -1,0 +1,91 @@
+-- A request that is read does what its call does.
+use Rattle.std.proofs.Common.{◌∙◌, ◌≡◌, Bool, Err, None, Ok, Option, Result, Some, ap, ap₂, cond, false, is_some, ok_or, option_map, refl, subst, true, true≢false, unwrap_or}
+use Rattle.std.specs.Prelude.{⊤}
+use Rattle.definitions.specs.Built.{built_query_in}
+use Rattle.definitions.specs.Calls.{Call, Configuration, Index, Status, call_fault, closed, count_all, delete_term, only_reads, own_fault, ready, search_best, status_fault, writer_closed}
+use Rattle.definitions.specs.Refusing.{option_or}
+use Rattle.definitions.specs.Requests.{Request, add_doc, commit_all, count_docs, create_index, delete_docs, merge_groups, open_index, search_docs}
+use Rattle.definitions.specs.Scanning.{scan}
+use Rattle.definitions.specs.Schema.{Schema}
+use Rattle.definitions.specs.State.{State, committed}
+use Rattle.definitions.specs.Step.{Session, answer_reply, answering, call_in, call_step, index_step, refused_or, refusing, stand_in, step}
+use Rattle.definitions.specs.TermGrammar.{term_in}
+use Rattle.definitions.proofs.ReplyTexts.{hits_float}
+use Rattle.definitions.specs.declared.fault.Fault.{Fault}
+use Rattle.serde_json.specs.Written.{has_float}
+use Rattle.serde_json.specs.Data as json
+use Rattle.definitions.specs.declared.fault.Fault.TheVariants as faults
+
+-- whether what is read of a request writes as its stand-in does
+abbrev ReadsAs : Bool → Result Call Fault → Type 0
+ReadsAs reads (Ok call) = reads ≡ only_reads call
+ReadsAs reads (Err fault) = ⊤
+
+-- a request's call reads where its stand-in does
+reads_alike : (schema : Schema) (r : Request) → ReadsAs (only_reads (stand_in r)) (call_in schema r)
+reads_alike schema (add_doc d) = refl
+reads_alike schema (delete_docs d) = elim (term_in schema d) as (λ o. ReadsAs false (ok_or (option_map delete_term o) faults.BadTerm)) [ Some t ↦ refl | None ↦ tt ]
+reads_alike schema (merge_groups from to) = refl
+reads_alike schema commit_all = refl
+reads_alike schema (search_docs d k) = elim (built_query_in schema d) as (λ o. ReadsAs true (ok_or (option_map (λ q. search_best q k) o) faults.BadQuery)) [ Some q ↦ refl | None ↦ tt ]
+reads_alike schema (count_docs d) = elim (built_query_in schema d) as (λ o. ReadsAs true (ok_or (option_map count_all o) faults.BadQuery)) [ Some q ↦ refl | None ↦ tt ]
+reads_alike schema (create_index s t) = tt
+reads_alike schema open_index = tt
+
+-- calls that read alike are refused alike by a status
+status_alike : (status : Status) (a b : Call) → only_reads a ≡ only_reads b → status_fault status a ≡ status_fault status b
+status_alike ready a b h = refl
+status_alike writer_closed a b h = ap (λ reads. cond reads None (Some faults.WriterClosed)) h
+status_alike closed a b h = refl
+
+-- a request's status refuses it as it refuses its call
+pub stand_in_alike : (schema : Schema) (status : Status) (r : Request) (call : Call) → call_in schema r ≡ Ok call → status_fault status (stand_in r) ≡ status_fault status call
+stand_in_alike schema status r call h = status_alike status (stand_in r) call (subst (ReadsAs (only_reads (stand_in r))) h (reads_alike schema r))
+
+-- the first refusal of two is what is replied
+refused_by : (c : Configuration) (x : Index) (call : Call) (status own : Option Fault) (fault : Fault) → option_or status own ≡ Some fault → refused_or status x (refused_or own x (answering c x call)) ≡ refusing fault x
+refused_by c x call (Some first) own fault h = ap (λ o. refusing (unwrap_or o fault) x) h
+refused_by c x call None own fault h = ap (λ o. refused_or o x (answering c x call)) h
+
+-- where neither refuses, the call is made
+answered_by : (c : Configuration) (x : Index) (call : Call) (status own : Option Fault) → option_or status own ≡ None → refused_or status x (refused_or own x (answering c x call)) ≡ answering c x call
+answered_by c x call (Some first) own h = absurd (true≢false (ap is_some h))
+answered_by c x call None own h = ap (λ o. refused_or o x (answering c x call)) h
+
+-- a request is its call, with the status that this one meets
+read_step : (c : Configuration) (x : Index) (r : Request) (call : Call) → call_in c.schema r ≡ Ok call → index_step c x r ≡ refused_or (status_fault x.status call) x (call_step c x (Ok call))
+read_step c x r call h = ap₂ (λ o read. refused_or o x (call_step c x read)) (stand_in_alike c.schema x.status r call h) h
+
+-- a request that is read is refused as its call is
+pub refused_call : (c : Configuration) (x : Index) (r : Request) (call : Call) (fault : Fault) → call_in c.schema r ≡ Ok call → call_fault c x call ≡ Some fault → index_step c x r ≡ refusing fault x
+refused_call c x r call fault h e = read_step c x r call h ∙ refused_by c x call (status_fault x.status call) (own_fault c x.state call) fault e
+
+-- a request that is read and not refused is answered as its call
+pub answered_call : (c : Configuration) (x : Index) (r : Request) (call : Call) → call_in c.schema r ≡ Ok call → call_fault c x call ≡ None → index_step c x r ≡ answering c x call
+answered_call c x r call h e = read_step c x r call h ∙ answered_by c x call (status_fault x.status call) (own_fault c x.state call) e
+
+-- a request that can't be read is refused by that, unless the status refuses it
+pub unread_call : (c : Configuration) (x : Index) (r : Request) (fault : Fault) → call_in c.schema r ≡ Err fault → status_fault x.status (stand_in r) ≡ None → index_step c x r ≡ refusing fault x
+unread_call c x r fault h e = ap₂ (λ o read. refused_or o x (call_step c x read)) e h
+
+-- ---- no reply has a float
+
+-- what a call is answered has no float
+answer_float : (c : Configuration) (s : State) (call : Call) → has_float (answer_reply c s call) ≡ false
+answer_float c s (search_best q k) = hits_float (scan c.schema c.analyze c.similarity (committed s) q k)
+answer_float c s _ = refl
+
+-- a refusal has no float, nor has what comes without one
+refused_or_float : {S : Type 0} (o : Option Fault) (s : S) (next : json.Data × S) → has_float next.0 ≡ false → has_float ((refused_or o s next).0) ≡ false
+refused_or_float (Some fault) s next h = refl
+refused_or_float None s next h = h
+
+call_step_float : (c : Configuration) (x : Index) (read : Result Call Fault) → has_float ((call_step c x read).0) ≡ false
+call_step_float c x (Err fault) = refl
+call_step_float c x (Ok call) = refused_or_float (own_fault c x.state call) x (answering c x call) (answer_float c x.state call)
+
+-- no reply has a float, so its text is what is written
+pub step_float : (session : Session) (r : Option Request) → has_float ((step session r).0) ≡ false
+step_float session None = refl
+step_float None (Some r) = refl
+step_float (Some (c, x)) (Some r) = refused_or_float (status_fault x.status (stand_in r)) x (call_step c x (call_in c.schema r)) (call_step_float c x (call_in c.schema r))

@@ -1,0 +1,63 @@
+-- What the worked lines are read by: schemas, and sessions over books.
+use Rattle.std.specs.Prelude.{[], ◌∷◌, List, Option, codes, false, fold, option_and_then, option_map, true, ℕ}
+use Rattle.definitions.specs.Analyzers.{raw_and_default}
+use Rattle.definitions.specs.Calls.{Status}
+use Rattle.definitions.specs.Schema.{Entry, Kind, Schema, basic, bool_kind, bytes_kind, date_kind, facet_kind, has_lengths, i64_kind, ip_addr_kind, json_kind, text_kind, u64_kind, with_freqs_and_positions}
+use Rattle.definitions.specs.Settings.{default_settings}
+use Rattle.definitions.specs.State.{nothing_yet}
+use Rattle.definitions.specs.Step.{Session, after_line, answer_of, fresh_session}
+use Rattle.serde_json.specs.Read.{read}
+use Prim.Native.String.{String}
+use Rattle.serde_json.specs.Data as json
+
+-- an indexed field of that name and kind, whose texts are cut into words
+abbrev pub field_of_kind : String → Kind → Entry
+field_of_kind field_name field_kind = record { name = codes field_name; kind = field_kind; stored = true; indexed = true; fieldnorms = has_lengths field_kind; fast = false; coerce = false; record_option = basic; tokenizer = []; expand_dots = false }
+
+-- a text in words, with positions and lengths
+abbrev pub text_field : String → Entry
+text_field field_name = record (field_of_kind field_name text_kind) { record_option = with_freqs_and_positions; tokenizer = codes "default" }
+
+-- books with a title and a year
+abbrev pub book_schema : Schema
+book_schema = text_field "title" ∷ field_of_kind "year" u64_kind ∷ []
+
+-- a field of each kind, each named by its kind's letter, and a JSON field whose dots part keys
+abbrev pub kinds_schema : Schema
+kinds_schema = text_field "s" ∷ field_of_kind "u" u64_kind ∷ field_of_kind "i" i64_kind ∷ field_of_kind "o" bool_kind ∷ field_of_kind "d" date_kind ∷ field_of_kind "h" facet_kind ∷ field_of_kind "b" bytes_kind ∷ field_of_kind "p" ip_addr_kind ∷ field_of_kind "j" json_kind ∷ record (field_of_kind "dots" json_kind) { expand_dots = true } ∷ []
+
+-- ---- sessions
+
+-- no book is added yet
+abbrev pub book_session : Session
+book_session = fresh_session book_schema raw_and_default default_settings
+
+-- the same with an index of another status
+abbrev pub session_with : Status → Session
+session_with status = option_map (λ p. (p.0, record { state = nothing_yet; status = status })) book_session
+
+-- titles that are stored and not indexed
+abbrev pub unindexed_session : Session
+unindexed_session = fresh_session (record (text_field "title") { indexed = false } ∷ []) raw_and_default default_settings
+
+-- a session after lines in a row
+abbrev pub after_lines : Session → List (List ℕ) → Session
+after_lines session lines = fold after_line session lines
+
+-- the lines that add three books and commit them
+abbrev pub three_book_lines : List (List ℕ)
+three_book_lines = codes "{\"op\":\"add\",\"doc\":{\"title\":\"the old sea\",\"year\":1952}}" ∷ codes "{\"op\":\"add\",\"doc\":{\"title\":\"sea sea wind\",\"year\":1987}}" ∷ codes "{\"op\":\"add\",\"doc\":{\"title\":\"wind\",\"year\":1952}}" ∷ codes "{\"op\":\"commit\"}" ∷ []
+
+-- a session in which three books are committed
+abbrev pub three_books_session : Session
+three_books_session = after_lines book_session three_book_lines
+
+-- ---- texts
+
+-- what is read of a text's value
+abbrev pub from_text : {A : Type 0} → (json.Data → Option A) → String → Option A
+from_text f text = option_and_then f (read (codes text))
+
+-- the reply to one line
+abbrev pub reply : Session → String → List ℕ
+reply session line = answer_of session (codes line)

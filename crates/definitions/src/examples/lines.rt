@@ -1,0 +1,100 @@
+//! Worked lines: what is sent, and what is replied.
+#![tactic(auto, unfolding(crate::proofs::OnLiterals::definitions_on_literals))]
+
+ghost use Rattle.std.specs.Prelude.{[], ◌++◌, ◌∷◌, ◌≡◌, codes, map};
+ghost use Rattle.definitions.specs.Calls.{closed, writer_closed};
+ghost use Rattle.definitions.specs.LineExamples.{after_lines, book_session, reply, session_with, three_book_lines, three_books_session, unindexed_session};
+ghost use Rattle.definitions.specs.Step.{answer_of, answers_to};
+
+/// Three books are added and committed, then searched and counted.
+pub fn a_session_answers_line_by_line()
+    ensures { answers_to book_session (three_book_lines ++ (codes "{\"op\":\"search\",\"k\":10,\"query\":{\"q\":\"term\",\"field\":\"title\",\"value\":\"sea\"}}" ∷ codes "{\"op\":\"count\",\"query\":{\"q\":\"term\",\"field\":\"title\",\"value\":\"sea\"}}" ∷ [])) ≡ codes "{\"ok\":true}" ∷ codes "{\"ok\":true}" ∷ codes "{\"ok\":true}" ∷ codes "{\"ok\":true}" ∷ codes "{\"hits\":[{\"doc\":{\"title\":[\"sea sea wind\"],\"year\":[1987]},\"score\":40},{\"doc\":{\"title\":[\"the old sea\"],\"year\":[1952]},\"score\":30}]}" ∷ codes "{\"count\":2}" ∷ [] }
+{}
+
+/// The best k are replied, a count is of all that match, and what waits for a commit isn't seen.
+pub fn searches_see_what_is_committed()
+    ensures none { reply three_books_session "{\"op\":\"search\",\"k\":0,\"query\":{\"q\":\"term\",\"field\":\"title\",\"value\":\"sea\"}}" ≡ codes "{\"hits\":[]}" }
+    ensures one { reply three_books_session "{\"op\":\"search\",\"k\":1,\"query\":{\"q\":\"term\",\"field\":\"year\",\"value\":1952}}" ≡ codes "{\"hits\":[{\"doc\":{\"title\":[\"the old sea\"],\"year\":[1952]},\"score\":30}]}" }
+    ensures all_that_match { reply three_books_session "{\"op\":\"count\",\"query\":{\"q\":\"term\",\"field\":\"year\",\"value\":1952}}" ≡ codes "{\"count\":2}" }
+    ensures nothing { reply three_books_session "{\"op\":\"count\",\"query\":{\"q\":\"term\",\"field\":\"title\",\"value\":\"Sea\"}}" ≡ codes "{\"count\":0}" }
+    ensures waiting { answers_to three_books_session (codes "{\"op\":\"add\",\"doc\":{\"title\":\"sea\"}}" ∷ codes "{\"op\":\"count\",\"query\":{\"q\":\"term\",\"field\":\"title\",\"value\":\"sea\"}}" ∷ []) ≡ codes "{\"ok\":true}" ∷ codes "{\"count\":2}" ∷ [] }
+{}
+
+/// A term is scored by its count unless the query says that only documents are to be read.
+pub fn a_query_says_what_it_reads()
+    ensures counts { reply three_books_session "{\"op\":\"search\",\"k\":1,\"query\":{\"q\":\"term\",\"field\":\"title\",\"value\":\"sea\",\"record\":\"freq\"}}" ≡ codes "{\"hits\":[{\"doc\":{\"title\":[\"sea sea wind\"],\"year\":[1987]},\"score\":40}]}" }
+    ensures documents { reply three_books_session "{\"op\":\"search\",\"k\":1,\"query\":{\"q\":\"term\",\"field\":\"title\",\"value\":\"sea\",\"record\":\"basic\"}}" ≡ codes "{\"hits\":[{\"doc\":{\"title\":[\"the old sea\"],\"year\":[1952]},\"score\":30}]}" }
+    ensures other { reply three_books_session "{\"op\":\"count\",\"query\":{\"q\":\"term\",\"field\":\"title\",\"value\":\"sea\",\"record\":\"all\"}}" ≡ codes "{\"error\":\"BadQuery\"}" }
+    ensures null_record { reply three_books_session "{\"op\":\"count\",\"query\":{\"q\":\"term\",\"field\":\"title\",\"value\":\"sea\",\"record\":null}}" ≡ codes "{\"error\":\"BadQuery\"}" }
+{}
+
+/// What is no request, or isn't answered yet.
+pub fn other_lines_are_refused()
+    ensures open_brace { reply book_session "{" ≡ codes "{\"error\":\"BadRequest\"}" }
+    ensures empty { reply book_session "" ≡ codes "{\"error\":\"BadRequest\"}" }
+    ensures array { reply book_session "[\"commit\"]" ≡ codes "{\"error\":\"BadRequest\"}" }
+    ensures two_values { reply book_session "{\"op\":\"commit\"} {\"op\":\"commit\"}" ≡ codes "{\"error\":\"BadRequest\"}" }
+    ensures no_op { reply book_session "{}" ≡ codes "{\"error\":\"BadRequest\"}" }
+    ensures other_op { reply book_session "{\"op\":\"Commit\"}" ≡ codes "{\"error\":\"BadRequest\"}" }
+    ensures another_key { reply book_session "{\"op\":\"commit\",\"all\":true}" ≡ codes "{\"error\":\"BadRequest\"}" }
+    ensures missing_key { reply book_session "{\"op\":\"search\",\"query\":{\"q\":\"all\"}}" ≡ codes "{\"error\":\"BadRequest\"}" }
+    ensures wrong_key { reply book_session "{\"op\":\"add\",\"document\":{}}" ≡ codes "{\"error\":\"BadRequest\"}" }
+    ensures not_utf8 { answer_of book_session (codes "{\"op\":\"add\",\"doc\":{\"title\":\"" ++ (255 ∷ codes "\"}}")) ≡ codes "{\"error\":\"BadRequest\"}" }
+    ensures not_yet { map (answer_of book_session) (codes "{\"op\":\"open\"}" ∷ codes "{\"op\":\"create\",\"schema\":[]}" ∷ codes "{\"op\":\"delete\",\"term\":{\"field\":\"year\",\"value\":1}}" ∷ codes "{\"op\":\"merge\",\"from\":0,\"to\":1}" ∷ []) ≡ codes "{\"error\":\"BadRequest\"}" ∷ codes "{\"error\":\"BadRequest\"}" ∷ codes "{\"error\":\"BadRequest\"}" ∷ codes "{\"error\":\"BadRequest\"}" ∷ [] }
+{}
+
+/// Numbers are whole, from 0 to 2 to the 63rd less 1.
+pub fn limits_are_whole_numbers()
+    ensures greatest { reply book_session "{\"op\":\"search\",\"k\":9223372036854775807,\"query\":{\"q\":\"term\",\"field\":\"year\",\"value\":1}}" ≡ codes "{\"hits\":[]}" }
+    ensures too_great { reply book_session "{\"op\":\"search\",\"k\":9223372036854775808,\"query\":{\"q\":\"term\",\"field\":\"year\",\"value\":1}}" ≡ codes "{\"error\":\"BadRequest\"}" }
+    ensures negative { reply book_session "{\"op\":\"search\",\"k\":-1,\"query\":{\"q\":\"term\",\"field\":\"year\",\"value\":1}}" ≡ codes "{\"error\":\"BadRequest\"}" }
+    ensures float { reply book_session "{\"op\":\"search\",\"k\":1.0,\"query\":{\"q\":\"term\",\"field\":\"year\",\"value\":1}}" ≡ codes "{\"error\":\"BadRequest\"}" }
+    ensures text { reply book_session "{\"op\":\"search\",\"k\":\"1\",\"query\":{\"q\":\"term\",\"field\":\"year\",\"value\":1}}" ≡ codes "{\"error\":\"BadRequest\"}" }
+{}
+
+/// White space stands anywhere between, keys in any order, and of equal keys the last stands.
+pub fn requests_are_json()
+    ensures spaces { reply book_session " { \"op\" : \"commit\" }\r" ≡ codes "{\"ok\":true}" }
+    ensures order { reply book_session "{\"doc\":{},\"op\":\"add\"}" ≡ codes "{\"ok\":true}" }
+    ensures last_key { reply book_session "{\"op\":\"open\",\"op\":\"commit\"}" ≡ codes "{\"ok\":true}" }
+    ensures escapes { reply book_session "{\"o\\u0070\":\"commi\\u0074\"}" ≡ codes "{\"ok\":true}" }
+{}
+
+/// A document that is refused isn't added.
+pub fn documents_are_read_from_the_line()
+    ensures array { reply book_session "{\"op\":\"add\",\"doc\":[1]}" ≡ codes "{\"error\":\"NotAnObject\"}" }
+    ensures null_document { reply book_session "{\"op\":\"add\",\"doc\":null}" ≡ codes "{\"error\":\"NotAnObject\"}" }
+    ensures negative { reply book_session "{\"op\":\"add\",\"doc\":{\"year\":-1}}" ≡ codes "{\"error\":\"OverflowError\"}" }
+    ensures text { reply book_session "{\"op\":\"add\",\"doc\":{\"year\":\"1952\"}}" ≡ codes "{\"error\":\"TypeError\"}" }
+    ensures float { reply book_session "{\"op\":\"add\",\"doc\":{\"year\":1.5}}" ≡ codes "{\"error\":\"FloatValue\"}" }
+    ensures null_year { reply book_session "{\"op\":\"add\",\"doc\":{\"year\":null}}" ≡ codes "{\"error\":\"TypeError\"}" }
+    ensures no_field { reply book_session "{\"op\":\"add\",\"doc\":{\"x\":1.5}}" ≡ codes "{\"ok\":true}" }
+    ensures unchanged { reply (after_lines three_books_session (codes "{\"op\":\"add\",\"doc\":{\"title\":\"sea\",\"year\":-1}}" ∷ codes "{\"op\":\"commit\"}" ∷ [])) "{\"op\":\"count\",\"query\":{\"q\":\"term\",\"field\":\"title\",\"value\":\"sea\"}}" ≡ codes "{\"count\":2}" }
+{}
+
+/// Where no index stands a request is refused, and what is no request before that.
+pub fn requests_ask_for_an_index()
+    ensures commit { reply None "{\"op\":\"commit\"}" ≡ codes "{\"error\":\"NotOpen\"}" }
+    ensures query { reply None "{\"op\":\"count\",\"query\":5}" ≡ codes "{\"error\":\"NotOpen\"}" }
+    ensures no_request { reply None "{" ≡ codes "{\"error\":\"BadRequest\"}" }
+{}
+
+/// A query is refused by its form, and then by what it asks for.
+pub fn queries_are_read_and_tested()
+    ensures no_object { reply book_session "{\"op\":\"count\",\"query\":5}" ≡ codes "{\"error\":\"BadQuery\"}" }
+    ensures unknown_field { reply book_session "{\"op\":\"count\",\"query\":{\"q\":\"term\",\"field\":\"x\",\"value\":5}}" ≡ codes "{\"error\":\"BadQuery\"}" }
+    ensures other_kind { reply book_session "{\"op\":\"count\",\"query\":{\"q\":\"term\",\"field\":\"year\",\"value\":\"5\"}}" ≡ codes "{\"error\":\"BadQuery\"}" }
+    ensures not_yet { reply book_session "{\"op\":\"count\",\"query\":{\"q\":\"all\"}}" ≡ codes "{\"error\":\"BadQuery\"}" }
+    ensures not_indexed { reply unindexed_session "{\"op\":\"search\",\"k\":1,\"query\":{\"q\":\"term\",\"field\":\"title\",\"value\":\"sea\"}}" ≡ codes "{\"error\":\"NotIndexed\"}" }
+{}
+
+/// A closed index refuses every request, and a closed writer those that write, before a query is read.
+pub fn a_status_refuses_first()
+    ensures closed_search { reply (session_with closed) "{\"op\":\"search\",\"k\":1,\"query\":5}" ≡ codes "{\"error\":\"Closed\"}" }
+    ensures closed_commit { reply (session_with closed) "{\"op\":\"commit\"}" ≡ codes "{\"error\":\"Closed\"}" }
+    ensures closed_no_request { reply (session_with closed) "{\"op\":5}" ≡ codes "{\"error\":\"BadRequest\"}" }
+    ensures writer_add { reply (session_with writer_closed) "{\"op\":\"add\",\"doc\":5}" ≡ codes "{\"error\":\"WriterClosed\"}" }
+    ensures writer_commit { reply (session_with writer_closed) "{\"op\":\"commit\"}" ≡ codes "{\"error\":\"WriterClosed\"}" }
+    ensures writer_search { reply (session_with writer_closed) "{\"op\":\"search\",\"k\":1,\"query\":{\"q\":\"term\",\"field\":\"year\",\"value\":5}}" ≡ codes "{\"hits\":[]}" }
+    ensures writer_bad_query { reply (session_with writer_closed) "{\"op\":\"count\",\"query\":5}" ≡ codes "{\"error\":\"BadQuery\"}" }
+{}

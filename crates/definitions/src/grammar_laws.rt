@@ -1,0 +1,48 @@
+//! Laws of requests, replies, queries and settings.
+
+ghost use Rattle.std.specs.Prelude.{◌≡◌, Err, None, Ok, Option, Some, codes, false, true};
+ghost use Rattle.definitions.specs.Calls.{Call, Configuration, Index, call_fault, status_fault};
+ghost use Rattle.definitions.specs.FaultNames.{reply_text};
+ghost use Rattle.definitions.specs.QueryGrammar.{many_at, one_at, query_in, query_of};
+ghost use Rattle.definitions.specs.Replies.{error_reply, ok_reply, reply_of};
+ghost use Rattle.definitions.specs.Requests.{Request};
+ghost use Rattle.definitions.specs.Schema.{Schema};
+ghost use Rattle.definitions.specs.Scoring.{IsSimilarity};
+ghost use Rattle.definitions.specs.Settings.{Settings, default_settings, is_settings, similarity_of};
+ghost use Rattle.definitions.specs.Step.{Session, answering, call_in, index_step, refusing, stand_in, step};
+ghost use Rattle.definitions.specs.declared.fault.Fault.{Fault};
+ghost use Rattle.serde_json.specs.Data.{Data};
+ghost use Rattle.serde_json.specs.Written.{has_float};
+
+/// A query is its form by what stands at its keys.
+pub fn queries_are_read_by_their_keys()
+    ensures { (schema : Schema) (d : Data) → query_in schema d ≡ query_of schema (one_at schema d) (many_at schema d) d }
+{}
+
+/// The reply of a refusal is the compact text of its JSON, and so is the reply of what succeeds.
+pub fn replies_are_compact_json()
+    ensures refused { (fault : Fault) → reply_text fault ≡ reply_of (error_reply fault) }
+    ensures succeeds { reply_of ok_reply ≡ codes "{\"ok\":true}" }
+{}
+
+/// No reply has a float, so each has a text.
+pub fn replies_have_a_text()
+    ensures { (session : Session) (r : Option Request) → has_float ((step session r).0) ≡ false }
+{}
+
+/// A request of which a call is read does what that call does, and replies so.
+pub fn a_request_is_its_call()
+    ensures refused { (c : Configuration) (x : Index) (r : Request) (call : Call) (fault : Fault) → call_in c.schema r ≡ Ok call → call_fault c x call ≡ Some fault → index_step c x r ≡ refusing fault x }
+    ensures answered { (c : Configuration) (x : Index) (r : Request) (call : Call) → call_in c.schema r ≡ Ok call → call_fault c x call ≡ None → index_step c x r ≡ answering c x call }
+    ensures unread { (c : Configuration) (x : Index) (r : Request) (fault : Fault) → call_in c.schema r ≡ Err fault → status_fault x.status (stand_in r) ≡ None → index_step c x r ≡ refusing fault x }
+{}
+
+/// The settings that stand where none are given are in range.
+pub fn default_settings_are_settings()
+    ensures { is_settings default_settings ≡ true }
+{}
+
+/// Settings in range give weights and norms by which scores fit.
+pub fn settings_give_a_similarity()
+    ensures { (s : Settings) → is_settings s ≡ true → IsSimilarity (similarity_of s) }
+{}

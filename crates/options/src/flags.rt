@@ -1,0 +1,73 @@
+//! Flags, which options of fields are put together from by `|`.
+ghost use Rattle.std.specs.Prelude.{◌≡◌};
+
+use std::ops::BitOr;
+
+/// Values come back with their documents.
+#[derive(Clone, Copy, Debug)]
+pub struct StoredFlag;
+
+/// Documents are found by their values, and lengths are kept.
+#[derive(Clone, Copy, Debug)]
+pub struct IndexedFlag;
+
+/// Flags, the last one first.
+#[derive(Clone, Copy, Debug)]
+pub struct SchemaFlagList<Head, Tail> {
+    pub head: Head,
+    pub tail: Tail,
+}
+
+/// Values come back with their documents.
+pub const STORED: SchemaFlagList<StoredFlag, ()> = SchemaFlagList {
+    head: StoredFlag,
+    tail: (),
+};
+
+/// Documents are found by their values, and lengths are kept.
+pub const INDEXED: SchemaFlagList<IndexedFlag, ()> = SchemaFlagList {
+    head: IndexedFlag,
+    tail: (),
+};
+
+impl<OldHead, OldTail, Head> BitOr<SchemaFlagList<Head, ()>> for SchemaFlagList<OldHead, OldTail> {
+    type Output = SchemaFlagList<Head, SchemaFlagList<OldHead, OldTail>>;
+
+    ghost bitor_gives = { λ flags flag both. both ≡ record { head = flag.head; tail = flags } };
+
+    fn bitor(
+        self,
+        flag: SchemaFlagList<Head, ()>,
+    ) -> SchemaFlagList<Head, SchemaFlagList<OldHead, OldTail>> {
+        SchemaFlagList {
+            head: flag.head,
+            tail: self,
+        }
+    }
+}
+
+/// A flag that options of that type have, or a list of such flags.
+pub trait SetsIn<Options> {
+    ghost options_with: { Self → Options → Options };
+
+    /// The options with the flags set.
+    fn set_in(self, options: Options) -> Options
+        ensures { result ≡ options_with self options };
+}
+
+impl<Options> SetsIn<Options> for () {
+    ghost options_with = { λ _ o. o };
+
+    fn set_in(self, options: Options) -> Options {
+        options
+    }
+}
+
+impl<Options, Head: SetsIn<Options>, Tail: SetsIn<Options>> SetsIn<Options>
+    for SchemaFlagList<Head, Tail> {
+    ghost options_with = { λ flags o. Head.options_with flags.head (Tail.options_with flags.tail o) };
+
+    fn set_in(self, options: Options) -> Options {
+        self.head.set_in(self.tail.set_in(options))
+    }
+}

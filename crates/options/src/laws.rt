@@ -1,0 +1,40 @@
+//! Laws of options.
+ghost use Rattle.std.specs.Prelude.{◌≡◌, ◌&&◌};
+ghost use Rattle.definitions.specs.Schema.{IndexRecordOption, has_freq, has_positions};
+ghost use Rattle.options.specs.RecordOption.{lesser};
+ghost use Rattle.options.specs.Options.{NumericData, TextData, numeric_or, string_constant, text_constant, text_or};
+
+use crate::text_options::{STRING, TEXT, TextOptions};
+
+/// The lesser of two record options doesn't depend on their order or grouping.
+pub fn downgrade_is_a_minimum()
+    ensures commutative { (a b : IndexRecordOption) → lesser a b ≡ lesser b a }
+    ensures associative { (a b c : IndexRecordOption) → lesser (lesser a b) c ≡ lesser a (lesser b c) }
+    ensures idempotent { (a : IndexRecordOption) → lesser a a ≡ a }
+{}
+
+/// The lesser of two record options records what both record.
+pub fn downgrade_records_what_both_do()
+    ensures counts { (a b : IndexRecordOption) → has_freq (lesser a b) ≡ (has_freq a && has_freq b) }
+    ensures positions { (a b : IndexRecordOption) → has_positions (lesser a b) ≡ (has_positions a && has_positions b) }
+{}
+
+/// Joining the options of number fields doesn't depend on grouping, and nothing changes by repeating.
+pub fn numeric_or_is_a_union()
+    ensures associative { (a b c : NumericData) → numeric_or (numeric_or a b) c ≡ numeric_or a (numeric_or b c) }
+    ensures idempotent { (a : NumericData) → numeric_or a a ≡ a }
+{}
+
+/// Joining the options of text fields doesn't depend on grouping, and nothing changes by repeating.
+pub fn text_or_is_a_union()
+    ensures associative { (a b c : TextData) → text_or (text_or a b) c ≡ text_or a (text_or b c) }
+    ensures idempotent { (a : TextData) → text_or a a ≡ a }
+{}
+
+/// What the constants `TEXT` and `STRING` say, which no clause can name.
+pub fn constants() -> (TextOptions, TextOptions)
+    ensures text { result.0 ≡ text_constant }
+    ensures string { result.1 ≡ string_constant }
+{
+    (TEXT, STRING)
+}

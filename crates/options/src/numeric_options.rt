@@ -1,0 +1,154 @@
+//! The options of number fields.
+ghost use Rattle.std.specs.Prelude.{◌≡◌, ◌&&◌, true};
+ghost use Rattle.options.specs.Options.{NumericData, default_numeric, numeric_or};
+
+use crate::flags::{IndexedFlag, SchemaFlagList, SetsIn, StoredFlag};
+use std::marker::Model;
+use std::ops::BitOr;
+
+/// What a number field is for.
+#[derive(Clone, Copy)]
+pub struct NumericOptions {
+    stored: bool,
+    indexed: bool,
+    fieldnorms: bool,
+}
+
+impl Model for NumericOptions {
+    ghost Value = { NumericData };
+
+    ghost view = { λ o. record { stored = o.stored; indexed = o.indexed; fieldnorms = o.fieldnorms } };
+
+    ghost inverse = { λ o. record { stored = o.stored; indexed = o.indexed; fieldnorms = o.fieldnorms } };
+}
+
+impl NumericOptions {
+    /// Values come back with their documents.
+    pub fn set_stored(self) -> Self
+        ensures { result ≡ record self { stored = true } }
+    {
+        NumericOptions {
+            stored: true,
+            ..self
+        }
+    }
+
+    /// Documents are found by their values. No lengths are kept by this alone.
+    pub fn set_indexed(self) -> Self
+        ensures { result ≡ record self { indexed = true } }
+    {
+        NumericOptions {
+            indexed: true,
+            ..self
+        }
+    }
+
+    /// Lengths are kept if the field is indexed: how many values each document has.
+    pub fn set_fieldnorm(self) -> Self
+        ensures { result ≡ record self { fieldnorms = true } }
+    {
+        NumericOptions {
+            fieldnorms: true,
+            ..self
+        }
+    }
+
+    /// Whether values come back with their documents.
+    pub fn is_stored(&self) -> bool
+        ensures { result ≡ self.now.stored }
+    {
+        self.stored
+    }
+
+    /// Whether documents are found by their values.
+    pub fn is_indexed(&self) -> bool
+        ensures { result ≡ self.now.indexed }
+    {
+        self.indexed
+    }
+
+    /// Whether lengths are kept.
+    pub fn fieldnorms(&self) -> bool
+        ensures { result ≡ (self.now.indexed && self.now.fieldnorms) }
+    {
+        self.fieldnorms && self.indexed
+    }
+}
+
+impl Default for NumericOptions {
+    ghost is_default = { λ o. o ≡ default_numeric };
+
+    fn default() -> NumericOptions {
+        NumericOptions {
+            stored: false,
+            indexed: false,
+            fieldnorms: false,
+        }
+    }
+}
+
+impl<Other: Into<NumericOptions>> BitOr<Other> for NumericOptions {
+    type Output = NumericOptions;
+
+    ghost bitor_gives = { λ a other o. (b : NumericData) × Other.converts other b × (o ≡ numeric_or a b) };
+
+    fn bitor(self, other: Other) -> NumericOptions {
+        let other: NumericOptions = other.into();
+        NumericOptions {
+            stored: self.stored || other.stored,
+            indexed: self.indexed || other.indexed,
+            fieldnorms: self.fieldnorms || other.fieldnorms,
+        }
+    }
+}
+
+impl SetsIn<NumericOptions> for StoredFlag {
+    ghost options_with = { λ _ o. record o { stored = true } };
+
+    fn set_in(self, options: NumericOptions) -> NumericOptions {
+        options.set_stored()
+    }
+}
+
+impl SetsIn<NumericOptions> for IndexedFlag {
+    ghost options_with = { λ _ o. record o { indexed = true; fieldnorms = true } };
+
+    fn set_in(self, options: NumericOptions) -> NumericOptions {
+        options.set_indexed().set_fieldnorm()
+    }
+}
+
+impl From<StoredFlag> for NumericOptions {
+    ghost from_gives = { λ _ o. o ≡ record default_numeric { stored = true } };
+
+    fn from(stored: StoredFlag) -> NumericOptions {
+        stored.set_in(NumericOptions::default())
+    }
+}
+
+impl From<IndexedFlag> for NumericOptions {
+    ghost from_gives = { λ _ o. o ≡ record default_numeric { indexed = true; fieldnorms = true } };
+
+    fn from(indexed: IndexedFlag) -> NumericOptions {
+        indexed.set_in(NumericOptions::default())
+    }
+}
+
+impl<Head: SetsIn<NumericOptions>, Tail: SetsIn<NumericOptions>> From<SchemaFlagList<Head, Tail>>
+    for NumericOptions {
+    ghost from_gives = { λ flags o. o ≡ Head.options_with flags.head (Tail.options_with flags.tail default_numeric) };
+
+    fn from(flags: SchemaFlagList<Head, Tail>) -> NumericOptions {
+        flags.set_in(NumericOptions::default())
+    }
+}
+
+impl<Flag: SetsIn<NumericOptions>> BitOr<NumericOptions> for SchemaFlagList<Flag, ()> {
+    type Output = NumericOptions;
+
+    ghost bitor_gives = { λ flag b o. o ≡ numeric_or (Flag.options_with flag.head default_numeric) b };
+
+    fn bitor(self, options: NumericOptions) -> NumericOptions {
+        NumericOptions::from(self) | options
+    }
+}

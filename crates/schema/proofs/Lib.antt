@@ -1,0 +1,2 @@
+pub mod FieldNames
+pub mod FieldSplits

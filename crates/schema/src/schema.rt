@@ -1,0 +1,232 @@
+//! Schemas: fields, each at its number and with a name of its own.
+
+ghost use Rattle.std.specs.Prelude.{[], drop, false, filter_map, if◌then◌else◌, is_ok, length, ok_or, option_map, slice_get, take, unwrap_or, ◌+◌, ◌++◌, ◌<◌, ◌↔◌, ◌≡◌, ◌≢◌, ◌≤◌, ◌∷◌, IfErr, IfOk, IsTrue, OnErr, ℕ};
+ghost use Rattle.std.specs.List.{AllByRecursion, enumerate_from, last_or};
+ghost use Rattle.std.specs.Result.{result_err};
+ghost use Rattle.definitions.specs.FieldPaths.{field_at_split, find_field, splits_from};
+ghost use Rattle.definitions.specs.Schema.{AreDistinct, Entry, field_named, is_valid_field_name, max_fields, u64_kind, with_field};
+ghost use Rattle.definitions.specs.declared.fault.Fault.TheVariants as faults;
+ghost use Rattle.options.specs.Options.{NumericData, TextData};
+ghost use Rattle.schema.specs.Entries.{entry_of, numeric_entry, text_entry};
+
+use crate::field::Field;
+use crate::field_entry::{FieldEntry, FieldType};
+use crate::fields::Fields;
+use definitions::Fault;
+use options::{NumericOptions, TextOptions};
+use std::alloc::Global;
+use std::collections::HashMap;
+use std::marker::Model;
+
+/// The most fields that a schema has.
+const MAX_FIELDS: usize = 4294967295;
+
+/// The fields of an index. Each has a number, from 0 on, and a name of its own.
+#[derive(Drop)]
+pub struct Schema {
+    fields: Vec<FieldEntry>,
+    numbers: HashMap<String, Field>,
+}
+
+impl Model for Schema {
+    ghost use Rattle.definitions.specs.Schema.{Schema as Fields};
+    ghost use Rattle.schema.specs.Names.{Numbers};
+
+    ghost Value = { Fields };
+
+    ghost view = { λ s. s.fields.items };
+
+    ghost invariant = { λ s. Numbers s.numbers s.fields.items };
+}
+
+/// Makes a schema, field by field.
+#[derive(Drop)]
+pub struct SchemaBuilder {
+    alloc: Global,
+    schema: Schema,
+}
+
+impl Model for SchemaBuilder {
+    ghost use Rattle.definitions.specs.Schema.{Schema as Fields};
+
+    ghost Value = { Fields };
+
+    ghost view = { λ b. b.schema };
+}
+
+impl SchemaBuilder {
+    /// A builder without fields.
+    pub fn new(alloc: Global) -> SchemaBuilder
+        ensures { result ≡ [] }
+    {
+        SchemaBuilder {
+            alloc,
+            schema: Schema {
+                fields: Vec::new(alloc),
+                numbers: HashMap::new(alloc),
+            },
+        }
+    }
+
+    /// Adds a text field. A name that stands already is `DuplicateName`, one that is empty or begins with
+    /// `-` is `BadName`, and past 4294967295 fields the answer is `TooManyFields`.
+    pub fn add_text_field<T: Into<TextOptions>>(
+        &mut self,
+        name: &str,
+        options: T,
+    ) -> Result<Field, Fault>
+        ensures ok { IfOk result (λ field. (o : TextData) × T.converts options o × (with_field self.old (text_entry name.now o) ≡ Ok self.new) × (field ≡ length self.old)) }
+        ensures err { IfErr result (λ fault. fault ≢ faults.OutOfMemory → (o : TextData) × T.converts options o × (with_field self.old (text_entry name.now o) ≡ Err fault)) }
+        ensures unchanged { OnErr result (self.new ≡ self.old) }
+    {
+        self.schema
+            .add(self.alloc, name, FieldType::Str(options.into()))
+    }
+
+    /// Adds a field of numbers from 0 below 2^64; refused as `add_text_field` is.
+    pub fn add_u64_field<T: Into<NumericOptions>>(
+        &mut self,
+        name: &str,
+        options: T,
+    ) -> Result<Field, Fault>
+        ensures ok { IfOk result (λ field. (o : NumericData) × T.converts options o × (with_field self.old (numeric_entry u64_kind name.now o) ≡ Ok self.new) × (field ≡ length self.old)) }
+        ensures err { IfErr result (λ fault. fault ≢ faults.OutOfMemory → (o : NumericData) × T.converts options o × (with_field self.old (numeric_entry u64_kind name.now o) ≡ Err fault)) }
+        ensures unchanged { OnErr result (self.new ≡ self.old) }
+    {
+        self.schema
+            .add(self.alloc, name, FieldType::U64(options.into()))
+    }
+
+    /// The schema of the fields that were added.
+    pub fn build(self) -> Schema
+        ensures { result ≡ self }
+    {
+        self.schema
+    }
+}
+
+impl Schema {
+    /// A builder without fields.
+    pub fn builder(alloc: Global) -> SchemaBuilder
+        ensures { result ≡ [] }
+    {
+        SchemaBuilder::new(alloc)
+    }
+
+    /// The number of fields.
+    pub fn num_fields(&self) -> usize
+        ensures value { result ≡ length self.now }
+        ensures few { length self.now ≤ max_fields }
+        ensures distinct { AreDistinct self.now }
+        ensures valid { AllByRecursion (λ e. IsTrue (is_valid_field_name e.name)) self.now }
+    {
+        self.fields.len()
+    }
+
+    /// The field of that name; `FieldNotFound` where there is none.
+    pub fn get_field(&self, name: &str) -> Result<Field, Fault>
+        ensures value { result ≡ ok_or (field_named self.now name.now) faults.FieldNotFound }
+        ensures exact { (i : ℕ) → (result ≡ Ok i) ↔ (option_map (λ e. e.name) (slice_get self.now i) ≡ Some name.now) }
+    {
+        self.numbers.get(name).copied().ok_or(Fault::FieldNotFound)
+    }
+
+    /// The field that begins the path, and the rest of the path. The whole path is a name first, then the
+    /// longest part before a dot that no backslash takes.
+    pub fn find_field<'a>(&self, path: &'a str) -> Option<(Field, &'a str)>
+        ensures { option_map (λ p. (p.0, p.1.now)) result ≡ find_field self.now path.now }
+    {
+        if let Some(field) = self.number_of(path) {
+            return Some((field, ""));
+        }
+        self.find_before_dot(path)
+    }
+
+    /// The fields, each with its entry, in the order of their numbers.
+    pub fn fields(&self) -> Fields<'_>
+        ensures { result ≡ enumerate_from 0 self.now }
+    {
+        Fields::new(self.fields.as_slice())
+    }
+
+    /// A field's name, type and options.
+    pub fn get_field_entry(&self, field: Field) -> &FieldEntry
+        requires { field < length self.now }
+        ensures { slice_get self.now field ≡ Some result.now }
+    {
+        &self.fields[field.field_id() as usize]
+    }
+
+    /// A field's name.
+    pub fn get_field_name(&self, field: Field) -> &str
+        requires { field < length self.now }
+        ensures { option_map (λ e. e.name) (slice_get self.now field) ≡ Some result.now }
+    {
+        self.get_field_entry(field).name()
+    }
+
+    /// The field of that name, if there is one.
+    fn number_of(&self, name: &str) -> Option<Field>
+        ensures { result ≡ field_named self.now name.now }
+    {
+        self.get_field(name).ok()
+    }
+
+    /// The field named before the last dot that has one before it, and what follows that dot.
+    fn find_before_dot<'a>(&self, path: &'a str) -> Option<(Field, &'a str)>
+        ensures { option_map (λ p. (p.0, p.1.now)) result ≡ last_or None (filter_map (field_at_split self.now) (splits_from false path.now)) }
+    {
+        let mut found = None;
+        let mut escaped = false;
+        for (i, byte) in path.as_bytes().iter().enumerate() {
+            if !escaped && *byte == b'.' {
+                if let Some(split) = self.field_before(path, i) {
+                    found = Some(split);
+                }
+            }
+            escaped = !escaped && *byte == b'\\';
+        }
+        found
+    }
+
+    /// The field named before that dot, and what follows the dot.
+    fn field_before<'a>(&self, path: &'a str, dot: usize) -> Option<(Field, &'a str)>
+        requires { slice_get path.now dot ≡ Some 46 }
+        ensures { option_map (λ p. (p.0, p.1.now)) result ≡ field_at_split self.now (take dot path.now, drop (dot + 1) path.now) }
+    {
+        let field = self.number_of(&path[..dot])?;
+        Some((field, &path[dot + 1..]))
+    }
+
+    /// Whether a field of that name may be added.
+    fn check(&self, name: &str) -> Result<(), Fault>
+        ensures { (e : Entry) → e.name ≡ name.now → with_field self.now e ≡ (if is_ok result then Ok (self.now ++ e ∷ []) else Err (unwrap_or (result_err result) faults.BadName)) }
+    {
+        if self.number_of(name).is_some() {
+            return Err(Fault::DuplicateName);
+        }
+        if name.is_empty() || name.starts_with('-') {
+            return Err(Fault::BadName);
+        }
+        if self.fields.len() >= MAX_FIELDS {
+            return Err(Fault::TooManyFields);
+        }
+        Ok(())
+    }
+
+    /// Adds a field. What can fail comes before what changes.
+    fn add(&mut self, alloc: Global, name: &str, field_type: FieldType) -> Result<Field, Fault>
+        ensures ok { IfOk result (λ field. (with_field self.old (entry_of name.now field_type) ≡ Ok self.new) × (field ≡ length self.old)) }
+        ensures err { IfErr result (λ fault. fault ≢ faults.OutOfMemory → with_field self.old (entry_of name.now field_type) ≡ Err fault) }
+        ensures unchanged { OnErr result (self.new ≡ self.old) }
+    {
+        self.check(name)?;
+        let field = Field::from_field_id(self.fields.len() as u32);
+        let entry = FieldEntry::new(String::from_str(alloc, name)?, field_type);
+        let key = String::from_str(alloc, name)?;
+        self.fields.reserve(1)?;
+        self.numbers.insert(key, field)?;
+        self.fields.push(entry)?;
+        Ok(field)
+    }
+}
