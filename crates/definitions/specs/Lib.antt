@@ -34,6 +34,7 @@ pub mod TermGrammar
 pub mod QueryGrammar
 pub mod Requests
 pub mod Replies
+pub mod Lines
 pub mod Built
 pub mod Step
 pub mod Alive

@@ -1,0 +1,4 @@
+-- What a run over the lines of an input writes.
+pub mod Replies
+pub mod Reading
+pub mod Serving

@@ -1,0 +1,47 @@
+-- The replies to the lines of an input.
+use Rattle.std.specs.Prelude.{◌≡◌, ℕ, Bool, true, false, IsTrue, nat_lt, is_none, if◌then◌else◌, ◌⊎◌, Option, None, Some, List, [], ◌∷◌, ◌++◌, length}
+use Rattle.std.specs.Option.{option_map_or}
+use Rattle.std.specs.Str.{is_utf8}
+use Rattle.std.specs.Io.KnownBytes.{Appends}
+use Rattle.definitions.specs.FaultNames.{reply_text}
+use Rattle.definitions.specs.Lines.{max_line_len}
+use Rattle.definitions.specs.declared.fault.Fault.{Fault}
+use Rattle.definitions.specs.declared.fault.Fault.TheVariants as faults
+
+-- the faults after which nothing more is owed
+abbrev pub stops : Fault → Bool
+stops faults.OutOfMemory = true
+stops faults.Limit = true
+stops faults.Device = true
+stops _ = false
+
+-- a reply as it is written
+abbrev pub output_line : List ℕ → List ℕ
+output_line reply = reply ++ 10 ∷ []
+
+-- why a line is refused whatever is asked, if it is
+abbrev pub line_refusal : List ℕ → Option Fault
+line_refusal line =
+    if nat_lt max_line_len (length line) then Some faults.LineTooLong
+    else (if is_utf8 line then None else Some faults.BadRequest)
+
+module _ {State : Type 0} (answer : State → List ℕ → List ℕ) (after : State → List ℕ → State) where
+  -- the reply to a line
+  abbrev pub reply_to : State → List ℕ → List ℕ
+  reply_to s line = option_map_or reply_text (line_refusal line) (answer s line)
+
+  -- the state after a line
+  abbrev pub state_after : State → List ℕ → State
+  state_after s line = if is_none (line_refusal line) then after s line else s
+
+  -- out is the replies to the lines in turn, up to the first fault that stops; what follows that is free
+  abbrev pub AreReplies : State → List (List ℕ) → List ℕ → Type 0
+  AreReplies s [] out = out ≡ []
+  AreReplies s (line ∷ lines) out =
+      ((rest : List ℕ) × (out ≡ output_line (reply_to s line) ++ rest)
+      × AreReplies (state_after s line) lines rest)
+      ⊎ ((fault : Fault) × IsTrue (stops fault) × (rest : List ℕ) × (out ≡ output_line (reply_text fault) ++ rest))
+
+  -- the writer's bytes grow by such replies
+  abbrev pub Writes : State → List (List ℕ) → Option (List ℕ) → Option (List ℕ) → Type 0
+  Writes s lines old new = (out : List ℕ) × Appends old new out × AreReplies s lines out
