@@ -12,7 +12,7 @@ use Rattle.definitions.specs.declared.fault.Fault.{Fault}
 use Rattle.definitions.specs.declared.fault.Fault.TheVariants.{BadName, DuplicateName, TooManyFields}
 use Rattle.definitions.specs.Schema.{AreDistinct, Entry, Schema, field_named, is_valid_field_name, max_fields, text_kind, with_field}
 use Rattle.schema.specs.Names.{Numbers}
-use Rattle.schema.specs.Entries.{entry_of, plain_entry, with_indexing}
+use Rattle.schema.specs.Entries.{entry_of}
 use Rattle.options.specs.Options.{TextData}
 use Rattle.schema.specs.declared.field_entry.FieldType.{FieldType}
 use Rattle.schema.specs.declared.field_entry.FieldType.TheVariants.{Str, U64}
@@ -99,13 +99,9 @@ numbers_with old new fields e before may updated = record {
   few = (let room : length fields < max_fields = leb-false max_fields (length fields) may.room in simp length-append (omega arith));
 }
 
--- a text field without its indexing
-abbrev text_plain : List ℕ → TextData → Entry
-text_plain name o = record (plain_entry text_kind name) { stored = o.stored }
-
 -- an entry has the name that it was given
 pub entry_of-name : (name : List ℕ) (t : FieldType) → (entry_of name t).name ≡ name
-entry_of-name name (Str o) = elim o.indexing as (λ i. (option_map_or (with_indexing (text_plain name o)) i (text_plain name o)).name ≡ name) [ None ↦ refl | Some i ↦ refl ]
+entry_of-name name (Str o) = refl
 entry_of-name name (U64 o) = refl
 
 -- ---- the field of a name is the one that has it
