@@ -1,19 +1,16 @@
 -- Names of fields, as fields are added.
-use Rattle.std.proofs.Common.{ℕ, zero, suc, ok_or, option_map, slice_get, ◌↔◌, zero-add, List, [], ◌∷◌, ◌++◌, ◌≡◌, ◌≢◌, ◌≤◌, ◌<◌, ◌+◌, Bool, true, false, cond, not, Option, Some, None, is_some, IsTrue, length, refl, sym, ap, ◌∙◌, subst, arith, append-nil, le-leb, String, nat_le, if◌then◌else◌, bytes_eq, add-zero, length-append, Result, Ok, Err, leb-false}
+use Rattle.std.proofs.Common.{ℕ, zero, suc, ok_or, option_map, slice_get, ◌↔◌, zero-add, List, [], ◌∷◌, ◌++◌, ◌≡◌, ◌≢◌, ◌≤◌, ◌<◌, ◌+◌, Bool, true, false, cond, not, Option, Some, None, is_some, IsTrue, length, refl, sym, ap, ◌∙◌, subst, arith, String, nat_le, bytes_eq, add-zero, length-append, Result, Ok, Err, leb-false}
 use Rattle.std.specs.List.{AllByRecursion, position_from}
-use Rattle.std.specs.Option.{option_map_or}
 use Rattle.std.specs.HashMap.{HashMap, get_by_text}
 use Rattle.std.specs.Map.{update}
 use Rattle.std.specs.declared.hash.FoldHasher.{FoldHasher}
 use Rattle.std.specs.declared.hash.BuildHasherDefault.{BuildHasherDefault}
 use Rattle.std.specs.declared.alloc.Global.{Global}
 use Rattle.std.proofs.lemmas.Slice.Eq.{bytes_eq-Decides}
-use Rattle.definitions.specs.declared.fault.Fault.{Fault}
 use Rattle.definitions.specs.declared.fault.Fault.TheVariants.{BadName, DuplicateName, TooManyFields}
-use Rattle.definitions.specs.Schema.{AreDistinct, Entry, Schema, field_named, is_valid_field_name, max_fields, text_kind, with_field}
+use Rattle.definitions.specs.Schema.{AreDistinct, Entry, Schema, field_named, is_valid_field_name, max_fields, with_field}
 use Rattle.schema.specs.Names.{Numbers}
 use Rattle.schema.specs.Entries.{entry_of}
-use Rattle.options.specs.Options.{TextData}
 use Rattle.schema.specs.declared.field_entry.FieldType.{FieldType}
 use Rattle.schema.specs.declared.field_entry.FieldType.TheVariants.{Str, U64}
 

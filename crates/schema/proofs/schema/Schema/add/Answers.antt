@@ -1,5 +1,5 @@
 -- A field that is added keeps the names.
-use Rattle.std.proofs.Common.{ap, ap₂, arith, rules, subst, sym, ◌∙◌, ◌≡◌, ◌++◌, ◌∷◌, [], List, ℕ, string_bytes, Ok, Some, length, bytes_eq}
+use Rattle.std.proofs.Common.{ap, ap₂, rules, subst, sym, ◌∙◌, ◌≡◌, ◌++◌, ◌∷◌, [], List, string_bytes, Ok, Some, length, bytes_eq}
 use Rattle.std.specs.HashMap.{get_by_text}
 use Rattle.std.specs.Map.{update}
 use Rattle.std.proofs.lemmas.Map.Text.{hash_map_updates_text}

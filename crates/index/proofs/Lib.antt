@@ -1,0 +1,20 @@
+-- Lemmas behind the index.
+pub mod ReadingSteps
+pub mod QueryForms
+pub mod Filters
+pub mod FieldGroups
+pub mod ValueTerms
+pub mod TermCounts
+pub mod DocFacts
+pub mod FieldLengths
+pub mod EntryKinds
+pub mod ScoreFacts
+pub mod LengthsOfIds
+pub mod NormsInOrder
+pub mod WeightsByTerms
+pub mod Refusals
+pub mod ScanSteps
+pub mod Faults
+pub mod FieldLists
+pub mod ReadDocs
+pub mod Standings
