@@ -1,6 +1,8 @@
 -- Lemmas behind the index.
 pub mod ReadingSteps
 pub mod QueryForms
+pub mod RequestForms
+pub mod ReplyForms
 pub mod Filters
 pub mod FieldGroups
 pub mod ValueTerms
@@ -18,3 +20,4 @@ pub mod Faults
 pub mod FieldLists
 pub mod ReadDocs
 pub mod Standings
+pub mod SessionSteps

@@ -1,6 +1,7 @@
 -- Hits and the documents that they are of.
 use Rattle.std.specs.Prelude.{List, map, pos, ℕ, ℤ}
 use Rattle.std.specs.Borrow.{Bor}
+use Rattle.std.specs.Int.RustNames.{unsigned_abs}
 use Rattle.std.specs.List.{AllByRecursion}
 use Rattle.definitions.specs.Analyzers.{Analyzer}
 use Rattle.definitions.specs.Scanning as scanning
@@ -31,3 +32,7 @@ scored h = (pos h.0, h.1)
 -- a hit that was made
 abbrev pub hit_of : Hit → ℤ × Named
 hit_of h = (h.score, h.doc)
+
+-- a hit that was made, its score without a sign
+abbrev pub told : Hit → scanning.Hit
+told h = (unsigned_abs h.score, h.doc)

@@ -9,3 +9,5 @@ pub mod Weights
 pub mod Making
 pub mod Standing
 pub mod Accepting
+pub mod AskedRequests
+pub mod Sessions

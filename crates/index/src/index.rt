@@ -204,7 +204,7 @@ impl<A: Analyzer + Drop> Index<A> {
     }
 
     /// Whether searches are answered.
-    fn check_open(&self) -> Result<(), Fault>
+    pub(crate) fn check_open(&self) -> Result<(), Fault>
         ensures { (call : calls.Call) → calls.only_reads call ≡ true → result_err result ≡ calls.status_fault (status_of self.now.status) call }
     {
         match self.status {

@@ -31,6 +31,14 @@ pub(crate) fn text_at<'a>(value: &'a Json, key: &str) -> Option<&'a str>
     value.get(key).and_then(Json::as_str)
 }
 
+/// The number at a key, a whole one from 0 to 2^63 - 1.
+pub(crate) fn number_at(value: &Json, key: &str) -> Option<u64>
+    ensures { result ≡ definitions.number_at key.now (view value.now) }
+{
+    let number = value.get(key)?.as_u64()?;
+    if number < 1 << 63 { Some(number) } else { None }
+}
+
 /// Whether each key is one of these.
 fn members_have_only(members: &Map<String, Json>, keys: &[&str], further: &[&str]) -> bool
     ensures { result ≡ definitions.members_have_only (map (λ k. k.now) keys.now ++ map (λ k. k.now) further.now) (members_view members.now.entries) }

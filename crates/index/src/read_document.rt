@@ -31,7 +31,7 @@ pub(crate) fn read_document_text(
 }
 
 /// The value in a text.
-fn read_json(alloc: Global, text: &str) -> Result<Json, Fault>
+pub(crate) fn read_json(alloc: Global, text: &str) -> Result<Json, Fault>
     ensures ok { IfOk result (λ json. read text.now ≡ Some (view json)) }
     ensures err { IfErr result (λ fault. fault ≢ faults.OutOfMemory → (fault ≡ faults.NotAnObject) × (read text.now ≡ None)) }
 {

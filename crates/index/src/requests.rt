@@ -1,0 +1,78 @@
+//! Requests read from JSON.
+
+ghost use Rattle.std.specs.Prelude.{◌≡◌, option_map};
+ghost use Rattle.definitions.specs.Built.{built_request_in};
+ghost use Rattle.definitions.specs.Requests as definitions;
+ghost use Rattle.index.specs.AskedRequests.{request_of};
+ghost use Rattle.serde_json.specs.View.{view};
+
+use crate::json_keys::{has_only, number_at, text_at};
+use serde_json::Value as Json;
+
+/// What a request asks for, with its document or its query as it was sent.
+#[derive(Clone, Copy)]
+pub(crate) enum Request<'a> {
+    /// That a document be added.
+    Add(&'a Json),
+    /// That all that waits be seen.
+    Commit,
+    /// The best documents that match, and how many of them.
+    Search(&'a Json, u64),
+    /// How many documents match.
+    Count(&'a Json),
+}
+
+/// The request in a JSON object, whose key `op` names it. These four are the only ones that are read.
+#[tactic(auto, using(crate::proofs::RequestForms::built_by_name))]
+pub(crate) fn request_in(value: &Json) -> Option<Request<'_>>
+    ensures { option_map request_of result ≡ built_request_in (view value.now) }
+{
+    match text_at(value, "op")? {
+        "add" => add_in(value),
+        "commit" => commit_in(value),
+        "search" => search_in(value),
+        "count" => count_in(value),
+        _ => None,
+    }
+}
+
+/// The request for a document to be added.
+fn add_in(value: &Json) -> Option<Request<'_>>
+    ensures { option_map request_of result ≡ definitions.add_request (view value.now) }
+{
+    if !has_only(value, &["op", "doc"]) {
+        return None;
+    }
+    Some(Request::Add(value.get("doc")?))
+}
+
+/// The request for a commit.
+fn commit_in(value: &Json) -> Option<Request<'_>>
+    ensures { option_map request_of result ≡ definitions.commit_request (view value.now) }
+{
+    if !has_only(value, &["op"]) {
+        return None;
+    }
+    Some(Request::Commit)
+}
+
+/// The request for the best documents.
+fn search_in(value: &Json) -> Option<Request<'_>>
+    ensures { option_map request_of result ≡ definitions.search_request (view value.now) }
+{
+    if !has_only(value, &["op", "query", "k"]) {
+        return None;
+    }
+    let query = value.get("query")?;
+    Some(Request::Search(query, number_at(value, "k")?))
+}
+
+/// The request for a count.
+fn count_in(value: &Json) -> Option<Request<'_>>
+    ensures { option_map request_of result ≡ definitions.count_request (view value.now) }
+{
+    if !has_only(value, &["op", "query"]) {
+        return None;
+    }
+    Some(Request::Count(value.get("query")?))
+}
