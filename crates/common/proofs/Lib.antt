@@ -1,1 +1,5 @@
 pub mod Words
+pub mod VintDigits
+pub mod TakenBack
+pub mod DigitNumbers
+pub mod MadeCalls

@@ -1,18 +1,32 @@
-//! What every layer speaks of: numbers of documents, scores, refusals, tokens and analyzers.
+//! What every layer speaks of: numbers of documents, scores, refusals, tokens, analyzers, number codes
+//! and devices.
 #![tactic(auto)]
 
 mod analyzer;
+mod device;
+mod memory_device;
 mod number;
+pub mod number_code_laws;
+mod number_codes;
 mod raw_and_default;
 mod run_fault;
+mod synced;
+#[cfg(test)]
+mod tests;
 mod token;
 
 pub use analyzer::Analyzer;
 pub use definitions::Fault;
+pub use device::Device;
+pub use memory_device::MemoryDevice;
 pub use number::{
     DocId, MAX_SCORE, Score, TERMINATED, max_score_is_that_of_definitions,
     terminated_is_that_of_definitions,
 };
+pub use number_codes::{
+    put_bytes, put_u32, put_u64, put_vint, take_bytes, take_text, take_u32, take_u64, take_vint,
+};
 pub use raw_and_default::RawAndDefault;
 pub use run_fault::RunFault;
+pub use synced::{cut_synced, write_synced};
 pub use token::Token;

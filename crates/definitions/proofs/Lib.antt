@@ -16,3 +16,8 @@ pub mod QueriesByKeys
 pub mod SettingsInRange
 pub mod ReplyTexts
 pub mod Steps
+pub mod TermsReadBack
+pub mod SettingsReadBack
+pub mod CallImages
+pub mod CallRuns
+pub mod KeptCalls

@@ -1,15 +1,19 @@
 //! Laws of requests, replies, queries and settings.
 
-ghost use Rattle.std.specs.Prelude.{◌≡◌, Err, None, Ok, Option, Some, codes, false, true};
+ghost use Rattle.std.specs.Prelude.{◌<◌, ◌^◌, ◌≡◌, Err, IsUtf8, List, None, Ok, Option, Some, codes, false, slice_get, true, ℕ};
+ghost use Rattle.std.specs.Int.{to_be_bytes, w64};
 ghost use Rattle.definitions.specs.Calls.{Call, Configuration, Index, call_fault, status_fault};
 ghost use Rattle.definitions.specs.FaultNames.{reply_text};
 ghost use Rattle.definitions.specs.QueryGrammar.{many_at, one_at, query_in, query_of};
 ghost use Rattle.definitions.specs.Replies.{error_reply, ok_reply, reply_of};
 ghost use Rattle.definitions.specs.Requests.{Request};
-ghost use Rattle.definitions.specs.Schema.{Schema};
+ghost use Rattle.definitions.specs.Schema.{Entry, IsSchema, Schema, text_kind, u64_kind};
 ghost use Rattle.definitions.specs.Scoring.{IsSimilarity};
 ghost use Rattle.definitions.specs.Settings.{Settings, default_settings, is_settings, similarity_of};
+ghost use Rattle.definitions.specs.SettingsGrammar.{settings_data, settings_in, weighs_named};
 ghost use Rattle.definitions.specs.Step.{Session, answering, call_in, index_step, refusing, stand_in, step};
+ghost use Rattle.definitions.specs.TermData.{reads_back};
+ghost use Rattle.definitions.specs.Terms.{term_bytes};
 ghost use Rattle.definitions.specs.declared.fault.Fault.{Fault};
 ghost use Rattle.serde_json.specs.Data.{Data};
 ghost use Rattle.serde_json.specs.Written.{has_float};
@@ -45,4 +49,15 @@ pub fn default_settings_are_settings()
 /// Settings in range give weights and norms by which scores fit.
 pub fn settings_give_a_similarity()
     ensures { (s : Settings) → is_settings s ≡ true → IsSimilarity (similarity_of s) }
+{}
+
+/// Settings in range, of which each weighted term reads back, are read from what is written of them.
+pub fn settings_read_back()
+    ensures { (schema : Schema) (s : Settings) → is_settings s ≡ true → weighs_named schema s ≡ true → settings_in schema (settings_data schema s) ≡ Some s }
+{}
+
+/// Each text of a text field, and each number of a u64 field, is a term that is read from what is written of it.
+pub fn texts_and_numbers_read_back()
+    ensures text { (schema : Schema) (field : ℕ) (e : Entry) → IsSchema schema → slice_get schema field ≡ Some e → (s : List ℕ) → e.kind ≡ text_kind → IsUtf8 s → reads_back schema (term_bytes field text_kind s) ≡ true }
+    ensures number { (schema : Schema) (field : ℕ) (e : Entry) → IsSchema schema → slice_get schema field ≡ Some e → (n : ℕ) → e.kind ≡ u64_kind → n < 2 ^ 64 → reads_back schema (term_bytes field u64_kind (to_be_bytes w64 n)) ≡ true }
 {}

@@ -3,6 +3,7 @@ pub mod ReadingSteps
 pub mod QueryForms
 pub mod RequestForms
 pub mod ReplyForms
+pub mod JsonValues
 pub mod Filters
 pub mod FieldGroups
 pub mod ValueTerms

@@ -7,6 +7,7 @@ mod index;
 mod json_keys;
 mod json_queries;
 mod json_replies;
+mod json_settings;
 mod json_terms;
 mod length_ids;
 mod named_doc;
@@ -15,6 +16,7 @@ mod read_document;
 mod requests;
 mod session;
 mod settings;
+mod terms_to_json;
 mod value;
 
 pub use any_query::{AnyQuery, TermQuery};

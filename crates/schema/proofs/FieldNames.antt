@@ -10,7 +10,7 @@ use Rattle.std.proofs.lemmas.Slice.Eq.{bytes_eq-Decides}
 use Rattle.definitions.specs.declared.fault.Fault.TheVariants.{BadName, DuplicateName, TooManyFields}
 use Rattle.definitions.specs.Schema.{AreDistinct, Entry, Schema, field_named, is_valid_field_name, max_fields, with_field}
 use Rattle.schema.specs.Names.{Numbers}
-use Rattle.schema.specs.Entries.{entry_of}
+use Rattle.schema.specs.Entries.{IsTyped, entry_of}
 use Rattle.schema.specs.declared.field_entry.FieldType.{FieldType}
 use Rattle.schema.specs.declared.field_entry.FieldType.TheVariants.{Str, U64}
 
@@ -88,11 +88,12 @@ may_be_added fields more e h = go (field_named fields e.name) (is_valid_field_na
     go None true false a b c k = record { fresh = a; valid = b; room = c }
 
 -- what is kept of names after a field is added
-pub numbers_with : (old new : HashMap (String Global) ℕ (BuildHasherDefault FoldHasher)) (fields : Schema) (e : Entry) → Numbers old fields → MayBeAdded fields e → ((name : List ℕ) → get_by_text new name ≡ update bytes_eq (get_by_text old) e.name (Some (length fields)) name) → Numbers new (fields ++ (e ∷ []))
-numbers_with old new fields e before may updated = record {
+pub numbers_with : (old new : HashMap (String Global) ℕ (BuildHasherDefault FoldHasher)) (fields : Schema) (e : Entry) → Numbers old fields → MayBeAdded fields e → IsTyped e → ((name : List ℕ) → get_by_text new name ≡ update bytes_eq (get_by_text old) e.name (Some (length fields)) name) → Numbers new (fields ++ (e ∷ []))
+numbers_with old new fields e before may typed updated = record {
   by_name = λ name. updated name ∙ ap (cond (bytes_eq e.name name) (Some (length fields))) (before.by_name name) ∙ sym (field_named-push fields e name may.fresh);
   distinct = distinct-push fields e before.distinct (none_passes (λ f. bytes_eq f.name e.name) 0 fields may.fresh);
   valid = all-push (λ f. IsTrue (is_valid_field_name f.name)) fields e before.valid may.valid;
+  typed = all-push IsTyped fields e before.typed typed;
   few = (let room : length fields < max_fields = leb-false max_fields (length fields) may.room in simp length-append (omega arith));
 }
 

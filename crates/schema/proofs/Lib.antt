@@ -1,2 +1,3 @@
 pub mod FieldNames
 pub mod FieldSplits
+pub mod ReadBack

@@ -5,8 +5,12 @@ mod field;
 mod field_entry;
 mod field_type;
 mod fields;
+mod json_keys;
+pub mod json_laws;
+mod read_schema;
 mod schema;
 mod term;
+mod write_schema;
 
 pub use field::Field;
 pub use field_entry::{FieldEntry, FieldType};

@@ -5,6 +5,7 @@ ghost use Rattle.std.specs.List.{AllByRecursion, enumerate_from, last_or};
 ghost use Rattle.std.specs.Result.{result_err};
 ghost use Rattle.definitions.specs.FieldPaths.{field_at_split, find_field, splits_from};
 ghost use Rattle.definitions.specs.Schema.{AreDistinct, Entry, field_named, is_valid_field_name, max_fields, u64_kind, with_field};
+ghost use Rattle.definitions.specs.SchemaGrammar.{schema_data, schema_in};
 ghost use Rattle.definitions.specs.declared.fault.Fault.TheVariants as faults;
 ghost use Rattle.options.specs.Options.{NumericData, TextData};
 ghost use Rattle.schema.specs.Entries.{entry_of, numeric_entry, text_entry};
@@ -149,6 +150,14 @@ impl Schema {
         Fields::new(self.fields.as_slice())
     }
 
+    /// The fields' entries, in the order of their numbers.
+    pub(crate) fn entries(&self) -> &[FieldEntry]
+        ensures value { result.now ≡ self.now }
+        ensures read_back { schema_in (schema_data self.now) ≡ Ok self.now }
+    {
+        self.fields.as_slice()
+    }
+
     /// A field's name, type and options.
     pub fn get_field_entry(&self, field: Field) -> &FieldEntry
         requires { field < length self.now }
@@ -215,7 +224,12 @@ impl Schema {
     }
 
     /// Adds a field. What can fail comes before what changes.
-    fn add(&mut self, alloc: Global, name: &str, field_type: FieldType) -> Result<Field, Fault>
+    pub(crate) fn add(
+        &mut self,
+        alloc: Global,
+        name: &str,
+        field_type: FieldType,
+    ) -> Result<Field, Fault>
         ensures ok { IfOk result (λ field. (with_field self.old (entry_of name.now field_type) ≡ Ok self.new) × (field ≡ length self.old)) }
         ensures err { IfErr result (λ fault. fault ≢ faults.OutOfMemory → with_field self.old (entry_of name.now field_type) ≡ Err fault) }
         ensures unchanged { OnErr result (self.new ≡ self.old) }
