@@ -1,7 +1,7 @@
 -- Which requests and queries are answered so far. The others are refused as if they were none.
-use Rattle.std.specs.Prelude.{Bool, Option, Some, false, true}
+use Rattle.std.specs.Prelude.{◌&&◌, Bool, Option, Some, false, true}
 use Rattle.definitions.specs.Json.{only_if, ◌>>=◌}
-use Rattle.definitions.specs.Query.{Query, term}
+use Rattle.definitions.specs.Query.{Clauses, Query, all, boolean, clause, empty, no_clauses, term}
 use Rattle.definitions.specs.QueryGrammar.{query_in}
 use Rattle.definitions.specs.Requests.{Request, add_doc, commit_all, count_docs, request_in, search_docs}
 use Rattle.definitions.specs.Schema.{Schema}
@@ -15,10 +15,19 @@ is_built (search_docs d k) = true
 is_built (count_docs d) = true
 is_built _ = false
 
--- whether a query is answered
-abbrev pub is_built_query : Query → Bool
-is_built_query (term t option) = true
-is_built_query _ = false
+-- whether a query is answered: it and all queries in it have forms that are
+abbrev mutual
+  pub is_built_query : Query → Bool
+  is_built_query all = true
+  is_built_query empty = true
+  is_built_query (term t option) = true
+  is_built_query (boolean cs least) = are_built cs
+  is_built_query _ = false
+
+  -- whether the queries of clauses are answered
+  pub are_built : Clauses → Bool
+  are_built no_clauses = true
+  are_built (clause occur q cs) = is_built_query q && are_built cs
 
 -- the request in a value, if it is answered
 abbrev pub built_request_in : json.Data → Option Request

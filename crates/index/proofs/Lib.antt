@@ -22,3 +22,8 @@ pub mod FieldLists
 pub mod ReadDocs
 pub mod Standings
 pub mod SessionSteps
+pub mod TallySteps
+pub mod ClauseSteps
+pub mod ClauseScores
+pub mod Ranges
+pub mod QuerySteps

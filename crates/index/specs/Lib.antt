@@ -1,6 +1,12 @@
 -- What the index keeps, as the definitions have it.
 pub mod Documents
 pub mod Queries
+pub mod QueryDepths
+pub mod QueryCodes
+pub mod Tallies
+pub mod Ranges
+pub mod BuiltQueries
+pub mod QueryNames
 pub mod ValueCodes
 pub mod NamedDocs
 pub mod IndexedDocs

@@ -1,18 +1,23 @@
 //! Queries read from JSON.
 
-ghost use Rattle.std.specs.Prelude.{◌≡◌, ◌≢◌, IfErr, IfOk, None, Some, bytes_eq, codes, false, option_map};
-ghost use Rattle.std.specs.Option.{option_map_or};
+ghost use Rattle.std.specs.Prelude.{◌++◌, ◌<◌, ◌≡◌, ◌≢◌, IfErr, IfOk, List, None, OnOk, Some, codes, map, option_map, unwrap_or};
 ghost use Rattle.definitions.specs.Built.{built_query_in};
 ghost use Rattle.definitions.specs.Json as keys;
+ghost use Rattle.definitions.specs.Query.{no_queries};
 ghost use Rattle.definitions.specs.QueryGrammar as definitions;
 ghost use Rattle.definitions.specs.Schema.{with_freqs};
 ghost use Rattle.definitions.specs.declared.fault.Fault.TheVariants as faults;
-ghost use Rattle.index.specs.Queries.{query_of};
+ghost use Rattle.index.specs.BuiltQueries as built;
+ghost use Rattle.index.specs.QueryNames.{form_of};
+ghost use Rattle.index.specs.Queries.{clauses_of, queries_of, query_of};
+ghost use Rattle.index.specs.declared.any_query.AnyQuery.{AnyQuery as AnyQueries};
 ghost use Rattle.options.specs.RecordOption.{record_option_of};
-ghost use Rattle.serde_json.specs.View.{view};
+ghost use Rattle.serde_json.specs.Data.{Data, depth};
+ghost use Rattle.serde_json.specs.Find.{get};
+ghost use Rattle.serde_json.specs.View.{items_view, view};
 
-use crate::any_query::{AnyQuery, TermQuery};
-use crate::json_keys::text_at;
+use crate::any_query::{AnyQuery, BooleanQuery, Occur, TermQuery};
+use crate::json_keys::{has_only, text_at};
 use crate::json_terms::term_beside;
 use definitions::Fault;
 use options::IndexRecordOption;
@@ -20,26 +25,202 @@ use schema::Schema;
 use serde_json::Value as Json;
 use std::alloc::Global;
 
-/// The query in a JSON object, whose key `q` names its form. The form `term` is the only one that is read.
-#[tactic(auto, using(crate::proofs::QueryForms::term_form_read, crate::proofs::QueryForms::other_form_refused))]
+/// The forms of queries that are read.
+#[derive(Clone, Copy)]
+enum Form {
+    All,
+    Empty,
+    Term,
+    Boolean,
+}
+
+/// The query in a JSON object, whose key `q` names its form. The forms `all`, `none`, `term` and `bool` are read.
+#[cycle(read_query)]
 pub fn read_query(alloc: Global, schema: &Schema, json: &Json) -> Result<AnyQuery, Fault>
     ensures ok { IfOk result (λ query. built_query_in schema.now (view json.now) ≡ Some (query_of query)) }
     ensures err { IfErr result (λ fault. fault ≢ faults.OutOfMemory → (fault ≡ faults.BadQuery) × (built_query_in schema.now (view json.now) ≡ None)) }
 {
-    if !is_of_form(json, "term") {
-        return Err(Fault::BadQuery);
+    match form_at(json) {
+        Some(form) => read_form(alloc, schema, form, json),
+        None => Err(Fault::BadQuery),
     }
-    read_term_query(alloc, schema, json)
 }
 
-/// Whether the value has a form of that name.
-fn is_of_form(json: &Json, name: &str) -> bool
-    ensures { result ≡ option_map_or (λ found. bytes_eq found name.now) (keys.text_at (codes "q") (view json.now)) false }
+/// The form that `q` names.
+fn form_at(json: &Json) -> Option<Form>
+    ensures { option_map form_of result ≡ built.form_at (view json.now) }
 {
     match text_at(json, "q") {
-        Some(found) => found == name,
-        None => false,
+        Some(name) => form_named(name),
+        None => None,
     }
+}
+
+/// A form, by its name.
+fn form_named(name: &str) -> Option<Form>
+    ensures { option_map form_of result ≡ keys.named built.built_forms name.now }
+{
+    match name {
+        "all" => Some(Form::All),
+        "none" => Some(Form::Empty),
+        "term" => Some(Form::Term),
+        "bool" => Some(Form::Boolean),
+        _ => None,
+    }
+}
+
+/// The query of a form.
+#[cycle(read_query)]
+fn read_form(alloc: Global, schema: &Schema, form: Form, json: &Json) -> Result<AnyQuery, Fault>
+    ensures ok { IfOk result (λ query. built.built_formed (form_of form) schema.now (view json.now) ≡ Some (query_of query)) }
+    ensures err { IfErr result (λ fault. fault ≢ faults.OutOfMemory → (fault ≡ faults.BadQuery) × (built.built_formed (form_of form) schema.now (view json.now) ≡ None)) }
+{
+    match form {
+        Form::All => read_all_query(json),
+        Form::Empty => read_empty_query(json),
+        Form::Term => read_term_query(alloc, schema, json),
+        Form::Boolean => read_boolean_query(alloc, schema, json),
+    }
+}
+
+/// The query for every document.
+fn read_all_query(json: &Json) -> Result<AnyQuery, Fault>
+    ensures ok { IfOk result (λ query. definitions.all_query (view json.now) ≡ Some (query_of query)) }
+    ensures err { IfErr result (λ fault. (fault ≡ faults.BadQuery) × (definitions.all_query (view json.now) ≡ None)) }
+{
+    if !has_only(json, &["q"]) {
+        return Err(Fault::BadQuery);
+    }
+    Ok(AnyQuery::All)
+}
+
+/// The query for no document.
+fn read_empty_query(json: &Json) -> Result<AnyQuery, Fault>
+    ensures ok { IfOk result (λ query. definitions.none_query (view json.now) ≡ Some (query_of query)) }
+    ensures err { IfErr result (λ fault. (fault ≡ faults.BadQuery) × (definitions.none_query (view json.now) ≡ None)) }
+{
+    if !has_only(json, &["q"]) {
+        return Err(Fault::BadQuery);
+    }
+    Ok(AnyQuery::Empty)
+}
+
+/// The query for clauses.
+#[cycle(read_query)]
+fn read_boolean_query(alloc: Global, schema: &Schema, json: &Json) -> Result<AnyQuery, Fault>
+    ensures ok { IfOk result (λ query. definitions.bool_query (built.built_many_at schema.now (view json.now)) (view json.now) ≡ Some (query_of query)) }
+    ensures err { IfErr result (λ fault. fault ≢ faults.OutOfMemory → (fault ≡ faults.BadQuery) × (definitions.bool_query (built.built_many_at schema.now (view json.now)) (view json.now) ≡ None)) }
+{
+    if !has_only(json, &["q", "must", "should", "must_not", "min"]) {
+        return Err(Fault::BadQuery);
+    }
+    let clauses = read_clauses(alloc, schema, json)?;
+    read_minimum(json, clauses)
+}
+
+/// The clauses of a query: those of `must`, of `should`, and of `must_not`.
+#[cycle(read_query)]
+fn read_clauses(
+    alloc: Global,
+    schema: &Schema,
+    json: &Json,
+) -> Result<Vec<(Occur, AnyQuery)>, Fault>
+    ensures ok { IfOk result (λ clauses. definitions.clauses_at (built.built_many_at schema.now (view json.now)) ≡ Some (clauses_of clauses.items)) }
+    ensures err { IfErr result (λ fault. fault ≢ faults.OutOfMemory → (fault ≡ faults.BadQuery) × (definitions.clauses_at (built.built_many_at schema.now (view json.now)) ≡ None)) }
+{
+    let mut clauses = Vec::new(alloc);
+    read_queries(alloc, schema, json, "must", Occur::Must, &mut clauses)?;
+    read_queries(alloc, schema, json, "should", Occur::Should, &mut clauses)?;
+    read_queries(
+        alloc,
+        schema,
+        json,
+        "must_not",
+        Occur::MustNot,
+        &mut clauses,
+    )?;
+    Ok(clauses)
+}
+
+/// The query for clauses, of which as many that may match have to as `min` says.
+fn read_minimum(json: &Json, clauses: Vec<(Occur, AnyQuery)>) -> Result<AnyQuery, Fault>
+    ensures ok { IfOk result (λ query. built.least_query (view json.now) (clauses_of clauses.items) ≡ Some (query_of query)) }
+    ensures err { IfErr result (λ fault. (fault ≡ faults.BadQuery) × (built.least_query (view json.now) (clauses_of clauses.items) ≡ None)) }
+{
+    let Some(minimum) = json.get("min") else {
+        return Ok(AnyQuery::Boolean(BooleanQuery::new(clauses)));
+    };
+    match number_in(minimum) {
+        Some(minimum) => Ok(AnyQuery::Boolean(BooleanQuery::with_minimum_required_clauses(
+            clauses,
+            minimum as usize,
+        ))),
+        None => Err(Fault::BadQuery),
+    }
+}
+
+/// A whole number from 0 to 2^63 - 1.
+fn number_in(json: &Json) -> Option<u64>
+    ensures { result ≡ keys.number_in (view json.now) }
+{
+    let number = json.as_u64()?;
+    if number >= 1 << 63 {
+        return None;
+    }
+    Some(number)
+}
+
+/// Adds a clause for each query in the list at a key.
+#[cycle(read_query)]
+fn read_queries(
+    alloc: Global,
+    schema: &Schema,
+    json: &Json,
+    key: &str,
+    occur: Occur,
+    clauses: &mut Vec<(Occur, AnyQuery)>,
+) -> Result<(), Fault>
+    ensures ok { OnOk result ((queries : List AnyQueries)
+        × (unwrap_or (built.built_many_at schema.now (view json.now) key.now) (Some no_queries) ≡ Some (queries_of queries))
+        × (clauses.new.items ≡ clauses.old.items ++ map (λ q. (occur, q)) queries)) }
+    ensures err { IfErr result (λ fault. fault ≢ faults.OutOfMemory → (fault ≡ faults.BadQuery) × (unwrap_or (built.built_many_at schema.now (view json.now) key.now) (Some no_queries) ≡ None)) }
+{
+    match child_at(json, key) {
+        Some(Json::Array(items)) => read_items(alloc, schema, items.as_slice(), occur, clauses),
+        Some(_) => Err(Fault::BadQuery),
+        None => Ok(()),
+    }
+}
+
+/// What stands at a key.
+#[tactic(auto, using(crate::proofs::QuerySteps::child_less))]
+fn child_at<'a>(json: &'a Json, key: &str) -> Option<&'a Json>
+    ensures value { option_map (λ v. view v.now) result ≡ get key.now (view json.now) }
+    ensures less { (d : Data) → option_map (λ v. view v.now) result ≡ Some d → depth d < depth (view json.now) }
+{
+    json.get(key)
+}
+
+/// Adds a clause for each query.
+#[cycle(read_query)]
+#[tactic(auto, using(crate::proofs::QuerySteps::item_depth))]
+fn read_items(
+    alloc: Global,
+    schema: &Schema,
+    items: &[Json],
+    occur: Occur,
+    clauses: &mut Vec<(Occur, AnyQuery)>,
+) -> Result<(), Fault>
+    ensures ok { OnOk result ((queries : List AnyQueries)
+        × (built.built_items schema.now (items_view items.now) ≡ Some (queries_of queries))
+        × (clauses.new.items ≡ clauses.old.items ++ map (λ q. (occur, q)) queries)) }
+    ensures err { IfErr result (λ fault. fault ≢ faults.OutOfMemory → (fault ≡ faults.BadQuery) × (built.built_items schema.now (items_view items.now) ≡ None)) }
+{
+    for item in items {
+        let query = read_query(alloc, schema, item)?;
+        clauses.push((occur, query))?;
+    }
+    Ok(())
 }
 
 /// The query for a term. Counts are read where nothing else is said.

@@ -19,7 +19,7 @@ mod settings;
 mod terms_to_json;
 mod value;
 
-pub use any_query::{AnyQuery, TermQuery};
+pub use any_query::{AnyQuery, BooleanQuery, Occur, TermQuery};
 pub use index::{Index, Status};
 pub use json_queries::read_query;
 pub use json_terms::read_term;

@@ -5,6 +5,7 @@ mod indexed_doc;
 mod matching;
 mod scan;
 mod scoring;
+mod tally;
 
 pub(crate) use check_query::check_query;
 pub(crate) use indexed_doc::IndexedDoc;
@@ -12,3 +13,4 @@ pub(crate) use matching::matches;
 pub use scan::Hit;
 pub(crate) use scan::{scan, scan_count};
 pub(crate) use scoring::score;
+pub(crate) use tally::Tally;

@@ -2,6 +2,14 @@
 #![tactic(auto)]
 
 #[cfg(test)]
+mod engine;
+#[cfg(test)]
+mod lines;
+#[cfg(test)]
+mod number_codes;
+#[cfg(test)]
+mod schema_json;
+#[cfg(test)]
 mod schemas;
 #[cfg(test)]
 mod terms;

@@ -1,22 +1,22 @@
 //! Scores: whole numbers, each by its document and query alone.
 
-ghost use Rattle.std.specs.Prelude.{[], ◌&&◌, ◌<◌, ◌∷◌, ◌≡◌, ◌≤◌, IfSome, None, Some, if◌then◌else◌, length, slice_get, true, List, ℕ};
+ghost use Rattle.std.specs.Prelude.{[], ◌&&◌, ◌<◌, ◌∷◌, ◌≡◌, ◌≤◌, IfSome, None, Some, if◌then◌else◌, length, slice_get, sum, true, List, ℕ};
 ghost use Rattle.definitions.specs.Analyzers.{Analyzer};
 ghost use Rattle.definitions.specs.Lengths.{len_of};
-ghost use Rattle.definitions.specs.Matching.{matches};
+ghost use Rattle.definitions.specs.Matching.{answers_of, bool_matches, matches};
 ghost use Rattle.definitions.specs.Recorded as recorded;
-ghost use Rattle.definitions.specs.Refusing.{first_fault, term_tests, tree_fault};
+ghost use Rattle.definitions.specs.Refusing.{bound, clauses_bound, clauses_fault, first_fault, term_tests, tree_fault};
 ghost use Rattle.definitions.specs.Schema.{Schema as Fields, has_freq, is_indexed, keeps_length};
 ghost use Rattle.definitions.specs.Scoring as scoring;
 ghost use Rattle.definitions.specs.Settings.{similarity_of, weight_of};
 ghost use Rattle.definitions.specs.Terms.{field_of, has_kind, is_text_term};
 ghost use Rattle.index.specs.Documents.{document_of};
 ghost use Rattle.index.specs.IndexedDocs.{Describes};
-ghost use Rattle.index.specs.Queries.{query_of};
+ghost use Rattle.index.specs.Queries.{clauses_of, query_of};
 
-use crate::any_query::{AnyQuery, TermQuery};
+use crate::any_query::{AnyQuery, Occur, TermQuery};
 use crate::length_ids::fieldnorm_to_id;
-use crate::plain::IndexedDoc;
+use crate::plain::{IndexedDoc, Tally};
 use crate::settings::Settings;
 use schema::{Field, FieldEntry, Schema};
 
@@ -24,6 +24,7 @@ use schema::{Field, FieldEntry, Schema};
 const NO_LENGTH_ID: u8 = 1;
 
 /// The score of a document that matches; `None` where it doesn't.
+#[cycle(score)]
 pub(crate) fn score(
     schema: &Schema,
     settings: &Settings,
@@ -33,7 +34,7 @@ pub(crate) fn score(
     requires { tree_fault schema.now (weight_of settings.now) 1 (query_of query.now) ≡ None }
     ensures value { (analyze : Analyzer) → Describes schema.now analyze doc.now → let d = document_of doc.now.values.items in
         result ≡ (if matches schema.now analyze d (query_of query.now) then Some (scoring.score schema.now analyze (similarity_of settings.now) d 1 (query_of query.now)) else None) }
-    ensures within { IfSome result (λ score. score ≤ scoring.max_score) }
+    ensures within { IfSome result (λ score. score ≤ bound (weight_of settings.now) 1 (query_of query.now)) }
 {
     match query {
         AnyQuery::All => Some(1),
@@ -45,7 +46,41 @@ pub(crate) fn score(
             }
             Some(term_score(schema, settings, doc, query, occurrences))
         }
+        AnyQuery::Boolean(query) => {
+            let minimum = query.get_minimum_number_should_match();
+            clauses_score(schema, settings, doc, query.clauses(), minimum)
+        }
     }
+}
+
+/// The score of a document that matches clauses, of which so many that may match have to: the sum over those that
+/// do. A `MustNot` that matches leaves no score.
+#[cycle(score)]
+#[tactic(auto, using(crate::proofs::ClauseSteps::clause_depth))]
+fn clauses_score(
+    schema: &Schema,
+    settings: &Settings,
+    doc: &IndexedDoc,
+    clauses: &[(Occur, AnyQuery)],
+    minimum: usize,
+) -> Option<u64>
+    requires accepted { clauses_fault schema.now (weight_of settings.now) 1 (clauses_of clauses.now) ≡ None }
+    requires bounded { clauses_bound (weight_of settings.now) 1 (clauses_of clauses.now) ≤ scoring.max_score }
+    ensures value { (analyze : Analyzer) → Describes schema.now analyze doc.now → let d = document_of doc.now.values.items in
+        result ≡ (if bool_matches minimum (answers_of schema.now analyze d (clauses_of clauses.now)) then Some (sum (scoring.clause_scores schema.now analyze (similarity_of settings.now) d 1 (clauses_of clauses.now))) else None) }
+    ensures within { IfSome result (λ score. score ≤ clauses_bound (weight_of settings.now) 1 (clauses_of clauses.now)) }
+{
+    let mut tally = Tally::new(minimum);
+    let mut sum = 0;
+    for (occur, query) in clauses {
+        let score = score(schema, settings, doc, query);
+        let Some(next) = tally.after(*occur, score.is_some()) else {
+            return None;
+        };
+        tally = next;
+        sum += score.unwrap_or(0);
+    }
+    if tally.is_met() { Some(sum) } else { None }
 }
 
 /// The score of a document that has the term so often.
@@ -61,7 +96,7 @@ fn term_score(
     ensures value { (analyze : Analyzer) → Describes schema.now analyze doc.now → let d = document_of doc.now.values.items in
         occurrences ≡ length (recorded.occurrences schema.now analyze query.now.0 d)
         → result ≡ scoring.term_score schema.now analyze (similarity_of settings.now) d query.now.0 query.now.1 }
-    ensures within { result ≤ scoring.max_score }
+    ensures within { result ≤ weight_of settings.now query.now.0 }
 {
     let field = query.term().field();
     let entry = schema.get_field_entry(field);

@@ -1,9 +1,10 @@
 use Rattle.std.proofs.Common.{ap, map, ◌++◌, ◌∙◌, sym}
-use Rattle.definitions.specs.Settings.{similarity_of}
+use Rattle.definitions.specs.Settings.{similarity_of, weight_of}
+use Rattle.definitions.proofs.Bounds.{accepted_fits}
 use Rattle.definitions.specs.Scoring.{max_score}
 use Rattle.definitions.specs.Scanning as scanning
 use Rattle.std.specs.List.{AllByRecursion}
-use Rattle.std.proofs.Common.{drop, subst, ◌+◌, ◌≤◌}
+use Rattle.std.proofs.Common.{drop, le_trans, subst, ◌+◌, ◌≤◌}
 use Rattle.index.specs.Hits.{documents_of, match_of}
 use Rattle.index.specs.Queries.{query_of}
 use Rattle.index.proofs.ScanSteps.{all_push, described_next, found_more, found_passed}
@@ -26,7 +27,7 @@ loop-doc-preserved c =
             ap (λ ms. map (match_of schema) ms ++ scanning.found schema analyze sim (documents_of (drop (i + 1) docs)) q) (ap (λ v. v.items) w.found-is ∙ w.in_ok-push.ensures.items)
             ∙ found_more schema analyze sim q c.loop-doc.found.items docs i w.in-Some.score _ c.loop-doc-test.true c.doc-item.is told
             ∙ c.loop-doc.invariant.value analyze d;
-        within = subst (AllByRecursion (λ m. m.0 ≤ max_score)) (sym (ap (λ v. v.items) w.found-is ∙ w.in_ok-push.ensures.items)) (all_push (λ m. m.0 ≤ max_score) c.loop-doc.found.items _ c.loop-doc.invariant.within w.in-Some.ensures.within);
+        within = subst (AllByRecursion (λ m. m.0 ≤ max_score)) (sym (ap (λ v. v.items) w.found-is ∙ w.in_ok-push.ensures.items)) (all_push (λ m. m.0 ≤ max_score) c.loop-doc.found.items _ c.loop-doc.invariant.within (le_trans w.in-Some.ensures.within (accepted_fits schema (weight_of c.args.settings.now) 1 q c.requires)));
       }
       | in_default w ↦ record {
         value = λ analyze d.

@@ -1,0 +1,100 @@
+//! The index: what it finds, and what it refuses.
+
+mod adds;
+mod json_queries;
+mod making;
+mod refused_queries;
+mod scores;
+
+use common::{RawAndDefault, Score};
+use definitions::Fault;
+use index::{AnyQuery, Hit, Index, Settings, TermQuery, Value};
+use options::{INDEXED, IndexRecordOption, STORED, TEXT};
+use schema::{Field, Schema, SchemaBuilder, Term};
+use std::alloc::{AllocError, Global};
+
+// The three documents of the worked examples.
+const DOCS: [&str; 3] = [
+    r#"{"title":"the old sea","year":1952}"#,
+    r#"{"title":"sea sea wind","year":1987}"#,
+    r#"{"title":"wind","year":1952}"#,
+];
+
+// What is stored of a document that has at most one title and one year.
+type Stored = (Option<&'static str>, Option<u64>);
+
+const A: Stored = (Some("the old sea"), Some(1952));
+
+const B: Stored = (Some("sea sea wind"), Some(1987));
+
+const C: Stored = (Some("wind"), Some(1952));
+
+// Fields `title` and `year`, at 0 and 1.
+fn builder(alloc: Global) -> Result<SchemaBuilder, Fault> {
+    let mut builder = Schema::builder(alloc);
+    builder.add_text_field("title", TEXT | STORED)?;
+    builder.add_u64_field("year", INDEXED | STORED)?;
+    Ok(builder)
+}
+
+fn schema(alloc: Global) -> Result<Schema, Fault> {
+    Ok(builder(alloc)?.build())
+}
+
+// An index of the two fields, without documents.
+fn empty_index(alloc: Global) -> Result<Index<RawAndDefault>, Fault> {
+    let settings = Settings::default(alloc)?;
+    Index::in_memory(alloc, RawAndDefault, schema(alloc)?, settings)
+}
+
+// An index of the three documents, all committed.
+fn index_of_docs(alloc: Global, settings: Settings) -> Result<Index<RawAndDefault>, Fault> {
+    let mut index = Index::in_memory(alloc, RawAndDefault, schema(alloc)?, settings)?;
+    for doc in DOCS {
+        index.add_json(doc)?;
+    }
+    index.commit()?;
+    Ok(index)
+}
+
+// The query for a word of `title` with counts.
+fn word(alloc: Global, text: &str) -> Result<AnyQuery, AllocError> {
+    let term = Term::from_field_text(alloc, Field::from_field_id(0), text)?;
+    Ok(AnyQuery::Term(TermQuery::new(term, IndexRecordOption::WithFreqs)))
+}
+
+// The query for a year with counts.
+fn year(alloc: Global, year: u64) -> Result<AnyQuery, AllocError> {
+    let term = Term::from_field_u64(alloc, Field::from_field_id(1), year)?;
+    Ok(AnyQuery::Term(TermQuery::new(term, IndexRecordOption::WithFreqs)))
+}
+
+// The one text in a field.
+fn one_text(values: Option<&[Value]>) -> Option<&str> {
+    match values {
+        Some([Value::Str(text)]) => Some(text.as_str()),
+        _ => None,
+    }
+}
+
+// The one number in a field.
+fn one_number(values: Option<&[Value]>) -> Option<u64> {
+    match values {
+        Some([Value::U64(number)]) => Some(*number),
+        _ => None,
+    }
+}
+
+// Each hit as its score, its title and its year.
+fn told(
+    alloc: Global,
+    hits: &[Hit],
+) -> Result<Vec<(Score, (Option<&str>, Option<u64>))>, AllocError> {
+    let mut told = Vec::new(alloc);
+    for hit in hits {
+        let title = one_text(hit.doc.get("title"));
+        let year = one_number(hit.doc.get("year"));
+        told.push((hit.score, (title, year)))?;
+    }
+    Ok(told)
+}
