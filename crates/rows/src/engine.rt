@@ -1,6 +1,7 @@
 //! The index: what it finds, and what it refuses.
 
 mod adds;
+mod bools;
 mod json_queries;
 mod making;
 mod refused_queries;

@@ -12,6 +12,8 @@ mod schema_json;
 #[cfg(test)]
 mod schemas;
 #[cfg(test)]
+mod settings_json;
+#[cfg(test)]
 mod terms;
 #[cfg(test)]
 mod tokens;

@@ -5,7 +5,7 @@ use definitions::Fault;
 use index::{Index, Session, Settings, reply, run_session};
 use options::{INDEXED, STORED, TEXT};
 use schema::Schema;
-use std::alloc::Global;
+use std::alloc::{AllocError, Global};
 use std::test::Fail;
 
 // Each line with its reply.
@@ -107,5 +107,35 @@ fn a_run_writes_the_replies(rt: HostRuntime) -> Result<(), Fail> {
     let ended = run_session(&mut input.as_bytes(), &mut output, &mut session);
     assert_eq!(rt; ended, Ok(()), "the run");
     assert_eq!(rt; output.as_slice(), expected.as_bytes(), "the output");
+    Ok(())
+}
+
+// A count of all documents, inside so many bools.
+fn nested_count(alloc: Global, bools: usize) -> Result<String, AllocError> {
+    let mut line = String::from_str(alloc, r#"{"op":"count","query":"#)?;
+    for _ in 0..bools {
+        line.push_str(r#"{"q":"bool","must":["#)?;
+    }
+    line.push_str(r#"{"q":"all"}"#)?;
+    for _ in 0..bools {
+        line.push_str("]}")?;
+    }
+    line.push_str("}")?;
+    Ok(line)
+}
+
+#[test]
+fn bools_in_a_line(rt: HostRuntime) -> Result<(), Fail> {
+    let alloc = rt.alloc();
+    let mut session = session(alloc)?;
+    for (bools, expected) in [
+        (0, r#"{"count":0}"#),
+        (62, r#"{"count":0}"#),
+        (63, r#"{"error":"BadRequest"}"#),
+    ] {
+        let line = nested_count(alloc, bools)?;
+        let told = reply(&mut session, &line)?;
+        assert_eq!(rt; told.as_ref(), expected, "{bools}");
+    }
     Ok(())
 }
