@@ -1,5 +1,5 @@
 -- A request that is read does what its call does.
-use Rattle.std.proofs.Common.{◌∙◌, ◌≡◌, Bool, Err, None, Ok, Option, Result, Some, ap, ap₂, cond, false, is_some, ok_or, option_map, refl, subst, true, true≢false, unwrap_or}
+use Rattle.std.proofs.Common.{List, ℕ, ◌∙◌, ◌≡◌, Bool, Err, None, Ok, Option, Result, Some, ap, ap₂, cond, false, is_some, ok_or, option_map, refl, subst, true, true≢false, unwrap_or}
 use Rattle.std.specs.Prelude.{⊤}
 use Rattle.definitions.specs.Built.{built_query_in}
 use Rattle.definitions.specs.Calls.{Call, Configuration, Index, Status, call_fault, closed, count_all, delete_term, only_reads, own_fault, ready, search_best, status_fault, writer_closed}
@@ -8,7 +8,12 @@ use Rattle.definitions.specs.Requests.{Request, add_doc, commit_all, count_docs,
 use Rattle.definitions.specs.Scanning.{scan}
 use Rattle.definitions.specs.Schema.{Schema}
 use Rattle.definitions.specs.State.{State, committed}
-use Rattle.definitions.specs.Step.{Session, answer_reply, answering, call_in, call_step, index_step, refused_or, refusing, stand_in, step}
+use Rattle.definitions.specs.Analyzers.{Analyzer}
+use Rattle.definitions.specs.Making.{are_analyzed, making_fault}
+use Rattle.definitions.specs.Replies.{ok_reply}
+use Rattle.definitions.specs.SchemaGrammar.{schema_in}
+use Rattle.definitions.specs.Settings.{Settings}
+use Rattle.definitions.specs.Step.{Analysis, Held, Session, Stage, answer_reply, answering, call_in, call_step, configuration_of, created, file_of, fresh_index, held_by, if_built, if_empty, in_index, index_of, index_step, is_ready, no_file, no_index, opened, refused_or, refusing, reopened, settings_sent, stage_step, stand_in, step, unless_ready, with_schema, with_settings}
 use Rattle.definitions.specs.TermGrammar.{term_in}
 use Rattle.definitions.proofs.ReplyTexts.{hits_float}
 use Rattle.definitions.specs.declared.fault.Fault.{Fault}
@@ -84,8 +89,47 @@ call_step_float : (c : Configuration) (x : Index) (read : Result Call Fault) →
 call_step_float c x (Err fault) = refl
 call_step_float c x (Ok call) = refused_or_float (own_fault c x.state call) x (answering c x call) (answer_float c x.state call)
 
+index_step_float : (c : Configuration) (x : Index) (r : Request) → has_float ((index_step c x r).0) ≡ false
+index_step_float c x r = refused_or_float (status_fault x.status (stand_in r)) x (call_step c x (call_in c.schema r)) (call_step_float c x (call_in c.schema r))
+
+in_index_float : (analyze : Analyzer) (stage : Stage) (r : Request) → has_float ((in_index analyze stage r).0) ≡ false
+in_index_float analyze (no_index held) r = refl
+in_index_float analyze (index_of schema settings x) r = index_step_float (configuration_of schema analyze settings) x r
+
+created_float : (knows : List ℕ → Bool) (schema : Schema) (settings : Settings) (held : Held) → has_float ((created knows schema settings held).0) ≡ false
+created_float knows schema settings held = refused_or_float (option_or (making_fault knows schema settings) (if_empty held)) (no_index held) (ok_reply, index_of schema settings fresh_index) refl
+
+-- neither of two replies has a float
+either_float : {S : Type 0} (test : Bool) (one other : json.Data × S) → has_float one.0 ≡ false → has_float other.0 ≡ false → has_float ((cond test one other).0) ≡ false
+either_float true one other h k = h
+either_float false one other h k = k
+
+opened_float : (knows : List ℕ → Bool) (held : Held) → has_float ((opened knows held).0) ≡ false
+opened_float knows no_file = refl
+opened_float knows (file_of schema settings docs) = either_float (are_analyzed knows schema) (ok_reply, index_of schema settings (reopened docs)) (refusing faults.UnknownTokenizer (no_index (file_of schema settings docs))) refl refl
+
+with_settings_float : (knows : List ℕ → Bool) (stage : Stage) (schema : Schema) (settings : Result Settings Fault) → has_float ((with_settings knows stage schema settings).0) ≡ false
+with_settings_float knows stage schema (Ok settings) = created_float knows schema settings (held_by stage)
+with_settings_float knows stage schema (Err fault) = refl
+
+with_schema_float : (knows : List ℕ → Bool) (stage : Stage) (more : Option json.Data) (schema : Result Schema Fault) → has_float ((with_schema knows stage more schema).0) ≡ false
+with_schema_float knows stage more (Ok schema) = with_settings_float knows stage schema (settings_sent schema more)
+with_schema_float knows stage more (Err fault) = refl
+
+unless_ready_float : (stage : Stage) (next : json.Data × Stage) → has_float next.0 ≡ false → has_float ((unless_ready stage next).0) ≡ false
+unless_ready_float stage next h = either_float (is_ready stage) (refusing faults.AlreadyOpen stage) next refl h
+
+stage_step_float : (a : Analysis) (stage : Stage) (r : Request) → has_float ((stage_step a stage r).0) ≡ false
+stage_step_float a stage (create_index d more) = unless_ready_float stage (with_schema a.knows stage more (if_built (schema_in d))) (with_schema_float a.knows stage more (if_built (schema_in d)))
+stage_step_float a stage open_index = unless_ready_float stage (opened a.knows (held_by stage)) (opened_float a.knows (held_by stage))
+stage_step_float a stage (add_doc d) = in_index_float a.analyze stage (add_doc d)
+stage_step_float a stage (delete_docs d) = in_index_float a.analyze stage (delete_docs d)
+stage_step_float a stage (merge_groups from to) = in_index_float a.analyze stage (merge_groups from to)
+stage_step_float a stage commit_all = in_index_float a.analyze stage commit_all
+stage_step_float a stage (search_docs d k) = in_index_float a.analyze stage (search_docs d k)
+stage_step_float a stage (count_docs d) = in_index_float a.analyze stage (count_docs d)
+
 -- no reply has a float, so its text is what is written
 pub step_float : (session : Session) (r : Option Request) → has_float ((step session r).0) ≡ false
 step_float session None = refl
-step_float None (Some r) = refl
-step_float (Some (c, x)) (Some r) = refused_or_float (status_fault x.status (stand_in r)) x (call_step c x (call_in c.schema r)) (call_step_float c x (call_in c.schema r))
+step_float session (Some r) = stage_step_float session.analysis session.stage r

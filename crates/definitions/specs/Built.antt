@@ -3,12 +3,14 @@ use Rattle.std.specs.Prelude.{◌&&◌, Bool, Option, Some, false, true}
 use Rattle.definitions.specs.Json.{only_if, ◌>>=◌}
 use Rattle.definitions.specs.Query.{Clauses, Query, all, boolean, clause, empty, no_clauses, term}
 use Rattle.definitions.specs.QueryGrammar.{query_in}
-use Rattle.definitions.specs.Requests.{Request, add_doc, commit_all, count_docs, request_in, search_docs}
+use Rattle.definitions.specs.Requests.{Request, add_doc, commit_all, count_docs, create_index, open_index, request_in, search_docs}
 use Rattle.definitions.specs.Schema.{Schema}
 use Rattle.serde_json.specs.Data as json
 
 -- whether a request is answered
 abbrev pub is_built : Request → Bool
+is_built (create_index d more) = true
+is_built open_index = true
 is_built (add_doc d) = true
 is_built commit_all = true
 is_built (search_docs d k) = true

@@ -37,6 +37,7 @@ pub mod Requests
 pub mod Replies
 pub mod TermData
 pub mod SettingsGrammar
+pub mod Making
 pub mod Lines
 pub mod Built
 pub mod Step

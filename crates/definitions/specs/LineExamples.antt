@@ -1,11 +1,11 @@
 -- What the worked lines are read by: schemas, and sessions over books.
-use Rattle.std.specs.Prelude.{[], ◌∷◌, List, Option, codes, false, fold, option_and_then, option_map, true, ℕ}
-use Rattle.definitions.specs.Analyzers.{raw_and_default}
+use Rattle.std.specs.Prelude.{[], ◌∷◌, List, Option, codes, false, fold, option_and_then, true, ℕ}
+use Rattle.definitions.specs.Analyzers.{is_raw_or_default, raw_and_default}
 use Rattle.definitions.specs.Calls.{Status}
 use Rattle.definitions.specs.Schema.{Entry, Kind, Schema, basic, bool_kind, bytes_kind, date_kind, facet_kind, has_lengths, i64_kind, ip_addr_kind, json_kind, text_kind, u64_kind, with_freqs_and_positions}
 use Rattle.definitions.specs.Settings.{default_settings}
 use Rattle.definitions.specs.State.{nothing_yet}
-use Rattle.definitions.specs.Step.{Session, after_line, answer_of, fresh_session}
+use Rattle.definitions.specs.Step.{Analysis, Held, Session, after_line, answer_of, fresh_index, held_by, index_of, no_file, no_index}
 use Rattle.serde_json.specs.Read.{read}
 use Prim.Native.String.{String}
 use Rattle.serde_json.specs.Data as json
@@ -28,17 +28,33 @@ kinds_schema = text_field "s" ∷ field_of_kind "u" u64_kind ∷ field_of_kind "
 
 -- ---- sessions
 
+-- the analyzer of words and of whole texts
+abbrev pub word_analysis : Analysis
+word_analysis = record { knows = is_raw_or_default; analyze = raw_and_default }
+
+-- no index stands, and the device holds this
+abbrev pub session_on : Held → Session
+session_on held = record { analysis = word_analysis; stage = no_index held }
+
+-- nothing was done yet
+abbrev pub empty_session : Session
+empty_session = session_on no_file
+
+-- an index of this schema stands, and nothing was added
+abbrev pub session_of : Schema → Session
+session_of schema = record { analysis = word_analysis; stage = index_of schema default_settings fresh_index }
+
 -- no book is added yet
 abbrev pub book_session : Session
-book_session = fresh_session book_schema raw_and_default default_settings
+book_session = session_of book_schema
 
 -- the same with an index of another status
 abbrev pub session_with : Status → Session
-session_with status = option_map (λ p. (p.0, record { state = nothing_yet; status = status })) book_session
+session_with status = record book_session { stage = index_of book_schema default_settings (record { state = nothing_yet; status = status }) }
 
 -- titles that are stored and not indexed
 abbrev pub unindexed_session : Session
-unindexed_session = fresh_session (record (text_field "title") { indexed = false } ∷ []) raw_and_default default_settings
+unindexed_session = session_of (record (text_field "title") { indexed = false } ∷ [])
 
 -- a session after lines in a row
 abbrev pub after_lines : Session → List (List ℕ) → Session
@@ -51,6 +67,14 @@ three_book_lines = codes "{\"op\":\"add\",\"doc\":{\"title\":\"the old sea\",\"y
 -- a session in which three books are committed
 abbrev pub three_books_session : Session
 three_books_session = after_lines book_session three_book_lines
+
+-- what those lines and these committed is held, and no index stands
+abbrev pub opened_session : List (List ℕ) → Session
+opened_session lines = session_on (held_by (after_lines three_books_session lines).stage)
+
+-- an index of texts is to be made
+abbrev pub title_line : List ℕ
+title_line = codes "{\"op\":\"create\",\"schema\":[{\"name\":\"t\",\"type\":\"text\",\"options\":{\"stored\":true,\"indexing\":{\"record\":\"position\"}}}]}"
 
 -- ---- texts
 

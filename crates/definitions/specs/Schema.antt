@@ -124,6 +124,7 @@ abbrev pub cleaned_as : Kind → Entry → Entry
 cleaned_as text_kind e = record (indexing_cleaned e) { expand_dots = false }
 cleaned_as u64_kind e = record (without_indexing e) { expand_dots = false }
 cleaned_as i64_kind e = record (without_indexing e) { expand_dots = false }
+cleaned_as bool_kind e = record (without_indexing e) { expand_dots = false }
 cleaned_as facet_kind e = record (without_indexing e) { indexed = true; fieldnorms = false; fast = false; coerce = false; expand_dots = false }
 cleaned_as json_kind e = record (indexing_cleaned e) { coerce = false }
 cleaned_as _ e = record (without_indexing e) { coerce = false; expand_dots = false }

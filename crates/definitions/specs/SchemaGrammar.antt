@@ -1,37 +1,28 @@
 -- Schemas as JSON: an array of fields, each an object of its name, its type and its options.
-use Rattle.std.specs.Prelude.{[], ◌&&◌, ◌++◌, ◌||◌, ◌∷◌, Bool, Err, List, None, Ok, Option, Result, Some, codes, false, if◌then◌else◌, is_some, map, not, true, ℕ}
-use Rattle.std.specs.List.{list_all}
+use Rattle.std.specs.Prelude.{[], ◌++◌, ◌∷◌, Bool, Err, List, None, Ok, Option, Result, Some, codes, false, if◌then◌else◌, is_some, map, true, ℕ}
 use Rattle.std.specs.Result.{result_map_both}
 use Rattle.definitions.specs.Json.{at_or, has_only, named, object_of, only_if, text_at, ◌>>=◌}
 use Rattle.definitions.specs.QueryGrammar.{record_option_in}
-use Rattle.definitions.specs.Schema.{Entry, IndexRecordOption, Kind, Schema, basic, bool_kind, facet_kind, i64_kind, json_kind, kind_name, text_kind, u64_kind, with_field, with_freqs, with_freqs_and_positions}
+use Rattle.definitions.specs.Schema.{Entry, IndexRecordOption, Kind, Schema, all_kinds, basic, bool_kind, facet_kind, i64_kind, json_kind, kind_name, text_kind, u64_kind, with_field, with_freqs, with_freqs_and_positions}
 use Rattle.definitions.specs.declared.fault.Fault.{Fault}
 use Rattle.definitions.specs.declared.fault.Fault.TheVariants as faults
 use Rattle.serde_json.specs.Find.{as_bool, as_null, as_object, as_str, get}
 use Rattle.serde_json.specs.View.{items_of}
 use Rattle.serde_json.specs.Data as json
 
--- ---- what is built so far
-
--- the types of fields that are read and written
-abbrev pub built_kinds : List Kind
-built_kinds = text_kind ∷ u64_kind ∷ []
-
--- whether `fast` and `coerce` are options; until they are, they are ignored as every unknown option is
-abbrev pub has_fast_and_coerce : Bool
-has_fast_and_coerce = false
+-- ---- which options are a kind's
 
 -- whether fields of this kind have the option `fast`
 abbrev pub has_fast : Kind → Bool
 has_fast facet_kind = false
-has_fast _ = has_fast_and_coerce
+has_fast _ = true
 
 -- whether fields of this kind have the option `coerce`
 abbrev pub has_coerce : Kind → Bool
-has_coerce text_kind = has_fast_and_coerce
-has_coerce u64_kind = has_fast_and_coerce
-has_coerce i64_kind = has_fast_and_coerce
-has_coerce bool_kind = has_fast_and_coerce
+has_coerce text_kind = true
+has_coerce u64_kind = true
+has_coerce i64_kind = true
+has_coerce bool_kind = true
 has_coerce _ = false
 
 -- ---- what is read
@@ -86,7 +77,7 @@ options_in e options = do
 
 -- the kind of that name
 abbrev pub kind_named : List ℕ → Option Kind
-kind_named name = named (map (λ kind. (kind_name kind, kind)) built_kinds) name
+kind_named name = named (map (λ kind. (kind_name kind, kind)) all_kinds) name
 
 -- the object at a key
 abbrev pub object_at : List ℕ → json.Data → Option json.Data
@@ -170,13 +161,3 @@ entry_data e = object_of ((codes "name", json.string e.name) ∷ (codes "type", 
 -- a schema
 abbrev pub schema_data : Schema → json.Data
 schema_data schema = json.array (items_of (map entry_data schema))
-
--- ---- what is read back as it was written
-
--- whether a field is of a kind that is built, and sets no option that isn't
-abbrev pub is_built_entry : Entry → Bool
-is_built_entry e = is_some (kind_named (kind_name e.kind)) && (if has_fast_and_coerce then true else not (e.fast || e.coerce))
-
--- whether all fields are
-abbrev pub is_built_schema : Schema → Bool
-is_built_schema schema = list_all is_built_entry schema

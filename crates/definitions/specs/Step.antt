@@ -1,34 +1,58 @@
 -- A line in, a line out: what the program replies, and what stands after it.
-use Rattle.std.specs.Prelude.{[], ◌∷◌, Err, List, None, Ok, Option, Result, Some, ok_or, option_map, ℕ}
+use Rattle.std.specs.Prelude.{[], ◌∷◌, Bool, Err, List, None, Ok, Option, Result, Some, false, if◌then◌else◌, ok_or, option_map, true, ℕ}
 use Rattle.std.specs.Str.{is_utf8}
 use Rattle.definitions.specs.Analyzers.{Analyzer}
 use Rattle.definitions.specs.Built.{built_query_in, built_request_in}
-use Rattle.definitions.specs.Calls.{Call, Configuration, Index, add_value, after, commit_pending, count_all, delete_term, merge_range, own_fault, ready, search_best, status_fault}
+use Rattle.definitions.specs.Calls.{Call, Configuration, Index, Status, add_value, after, closed, commit_pending, count_all, delete_term, merge_range, own_fault, ready, search_best, status_fault, writer_closed}
 use Rattle.definitions.specs.Json.{only_if, ◌>>=◌}
+use Rattle.definitions.specs.Making.{are_analyzed, has_built_kinds, making_fault}
 use Rattle.definitions.specs.Query.{empty}
+use Rattle.definitions.specs.Refusing.{option_or}
 use Rattle.definitions.specs.Replies.{count_reply, error_reply, hits_reply, ok_reply, reply_of}
-use Rattle.definitions.specs.Requests.{Request, add_doc, commit_all, count_docs, delete_docs, merge_groups, search_docs}
+use Rattle.definitions.specs.Requests.{Request, add_doc, commit_all, count_docs, create_index, delete_docs, merge_groups, open_index, search_docs}
 use Rattle.definitions.specs.Scanning.{scan, scan_count}
 use Rattle.definitions.specs.Schema.{Schema}
-use Rattle.definitions.specs.Settings.{Settings, similarity_of}
+use Rattle.definitions.specs.SchemaGrammar.{schema_in}
+use Rattle.definitions.specs.Settings.{Settings, default_settings, similarity_of}
+use Rattle.definitions.specs.SettingsGrammar.{settings_in}
 use Rattle.definitions.specs.State.{State, committed, nothing_yet}
 use Rattle.definitions.specs.TermGrammar.{term_in}
+use Rattle.definitions.specs.Values.{Document}
 use Rattle.definitions.specs.declared.fault.Fault.{Fault}
 use Rattle.serde_json.specs.Read.{read}
 use Rattle.serde_json.specs.Data as json
 use Rattle.definitions.specs.declared.fault.Fault.TheVariants as faults
 
--- the index that stands, if one does, with what it was made of
-abbrev pub Session : Type 0
-Session = Option (Configuration × Index)
+-- the tokenizers that an analyzer knows, and how it cuts a text
+pub record Analysis : Type 0 where
+  pub knows : List ℕ → Bool
+  pub analyze : Analyzer
+
+-- what a device holds: no byte, or the file of an index with the documents that were committed last
+pub data Held : Type 0 where
+  no_file : Held
+  file_of : Schema → Settings → List Document → Held
+
+-- what stands on the device: no index, or one that is made of a schema and settings
+pub data Stage : Type 0 where
+  no_index : Held → Stage
+  index_of : Schema → Settings → Index → Stage
+
+pub record Session : Type 0 where
+  pub analysis : Analysis
+  pub stage : Stage
 
 -- what an index is made of
 abbrev pub configuration_of : Schema → Analyzer → Settings → Configuration
 configuration_of schema analyze settings = record { schema = schema; analyze = analyze; similarity = similarity_of settings; docs_per_segment = settings.docs_per_segment }
 
--- a session in which an index without documents stands
-abbrev pub fresh_session : Schema → Analyzer → Settings → Session
-fresh_session schema analyze settings = Some (configuration_of schema analyze settings, record { state = nothing_yet; status = ready })
+-- an index without documents
+abbrev pub fresh_index : Index
+fresh_index = record { state = nothing_yet; status = ready }
+
+-- an index in which these documents are committed
+abbrev pub reopened : List Document → Index
+reopened docs = record { state = record { groups = docs ∷ []; pending = [] }; status = ready }
 
 -- ---- what a request asks of the index that stands
 
@@ -78,11 +102,79 @@ call_step c x (Ok call) = refused_or (own_fault c x.state call) x (answering c x
 abbrev pub index_step : Configuration → Index → Request → json.Data × Index
 index_step c x r = refused_or (status_fault x.status (stand_in r)) x (call_step c x (call_in c.schema r))
 
+-- ---- an index is made, or opened
+
+-- what the device holds when what stands is dropped: what waits is lost
+abbrev pub held_by : Stage → Held
+held_by (no_index held) = held
+held_by (index_of schema settings x) = file_of schema settings (committed x.state)
+
+-- an index is made on a device without a byte
+abbrev pub if_empty : Held → Option Fault
+if_empty no_file = None
+if_empty (file_of schema settings docs) = Some faults.NotEmpty
+
+-- an index without documents
+abbrev pub created : (List ℕ → Bool) → Schema → Settings → Held → json.Data × Stage
+created knows schema settings held = refused_or (option_or (making_fault knows schema settings) (if_empty held)) (no_index held) (ok_reply, index_of schema settings fresh_index)
+
+-- the index of the file
+abbrev pub opened : (List ℕ → Bool) → Held → json.Data × Stage
+opened knows no_file = refusing faults.NoIndex (no_index no_file)
+opened knows (file_of schema settings docs) = if are_analyzed knows schema then (ok_reply, index_of schema settings (reopened docs)) else refusing faults.UnknownTokenizer (no_index (file_of schema settings docs))
+
+-- a schema of kinds that there are so far, or else none
+abbrev pub if_built : Result Schema Fault → Result Schema Fault
+if_built (Ok schema) = if has_built_kinds schema then Ok schema else Err faults.BadSchema
+if_built (Err fault) = Err fault
+
+-- the settings that are sent, or where none are the defaults
+abbrev pub settings_sent : Schema → Option json.Data → Result Settings Fault
+settings_sent schema None = Ok default_settings
+settings_sent schema (Some d) = ok_or (settings_in schema d) faults.BadSettings
+
+-- what is made of a schema that was read
+abbrev pub with_settings : (List ℕ → Bool) → Stage → Schema → Result Settings Fault → json.Data × Stage
+with_settings knows stage schema (Ok settings) = created knows schema settings (held_by stage)
+with_settings knows stage schema (Err fault) = refusing fault stage
+
+-- the schema is read before the settings, and both before what stands is dropped
+abbrev pub with_schema : (List ℕ → Bool) → Stage → Option json.Data → Result Schema Fault → json.Data × Stage
+with_schema knows stage d (Ok schema) = with_settings knows stage schema (settings_sent schema d)
+with_schema knows stage d (Err fault) = refusing fault stage
+
+-- ---- a line
+
+-- whether every call is taken
+abbrev pub takes_calls : Status → Bool
+takes_calls ready = true
+takes_calls writer_closed = false
+takes_calls closed = false
+
+-- whether an index stands that is ready
+abbrev pub is_ready : Stage → Bool
+is_ready (no_index held) = false
+is_ready (index_of schema settings x) = takes_calls x.status
+
+-- while an index is ready no other is made or opened
+abbrev pub unless_ready : Stage → json.Data × Stage → json.Data × Stage
+unless_ready stage then_this = if is_ready stage then refusing faults.AlreadyOpen stage else then_this
+
+-- what is asked of the index that stands
+abbrev pub in_index : Analyzer → Stage → Request → json.Data × Stage
+in_index analyze (no_index held) r = refusing faults.NotOpen (no_index held)
+in_index analyze (index_of schema settings x) r = let p = index_step (configuration_of schema analyze settings) x r in (p.0, index_of schema settings p.1)
+
+-- the reply to a request, and what stands after it
+abbrev pub stage_step : Analysis → Stage → Request → json.Data × Stage
+stage_step a stage (create_index d more) = unless_ready stage (with_schema a.knows stage more (if_built (schema_in d)))
+stage_step a stage open_index = unless_ready stage (opened a.knows (held_by stage))
+stage_step a stage r = in_index a.analyze stage r
+
 -- the reply to what a line says, and the session after it
 abbrev pub step : Session → Option Request → json.Data × Session
 step session None = refusing faults.BadRequest session
-step None (Some r) = refusing faults.NotOpen None
-step (Some (c, x)) (Some r) = let p = index_step c x r in (p.0, Some (c, p.1))
+step session (Some r) = let p = stage_step session.analysis session.stage r in (p.0, record session { stage = p.1 })
 
 -- ---- lines
 

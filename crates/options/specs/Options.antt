@@ -13,12 +13,34 @@ pub record Indexing : Type 0 where
 pub record TextData : Type 0 where
   pub stored : Bool
   pub indexing : Option Indexing
+  pub fast : Bool
+  pub coerce : Bool
 
--- what the options of a number field say
+-- what the options of a number or bool field say
 pub record NumericData : Type 0 where
   pub stored : Bool
   pub indexed : Bool
   pub fieldnorms : Bool
+  pub fast : Bool
+  pub coerce : Bool
+
+-- what the options of a date, bytes or address field say
+pub record ValueData : Type 0 where
+  pub stored : Bool
+  pub indexed : Bool
+  pub fieldnorms : Bool
+  pub fast : Bool
+
+-- what the options of a facet field say
+pub record FacetData : Type 0 where
+  pub stored : Bool
+
+-- what the options of a JSON field say
+pub record JsonData : Type 0 where
+  pub stored : Bool
+  pub indexing : Option Indexing
+  pub fast : Bool
+  pub expand_dots : Bool
 
 -- the names of the analyzers that are always there
 abbrev pub IsKnownTokenizer : List ℕ → Type 0
@@ -35,11 +57,23 @@ default_indexing = record { tokenizer = codes "default"; fieldnorms = true; reco
 
 -- nothing set
 abbrev pub default_text : TextData
-default_text = record { stored = false; indexing = None }
+default_text = record { stored = false; indexing = None; fast = false; coerce = false }
 
 -- nothing set
 abbrev pub default_numeric : NumericData
-default_numeric = record { stored = false; indexed = false; fieldnorms = false }
+default_numeric = record { stored = false; indexed = false; fieldnorms = false; fast = false; coerce = false }
+
+-- nothing set
+abbrev pub default_value : ValueData
+default_value = record { stored = false; indexed = false; fieldnorms = false; fast = false }
+
+-- nothing set
+abbrev pub default_facet : FacetData
+default_facet = record { stored = false }
+
+-- nothing set
+abbrev pub default_json : JsonData
+default_json = record { stored = false; indexing = None; fast = false; expand_dots = false }
 
 -- the analyzer `default`, positions and lengths
 abbrev pub text_constant : TextData
@@ -51,8 +85,20 @@ string_constant = record default_text { indexing = Some (record default_indexing
 
 -- what either says, and the indexing of the first where it has one
 abbrev pub text_or : TextData → TextData → TextData
-text_or a b = record { stored = a.stored || b.stored; indexing = option_or a.indexing b.indexing }
+text_or a b = record { stored = a.stored || b.stored; indexing = option_or a.indexing b.indexing; fast = a.fast || b.fast; coerce = a.coerce || b.coerce }
 
 -- what either says
 abbrev pub numeric_or : NumericData → NumericData → NumericData
-numeric_or a b = record { stored = a.stored || b.stored; indexed = a.indexed || b.indexed; fieldnorms = a.fieldnorms || b.fieldnorms }
+numeric_or a b = record { stored = a.stored || b.stored; indexed = a.indexed || b.indexed; fieldnorms = a.fieldnorms || b.fieldnorms; fast = a.fast || b.fast; coerce = a.coerce || b.coerce }
+
+-- what either says
+abbrev pub value_or : ValueData → ValueData → ValueData
+value_or a b = record { stored = a.stored || b.stored; indexed = a.indexed || b.indexed; fieldnorms = a.fieldnorms || b.fieldnorms; fast = a.fast || b.fast }
+
+-- what either says
+abbrev pub facet_or : FacetData → FacetData → FacetData
+facet_or a b = record { stored = a.stored || b.stored }
+
+-- what either says, and the indexing of the first where it has one
+abbrev pub json_or : JsonData → JsonData → JsonData
+json_or a b = record { stored = a.stored || b.stored; indexing = option_or a.indexing b.indexing; fast = a.fast || b.fast; expand_dots = a.expand_dots || b.expand_dots }

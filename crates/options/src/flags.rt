@@ -11,6 +11,14 @@ pub struct StoredFlag;
 #[derive(Clone, Copy, Debug)]
 pub struct IndexedFlag;
 
+/// Texts are read as numbers, and numbers as texts, where a field takes the other.
+#[derive(Clone, Copy, Debug)]
+pub struct CoerceFlag;
+
+/// Kept as data, without effect.
+#[derive(Clone, Copy, Debug)]
+pub struct FastFlag;
+
 /// Flags, the last one first.
 #[derive(Clone, Copy, Debug)]
 pub struct SchemaFlagList<Head, Tail> {
@@ -27,6 +35,18 @@ pub const STORED: SchemaFlagList<StoredFlag, ()> = SchemaFlagList {
 /// Documents are found by their values, and lengths are kept.
 pub const INDEXED: SchemaFlagList<IndexedFlag, ()> = SchemaFlagList {
     head: IndexedFlag,
+    tail: (),
+};
+
+/// Texts are read as numbers, and numbers as texts, where a field takes the other.
+pub const COERCE: SchemaFlagList<CoerceFlag, ()> = SchemaFlagList {
+    head: CoerceFlag,
+    tail: (),
+};
+
+/// Kept as data, without effect.
+pub const FAST: SchemaFlagList<FastFlag, ()> = SchemaFlagList {
+    head: FastFlag,
     tail: (),
 };
 

@@ -2,7 +2,7 @@
 ghost use Rattle.std.specs.Prelude.{◌≡◌, ◌&&◌};
 ghost use Rattle.definitions.specs.Schema.{IndexRecordOption, has_freq, has_positions};
 ghost use Rattle.options.specs.RecordOption.{lesser};
-ghost use Rattle.options.specs.Options.{NumericData, TextData, numeric_or, string_constant, text_constant, text_or};
+ghost use Rattle.options.specs.Options.{FacetData, JsonData, NumericData, TextData, ValueData, facet_or, json_or, numeric_or, string_constant, text_constant, text_or, value_or};
 
 use crate::text_options::{STRING, TEXT, TextOptions};
 
@@ -19,7 +19,7 @@ pub fn downgrade_records_what_both_do()
     ensures positions { (a b : IndexRecordOption) → has_positions (lesser a b) ≡ (has_positions a && has_positions b) }
 {}
 
-/// Joining the options of number fields doesn't depend on grouping, and nothing changes by repeating.
+/// Joining the options of number and bool fields doesn't depend on grouping, and nothing changes by repeating.
 pub fn numeric_or_is_a_union()
     ensures associative { (a b c : NumericData) → numeric_or (numeric_or a b) c ≡ numeric_or a (numeric_or b c) }
     ensures idempotent { (a : NumericData) → numeric_or a a ≡ a }
@@ -29,6 +29,24 @@ pub fn numeric_or_is_a_union()
 pub fn text_or_is_a_union()
     ensures associative { (a b c : TextData) → text_or (text_or a b) c ≡ text_or a (text_or b c) }
     ensures idempotent { (a : TextData) → text_or a a ≡ a }
+{}
+
+/// Joining the options of date, bytes and address fields doesn't depend on grouping, and nothing changes by repeating.
+pub fn value_or_is_a_union()
+    ensures associative { (a b c : ValueData) → value_or (value_or a b) c ≡ value_or a (value_or b c) }
+    ensures idempotent { (a : ValueData) → value_or a a ≡ a }
+{}
+
+/// Joining the options of facet fields doesn't depend on grouping, and nothing changes by repeating.
+pub fn facet_or_is_a_union()
+    ensures associative { (a b c : FacetData) → facet_or (facet_or a b) c ≡ facet_or a (facet_or b c) }
+    ensures idempotent { (a : FacetData) → facet_or a a ≡ a }
+{}
+
+/// Joining the options of JSON fields doesn't depend on grouping, and nothing changes by repeating.
+pub fn json_or_is_a_union()
+    ensures associative { (a b c : JsonData) → json_or (json_or a b) c ≡ json_or a (json_or b c) }
+    ensures idempotent { (a : JsonData) → json_or a a ≡ a }
 {}
 
 /// What the constants `TEXT` and `STRING` say, which no clause can name.

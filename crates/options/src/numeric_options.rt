@@ -1,25 +1,27 @@
-//! The options of number fields.
+//! The options of number and bool fields.
 ghost use Rattle.std.specs.Prelude.{◌≡◌, ◌&&◌, true};
 ghost use Rattle.options.specs.Options.{NumericData, default_numeric, numeric_or};
 
-use crate::flags::{IndexedFlag, SchemaFlagList, SetsIn, StoredFlag};
+use crate::flags::{CoerceFlag, FastFlag, IndexedFlag, SchemaFlagList, SetsIn, StoredFlag};
 use std::marker::Model;
 use std::ops::BitOr;
 
-/// What a number field is for.
+/// What a number or bool field is for.
 #[derive(Clone, Copy)]
 pub struct NumericOptions {
     stored: bool,
     indexed: bool,
     fieldnorms: bool,
+    fast: bool,
+    coerce: bool,
 }
 
 impl Model for NumericOptions {
     ghost Value = { NumericData };
 
-    ghost view = { λ o. record { stored = o.stored; indexed = o.indexed; fieldnorms = o.fieldnorms } };
+    ghost view = { λ o. record { stored = o.stored; indexed = o.indexed; fieldnorms = o.fieldnorms; fast = o.fast; coerce = o.coerce } };
 
-    ghost inverse = { λ o. record { stored = o.stored; indexed = o.indexed; fieldnorms = o.fieldnorms } };
+    ghost inverse = { λ o. record { stored = o.stored; indexed = o.indexed; fieldnorms = o.fieldnorms; fast = o.fast; coerce = o.coerce } };
 }
 
 impl NumericOptions {
@@ -53,6 +55,23 @@ impl NumericOptions {
         }
     }
 
+    /// Kept as data, without effect.
+    pub fn set_fast(self) -> Self
+        ensures { result ≡ record self { fast = true } }
+    {
+        NumericOptions { fast: true, ..self }
+    }
+
+    /// Values are read from texts too.
+    pub fn set_coerce(self) -> Self
+        ensures { result ≡ record self { coerce = true } }
+    {
+        NumericOptions {
+            coerce: true,
+            ..self
+        }
+    }
+
     /// Whether values come back with their documents.
     pub fn is_stored(&self) -> bool
         ensures { result ≡ self.now.stored }
@@ -73,6 +92,20 @@ impl NumericOptions {
     {
         self.fieldnorms && self.indexed
     }
+
+    /// What `set_fast` set.
+    pub fn is_fast(&self) -> bool
+        ensures { result ≡ self.now.fast }
+    {
+        self.fast
+    }
+
+    /// Whether values are read from texts too.
+    pub fn should_coerce(&self) -> bool
+        ensures { result ≡ self.now.coerce }
+    {
+        self.coerce
+    }
 }
 
 impl Default for NumericOptions {
@@ -83,6 +116,8 @@ impl Default for NumericOptions {
             stored: false,
             indexed: false,
             fieldnorms: false,
+            fast: false,
+            coerce: false,
         }
     }
 }
@@ -98,6 +133,8 @@ impl<Other: Into<NumericOptions>> BitOr<Other> for NumericOptions {
             stored: self.stored || other.stored,
             indexed: self.indexed || other.indexed,
             fieldnorms: self.fieldnorms || other.fieldnorms,
+            fast: self.fast || other.fast,
+            coerce: self.coerce || other.coerce,
         }
     }
 }
@@ -118,6 +155,22 @@ impl SetsIn<NumericOptions> for IndexedFlag {
     }
 }
 
+impl SetsIn<NumericOptions> for FastFlag {
+    ghost options_with = { λ _ o. record o { fast = true } };
+
+    fn set_in(self, options: NumericOptions) -> NumericOptions {
+        options.set_fast()
+    }
+}
+
+impl SetsIn<NumericOptions> for CoerceFlag {
+    ghost options_with = { λ _ o. record o { coerce = true } };
+
+    fn set_in(self, options: NumericOptions) -> NumericOptions {
+        options.set_coerce()
+    }
+}
+
 impl From<StoredFlag> for NumericOptions {
     ghost from_gives = { λ _ o. o ≡ record default_numeric { stored = true } };
 
@@ -131,6 +184,22 @@ impl From<IndexedFlag> for NumericOptions {
 
     fn from(indexed: IndexedFlag) -> NumericOptions {
         indexed.set_in(NumericOptions::default())
+    }
+}
+
+impl From<FastFlag> for NumericOptions {
+    ghost from_gives = { λ _ o. o ≡ record default_numeric { fast = true } };
+
+    fn from(fast: FastFlag) -> NumericOptions {
+        fast.set_in(NumericOptions::default())
+    }
+}
+
+impl From<CoerceFlag> for NumericOptions {
+    ghost from_gives = { λ _ o. o ≡ record default_numeric { coerce = true } };
+
+    fn from(coerce: CoerceFlag) -> NumericOptions {
+        coerce.set_in(NumericOptions::default())
     }
 }
 

@@ -5,7 +5,7 @@ ghost use Rattle.std.specs.Option.{option_copied};
 ghost use Rattle.options.specs.Options.{HasKnownTokenizer, Indexing, IsKnownTokenizer, TextData, default_indexing, default_text, text_or};
 ghost use Rattle.options.specs.RecordOption.{record_option_of};
 
-use crate::flags::{SchemaFlagList, SetsIn, StoredFlag};
+use crate::flags::{CoerceFlag, FastFlag, SchemaFlagList, SetsIn, StoredFlag};
 use crate::index_record_option::IndexRecordOption;
 use std::alloc::{AllocError, Global};
 use std::borrow::CowStr;
@@ -117,12 +117,14 @@ impl Clone for TextFieldIndexing {
 pub struct TextOptions {
     stored: bool,
     indexing: Option<TextFieldIndexing>,
+    fast: bool,
+    coerce: bool,
 }
 
 impl Model for TextOptions {
     ghost Value = { TextData };
 
-    ghost view = { λ o. record { stored = o.stored; indexing = o.indexing } };
+    ghost view = { λ o. record { stored = o.stored; indexing = o.indexing; fast = o.fast; coerce = o.coerce } };
 }
 
 impl TextOptions {
@@ -159,6 +161,37 @@ impl TextOptions {
     {
         self.indexing.as_ref()
     }
+
+    /// Kept as data, without effect.
+    pub fn set_fast(self) -> Self
+        ensures { result ≡ record self { fast = true } }
+    {
+        TextOptions { fast: true, ..self }
+    }
+
+    /// What `set_fast` set.
+    pub fn is_fast(&self) -> bool
+        ensures { result ≡ self.now.fast }
+    {
+        self.fast
+    }
+
+    /// Texts are read from whole numbers, bools and null too.
+    pub fn set_coerce(self) -> Self
+        ensures { result ≡ record self { coerce = true } }
+    {
+        TextOptions {
+            coerce: true,
+            ..self
+        }
+    }
+
+    /// Whether texts are read from whole numbers, bools and null too.
+    pub fn should_coerce(&self) -> bool
+        ensures { result ≡ self.now.coerce }
+    {
+        self.coerce
+    }
 }
 
 impl Default for TextOptions {
@@ -168,6 +201,8 @@ impl Default for TextOptions {
         TextOptions {
             stored: false,
             indexing: None,
+            fast: false,
+            coerce: false,
         }
     }
 }
@@ -185,6 +220,8 @@ impl Clone for TextOptions {
         Ok(TextOptions {
             stored: self.stored,
             indexing,
+            fast: self.fast,
+            coerce: self.coerce,
         })
     }
 }
@@ -199,6 +236,8 @@ impl<Other: Into<TextOptions>> BitOr<Other> for TextOptions {
         TextOptions {
             stored: self.stored || other.stored,
             indexing: self.indexing.or(other.indexing),
+            fast: self.fast || other.fast,
+            coerce: self.coerce || other.coerce,
         }
     }
 }
@@ -211,11 +250,43 @@ impl SetsIn<TextOptions> for StoredFlag {
     }
 }
 
+impl SetsIn<TextOptions> for FastFlag {
+    ghost options_with = { λ _ o. record o { fast = true } };
+
+    fn set_in(self, options: TextOptions) -> TextOptions {
+        options.set_fast()
+    }
+}
+
+impl SetsIn<TextOptions> for CoerceFlag {
+    ghost options_with = { λ _ o. record o { coerce = true } };
+
+    fn set_in(self, options: TextOptions) -> TextOptions {
+        options.set_coerce()
+    }
+}
+
 impl From<StoredFlag> for TextOptions {
     ghost from_gives = { λ _ o. o ≡ record default_text { stored = true } };
 
     fn from(stored: StoredFlag) -> TextOptions {
         stored.set_in(TextOptions::default())
+    }
+}
+
+impl From<FastFlag> for TextOptions {
+    ghost from_gives = { λ _ o. o ≡ record default_text { fast = true } };
+
+    fn from(fast: FastFlag) -> TextOptions {
+        fast.set_in(TextOptions::default())
+    }
+}
+
+impl From<CoerceFlag> for TextOptions {
+    ghost from_gives = { λ _ o. o ≡ record default_text { coerce = true } };
+
+    fn from(coerce: CoerceFlag) -> TextOptions {
+        coerce.set_in(TextOptions::default())
     }
 }
 
@@ -246,6 +317,8 @@ pub const TEXT: TextOptions = TextOptions {
         fieldnorms: true,
         index_option: IndexRecordOption::WithFreqsAndPositions,
     }),
+    fast: false,
+    coerce: false,
 };
 
 /// Found by the whole text, with lengths. Not stored.
@@ -256,4 +329,6 @@ pub const STRING: TextOptions = TextOptions {
         fieldnorms: true,
         index_option: IndexRecordOption::Basic,
     }),
+    fast: false,
+    coerce: false,
 };

@@ -12,7 +12,7 @@ use Rattle.definitions.specs.Schema.{AreDistinct, Entry, Schema, field_named, is
 use Rattle.schema.specs.Names.{Numbers}
 use Rattle.schema.specs.Entries.{IsTyped, entry_of}
 use Rattle.schema.specs.declared.field_entry.FieldType.{FieldType}
-use Rattle.schema.specs.declared.field_entry.FieldType.TheVariants.{Str, U64}
+use Rattle.schema.specs.declared.field_entry.FieldType.TheVariants as types
 
 -- what a test finds in a list with one more element at its end
 abbrev found_last : Option ℕ → Bool → ℕ → Option ℕ
@@ -99,8 +99,15 @@ numbers_with old new fields e before may typed updated = record {
 
 -- an entry has the name that it was given
 pub entry_of-name : (name : List ℕ) (t : FieldType) → (entry_of name t).name ≡ name
-entry_of-name name (Str o) = refl
-entry_of-name name (U64 o) = refl
+entry_of-name name (types.Str o) = refl
+entry_of-name name (types.U64 o) = refl
+entry_of-name name (types.I64 o) = refl
+entry_of-name name (types.Bool o) = refl
+entry_of-name name (types.Date o) = refl
+entry_of-name name (types.Facet o) = refl
+entry_of-name name (types.Bytes o) = refl
+entry_of-name name (types.JsonObject o) = refl
+entry_of-name name (types.IpAddr o) = refl
 
 -- ---- the field of a name is the one that has it
 

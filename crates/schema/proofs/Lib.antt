@@ -1,3 +1,12 @@
 pub mod FieldNames
 pub mod FieldSplits
 pub mod ReadBack
+pub mod ReadKinds
+pub mod MappedAddresses
+pub mod JsonPathSteps
+pub mod FacetSteps
+pub mod FacetTexts
+pub mod FacetPathTexts
+pub mod FacetBelow
+pub mod FacetLists
+pub mod TermOrder

@@ -1,22 +1,22 @@
 -- A schema that is written is read back.
-use Rattle.std.proofs.Common.{ℕ, List, [], ◌∷◌, ◌++◌, ◌≡◌, ◌≢◌, ◌≤◌, ◌+◌, ◌&&◌, Bool, true, false, cond, not, Option, Some, None, is_some, IsTrue, String, length, map, refl, sym, ap, ◌∙◌, subst, arith, append_assoc, append-nil, nat_le, bytes_eq, length-append, Ok, Err}
+use Rattle.std.proofs.Common.{ℕ, List, [], ◌∷◌, ◌++◌, ◌≡◌, ◌≢◌, ◌≤◌, ◌+◌, Bool, true, false, cond, not, Option, Some, None, is_some, IsTrue, String, length, map, refl, sym, ap, ◌∙◌, subst, arith, append_assoc, append-nil, nat_le, bytes_eq, length-append, Ok, Err}
 use Rattle.std.specs.List.{AllByRecursion, position_from}
 use Rattle.std.specs.Result.{result_map_both}
 use Rattle.std.proofs.lemmas.Bool.Decides.{nat_tests}
 use Rattle.std.proofs.lemmas.Slice.Eq.{bytes_eq-Decides}
 use Rattle.definitions.specs.declared.fault.Fault.TheVariants as faults
 use Rattle.definitions.specs.Schema.{AreDistinct, Entry, IndexRecordOption, IsEntry, IsSchema, Kind, Schema, basic, bool_kind, bytes_kind, cleaned_as, date_kind, facet_kind, field_named, i64_kind, ip_addr_kind, is_valid_field_name, json_kind, max_fields, text_kind, u64_kind, with_freqs, with_freqs_and_positions}
-use Rattle.definitions.specs.SchemaGrammar.{entry_data, entry_in, is_built_entry, is_built_schema, schema_data, schema_in, fault_read, then_with, with_entries_in, with_entry}
+use Rattle.definitions.specs.SchemaGrammar.{entry_data, entry_in, schema_data, schema_in, fault_read, then_with, with_entries_in, with_entry}
 use Rattle.serde_json.specs.View.{items_of}
 use Rattle.std.specs.HashMap.{HashMap}
 use Rattle.std.specs.declared.hash.FoldHasher.{FoldHasher}
 use Rattle.std.specs.declared.hash.BuildHasherDefault.{BuildHasherDefault}
 use Rattle.std.specs.declared.alloc.Global.{Global}
 use Rattle.options.specs.Options.{Indexing}
-use Rattle.schema.specs.Entries.{IsTyped, entry_of, text_entry}
+use Rattle.schema.specs.Entries.{IsTyped, entry_of, json_entry, text_entry}
 use Rattle.schema.specs.Names.{Numbers}
 use Rattle.schema.specs.declared.field_entry.FieldType.{FieldType}
-use Rattle.schema.specs.declared.field_entry.FieldType.TheVariants.{Str, U64}
+use Rattle.schema.specs.declared.field_entry.FieldType.TheVariants as types
 
 -- ---- one field
 
@@ -24,33 +24,32 @@ use Rattle.schema.specs.declared.field_entry.FieldType.TheVariants.{Str, U64}
 abbrev entry_with : List ℕ → Kind → Bool → Bool → Bool → Bool → Bool → IndexRecordOption → List ℕ → Bool → Entry
 entry_with name kind stored indexed fieldnorms fast coerce option tokenizer dots = record { name = name; kind = kind; stored = stored; indexed = indexed; fieldnorms = fieldnorms; fast = fast; coerce = coerce; record_option = option; tokenizer = tokenizer; expand_dots = dots }
 
--- a field of a kind that is built, whose options its kind has, is read back
-entry_back : (name : List ℕ) (kind : Kind) (stored indexed fieldnorms fast coerce : Bool) (option : IndexRecordOption) (tokenizer : List ℕ) (dots : Bool) → cleaned_as kind (entry_with name kind stored indexed fieldnorms fast coerce option tokenizer dots) ≡ entry_with name kind stored indexed fieldnorms fast coerce option tokenizer dots → is_built_entry (entry_with name kind stored indexed fieldnorms fast coerce option tokenizer dots) ≡ true → entry_in (entry_data (entry_with name kind stored indexed fieldnorms fast coerce option tokenizer dots)) ≡ Some (entry_with name kind stored indexed fieldnorms fast coerce option tokenizer dots)
-entry_back name text_kind stored true fieldnorms false false basic tokenizer dots clean built = ap Some clean
-entry_back name text_kind stored true fieldnorms false false with_freqs tokenizer dots clean built = ap Some clean
-entry_back name text_kind stored true fieldnorms false false with_freqs_and_positions tokenizer dots clean built = ap Some clean
-entry_back name text_kind stored false fieldnorms false false option tokenizer dots clean built = ap Some clean
-entry_back name u64_kind stored indexed fieldnorms false false option tokenizer dots clean built = ap Some clean
-entry_back name text_kind stored indexed fieldnorms true coerce option tokenizer dots clean built = cc
-entry_back name text_kind stored indexed fieldnorms false true option tokenizer dots clean built = cc
-entry_back name u64_kind stored indexed fieldnorms true coerce option tokenizer dots clean built = cc
-entry_back name u64_kind stored indexed fieldnorms false true option tokenizer dots clean built = cc
-entry_back name i64_kind stored indexed fieldnorms fast coerce option tokenizer dots clean built = cc
-entry_back name bool_kind stored indexed fieldnorms fast coerce option tokenizer dots clean built = cc
-entry_back name date_kind stored indexed fieldnorms fast coerce option tokenizer dots clean built = cc
-entry_back name facet_kind stored indexed fieldnorms fast coerce option tokenizer dots clean built = cc
-entry_back name bytes_kind stored indexed fieldnorms fast coerce option tokenizer dots clean built = cc
-entry_back name json_kind stored indexed fieldnorms fast coerce option tokenizer dots clean built = cc
-entry_back name ip_addr_kind stored indexed fieldnorms fast coerce option tokenizer dots clean built = cc
+-- a field whose options its kind has is read back
+entry_back : (name : List ℕ) (kind : Kind) (stored indexed fieldnorms fast coerce : Bool) (option : IndexRecordOption) (tokenizer : List ℕ) (dots : Bool) → cleaned_as kind (entry_with name kind stored indexed fieldnorms fast coerce option tokenizer dots) ≡ (entry_with name kind stored indexed fieldnorms fast coerce option tokenizer dots) → entry_in (entry_data (entry_with name kind stored indexed fieldnorms fast coerce option tokenizer dots)) ≡ Some (entry_with name kind stored indexed fieldnorms fast coerce option tokenizer dots)
+entry_back name text_kind stored true fieldnorms fast coerce basic tokenizer dots clean = ap Some clean
+entry_back name text_kind stored true fieldnorms fast coerce with_freqs tokenizer dots clean = ap Some clean
+entry_back name text_kind stored true fieldnorms fast coerce with_freqs_and_positions tokenizer dots clean = ap Some clean
+entry_back name text_kind stored false fieldnorms fast coerce option tokenizer dots clean = ap Some clean
+entry_back name u64_kind stored indexed fieldnorms fast coerce option tokenizer dots clean = ap Some clean
+entry_back name i64_kind stored indexed fieldnorms fast coerce option tokenizer dots clean = ap Some clean
+entry_back name bool_kind stored indexed fieldnorms fast coerce option tokenizer dots clean = ap Some clean
+entry_back name date_kind stored indexed fieldnorms fast coerce option tokenizer dots clean = ap Some clean
+entry_back name facet_kind stored indexed fieldnorms fast coerce option tokenizer dots clean = ap Some clean
+entry_back name bytes_kind stored indexed fieldnorms fast coerce option tokenizer dots clean = ap Some clean
+entry_back name json_kind stored true fieldnorms fast coerce basic tokenizer dots clean = ap Some clean
+entry_back name json_kind stored true fieldnorms fast coerce with_freqs tokenizer dots clean = ap Some clean
+entry_back name json_kind stored true fieldnorms fast coerce with_freqs_and_positions tokenizer dots clean = ap Some clean
+entry_back name json_kind stored false fieldnorms fast coerce option tokenizer dots clean = ap Some clean
+entry_back name ip_addr_kind stored indexed fieldnorms fast coerce option tokenizer dots clean = ap Some clean
 
 -- a field with a good name that is read back as it is written
 pub record ReadsBack (e : Entry) : Type 0 where
   pub name : IsTrue (is_valid_field_name e.name)
   pub back : entry_in (entry_data e) ≡ Some e
 
--- the options that a field has beside its name are those of its kind, and built
-pub reads_back : (e : Entry) → IsTrue (is_valid_field_name e.name) → cleaned_as e.kind e ≡ e → is_built_entry e ≡ true → ReadsBack e
-reads_back e valid clean built = record { name = valid; back = entry_back e.name e.kind e.stored e.indexed e.fieldnorms e.fast e.coerce e.record_option e.tokenizer e.expand_dots clean built }
+-- the options that a field has beside its name are those of its kind
+pub reads_back : (e : Entry) → IsTrue (is_valid_field_name e.name) → cleaned_as e.kind e ≡ e → ReadsBack e
+reads_back e valid clean = record { name = valid; back = entry_back e.name e.kind e.stored e.indexed e.fieldnorms e.fast e.coerce e.record_option e.tokenizer e.expand_dots clean }
 
 -- ---- the list of fields
 
@@ -102,35 +101,34 @@ entries_back before (e ∷ es) all distinct few =
 pub schema_back : (s : Schema) → AllByRecursion ReadsBack s → AreDistinct s → length s ≤ max_fields → schema_in (schema_data s) ≡ Ok s
 schema_back s all distinct few = entries_back [] s all distinct few
 
--- the same of a schema whose fields are built
-all_back : (s : Schema) → AllByRecursion IsEntry s → is_built_schema s ≡ true → AllByRecursion ReadsBack s
-all_back [] all built = tt
-all_back (e ∷ es) all built =
-    let parts = both (is_built_entry e) (is_built_schema es) built in
-    (reads_back e all.0.good_name all.0.only_its_options parts.0, all_back es all.1 parts.1)
-  where
-    both : (a b : Bool) → (a && b) ≡ true → (a ≡ true) × (b ≡ true)
-    both true b h = (refl, h)
-    both false b h = cc
+all_back : (s : Schema) → AllByRecursion IsEntry s → AllByRecursion ReadsBack s
+all_back [] all = tt
+all_back (e ∷ es) all = (reads_back e all.0.good_name all.0.only_its_options, all_back es all.1)
 
-pub built_schema_back : (s : Schema) → IsSchema s → is_built_schema s ≡ true → schema_in (schema_data s) ≡ Ok s
-built_schema_back s schema built = schema_back s (all_back s schema.entries built) schema.distinct schema.few
+pub written_back : (s : Schema) → IsSchema s → schema_in (schema_data s) ≡ Ok s
+written_back s schema = schema_back s (all_back s schema.entries) schema.distinct schema.few
 
 -- ---- the fields of a schema's own types
 
 -- the options of a type are those of its kind
 typed_clean : (name : List ℕ) (t : FieldType) → cleaned_as (entry_of name t).kind (entry_of name t) ≡ entry_of name t
-typed_clean name (Str o) = go o.indexing
+typed_clean name (types.Str o) = go o.indexing
   where
-    go : (i : Option Indexing) → cleaned_as text_kind (text_entry name (record { stored = o.stored; indexing = i })) ≡ text_entry name (record { stored = o.stored; indexing = i })
+    go : (i : Option Indexing) → cleaned_as text_kind (text_entry name (record o { indexing = i })) ≡ text_entry name (record o { indexing = i })
     go None = refl
     go (Some i) = refl
-typed_clean name (U64 o) = refl
-
--- and they are built
-typed_built : (name : List ℕ) (t : FieldType) → is_built_entry (entry_of name t) ≡ true
-typed_built name (Str o) = refl
-typed_built name (U64 o) = refl
+typed_clean name (types.U64 o) = refl
+typed_clean name (types.I64 o) = refl
+typed_clean name (types.Bool o) = refl
+typed_clean name (types.Date o) = refl
+typed_clean name (types.Facet o) = refl
+typed_clean name (types.Bytes o) = refl
+typed_clean name (types.JsonObject o) = go o.indexing
+  where
+    go : (i : Option Indexing) → cleaned_as json_kind (json_entry name (record o { indexing = i })) ≡ json_entry name (record o { indexing = i })
+    go None = refl
+    go (Some i) = refl
+typed_clean name (types.IpAddr o) = refl
 
 typed_back : (fields : Schema) → AllByRecursion IsTyped fields → AllByRecursion (λ e. IsTrue (is_valid_field_name e.name)) fields → AllByRecursion ReadsBack fields
 typed_back [] typed valid = tt
@@ -138,8 +136,7 @@ typed_back (e ∷ es) typed valid =
     let t = typed.0.0 in
     let is : entry_of e.name t ≡ e = sym typed.0.1 in
     let clean : cleaned_as e.kind e ≡ e = subst (λ f. cleaned_as f.kind f ≡ f) is (typed_clean e.name t) in
-    let built : is_built_entry e ≡ true = subst (λ f. is_built_entry f ≡ true) is (typed_built e.name t) in
-    (reads_back e valid.0 clean built, typed_back es typed.1 valid.1)
+    (reads_back e valid.0 clean, typed_back es typed.1 valid.1)
 
 pub numbered_back : (numbers : HashMap (String Global) ℕ (BuildHasherDefault FoldHasher)) (fields : Schema) → Numbers numbers fields → schema_in (schema_data fields) ≡ Ok fields
 numbered_back numbers fields h = schema_back fields (typed_back fields h.typed h.valid) h.distinct h.few

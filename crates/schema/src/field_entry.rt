@@ -1,13 +1,16 @@
 //! A field's name, type and options.
 
-ghost use Rattle.std.specs.Prelude.{[], if◌then◌else◌, option_map, string_bytes, ◌≡◌, None, Some};
-ghost use Rattle.definitions.specs.Schema.{has_lengths, is_indexed, is_text, keeps_length};
+ghost use Rattle.std.specs.Prelude.{[], if◌then◌else◌, option_map, string_bytes, ◌↔◌, ◌≡◌, IsTrue, None, Some};
+ghost use Rattle.definitions.specs.Schema.{bytes_kind, date_kind, has_lengths, ip_addr_kind, is_indexed, is_text, json_kind, keeps_length};
 ghost use Rattle.options.specs.RecordOption.{record_option_of};
 ghost use Rattle.schema.specs.Entries.{entry_of};
 ghost use Rattle.schema.specs.Kinds.{kind_of};
 
 use crate::field_type::Type;
-use options::{IndexRecordOption, NumericOptions, TextOptions};
+use options::{
+    BytesOptions, DateOptions, FacetOptions, IndexRecordOption, IpAddrOptions, JsonObjectOptions,
+    NumericOptions, TextFieldIndexing, TextOptions,
+};
 use std::marker::Model;
 
 /// The type of a field, with its options.
@@ -17,6 +20,20 @@ pub enum FieldType {
     Str(TextOptions),
     /// Numbers from 0 below 2^64.
     U64(NumericOptions),
+    /// Signed numbers of 64 bits.
+    I64(NumericOptions),
+    /// True or false.
+    Bool(NumericOptions),
+    /// Nanoseconds since 1970.
+    Date(DateOptions),
+    /// Paths of steps.
+    Facet(FacetOptions),
+    /// Any bytes.
+    Bytes(BytesOptions),
+    /// JSON objects.
+    JsonObject(JsonObjectOptions),
+    /// Addresses of 128 bits, IPv4 mapped into IPv6.
+    IpAddr(IpAddrOptions),
 }
 
 impl FieldType {
@@ -27,6 +44,13 @@ impl FieldType {
         match self {
             FieldType::Str(_) => Type::Str,
             FieldType::U64(_) => Type::U64,
+            FieldType::I64(_) => Type::I64,
+            FieldType::Bool(_) => Type::Bool,
+            FieldType::Date(_) => Type::Date,
+            FieldType::Facet(_) => Type::Facet,
+            FieldType::Bytes(_) => Type::Bytes,
+            FieldType::JsonObject(_) => Type::Json,
+            FieldType::IpAddr(_) => Type::IpAddr,
         }
     }
 
@@ -37,17 +61,51 @@ impl FieldType {
         matches!(self, FieldType::Str(_))
     }
 
-    /// Whether documents are found by the field's values.
+    /// Whether it is the type of JSON objects.
+    pub fn is_json(&self) -> bool
+        ensures { IsTrue result ↔ ((entry_of [] self.now).kind ≡ json_kind) }
+    {
+        matches!(self, FieldType::JsonObject(_))
+    }
+
+    /// Whether it is the type of bytes.
+    pub fn is_bytes(&self) -> bool
+        ensures { IsTrue result ↔ ((entry_of [] self.now).kind ≡ bytes_kind) }
+    {
+        matches!(self, FieldType::Bytes(_))
+    }
+
+    /// Whether it is the type of dates.
+    pub fn is_date(&self) -> bool
+        ensures { IsTrue result ↔ ((entry_of [] self.now).kind ≡ date_kind) }
+    {
+        matches!(self, FieldType::Date(_))
+    }
+
+    /// Whether it is the type of addresses.
+    pub fn is_ip_addr(&self) -> bool
+        ensures { IsTrue result ↔ ((entry_of [] self.now).kind ≡ ip_addr_kind) }
+    {
+        matches!(self, FieldType::IpAddr(_))
+    }
+
+    /// Whether documents are found by the field's values. Facets always are.
     pub fn is_indexed(&self) -> bool
         ensures { result ≡ is_indexed (entry_of [] self.now) }
     {
         match self {
             FieldType::Str(options) => options.get_indexing_options().is_some(),
-            FieldType::U64(options) => options.is_indexed(),
+            FieldType::U64(options) | FieldType::I64(options) | FieldType::Bool(options) =>
+                options.is_indexed(),
+            FieldType::Date(options) => options.is_indexed(),
+            FieldType::Facet(_) => true,
+            FieldType::Bytes(options) => options.is_indexed(),
+            FieldType::JsonObject(options) => options.is_indexed(),
+            FieldType::IpAddr(options) => options.is_indexed(),
         }
     }
 
-    /// Whether the field keeps a length for each document.
+    /// Whether the field keeps a length for each document. Facets and JSON objects have none.
     pub fn has_fieldnorms(&self) -> bool
         ensures { result ≡ keeps_length (entry_of [] self.now) }
     {
@@ -56,26 +114,28 @@ impl FieldType {
                 Some(indexing) => indexing.fieldnorms(),
                 None => false,
             },
-            FieldType::U64(options) => options.fieldnorms(),
+            FieldType::U64(options) | FieldType::I64(options) | FieldType::Bool(options) =>
+                options.fieldnorms(),
+            FieldType::Date(options) => options.fieldnorms(),
+            FieldType::Bytes(options) => options.fieldnorms(),
+            FieldType::IpAddr(options) => options.fieldnorms(),
+            FieldType::Facet(_) | FieldType::JsonObject(_) => false,
         }
     }
 
-    /// What is recorded of the field's terms; `None` where it isn't indexed.
+    /// What is recorded of the field's terms; of a JSON field, of those of texts. `None` where it isn't indexed.
     pub fn get_index_record_option(&self) -> Option<IndexRecordOption>
         ensures { let e = entry_of [] self.now in option_map record_option_of result ≡ (if is_indexed e then Some e.record_option else None) }
     {
         match self {
-            FieldType::Str(options) => match options.get_indexing_options() {
-                Some(indexing) => Some(indexing.index_option()),
-                None => None,
-            },
-            FieldType::U64(options) => {
-                if options.is_indexed() {
-                    Some(IndexRecordOption::Basic)
-                } else {
-                    None
-                }
-            }
+            FieldType::Str(options) => options
+                .get_indexing_options()
+                .map(TextFieldIndexing::index_option),
+            FieldType::JsonObject(options) => options
+                .get_text_indexing_options()
+                .map(TextFieldIndexing::index_option),
+            _ if self.is_indexed() => Some(IndexRecordOption::Basic),
+            _ => None,
         }
     }
 }
@@ -139,7 +199,39 @@ impl FieldEntry {
     {
         match &self.field_type {
             FieldType::Str(options) => options.is_stored(),
-            FieldType::U64(options) => options.is_stored(),
+            FieldType::U64(options) | FieldType::I64(options) | FieldType::Bool(options) =>
+                options.is_stored(),
+            FieldType::Date(options) => options.is_stored(),
+            FieldType::Facet(options) => options.is_stored(),
+            FieldType::Bytes(options) => options.is_stored(),
+            FieldType::JsonObject(options) => options.is_stored(),
+            FieldType::IpAddr(options) => options.is_stored(),
+        }
+    }
+
+    /// What `set_fast` set in the field's options. Facets have no such option.
+    pub fn is_fast(&self) -> bool
+        ensures { result ≡ self.now.fast }
+    {
+        match &self.field_type {
+            FieldType::Str(options) => options.is_fast(),
+            FieldType::U64(options) | FieldType::I64(options) | FieldType::Bool(options) =>
+                options.is_fast(),
+            FieldType::Date(options) => options.is_fast(),
+            FieldType::Facet(_) => false,
+            FieldType::Bytes(options) => options.is_fast(),
+            FieldType::JsonObject(options) => options.is_fast(),
+            FieldType::IpAddr(options) => options.is_fast(),
+        }
+    }
+
+    /// Whether a dot in a key of the field's objects separates keys.
+    pub fn is_expand_dots_enabled(&self) -> bool
+        ensures { result ≡ self.now.expand_dots }
+    {
+        match &self.field_type {
+            FieldType::JsonObject(options) => options.is_expand_dots_enabled(),
+            _ => false,
         }
     }
 }

@@ -1,20 +1,26 @@
 //! Schemas read from JSON.
 
-ghost use Rattle.std.specs.Prelude.{[], is_some, true, ◌≡◌, ◌≢◌, IfErr, IfOk, List, None, OnOk, Some, map, option_map, ℕ};
+ghost use Rattle.std.specs.Prelude.{[], false, is_some, true, ◌≡◌, ◌≢◌, IfErr, IfOk, List, None, OnOk, Some, map, option_map, ℕ};
 ghost use Rattle.definitions.specs.QueryGrammar.{record_option_in};
-ghost use Rattle.definitions.specs.Schema.{Entry, text_kind, u64_kind};
+ghost use Rattle.definitions.specs.Making.{has_tokens};
+ghost use Rattle.definitions.specs.Schema.{Entry, facet_kind, json_kind, text_kind};
 ghost use Rattle.definitions.specs.SchemaGrammar as definitions;
 ghost use Rattle.definitions.specs.declared.fault.Fault.TheVariants as faults;
 ghost use Rattle.options.specs.RecordOption.{record_option_of};
 ghost use Rattle.serde_json.specs.Find.{as_object};
 ghost use Rattle.serde_json.specs.View.{items_view, view};
-ghost use Rattle.schema.specs.Entries.{entry_of, indexed_by, numeric_entry, text_entry};
+ghost use Rattle.schema.specs.Entries.{entry_of, facet_entry, indexed_by, json_entry, json_flags_in, numeric_options_in, text_entry, text_flags_in, value_options_in};
+ghost use Rattle.schema.specs.Kinds.{kind_of};
 
 use crate::field_entry::FieldType;
+use crate::field_type::Type;
 use crate::json_keys::{flag_or, has_only, object_at, text_at};
 use crate::schema::Schema;
 use definitions::Fault;
-use options::{IndexRecordOption, NumericOptions, TextFieldIndexing, TextOptions};
+use options::{
+    BytesOptions, DateOptions, FacetOptions, IndexRecordOption, IpAddrOptions, JsonObjectOptions,
+    NumericOptions, TextFieldIndexing, TextOptions,
+};
 use serde_json::Value;
 use std::alloc::Global;
 
@@ -86,10 +92,58 @@ fn read_field_type(alloc: Global, type_name: &str, options: &Value) -> Result<Fi
     ensures ok { IfOk result (λ t. (name : List ℕ) → definitions.typed_entry_in name type_name.now (view options.now) ≡ Some (entry_of name t)) }
     ensures err { IfErr result (λ fault. fault ≢ faults.OutOfMemory → (fault ≡ faults.BadSchema) × ((name : List ℕ) → definitions.typed_entry_in name type_name.now (view options.now) ≡ None)) }
 {
-    match type_name {
-        "text" => Ok(FieldType::Str(read_text_options(alloc, options)?)),
-        "u64" => Ok(FieldType::U64(read_numeric_options(options)?)),
-        _ => Err(Fault::BadSchema),
+    let value_type = read_type(type_name).ok_or(Fault::BadSchema)?;
+    read_options(alloc, value_type, options)
+}
+
+/// The type of that name.
+fn read_type(name: &str) -> Option<Type>
+    ensures { option_map kind_of result ≡ definitions.kind_named name.now }
+{
+    match name {
+        "text" => Some(Type::Str),
+        "u64" => Some(Type::U64),
+        "i64" => Some(Type::I64),
+        "bool" => Some(Type::Bool),
+        "date" => Some(Type::Date),
+        "facet" => Some(Type::Facet),
+        "bytes" => Some(Type::Bytes),
+        "json_object" => Some(Type::Json),
+        "ip_addr" => Some(Type::IpAddr),
+        _ => None,
+    }
+}
+
+/// A type with the options in an object.
+fn read_options(alloc: Global, value_type: Type, options: &Value) -> Result<FieldType, Fault>
+    ensures ok { IfOk result (λ t. (name : List ℕ) → definitions.options_in (definitions.entry_named name (kind_of value_type)) (view options.now) ≡ Some (entry_of name t)) }
+    ensures err { IfErr result (λ fault. fault ≢ faults.OutOfMemory → (fault ≡ faults.BadSchema) × ((name : List ℕ) → definitions.options_in (definitions.entry_named name (kind_of value_type)) (view options.now) ≡ None)) }
+{
+    match value_type {
+        Type::Str => Ok(FieldType::Str(read_text_options(alloc, options)?)),
+        Type::Json => Ok(FieldType::JsonObject(read_json_options(alloc, options)?)),
+        _ => match read_value_type(value_type, options) {
+            Some(read) => Ok(read),
+            None => Err(Fault::BadSchema),
+        },
+    }
+}
+
+/// A type without an indexing, with the options in an object.
+#[tactic(auto, using(crate::proofs::ReadKinds::u64_read, crate::proofs::ReadKinds::i64_read, crate::proofs::ReadKinds::bool_read, crate::proofs::ReadKinds::date_read, crate::proofs::ReadKinds::bytes_read, crate::proofs::ReadKinds::ip_addr_read))]
+fn read_value_type(value_type: Type, options: &Value) -> Option<FieldType>
+    requires { has_tokens (kind_of value_type) ≡ false }
+    ensures { (name : List ℕ) → definitions.options_in (definitions.entry_named name (kind_of value_type)) (view options.now) ≡ option_map (entry_of name) result }
+{
+    match value_type {
+        Type::U64 => Some(FieldType::U64(read_numeric_options(options)?)),
+        Type::I64 => Some(FieldType::I64(read_numeric_options(options)?)),
+        Type::Bool => Some(FieldType::Bool(read_numeric_options(options)?)),
+        Type::Date => Some(FieldType::Date(read_date_options(options)?)),
+        Type::Facet => Some(FieldType::Facet(read_facet_options(options)?)),
+        Type::Bytes => Some(FieldType::Bytes(read_bytes_options(options)?)),
+        Type::IpAddr => Some(FieldType::IpAddr(read_ip_addr_options(options)?)),
+        Type::Str | Type::Json => None,
     }
 }
 
@@ -98,12 +152,7 @@ fn read_text_options(alloc: Global, options: &Value) -> Result<TextOptions, Faul
     ensures ok { IfOk result (λ o. (name : List ℕ) → definitions.options_in (definitions.entry_named name text_kind) (view options.now) ≡ Some (text_entry name o)) }
     ensures err { IfErr result (λ fault. fault ≢ faults.OutOfMemory → (fault ≡ faults.BadSchema) × ((name : List ℕ) → definitions.options_in (definitions.entry_named name text_kind) (view options.now) ≡ None)) }
 {
-    let stored = flag_or(options, "stored", false).ok_or(Fault::BadSchema)?;
-    let text = if stored {
-        TextOptions::default().set_stored()
-    } else {
-        TextOptions::default()
-    };
+    let text = read_text_flags(options).ok_or(Fault::BadSchema)?;
     match options.get("indexing") {
         Some(indexing) => match read_indexing(alloc, indexing)? {
             Some(indexing) => Ok(text.set_indexing_options(indexing)),
@@ -111,6 +160,61 @@ fn read_text_options(alloc: Global, options: &Value) -> Result<TextOptions, Faul
         },
         None => Ok(text),
     }
+}
+
+/// The options of a text field beside its indexing.
+fn read_text_flags(options: &Value) -> Option<TextOptions>
+    ensures { result ≡ text_flags_in (view options.now) }
+{
+    let stored = flag_or(options, "stored", false)?;
+    let fast = flag_or(options, "fast", false)?;
+    let coerce = flag_or(options, "coerce", false)?;
+    let mut text = TextOptions::default();
+    if stored {
+        text = text.set_stored();
+    }
+    if fast {
+        text = text.set_fast();
+    }
+    if coerce {
+        text = text.set_coerce();
+    }
+    Some(text)
+}
+
+/// The options of a JSON field.
+fn read_json_options(alloc: Global, options: &Value) -> Result<JsonObjectOptions, Fault>
+    ensures ok { IfOk result (λ o. (name : List ℕ) → definitions.options_in (definitions.entry_named name json_kind) (view options.now) ≡ Some (json_entry name o)) }
+    ensures err { IfErr result (λ fault. fault ≢ faults.OutOfMemory → (fault ≡ faults.BadSchema) × ((name : List ℕ) → definitions.options_in (definitions.entry_named name json_kind) (view options.now) ≡ None)) }
+{
+    let json = read_json_flags(options).ok_or(Fault::BadSchema)?;
+    match options.get("indexing") {
+        Some(indexing) => match read_indexing(alloc, indexing)? {
+            Some(indexing) => Ok(json.set_indexing_options(indexing)),
+            None => Ok(json),
+        },
+        None => Ok(json),
+    }
+}
+
+/// The options of a JSON field beside its indexing.
+fn read_json_flags(options: &Value) -> Option<JsonObjectOptions>
+    ensures { result ≡ json_flags_in (view options.now) }
+{
+    let stored = flag_or(options, "stored", false)?;
+    let fast = flag_or(options, "fast", false)?;
+    let expand_dots = flag_or(options, "expand_dots", false)?;
+    let mut json = JsonObjectOptions::default();
+    if stored {
+        json = json.set_stored();
+    }
+    if fast {
+        json = json.set_fast();
+    }
+    if expand_dots {
+        json = json.set_expand_dots_enabled();
+    }
+    Some(json)
 }
 
 /// How a text field is indexed; null says that it isn't.
@@ -161,23 +265,123 @@ fn read_record_option(value: &Value) -> Option<IndexRecordOption>
     }
 }
 
-/// The options of a number field.
-fn read_numeric_options(options: &Value) -> Result<NumericOptions, Fault>
-    ensures ok { IfOk result (λ o. (name : List ℕ) → definitions.options_in (definitions.entry_named name u64_kind) (view options.now) ≡ Some (numeric_entry u64_kind name o)) }
-    ensures err { IfErr result (λ fault. (fault ≡ faults.BadSchema) × ((name : List ℕ) → definitions.options_in (definitions.entry_named name u64_kind) (view options.now) ≡ None)) }
+/// The options of a number or bool field.
+fn read_numeric_options(options: &Value) -> Option<NumericOptions>
+    ensures { result ≡ numeric_options_in (view options.now) }
 {
-    let stored = flag_or(options, "stored", false).ok_or(Fault::BadSchema)?;
-    let indexed = flag_or(options, "indexed", false).ok_or(Fault::BadSchema)?;
-    let fieldnorms = flag_or(options, "fieldnorms", indexed).ok_or(Fault::BadSchema)?;
-    let mut numeric = NumericOptions::default();
-    if stored {
-        numeric = numeric.set_stored();
+    let flags = read_value_flags(options)?;
+    let coerce = flag_or(options, "coerce", false)?;
+    let mut read = NumericOptions::default();
+    if flags.stored {
+        read = read.set_stored();
     }
-    if indexed {
-        numeric = numeric.set_indexed();
+    if flags.indexed {
+        read = read.set_indexed();
     }
-    if fieldnorms {
-        numeric = numeric.set_fieldnorm();
+    if flags.fieldnorms {
+        read = read.set_fieldnorm();
     }
-    Ok(numeric)
+    if flags.fast {
+        read = read.set_fast();
+    }
+    if coerce {
+        read = read.set_coerce();
+    }
+    Some(read)
+}
+
+/// The options of a date field.
+fn read_date_options(options: &Value) -> Option<DateOptions>
+    ensures { result ≡ value_options_in (view options.now) }
+{
+    let flags = read_value_flags(options)?;
+    let mut read = DateOptions::default();
+    if flags.stored {
+        read = read.set_stored();
+    }
+    if flags.indexed {
+        read = read.set_indexed();
+    }
+    if flags.fieldnorms {
+        read = read.set_fieldnorm();
+    }
+    if flags.fast {
+        read = read.set_fast();
+    }
+    Some(read)
+}
+
+/// The options of a bytes field.
+fn read_bytes_options(options: &Value) -> Option<BytesOptions>
+    ensures { result ≡ value_options_in (view options.now) }
+{
+    let flags = read_value_flags(options)?;
+    let mut read = BytesOptions::default();
+    if flags.stored {
+        read = read.set_stored();
+    }
+    if flags.indexed {
+        read = read.set_indexed();
+    }
+    if flags.fieldnorms {
+        read = read.set_fieldnorms();
+    }
+    if flags.fast {
+        read = read.set_fast();
+    }
+    Some(read)
+}
+
+/// The options of an address field.
+fn read_ip_addr_options(options: &Value) -> Option<IpAddrOptions>
+    ensures { result ≡ value_options_in (view options.now) }
+{
+    let flags = read_value_flags(options)?;
+    let mut read = IpAddrOptions::default();
+    if flags.stored {
+        read = read.set_stored();
+    }
+    if flags.indexed {
+        read = read.set_indexed();
+    }
+    if flags.fieldnorms {
+        read = read.set_fieldnorms();
+    }
+    if flags.fast {
+        read = read.set_fast();
+    }
+    Some(read)
+}
+
+/// The options of a facet field.
+fn read_facet_options(options: &Value) -> Option<FacetOptions>
+    ensures { (name : List ℕ) → definitions.options_in (definitions.entry_named name facet_kind) (view options.now) ≡ option_map (facet_entry name) result }
+{
+    if flag_or(options, "stored", false)? {
+        Some(FacetOptions::default().set_stored())
+    } else {
+        Some(FacetOptions::default())
+    }
+}
+
+/// What is said of a field whose values are found whole. Lengths are kept where nothing else is said and it is indexed.
+#[derive(Clone, Copy)]
+struct ValueFlags {
+    stored: bool,
+    indexed: bool,
+    fieldnorms: bool,
+    fast: bool,
+}
+
+/// What an object says of such a field.
+fn read_value_flags(options: &Value) -> Option<ValueFlags>
+    ensures { option_map (λ f. record { stored = f.stored; indexed = f.indexed; fieldnorms = f.fieldnorms; fast = f.fast }) result ≡ value_options_in (view options.now) }
+{
+    let indexed = flag_or(options, "indexed", false)?;
+    Some(ValueFlags {
+        stored: flag_or(options, "stored", false)?,
+        indexed,
+        fieldnorms: flag_or(options, "fieldnorms", indexed)?,
+        fast: flag_or(options, "fast", false)?,
+    })
 }

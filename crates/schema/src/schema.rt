@@ -4,17 +4,20 @@ ghost use Rattle.std.specs.Prelude.{[], drop, false, filter_map, if◌then◌els
 ghost use Rattle.std.specs.List.{AllByRecursion, enumerate_from, last_or};
 ghost use Rattle.std.specs.Result.{result_err};
 ghost use Rattle.definitions.specs.FieldPaths.{field_at_split, find_field, splits_from};
-ghost use Rattle.definitions.specs.Schema.{AreDistinct, Entry, field_named, is_valid_field_name, max_fields, u64_kind, with_field};
+ghost use Rattle.definitions.specs.Schema.{AreDistinct, Entry, field_named, is_valid_field_name, bool_kind, bytes_kind, date_kind, i64_kind, ip_addr_kind, max_fields, u64_kind, with_field};
 ghost use Rattle.definitions.specs.SchemaGrammar.{schema_data, schema_in};
 ghost use Rattle.definitions.specs.declared.fault.Fault.TheVariants as faults;
-ghost use Rattle.options.specs.Options.{NumericData, TextData};
-ghost use Rattle.schema.specs.Entries.{entry_of, numeric_entry, text_entry};
+ghost use Rattle.options.specs.Options.{FacetData, JsonData, NumericData, TextData, ValueData};
+ghost use Rattle.schema.specs.Entries.{entry_of, facet_entry, json_entry, numeric_entry, text_entry, value_entry};
 
 use crate::field::Field;
 use crate::field_entry::{FieldEntry, FieldType};
 use crate::fields::Fields;
 use definitions::Fault;
-use options::{NumericOptions, TextOptions};
+use options::{
+    BytesOptions, DateOptions, FacetOptions, IpAddrOptions, JsonObjectOptions, NumericOptions,
+    TextOptions,
+};
 use std::alloc::Global;
 use std::collections::HashMap;
 use std::marker::Model;
@@ -96,6 +99,104 @@ impl SchemaBuilder {
     {
         self.schema
             .add(self.alloc, name, FieldType::U64(options.into()))
+    }
+
+    /// Adds a field of signed numbers of 64 bits; refused as `add_text_field` is.
+    pub fn add_i64_field<T: Into<NumericOptions>>(
+        &mut self,
+        name: &str,
+        options: T,
+    ) -> Result<Field, Fault>
+        ensures ok { IfOk result (λ field. (o : NumericData) × T.converts options o × (with_field self.old (numeric_entry i64_kind name.now o) ≡ Ok self.new) × (field ≡ length self.old)) }
+        ensures err { IfErr result (λ fault. fault ≢ faults.OutOfMemory → (o : NumericData) × T.converts options o × (with_field self.old (numeric_entry i64_kind name.now o) ≡ Err fault)) }
+        ensures unchanged { OnErr result (self.new ≡ self.old) }
+    {
+        self.schema
+            .add(self.alloc, name, FieldType::I64(options.into()))
+    }
+
+    /// Adds a field of bools; refused as `add_text_field` is.
+    pub fn add_bool_field<T: Into<NumericOptions>>(
+        &mut self,
+        name: &str,
+        options: T,
+    ) -> Result<Field, Fault>
+        ensures ok { IfOk result (λ field. (o : NumericData) × T.converts options o × (with_field self.old (numeric_entry bool_kind name.now o) ≡ Ok self.new) × (field ≡ length self.old)) }
+        ensures err { IfErr result (λ fault. fault ≢ faults.OutOfMemory → (o : NumericData) × T.converts options o × (with_field self.old (numeric_entry bool_kind name.now o) ≡ Err fault)) }
+        ensures unchanged { OnErr result (self.new ≡ self.old) }
+    {
+        self.schema
+            .add(self.alloc, name, FieldType::Bool(options.into()))
+    }
+
+    /// Adds a field of dates; refused as `add_text_field` is.
+    pub fn add_date_field<T: Into<DateOptions>>(
+        &mut self,
+        name: &str,
+        options: T,
+    ) -> Result<Field, Fault>
+        ensures ok { IfOk result (λ field. (o : ValueData) × T.converts options o × (with_field self.old (value_entry date_kind name.now o) ≡ Ok self.new) × (field ≡ length self.old)) }
+        ensures err { IfErr result (λ fault. fault ≢ faults.OutOfMemory → (o : ValueData) × T.converts options o × (with_field self.old (value_entry date_kind name.now o) ≡ Err fault)) }
+        ensures unchanged { OnErr result (self.new ≡ self.old) }
+    {
+        self.schema
+            .add(self.alloc, name, FieldType::Date(options.into()))
+    }
+
+    /// Adds a field of facets, which is always indexed; refused as `add_text_field` is.
+    pub fn add_facet_field<T: Into<FacetOptions>>(
+        &mut self,
+        name: &str,
+        options: T,
+    ) -> Result<Field, Fault>
+        ensures ok { IfOk result (λ field. (o : FacetData) × T.converts options o × (with_field self.old (facet_entry name.now o) ≡ Ok self.new) × (field ≡ length self.old)) }
+        ensures err { IfErr result (λ fault. fault ≢ faults.OutOfMemory → (o : FacetData) × T.converts options o × (with_field self.old (facet_entry name.now o) ≡ Err fault)) }
+        ensures unchanged { OnErr result (self.new ≡ self.old) }
+    {
+        self.schema
+            .add(self.alloc, name, FieldType::Facet(options.into()))
+    }
+
+    /// Adds a field of bytes; refused as `add_text_field` is.
+    pub fn add_bytes_field<T: Into<BytesOptions>>(
+        &mut self,
+        name: &str,
+        options: T,
+    ) -> Result<Field, Fault>
+        ensures ok { IfOk result (λ field. (o : ValueData) × T.converts options o × (with_field self.old (value_entry bytes_kind name.now o) ≡ Ok self.new) × (field ≡ length self.old)) }
+        ensures err { IfErr result (λ fault. fault ≢ faults.OutOfMemory → (o : ValueData) × T.converts options o × (with_field self.old (value_entry bytes_kind name.now o) ≡ Err fault)) }
+        ensures unchanged { OnErr result (self.new ≡ self.old) }
+    {
+        self.schema
+            .add(self.alloc, name, FieldType::Bytes(options.into()))
+    }
+
+    /// Adds a field of JSON objects; refused as `add_text_field` is.
+    pub fn add_json_field<T: Into<JsonObjectOptions>>(
+        &mut self,
+        name: &str,
+        options: T,
+    ) -> Result<Field, Fault>
+        ensures ok { IfOk result (λ field. (o : JsonData) × T.converts options o × (with_field self.old (json_entry name.now o) ≡ Ok self.new) × (field ≡ length self.old)) }
+        ensures err { IfErr result (λ fault. fault ≢ faults.OutOfMemory → (o : JsonData) × T.converts options o × (with_field self.old (json_entry name.now o) ≡ Err fault)) }
+        ensures unchanged { OnErr result (self.new ≡ self.old) }
+    {
+        self.schema
+            .add(self.alloc, name, FieldType::JsonObject(options.into()))
+    }
+
+    /// Adds a field of addresses; refused as `add_text_field` is.
+    pub fn add_ip_addr_field<T: Into<IpAddrOptions>>(
+        &mut self,
+        name: &str,
+        options: T,
+    ) -> Result<Field, Fault>
+        ensures ok { IfOk result (λ field. (o : ValueData) × T.converts options o × (with_field self.old (value_entry ip_addr_kind name.now o) ≡ Ok self.new) × (field ≡ length self.old)) }
+        ensures err { IfErr result (λ fault. fault ≢ faults.OutOfMemory → (o : ValueData) × T.converts options o × (with_field self.old (value_entry ip_addr_kind name.now o) ≡ Err fault)) }
+        ensures unchanged { OnErr result (self.new ≡ self.old) }
+    {
+        self.schema
+            .add(self.alloc, name, FieldType::IpAddr(options.into()))
     }
 
     /// The schema of the fields that were added.

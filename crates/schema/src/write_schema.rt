@@ -1,15 +1,18 @@
 //! Schemas written as JSON.
 
 ghost use Rattle.std.specs.Prelude.{[], ◌≡◌, IfOk, Ok, Some, false, map};
-ghost use Rattle.definitions.specs.Schema.{u64_kind};
-ghost use Rattle.definitions.specs.SchemaGrammar.{entry_data, indexing_data, options_data, record_option_name, schema_data, schema_in};
+ghost use Rattle.definitions.specs.Schema.{bytes_kind, date_kind, ip_addr_kind, text_kind, u64_kind};
+ghost use Rattle.definitions.specs.SchemaGrammar.{entry_data, entry_named, indexing_data, options_data, record_option_name, schema_data, schema_in};
 ghost use Rattle.options.specs.RecordOption.{record_option_of};
 ghost use Rattle.serde_json.specs.View.{items_of, items_view, view};
-ghost use Rattle.schema.specs.Entries.{entry_of, numeric_entry, text_entry};
+ghost use Rattle.schema.specs.Entries.{entry_of, facet_entry, json_entry, numeric_entry, text_entry, value_entry, with_indexing};
 
 use crate::field_entry::{FieldEntry, FieldType};
 use crate::schema::Schema;
-use options::{IndexRecordOption, NumericOptions, TextFieldIndexing, TextOptions};
+use options::{
+    BytesOptions, DateOptions, FacetOptions, IndexRecordOption, IpAddrOptions, JsonObjectOptions,
+    NumericOptions, TextFieldIndexing, TextOptions,
+};
 use serde_json::{Value, json};
 use std::alloc::{AllocError, Global};
 
@@ -50,7 +53,13 @@ fn options_value(alloc: Global, field_type: &FieldType) -> Result<Value, AllocEr
 {
     match field_type {
         FieldType::Str(options) => text_value(alloc, options),
-        FieldType::U64(options) => numeric_value(alloc, *options),
+        FieldType::U64(options) | FieldType::I64(options) | FieldType::Bool(options) =>
+            numeric_value(alloc, *options),
+        FieldType::Date(options) => date_value(alloc, *options),
+        FieldType::Facet(options) => facet_value(alloc, *options),
+        FieldType::Bytes(options) => bytes_value(alloc, *options),
+        FieldType::JsonObject(options) => json_value(alloc, options),
+        FieldType::IpAddr(options) => ip_addr_value(alloc, *options),
     }
 }
 
@@ -62,12 +71,33 @@ fn text_value(alloc: Global, options: &TextOptions) -> Result<Value, AllocError>
         Some(indexing) => indexing_value(alloc, indexing)?,
         None => Value::Null,
     };
-    json!(in alloc; {"stored": options.is_stored(), "indexing": indexing})
+    json!(in alloc; {
+        "stored": options.is_stored(),
+        "fast": options.is_fast(),
+        "coerce": options.should_coerce(),
+        "indexing": indexing
+    })
 }
 
-/// How a text field is indexed.
+/// The options of a JSON field.
+fn json_value(alloc: Global, options: &JsonObjectOptions) -> Result<Value, AllocError>
+    ensures { IfOk result (λ value. view value ≡ options_data (json_entry [] options.now)) }
+{
+    let indexing = match options.get_text_indexing_options() {
+        Some(indexing) => indexing_value(alloc, indexing)?,
+        None => Value::Null,
+    };
+    json!(in alloc; {
+        "stored": options.is_stored(),
+        "fast": options.is_fast(),
+        "expand_dots": options.is_expand_dots_enabled(),
+        "indexing": indexing
+    })
+}
+
+/// An indexing.
 fn indexing_value(alloc: Global, indexing: &TextFieldIndexing) -> Result<Value, AllocError>
-    ensures { IfOk result (λ value. view value ≡ indexing_data (text_entry [] (record { stored = false; indexing = Some indexing.now }))) }
+    ensures { IfOk result (λ value. view value ≡ indexing_data (with_indexing (entry_named [] text_kind) (Some indexing.now))) }
 {
     json!(in alloc; {
         "record": record_option_name(indexing.index_option()),
@@ -87,13 +117,58 @@ fn record_option_name(option: IndexRecordOption) -> &'static str
     }
 }
 
-/// The options of a number field. Whether lengths are kept is written also where it isn't indexed.
+/// The options of a number or bool field. Whether lengths are kept is written also where it isn't indexed.
 fn numeric_value(alloc: Global, options: NumericOptions) -> Result<Value, AllocError>
     ensures { IfOk result (λ value. view value ≡ options_data (numeric_entry u64_kind [] options)) }
 {
     json!(in alloc; {
         "stored": options.is_stored(),
+        "fast": options.is_fast(),
+        "coerce": options.should_coerce(),
         "indexed": options.is_indexed(),
         "fieldnorms": options.set_indexed().fieldnorms()
     })
+}
+
+/// The options of a date field.
+fn date_value(alloc: Global, options: DateOptions) -> Result<Value, AllocError>
+    ensures { IfOk result (λ value. view value ≡ options_data (value_entry date_kind [] options)) }
+{
+    json!(in alloc; {
+        "stored": options.is_stored(),
+        "fast": options.is_fast(),
+        "indexed": options.is_indexed(),
+        "fieldnorms": options.set_indexed().fieldnorms()
+    })
+}
+
+/// The options of a bytes field.
+fn bytes_value(alloc: Global, options: BytesOptions) -> Result<Value, AllocError>
+    ensures { IfOk result (λ value. view value ≡ options_data (value_entry bytes_kind [] options)) }
+{
+    json!(in alloc; {
+        "stored": options.is_stored(),
+        "fast": options.is_fast(),
+        "indexed": options.is_indexed(),
+        "fieldnorms": options.set_indexed().fieldnorms()
+    })
+}
+
+/// The options of an address field.
+fn ip_addr_value(alloc: Global, options: IpAddrOptions) -> Result<Value, AllocError>
+    ensures { IfOk result (λ value. view value ≡ options_data (value_entry ip_addr_kind [] options)) }
+{
+    json!(in alloc; {
+        "stored": options.is_stored(),
+        "fast": options.is_fast(),
+        "indexed": options.is_indexed(),
+        "fieldnorms": options.set_indexed().fieldnorms()
+    })
+}
+
+/// The options of a facet field.
+fn facet_value(alloc: Global, options: FacetOptions) -> Result<Value, AllocError>
+    ensures { IfOk result (λ value. view value ≡ options_data (facet_entry [] options)) }
+{
+    json!(in alloc; {"stored": options.is_stored()})
 }

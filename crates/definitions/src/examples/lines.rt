@@ -3,7 +3,7 @@
 
 ghost use Rattle.std.specs.Prelude.{[], ◌++◌, ◌∷◌, ◌≡◌, codes, map};
 ghost use Rattle.definitions.specs.Calls.{closed, writer_closed};
-ghost use Rattle.definitions.specs.LineExamples.{after_lines, book_session, reply, session_with, three_book_lines, three_books_session, unindexed_session};
+ghost use Rattle.definitions.specs.LineExamples.{after_lines, book_session, empty_session, opened_session, reply, session_with, three_book_lines, three_books_session, title_line, unindexed_session};
 ghost use Rattle.definitions.specs.Step.{answer_of, answers_to};
 
 /// Three books are added and committed, then searched and counted.
@@ -40,7 +40,7 @@ pub fn other_lines_are_refused()
     ensures missing_key { reply book_session "{\"op\":\"search\",\"query\":{\"q\":\"all\"}}" ≡ codes "{\"error\":\"BadRequest\"}" }
     ensures wrong_key { reply book_session "{\"op\":\"add\",\"document\":{}}" ≡ codes "{\"error\":\"BadRequest\"}" }
     ensures not_utf8 { answer_of book_session (codes "{\"op\":\"add\",\"doc\":{\"title\":\"" ++ (255 ∷ codes "\"}}")) ≡ codes "{\"error\":\"BadRequest\"}" }
-    ensures not_yet { map (answer_of book_session) (codes "{\"op\":\"open\"}" ∷ codes "{\"op\":\"create\",\"schema\":[]}" ∷ codes "{\"op\":\"delete\",\"term\":{\"field\":\"year\",\"value\":1}}" ∷ codes "{\"op\":\"merge\",\"from\":0,\"to\":1}" ∷ []) ≡ codes "{\"error\":\"BadRequest\"}" ∷ codes "{\"error\":\"BadRequest\"}" ∷ codes "{\"error\":\"BadRequest\"}" ∷ codes "{\"error\":\"BadRequest\"}" ∷ [] }
+    ensures not_yet { map (answer_of book_session) (codes "{\"op\":\"delete\",\"term\":{\"field\":\"year\",\"value\":1}}" ∷ codes "{\"op\":\"merge\",\"from\":0,\"to\":1}" ∷ []) ≡ codes "{\"error\":\"BadRequest\"}" ∷ codes "{\"error\":\"BadRequest\"}" ∷ [] }
 {}
 
 /// Numbers are whole, from 0 to 2 to the 63rd less 1.
@@ -74,9 +74,9 @@ pub fn documents_are_read_from_the_line()
 
 /// Where no index stands a request is refused, and what is no request before that.
 pub fn requests_ask_for_an_index()
-    ensures commit { reply None "{\"op\":\"commit\"}" ≡ codes "{\"error\":\"NotOpen\"}" }
-    ensures query { reply None "{\"op\":\"count\",\"query\":5}" ≡ codes "{\"error\":\"NotOpen\"}" }
-    ensures no_request { reply None "{" ≡ codes "{\"error\":\"BadRequest\"}" }
+    ensures commit { reply empty_session "{\"op\":\"commit\"}" ≡ codes "{\"error\":\"NotOpen\"}" }
+    ensures query { reply empty_session "{\"op\":\"count\",\"query\":5}" ≡ codes "{\"error\":\"NotOpen\"}" }
+    ensures no_request { reply empty_session "{" ≡ codes "{\"error\":\"BadRequest\"}" }
 {}
 
 /// A query is refused by its form, and then by what it asks for.
@@ -98,4 +98,32 @@ pub fn a_status_refuses_first()
     ensures writer_commit { reply (session_with writer_closed) "{\"op\":\"commit\"}" ≡ codes "{\"error\":\"WriterClosed\"}" }
     ensures writer_search { reply (session_with writer_closed) "{\"op\":\"search\",\"k\":1,\"query\":{\"q\":\"term\",\"field\":\"year\",\"value\":5}}" ≡ codes "{\"hits\":[]}" }
     ensures writer_bad_query { reply (session_with writer_closed) "{\"op\":\"count\",\"query\":5}" ≡ codes "{\"error\":\"BadQuery\"}" }
+{}
+
+/// An index is made once. Before that no request is answered, and no index is opened.
+pub fn an_index_is_made_line_by_line()
+    ensures { answers_to empty_session (codes "{\"op\":\"commit\"}" ∷ codes "{\"op\":\"open\"}" ∷ title_line ∷ title_line ∷ codes "{\"op\":\"open\"}" ∷ codes "{\"op\":\"add\",\"doc\":{\"t\":\"a b\"}}" ∷ codes "{\"op\":\"add\",\"doc\":[]}" ∷ codes "{\"op\":\"commit\"}" ∷ codes "{\"op\":\"count\",\"query\":{\"q\":\"term\",\"field\":\"t\",\"value\":\"a\"}}" ∷ []) ≡ codes "{\"error\":\"NotOpen\"}" ∷ codes "{\"error\":\"NoIndex\"}" ∷ codes "{\"ok\":true}" ∷ codes "{\"error\":\"AlreadyOpen\"}" ∷ codes "{\"error\":\"AlreadyOpen\"}" ∷ codes "{\"ok\":true}" ∷ codes "{\"error\":\"NotAnObject\"}" ∷ codes "{\"ok\":true}" ∷ codes "{\"count\":1}" ∷ [] }
+{}
+
+/// An index is opened again with what was committed; what waited is lost.
+pub fn an_index_is_opened_again()
+    ensures committed { answers_to (opened_session []) (codes "{\"op\":\"count\",\"query\":{\"q\":\"term\",\"field\":\"title\",\"value\":\"sea\"}}" ∷ title_line ∷ codes "{\"op\":\"open\"}" ∷ codes "{\"op\":\"open\"}" ∷ codes "{\"op\":\"count\",\"query\":{\"q\":\"term\",\"field\":\"title\",\"value\":\"sea\"}}" ∷ []) ≡ codes "{\"error\":\"NotOpen\"}" ∷ codes "{\"error\":\"NotEmpty\"}" ∷ codes "{\"ok\":true}" ∷ codes "{\"error\":\"AlreadyOpen\"}" ∷ codes "{\"count\":2}" ∷ [] }
+    ensures lost { answers_to (opened_session (codes "{\"op\":\"add\",\"doc\":{\"title\":\"sea\"}}" ∷ [])) (codes "{\"op\":\"open\"}" ∷ codes "{\"op\":\"commit\"}" ∷ codes "{\"op\":\"count\",\"query\":{\"q\":\"term\",\"field\":\"title\",\"value\":\"sea\"}}" ∷ []) ≡ codes "{\"ok\":true}" ∷ codes "{\"ok\":true}" ∷ codes "{\"count\":2}" ∷ [] }
+{}
+
+/// What is refused when an index is to be made, in this order.
+pub fn a_create_is_refused_in_order()
+    ensures another_key { reply empty_session "{\"op\":\"create\",\"schema\":[],\"name\":1}" ≡ codes "{\"error\":\"BadRequest\"}" }
+    ensures schema_first { reply empty_session "{\"op\":\"create\",\"schema\":5,\"settings\":5}" ≡ codes "{\"error\":\"BadSchema\"}" }
+    ensures null_settings { reply empty_session "{\"op\":\"create\",\"schema\":[],\"settings\":null}" ≡ codes "{\"error\":\"BadSettings\"}" }
+    ensures settings_first { reply (opened_session []) "{\"op\":\"create\",\"schema\":[{\"name\":\"t\",\"type\":\"text\",\"options\":{\"indexing\":{\"tokenizer\":\"other\"}}}],\"settings\":{\"docs_per_segment\":0}}" ≡ codes "{\"error\":\"BadSettings\"}" }
+    ensures tokenizer_first { reply (opened_session []) "{\"op\":\"create\",\"schema\":[{\"name\":\"t\",\"type\":\"text\",\"options\":{\"indexing\":{\"tokenizer\":\"other\"}}}]}" ≡ codes "{\"error\":\"UnknownTokenizer\"}" }
+    ensures ready_first { reply book_session "{\"op\":\"create\",\"schema\":5}" ≡ codes "{\"error\":\"AlreadyOpen\"}" }
+    ensures settings_sent { reply empty_session "{\"op\":\"create\",\"schema\":[],\"settings\":{\"block_size\":0}}" ≡ codes "{\"ok\":true}" }
+{}
+
+/// An index that isn't ready stands until another is made or opened, and what is refused before that leaves it.
+pub fn what_a_refused_create_leaves()
+    ensures made { answers_to (session_with writer_closed) (codes "{\"op\":\"create\",\"schema\":5}" ∷ codes "{\"op\":\"create\",\"schema\":[],\"settings\":5}" ∷ codes "{\"op\":\"commit\"}" ∷ title_line ∷ codes "{\"op\":\"commit\"}" ∷ codes "{\"op\":\"open\"}" ∷ codes "{\"op\":\"commit\"}" ∷ []) ≡ codes "{\"error\":\"BadSchema\"}" ∷ codes "{\"error\":\"BadSettings\"}" ∷ codes "{\"error\":\"WriterClosed\"}" ∷ codes "{\"error\":\"NotEmpty\"}" ∷ codes "{\"error\":\"NotOpen\"}" ∷ codes "{\"ok\":true}" ∷ codes "{\"ok\":true}" ∷ [] }
+    ensures opened { answers_to (session_with writer_closed) (codes "{\"op\":\"open\"}" ∷ codes "{\"op\":\"commit\"}" ∷ []) ≡ codes "{\"ok\":true}" ∷ codes "{\"ok\":true}" ∷ [] }
 {}

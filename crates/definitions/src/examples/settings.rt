@@ -4,10 +4,12 @@
 ghost use Rattle.std.specs.Prelude.{[], ◌++◌, ◌∷◌, ◌≡◌, Some, codes, false, flat_map, option_and_then, replicate, true};
 ghost use Rattle.definitions.specs.Json.{object_of};
 ghost use Rattle.definitions.specs.LineExamples.{book_schema, from_text, kinds_schema};
+ghost use Rattle.definitions.specs.Making.{making_fault};
 ghost use Rattle.definitions.specs.Replies.{number_data};
 ghost use Rattle.definitions.specs.Settings.{default_settings};
 ghost use Rattle.definitions.specs.SettingsGrammar.{array_of, settings_data, settings_in, weighs_named, weight_data};
 ghost use Rattle.definitions.specs.TermData.{reads_back, term_data};
+ghost use Rattle.definitions.specs.declared.fault.Fault.TheVariants as faults;
 ghost use Rattle.serde_json.specs.Read.{read};
 ghost use Rattle.serde_json.specs.Written.{compact_text};
 
@@ -140,4 +142,11 @@ pub fn other_terms_do_not_read_back()
     ensures no_flag { reads_back kinds_schema (0 ∷ 0 ∷ 0 ∷ 3 ∷ codes "o" ++ (replicate 7 0 ++ (2 ∷ []))) ≡ false }
     ensures no_leaf { reads_back kinds_schema (0 ∷ 0 ∷ 0 ∷ 8 ∷ codes "ja") ≡ false }
     ensures small_leaf { reads_back kinds_schema (0 ∷ 0 ∷ 0 ∷ 8 ∷ codes "ja" ++ (0 ∷ codes "u" ++ replicate 8 0)) ≡ false }
+{}
+
+/// An index is made of kinds that there are so far, and then where the analyzer knows the tokenizers.
+pub fn makings_are_refused()
+    ensures made { making_fault (λ _. true) book_schema default_settings ≡ None }
+    ensures other_kinds { making_fault (λ _. false) kinds_schema default_settings ≡ Some faults.BadSchema }
+    ensures tokenizer { making_fault (λ _. false) book_schema default_settings ≡ Some faults.UnknownTokenizer }
 {}

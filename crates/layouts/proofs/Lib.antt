@@ -1,0 +1,3 @@
+-- Lemmas on the layouts, behind the laws and for the crates above.
+pub mod PackedTests
+pub mod FilesOfRecords

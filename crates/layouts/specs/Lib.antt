@@ -1,0 +1,11 @@
+-- How documents, lists and files stand as bytes.
+pub mod Deltas
+pub mod PackedBlocks
+pub mod VintBlocks
+pub mod FieldNorms
+pub mod Positions
+pub mod SkipEntries
+pub mod DocumentBytes
+pub mod RecordFiles
+pub mod RecordBodies
+pub mod Stores

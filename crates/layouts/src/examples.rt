@@ -1,0 +1,11 @@
+//! Worked examples, each computed over the definitions.
+
+pub mod document_bytes;
+pub mod field_norms;
+pub mod packed_blocks;
+pub mod positions;
+pub mod record_bodies;
+pub mod record_files;
+pub mod skip_entries;
+pub mod stores;
+pub mod vint_blocks;

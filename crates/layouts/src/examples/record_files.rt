@@ -1,0 +1,33 @@
+//! What files of records are, of no index and of damage.
+#![tactic(auto, unfolding(crate::specs::RecordFiles::records))]
+
+ghost use Rattle.std.specs.Prelude.{[], ◌≡◌, ◌∷◌, true, List, ℕ};
+ghost use Rattle.layouts.specs.RecordFiles.{EndsAt, IsAtRest, IsDamaged, IsFile, IsNoIndex, records};
+
+/// A record: its open gate, the length of its body in eight bytes, the body.
+pub fn records_have_gate_length_and_body()
+    ensures one { records ((7 ∷ 8 ∷ []) ∷ []) ≡ 165 ∷ 2 ∷ 0 ∷ 0 ∷ 0 ∷ 0 ∷ 0 ∷ 0 ∷ 0 ∷ 7 ∷ 8 ∷ [] }
+    ensures two { records ((7 ∷ 8 ∷ []) ∷ [] ∷ []) ≡ 165 ∷ 2 ∷ 0 ∷ 0 ∷ 0 ∷ 0 ∷ 0 ∷ 0 ∷ 0 ∷ 7 ∷ 8 ∷ 165 ∷ 0 ∷ 0 ∷ 0 ∷ 0 ∷ 0 ∷ 0 ∷ 0 ∷ 0 ∷ [] }
+{}
+
+/// A file of two bodies, with its last gate closed, and the same with bytes after it.
+pub fn two_bodies_are_a_file()
+    ensures at_rest { IsAtRest (165 ∷ 2 ∷ 0 ∷ 0 ∷ 0 ∷ 0 ∷ 0 ∷ 0 ∷ 0 ∷ 7 ∷ 8 ∷ 165 ∷ 1 ∷ 0 ∷ 0 ∷ 0 ∷ 0 ∷ 0 ∷ 0 ∷ 0 ∷ 9 ∷ 0 ∷ []) 21 ((7 ∷ 8 ∷ []) ∷ (9 ∷ []) ∷ []) }
+    ensures more { EndsAt (165 ∷ 2 ∷ 0 ∷ 0 ∷ 0 ∷ 0 ∷ 0 ∷ 0 ∷ 0 ∷ 7 ∷ 8 ∷ 165 ∷ 1 ∷ 0 ∷ 0 ∷ 0 ∷ 0 ∷ 0 ∷ 0 ∷ 0 ∷ 9 ∷ 66 ∷ 165 ∷ 1 ∷ []) 21 ((7 ∷ 8 ∷ []) ∷ (9 ∷ []) ∷ []) }
+    ensures closed { IsFile ((7 ∷ []) ∷ []) (165 ∷ 1 ∷ 0 ∷ 0 ∷ 0 ∷ 0 ∷ 0 ∷ 0 ∷ 0 ∷ 7 ∷ 0 ∷ 1 ∷ 0 ∷ 0 ∷ 0 ∷ 0 ∷ 0 ∷ 0 ∷ 0 ∷ 9 ∷ 165 ∷ []) }
+{}
+
+/// Fewer than ten bytes, or a closed first gate.
+pub fn short_and_closed_files_are_no_index()
+    ensures none { IsNoIndex [] }
+    ensures short { IsNoIndex (165 ∷ []) }
+    ensures nine { IsNoIndex (165 ∷ 0 ∷ 0 ∷ 0 ∷ 0 ∷ 0 ∷ 0 ∷ 0 ∷ 0 ∷ []) }
+    ensures closed { IsNoIndex (0 ∷ 1 ∷ 0 ∷ 0 ∷ 0 ∷ 0 ∷ 0 ∷ 0 ∷ 0 ∷ 0 ∷ []) }
+    ensures ten { ¬ IsNoIndex (165 ∷ 0 ∷ 0 ∷ 0 ∷ 0 ∷ 0 ∷ 0 ∷ 0 ∷ 0 ∷ 0 ∷ []) }
+{}
+
+/// A record without its next gate is none, and neither is one with a shorter body than its length says.
+pub fn records_without_their_gate_are_damaged()
+    ensures first { IsDamaged (λ before body. true) (165 ∷ 1 ∷ 0 ∷ 0 ∷ 0 ∷ 0 ∷ 0 ∷ 0 ∷ 0 ∷ 0 ∷ []) 0 }
+    ensures second { IsDamaged (λ before body. true) (165 ∷ 1 ∷ 0 ∷ 0 ∷ 0 ∷ 0 ∷ 0 ∷ 0 ∷ 0 ∷ 7 ∷ 165 ∷ 1 ∷ 0 ∷ 0 ∷ 0 ∷ 0 ∷ 0 ∷ 0 ∷ 0 ∷ 0 ∷ []) 10 }
+{}

@@ -1,0 +1,43 @@
+//! Blocks, checkpoints and whole stores.
+#![tactic(auto, unfolding(definitions::specs::NumberCodes::vint_bytes, definitions::proofs::OnLiterals::definitions_on_literals))]
+
+ghost use Rattle.std.specs.Prelude.{[], ◌++◌, ◌≡◌, ◌∷◌, length, map, replicate};
+ghost use Rattle.layouts.specs.Stores.{block_bytes, checkpoints, footer_bytes, group_bytes, layers, skip_index_bytes, store_bytes};
+
+/// A block is the documents' bytes, their starts and their number.
+pub fn blocks_have_bytes()
+    ensures two { block_bytes ((1 ∷ 2 ∷ []) ∷ (3 ∷ []) ∷ []) ≡ 1 ∷ 2 ∷ 3 ∷ 0 ∷ 0 ∷ 0 ∷ 0 ∷ 2 ∷ 0 ∷ 0 ∷ 0 ∷ 2 ∷ 0 ∷ 0 ∷ 0 ∷ [] }
+    ensures empty_documents { block_bytes ([] ∷ [] ∷ []) ≡ 0 ∷ 0 ∷ 0 ∷ 0 ∷ 0 ∷ 0 ∷ 0 ∷ 0 ∷ 2 ∷ 0 ∷ 0 ∷ 0 ∷ [] }
+{}
+
+/// A store without documents.
+pub fn the_empty_store_has_bytes()
+    ensures { store_bytes [] ≡ 0x80 ∷ 2 ∷ 0 ∷ 0 ∷ 0 ∷ replicate 24 0 }
+{}
+
+/// A store of one document of 21 bytes.
+pub fn one_document_has_bytes()
+    ensures index { skip_index_bytes (checkpoints 0 0 (record { count = 1; bytes = replicate 29 7 } ∷ [])) ≡ 0x81 ∷ 0x85 ∷ 0x81 ∷ 0x80 ∷ 0x80 ∷ 0x81 ∷ 0x9d ∷ [] }
+    ensures store { store_bytes (record { count = 1; bytes = block_bytes (replicate 21 7 ∷ []) } ∷ []) ≡ replicate 21 7 ++ (0 ∷ 0 ∷ 0 ∷ 0 ∷ 1 ∷ 0 ∷ 0 ∷ 0 ∷ 0x81 ∷ 0x85 ∷ 0x81 ∷ 0x80 ∷ 0x80 ∷ 0x81 ∷ 0x9d ∷ 2 ∷ 0 ∷ 0 ∷ 0 ∷ 0x1d ∷ 0 ∷ 0 ∷ 0 ∷ 0 ∷ 0 ∷ 0 ∷ 0 ∷ replicate 16 0) }
+{}
+
+/// A footer names its version, the skip index and a kind.
+pub fn footers_have_28_bytes()
+    ensures bytes { footer_bytes 0x1d ≡ 2 ∷ 0 ∷ 0 ∷ 0 ∷ 0x1d ∷ 0 ∷ 0 ∷ 0 ∷ 0 ∷ 0 ∷ 0 ∷ 0 ∷ replicate 16 0 }
+    ensures length { length (footer_bytes 0) ≡ 28 }
+{}
+
+/// Groups of eight stand in layers up to one group.
+pub fn blocks_have_layers()
+    ensures none { layers [] ≡ [] }
+    ensures one { map length (layers (checkpoints 0 0 (replicate 8 (record { count = 1; bytes = [] })))) ≡ 8 ∷ [] }
+    ensures two { map length (layers (checkpoints 0 0 (replicate 9 (record { count = 1; bytes = [] })))) ≡ 2 ∷ 9 ∷ [] }
+    ensures still_two { map length (layers (checkpoints 0 0 (replicate 64 (record { count = 1; bytes = [] })))) ≡ 8 ∷ 64 ∷ [] }
+    ensures three { map length (layers (checkpoints 0 0 (replicate 65 (record { count = 1; bytes = [] })))) ≡ 2 ∷ 9 ∷ 65 ∷ [] }
+{}
+
+/// A group names its first document and byte, and then the extent of each checkpoint.
+pub fn groups_have_bytes()
+    ensures empty { group_bytes [] ≡ 0x80 ∷ [] }
+    ensures two { group_bytes (checkpoints 3 9 (record { count = 1; bytes = replicate 16 0 } ∷ record { count = 2; bytes = replicate 24 0 } ∷ [])) ≡ 0x82 ∷ 0x83 ∷ 0x89 ∷ 0x81 ∷ 0x90 ∷ 0x82 ∷ 0x98 ∷ [] }
+{}

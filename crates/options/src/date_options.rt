@@ -1,0 +1,187 @@
+//! The options of date fields.
+ghost use Rattle.std.specs.Prelude.{◌≡◌, ◌&&◌, true};
+ghost use Rattle.options.specs.Options.{ValueData, default_value, value_or};
+
+use crate::flags::{FastFlag, IndexedFlag, SchemaFlagList, SetsIn, StoredFlag};
+use std::marker::Model;
+use std::ops::BitOr;
+
+/// What a date field is for.
+#[derive(Clone, Copy)]
+pub struct DateOptions {
+    stored: bool,
+    indexed: bool,
+    fieldnorms: bool,
+    fast: bool,
+}
+
+impl Model for DateOptions {
+    ghost Value = { ValueData };
+
+    ghost view = { λ o. record { stored = o.stored; indexed = o.indexed; fieldnorms = o.fieldnorms; fast = o.fast } };
+
+    ghost inverse = { λ o. record { stored = o.stored; indexed = o.indexed; fieldnorms = o.fieldnorms; fast = o.fast } };
+}
+
+impl DateOptions {
+    /// Values come back with their documents.
+    pub fn set_stored(self) -> Self
+        ensures { result ≡ record self { stored = true } }
+    {
+        DateOptions {
+            stored: true,
+            ..self
+        }
+    }
+
+    /// Documents are found by their values. No lengths are kept by this alone.
+    pub fn set_indexed(self) -> Self
+        ensures { result ≡ record self { indexed = true } }
+    {
+        DateOptions {
+            indexed: true,
+            ..self
+        }
+    }
+
+    /// Lengths are kept if the field is indexed: how many values each document has.
+    pub fn set_fieldnorm(self) -> Self
+        ensures { result ≡ record self { fieldnorms = true } }
+    {
+        DateOptions {
+            fieldnorms: true,
+            ..self
+        }
+    }
+
+    /// Kept as data, without effect.
+    pub fn set_fast(self) -> Self
+        ensures { result ≡ record self { fast = true } }
+    {
+        DateOptions { fast: true, ..self }
+    }
+
+    /// Whether values come back with their documents.
+    pub fn is_stored(&self) -> bool
+        ensures { result ≡ self.now.stored }
+    {
+        self.stored
+    }
+
+    /// Whether documents are found by their values.
+    pub fn is_indexed(&self) -> bool
+        ensures { result ≡ self.now.indexed }
+    {
+        self.indexed
+    }
+
+    /// Whether lengths are kept.
+    pub fn fieldnorms(&self) -> bool
+        ensures { result ≡ (self.now.indexed && self.now.fieldnorms) }
+    {
+        self.fieldnorms && self.indexed
+    }
+
+    /// What `set_fast` set.
+    pub fn is_fast(&self) -> bool
+        ensures { result ≡ self.now.fast }
+    {
+        self.fast
+    }
+}
+
+impl Default for DateOptions {
+    ghost is_default = { λ o. o ≡ default_value };
+
+    fn default() -> DateOptions {
+        DateOptions {
+            stored: false,
+            indexed: false,
+            fieldnorms: false,
+            fast: false,
+        }
+    }
+}
+
+impl<Other: Into<DateOptions>> BitOr<Other> for DateOptions {
+    type Output = DateOptions;
+
+    ghost bitor_gives = { λ a other o. (b : ValueData) × Other.converts other b × (o ≡ value_or a b) };
+
+    fn bitor(self, other: Other) -> DateOptions {
+        let other: DateOptions = other.into();
+        DateOptions {
+            stored: self.stored || other.stored,
+            indexed: self.indexed || other.indexed,
+            fieldnorms: self.fieldnorms || other.fieldnorms,
+            fast: self.fast || other.fast,
+        }
+    }
+}
+
+impl SetsIn<DateOptions> for StoredFlag {
+    ghost options_with = { λ _ o. record o { stored = true } };
+
+    fn set_in(self, options: DateOptions) -> DateOptions {
+        options.set_stored()
+    }
+}
+
+impl SetsIn<DateOptions> for IndexedFlag {
+    ghost options_with = { λ _ o. record o { indexed = true; fieldnorms = true } };
+
+    fn set_in(self, options: DateOptions) -> DateOptions {
+        options.set_indexed().set_fieldnorm()
+    }
+}
+
+impl SetsIn<DateOptions> for FastFlag {
+    ghost options_with = { λ _ o. record o { fast = true } };
+
+    fn set_in(self, options: DateOptions) -> DateOptions {
+        options.set_fast()
+    }
+}
+
+impl From<StoredFlag> for DateOptions {
+    ghost from_gives = { λ _ o. o ≡ record default_value { stored = true } };
+
+    fn from(stored: StoredFlag) -> DateOptions {
+        stored.set_in(DateOptions::default())
+    }
+}
+
+impl From<IndexedFlag> for DateOptions {
+    ghost from_gives = { λ _ o. o ≡ record default_value { indexed = true; fieldnorms = true } };
+
+    fn from(indexed: IndexedFlag) -> DateOptions {
+        indexed.set_in(DateOptions::default())
+    }
+}
+
+impl From<FastFlag> for DateOptions {
+    ghost from_gives = { λ _ o. o ≡ record default_value { fast = true } };
+
+    fn from(fast: FastFlag) -> DateOptions {
+        fast.set_in(DateOptions::default())
+    }
+}
+
+impl<Head: SetsIn<DateOptions>, Tail: SetsIn<DateOptions>> From<SchemaFlagList<Head, Tail>>
+    for DateOptions {
+    ghost from_gives = { λ flags o. o ≡ Head.options_with flags.head (Tail.options_with flags.tail default_value) };
+
+    fn from(flags: SchemaFlagList<Head, Tail>) -> DateOptions {
+        flags.set_in(DateOptions::default())
+    }
+}
+
+impl<Flag: SetsIn<DateOptions>> BitOr<DateOptions> for SchemaFlagList<Flag, ()> {
+    type Output = DateOptions;
+
+    ghost bitor_gives = { λ flag b o. o ≡ value_or (Flag.options_with flag.head default_value) b };
+
+    fn bitor(self, options: DateOptions) -> DateOptions {
+        DateOptions::from(self) | options
+    }
+}
