@@ -1,0 +1,6 @@
+-- Lemmas behind the bodies of records.
+pub mod BodiesGrow
+pub mod DocumentsBack
+pub mod MadeTexts
+pub mod PlainData
+pub mod Taking

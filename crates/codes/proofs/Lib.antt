@@ -1,0 +1,22 @@
+-- Lemmas behind the codes.
+pub mod Windows
+pub mod Packings
+pub mod Widths
+pub mod Filling
+pub mod FirstNumber
+pub mod Sums
+pub mod Refused
+pub mod Bits
+pub mod LengthsOfIds
+pub mod Ascending
+pub mod Recording
+pub mod Sections
+pub mod VintLists
+pub mod SumsOfDeltas
+pub mod ListLaws
+pub mod PositionBlocks
+pub mod CheckedBlocks
+pub mod PositionsOpened
+pub mod PositionsPut
+pub mod SkipReading
+pub mod SkipLaws

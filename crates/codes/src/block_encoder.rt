@@ -1,0 +1,59 @@
+//! Blocks of 128 numbers, and of 128 ascending documents, written as bytes.
+
+ghost use Rattle.std.specs.Prelude.{◌*◌, ◌+◌, ◌<◌, ◌^◌, ◌≡◌, ◌≤◌, length, slice_index, take, ℕ};
+ghost use Rattle.layouts.specs.Deltas.{IsAscendingFrom, deltas, next_of};
+ghost use Rattle.layouts.specs.PackedBlocks.{IsBlock, IsSortedBlock};
+
+use crate::compressed_block_size;
+use crate::offset::least_after;
+use crate::packing::{pack, width_of};
+
+/// Room for the bytes of a block.
+#[derive(Drop)]
+pub struct BlockEncoder {
+    pub(crate) output: [u8; 640],
+}
+
+impl BlockEncoder {
+    /// An encoder that has written nothing yet.
+    pub fn new() -> BlockEncoder {
+        BlockEncoder { output: [0; 640] }
+    }
+
+    /// The width in bits, and the bytes, of 128 numbers.
+    pub fn compress_block_unsorted(&mut self, numbers: &[u32]) -> (u8, &[u8])
+        requires { length numbers.now ≡ 128 }
+        ensures { IsBlock result.0 numbers.now result.1.now }
+    {
+        let width = width_of(numbers);
+        pack(numbers, width, &mut self.output);
+        let len = 16 * width as usize;
+        (width as u8, &self.output[..len])
+    }
+
+    /// The width in bits, and the bytes, of 128 ascending documents by their strict deltas.
+    /// The offset is the document before them, or 0 where none stands before.
+    pub fn compress_block_sorted(&mut self, docs: &[u32], offset: u32) -> (u8, &[u8])
+        requires count { length docs.now ≡ 128 }
+        requires ascending { IsAscendingFrom (next_of offset) docs.now }
+        ensures { IsSortedBlock offset result.0 docs.now result.1.now }
+    {
+        let deltas = deltas_of(docs, offset);
+        self.compress_block_unsorted(&deltas)
+    }
+}
+
+/// The strict deltas of 128 documents after an offset.
+fn deltas_of(docs: &[u32], offset: u32) -> [u32; 128]
+    requires count { length docs.now ≡ 128 }
+    requires ascending { IsAscendingFrom (next_of offset) docs.now }
+    ensures { result ≡ deltas (next_of offset) docs.now }
+{
+    let mut deltas = [0; 128];
+    let mut next = least_after(offset);
+    for (i, doc) in docs.iter().enumerate() {
+        deltas[i] = (*doc as u64 - next) as u32;
+        next = *doc as u64 + 1;
+    }
+    deltas
+}

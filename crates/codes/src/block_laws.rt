@@ -1,0 +1,18 @@
+//! What the bytes of blocks promise.
+#![tactic(auto)]
+
+ghost use Rattle.std.specs.Prelude.{◌≡◌, List, ℕ};
+ghost use Rattle.layouts.specs.PackedBlocks.{IsBlock, IsPacked, IsSortedBlock};
+
+/// No other numbers have the bytes of a block, and no other documents after the same offset: what was
+/// written is what is read.
+pub fn blocks_have_one_reading()
+    ensures packed { (w : ℕ) (a b bytes : List ℕ) → IsPacked w a bytes → IsPacked w b bytes → a ≡ b }
+    ensures block { (w : ℕ) (a b bytes : List ℕ) → IsBlock w a bytes → IsBlock w b bytes → a ≡ b }
+    ensures sorted { (offset w : ℕ) (a b bytes : List ℕ) → IsSortedBlock offset w a bytes → IsSortedBlock offset w b bytes → a ≡ b }
+{}
+
+/// Numbers have one width.
+pub fn numbers_have_one_width()
+    ensures { (v w : ℕ) (numbers a b : List ℕ) → IsBlock v numbers a → IsBlock w numbers b → v ≡ w }
+{}

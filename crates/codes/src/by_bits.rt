@@ -1,0 +1,38 @@
+//! Packed blocks read a bit at a time, as the layout says it: what the fast readers are measured against.
+
+ghost use Rattle.std.specs.Prelude.{◌%◌, ◌*◌, ◌+◌, ◌/◌, ◌<◌, ◌^◌, ◌≡◌, ◌≤◌, length, slice_index, take, ℕ};
+ghost use lib.Lanes.{number_l};
+ghost use Rattle.layouts.specs.PackedBlocks.{IsPacked};
+
+/// The numbers of a block of this width in bits.
+pub fn numbers_by_bits(bytes: &[u8], num_bits: u8, out: &mut [u32; 128])
+    requires width { num_bits ≤ 32 }
+    requires room { 16 * num_bits ≤ length bytes.now }
+    ensures { IsPacked num_bits out.new (take (16 * num_bits) bytes.now) }
+{
+    for i in 0..128 {
+        out[i] = number_at(bytes, i * num_bits as usize, num_bits);
+    }
+}
+
+/// The number in the bits from a place on.
+fn number_at(bytes: &[u8], from: usize, num_bits: u8) -> u32
+    requires width { num_bits ≤ 32 }
+    requires room { from + num_bits ≤ 8 * length bytes.now }
+    requires few { from < 2 ^ 32 }
+    ensures { result ≡ number_l 256 bytes.now / 2 ^ from % 2 ^ num_bits }
+{
+    let mut number = 0;
+    for j in 0..num_bits {
+        number |= bit_at(bytes, from + j as usize) << j;
+    }
+    number
+}
+
+/// The bit at a place.
+fn bit_at(bytes: &[u8], place: usize) -> u32
+    requires { place < 8 * length bytes.now }
+    ensures { result ≡ number_l 256 bytes.now / 2 ^ place % 2 }
+{
+    (bytes[place / 8] >> (place % 8) & 1) as u32
+}

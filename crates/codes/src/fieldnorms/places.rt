@@ -1,0 +1,13 @@
+//! Where a field stands among ascending fields.
+
+ghost use Rattle.std.specs.Prelude.{length, slice_index, ◌<◌, ◌≡◌, ◌≢◌, IfNone, IfSome, ℕ};
+ghost use Rattle.layouts.specs.Deltas.{IsAscendingFrom};
+
+/// The place of a field, where it is one of them.
+pub(crate) fn place_of(fields: &[u32], field: u32) -> Option<usize>
+    requires { IsAscendingFrom 0 fields.now }
+    ensures found { IfSome result (λ i. (i < length fields.now) × (slice_index fields.now i ≡ field)) }
+    ensures none { IfNone result ((i : ℕ) → i < length fields.now → slice_index fields.now i ≢ field) }
+{
+    fields.binary_search(&field).ok()
+}

@@ -1,0 +1,5 @@
+-- Lemmas on records as they are written and read.
+pub mod Results
+pub mod Scanned
+pub mod Images
+pub mod CallByCall

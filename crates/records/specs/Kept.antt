@@ -1,0 +1,10 @@
+-- A device that was read alone.
+use Rattle.std.specs.Prelude.{◌≡◌, List, ℕ}
+use Rattle.definitions.specs.Disk.{IsImage, Unsynced}
+use Rattle.definitions.specs.Moments.{LeavesOnly}
+
+-- its content is as before, and a crash leaves what it might have left before
+pub record IsKept {D : Type 0} (moment : D → ℕ) (left_since : D → ℕ → List ℕ → Type 0) (content : D → List ℕ) (unsynced : D → Unsynced) (old new : D) : Type 0 where
+  pub content_kept : content new ≡ content old
+  pub unsynced_kept : unsynced new ≡ unsynced old
+  pub images_kept : LeavesOnly moment left_since old new (IsImage (content old) (unsynced old))

@@ -1,0 +1,4 @@
+-- Records as they are written and read.
+pub mod Frames
+pub mod Outcomes
+pub mod Kept

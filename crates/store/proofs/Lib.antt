@@ -1,0 +1,13 @@
+pub mod Cuts
+pub mod Blocks
+pub mod TakenGroups
+pub mod Layering
+pub mod Lowest
+pub mod FooterBytes
+pub mod Writes
+pub mod SlotLaws
+pub mod Kept
+pub mod Opened
+pub mod Readers
+pub mod Stacked
+pub mod CacheLaws

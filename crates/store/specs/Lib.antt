@@ -1,0 +1,10 @@
+pub mod Reading
+pub mod TakenGroups
+pub mod Spelling
+pub mod SkipIndexes
+pub mod Footers
+pub mod Writing
+pub mod Caches
+pub mod Slots
+pub mod Stacking
+pub mod Walking

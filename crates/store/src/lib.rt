@@ -1,0 +1,31 @@
+//! Documents in blocks, with a skip index and a footer.
+#![tactic(auto)]
+
+mod block;
+mod block_cache;
+pub mod cache_laws;
+mod cache_stats;
+mod checkpoint_block;
+mod current_block;
+mod footer;
+mod groups;
+mod parts;
+mod pending;
+mod skip_index;
+mod skip_index_builder;
+pub mod slot_laws;
+mod stacking;
+mod store_iter;
+mod store_reader;
+mod store_writer;
+
+pub use bytes::Bytes;
+pub use cache_stats::CacheStats;
+pub use checkpoint_block::CheckpointBlock;
+pub use footer::{DocStoreFooter, DocStoreVersion};
+pub use layouts::Checkpoint;
+pub use skip_index::SkipIndex;
+pub use skip_index_builder::SkipIndexBuilder;
+pub use store_iter::StoreIter;
+pub use store_reader::StoreReader;
+pub use store_writer::StoreWriter;
