@@ -1,0 +1,10 @@
+pub mod Steps
+pub mod Many
+pub mod Tokens
+pub mod HeldHeads
+pub mod Inside
+pub mod HeldValues
+pub mod Skips
+pub mod HeldPairs
+pub mod LeafPairs
+pub mod BinaryForm

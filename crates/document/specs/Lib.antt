@@ -1,0 +1,7 @@
+-- Documents in memory and as bytes.
+pub mod ValueCodes
+pub mod Held
+pub mod Taking
+pub mod Docs
+pub mod Shown
+pub mod CodeHeads

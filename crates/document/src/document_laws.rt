@@ -1,0 +1,21 @@
+//! What the binary form promises.
+
+ghost use Rattle.std.specs.Prelude.{◌++◌, ◌<◌, ◌^◌, ◌≡◌, List, Some, false, length, ℕ};
+ghost use Rattle.std.specs.List.{AllByRecursion};
+ghost use Rattle.definitions.specs.NumberCodes.{AreBytes};
+ghost use Rattle.definitions.specs.Values.{Document, Value};
+ghost use Rattle.document.specs.Docs.{IsGood, IsGoodPair};
+ghost use Rattle.document.specs.Taking.{read_document, take_value};
+ghost use Rattle.layouts.specs.DocumentBytes.{document_bytes, value_bytes};
+
+/// What was put is taken back: a value whatever follows it, and a whole document.
+pub fn what_was_put_is_taken_back()
+    ensures value { (v : Value) (rest : List ℕ) → IsGood false 128 v → take_value (value_bytes v ++ rest) ≡ Some (v, rest) }
+    ensures document { (doc : Document) → AllByRecursion (IsGoodPair false 128) doc → length doc < 2 ^ 64 → read_document (document_bytes doc) ≡ Some doc }
+{}
+
+/// What is taken stood there as it is put: nothing else is taken.
+pub fn what_is_taken_was_put()
+    ensures value { (bs rest : List ℕ) (v : Value) → AreBytes bs → take_value bs ≡ Some (v, rest) → IsGood false 128 v × (bs ≡ value_bytes v ++ rest) }
+    ensures document { (bs : List ℕ) (doc : Document) → AreBytes bs → read_document bs ≡ Some doc → AllByRecursion (IsGoodPair false 128) doc × (bs ≡ document_bytes doc) }
+{}

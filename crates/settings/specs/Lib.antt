@@ -1,0 +1,2 @@
+-- What settings keep, as the definitions have it.
+pub mod Weights
