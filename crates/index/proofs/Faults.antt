@@ -1,11 +1,16 @@
 -- Want of memory is told from every other fault.
-use Rattle.std.proofs.Common.{Bool, ap, false, refl, sym, true, true≢false, ◌≡◌, ◌≢◌, ◌⊎◌, inl, inr}
+use Rattle.definitions.specs.Calls as calls
+use Rattle.std.proofs.Common.{◌∙◌, Bool, ap, false, refl, sym, true, true≢false, ◌≡◌, ◌≢◌, ◌⊎◌, inl, inr}
 use Rattle.definitions.specs.declared.fault.Fault.{Fault}
 use Rattle.definitions.specs.declared.fault.Fault.TheVariants as faults
 
 abbrev is_out_of_memory : Fault → Bool
 is_out_of_memory faults.OutOfMemory = true
 is_out_of_memory _ = false
+
+-- a failure of the device is no want of memory
+pub device_failed : faults.Device ≢ faults.OutOfMemory
+device_failed h = true≢false (sym (ap is_out_of_memory h))
 
 -- a fault is want of memory, or another
 pub memory_or_other : (fault : Fault) → (fault ≡ faults.OutOfMemory) ⊎ (fault ≢ faults.OutOfMemory)
@@ -54,3 +59,21 @@ memory_or_other faults.FacetParseError = inr (λ h. true≢false (sym (ap is_out
 memory_or_other faults.BadTokens = inr (λ h. true≢false (sym (ap is_out_of_memory h)))
 memory_or_other faults.InvalidArgument = inr (λ h. true≢false (sym (ap is_out_of_memory h)))
 memory_or_other faults.FieldNotFound = inr (λ h. true≢false (sym (ap is_out_of_memory h)))
+
+-- what may still be done after a commit that failed so
+abbrev pub status_left : Fault → calls.Status
+status_left faults.Device = calls.closed
+status_left _ = calls.writer_closed
+
+abbrev is_device : Fault → Bool
+is_device faults.Device = true
+is_device _ = false
+
+abbrev is_limit : Fault → Bool
+is_limit faults.Limit = true
+is_limit _ = false
+
+-- what a status refuses is neither a failure of the device nor a limit
+pub writer_faults : (fault : Fault) → (fault ≡ faults.WriterClosed) ⊎ (fault ≡ faults.Closed) → (fault ≢ faults.Device) × (fault ≢ faults.Limit)
+writer_faults fault (inl is) = ((λ h. true≢false (sym (ap is_device h) ∙ ap is_device is)), (λ h. true≢false (sym (ap is_limit h) ∙ ap is_limit is)))
+writer_faults fault (inr is) = ((λ h. true≢false (sym (ap is_device h) ∙ ap is_device is)), (λ h. true≢false (sym (ap is_limit h) ∙ ap is_limit is)))

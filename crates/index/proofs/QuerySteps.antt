@@ -6,10 +6,10 @@ use Rattle.definitions.specs.Query.{clause, Clauses, Queries, must, must_not, no
 use Rattle.definitions.specs.QueryGrammar.{Many, clauses_at, clauses_onto}
 use Rattle.definitions.specs.Schema.{Schema}
 use Rattle.index.specs.BuiltQueries.{built_items}
-use Rattle.index.specs.Queries.{clauses_of, occur_of, queries_of, query_of}
-use Rattle.index.specs.declared.any_query.AnyQuery.{AnyQuery}
-use Rattle.index.specs.declared.any_query.Occur.{Occur as OccurCode}
-use Rattle.index.specs.declared.any_query.Occur.TheVariants as codes_of
+use Rattle.plain.specs.Queries.{clauses_of, occur_of, queries_of, query_of}
+use Rattle.plain.specs.declared.any_query.AnyQuery.{AnyQuery}
+use Rattle.plain.specs.declared.any_query.Occur.{Occur as OccurCode}
+use Rattle.plain.specs.declared.any_query.Occur.TheVariants as codes_of
 use Rattle.serde_json.specs.Data.{Data, Members, array, boolean, depth, items_depth, member, members_depth, no_members, null, number, object, string}
 use Rattle.serde_json.specs.Find.{get, get_member}
 use Rattle.std.specs.Cmp.Lexicographic.{slice_cmp}

@@ -7,11 +7,11 @@ use Rattle.definitions.specs.Replies.{hit_data, hits_data}
 use Rattle.definitions.specs.Scanning as scanning
 use Rattle.definitions.specs.Stored.{Named}
 use Rattle.definitions.specs.Values as definitions
-use Rattle.index.specs.Documents.{value_of}
-use Rattle.index.specs.Hits.{hit_of, scored, told}
-use Rattle.index.specs.NamedDocs.{NamedFields, named_field, named_of}
-use Rattle.index.specs.declared.plain.scan.Hit.{Hit}
-use Rattle.index.specs.declared.value.Value.{Value}
+use Rattle.plain.specs.Documents.{value_of}
+use Rattle.plain.specs.Hits.{hit_of, scored, told}
+use Rattle.plain.specs.NamedDocs.{NamedFields, named_field, named_of}
+use Rattle.plain.specs.declared.scanning.Hit.{Hit}
+use Rattle.plain.specs.declared.value.Value.{Value}
 use Rattle.serde_json.specs.Data.{item, put}
 use Rattle.serde_json.specs.View.{items_of}
 use Rattle.serde_json.specs.Data as json

@@ -1,141 +1,188 @@
--- What a session answers, from what its index did.
-use Rattle.std.proofs.Common.{Err, IsUtf8, cond, ok_or, option_and_then, option_map, IfErr, IfOk, None, Ok, OnOk, Option, Result, Some, ap, refl, subst, sym, ◌∙◌, ◌≡◌, ◌≢◌, List, ℕ}
+-- What a session answers, and what it stands for after it.
+use Rattle.std.proofs.Common.{Bool, Err, IfOk, IsUtf8, None, Ok, OnOk, Option, Result, Some, ap, cond, false, inl, inr, ok_or, option_and_then, option_map, refl, subst, sym, true, ◌∙◌, ◌≡◌, ◌⊎◌, List, ℕ}
 use Rattle.std.specs.Bool.{⊤}
-use Rattle.definitions.specs.Analyzers.{Analyzer}
-use Rattle.definitions.specs.Calls as calls
-use Rattle.definitions.specs.FaultNames.{reply_text}
-use Rattle.definitions.specs.Replies.{ok_reply, reply_of}
-use Rattle.definitions.specs.Requests as requests
-use Rattle.definitions.specs.Step as steps
-use Rattle.definitions.specs.declared.fault.Fault.{Fault}
-use Rattle.definitions.specs.declared.fault.Fault.TheVariants as faults
-use Rattle.definitions.proofs.ReplyTexts.{error_text, ok_text}
-use Rattle.definitions.proofs.Steps.{answered_call, refused_call, unread_call}
-use Rattle.definitions.specs.Built.{built_query_in, built_request_in}
-use Rattle.definitions.specs.Query.{Query, empty}
-use Rattle.definitions.specs.Replies.{count_reply, hits_reply}
-use Rattle.definitions.specs.Scanning.{scan, scan_count}
-use Rattle.definitions.specs.State.{committed}
-use Rattle.serde_json.specs.Data as json
 use Rattle.std.specs.Cow.{cow_str_bytes}
 use Rattle.std.specs.declared.borrow.CowStr.{CowStr}
 use Rattle.std.proofs.lemmas.Str.{is_utf8-from_IsUtf8}
-use Rattle.serde_json.specs.Read.{read}
-use Rattle.index.specs.Sessions.{Answers, StandsFor, change_text}
-use Rattle.index.specs.declared.session.Session.{Session}
+use Rattle.common.specs.declared.analyzer.Analyzer as analyzers
+use Rattle.common.specs.declared.device.Device as devices
+use Rattle.definitions.specs.Built.{built_query_in, built_request_in}
+use Rattle.definitions.specs.Calls as calls
+use Rattle.definitions.specs.Analyzers.{Analyzer}
+use Rattle.definitions.specs.FaultNames.{reply_text}
+use Rattle.definitions.specs.Query.{Query}
+use Rattle.definitions.specs.Replies.{reply_of}
+use Rattle.definitions.specs.Requests as requests
+use Rattle.definitions.specs.Schema.{Schema}
+use Rattle.definitions.specs.SchemaGrammar.{schema_in}
+use Rattle.definitions.specs.Settings.{Settings}
+use Rattle.definitions.specs.State.{State, committed}
+use Rattle.definitions.specs.Step as steps
+use Rattle.definitions.specs.declared.fault.Fault.{Fault}
+use Rattle.definitions.specs.declared.fault.Fault.TheVariants as faults
+use Rattle.definitions.proofs.ReplyTexts.{error_text}
+use Rattle.index.specs.Accepting.{IsMadeAlike}
+use Rattle.index.specs.AskedRequests.{index_request_of}
+use Rattle.index.specs.Replying.{Answers, GoesOn, change_text}
+use Rattle.index.specs.Sessions.{HasHeld, HasStage, IsIndex, IsKnown, LeavesStage, Replies, StandsFor, analysis_of}
 use Rattle.index.specs.Standing.{Stands}
 use Rattle.index.specs.declared.index.Index.{Index}
+use Rattle.index.specs.declared.requests.IndexRequest.{IndexRequest}
+use Rattle.index.specs.declared.requests.IndexRequest.TheVariants.{Add, Commit, Count, Search}
+use Rattle.index.specs.declared.stage.Session.{Session}
+use Rattle.index.specs.declared.stage.Stage.TheVariants.{Spare, Standing}
+use Rattle.index.proofs.Stages.{held_kept}
+use Rattle.serde_json.specs.Read.{read}
+use Rattle.serde_json.specs.View.{view}
+use Rattle.serde_json.specs.Data as json
 
-none≢some : {X : Type 0} {x : X} → None ≡ Some x → ⊥
-none≢some h = cc
+-- ---- what a request comes to
 
--- a call that is answered wasn't refused
-answered_leaves : (c : calls.Configuration) (x y : calls.Index) (call : calls.Call) → calls.Leaves c x call (Ok tt) y → (calls.call_fault c x call ≡ None) × (y ≡ record { state = calls.after c x.state call; status = x.status })
-answered_leaves c x y call (calls.answered accepted) = (accepted, refl)
+-- while an index is ready no other is made or opened
+pub already_made : (s : steps.Session) (d : json.Data) (more : Option json.Data) → steps.is_ready s.stage ≡ true → steps.stage_step s.analysis s.stage (requests.create_index d more) ≡ steps.refusing faults.AlreadyOpen s.stage
+already_made s d more is = ap (λ (b : Bool). cond b (steps.refusing faults.AlreadyOpen s.stage) (steps.with_schema s.analysis.knows s.stage more (steps.if_built (schema_in d)))) is
 
--- a call that its tests refuse leaves what stood
-refused_leaves : (c : calls.Configuration) (x y : calls.Index) (call : calls.Call) (fault : Fault) → calls.Leaves c x call (Err fault) y → calls.call_fault c x call ≡ Some fault → fault ≢ faults.OutOfMemory → y ≡ x
-refused_leaves c x y call fault (calls.refused f told) h other = refl
-refused_leaves c x y call fault (calls.memory_refused ready adds) h other = refl
-refused_leaves c x y call fault (calls.limit_refused accepted adds) h other = refl
-refused_leaves c x y call fault (calls.half_written f want accepted adds) h other = absurd (none≢some (sym accepted ∙ h))
-refused_leaves c x y call fault (calls.device_failed accepted writes) h other = absurd (none≢some (sym accepted ∙ h))
-refused_leaves c x y call fault (calls.slot_damaged accepted reads) h other = refl
+pub already_opened : (s : steps.Session) → steps.is_ready s.stage ≡ true → steps.stage_step s.analysis s.stage requests.open_index ≡ steps.refusing faults.AlreadyOpen s.stage
+already_opened s is = ap (λ (b : Bool). cond b (steps.refusing faults.AlreadyOpen s.stage) (steps.opened s.analysis.knows (steps.held_by s.stage))) is
 
--- the reply to a change, and what stands after it
-pub change_answered : {A : Type 0} (analyze : A → Analyzer) (new : Index A) (c : calls.Configuration) (x : calls.Index) (r : requests.Request) (call : calls.Call) (change : Result ⊤ Fault) → steps.call_in c.schema r ≡ Ok call → steps.answer_reply c x.state call ≡ ok_reply → (y : calls.Index) × calls.Leaves c x call change y × Stands analyze new c y → IfErr change (λ fault. fault ≢ faults.OutOfMemory → calls.call_fault c x call ≡ Some fault) → change ≢ Err faults.OutOfMemory → (change_text change ≡ reply_of ((steps.index_step c x r).0)) × Stands analyze new c ((steps.index_step c x r).1)
-change_answered analyze new c x r call (Ok u) read ok (y, left, stands) exact other =
-    let told = answered_leaves c x y call left in
-    let step = answered_call c x r call read told.0 in
-    (sym ok_text ∙ sym (ap reply_of ok) ∙ ap (λ p. reply_of p.0) (sym step), subst (λ p. Stands analyze new c p.1) (sym step) (subst (Stands analyze new c) told.1 stands))
-change_answered analyze new c x r call (Err fault) read ok (y, left, stands) exact other =
-    let not_memory : fault ≢ faults.OutOfMemory = λ h. other (ap Err h) in
-    let refused = exact not_memory in
-    let step = refused_call c x r call fault read refused in
-    (error_text fault ∙ ap (λ p. reply_of p.0) (sym step), subst (λ p. Stands analyze new c p.1) (sym step) (subst (Stands analyze new c) (refused_leaves c x y call fault left refused not_memory) stands))
+-- what is read is made
+pub created_step : (s : steps.Session) (d : json.Data) (more : Option json.Data) (fields : Schema) (numbers : Settings) → steps.is_ready s.stage ≡ false → steps.if_built (schema_in d) ≡ Ok fields → steps.settings_sent fields more ≡ Ok numbers → steps.stage_step s.analysis s.stage (requests.create_index d more) ≡ steps.created s.analysis.knows fields numbers (steps.held_by s.stage)
+created_step s d more fields numbers is schema settings =
+    ap (λ (b : Bool). cond b (steps.refusing faults.AlreadyOpen s.stage) (steps.with_schema s.analysis.knows s.stage more (steps.if_built (schema_in d)))) is
+    ∙ ap (λ (r : Result Schema Fault). steps.with_schema s.analysis.knows s.stage more r) schema
+    ∙ ap (λ (r : Result Settings Fault). steps.with_settings s.analysis.knows s.stage fields r) settings
 
--- ---- searches and counts
+-- what isn't read is refused
+pub unread_step : (s : steps.Session) (d : json.Data) (more : Option json.Data) (fault : Fault) → steps.is_ready s.stage ≡ false → (steps.if_built (schema_in d) ≡ Err fault) ⊎ ((fields : Schema) × (steps.if_built (schema_in d) ≡ Ok fields) × (steps.settings_sent fields more ≡ Err fault)) → steps.stage_step s.analysis s.stage (requests.create_index d more) ≡ steps.refusing fault s.stage
+unread_step s d more fault is (inl schema) =
+    ap (λ (b : Bool). cond b (steps.refusing faults.AlreadyOpen s.stage) (steps.with_schema s.analysis.knows s.stage more (steps.if_built (schema_in d)))) is
+    ∙ ap (λ (r : Result Schema Fault). steps.with_schema s.analysis.knows s.stage more r) schema
+unread_step s d more fault is (inr (fields, schema, settings)) =
+    ap (λ (b : Bool). cond b (steps.refusing faults.AlreadyOpen s.stage) (steps.with_schema s.analysis.knows s.stage more (steps.if_built (schema_in d)))) is
+    ∙ ap (λ (r : Result Schema Fault). steps.with_schema s.analysis.knows s.stage more r) schema
+    ∙ ap (λ (r : Result Settings Fault). steps.with_settings s.analysis.knows s.stage fields r) settings
 
--- a query that isn't read is refused so
-pub unread_search : (c : calls.Configuration) (x : calls.Index) (d : json.Data) (k : ℕ) → calls.status_fault x.status (calls.search_best empty k) ≡ None → built_query_in c.schema d ≡ None → steps.index_step c x (requests.search_docs d k) ≡ steps.refusing faults.BadQuery x
-unread_search c x d k ready unread = unread_call c x (requests.search_docs d k) faults.BadQuery (ap (λ o. ok_or (option_map (λ q. calls.search_best q k) o) faults.BadQuery) unread) ready
+pub opened_step : (s : steps.Session) → steps.is_ready s.stage ≡ false → steps.stage_step s.analysis s.stage requests.open_index ≡ steps.opened s.analysis.knows (steps.held_by s.stage)
+opened_step s is = ap (λ (b : Bool). cond b (steps.refusing faults.AlreadyOpen s.stage) (steps.opened s.analysis.knows (steps.held_by s.stage))) is
 
-pub unread_count : (c : calls.Configuration) (x : calls.Index) (d : json.Data) → calls.status_fault x.status (calls.count_all empty) ≡ None → built_query_in c.schema d ≡ None → steps.index_step c x (requests.count_docs d) ≡ steps.refusing faults.BadQuery x
-unread_count c x d ready unread = unread_call c x (requests.count_docs d) faults.BadQuery (ap (λ o. ok_or (option_map calls.count_all o) faults.BadQuery) unread) ready
+-- what is asked of an index goes to the one that stands
+asked_step : (a : steps.Analysis) (stage : steps.Stage) (r : IndexRequest) → steps.stage_step a stage (index_request_of r) ≡ steps.in_index a.analyze stage (index_request_of r)
+asked_step a stage (Add doc) = refl
+asked_step a stage Commit = refl
+asked_step a stage (Search query k) = refl
+asked_step a stage (Count query) = refl
 
--- one that is read is searched for
-pub read_search : (c : calls.Configuration) (d : json.Data) (k : ℕ) (q : Query) → built_query_in c.schema d ≡ Some q → steps.call_in c.schema (requests.search_docs d k) ≡ Ok (calls.search_best q k)
-read_search c d k q read = ap (λ o. ok_or (option_map (λ p. calls.search_best p k) o) faults.BadQuery) read
+-- ---- what an index that isn't ready is left as
 
-pub read_count : (c : calls.Configuration) (d : json.Data) (q : Query) → built_query_in c.schema d ≡ Some q → steps.call_in c.schema (requests.count_docs d) ≡ Ok (calls.count_all q)
-read_count c d q read = ap (λ o. ok_or (option_map calls.count_all o) faults.BadQuery) read
+refused_or_status : (o : Option Fault) (x : calls.Index) (p : json.Data × calls.Index) → p.1.status ≡ x.status → (steps.refused_or o x p).1.status ≡ x.status
+refused_or_status None x p is = is
+refused_or_status (Some fault) x p is = refl
 
--- the step of a search that is answered
-pub search_answered : (c : calls.Configuration) (x : calls.Index) (d : json.Data) (k : ℕ) (q : Query) → built_query_in c.schema d ≡ Some q → calls.call_fault c x (calls.search_best q k) ≡ None → steps.index_step c x (requests.search_docs d k) ≡ (hits_reply (scan c.schema c.analyze c.similarity (committed x.state) q k), x)
-search_answered c x d k q read accepted = answered_call c x (requests.search_docs d k) (calls.search_best q k) (read_search c d k q read) accepted
+call_status : (c : calls.Configuration) (x : calls.Index) (call : Result calls.Call Fault) → (steps.call_step c x call).1.status ≡ x.status
+call_status c x (Err fault) = refl
+call_status c x (Ok call) = refused_or_status (calls.own_fault c x.state call) x (steps.answering c x call) refl
 
-pub count_answered : (c : calls.Configuration) (x : calls.Index) (d : json.Data) (q : Query) → built_query_in c.schema d ≡ Some q → calls.call_fault c x (calls.count_all q) ≡ None → steps.index_step c x (requests.count_docs d) ≡ (count_reply (scan_count c.schema c.analyze (committed x.state) q), x)
-count_answered c x d q read accepted = answered_call c x (requests.count_docs d) (calls.count_all q) (read_count c d q read) accepted
+-- no request changes a status
+step_status : (c : calls.Configuration) (x : calls.Index) (r : requests.Request) → (steps.index_step c x r).1.status ≡ x.status
+step_status c x r = refused_or_status (calls.status_fault x.status (steps.stand_in r)) x (steps.call_step c x (steps.call_in c.schema r)) (call_status c x (steps.call_in c.schema r))
 
--- what follows from what holds of an answer, and of an error
-pub ok_weaker : {T E : Type 0} (r : Result T E) (P Q : T → Type 0) → ((t : T) → P t → Q t) → IfOk r P → IfOk r Q
-ok_weaker (Ok t) P Q f h = f t h
-ok_weaker (Err e) P Q f h = tt
+refused_or_same : (o : Option Fault) (x : calls.Index) (p : json.Data × calls.Index) → p.1 ≡ x → (steps.refused_or o x p).1 ≡ x
+refused_or_same None x p is = is
+refused_or_same (Some fault) x p is = refl
 
-pub err_weaker : {T E : Type 0} (r : Result T E) (P Q : E → Type 0) → ((e : E) → P e → Q e) → IfErr r P → IfErr r Q
-err_weaker (Ok t) P Q f h = tt
-err_weaker (Err e) P Q f h = f e h
+-- a search that is read, or isn't, changes nothing
+searched_same : (c : calls.Configuration) (x : calls.Index) (k : ℕ) (o : Option Query) → (steps.call_step c x (ok_or (option_map (λ q. calls.search_best q k) o) faults.BadQuery)).1 ≡ x
+searched_same c x k None = refl
+searched_same c x k (Some q) = refused_or_same (calls.own_fault c x.state (calls.search_best q k)) x (steps.answering c x (calls.search_best q k)) refl
 
--- ---- what is replied to a value and to a line
+counted_same : (c : calls.Configuration) (x : calls.Index) (o : Option Query) → (steps.call_step c x (ok_or (option_map calls.count_all o) faults.BadQuery)).1 ≡ x
+counted_same c x None = refl
+counted_same c x (Some q) = refused_or_same (calls.own_fault c x.state (calls.count_all q)) x (steps.answering c x (calls.count_all q)) refl
 
--- what isn't asked for is refused, and nothing changes
-unasked : (s : steps.Session) → steps.step s None ≡ steps.refusing faults.BadRequest s
-unasked None = refl
-unasked (Some p) = refl
+-- an index that isn't ready is left as it is
+unmoved : (c : calls.Configuration) (state : State) (status : calls.Status) (r : IndexRequest) → (status ≡ calls.ready) ⊎ ((steps.index_step c (record { state = state; status = status }) (index_request_of r)).1 ≡ record { state = state; status = status })
+unmoved c state calls.ready r = inl refl
+unmoved c state calls.closed r = inr refl
+unmoved c state calls.writer_closed (Add doc) = inr refl
+unmoved c state calls.writer_closed Commit = inr refl
+unmoved c state calls.writer_closed (Search query k) = inr (searched_same c (record { state = state; status = calls.writer_closed }) k (built_query_in c.schema (view query.now)))
+unmoved c state calls.writer_closed (Count query) = inr (counted_same c (record { state = state; status = calls.writer_closed }) (built_query_in c.schema (view query.now)))
 
-module _ {A Z : Type 0} (analyze : A → Analyzer) (old new : Session A) (r : requests.Request) (o : Option requests.Request) (result : Result (CowStr Z) Fault) (asked : Some r ≡ o) (answered : (c : calls.Configuration) (x : calls.Index) → Stands analyze old.index c x → Answers analyze new.index c x r result) where
-  -- the reply to a request
-  pub request_text : (s : steps.Session) → StandsFor analyze old s → IfOk result (λ text. cow_str_bytes text ≡ reply_of ((steps.step s o).0))
-  request_text None h = absurd h
-  request_text (Some (c, x)) h = subst (λ q. IfOk result (λ text. cow_str_bytes text ≡ reply_of ((steps.step (Some (c, x)) q).0))) asked (answered c x h).text
+-- what an index is known by after a request
+known_after : {D : Type 0} (honest : D → Bool) (content : D → List ℕ) (old new : D) (c : calls.Configuration) (s : Schema) (u : Settings) (x : calls.Index) (r : IndexRequest) → (x.status ≡ calls.ready) ⊎ (new ≡ old) → IsKnown honest content old s u x → IsKnown honest content new s u ((steps.index_step c x (index_request_of r)).1)
+known_after honest content old new c s u x r (inl ready) known = inl (step_status c x (index_request_of r) ∙ ready)
+known_after honest content old new c s u x r (inr same) (inl ready) = inl (step_status c x (index_request_of r) ∙ ready)
+known_after honest content old new c s u x r (inr same) (inr held) = elim (unmoved c x.state x.status r) [
+  | inl ready ↦ inl (step_status c x (index_request_of r) ∙ ready)
+  | inr stays ↦ inr (subst (λ (y : calls.Index). HasHeld honest content new (steps.file_of s u (committed y.state))) (sym stays) (held_kept honest content old new (steps.file_of s u (committed x.state)) held (ap honest same) (ap content same)))
+]
 
-  -- what stands after it
-  pub request_state : (s : steps.Session) → StandsFor analyze old s → OnOk result (StandsFor analyze new ((steps.step s o).1))
-  request_state None h = absurd h
-  request_state (Some (c, x)) h = subst (λ q. OnOk result (StandsFor analyze new ((steps.step (Some (c, x)) q).1))) asked (answered c x h).state
+-- ---- replies
 
--- the reply where nothing is asked for
-pub unasked_text : (s : steps.Session) (o : Option requests.Request) → None ≡ o → reply_text faults.BadRequest ≡ reply_of ((steps.step s o).0)
-unasked_text s o h = error_text faults.BadRequest ∙ ap (λ p. reply_of p.0) (sym (unasked s)) ∙ ap (λ q. reply_of ((steps.step s q).0)) h
+-- what follows from what holds of an answer
+pub on_map : {T E : Type 0} (r : Result T E) (P Q : Type 0) → (P → Q) → OnOk r P → OnOk r Q
+on_map (Ok t) P Q f h = f h
+on_map (Err e) P Q f h = tt
 
--- nothing changes where nothing is asked for
-pub unasked_state : {A : Type 0} (analyze : A → Analyzer) (session : Session A) (s : steps.Session) (o : Option requests.Request) → None ≡ o → StandsFor analyze session s → StandsFor analyze session ((steps.step s o).1)
-unasked_state analyze session s o h stands = subst (λ q. StandsFor analyze session ((steps.step s q).1)) h (subst (λ p. StandsFor analyze session p.1) (sym (unasked s)) stands)
+module _ {D A Z : Type 0} {d : devices.Ghosts D} {a : analyzers.Ghosts A} where
+  -- the reply to a change
+  pub replied : (s : steps.Session) (new : Session D A d a) (change : Result ⊤ Fault) (result : Result (CowStr Z) Fault) (p : json.Data × steps.Stage) (r : requests.Request) → steps.stage_step s.analysis s.stage r ≡ p → LeavesStage a.knows_name a.analyze s.analysis new.stage change p → IfOk result (λ text. cow_str_bytes text ≡ change_text change) → OnOk result (GoesOn change) → Replies new result (steps.step s (Some r))
+  replied s new change (Ok text) p r is leaves told on =
+      let left = leaves on in
+      record {
+        text = told ∙ left.0 ∙ ap (λ q. reply_of q.0) (sym is);
+        state = subst (λ (q : json.Data × steps.Stage). HasStage a.knows_name a.analyze s.analysis new.stage q.1) (sym is) left.1;
+      }
+  replied s new change (Err fault) p r is leaves told on = record { text = tt; state = tt }
+
+  -- the reply to a request that is refused
+  pub refused_reply : (s : steps.Session) (session : Session D A d a) (fault : Fault) (result : Result (CowStr Z) Fault) (r : requests.Request) → StandsFor session s → (OnOk result (steps.stage_step s.analysis s.stage r ≡ steps.refusing fault s.stage)) → IfOk result (λ text. cow_str_bytes text ≡ reply_text fault) → Replies session result (steps.step s (Some r))
+  refused_reply s session fault (Ok text) r stands is told = record {
+    text = told ∙ error_text fault ∙ ap (λ q. reply_of q.0) (sym is);
+    state = subst (λ (q : json.Data × steps.Stage). HasStage a.knows_name a.analyze s.analysis session.stage q.1) (sym is) stands;
+  }
+  refused_reply s session fault (Err e) r stands is told = record { text = tt; state = tt }
+
+  -- the reply where nothing is asked for
+  pub unasked_reply : (s : steps.Session) (session : Session D A d a) (o : Option requests.Request) (text : CowStr Z) → None ≡ o → StandsFor session s → cow_str_bytes text ≡ reply_text faults.BadRequest → Replies session (Ok text) (steps.step s o)
+  unasked_reply s session o text is stands told = subst (λ (q : Option requests.Request). Replies session (Ok text) (steps.step s q)) is (record { text = told ∙ error_text faults.BadRequest; state = stands })
+
+-- what is asked of the index that stands
+module _ {D A Z : Type 0} {d : devices.Ghosts D} (knows : A → List ℕ → Bool) (analyze : A → Analyzer) where
+  pub index_left : (s : steps.Session) (old new : Index D A d) (r : IndexRequest) (result : Result (CowStr Z) Fault) → HasStage knows analyze s.analysis (Some (Standing old)) s.stage
+      → ((c : calls.Configuration) (x : calls.Index) → Stands analyze old.collection c x → Answers analyze new.collection c x (index_request_of r) result)
+      → IsMadeAlike old.collection new.collection
+      → ((c : calls.Configuration) (x : calls.Index) → Stands analyze old.collection c x → OnOk result ((x.status ≡ calls.ready) ⊎ (new.file.device ≡ old.file.device)))
+      → IfOk result (λ text. cow_str_bytes text ≡ reply_of ((steps.step s (Some (index_request_of r))).0)) × OnOk result (HasStage knows analyze s.analysis (Some (Standing new)) ((steps.step s (Some (index_request_of r))).1.stage))
+  index_left s old new r (Err fault) stands answered made kept = (tt, tt)
+  index_left s old new r (Ok text) stands answered made kept = at s.stage stands
+    where
+      at : (stage : steps.Stage) → HasStage knows analyze s.analysis (Some (Standing old)) stage → (cow_str_bytes text ≡ reply_of ((steps.stage_step s.analysis stage (index_request_of r)).0)) × HasStage knows analyze s.analysis (Some (Standing new)) ((steps.stage_step s.analysis stage (index_request_of r)).1)
+      at (steps.no_index held) h = absurd h
+      at (steps.index_of fields numbers x) h =
+          let c = steps.configuration_of fields s.analysis.analyze numbers in
+          let is = asked_step s.analysis (steps.index_of fields numbers x) r in
+          let told = answered c x h.stands in
+          let index : IsIndex knows analyze s.analysis new fields numbers ((steps.index_step c x (index_request_of r)).1) = record {
+            analysis = h.analysis ∙ ap (analysis_of knows analyze) (sym made.analyzer);
+            fields = made.schema ∙ h.fields;
+            numbers = made.settings ∙ h.numbers;
+            stands = told.state;
+            known = known_after d.honest d.content old.file.device new.file.device c fields numbers x r (kept c x h.stands) h.known;
+          } in
+          (told.text ∙ ap (λ q. reply_of q.0) (sym is), subst (λ (q : json.Data × steps.Stage). HasStage knows analyze s.analysis (Some (Standing new)) q.1) (sym is) index)
+
+-- none stands to be asked
+pub none_asked : {D A : Type 0} (d : devices.Ghosts D) (knows : A → List ℕ → Bool) (analyze : A → Analyzer) (a : steps.Analysis) (stage : steps.Stage) (device : D) (analyzer : A) (r : IndexRequest) → HasStage {d = d} knows analyze a (Some (Spare device analyzer)) stage → steps.stage_step a stage (index_request_of r) ≡ steps.refusing faults.NotOpen stage
+none_asked d knows analyze a (steps.no_index held) device analyzer r h = asked_step a (steps.no_index held) r
+none_asked d knows analyze a (steps.index_of fields numbers x) device analyzer r h = absurd h
+
+-- ---- a line
 
 -- a line of a text asks for what its value does
 pub line_asks : (line : List ℕ) (found : Option json.Data) → IsUtf8 line → found ≡ read line → steps.line_request line ≡ option_and_then built_request_in found
 line_asks line found utf8 is = ap (λ b. option_and_then built_request_in (cond b (read line) None)) (is_utf8-from_IsUtf8 line utf8) ∙ ap (λ o. option_and_then built_request_in o) (sym is)
 
--- the reply to a request that is refused
-pub refusal_answered : {A Z : Type 0} (analyze : A → Analyzer) (index : Index A) (c : calls.Configuration) (x : calls.Index) (r : requests.Request) (fault : Fault) (result : Result (CowStr Z) Fault) → Stands analyze index c x → (fault ≢ faults.OutOfMemory → steps.index_step c x r ≡ steps.refusing fault x) → IfOk result (λ text. cow_str_bytes text ≡ reply_text fault) → OnOk result (fault ≢ faults.OutOfMemory) → Answers analyze index c x r result
-refusal_answered analyze index c x r fault (Ok text) s refused told other =
-    let step = refused other in
-    record {
-      text = told ∙ error_text fault ∙ ap (λ p. reply_of p.0) (sym step);
-      state = subst (λ p. Stands analyze index c p.1) (sym step) s;
-    }
-refusal_answered analyze index c x r fault (Err e) s refused told other = record { text = tt; state = tt }
-
--- the reply to a request that changes nothing
-pub text_answered : {A Z : Type 0} (analyze : A → Analyzer) (index : Index A) (c : calls.Configuration) (x : calls.Index) (r : requests.Request) (d : json.Data) (text : CowStr Z) → Stands analyze index c x → steps.index_step c x r ≡ (d, x) → cow_str_bytes text ≡ reply_of d → Answers analyze index c x r (Ok text)
-text_answered analyze index c x r d text s step told = record {
-  text = told ∙ ap (λ p. reply_of p.0) (sym step);
-  state = subst (λ p. Stands analyze index c p.1) (sym step) s;
-}
-
--- the reply to a request that changes something
-pub change_answers : {A Z : Type 0} (analyze : A → Analyzer) (new : Index A) (c : calls.Configuration) (x : calls.Index) (r : requests.Request) (call : calls.Call) (change : Result ⊤ Fault) (result : Result (CowStr Z) Fault) → steps.call_in c.schema r ≡ Ok call → steps.answer_reply c x.state call ≡ ok_reply → (y : calls.Index) × calls.Leaves c x call change y × Stands analyze new c y → IfErr change (λ fault. fault ≢ faults.OutOfMemory → calls.call_fault c x call ≡ Some fault) → IfOk result (λ text. cow_str_bytes text ≡ change_text change) → OnOk result (change ≢ Err faults.OutOfMemory) → Answers analyze new c x r result
-change_answers analyze new c x r call change (Ok text) read ok left exact told other =
-    let both = change_answered analyze new c x r call change read ok left exact other in
-    record { text = told ∙ both.0; state = both.1 }
-change_answers analyze new c x r call change (Err e) read ok left exact told other = record { text = tt; state = tt }
+-- the reply where nothing is asked for
+pub unasked_text : (s : steps.Session) (o : Option requests.Request) → None ≡ o → reply_text faults.BadRequest ≡ reply_of ((steps.step s o).0)
+unasked_text s o h = error_text faults.BadRequest ∙ ap (λ q. reply_of ((steps.step s q).0)) h

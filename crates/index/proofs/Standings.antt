@@ -17,21 +17,22 @@ use Rattle.definitions.specs.declared.fault.Fault.{Fault}
 use Rattle.definitions.specs.declared.fault.Fault.TheVariants as faults
 use Rattle.definitions.proofs.Histories.{committed-commit}
 use Rattle.index.specs.Accepting.{Accepts, IsMadeAlike, Stops, Waits}
-use Rattle.index.specs.Documents.{document_of}
-use Rattle.index.specs.Hits.{Describe, documents_of}
-use Rattle.index.specs.IndexedDocs.{Describes, HasBuiltKinds}
+use Rattle.plain.specs.Documents.{document_of}
+use Rattle.plain.specs.Hits.{Describe, documents_of}
+use Rattle.plain.specs.IndexedDocs.{Describes}
+use Rattle.definitions.specs.Making.{HasBuiltKinds}
 use Rattle.index.specs.Standing.{Stands, status_of}
-use Rattle.index.specs.declared.index.Index.{Index}
-use Rattle.index.specs.declared.plain.indexed_doc.IndexedDoc.{IndexedDoc}
-use Rattle.index.specs.declared.value.Value.{Value}
+use Rattle.index.specs.declared.collection.Collection.{Collection}
+use Rattle.plain.specs.declared.indexed_doc.IndexedDoc.{IndexedDoc}
+use Rattle.plain.specs.declared.value.Value.{Value}
 use Rattle.index.proofs.Faults.{memory_or_other}
-use Rattle.index.proofs.Filters.{filter-all}
-use Rattle.index.proofs.ReadDocs.{IsRead, fields_known, indexable_read}
-use Rattle.index.proofs.ScanSteps.{all_push}
+use Rattle.plain.proofs.Filters.{filter-all}
+use Rattle.plain.proofs.ReadDocs.{IsRead, fields_known, indexable_read}
+use Rattle.plain.proofs.ScanSteps.{all_push}
 
 -- ---- made of the same
 
-module _ {A : Type 0} (analyze : A → Analyzer) (old new : Index A) (alike : IsMadeAlike old new) where
+module _ {A : Type 0} (analyze : A → Analyzer) (old new : Collection A) (alike : IsMadeAlike old new) where
   -- what holds of what the index was made of holds of it still
   same_made : (P : Schema → A → Settings → Type 0) → P old.schema old.analyzer old.settings → P new.schema new.analyzer new.settings
   same_made P p = subst (λ s. P new.schema new.analyzer s) (sym alike.settings) (subst (λ a. P new.schema a old.settings) (sym alike.analyzer) (subst (λ s. P s old.analyzer old.settings) (sym alike.schema) p))
@@ -41,7 +42,7 @@ module _ {A : Type 0} (analyze : A → Analyzer) (old new : Index A) (alike : Is
     still_described docs d = same_made (λ schema analyzer settings. Describe schema (analyze analyzer) docs) d
 
     -- the same documents, with what waits and a status
-    stands_with : (y : calls.Index) → states.committed y.state ≡ documents_of new.docs.items → y.state.pending ≡ map states.added (documents_of new.pending.items) → y.status ≡ status_of new.status → Describe old.schema (analyze old.analyzer) new.docs.items → Describe old.schema (analyze old.analyzer) new.pending.items → Stands analyze new c y
+    pub stands_with : (y : calls.Index) → states.committed y.state ≡ documents_of new.docs.items → y.state.pending ≡ map states.added (documents_of new.pending.items) → y.status ≡ status_of new.status → Describe old.schema (analyze old.analyzer) new.docs.items → Describe old.schema (analyze old.analyzer) new.pending.items → Stands analyze new c y
     stands_with y seen waiting status docs pending = record {
       made = same_made (λ schema analyzer settings. c ≡ configuration_of schema (analyze analyzer) settings) s.made;
       seen = seen;
@@ -99,7 +100,7 @@ all_live schema analyze (doc ∷ docs) =
     ∙ ap (λ ds. doc ∷ ds) (all_live schema analyze docs)
 
 -- without deletions a commit appends what waits
-committed_added : (schema : Schema) (analyze : Analyzer) (n : ℕ) (s : states.State) (docs : List Document) → 1 ≤ n → s.pending ≡ map states.added docs → states.committed (states.after_commit schema analyze n s) ≡ states.committed s ++ docs
+pub committed_added : (schema : Schema) (analyze : Analyzer) (n : ℕ) (s : states.State) (docs : List Document) → 1 ≤ n → s.pending ≡ map states.added docs → states.committed (states.after_commit schema analyze n s) ≡ states.committed s ++ docs
 committed_added schema analyze n s docs one waiting =
     committed-commit schema analyze n s one
     ∙ ap (λ ps. filter (states.is_left schema analyze (states.deleted_terms ps)) (states.committed s) ++ states.living (states.marked schema analyze ps)) waiting
@@ -107,12 +108,12 @@ committed_added schema analyze n s docs one waiting =
     ∙ ap (λ ds. ds ++ states.living (states.marked schema analyze (map states.added docs))) (filter-all (states.is_left schema analyze []) (states.committed s) (is_left_all schema analyze (states.committed s)))
     ∙ ap (λ ds. states.committed s ++ ds) (all_live schema analyze docs)
 
-all_both : {X : Type 0} (P : X → Type 0) (xs ys : List X) → AllByRecursion P xs → AllByRecursion P ys → AllByRecursion P (xs ++ ys)
+pub all_both : {X : Type 0} (P : X → Type 0) (xs ys : List X) → AllByRecursion P xs → AllByRecursion P ys → AllByRecursion P (xs ++ ys)
 all_both P [] ys h k = k
 all_both P (x ∷ xs) ys h k = (h.0, all_both P xs ys h.1 k)
 
 -- what waited is committed
-pub stands_committed : {A : Type 0} (analyze : A → Analyzer) (old new : Index A) → IsMadeAlike old new → (c : calls.Configuration) (x : calls.Index) → Stands analyze old c x → new.docs.items ≡ old.docs.items ++ old.pending.items → new.pending.items ≡ [] → new.status ≡ old.status → Stands analyze new c (record { state = calls.after c x.state calls.commit_pending; status = x.status })
+pub stands_committed : {A : Type 0} (analyze : A → Analyzer) (old new : Collection A) → IsMadeAlike old new → (c : calls.Configuration) (x : calls.Index) → Stands analyze old c x → new.docs.items ≡ old.docs.items ++ old.pending.items → new.pending.items ≡ [] → new.status ≡ old.status → Stands analyze new c (record { state = calls.after c x.state calls.commit_pending; status = x.status })
 stands_committed analyze old new alike c x s docs pending status =
     let n : c.docs_per_segment ≡ old.settings.docs_per_segment = ap (λ k. k.docs_per_segment) s.made in
     stands_with analyze old new alike c x s (record { state = calls.after c x.state calls.commit_pending; status = x.status })
@@ -148,7 +149,7 @@ refused_add c x call r fault is a adds = ⊎_elim
     (memory_or_other fault)
 
 -- an add that is taken leaves one document more, or a writer that is closed
-pub added_or_stopped : {A : Type 0} (analyze : A → Analyzer) (old new : Index A) (c : calls.Configuration) (x : calls.Index) (call : calls.Call) (values : List (ℕ × Value)) (result : Result ⊤ Fault) → Stands analyze old c x → IsMadeAlike old new → new.docs.items ≡ old.docs.items → calls.is_add call ≡ true → calls.call_fault c x call ≡ None → calls.after c x.state call ≡ states.after_add (document_of values) x.state → AllByRecursion (λ p. p.0 < length old.schema) values → OnOk result (Waits analyze old new values) → OnErr result (Stops old new) → IfErr result (λ fault. fault ≡ faults.OutOfMemory) → (y : calls.Index) × calls.Leaves c x call result y × Stands analyze new c y
+pub added_or_stopped : {A : Type 0} (analyze : A → Analyzer) (old new : Collection A) (c : calls.Configuration) (x : calls.Index) (call : calls.Call) (values : List (ℕ × Value)) (result : Result ⊤ Fault) → Stands analyze old c x → IsMadeAlike old new → new.docs.items ≡ old.docs.items → calls.is_add call ≡ true → calls.call_fault c x call ≡ None → calls.after c x.state call ≡ states.after_add (document_of values) x.state → AllByRecursion (λ p. p.0 < length old.schema) values → OnOk result (Waits analyze old new values) → OnErr result (Stops old new) → IfErr result (λ fault. fault ≡ faults.OutOfMemory) → (y : calls.Index) × calls.Leaves c x call result y × Stands analyze new c y
 added_or_stopped analyze old new c x call values (Ok u) s alike docs adds accepted after known ok err memory =
     (record { state = calls.after c x.state call; status = x.status }, calls.answered accepted, subst (λ t. Stands analyze new c (record { state = t; status = x.status })) (sym after) (stands_added analyze old new alike c x s values known docs ok))
 added_or_stopped analyze old new c x call values (Err fault) s alike docs adds accepted after known ok err memory =

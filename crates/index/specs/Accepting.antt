@@ -7,12 +7,12 @@ use Rattle.definitions.specs.Calls as calls
 use Rattle.definitions.specs.State.{after_add}
 use Rattle.definitions.specs.declared.fault.Fault.{Fault}
 use Rattle.definitions.specs.declared.fault.Fault.TheVariants as faults
-use Rattle.index.specs.Documents.{document_of}
-use Rattle.index.specs.IndexedDocs.{IsIndexed}
-use Rattle.index.specs.declared.index.Index.{Index}
-use Rattle.index.specs.declared.index.Status.TheVariants as status
-use Rattle.index.specs.declared.plain.indexed_doc.IndexedDoc.{IndexedDoc}
-use Rattle.index.specs.declared.value.Value.{Value}
+use Rattle.plain.specs.Documents.{document_of}
+use Rattle.plain.specs.IndexedDocs.{IsIndexed}
+use Rattle.index.specs.declared.collection.Collection.{Collection}
+use Rattle.index.specs.declared.collection.Status.TheVariants as status
+use Rattle.plain.specs.declared.indexed_doc.IndexedDoc.{IndexedDoc}
+use Rattle.plain.specs.declared.value.Value.{Value}
 
 -- the call adds these values, or it is refused so
 pub record Accepts (c : calls.Configuration) (x : calls.Index) (call : calls.Call) (result : Result (Vec (ℕ × Value) Global) Fault) : Type 0 where
@@ -22,13 +22,13 @@ pub record Accepts (c : calls.Configuration) (x : calls.Index) (call : calls.Cal
   pub unrefused : IfErr result (λ fault. fault ≡ faults.OutOfMemory → calls.status_fault x.status call ≡ None)
 
 -- made of the same schema, analyzer and settings
-pub record IsMadeAlike {A : Type 0} (old new : Index A) : Type 0 where
+pub record IsMadeAlike {A : Type 0} (old new : Collection A) : Type 0 where
   pub analyzer : new.analyzer ≡ old.analyzer
   pub schema : new.schema ≡ old.schema
   pub settings : new.settings ≡ old.settings
 
 -- one document more waits
-pub record Waits {A : Type 0} (analyze : A → Analyzer) (old new : Index A) (values : List (ℕ × Value)) : Type 0 where
+pub record Waits {A : Type 0} (analyze : A → Analyzer) (old new : Collection A) (values : List (ℕ × Value)) : Type 0 where
   pub doc : IndexedDoc
   pub values_kept : doc.values.items ≡ values
   pub terms : IsIndexed old.schema (analyze old.analyzer) doc
@@ -36,6 +36,13 @@ pub record Waits {A : Type 0} (analyze : A → Analyzer) (old new : Index A) (va
   pub status : new.status ≡ old.status
 
 -- no more changes are taken, and those that wait do so
-pub record Stops {A : Type 0} (old new : Index A) : Type 0 where
+pub record Stops {A : Type 0} (old new : Collection A) : Type 0 where
   pub pending : new.pending.items ≡ old.pending.items
   pub status : new.status ≡ status.WriterClosed
+
+-- what was committed and what waits is as it was
+pub record IsKept {A : Type 0} (old new : Collection A) : Type 0 where
+  pub made : IsMadeAlike old new
+  pub docs : new.docs.items ≡ old.docs.items
+  pub pending : new.pending.items ≡ old.pending.items
+  pub status : new.status ≡ old.status

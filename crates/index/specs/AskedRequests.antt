@@ -1,12 +1,21 @@
 -- Requests as the definitions have them.
+use Rattle.std.specs.Prelude.{option_map}
 use Rattle.definitions.specs.Requests as definitions
+use Rattle.index.specs.declared.requests.IndexRequest.{IndexRequest}
+use Rattle.index.specs.declared.requests.IndexRequest.TheVariants.{Add, Commit, Count, Search}
 use Rattle.index.specs.declared.requests.Request.{Request}
-use Rattle.index.specs.declared.requests.Request.TheVariants.{Add, Commit, Count, Search}
+use Rattle.index.specs.declared.requests.Request.TheVariants.{Create, Index, Open}
 use Rattle.serde_json.specs.View.{view}
+
+-- what is asked of an index
+abbrev pub index_request_of : IndexRequest → definitions.Request
+index_request_of (Add doc) = definitions.add_doc (view doc.now)
+index_request_of Commit = definitions.commit_all
+index_request_of (Search query k) = definitions.search_docs (view query.now) k
+index_request_of (Count query) = definitions.count_docs (view query.now)
 
 -- what a request that was read asks for
 abbrev pub request_of : Request → definitions.Request
-request_of (Add doc) = definitions.add_doc (view doc.now)
-request_of Commit = definitions.commit_all
-request_of (Search query k) = definitions.search_docs (view query.now) k
-request_of (Count query) = definitions.count_docs (view query.now)
+request_of (Create schema settings) = definitions.create_index (view schema.now) (option_map (λ d. view d.now) settings)
+request_of Open = definitions.open_index
+request_of (Index request) = index_request_of request

@@ -1,19 +1,11 @@
 -- What the index keeps, as the definitions have it.
-pub mod Documents
-pub mod Queries
-pub mod QueryDepths
-pub mod QueryCodes
-pub mod Tallies
-pub mod Ranges
 pub mod BuiltQueries
 pub mod QueryNames
-pub mod ValueCodes
-pub mod NamedDocs
-pub mod IndexedDocs
-pub mod Hits
-pub mod Weights
-pub mod Making
 pub mod Standing
 pub mod Accepting
+pub mod Files
+pub mod Contents
+pub mod FirstBodies
 pub mod AskedRequests
+pub mod Replying
 pub mod Sessions

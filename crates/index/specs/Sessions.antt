@@ -1,29 +1,85 @@
 -- What a session stands for, and what it answers.
-use Rattle.std.specs.Prelude.{◌≡◌, Err, IfOk, List, None, Ok, OnOk, Result, Some, codes, ⊤, ℕ}
+use Rattle.std.specs.Prelude.{[], ⊤, ◌≡◌, ◌⊎◌, Bool, Err, IfOk, IsTrue, List, None, Ok, OnOk, Option, Result, Some, ℕ}
 use Rattle.std.specs.Cow.{cow_str_bytes}
 use Rattle.std.specs.declared.borrow.CowStr.{CowStr}
+use Rattle.common.specs.declared.analyzer.Analyzer as analyzers
+use Rattle.common.specs.declared.device.Device as devices
 use Rattle.definitions.specs.Analyzers.{Analyzer}
 use Rattle.definitions.specs.Calls as calls
-use Rattle.definitions.specs.FaultNames.{reply_text}
 use Rattle.definitions.specs.Replies.{reply_of}
-use Rattle.definitions.specs.Requests as requests
+use Rattle.definitions.specs.Schema.{Schema}
+use Rattle.definitions.specs.Settings.{Settings}
+use Rattle.definitions.specs.State.{committed}
 use Rattle.definitions.specs.Step as steps
 use Rattle.definitions.specs.declared.fault.Fault.{Fault}
+use Rattle.index.specs.Files.{IsFileOf}
+use Rattle.index.specs.Replying.{GoesOn, change_text}
 use Rattle.index.specs.Standing.{Stands}
 use Rattle.index.specs.declared.index.Index.{Index}
-use Rattle.index.specs.declared.session.Session.{Session}
+use Rattle.index.specs.declared.index.Refused.{Refused}
+use Rattle.index.specs.declared.stage.Session.{Session}
+use Rattle.index.specs.declared.stage.Stage.{Stage}
+use Rattle.index.specs.declared.stage.Stage.TheVariants.{Spare, Standing}
+use Rattle.serde_json.specs.Data as json
 
--- the index of the session stands for that of the state
-abbrev pub StandsFor : {A : Type 0} → (A → Analyzer) → Session A → steps.Session → Type 0
-StandsFor analyze session None = ⊥
-StandsFor analyze session (Some p) = Stands analyze session.index p.0 p.1
+-- an honest device that holds this
+abbrev pub HasHeld : {D : Type 0} → (D → Bool) → (D → List ℕ) → D → steps.Held → Type 0
+HasHeld honest content device steps.no_file = IsTrue (honest device) × (content device ≡ [])
+HasHeld honest content device (steps.file_of schema settings docs) = IsTrue (honest device) × IsFileOf schema settings docs (content device)
 
--- the reply to a change
-abbrev pub change_text : Result ⊤ Fault → List ℕ
-change_text (Ok u) = codes "{\"ok\":true}"
-change_text (Err fault) = reply_text fault
+-- what an analyzer knows, and how it cuts a text
+abbrev pub analysis_of : {A : Type 0} → (A → List ℕ → Bool) → (A → Analyzer) → A → steps.Analysis
+analysis_of knows analyze analyzer = record { knows = knows analyzer; analyze = analyze analyzer }
 
--- the text is the definitions' reply, and the index stands for what comes after
-pub record Answers {A Z : Type 0} (analyze : A → Analyzer) (new : Index A) (c : calls.Configuration) (x : calls.Index) (r : requests.Request) (result : Result (CowStr Z) Fault) : Type 0 where
-  pub text : IfOk result (λ text. cow_str_bytes text ≡ reply_of ((steps.index_step c x r).0))
-  pub state : OnOk result (Stands analyze new c ((steps.index_step c x r).1))
+-- a session in which no index stands, over a device that holds this
+abbrev pub session_on : steps.Analysis → steps.Held → steps.Session
+session_on a held = record { analysis = a; stage = steps.no_index held }
+
+-- a session in which an index stands
+abbrev pub session_of : steps.Analysis → Schema → Settings → calls.Index → steps.Session
+session_of a schema settings x = record { analysis = a; stage = steps.index_of schema settings x }
+
+-- an index is ready, or else it is known by the file of its device, which says what is committed
+abbrev pub IsKnown : {D : Type 0} → (D → Bool) → (D → List ℕ) → D → Schema → Settings → calls.Index → Type 0
+IsKnown honest content device schema settings x = (x.status ≡ calls.ready) ⊎ HasHeld honest content device (steps.file_of schema settings (committed x.state))
+
+-- the device holds this, and the analyzer is the session's
+abbrev pub IsSpare : {D A : Type 0} → (D → Bool) → (D → List ℕ) → (A → List ℕ → Bool) → (A → Analyzer) → steps.Analysis → D → A → steps.Held → Type 0
+IsSpare honest content knows analyze a device analyzer held = (a ≡ analysis_of knows analyze analyzer) × HasHeld honest content device held
+
+module _ {D A : Type 0} {d : devices.Ghosts D} (knows : A → List ℕ → Bool) (analyze : A → Analyzer) where
+  -- the index is made of these, and stands for this one
+  pub record IsIndex (a : steps.Analysis) (index : Index D A d) (schema : Schema) (settings : Settings) (x : calls.Index) : Type 0 where
+    pub analysis : a ≡ analysis_of knows analyze index.collection.analyzer
+    pub fields : index.collection.schema ≡ schema
+    pub numbers : index.collection.settings ≡ settings
+    pub stands : Stands analyze index.collection (steps.configuration_of schema a.analyze settings) x
+    pub known : IsKnown d.honest d.content index.file.device schema settings x
+
+  abbrev pub IsStage : steps.Analysis → Stage D A d → steps.Stage → Type 0
+  IsStage a (Spare device analyzer) (steps.no_index held) = IsSpare d.honest d.content knows analyze a device analyzer held
+  IsStage a (Spare device analyzer) (steps.index_of schema settings x) = ⊥
+  IsStage a (Standing index) (steps.no_index held) = ⊥
+  IsStage a (Standing index) (steps.index_of schema settings x) = IsIndex a index schema settings x
+
+  abbrev pub HasStage : steps.Analysis → Option (Stage D A d) → steps.Stage → Type 0
+  HasStage a None s = ⊥
+  HasStage a (Some stage) s = IsStage a stage s
+
+  -- unless it met a fault that stops, the change is told by this reply, and this is what stands
+  abbrev pub LeavesStage : steps.Analysis → Option (Stage D A d) → Result ⊤ Fault → json.Data × steps.Stage → Type 0
+  LeavesStage a stage change p = GoesOn change → (change_text change ≡ reply_of p.0) × HasStage a stage p.1
+
+-- what stands after an index was to be made or opened, and whether it was
+abbrev pub left_by : {D A : Type 0} {d : devices.Ghosts D} → Result (Index D A d) (Refused D A) → Stage D A d × Result ⊤ Fault
+left_by (Ok index) = (Standing index, Ok tt)
+left_by (Err refused) = (Spare refused.device refused.analyzer, Err refused.fault)
+
+-- the session has the analyzer, and what it has stands for this
+abbrev pub StandsFor : {D A : Type 0} {d : devices.Ghosts D} {a : analyzers.Ghosts A} → Session D A d a → steps.Session → Type 0
+StandsFor {a = a} session s = HasStage a.knows_name a.analyze s.analysis session.stage s.stage
+
+-- the text is the definitions' reply, and the session stands for what comes after
+pub record Replies {D A Z : Type 0} {d : devices.Ghosts D} {a : analyzers.Ghosts A} (new : Session D A d a) (result : Result (CowStr Z) Fault) (p : json.Data × steps.Session) : Type 0 where
+  pub text : IfOk result (λ text. cow_str_bytes text ≡ reply_of p.0)
+  pub state : OnOk result (StandsFor new p.1)

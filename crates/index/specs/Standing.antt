@@ -5,11 +5,11 @@ use Rattle.definitions.specs.Calls as calls
 use Rattle.definitions.specs.Schema.{max_fields}
 use Rattle.definitions.specs.State as states
 use Rattle.definitions.specs.Step.{configuration_of}
-use Rattle.index.specs.Hits.{Describe, documents_of}
-use Rattle.index.specs.IndexedDocs.{HasBuiltKinds}
-use Rattle.index.specs.declared.index.Index.{Index}
-use Rattle.index.specs.declared.index.Status.{Status}
-use Rattle.index.specs.declared.index.Status.TheVariants as status
+use Rattle.plain.specs.Hits.{Describe, documents_of}
+use Rattle.definitions.specs.Making.{HasBuiltKinds}
+use Rattle.index.specs.declared.collection.Collection.{Collection}
+use Rattle.index.specs.declared.collection.Status.{Status}
+use Rattle.index.specs.declared.collection.Status.TheVariants as status
 
 abbrev pub status_of : Status → calls.Status
 status_of status.Ready = calls.ready
@@ -17,7 +17,7 @@ status_of status.WriterClosed = calls.writer_closed
 status_of status.Closed = calls.closed
 
 -- the index has this configuration, these documents committed, these waiting, and this status
-pub record Stands {A : Type 0} (analyze : A → Analyzer) (index : Index A) (c : calls.Configuration) (x : calls.Index) : Type 0 where
+pub record Stands {A : Type 0} (analyze : A → Analyzer) (index : Collection A) (c : calls.Configuration) (x : calls.Index) : Type 0 where
   pub made : c ≡ configuration_of index.schema (analyze index.analyzer) index.settings
   pub seen : states.committed x.state ≡ documents_of index.docs.items
   pub waiting : x.state.pending ≡ map states.added (documents_of index.pending.items)

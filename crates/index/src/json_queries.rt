@@ -3,26 +3,27 @@
 ghost use Rattle.std.specs.Prelude.{◌++◌, ◌<◌, ◌≡◌, ◌≢◌, IfErr, IfOk, List, None, OnOk, Some, codes, map, option_map, unwrap_or};
 ghost use Rattle.definitions.specs.Built.{built_query_in};
 ghost use Rattle.definitions.specs.Json as keys;
+ghost use Rattle.definitions.specs.Making.{HasBuiltKinds};
 ghost use Rattle.definitions.specs.Query.{no_queries};
 ghost use Rattle.definitions.specs.QueryGrammar as definitions;
 ghost use Rattle.definitions.specs.Schema.{with_freqs};
 ghost use Rattle.definitions.specs.declared.fault.Fault.TheVariants as faults;
 ghost use Rattle.index.specs.BuiltQueries as built;
 ghost use Rattle.index.specs.QueryNames.{form_of};
-ghost use Rattle.index.specs.Queries.{clauses_of, queries_of, query_of};
-ghost use Rattle.index.specs.declared.any_query.AnyQuery.{AnyQuery as AnyQueries};
+ghost use Rattle.plain.specs.Queries.{clauses_of, queries_of, query_of};
+ghost use Rattle.plain.specs.declared.any_query.AnyQuery.{AnyQuery as AnyQueries};
 ghost use Rattle.options.specs.RecordOption.{record_option_of};
 ghost use Rattle.serde_json.specs.Data.{Data, depth};
 ghost use Rattle.serde_json.specs.Find.{get};
 ghost use Rattle.serde_json.specs.View.{items_view, view};
 
-use crate::any_query::{AnyQuery, BooleanQuery, Occur, TermQuery};
-use crate::json_keys::{has_only, text_at};
-use crate::json_terms::term_beside;
 use definitions::Fault;
 use options::IndexRecordOption;
+use plain::{AnyQuery, BooleanQuery, Occur, TermQuery};
 use schema::Schema;
 use serde_json::Value as Json;
+use settings::json_keys::{has_only, text_at};
+use settings::term_beside;
 use std::alloc::Global;
 
 /// The forms of queries that are read.
@@ -37,6 +38,7 @@ enum Form {
 /// The query in a JSON object, whose key `q` names its form. The forms `all`, `none`, `term` and `bool` are read.
 #[cycle(read_query)]
 pub fn read_query(alloc: Global, schema: &Schema, json: &Json) -> Result<AnyQuery, Fault>
+    requires { HasBuiltKinds schema.now }
     ensures ok { IfOk result (λ query. built_query_in schema.now (view json.now) ≡ Some (query_of query)) }
     ensures err { IfErr result (λ fault. fault ≢ faults.OutOfMemory → (fault ≡ faults.BadQuery) × (built_query_in schema.now (view json.now) ≡ None)) }
 {
@@ -72,6 +74,7 @@ fn form_named(name: &str) -> Option<Form>
 /// The query of a form.
 #[cycle(read_query)]
 fn read_form(alloc: Global, schema: &Schema, form: Form, json: &Json) -> Result<AnyQuery, Fault>
+    requires { HasBuiltKinds schema.now }
     ensures ok { IfOk result (λ query. built.built_formed (form_of form) schema.now (view json.now) ≡ Some (query_of query)) }
     ensures err { IfErr result (λ fault. fault ≢ faults.OutOfMemory → (fault ≡ faults.BadQuery) × (built.built_formed (form_of form) schema.now (view json.now) ≡ None)) }
 {
@@ -108,6 +111,7 @@ fn read_empty_query(json: &Json) -> Result<AnyQuery, Fault>
 /// The query for clauses.
 #[cycle(read_query)]
 fn read_boolean_query(alloc: Global, schema: &Schema, json: &Json) -> Result<AnyQuery, Fault>
+    requires { HasBuiltKinds schema.now }
     ensures ok { IfOk result (λ query. definitions.bool_query (built.built_many_at schema.now (view json.now)) (view json.now) ≡ Some (query_of query)) }
     ensures err { IfErr result (λ fault. fault ≢ faults.OutOfMemory → (fault ≡ faults.BadQuery) × (definitions.bool_query (built.built_many_at schema.now (view json.now)) (view json.now) ≡ None)) }
 {
@@ -125,6 +129,7 @@ fn read_clauses(
     schema: &Schema,
     json: &Json,
 ) -> Result<Vec<(Occur, AnyQuery)>, Fault>
+    requires { HasBuiltKinds schema.now }
     ensures ok { IfOk result (λ clauses. definitions.clauses_at (built.built_many_at schema.now (view json.now)) ≡ Some (clauses_of clauses.items)) }
     ensures err { IfErr result (λ fault. fault ≢ faults.OutOfMemory → (fault ≡ faults.BadQuery) × (definitions.clauses_at (built.built_many_at schema.now (view json.now)) ≡ None)) }
 {
@@ -180,6 +185,7 @@ fn read_queries(
     occur: Occur,
     clauses: &mut Vec<(Occur, AnyQuery)>,
 ) -> Result<(), Fault>
+    requires { HasBuiltKinds schema.now }
     ensures ok { OnOk result ((queries : List AnyQueries)
         × (unwrap_or (built.built_many_at schema.now (view json.now) key.now) (Some no_queries) ≡ Some (queries_of queries))
         × (clauses.new.items ≡ clauses.old.items ++ map (λ q. (occur, q)) queries)) }
@@ -211,6 +217,7 @@ fn read_items(
     occur: Occur,
     clauses: &mut Vec<(Occur, AnyQuery)>,
 ) -> Result<(), Fault>
+    requires { HasBuiltKinds schema.now }
     ensures ok { OnOk result ((queries : List AnyQueries)
         × (built.built_items schema.now (items_view items.now) ≡ Some (queries_of queries))
         × (clauses.new.items ≡ clauses.old.items ++ map (λ q. (occur, q)) queries)) }
@@ -225,6 +232,7 @@ fn read_items(
 
 /// The query for a term. Counts are read where nothing else is said.
 fn read_term_query(alloc: Global, schema: &Schema, json: &Json) -> Result<AnyQuery, Fault>
+    requires { HasBuiltKinds schema.now }
     ensures ok { IfOk result (λ query. definitions.term_query schema.now (view json.now) ≡ Some (query_of query)) }
     ensures err { IfErr result (λ fault. fault ≢ faults.OutOfMemory → (fault ≡ faults.BadQuery) × (definitions.term_query schema.now (view json.now) ≡ None)) }
 {

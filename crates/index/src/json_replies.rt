@@ -4,13 +4,11 @@ ghost use Rattle.std.specs.Prelude.{◌≡◌, IfOk, List, map, string_bytes};
 ghost use Rattle.definitions.specs.Printed.{printed, printed_list, printed_named};
 ghost use Rattle.definitions.specs.Replies as definitions;
 ghost use Rattle.definitions.specs.Scanning as scanning;
-ghost use Rattle.index.specs.Documents.{value_of};
-ghost use Rattle.index.specs.Hits.{hit_of, scored, told};
+ghost use Rattle.plain.specs.Documents.{value_of};
+ghost use Rattle.plain.specs.Hits.{hit_of, scored, told};
 ghost use Rattle.serde_json.specs.View.{items_view, view};
 
-use crate::named_doc::NamedDoc;
-use crate::plain::Hit;
-use crate::value::Value;
+use plain::{Hit, NamedDoc, Value};
 use serde_json::{Map, Value as Json, json};
 use std::alloc::{AllocError, Global};
 

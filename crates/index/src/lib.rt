@@ -1,30 +1,24 @@
-//! The index: it takes documents, commits them, and answers searches as a plain scan would.
+//! The index: it takes documents, keeps each commit as a record of one file, and answers searches as a plain scan would.
 #![tactic(auto)]
 
-mod any_query;
-mod floats;
+mod answers;
+mod body_reader;
+mod collection;
+mod collection_calls;
+mod contents;
+pub mod file_laws;
 mod index;
-mod json_keys;
 mod json_queries;
 mod json_replies;
-mod json_settings;
-mod json_terms;
-mod length_ids;
-mod named_doc;
-mod plain;
-mod read_document;
+mod making;
 mod requests;
 mod session;
-mod settings;
-mod terms_to_json;
-mod value;
+mod stage;
 
-pub use any_query::{AnyQuery, BooleanQuery, Occur, TermQuery};
-pub use index::{Index, Status};
+pub use collection::Status;
+pub use index::{Index, Refused};
 pub use json_queries::read_query;
-pub use json_terms::read_term;
-pub use named_doc::NamedDoc;
-pub use plain::Hit;
-pub use session::{Session, reply, run_session};
-pub use settings::Settings;
-pub use value::Value;
+pub use plain::{AnyQuery, BooleanQuery, Hit, NamedDoc, Occur, TermQuery, Value};
+pub use session::{reply, run, run_session};
+pub use settings::{Settings, has_built_kinds, read_term};
+pub use stage::Session;

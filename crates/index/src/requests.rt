@@ -6,12 +6,23 @@ ghost use Rattle.definitions.specs.Requests as definitions;
 ghost use Rattle.index.specs.AskedRequests.{request_of};
 ghost use Rattle.serde_json.specs.View.{view};
 
-use crate::json_keys::{has_only, number_at, text_at};
 use serde_json::Value as Json;
+use settings::json_keys::{has_only, number_at, text_at};
 
-/// What a request asks for, with its document or its query as it was sent.
+/// What a request asks for, with what it is about as it was sent.
 #[derive(Clone, Copy)]
 pub(crate) enum Request<'a> {
+    /// That an index be made of a schema and, where they are given, settings.
+    Create(&'a Json, Option<&'a Json>),
+    /// That the index of the device's file be opened.
+    Open,
+    /// Something of the index that stands.
+    Index(IndexRequest<'a>),
+}
+
+/// What is asked of the index that stands.
+#[derive(Clone, Copy)]
+pub(crate) enum IndexRequest<'a> {
     /// That a document be added.
     Add(&'a Json),
     /// That all that waits be seen.
@@ -22,18 +33,41 @@ pub(crate) enum Request<'a> {
     Count(&'a Json),
 }
 
-/// The request in a JSON object, whose key `op` names it. These four are the only ones that are read.
+/// The request in a JSON object, whose key `op` names it. These six are the only ones that are read.
 #[tactic(auto, using(crate::proofs::RequestForms::built_by_name))]
 pub(crate) fn request_in(value: &Json) -> Option<Request<'_>>
     ensures { option_map request_of result ≡ built_request_in (view value.now) }
 {
     match text_at(value, "op")? {
+        "create" => create_in(value),
+        "open" => open_in(value),
         "add" => add_in(value),
         "commit" => commit_in(value),
         "search" => search_in(value),
         "count" => count_in(value),
         _ => None,
     }
+}
+
+/// The request for an index to be made.
+fn create_in(value: &Json) -> Option<Request<'_>>
+    ensures { option_map request_of result ≡ definitions.create_request (view value.now) }
+{
+    if !has_only(value, &["op", "schema", "settings"]) {
+        return None;
+    }
+    let schema = value.get("schema")?;
+    Some(Request::Create(schema, value.get("settings")))
+}
+
+/// The request for an index to be opened.
+fn open_in(value: &Json) -> Option<Request<'_>>
+    ensures { option_map request_of result ≡ definitions.open_request (view value.now) }
+{
+    if !has_only(value, &["op"]) {
+        return None;
+    }
+    Some(Request::Open)
 }
 
 /// The request for a document to be added.
@@ -43,7 +77,7 @@ fn add_in(value: &Json) -> Option<Request<'_>>
     if !has_only(value, &["op", "doc"]) {
         return None;
     }
-    Some(Request::Add(value.get("doc")?))
+    Some(Request::Index(IndexRequest::Add(value.get("doc")?)))
 }
 
 /// The request for a commit.
@@ -53,7 +87,7 @@ fn commit_in(value: &Json) -> Option<Request<'_>>
     if !has_only(value, &["op"]) {
         return None;
     }
-    Some(Request::Commit)
+    Some(Request::Index(IndexRequest::Commit))
 }
 
 /// The request for the best documents.
@@ -64,7 +98,8 @@ fn search_in(value: &Json) -> Option<Request<'_>>
         return None;
     }
     let query = value.get("query")?;
-    Some(Request::Search(query, number_at(value, "k")?))
+    let k = number_at(value, "k")?;
+    Some(Request::Index(IndexRequest::Search(query, k)))
 }
 
 /// The request for a count.
@@ -74,5 +109,5 @@ fn count_in(value: &Json) -> Option<Request<'_>>
     if !has_only(value, &["op", "query"]) {
         return None;
     }
-    Some(Request::Count(value.get("query")?))
+    Some(Request::Index(IndexRequest::Count(value.get("query")?)))
 }

@@ -1,58 +1,60 @@
-//! A session: an index that lines of JSON speak to.
+//! A session: lines of JSON that speak to the index of a device.
 
-ghost use Rattle.std.specs.Prelude.{◌≡◌, ◌≢◌, Err, IfErr, IfOk, IfSome, IsTrue, List, OnOk, Some, map, option_map, ℕ};
+ghost use Rattle.std.specs.Prelude.{◌≡◌, IfErr, IfOk, IfSome, IsTrue, List, OnOk, Some, false, option_map, ℕ};
 ghost use Rattle.std.specs.Cow.{cow_str_bytes};
-ghost use Rattle.definitions.specs.Calls as calls;
-ghost use Rattle.definitions.specs.FaultNames.{reply_text};
-ghost use Rattle.definitions.specs.Lines.{lines_of};
 ghost use Rattle.definitions.specs.Built.{built_request_in};
-ghost use Rattle.definitions.specs.Replies.{count_reply, hits_reply, reply_of};
-ghost use Rattle.serde_json.specs.Read.{read};
+ghost use Rattle.definitions.specs.Calls as calls;
+ghost use Rattle.definitions.specs.Lines.{lines_of};
 ghost use Rattle.definitions.specs.Requests as requests;
-ghost use Rattle.definitions.specs.Scanning as scanning;
 ghost use Rattle.definitions.specs.Step as steps;
-ghost use Rattle.definitions.specs.declared.fault.Fault.TheVariants as faults;
-ghost use Rattle.relay.specs.Replies.{Writes, stops};
-ghost use Rattle.index.specs.AskedRequests.{request_of};
-ghost use Rattle.index.specs.Hits.{hit_of, scored};
-ghost use Rattle.index.specs.Sessions.{Answers, StandsFor, change_text};
+ghost use Rattle.index.specs.AskedRequests.{index_request_of, request_of};
+ghost use Rattle.index.specs.Sessions.{HasHeld, IsKnown, LeavesStage, Replies, StandsFor, analysis_of, session_of, session_on};
 ghost use Rattle.index.specs.Standing.{Stands};
+ghost use Rattle.relay.specs.Replies.{Writes, stops};
+ghost use Rattle.serde_json.specs.Read.{read};
 ghost use Rattle.serde_json.specs.View.{view};
 
+use crate::answers::{answer, answer_change, refusal};
 use crate::index::Index;
-use crate::json_queries::read_query;
-use crate::json_replies::{count_text, hits_text};
-use crate::plain::Hit;
-use crate::requests::{Request, request_in};
-use common::{Analyzer, RunFault};
+use crate::making::read_making;
+use crate::requests::{IndexRequest, Request, request_in};
+use crate::stage::{Session, Stage};
+use common::{Analyzer, Device, RunFault};
 use definitions::Fault;
-use relay::{Service, run};
+use relay::Service;
+use schema::Schema;
 use serde_json::Value as Json;
+use settings::Settings;
 use std::alloc::{AllocError, Global};
 use std::borrow::CowStr;
 use std::io::{BufRead, Write};
 
-/// What is replied to a request that changed something.
-const OK_REPLY: &str = "{\"ok\":true}";
-
-/// An index that requests are made of, line by line.
-#[derive(Drop)]
-pub struct Session<A: Analyzer> {
-    pub(crate) index: Index<A>,
-}
-
-impl<A: Analyzer + Drop> Session<A> {
-    /// A session in which this index stands.
-    pub fn with_index(index: Index<A>) -> Session<A>
-        ensures { (c : calls.Configuration) (x : calls.Index) → Stands A.analyze index c x → StandsFor A.analyze result (Some (c, x)) }
+impl<D: Device + Drop, A: Analyzer + Drop> Session<D, A> {
+    /// A session over a device, in which no index stands.
+    pub fn new(alloc: Global, device: D, analyzer: A) -> Session<D, A>
+        ensures { (held : steps.Held) → HasHeld D.honest D.content device held → StandsFor result (session_on (analysis_of A.knows_name A.analyze analyzer) held) }
     {
-        Session { index }
+        Session {
+            alloc,
+            stage: Some(Stage::Spare(device, analyzer)),
+        }
+    }
+
+    /// A session in which this index stands.
+    pub fn with_index(index: Index<D, A>) -> Session<D, A>
+        ensures { (x : calls.Index) → Stands A.analyze index.collection (steps.configuration_of index.collection.schema (A.analyze index.collection.analyzer) index.collection.settings) x
+            → IsKnown D.honest D.content index.file.device index.collection.schema index.collection.settings x
+            → StandsFor result (session_of (analysis_of A.knows_name A.analyze index.collection.analyzer) index.collection.schema index.collection.settings x) }
+    {
+        Session {
+            alloc: index.collection.alloc,
+            stage: Some(Stage::Standing(index)),
+        }
     }
 
     /// Does what a value asks for.
     fn answer_value(&mut self, json: &Json) -> Result<CowStr<'static>, Fault>
-        ensures text { (s : steps.Session) → StandsFor A.analyze self.old s → IfOk result (λ text. cow_str_bytes text ≡ reply_of ((steps.step s (built_request_in (view json.now))).0)) }
-        ensures state { (s : steps.Session) → StandsFor A.analyze self.old s → OnOk result (StandsFor A.analyze self.new ((steps.step s (built_request_in (view json.now))).1)) }
+        ensures answered { (s : steps.Session) → StandsFor self.old s → Replies self.new result (steps.step s (built_request_in (view json.now))) }
         ensures err { IfErr result (λ fault. IsTrue (stops fault)) }
     {
         match request_in(json) {
@@ -63,102 +65,104 @@ impl<A: Analyzer + Drop> Session<A> {
 
     /// Does what a request asks for.
     fn answer(&mut self, request: Request<'_>) -> Result<CowStr<'static>, Fault>
-        ensures answered { (c : calls.Configuration) (x : calls.Index) → Stands A.analyze self.old.index c x → Answers A.analyze self.new.index c x (request_of request.entry) result }
+        ensures answered { (s : steps.Session) → StandsFor self.old s → Replies self.new result (steps.step s (Some (request_of request.entry))) }
         ensures err { IfErr result (λ fault. IsTrue (stops fault)) }
     {
         match request {
-            Request::Add(doc) => answer_change(self.index.add_value(doc)),
-            Request::Commit => answer_change(self.index.commit()),
-            Request::Search(query, k) => self.search(query, k),
-            Request::Count(query) => self.count(query),
+            Request::Create(schema, settings) => self.create(schema, settings),
+            Request::Open => self.open(),
+            Request::Index(request) => self.ask(request),
         }
     }
 
-    /// The reply to a search.
-    fn search(&self, query: &Json, k: u64) -> Result<CowStr<'static>, Fault>
-        ensures answered { (c : calls.Configuration) (x : calls.Index) → Stands A.analyze self.now.index c x → Answers A.analyze self.now.index c x (requests.search_docs (view query.now) k) result }
+    /// Makes an index, unless one is ready.
+    fn create(&mut self, schema: &Json, settings: Option<&Json>) -> Result<CowStr<'static>, Fault>
+        ensures answered { (s : steps.Session) → StandsFor self.old s → Replies self.new result (steps.step s (Some (requests.create_index (view schema.now) (option_map (λ d. view d.now) settings.entry)))) }
         ensures err { IfErr result (λ fault. IsTrue (stops fault)) }
     {
-        match self.find(query, k) {
-            Ok(hits) => Ok(CowStr::Owned(hits_text(self.index.alloc, &hits)?)),
+        if self.is_ready() {
+            return Ok(CowStr::Borrowed(Fault::AlreadyOpen.reply()));
+        }
+        match read_making(self.alloc, schema, settings) {
+            Ok((schema, settings)) => answer_change(self.make(schema, settings)),
             Err(fault) => refusal(fault),
         }
     }
 
-    /// The reply to a count.
-    fn count(&self, query: &Json) -> Result<CowStr<'static>, Fault>
-        ensures answered { (c : calls.Configuration) (x : calls.Index) → Stands A.analyze self.now.index c x → Answers A.analyze self.now.index c x (requests.count_docs (view query.now)) result }
+    /// Opens the index of the device's file, unless one is ready.
+    fn open(&mut self) -> Result<CowStr<'static>, Fault>
+        ensures answered { (s : steps.Session) → StandsFor self.old s → Replies self.new result (steps.step s (Some requests.open_index)) }
         ensures err { IfErr result (λ fault. IsTrue (stops fault)) }
     {
-        match self.find_count(query) {
-            Ok(count) => Ok(CowStr::Owned(count_text(self.index.alloc, count)?)),
-            Err(fault) => refusal(fault),
+        if self.is_ready() {
+            return Ok(CowStr::Borrowed(Fault::AlreadyOpen.reply()));
+        }
+        answer_change(self.reopen())
+    }
+
+    /// Does what is asked of the index that stands.
+    fn ask(&mut self, request: IndexRequest<'_>) -> Result<CowStr<'static>, Fault>
+        ensures answered { (s : steps.Session) → StandsFor self.old s → Replies self.new result (steps.step s (Some (index_request_of request.entry))) }
+        ensures err { IfErr result (λ fault. IsTrue (stops fault)) }
+    {
+        match &mut self.stage {
+            Some(Stage::Standing(index)) => answer(index, request),
+            Some(Stage::Spare(_, _)) => Ok(CowStr::Borrowed(Fault::NotOpen.reply())),
+            None => unreachable!(),
         }
     }
 
-    /// The hits of a query that is read from JSON.
-    fn find(&self, query: &Json, k: u64) -> Result<Vec<Hit>, Fault>
-        ensures ok { (c : calls.Configuration) (x : calls.Index) → Stands A.analyze self.now.index c x → IfOk result (λ hits.
-            (hs : List scanning.Hit) × (map hit_of hits.items ≡ map scored hs) × (steps.index_step c x (requests.search_docs (view query.now) k) ≡ (hits_reply hs, x))) }
-        ensures err { (c : calls.Configuration) (x : calls.Index) → Stands A.analyze self.now.index c x → IfErr result (λ fault.
-            fault ≢ faults.OutOfMemory → steps.index_step c x (requests.search_docs (view query.now) k) ≡ steps.refusing fault x) }
+    /// Whether an index stands that takes every call.
+    fn is_ready(&self) -> bool
+        ensures { (s : steps.Session) → StandsFor self.now s → result ≡ steps.is_ready s.stage }
     {
-        self.index.check_open()?;
-        let query = read_query(self.index.alloc, &self.index.schema, query)?;
-        self.index.search(&query, k as usize)
+        match &self.stage {
+            Some(stage) => stage.is_ready(),
+            None => false,
+        }
     }
 
-    /// How many documents match a query that is read from JSON.
-    fn find_count(&self, query: &Json) -> Result<u64, Fault>
-        ensures ok { (c : calls.Configuration) (x : calls.Index) → Stands A.analyze self.now.index c x → IfOk result (λ count.
-            steps.index_step c x (requests.count_docs (view query.now)) ≡ (count_reply count, x)) }
-        ensures err { (c : calls.Configuration) (x : calls.Index) → Stands A.analyze self.now.index c x → IfErr result (λ fault.
-            fault ≢ faults.OutOfMemory → steps.index_step c x (requests.count_docs (view query.now)) ≡ steps.refusing fault x) }
+    /// Makes an index of these in place of what stands.
+    fn make(&mut self, schema: Schema, settings: Settings) -> Result<(), Fault>
+        ensures { (s : steps.Session) → StandsFor self.old s → steps.is_ready s.stage ≡ false
+            → LeavesStage A.knows_name A.analyze s.analysis self.new.stage result (steps.created s.analysis.knows schema settings (steps.held_by s.stage)) }
     {
-        self.index.check_open()?;
-        let query = read_query(self.index.alloc, &self.index.schema, query)?;
-        self.index.count(&query)
+        let Some(stage) = self.stage.take() else {
+            unreachable!();
+        };
+        let (stage, change) = stage.create(self.alloc, schema, settings);
+        self.stage = Some(stage);
+        change
+    }
+
+    /// Opens the index of the device's file in place of what stands.
+    fn reopen(&mut self) -> Result<(), Fault>
+        ensures { (s : steps.Session) → StandsFor self.old s → steps.is_ready s.stage ≡ false
+            → LeavesStage A.knows_name A.analyze s.analysis self.new.stage result (steps.opened s.analysis.knows (steps.held_by s.stage)) }
+    {
+        let Some(stage) = self.stage.take() else {
+            unreachable!();
+        };
+        let (stage, change) = stage.open(self.alloc);
+        self.stage = Some(stage);
+        change
     }
 }
 
-/// The reply to a call that changes something.
-fn answer_change(change: Result<(), Fault>) -> Result<CowStr<'static>, Fault>
-    ensures text { IfOk result (λ text. cow_str_bytes text ≡ change_text change) }
-    ensures other { OnOk result (change ≢ Err faults.OutOfMemory) }
-    ensures memory { IfErr result (λ e. e ≡ faults.OutOfMemory) }
-{
-    match change {
-        Ok(()) => Ok(CowStr::Borrowed(OK_REPLY)),
-        Err(fault) => refusal(fault),
-    }
-}
-
-/// The reply that tells a fault. Want of memory is told by the run.
-fn refusal(fault: Fault) -> Result<CowStr<'static>, Fault>
-    ensures text { IfOk result (λ text. cow_str_bytes text ≡ reply_text fault) }
-    ensures other { OnOk result (fault ≢ faults.OutOfMemory) }
-    ensures memory { IfErr result (λ e. e ≡ faults.OutOfMemory) }
-{
-    match fault {
-        Fault::OutOfMemory => Err(Fault::OutOfMemory),
-        fault => Ok(CowStr::Borrowed(fault.reply())),
-    }
-}
-
-impl<A: Analyzer + Drop> Service for Session<A> {
+impl<D: Device + Drop, A: Analyzer + Drop> Service for Session<D, A> {
     ghost use Rattle.definitions.specs.Step as steps;
     ghost use Rattle.index.specs.Sessions.{StandsFor};
 
     ghost State = { steps.Session };
 
-    ghost stands = { StandsFor A.analyze };
+    ghost stands = { StandsFor };
 
     ghost answer = { steps.answer_of };
 
     ghost after = { steps.after_line };
 
     fn reply(&mut self, line: &str) -> Result<CowStr<'static>, Fault> {
-        match read_line(self.index.alloc, line)? {
+        match read_line(self.alloc, line)? {
             Some(json) => self.answer_value(&json),
             None => Ok(CowStr::Borrowed(Fault::BadRequest.reply())),
         }
@@ -176,29 +180,46 @@ fn read_line(alloc: Global, line: &str) -> Result<Option<Json>, AllocError>
     }
 }
 
-/// The reply to one line of JSON, and what the session stands for after it. `OutOfMemory` is the one error: after
-/// it the session need not stand for any state.
-pub fn reply<A: Analyzer + Drop>(
-    session: &mut Session<A>,
+/// The reply to one line of JSON, and what the session stands for after it. `OutOfMemory`, `Limit` and `Device` are
+/// the errors: after one the session need not stand for any state.
+pub fn reply<D: Device + Drop, A: Analyzer + Drop>(
+    session: &mut Session<D, A>,
     line: &str,
 ) -> Result<CowStr<'static>, Fault>
-    ensures text { (s : steps.Session) → StandsFor A.analyze session.old s → IfOk result (λ text. cow_str_bytes text ≡ steps.answer_of s line.now) }
-    ensures state { (s : steps.Session) → StandsFor A.analyze session.old s → OnOk result (StandsFor A.analyze session.new (steps.after_line s line.now)) }
+    ensures text { (s : steps.Session) → StandsFor session.old s → IfOk result (λ text. cow_str_bytes text ≡ steps.answer_of s line.now) }
+    ensures state { (s : steps.Session) → StandsFor session.old s → OnOk result (StandsFor session.new (steps.after_line s line.now)) }
     ensures err { IfErr result (λ fault. IsTrue (stops fault)) }
 {
     session.reply(line)
 }
 
 /// Answers the lines of an input one by one, until it ends.
-pub fn run_session<R: BufRead, W: Write, A: Analyzer + Drop>(
+pub fn run_session<R: BufRead, W: Write, D: Device + Drop, A: Analyzer + Drop>(
     reader: &mut R,
     writer: &mut W,
-    session: &mut Session<A>,
+    session: &mut Session<D, A>,
 ) -> Result<(), RunFault>
     // Where the reader's bytes are known, the replies to its lines are written.
-    ensures { (s : steps.Session) → StandsFor A.analyze session.old s
+    ensures { (s : steps.Session) → StandsFor session.old s
         → OnOk result (IfSome (R.remaining reader.old) (λ input.
         Writes steps.answer_of steps.after_line s (lines_of input) (W.contents writer.old) (W.contents writer.new))) }
 {
-    run(session.index.alloc, reader, writer, session)
+    relay::run(session.alloc, reader, writer, session)
+}
+
+/// Answers the lines of an input one by one, until it ends, over a device on which no index stands yet.
+pub fn run<R: BufRead, W: Write, D: Device + Drop, A: Analyzer + Drop>(
+    alloc: Global,
+    reader: &mut R,
+    writer: &mut W,
+    device: D,
+    analyzer: A,
+) -> Result<(), RunFault>
+    // Of an honest device that holds no byte, or the file of an index, the replies follow from that and from the lines.
+    ensures { (held : steps.Held) → HasHeld D.honest D.content device held
+        → OnOk result (IfSome (R.remaining reader.old) (λ input.
+        Writes steps.answer_of steps.after_line (session_on (analysis_of A.knows_name A.analyze analyzer) held) (lines_of input) (W.contents writer.old) (W.contents writer.new))) }
+{
+    let mut session = Session::new(alloc, device, analyzer);
+    run_session(reader, writer, &mut session)
 }

@@ -1,10 +1,8 @@
-//! `index`: answers lines of JSON on standard input over an index in memory.
+//! `index`: answers lines of JSON on standard input over a device in memory, without a byte at first.
 #![tactic(auto)]
 
-mod catalogue;
-
-use catalogue::catalogue;
-use index::{Session, run_session};
+use common::{MemoryDevice, RawAndDefault};
+use index::run;
 use std::env;
 use std::io::{self, BufReader, BufWriter};
 use std::process::ExitCode;
@@ -24,16 +22,15 @@ fn main(rt: HostRuntime) -> ExitCode {
         return ExitCode::from(WRONG_USAGE);
     }
     let alloc = rt.alloc();
-    let (Ok(mut reader), Ok(mut writer), Ok(index)) = (
+    let (Ok(mut reader), Ok(mut writer)) = (
         BufReader::with_capacity(alloc, BUFFER_LEN, rt.reader()),
         BufWriter::with_capacity(alloc, BUFFER_LEN, io::writer(&rt)),
-        catalogue(alloc),
     ) else {
         let _ = eprintln!(rt; "index: device fault");
         return ExitCode::from(FAILED);
     };
-    let mut session = Session::with_index(index);
-    match run_session(&mut reader, &mut writer, &mut session) {
+    let device = MemoryDevice::new(alloc);
+    match run(alloc, &mut reader, &mut writer, device, RawAndDefault) {
         Ok(()) => ExitCode::SUCCESS,
         Err(fault) => {
             let _ = eprintln!(rt; "index: {fault}");

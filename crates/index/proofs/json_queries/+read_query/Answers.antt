@@ -46,7 +46,7 @@ read_queries-read_items-requires t c =
     let is : depth (view c.in-Some-Array.field-0.now) ≡ suc (items_depth (items_view c.in-Some-Array.items.items)) = ap (λ v. depth (view v)) c.in-Some-Array.field-0-is ∙ ap depth (view-Array c.in-Some-Array.items) in
     let given = ap (λ l. items_depth (items_view l)) c.as_slice.ensures.value in
     let same = ap (λ v. items_depth (items_view v.items)) c.in-Some-Array.items-is in
-    (omega (arith, deep, is, given, same), tt)
+    (omega (arith, deep, is, given, same), search)
 
 -- src/json_queries.rt:38:1
 pub read_query-returns-in-Some-clause-ok : goal.read_query-returns-in-Some-clause-ok

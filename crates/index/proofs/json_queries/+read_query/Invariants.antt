@@ -1,6 +1,6 @@
 use Rattle.std.proofs.Common.{drop, map, option_map, ◌*◌, ◌+◌, ◌++◌, ◌≡◌, List}
 use Rattle.index.specs.BuiltQueries.{built_items}
-use Rattle.index.specs.declared.any_query.AnyQuery.{AnyQuery}
+use Rattle.plain.specs.declared.any_query.AnyQuery.{AnyQuery}
 use Rattle.index.proofs.QuerySteps.{before}
 use Rattle.serde_json.specs.Data.{depth, items_depth}
 use Rattle.serde_json.specs.View.{items_view, view}

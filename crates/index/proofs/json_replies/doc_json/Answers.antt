@@ -2,7 +2,7 @@
 use Rattle.std.proofs.Common.{◌∙◌, ◌≡◌, ap, ap₂, rules, string_bytes, sym}
 use Rattle.definitions.specs.Printed.{printed_list}
 use Rattle.index.proofs.ReplyForms.{before_empty, before_none, printed_before, put_from_back}
-use Rattle.index.specs.NamedDocs.{named_field, named_of}
+use Rattle.plain.specs.NamedDocs.{named_field, named_of}
 use Rattle.serde_json.proofs.Views.{members_view-insert_entry, view-Array, view-Object}
 use Rattle.serde_json.specs.View.{items_view, members_view}
 use Rattle.serde_json.specs.Data.{put}

@@ -2,7 +2,7 @@
 use Rattle.std.proofs.Common.{◌≡◌}
 use Rattle.definitions.specs.Printed.{printed_fields}
 use Rattle.index.proofs.ReplyForms.{printed_before}
-use Rattle.index.specs.NamedDocs.{named_of}
+use Rattle.plain.specs.NamedDocs.{named_of}
 use Rattle.serde_json.specs.View.{members_view}
 use Rattle.index.proofs.json_replies.doc_json.Given as goal
 

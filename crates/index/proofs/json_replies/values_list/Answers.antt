@@ -4,7 +4,7 @@ use Rattle.std.proofs.lemmas.Grind.{common_steps}
 use Rattle.index.proofs.ReplyForms.{items_of_values}
 use Rattle.serde_json.specs.View.{items_of, view}
 use Rattle.definitions.specs.Printed.{printed}
-use Rattle.index.specs.Documents.{value_of}
+use Rattle.plain.specs.Documents.{value_of}
 use Rattle.index.proofs.json_replies.values_list.Goals as goal
 
 pub returns : goal.returns

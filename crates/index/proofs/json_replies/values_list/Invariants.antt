@@ -1,7 +1,7 @@
 -- The values so far are those before.
 use Rattle.std.proofs.Common.{◌≡◌, map, take}
 use Rattle.definitions.specs.Printed.{printed}
-use Rattle.index.specs.Documents.{value_of}
+use Rattle.plain.specs.Documents.{value_of}
 use Rattle.serde_json.specs.View.{view}
 use Rattle.index.proofs.json_replies.values_list.Given as goal
 

@@ -1,0 +1,138 @@
+-- What is replied to a request, from what the index did.
+use Rattle.std.proofs.Common.{Err, inl, inr, ◌⊎◌, false, true, true≢false, ok_or, option_map, IfErr, IfOk, None, Ok, OnOk, Option, Result, Some, ap, refl, subst, sym, ◌∙◌, ◌≡◌, ◌≢◌, ℕ}
+use Rattle.std.specs.Bool.{⊤}
+use Rattle.definitions.specs.Analyzers.{Analyzer}
+use Rattle.definitions.specs.Calls as calls
+use Rattle.definitions.specs.FaultNames.{reply_text}
+use Rattle.definitions.specs.Refusing.{option_or}
+use Rattle.definitions.specs.Replies.{ok_reply, reply_of}
+use Rattle.definitions.specs.Requests as requests
+use Rattle.definitions.specs.Step as steps
+use Rattle.definitions.specs.declared.fault.Fault.{Fault}
+use Rattle.definitions.specs.declared.fault.Fault.TheVariants as faults
+use Rattle.definitions.proofs.ReplyTexts.{error_text, ok_text}
+use Rattle.definitions.proofs.Steps.{answered_call, refused_call, unread_call}
+use Rattle.definitions.specs.Built.{built_query_in}
+use Rattle.definitions.specs.Query.{Query, empty}
+use Rattle.definitions.specs.Replies.{count_reply, hits_reply}
+use Rattle.definitions.specs.Scanning.{scan, scan_count}
+use Rattle.definitions.specs.State.{committed}
+use Rattle.serde_json.specs.Data as json
+use Rattle.std.specs.Cow.{cow_str_bytes}
+use Rattle.std.specs.declared.borrow.CowStr.{CowStr}
+use Rattle.serde_json.specs.Read.{read}
+use Rattle.index.specs.Replying.{Answers, GoesOn, change_text}
+use Rattle.index.specs.Standing.{Stands}
+use Rattle.index.specs.declared.collection.Collection.{Collection}
+use Rattle.relay.specs.Replies.{stops}
+
+none≢some : {X : Type 0} {x : X} → None ≡ Some x → ⊥
+none≢some h = cc
+
+-- a call that is answered wasn't refused
+answered_leaves : (c : calls.Configuration) (x y : calls.Index) (call : calls.Call) → calls.Leaves c x call (Ok tt) y → (calls.call_fault c x call ≡ None) × (y ≡ record { state = calls.after c x.state call; status = x.status })
+answered_leaves c x y call (calls.answered accepted) = (accepted, refl)
+
+-- a call that its tests refuse leaves what stood
+refused_leaves : (c : calls.Configuration) (x y : calls.Index) (call : calls.Call) (fault : Fault) → calls.Leaves c x call (Err fault) y → calls.call_fault c x call ≡ Some fault → fault ≢ faults.OutOfMemory → y ≡ x
+refused_leaves c x y call fault (calls.refused f told) h other = refl
+refused_leaves c x y call fault (calls.memory_refused ready adds) h other = refl
+refused_leaves c x y call fault (calls.limit_refused accepted adds) h other = refl
+refused_leaves c x y call fault (calls.half_written f want accepted adds) h other = absurd (none≢some (sym accepted ∙ h))
+refused_leaves c x y call fault (calls.device_failed accepted writes) h other = absurd (none≢some (sym accepted ∙ h))
+refused_leaves c x y call fault (calls.slot_damaged accepted reads) h other = refl
+
+-- a fault after which the run goes on isn't one that stops
+pub going_on : (fault other : Fault) → stops fault ≡ false → stops other ≡ true → fault ≢ other
+going_on fault other on stop same = true≢false (sym stop ∙ ap stops (sym same) ∙ on)
+
+-- the reply to a change, and what stands after it
+pub change_answered : {A : Type 0} (analyze : A → Analyzer) (new : Collection A) (c : calls.Configuration) (x : calls.Index) (r : requests.Request) (call : calls.Call) (change : Result ⊤ Fault) → steps.call_in c.schema r ≡ Ok call → steps.answer_reply c x.state call ≡ ok_reply → (y : calls.Index) × calls.Leaves c x call change y × Stands analyze new c y → IfErr change (λ fault. stops fault ≡ false → calls.call_fault c x call ≡ Some fault) → GoesOn change → (change_text change ≡ reply_of ((steps.index_step c x r).0)) × Stands analyze new c ((steps.index_step c x r).1)
+change_answered analyze new c x r call (Ok u) read ok (y, left, stands) exact other =
+    let told = answered_leaves c x y call left in
+    let step = answered_call c x r call read told.0 in
+    (sym ok_text ∙ sym (ap reply_of ok) ∙ ap (λ p. reply_of p.0) (sym step), subst (λ p. Stands analyze new c p.1) (sym step) (subst (Stands analyze new c) told.1 stands))
+change_answered analyze new c x r call (Err fault) read ok (y, left, stands) exact other =
+    let not_memory : fault ≢ faults.OutOfMemory = going_on fault faults.OutOfMemory other refl in
+    let refused = exact other in
+    let step = refused_call c x r call fault read refused in
+    (error_text fault ∙ ap (λ p. reply_of p.0) (sym step), subst (λ p. Stands analyze new c p.1) (sym step) (subst (Stands analyze new c) (refused_leaves c x y call fault left refused not_memory) stands))
+
+-- ---- searches and counts
+
+-- a query that isn't read is refused so
+pub unread_search : (c : calls.Configuration) (x : calls.Index) (d : json.Data) (k : ℕ) → calls.status_fault x.status (calls.search_best empty k) ≡ None → built_query_in c.schema d ≡ None → steps.index_step c x (requests.search_docs d k) ≡ steps.refusing faults.BadQuery x
+unread_search c x d k ready unread = unread_call c x (requests.search_docs d k) faults.BadQuery (ap (λ o. ok_or (option_map (λ q. calls.search_best q k) o) faults.BadQuery) unread) ready
+
+pub unread_count : (c : calls.Configuration) (x : calls.Index) (d : json.Data) → calls.status_fault x.status (calls.count_all empty) ≡ None → built_query_in c.schema d ≡ None → steps.index_step c x (requests.count_docs d) ≡ steps.refusing faults.BadQuery x
+unread_count c x d ready unread = unread_call c x (requests.count_docs d) faults.BadQuery (ap (λ o. ok_or (option_map calls.count_all o) faults.BadQuery) unread) ready
+
+-- one that is read is searched for
+pub read_search : (c : calls.Configuration) (d : json.Data) (k : ℕ) (q : Query) → built_query_in c.schema d ≡ Some q → steps.call_in c.schema (requests.search_docs d k) ≡ Ok (calls.search_best q k)
+read_search c d k q read = ap (λ o. ok_or (option_map (λ p. calls.search_best p k) o) faults.BadQuery) read
+
+pub read_count : (c : calls.Configuration) (d : json.Data) (q : Query) → built_query_in c.schema d ≡ Some q → steps.call_in c.schema (requests.count_docs d) ≡ Ok (calls.count_all q)
+read_count c d q read = ap (λ o. ok_or (option_map calls.count_all o) faults.BadQuery) read
+
+-- the step of a search that is answered
+pub search_answered : (c : calls.Configuration) (x : calls.Index) (d : json.Data) (k : ℕ) (q : Query) → built_query_in c.schema d ≡ Some q → calls.call_fault c x (calls.search_best q k) ≡ None → steps.index_step c x (requests.search_docs d k) ≡ (hits_reply (scan c.schema c.analyze c.similarity (committed x.state) q k), x)
+search_answered c x d k q read accepted = answered_call c x (requests.search_docs d k) (calls.search_best q k) (read_search c d k q read) accepted
+
+pub count_answered : (c : calls.Configuration) (x : calls.Index) (d : json.Data) (q : Query) → built_query_in c.schema d ≡ Some q → calls.call_fault c x (calls.count_all q) ≡ None → steps.index_step c x (requests.count_docs d) ≡ (count_reply (scan_count c.schema c.analyze (committed x.state) q), x)
+count_answered c x d q read accepted = answered_call c x (requests.count_docs d) (calls.count_all q) (read_count c d q read) accepted
+
+-- what follows from what holds of an answer, and of an error
+pub ok_weaker : {T E : Type 0} (r : Result T E) (P Q : T → Type 0) → ((t : T) → P t → Q t) → IfOk r P → IfOk r Q
+ok_weaker (Ok t) P Q f h = f t h
+ok_weaker (Err e) P Q f h = tt
+
+pub err_weaker : {T E : Type 0} (r : Result T E) (P Q : E → Type 0) → ((e : E) → P e → Q e) → IfErr r P → IfErr r Q
+err_weaker (Ok t) P Q f h = tt
+err_weaker (Err e) P Q f h = f e h
+
+-- ---- replies
+
+-- the reply to a request that is refused
+pub refusal_answered : {A Z : Type 0} (analyze : A → Analyzer) (index : Collection A) (c : calls.Configuration) (x : calls.Index) (r : requests.Request) (fault : Fault) (result : Result (CowStr Z) Fault) → Stands analyze index c x → (fault ≢ faults.OutOfMemory → steps.index_step c x r ≡ steps.refusing fault x) → IfOk result (λ text. cow_str_bytes text ≡ reply_text fault) → OnOk result (stops fault ≡ false) → Answers analyze index c x r result
+refusal_answered analyze index c x r fault (Ok text) s refused told other =
+    let step = refused (going_on fault faults.OutOfMemory other refl) in
+    record {
+      text = told ∙ error_text fault ∙ ap (λ p. reply_of p.0) (sym step);
+      state = subst (λ p. Stands analyze index c p.1) (sym step) s;
+    }
+refusal_answered analyze index c x r fault (Err e) s refused told other = record { text = tt; state = tt }
+
+-- the reply to a request that changes nothing
+pub text_answered : {A Z : Type 0} (analyze : A → Analyzer) (index : Collection A) (c : calls.Configuration) (x : calls.Index) (r : requests.Request) (d : json.Data) (text : CowStr Z) → Stands analyze index c x → steps.index_step c x r ≡ (d, x) → cow_str_bytes text ≡ reply_of d → Answers analyze index c x r (Ok text)
+text_answered analyze index c x r d text s step told = record {
+  text = told ∙ ap (λ p. reply_of p.0) (sym step);
+  state = subst (λ p. Stands analyze index c p.1) (sym step) s;
+}
+
+-- the reply to a request that changes something
+pub change_answers : {A Z : Type 0} (analyze : A → Analyzer) (new : Collection A) (c : calls.Configuration) (x : calls.Index) (r : requests.Request) (call : calls.Call) (change : Result ⊤ Fault) (result : Result (CowStr Z) Fault) → steps.call_in c.schema r ≡ Ok call → steps.answer_reply c x.state call ≡ ok_reply → (y : calls.Index) × calls.Leaves c x call change y × Stands analyze new c y → IfErr change (λ fault. stops fault ≡ false → calls.call_fault c x call ≡ Some fault) → IfOk result (λ text. cow_str_bytes text ≡ change_text change) → OnOk result (GoesOn change) → Answers analyze new c x r result
+change_answers analyze new c x r call change (Ok text) read ok left exact told other =
+    let both = change_answered analyze new c x r call change read ok left exact other in
+    record { text = told ∙ both.0; state = both.1 }
+change_answers analyze new c x r call change (Err e) read ok left exact told other = record { text = tt; state = tt }
+
+-- a commit that isn't refused was ready
+ready_then : (status : calls.Status) (own : Option Fault) → option_or (calls.status_fault status calls.commit_pending) own ≡ None → status ≡ calls.ready
+ready_then calls.ready own h = refl
+ready_then calls.writer_closed own h = absurd (none≢some (sym h))
+ready_then calls.closed own h = absurd (none≢some (sym h))
+
+-- the index was ready, or its device is as it was
+pub commit_kept : {D Z : Type 0} (old new : D) (P : Type 0) (stands : calls.Index → Type 0) (change : Result ⊤ Fault) (result : Result Z Fault) (c : calls.Configuration) (x : calls.Index) → (y : calls.Index) × calls.Leaves c x calls.commit_pending change y × stands y → IfErr change (λ fault. fault ≢ faults.Device → (new ≡ old) × P) → OnOk result (GoesOn change) → OnOk result ((x.status ≡ calls.ready) ⊎ (new ≡ old))
+commit_kept old new P stands change (Err e) c x left kept on = tt
+commit_kept old new P stands (Ok u) (Ok z) c x (y, left, stood) kept on = inl (ready_then x.status (calls.own_fault c x.state calls.commit_pending) ((answered_leaves c x y calls.commit_pending left).0))
+commit_kept old new P stands (Err fault) (Ok z) c x left kept on = inr ((kept (going_on fault faults.Device on refl)).0)
+
+-- what is refused unless memory is wanted is refused where the run goes on
+pub add_refused : {T : Type 0} (r : Result T Fault) (P : Fault → Type 0) → IfErr r (λ fault. fault ≢ faults.OutOfMemory → P fault) → IfErr r (λ fault. stops fault ≡ false → P fault)
+add_refused (Ok t) P h = tt
+add_refused (Err fault) P h = λ on. h (going_on fault faults.OutOfMemory on refl)
+
+pub commit_refused : {T : Type 0} (r : Result T Fault) (P : Fault → Type 0) → IfErr r (λ fault. fault ≢ faults.OutOfMemory → fault ≢ faults.Device → fault ≢ faults.Limit → P fault) → IfErr r (λ fault. stops fault ≡ false → P fault)
+commit_refused (Ok t) P h = tt
+commit_refused (Err fault) P h = λ on. h (going_on fault faults.OutOfMemory on refl) (going_on fault faults.Device on refl) (going_on fault faults.Limit on refl)

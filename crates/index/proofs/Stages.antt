@@ -1,0 +1,244 @@
+-- What stands after an index was made or opened.
+use Rattle.std.proofs.Common.{[], Bool, Err, IfErr, IfOk, IsTrue, List, None, Ok, OnOk, Option, Result, Some, ap, arith, cond, false, inl, inr, is_some, option_map, refl, subst, sym, true, unwrap_or, ◌∙◌, ◌≡◌, ◌≢◌, ◌⊎◌, ◌∷◌, ◌++◌, ℕ}
+use Rattle.std.specs.Option.{option_map_or}
+use Rattle.common.specs.declared.device.Device as devices
+use Rattle.definitions.specs.Analyzers.{Analyzer}
+use Rattle.definitions.specs.Calls as calls
+use Rattle.definitions.specs.Json.{◌>>=◌}
+use Rattle.definitions.specs.Making.{are_analyzed, making_fault}
+use Rattle.definitions.specs.Refusing.{option_or}
+use Rattle.definitions.specs.Replies.{ok_reply, reply_of}
+use Rattle.definitions.specs.Schema.{Schema}
+use Rattle.definitions.specs.Settings.{Settings}
+use Rattle.definitions.specs.Step as steps
+use Rattle.definitions.specs.Values.{Document}
+use Rattle.definitions.specs.declared.fault.Fault.{Fault}
+use Rattle.definitions.specs.declared.fault.Fault.TheVariants as faults
+use Rattle.definitions.proofs.ReplyTexts.{error_text, ok_text}
+use Rattle.index.specs.Files.{IsCreateRefusal, IsFileOf, IsOpenRefusal, IsOpened, last_in, last_of}
+use Rattle.index.specs.Replying.{change_text}
+use Rattle.index.specs.Sessions.{HasHeld, HasStage, IsIndex, IsSpare, LeavesStage, analysis_of, left_by}
+use Rattle.index.specs.Standing.{Stands}
+use Rattle.index.specs.declared.index.Index.{Index}
+use Rattle.index.specs.declared.index.Refused.{Refused}
+use Rattle.index.specs.declared.stage.Stage.TheVariants.{Spare, Standing}
+use Rattle.index.proofs.Answering.{going_on}
+use Rattle.layouts.specs.RecordBodies.{docs_in, first_in, lists_in, takes_body}
+use Rattle.layouts.specs.RecordFiles.{AreTaken, IsDamaged, IsFile, IsNoIndex}
+use Rattle.layouts.proofs.FilesOfRecords.{files_are_indexes, files_are_whole, one_reading}
+use Rattle.serde_json.specs.Data as json
+
+-- ---- what a file says
+
+abbrev Lists : Type 0
+Lists = List (List Document)
+
+abbrev pub Found : Type 0
+Found = (Schema × Settings) × List Document
+
+abbrev pub found : Schema → Settings → List Document → Found
+found s u d = ((s, u), d)
+
+-- a file has a byte
+no_bytes : (bodies : List (List ℕ)) (bytes : List ℕ) → IsFile bodies bytes → bytes ≢ []
+no_bytes bodies bytes (IsFile.ends gate rest closed) h = cc
+no_bytes bodies bytes (IsFile.record_then body more rest short file) h = cc
+
+-- where documents and lists are read, they are there
+both_there : (o : Option (List Document)) (p : Option Lists) (lists : Lists) → (o >>= (λ docs. option_map (λ (l : Lists). docs ∷ l) p)) ≡ Some lists → IsTrue (is_some o) × ((rest : Lists) × (p ≡ Some rest))
+both_there None p lists h = cc
+both_there (Some docs) None lists h = cc
+both_there (Some docs) (Some rest) lists h = (refl, (rest, refl))
+
+later_taken : (first : List ℕ) (made : Schema × Settings) → first_in first ≡ Some made → (before bodies : List (List ℕ)) (lists : Lists) → lists_in made.0 bodies ≡ Some lists → AreTaken takes_body (first ∷ before) bodies
+later_taken first made is before [] lists h = tt
+later_taken first made is before (body ∷ bodies) lists h =
+    let (there, rest) = both_there (docs_in made.0 body) (lists_in made.0 bodies) lists h in
+    (subst (λ (o : Option (Schema × Settings)). IsTrue (option_map_or (λ m. is_some (docs_in m.0 body)) o false)) (sym is) there, later_taken first made is (before ++ body ∷ []) bodies rest.0 rest.1)
+
+-- what the first body says, where anything is said
+first_there : (first : List ℕ) (bodies : List (List ℕ)) (o : Option (Schema × Settings)) (found : Found) → first_in first ≡ o → option_map (λ (f : (Schema × Settings) × Lists). (f.0, last_of f.1)) (o >>= (λ made. option_map (λ (l : Lists). (made, [] ∷ l)) (lists_in made.0 bodies))) ≡ Some found → (made : Schema × Settings) × (first_in first ≡ Some made) × ((lists : Lists) × (lists_in made.0 bodies ≡ Some lists))
+first_there first bodies None found is h = cc
+first_there first bodies (Some made) found is h = (made, is, lists_there (lists_in made.0 bodies) h)
+  where
+    lists_there : (o : Option Lists) → option_map (λ (f : (Schema × Settings) × Lists). (f.0, last_of f.1)) (option_map (λ (l : Lists). (made, [] ∷ l)) o) ≡ Some found → (lists : Lists) × (o ≡ Some lists)
+    lists_there None none = cc
+    lists_there (Some lists) some = (lists, refl)
+
+-- bodies that say something are taken
+pub saying_taken : (bodies : List (List ℕ)) (found : Found) → last_in bodies ≡ Some found → AreTaken takes_body [] bodies
+saying_taken [] found h = cc
+saying_taken (first ∷ bodies) found h =
+    let (made, is, lists) = first_there first bodies (first_in first) found refl h in
+    (ap is_some is, later_taken first made is [] bodies lists.0 lists.1)
+
+none_says_nothing : (bodies : List (List ℕ)) (found : Found) → last_in bodies ≡ Some found → (body : List ℕ) × (more : List (List ℕ)) × (bodies ≡ body ∷ more)
+none_says_nothing [] found h = cc
+none_says_nothing (body ∷ more) found h = (body, more, refl)
+
+-- a file says one thing
+pub one_saying : (s t : Schema) (u v : Settings) (d e : List Document) (bytes : List ℕ) → IsFileOf s u d bytes → IsFileOf t v e bytes → found s u d ≡ found t v e
+one_saying s t u v d e bytes (first, file, says) (second, other, tells) =
+    ap (λ (o : Option Found). unwrap_or o (found s u d)) (sym says ∙ ap last_in (one_reading first second bytes file other) ∙ tells)
+
+-- a file of an index is an index
+pub file_is_index : (s : Schema) (u : Settings) (d : List Document) (bytes : List ℕ) → IsFileOf s u d bytes → ¬ IsNoIndex bytes
+file_is_index s u d bytes (bodies, file, says) none =
+    let (body, more, is) = none_says_nothing bodies ((s, u), d) says in
+    files_are_indexes body more bytes (subst (λ (l : List (List ℕ)). IsFile l bytes) is file) none
+
+-- and is not damaged
+pub file_is_whole : (s : Schema) (u : Settings) (d : List Document) (bytes : List ℕ) (place : ℕ) → IsFileOf s u d bytes → ¬ IsDamaged takes_body bytes place
+file_is_whole s u d bytes place (bodies, file, says) = files_are_whole takes_body bodies bytes place file (saying_taken bodies ((s, u), d) says)
+
+no_index_yet : IsNoIndex []
+no_index_yet = inl (omega arith)
+
+-- ---- what a device holds
+
+module _ {D : Type 0} (honest : D → Bool) (content : D → List ℕ) where
+  pub held_honest : (device : D) (held : steps.Held) → HasHeld honest content device held → IsTrue (honest device)
+  held_honest device steps.no_file h = h.0
+  held_honest device (steps.file_of s u d) h = h.0
+
+  -- a device that is as it was holds what it held
+  pub held_kept : (old new : D) (held : steps.Held) → HasHeld honest content old held → honest new ≡ honest old → content new ≡ content old → HasHeld honest content new held
+  held_kept old new steps.no_file h same is = (subst (λ (b : Bool). IsTrue b) (sym same) h.0, is ∙ h.1)
+  held_kept old new (steps.file_of s u d) h same is = (subst (λ (b : Bool). IsTrue b) (sym same) h.0, subst (λ (l : List ℕ). IsFileOf s u d l) (sym is) h.1)
+
+-- ---- an index is made or opened
+
+-- the reply to a refusal
+refused_text : {S : Type 0} (fault : Fault) (s : S) (p : json.Data × S) → p ≡ steps.refusing fault s → change_text (Err fault) ≡ reply_of p.0
+refused_text fault s p is = error_text fault ∙ ap (λ q. reply_of q.0) (sym is)
+
+module _ {D A : Type 0} (d : devices.Ghosts D) (knows : A → List ℕ → Bool) (analyze : A → Analyzer) where
+  -- what stands after a refusal
+  refused_stage : (a : steps.Analysis) (device : D) (analyzer : A) (fault : Fault) (held : steps.Held) (p : json.Data × steps.Stage) → p ≡ steps.refusing fault (steps.no_index held) → IsSpare d.honest d.content knows analyze a device analyzer held → LeavesStage {d = d} knows analyze a (Some (Spare device analyzer)) (Err fault) p
+  refused_stage a device analyzer fault held p is spare on = (refused_text fault (steps.no_index held) p is, subst (λ (q : json.Data × steps.Stage). HasStage {d = d} knows analyze a (Some (Spare device analyzer)) q.1) (sym is) spare)
+
+  -- and after an answer
+  answered_stage : (a : steps.Analysis) (index : Index D A d) (s : Schema) (u : Settings) (x : calls.Index) (p : json.Data × steps.Stage) → p ≡ (ok_reply, steps.index_of s u x) → IsIndex knows analyze a index s u x → LeavesStage knows analyze a (Some (Standing index)) (Ok tt) p
+  answered_stage a index s u x p is stands on = (sym ok_text ∙ ap (λ q. reply_of q.0) (sym is), subst (λ (q : json.Data × steps.Stage). HasStage knows analyze a (Some (Standing index)) q.1) (sym is) stands)
+
+  -- an index was made
+  pub made_stage : (a : steps.Analysis) (device : D) (analyzer : A) (held : steps.Held) (s : Schema) (u : Settings) (index : Index D A d) → IsSpare d.honest d.content knows analyze a device analyzer held
+      → making_fault (knows analyzer) s u ≡ None → (IsTrue (d.honest device) → d.content device ≡ []) → Stands analyze index.collection (steps.configuration_of s (analyze analyzer) u) steps.fresh_index
+      → (index.collection.schema ≡ s) × (index.collection.settings ≡ u) × (index.collection.analyzer ≡ analyzer)
+      → LeavesStage knows analyze a (Some (Standing index)) (Ok tt) (steps.created a.knows s u held)
+  made_stage a device analyzer (steps.file_of t v e) s u index spare none empty stands of = absurd (no_bytes spare.1.1.0 (d.content device) spare.1.1.1 (empty spare.1.0))
+  made_stage a device analyzer steps.no_file s u index spare none empty stands of =
+      let fault : making_fault a.knows s u ≡ None = subst (λ (b : steps.Analysis). making_fault b.knows s u ≡ None) (sym spare.0) none in
+      let step : steps.created a.knows s u steps.no_file ≡ (ok_reply, steps.index_of s u steps.fresh_index) = ap (λ (o : Option Fault). steps.refused_or (option_or o None) (steps.no_index steps.no_file) (ok_reply, steps.index_of s u steps.fresh_index)) fault in
+      answered_stage a index s u steps.fresh_index (steps.created a.knows s u steps.no_file) step
+      (record {
+        analysis = spare.0 ∙ ap (analysis_of knows analyze) (sym of.2);
+        fields = of.0;
+        numbers = of.1;
+        stands = subst (λ (b : steps.Analysis). Stands analyze index.collection (steps.configuration_of s b.analyze u) steps.fresh_index) (sym spare.0) stands;
+        known = inl refl;
+      })
+
+  -- what is spare after a call that changed nothing
+  spare_kept : (a : steps.Analysis) (old new : D) (analyzer given : A) (held : steps.Held) → IsSpare d.honest d.content knows analyze a old analyzer held → given ≡ analyzer → d.honest new ≡ d.honest old → d.content new ≡ d.content old → IsSpare d.honest d.content knows analyze a new given held
+  spare_kept a old new analyzer given held spare same honest content = (spare.0 ∙ ap (analysis_of knows analyze) (sym same), held_kept d.honest d.content old new held spare.1 honest content)
+
+  -- none was made
+  pub unmade_stage : (a : steps.Analysis) (device : D) (analyzer : A) (held : steps.Held) (s : Schema) (u : Settings) (r : Refused D A) → IsSpare d.honest d.content knows analyze a device analyzer held
+      → (r.fault ≡ faults.OutOfMemory) ⊎ (making_fault (knows analyzer) s u ≡ Some r.fault) ⊎ ((making_fault (knows analyzer) s u ≡ None) × IsCreateRefusal r.fault)
+      → r.analyzer ≡ analyzer → d.honest r.device ≡ d.honest device → (IsTrue (d.honest device) → r.fault ≡ faults.NotEmpty → d.content device ≢ []) → (IsTrue (d.honest device) → r.fault ≢ faults.Device → d.content r.device ≡ d.content device)
+      → LeavesStage {d = d} knows analyze a (Some (Spare r.device r.analyzer)) (Err r.fault) (steps.created a.knows s u held)
+  unmade_stage a device analyzer held s u r spare exact returned honest full kept on =
+      let is_honest = held_honest d.honest d.content device held spare.1 in
+      let same = kept is_honest (going_on r.fault faults.Device on refl) in
+      let stays = spare_kept a device r.device analyzer r.analyzer held spare returned honest same in
+      refused_stage a r.device r.analyzer r.fault held (steps.created a.knows s u held) (step held spare.1 exact) stays on
+    where
+      from_analysis : (o : Option Fault) → making_fault (knows analyzer) s u ≡ o → making_fault a.knows s u ≡ o
+      from_analysis o is = subst (λ (b : steps.Analysis). making_fault b.knows s u ≡ o) (sym spare.0) is
+
+      not_empty : (h : steps.Held) → HasHeld d.honest d.content device h → making_fault a.knows s u ≡ None → r.fault ≡ faults.NotEmpty → steps.created a.knows s u h ≡ steps.refusing r.fault (steps.no_index h)
+      not_empty steps.no_file has none is = absurd (full has.0 is has.1)
+      not_empty (steps.file_of t v e) has none is =
+          ap (λ (o : Option Fault). steps.refused_or (option_or o (Some faults.NotEmpty)) (steps.no_index (steps.file_of t v e)) (ok_reply, steps.index_of s u steps.fresh_index)) none
+          ∙ ap (λ (f : Fault). steps.refusing f (steps.no_index (steps.file_of t v e))) (sym is)
+
+      step : (h : steps.Held) → HasHeld d.honest d.content device h → (r.fault ≡ faults.OutOfMemory) ⊎ (making_fault (knows analyzer) s u ≡ Some r.fault) ⊎ ((making_fault (knows analyzer) s u ≡ None) × IsCreateRefusal r.fault) → steps.created a.knows s u h ≡ steps.refusing r.fault (steps.no_index h)
+      step h has (inl memory) = absurd (going_on r.fault faults.OutOfMemory on refl memory)
+      step h has (inr (inl refused)) = ap (λ (o : Option Fault). steps.refused_or (option_or o (steps.if_empty h)) (steps.no_index h) (ok_reply, steps.index_of s u steps.fresh_index)) (from_analysis (Some r.fault) refused)
+      step h has (inr (inr (none, inl is_device))) = absurd (going_on r.fault faults.Device on refl is_device)
+      step h has (inr (inr (none, inr (inl is)))) = not_empty h has (from_analysis None none) is
+      step h has (inr (inr (none, inr (inr limit)))) = absurd (going_on r.fault faults.Limit on refl limit)
+
+  -- an index was opened
+  pub opened_stage : (a : steps.Analysis) (device : D) (analyzer : A) (held : steps.Held) (index : Index D A d) → IsSpare d.honest d.content knows analyze a device analyzer held
+      → (IsTrue (d.honest device) → IsOpened analyze (analyze analyzer) index.collection (d.content device)) → are_analyzed (knows analyzer) index.collection.schema ≡ true → index.collection.analyzer ≡ analyzer
+      → LeavesStage knows analyze a (Some (Standing index)) (Ok tt) (steps.opened a.knows held)
+  opened_stage a device analyzer steps.no_file index spare opened known by = let o = opened spare.1.0 in absurd (no_bytes o.file.0 (d.content device) o.file.1 spare.1.1)
+  opened_stage a device analyzer (steps.file_of s u e) index spare opened known by =
+      let o = opened spare.1.0 in
+      let is : found index.collection.schema index.collection.settings o.docs ≡ found s u e = one_saying index.collection.schema s index.collection.settings u o.docs e (d.content device) o.file spare.1.1 in
+      let schema : index.collection.schema ≡ s = ap (λ (f : Found). f.0.0) is in
+      let knows_all : are_analyzed a.knows s ≡ true = subst (λ (b : steps.Analysis). are_analyzed b.knows s ≡ true) (sym spare.0) (subst (λ (t : Schema). are_analyzed (knows analyzer) t ≡ true) schema known) in
+      let step : steps.opened a.knows (steps.file_of s u e) ≡ (ok_reply, steps.index_of s u (steps.reopened e)) = ap (λ (b : Bool). cond b (ok_reply, steps.index_of s u (steps.reopened e)) (steps.refusing faults.UnknownTokenizer (steps.no_index (steps.file_of s u e)))) knows_all in
+      let stands : Stands analyze index.collection (steps.configuration_of s (analyze analyzer) u) (steps.reopened e) = subst (λ (f : Found). Stands analyze index.collection (steps.configuration_of f.0.0 (analyze analyzer) f.0.1) (steps.reopened f.1)) is o.stands in
+      answered_stage a index s u (steps.reopened e) (steps.opened a.knows (steps.file_of s u e)) step
+      (record {
+        analysis = spare.0 ∙ ap (analysis_of knows analyze) (sym by);
+        fields = schema;
+        numbers = ap (λ (f : Found). f.0.1) is;
+        stands = subst (λ (b : steps.Analysis). Stands analyze index.collection (steps.configuration_of s b.analyze u) (steps.reopened e)) (sym spare.0) stands;
+        known = inl refl;
+      })
+
+  -- none was opened
+  pub unopened_stage : (a : steps.Analysis) (device : D) (analyzer : A) (held : steps.Held) (r : Refused D A) → IsSpare d.honest d.content knows analyze a device analyzer held
+      → (IsTrue (d.honest device) → (r.fault ≡ faults.Device) ⊎ (r.fault ≡ faults.OutOfMemory) ⊎ IsOpenRefusal (knows analyzer) (d.content device) r.fault)
+      → r.analyzer ≡ analyzer → d.honest r.device ≡ d.honest device → (IsTrue (d.honest device) → r.fault ≢ faults.Device → d.content r.device ≡ d.content device)
+      → LeavesStage {d = d} knows analyze a (Some (Spare r.device r.analyzer)) (Err r.fault) (steps.opened a.knows held)
+  unopened_stage a device analyzer held r spare refused returned honest kept on =
+      let is_honest = held_honest d.honest d.content device held spare.1 in
+      let same = kept is_honest (going_on r.fault faults.Device on refl) in
+      let stays = spare_kept a device r.device analyzer r.analyzer held spare returned honest same in
+      refused_stage a r.device r.analyzer r.fault held (steps.opened a.knows held) (step held spare.1 (refused is_honest)) stays on
+    where
+      unknown : (s t : Schema) (u v : Settings) (e f : List Document) → IsFileOf s u e (d.content device) → IsFileOf t v f (d.content device) → are_analyzed (knows analyzer) t ≡ false → r.fault ≡ faults.UnknownTokenizer → steps.opened a.knows (steps.file_of s u e) ≡ steps.refusing r.fault (steps.no_index (steps.file_of s u e))
+      unknown s t u v e f file other is fault =
+          let same : t ≡ s = ap (λ (g : Found). g.0.0) (one_saying t s v u f e (d.content device) other file) in
+          let lacks : are_analyzed a.knows s ≡ false = subst (λ (b : steps.Analysis). are_analyzed b.knows s ≡ false) (sym spare.0) (subst (λ (g : Schema). are_analyzed (knows analyzer) g ≡ false) same is) in
+          ap (λ (b : Bool). cond b (ok_reply, steps.index_of s u (steps.reopened e)) (steps.refusing faults.UnknownTokenizer (steps.no_index (steps.file_of s u e)))) lacks
+          ∙ ap (λ (g : Fault). steps.refusing g (steps.no_index (steps.file_of s u e))) (sym fault)
+
+      step : (h : steps.Held) → HasHeld d.honest d.content device h → (r.fault ≡ faults.Device) ⊎ (r.fault ≡ faults.OutOfMemory) ⊎ IsOpenRefusal (knows analyzer) (d.content device) r.fault → steps.opened a.knows h ≡ steps.refusing r.fault (steps.no_index h)
+      step h has (inl is_device) = absurd (going_on r.fault faults.Device on refl is_device)
+      step h has (inr (inl memory)) = absurd (going_on r.fault faults.OutOfMemory on refl memory)
+      step steps.no_file has (inr (inr (inl (inl (is, none))))) = ap (λ (g : Fault). steps.refusing g (steps.no_index steps.no_file)) (sym is)
+      step steps.no_file has (inr (inr (inl (inr (place, is, damaged))))) = absurd (damaged.begins (subst (λ (l : List ℕ). IsNoIndex l) (sym has.1) no_index_yet))
+      step steps.no_file has (inr (inr (inr (is, s, u, e, file, lacks)))) = absurd (no_bytes file.0 (d.content device) file.1 has.1)
+      step (steps.file_of s u e) has (inr (inr (inl (inl (is, none))))) = absurd (file_is_index s u e (d.content device) has.1 none)
+      step (steps.file_of s u e) has (inr (inr (inl (inr (place, is, damaged))))) = absurd (file_is_whole s u e (d.content device) place has.1 damaged)
+      step (steps.file_of s u e) has (inr (inr (inr (is, t, v, f, file, lacks)))) = unknown s t u v e f has.1 file lacks is
+
+  -- what a call that makes an index leaves
+  pub create_left : (a : steps.Analysis) (device : D) (analyzer : A) (held : steps.Held) (s : Schema) (u : Settings) (outcome : Result (Index D A d) (Refused D A)) → IsSpare d.honest d.content knows analyze a device analyzer held
+      → OnOk outcome (making_fault (knows analyzer) s u ≡ None) → (IsTrue (d.honest device) → OnOk outcome (d.content device ≡ []))
+      → IfOk outcome (λ index. Stands analyze index.collection (steps.configuration_of s (analyze analyzer) u) steps.fresh_index)
+      → IfOk outcome (λ index. (index.collection.schema ≡ s) × (index.collection.settings ≡ u) × (index.collection.analyzer ≡ analyzer))
+      → IfErr outcome (λ r. (r.fault ≡ faults.OutOfMemory) ⊎ (making_fault (knows analyzer) s u ≡ Some r.fault) ⊎ ((making_fault (knows analyzer) s u ≡ None) × IsCreateRefusal r.fault))
+      → IfErr outcome (λ r. r.analyzer ≡ analyzer) → IfErr outcome (λ r. d.honest r.device ≡ d.honest device)
+      → (IsTrue (d.honest device) → IfErr outcome (λ r. r.fault ≡ faults.NotEmpty → d.content device ≢ []))
+      → (IsTrue (d.honest device) → IfErr outcome (λ r. r.fault ≢ faults.Device → d.content r.device ≡ d.content device))
+      → LeavesStage knows analyze a (Some ((left_by outcome).0)) ((left_by outcome).1) (steps.created a.knows s u held)
+  create_left a device analyzer held s u (Ok index) spare none empty stands of exact returned honest full kept = made_stage a device analyzer held s u index spare none empty stands of
+  create_left a device analyzer held s u (Err r) spare none empty stands of exact returned honest full kept = unmade_stage a device analyzer held s u r spare exact returned honest full kept
+
+  -- what a call that opens an index leaves
+  pub open_left : (a : steps.Analysis) (device : D) (analyzer : A) (held : steps.Held) (outcome : Result (Index D A d) (Refused D A)) → IsSpare d.honest d.content knows analyze a device analyzer held
+      → (IsTrue (d.honest device) → IfOk outcome (λ index. IsOpened analyze (analyze analyzer) index.collection (d.content device)))
+      → IfOk outcome (λ index. are_analyzed (knows analyzer) index.collection.schema ≡ true) → IfOk outcome (λ index. index.collection.analyzer ≡ analyzer)
+      → (IsTrue (d.honest device) → IfErr outcome (λ r. (r.fault ≡ faults.Device) ⊎ (r.fault ≡ faults.OutOfMemory) ⊎ IsOpenRefusal (knows analyzer) (d.content device) r.fault))
+      → IfErr outcome (λ r. r.analyzer ≡ analyzer) → IfErr outcome (λ r. d.honest r.device ≡ d.honest device)
+      → (IsTrue (d.honest device) → IfErr outcome (λ r. r.fault ≢ faults.Device → d.content r.device ≡ d.content device))
+      → LeavesStage knows analyze a (Some ((left_by outcome).0)) ((left_by outcome).1) (steps.opened a.knows held)
+  open_left a device analyzer held (Ok index) spare opened known by refused returned honest kept = opened_stage a device analyzer held index spare opened known by
+  open_left a device analyzer held (Err r) spare opened known by refused returned honest kept = unopened_stage a device analyzer held r spare refused returned honest kept

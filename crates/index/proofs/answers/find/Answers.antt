@@ -1,0 +1,39 @@
+use Rattle.std.proofs.Common.{None, Some, map, subst, sym, ◌≡◌, ◌≢◌, List}
+use Rattle.definitions.specs.Built.{built_query_in}
+use Rattle.definitions.specs.Calls as calls
+use Rattle.definitions.specs.Replies.{hits_reply}
+use Rattle.definitions.specs.Requests as requests
+use Rattle.definitions.specs.Scanning as scanning
+use Rattle.definitions.specs.State.{committed}
+use Rattle.definitions.specs.Step as steps
+use Rattle.definitions.specs.declared.fault.Fault.TheVariants as faults
+use Rattle.definitions.proofs.Steps.{refused_call}
+use Rattle.plain.specs.Hits.{hit_of, scored}
+use Rattle.plain.specs.Queries.{query_of}
+use Rattle.index.proofs.Answering.{err_weaker, ok_weaker, read_search, search_answered}
+use Rattle.serde_json.specs.View.{view}
+use Rattle.index.proofs.answers.find.Goals as goal
+
+pub returns-clause-ok : goal.returns-clause-ok
+returns-clause-ok g c k x s =
+    let d = view c.args.query.now in
+    let q = query_of c.in_ok-query.query in
+    let read = subst (λ m. built_query_in m.schema d ≡ Some q) (sym s.made) c.in_ok-query.ensures.ok in
+    let hs = scanning.scan k.schema k.analyze k.similarity (committed x.state) q c.args.k in
+    ok_weaker c.search.result
+    (λ hits. (calls.call_fault k x (calls.search_best q c.args.k) ≡ None) × (map hit_of hits.items ≡ map scored hs))
+    (λ hits. (found : List scanning.Hit) × (map hit_of hits.items ≡ map scored found) × (steps.index_step k x (requests.search_docs d c.args.k) ≡ (hits_reply found, x)))
+    (λ hits p. (hs, p.1, search_answered k x d c.args.k q read p.0))
+    (c.search.ensures.ok k x s)
+
+pub returns-clause-err : goal.returns-clause-err
+returns-clause-err g c k x s =
+    let d = view c.args.query.now in
+    let q = query_of c.in_ok-query.query in
+    let call = calls.search_best q c.args.k in
+    let read = subst (λ m. built_query_in m.schema d ≡ Some q) (sym s.made) c.in_ok-query.ensures.ok in
+    err_weaker c.search.result
+    (λ fault. fault ≢ faults.OutOfMemory → calls.call_fault k x call ≡ Some fault)
+    (λ fault. fault ≢ faults.OutOfMemory → steps.index_step k x (requests.search_docs d c.args.k) ≡ steps.refusing fault x)
+    (λ fault refused other. refused_call k x (requests.search_docs d c.args.k) call fault (read_search k d c.args.k q read) (refused other))
+    (c.search.ensures.err k x s)

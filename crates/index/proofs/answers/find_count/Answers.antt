@@ -1,0 +1,37 @@
+use Rattle.std.proofs.Common.{None, Some, subst, sym, ◌≡◌, ◌≢◌}
+use Rattle.definitions.specs.Built.{built_query_in}
+use Rattle.definitions.specs.Calls as calls
+use Rattle.definitions.specs.Replies.{count_reply}
+use Rattle.definitions.specs.Requests as requests
+use Rattle.definitions.specs.Scanning as scanning
+use Rattle.definitions.specs.State.{committed}
+use Rattle.definitions.specs.Step as steps
+use Rattle.definitions.specs.declared.fault.Fault.TheVariants as faults
+use Rattle.definitions.proofs.Steps.{refused_call}
+use Rattle.plain.specs.Queries.{query_of}
+use Rattle.index.proofs.Answering.{count_answered, err_weaker, ok_weaker, read_count}
+use Rattle.serde_json.specs.View.{view}
+use Rattle.std.proofs.Common.{ap, ◌∙◌}
+use Rattle.index.proofs.answers.find_count.Goals as goal
+
+pub returns-clause-ok : goal.returns-clause-ok
+returns-clause-ok g c k x s =
+    let d = view c.args.query.now in
+    let q = query_of c.in_ok-query.query in
+    let read = subst (λ m. built_query_in m.schema d ≡ Some q) (sym s.made) c.in_ok-query.ensures.ok in
+    ok_weaker c.count.result
+    (λ count. (calls.call_fault k x (calls.count_all q) ≡ None) × (count ≡ scanning.scan_count k.schema k.analyze (committed x.state) q))
+    (λ count. steps.index_step k x (requests.count_docs d) ≡ (count_reply count, x))
+    (λ count p. count_answered k x d q read p.0 ∙ ap (λ n. (count_reply n, x)) (sym p.1))
+    (c.count.ensures.ok k x s)
+
+pub returns-clause-err : goal.returns-clause-err
+returns-clause-err g c k x s =
+    let d = view c.args.query.now in
+    let q = query_of c.in_ok-query.query in
+    let read = subst (λ m. built_query_in m.schema d ≡ Some q) (sym s.made) c.in_ok-query.ensures.ok in
+    err_weaker c.count.result
+    (λ fault. calls.call_fault k x (calls.count_all q) ≡ Some fault)
+    (λ fault. fault ≢ faults.OutOfMemory → steps.index_step k x (requests.count_docs d) ≡ steps.refusing fault x)
+    (λ fault refused other. refused_call k x (requests.count_docs d) (calls.count_all q) fault (read_count k d q read) refused)
+    (c.count.ensures.err k x s)

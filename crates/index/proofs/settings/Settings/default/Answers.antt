@@ -1,9 +1,0 @@
--- The norms that are made are those of the default settings.
-use Rattle.std.proofs.Common.{◌≡◌, ap₂, replicate, rules}
-use Rattle.index.specs.Weights.{settings_of}
-use Rattle.index.proofs.settings.Settings.default.Goals as goal
-
-pub returns : goal.returns
-returns c =
-    let norms : c.in_ok-from_elem.field-0.items ≡ replicate 256 1 = search rules in
-    ap₂ (settings_of 65536 16384 100 60) c.new.ensures.items norms

@@ -1,0 +1,29 @@
+-- What is replied to requests of an index.
+use Rattle.std.specs.Prelude.{⊤, ◌≡◌, Err, IfOk, List, Ok, OnOk, Result, codes, false, ℕ}
+use Rattle.std.specs.Cow.{cow_str_bytes}
+use Rattle.std.specs.declared.borrow.CowStr.{CowStr}
+use Rattle.definitions.specs.Analyzers.{Analyzer}
+use Rattle.definitions.specs.Calls as calls
+use Rattle.definitions.specs.FaultNames.{reply_text}
+use Rattle.definitions.specs.Replies.{reply_of}
+use Rattle.definitions.specs.Requests as requests
+use Rattle.definitions.specs.Step as steps
+use Rattle.definitions.specs.declared.fault.Fault.{Fault}
+use Rattle.index.specs.Standing.{Stands}
+use Rattle.index.specs.declared.collection.Collection.{Collection}
+use Rattle.relay.specs.Replies.{stops}
+
+-- the reply to a change
+abbrev pub change_text : Result ⊤ Fault → List ℕ
+change_text (Ok u) = codes "{\"ok\":true}"
+change_text (Err fault) = reply_text fault
+
+-- the change met no fault that stops
+abbrev pub GoesOn : Result ⊤ Fault → Type 0
+GoesOn (Ok u) = ⊤
+GoesOn (Err fault) = stops fault ≡ false
+
+-- the text is the definitions' reply, and the collection stands for what comes after
+pub record Answers {A Z : Type 0} (analyze : A → Analyzer) (new : Collection A) (c : calls.Configuration) (x : calls.Index) (r : requests.Request) (result : Result (CowStr Z) Fault) : Type 0 where
+  pub text : IfOk result (λ text. cow_str_bytes text ≡ reply_of ((steps.index_step c x r).0))
+  pub state : OnOk result (Stands analyze new c ((steps.index_step c x r).1))

@@ -1,0 +1,131 @@
+//! What is replied to requests of the index that stands.
+
+ghost use Rattle.std.specs.Prelude.{◌≡◌, ◌≢◌, ◌⊎◌, IfErr, IfOk, IsTrue, List, OnOk, false, map};
+ghost use Rattle.std.specs.Cow.{cow_str_bytes};
+ghost use Rattle.definitions.specs.Calls as calls;
+ghost use Rattle.definitions.specs.FaultNames.{reply_text};
+ghost use Rattle.definitions.specs.Replies.{count_reply, hits_reply};
+ghost use Rattle.definitions.specs.Requests as requests;
+ghost use Rattle.definitions.specs.Scanning as scanning;
+ghost use Rattle.definitions.specs.Step as steps;
+ghost use Rattle.definitions.specs.declared.fault.Fault.TheVariants as faults;
+ghost use Rattle.index.specs.Accepting.{IsMadeAlike};
+ghost use Rattle.index.specs.AskedRequests.{index_request_of};
+ghost use Rattle.index.specs.Replying.{Answers, GoesOn, change_text};
+ghost use Rattle.index.specs.Standing.{Stands};
+ghost use Rattle.plain.specs.Hits.{hit_of, scored};
+ghost use Rattle.relay.specs.Replies.{stops};
+ghost use Rattle.serde_json.specs.View.{view};
+
+use crate::collection::Collection;
+use crate::index::Index;
+use crate::json_queries::read_query;
+use crate::json_replies::{count_text, hits_text};
+use crate::requests::IndexRequest;
+use common::{Analyzer, Device};
+use definitions::Fault;
+use plain::Hit;
+use serde_json::Value as Json;
+use std::borrow::CowStr;
+
+/// What is replied to a request that changed something.
+const OK_REPLY: &str = "{\"ok\":true}";
+
+/// Does what a request asks for.
+pub(crate) fn answer<D: Device + Drop, A: Analyzer + Drop>(
+    index: &mut Index<D, A>,
+    request: IndexRequest<'_>,
+) -> Result<CowStr<'static>, Fault>
+    ensures answered { (c : calls.Configuration) (x : calls.Index) → Stands A.analyze index.old.collection c x → Answers A.analyze index.new.collection c x (index_request_of request.entry) result }
+    ensures made { IsMadeAlike index.old.collection index.new.collection }
+    ensures kept { (c : calls.Configuration) (x : calls.Index) → Stands A.analyze index.old.collection c x → OnOk result ((x.status ≡ calls.ready) ⊎ (index.new.file.device ≡ index.old.file.device)) }
+    ensures err { IfErr result (λ fault. IsTrue (stops fault)) }
+{
+    match request {
+        IndexRequest::Add(doc) => answer_change(index.add_value(doc)),
+        IndexRequest::Commit => answer_change(index.commit()),
+        IndexRequest::Search(query, k) => search(&index.collection, query, k),
+        IndexRequest::Count(query) => count(&index.collection, query),
+    }
+}
+
+/// The reply to a search.
+fn search<A: Analyzer + Drop>(
+    collection: &Collection<A>,
+    query: &Json,
+    k: u64,
+) -> Result<CowStr<'static>, Fault>
+    ensures answered { (c : calls.Configuration) (x : calls.Index) → Stands A.analyze collection.now c x → Answers A.analyze collection.now c x (requests.search_docs (view query.now) k) result }
+    ensures err { IfErr result (λ fault. IsTrue (stops fault)) }
+{
+    match find(collection, query, k) {
+        Ok(hits) => Ok(CowStr::Owned(hits_text(collection.alloc, &hits)?)),
+        Err(fault) => refusal(fault),
+    }
+}
+
+/// The reply to a count.
+fn count<A: Analyzer + Drop>(
+    collection: &Collection<A>,
+    query: &Json,
+) -> Result<CowStr<'static>, Fault>
+    ensures answered { (c : calls.Configuration) (x : calls.Index) → Stands A.analyze collection.now c x → Answers A.analyze collection.now c x (requests.count_docs (view query.now)) result }
+    ensures err { IfErr result (λ fault. IsTrue (stops fault)) }
+{
+    match find_count(collection, query) {
+        Ok(count) => Ok(CowStr::Owned(count_text(collection.alloc, count)?)),
+        Err(fault) => refusal(fault),
+    }
+}
+
+/// The hits of a query that is read from JSON.
+fn find<A: Analyzer + Drop>(
+    collection: &Collection<A>,
+    query: &Json,
+    k: u64,
+) -> Result<Vec<Hit>, Fault>
+    ensures ok { (c : calls.Configuration) (x : calls.Index) → Stands A.analyze collection.now c x → IfOk result (λ hits.
+        (hs : List scanning.Hit) × (map hit_of hits.items ≡ map scored hs) × (steps.index_step c x (requests.search_docs (view query.now) k) ≡ (hits_reply hs, x))) }
+    ensures err { (c : calls.Configuration) (x : calls.Index) → Stands A.analyze collection.now c x → IfErr result (λ fault.
+        fault ≢ faults.OutOfMemory → steps.index_step c x (requests.search_docs (view query.now) k) ≡ steps.refusing fault x) }
+{
+    collection.check_open()?;
+    let query = read_query(collection.alloc, &collection.schema, query)?;
+    collection.search(&query, k as usize)
+}
+
+/// How many documents match a query that is read from JSON.
+fn find_count<A: Analyzer + Drop>(collection: &Collection<A>, query: &Json) -> Result<u64, Fault>
+    ensures ok { (c : calls.Configuration) (x : calls.Index) → Stands A.analyze collection.now c x → IfOk result (λ count.
+        steps.index_step c x (requests.count_docs (view query.now)) ≡ (count_reply count, x)) }
+    ensures err { (c : calls.Configuration) (x : calls.Index) → Stands A.analyze collection.now c x → IfErr result (λ fault.
+        fault ≢ faults.OutOfMemory → steps.index_step c x (requests.count_docs (view query.now)) ≡ steps.refusing fault x) }
+{
+    collection.check_open()?;
+    let query = read_query(collection.alloc, &collection.schema, query)?;
+    collection.count(&query)
+}
+
+/// The reply to a call that changes something.
+pub(crate) fn answer_change(change: Result<(), Fault>) -> Result<CowStr<'static>, Fault>
+    ensures text { IfOk result (λ text. cow_str_bytes text ≡ change_text change) }
+    ensures on { OnOk result (GoesOn change) }
+    ensures err { IfErr result (λ fault. IsTrue (stops fault)) }
+{
+    match change {
+        Ok(()) => Ok(CowStr::Borrowed(OK_REPLY)),
+        Err(fault) => refusal(fault),
+    }
+}
+
+/// The reply that tells a fault. One that stops is told by the run.
+pub(crate) fn refusal(fault: Fault) -> Result<CowStr<'static>, Fault>
+    ensures text { IfOk result (λ text. cow_str_bytes text ≡ reply_text fault) }
+    ensures on { OnOk result (stops fault ≡ false) }
+    ensures err { IfErr result (λ e. IsTrue (stops e)) }
+{
+    match fault {
+        Fault::OutOfMemory | Fault::Limit | Fault::Device => Err(fault),
+        fault => Ok(CowStr::Borrowed(fault.reply())),
+    }
+}
