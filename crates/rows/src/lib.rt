@@ -2,17 +2,35 @@
 #![tactic(auto)]
 
 #[cfg(test)]
-mod engine;
+mod blocks;
 #[cfg(test)]
-mod lines;
+mod codes_lengths;
+#[cfg(test)]
+mod documents;
+#[cfg(test)]
+mod facets;
+#[cfg(test)]
+mod field_paths;
 #[cfg(test)]
 mod number_codes;
 #[cfg(test)]
+mod positions;
+#[cfg(test)]
+mod record_bodies;
+#[cfg(test)]
+mod record_files;
+#[cfg(test)]
 mod schema_json;
+#[cfg(test)]
+mod schema_kinds;
 #[cfg(test)]
 mod schemas;
 #[cfg(test)]
-mod settings_json;
+mod skips;
+#[cfg(test)]
+mod stores;
+#[cfg(test)]
+mod stores_read;
 #[cfg(test)]
 mod terms;
 #[cfg(test)]

@@ -7,10 +7,10 @@ use std::alloc::Global;
 use std::test::Fail;
 
 const FIELDS: &str =
-    r#"[{"type":"text","options":{"stored":true,"indexing":{"record":"position"}},"name":"title"},{"name":"year","type":"u64","options":{"indexed":true,"fast":7}}]"#;
+    r#"[{"type":"text","options":{"stored":true,"indexing":{"record":"position"}},"name":"title"},{"name":"year","type":"u64","options":{"indexed":true,"gap":7}}]"#;
 
 const WRITTEN: &str =
-    r#"[{"name":"title","options":{"indexing":{"fieldnorms":true,"record":"position","tokenizer":"default"},"stored":true},"type":"text"},{"name":"year","options":{"fieldnorms":true,"indexed":true,"stored":false},"type":"u64"}]"#;
+    r#"[{"name":"title","options":{"coerce":false,"fast":false,"indexing":{"fieldnorms":true,"record":"position","tokenizer":"default"},"stored":true},"type":"text"},{"name":"year","options":{"coerce":false,"fast":false,"fieldnorms":true,"indexed":true,"stored":false},"type":"u64"}]"#;
 
 fn schema_in(alloc: Global, text: &str) -> Result<Result<Schema, Fault>, serde_json::Error> {
     let value = Value::from_str(alloc, text)?;

@@ -1,8 +1,8 @@
 //! Settings and schemas that no index is made of.
 
-use common::RawAndDefault;
+use super::{MemoryIndex, new_index};
 use definitions::Fault;
-use index::{Index, Settings};
+use index::Settings;
 use options::{INDEXED, TextFieldIndexing, TextOptions};
 use schema::{Field, Schema, Term};
 use std::alloc::Global;
@@ -93,7 +93,7 @@ fn settings_by_default(rt: HostRuntime) -> Result<(), Fail> {
 }
 
 // An index of a text field with that tokenizer.
-fn index_of_tokenizer(alloc: Global, name: &str) -> Result<Index<RawAndDefault>, Fault> {
+fn index_of_tokenizer(alloc: Global, name: &str) -> Result<MemoryIndex, Fault> {
     let indexing = TextFieldIndexing::default().set_tokenizer(alloc, name)?;
     let mut builder = Schema::builder(alloc);
     builder.add_text_field(
@@ -101,7 +101,7 @@ fn index_of_tokenizer(alloc: Global, name: &str) -> Result<Index<RawAndDefault>,
         TextOptions::default().set_indexing_options(indexing),
     )?;
     let settings = Settings::default(alloc)?;
-    Index::in_memory(alloc, RawAndDefault, builder.build(), settings)
+    new_index(alloc, builder.build(), settings)
 }
 
 #[test]
@@ -116,14 +116,14 @@ fn tokenizers_that_are_known(rt: HostRuntime) {
 }
 
 // An index of so many fields.
-fn index_of_fields(alloc: Global, count: u32) -> Result<Index<RawAndDefault>, Fault> {
+fn index_of_fields(alloc: Global, count: u32) -> Result<MemoryIndex, Fault> {
     let mut builder = Schema::builder(alloc);
     for number in 0..count {
         let name = format!(in alloc; "{number}")?;
         builder.add_u64_field(&name, INDEXED)?;
     }
     let settings = Settings::default(alloc)?;
-    Index::in_memory(alloc, RawAndDefault, builder.build(), settings)
+    new_index(alloc, builder.build(), settings)
 }
 
 #[test]

@@ -1,9 +1,8 @@
 //! Bools: what their clauses find, and how deep they nest.
 
-use super::{A, B, C, index_of_docs, told, word};
-use common::RawAndDefault;
+use super::{A, B, C, MemoryIndex, index_of_docs, told, word};
 use definitions::Fault;
-use index::{AnyQuery, BooleanQuery, Hit, Index, Occur, Settings};
+use index::{AnyQuery, BooleanQuery, Hit, Occur, Settings};
 use std::alloc::{AllocError, Global};
 use std::test::Fail;
 
@@ -28,11 +27,7 @@ fn nested(alloc: Global, bools: usize) -> Result<AnyQuery, AllocError> {
 }
 
 // What a bool of these clauses finds.
-fn found(
-    alloc: Global,
-    index: &Index<RawAndDefault>,
-    words: &[(Occur, &str)],
-) -> Result<Vec<Hit>, Fault> {
+fn found(alloc: Global, index: &MemoryIndex, words: &[(Occur, &str)]) -> Result<Vec<Hit>, Fault> {
     let query = AnyQuery::Boolean(BooleanQuery::new(clauses(alloc, words)?));
     index.search(&query, 10)
 }
@@ -56,6 +51,36 @@ fn clauses_of_words(rt: HostRuntime) -> Result<(), Fail> {
     assert_eq!(rt; told(alloc, &without)?.as_slice(), [(30, A)].as_slice());
     let forbidden = found(alloc, &index, &[(Occur::MustNot, "sea")])?;
     assert_eq!(rt; forbidden.len(), 0);
+    Ok(())
+}
+
+#[test]
+fn equal_scores_keep_the_order_of_addition(rt: HostRuntime) -> Result<(), Fail> {
+    let alloc = rt.alloc();
+    let norms = Vec::from_elem(alloc, 1, 256)?;
+    let settings = Settings::new(alloc, 65536, 16384, 100, 0, Vec::new(alloc), norms)?;
+    let index = index_of_docs(alloc, settings)?;
+    let words = clauses(alloc, &[(Occur::Should, "sea"), (Occur::Should, "wind")])?;
+    let hits = index.search(&AnyQuery::Boolean(BooleanQuery::new(words)), 3)?;
+    let expected = [(0, A), (0, B), (0, C)];
+    assert_eq!(rt; told(alloc, &hits)?.as_slice(), expected.as_slice());
+    Ok(())
+}
+
+#[test]
+fn a_document_beside_a_word_has_one_point_more(rt: HostRuntime) -> Result<(), Fail> {
+    let alloc = rt.alloc();
+    let index = index_of_docs(alloc, Settings::default(alloc)?)?;
+    let mut inner = clauses(alloc, &[(Occur::Should, "wind")])?;
+    inner.push((Occur::Should, AnyQuery::All))?;
+    let inner = AnyQuery::Boolean(BooleanQuery::new(inner));
+    let mut outer = clauses(alloc, &[(Occur::Must, "sea")])?;
+    outer.push((Occur::Must, inner))?;
+    let hits = index.search(&AnyQuery::Boolean(BooleanQuery::new(outer)), 10)?;
+    assert_eq!(rt;
+        told(alloc, &hits)?.as_slice(),
+        [(71, B), (31, A)].as_slice()
+    );
     Ok(())
 }
 

@@ -1,20 +1,19 @@
 //! Queries that are refused, and by which test first.
 
-use super::builder;
-use common::RawAndDefault;
+use super::{MemoryIndex, builder, new_index};
 use definitions::Fault;
-use index::{AnyQuery, Index, Settings, TermQuery};
+use index::{AnyQuery, Settings, TermQuery};
 use options::{IndexRecordOption, STORED};
 use schema::{Field, Term};
 use std::alloc::Global;
 use std::test::Fail;
 
 // An index whose field 2 is a text that isn't indexed.
-fn index_with_note(alloc: Global) -> Result<Index<RawAndDefault>, Fault> {
+fn index_with_note(alloc: Global) -> Result<MemoryIndex, Fault> {
     let mut builder = builder(alloc)?;
     builder.add_text_field("note", STORED)?;
     let settings = Settings::default(alloc)?;
-    Index::in_memory(alloc, RawAndDefault, builder.build(), settings)
+    new_index(alloc, builder.build(), settings)
 }
 
 // The query for a term with counts.

@@ -1,15 +1,19 @@
 //! The index: what it finds, and what it refuses.
 
+ghost use Rattle.std.specs.Prelude.{IfOk};
+ghost use Rattle.definitions.specs.Making.{HasBuiltKinds};
+
 mod adds;
 mod bools;
+mod files;
 mod json_queries;
 mod making;
 mod refused_queries;
 mod scores;
 
-use common::{RawAndDefault, Score};
+use common::{MemoryDevice, RawAndDefault, Score};
 use definitions::Fault;
-use index::{AnyQuery, Hit, Index, Settings, TermQuery, Value};
+use index::{AnyQuery, Hit, Index, Refused, Settings, TermQuery, Value, has_built_kinds};
 use options::{INDEXED, IndexRecordOption, STORED, TEXT};
 use schema::{Field, Schema, SchemaBuilder, Term};
 use std::alloc::{AllocError, Global};
@@ -38,19 +42,50 @@ fn builder(alloc: Global) -> Result<SchemaBuilder, Fault> {
     Ok(builder)
 }
 
-fn schema(alloc: Global) -> Result<Schema, Fault> {
-    Ok(builder(alloc)?.build())
+fn schema(alloc: Global) -> Result<Schema, Fault>
+    ensures { IfOk result (λ schema. HasBuiltKinds schema) }
+{
+    let schema = builder(alloc)?.build();
+    if !has_built_kinds(&schema) {
+        return Err(Fault::BadSchema);
+    }
+    Ok(schema)
+}
+
+// An index whose file is in memory.
+type MemoryIndex = Index<MemoryDevice, RawAndDefault>;
+
+// The index, or why there is none.
+fn made(
+    outcome: Result<MemoryIndex, Refused<MemoryDevice, RawAndDefault>>,
+) -> Result<MemoryIndex, Fault> {
+    match outcome {
+        Ok(index) => Ok(index),
+        Err(
+            Refused {
+                fault,
+                device: _device,
+                analyzer: _analyzer,
+            },
+        ) => Err(fault),
+    }
+}
+
+// An index of a new file.
+fn new_index(alloc: Global, schema: Schema, settings: Settings) -> Result<MemoryIndex, Fault> {
+    let device = MemoryDevice::new(alloc);
+    made(Index::create(alloc, device, RawAndDefault, schema, settings))
 }
 
 // An index of the two fields, without documents.
-fn empty_index(alloc: Global) -> Result<Index<RawAndDefault>, Fault> {
+fn empty_index(alloc: Global) -> Result<MemoryIndex, Fault> {
     let settings = Settings::default(alloc)?;
-    Index::in_memory(alloc, RawAndDefault, schema(alloc)?, settings)
+    new_index(alloc, schema(alloc)?, settings)
 }
 
 // An index of the three documents, all committed.
-fn index_of_docs(alloc: Global, settings: Settings) -> Result<Index<RawAndDefault>, Fault> {
-    let mut index = Index::in_memory(alloc, RawAndDefault, schema(alloc)?, settings)?;
+fn index_of_docs(alloc: Global, settings: Settings) -> Result<MemoryIndex, Fault> {
+    let mut index = new_index(alloc, schema(alloc)?, settings)?;
     for doc in DOCS {
         index.add_json(doc)?;
     }

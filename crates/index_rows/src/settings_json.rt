@@ -1,18 +1,27 @@
 //! Settings read from JSON texts and written.
 
+ghost use Rattle.std.specs.Prelude.{IfOk};
+ghost use Rattle.definitions.specs.Making.{HasBuiltKinds};
+
 use definitions::Fault;
-use index::Settings;
+use index::{Settings, has_built_kinds};
 use options::{INDEXED, STORED, TEXT};
 use schema::Schema;
 use serde_json::Value;
 use std::alloc::Global;
 use std::test::Fail;
 
-fn schema(alloc: Global) -> Result<Schema, Fault> {
+fn schema(alloc: Global) -> Result<Schema, Fault>
+    ensures { IfOk result (λ schema. HasBuiltKinds schema) }
+{
     let mut fields = Schema::builder(alloc);
     fields.add_text_field("title", TEXT | STORED)?;
     fields.add_u64_field("year", INDEXED | STORED)?;
-    Ok(fields.build())
+    let schema = fields.build();
+    if !has_built_kinds(&schema) {
+        return Err(Fault::BadSchema);
+    }
+    Ok(schema)
 }
 
 #[test]
@@ -39,13 +48,26 @@ fn settings_that_are_refused(rt: HostRuntime) -> Result<(), Fail> {
     for text in [
         "[]",
         r#"{"other":1}"#,
+        "null",
+        r#"{"docs_per_segment":null}"#,
+        r#"{"docs_per_segment":"1"}"#,
         r#"{"docs_per_segment":0}"#,
         r#"{"docs_per_segment":2147483648}"#,
         r#"{"block_size":4294967296}"#,
+        r#"{"block_size":1.0}"#,
         r#"{"default_weight":1000000000000001}"#,
         r#"{"default_weight":-1}"#,
         r#"{"cache_blocks":1.5}"#,
+        r#"{"cache_blocks":18446744073709551616}"#,
         r#"{"norms":[1]}"#,
+        r#"{"norms":1}"#,
+        r#"{"weights":{}}"#,
+        r#"{"weights":[7]}"#,
+        r#"{"weights":[{"term":{"field":"title","value":"sea"}}]}"#,
+        r#"{"weights":[{"term":{"field":"title","value":"sea"},"weight":-1}]}"#,
+        r#"{"weights":[{"term":{"field":"title","value":"sea"},"weight":1000000000000001}]}"#,
+        r#"{"weights":[{"term":{"field":"title","value":"sea"},"weight":1,"x":1}]}"#,
+        r#"{"weights":[{"term":{"field":"title","value":"sea"},"weight":1},{"term":{"field":"title","value":"sea"},"weight":2}]}"#,
         r#"{"weights":[{"term":{"field":"nope","value":1},"weight":1}]}"#,
     ] {
         let json = Value::from_str(alloc, text)?;

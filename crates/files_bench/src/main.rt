@@ -1,0 +1,144 @@
+//! `files_bench`: how long a commit and an opening take, and how many bytes a document takes in its file.
+//!
+//! With an argument it prints a table; without one it does nothing.
+#![tactic(auto)]
+
+use common::{Device, MemoryDevice, RawAndDefault};
+use definitions::Fault;
+use index::{Index, Refused, Settings};
+use options::{INDEXED, STORED, TEXT};
+use schema::Schema;
+use std::alloc::{AllocError, Global};
+use std::env;
+use std::process::ExitCode;
+use std::time::{Clock, Instant};
+
+/// The words of the documents.
+const WORDS: [&str; 16] = [
+    "the", "old", "sea", "wind", "rain", "stone", "river", "light", "night", "day", "salt", "gull",
+    "harbour", "north", "south", "ship",
+];
+
+/// How many words a document has.
+const WORDS_PER_DOC: u32 = 8;
+
+/// An index whose file is in memory.
+type MemoryIndex = Index<MemoryDevice, RawAndDefault>;
+
+/// What was measured of an index with so many documents: the times in microseconds.
+#[derive(Clone, Copy)]
+struct Row {
+    docs: u32,
+    commit: u128,
+    open: u128,
+    bytes: usize,
+}
+
+fn main(rt: HostRuntime) -> ExitCode {
+    if !has_argument(&rt) {
+        return ExitCode::SUCCESS;
+    }
+    let _ = println!(rt; "| documents | commit, ms | opening, ms | bytes of file |");
+    let _ = println!(rt; "|---|---|---|---|");
+    for docs in [1000, 10000, 100000] {
+        match measure(&rt, docs) {
+            Ok(row) => {
+                let (commit, open) = (row.commit / 1000, row.open / 1000);
+                let _ = println!(rt; "| {} | {commit} | {open} | {} |", row.docs, row.bytes);
+            }
+            Err(fault) => {
+                let _ = eprintln!(rt; "files_bench: {fault}");
+                return ExitCode::FAILURE;
+            }
+        }
+    }
+    ExitCode::SUCCESS
+}
+
+/// Whether the program was started with an argument.
+fn has_argument(rt: &(impl Alloc + std::rt::Env)) -> bool {
+    match env::args(rt) {
+        Ok(args) => args.count() > 1,
+        Err(_) => false,
+    }
+}
+
+/// Fills an index, commits it, and opens its file again.
+fn measure(rt: &HostRuntime, docs: u32) -> Result<Row, Fault> {
+    let alloc = rt.alloc();
+    let mut index = filled(alloc, docs)?;
+    let begun = now(rt)?;
+    index.commit()?;
+    let commit = micros_since(rt, begun)?;
+    let (mut device, analyzer) = index.into_device();
+    let bytes = device.read(alloc)?.len();
+    let begun = now(rt)?;
+    let _opened = made(Index::open(alloc, device, analyzer))?;
+    let open = micros_since(rt, begun)?;
+    Ok(Row {
+        docs,
+        commit,
+        open,
+        bytes,
+    })
+}
+
+/// An index in which so many documents wait.
+fn filled(alloc: Global, docs: u32) -> Result<MemoryIndex, Fault> {
+    let mut fields = Schema::builder(alloc);
+    fields.add_text_field("title", TEXT | STORED)?;
+    fields.add_u64_field("year", INDEXED | STORED)?;
+    let settings = Settings::default(alloc)?;
+    let device = MemoryDevice::new(alloc);
+    let mut index = made(Index::create(alloc, device, RawAndDefault, fields.build(), settings))?;
+    let mut state = 7u32;
+    for _ in 0..docs {
+        let doc = document(alloc, &mut state)?;
+        index.add_json(&doc)?;
+    }
+    Ok(index)
+}
+
+/// A document of words without order.
+fn document(alloc: Global, state: &mut u32) -> Result<String, AllocError> {
+    let mut doc = String::from_str(alloc, "{\"title\":\"")?;
+    for _ in 0..WORDS_PER_DOC {
+        *state = state.wrapping_mul(1664525).wrapping_add(1013904223);
+        doc.push_str(WORDS[(*state >> 28) as usize])?;
+        doc.push_str(" ")?;
+    }
+    doc.push_str("\",\"year\":1952}")?;
+    Ok(doc)
+}
+
+/// The index, or why there is none.
+fn made(
+    outcome: Result<MemoryIndex, Refused<MemoryDevice, RawAndDefault>>,
+) -> Result<MemoryIndex, Fault> {
+    match outcome {
+        Ok(index) => Ok(index),
+        Err(
+            Refused {
+                fault,
+                device: _device,
+                analyzer: _analyzer,
+            },
+        ) => Err(fault),
+    }
+}
+
+/// The time, or that the clock fails.
+fn now(clock: &impl Clock) -> Result<Instant, Fault> {
+    match Instant::now(clock) {
+        Ok(now) => Ok(now),
+        Err(_) => Err(Fault::Device),
+    }
+}
+
+/// How many microseconds went by.
+fn micros_since(clock: &impl Clock, begun: Instant) -> Result<u128, Fault> {
+    match begun.elapsed(clock) {
+        Ok(elapsed) => Ok(elapsed.as_micros()),
+        Err(_) => Err(Fault::Device),
+    }
+}

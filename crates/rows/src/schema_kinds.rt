@@ -1,0 +1,199 @@
+//! Schemas of fields of all types: their JSON, and what is refused.
+
+use definitions::Fault;
+use schema::{
+    BytesOptions, COERCE, DateOptions, FAST, FacetOptions, INDEXED, IpAddrOptions,
+    JsonObjectOptions, NumericOptions, STORED, STRING, Schema, TEXT, TextFieldIndexing,
+    TextOptions,
+};
+use serde_json::Value;
+use std::alloc::Global;
+use std::test::Fail;
+
+fn schema_in(alloc: Global, text: &str) -> Result<Result<Schema, Fault>, serde_json::Error> {
+    let value = Value::from_str(alloc, text)?;
+    Ok(Schema::from_json_value(alloc, &value))
+}
+
+/// A field as it is read, and as it is written then: every option of its type is named.
+const FIELDS: [(&str, &str); 18] = [
+    (
+        r#"{"name":"t","type":"text","options":{}}"#,
+        r#"{"name":"t","options":{"coerce":false,"fast":false,"indexing":null,"stored":false},"type":"text"}"#,
+    ),
+    (
+        r#"{"name":"t","type":"text","options":{"coerce":true,"fast":true,"stored":true,"indexing":{}}}"#,
+        r#"{"name":"t","options":{"coerce":true,"fast":true,"indexing":{"fieldnorms":true,"record":"basic","tokenizer":"default"},"stored":true},"type":"text"}"#,
+    ),
+    (
+        r#"{"name":"n","type":"u64","options":{}}"#,
+        r#"{"name":"n","options":{"coerce":false,"fast":false,"fieldnorms":false,"indexed":false,"stored":false},"type":"u64"}"#,
+    ),
+    (
+        r#"{"name":"n","type":"u64","options":{"indexed":true,"coerce":true}}"#,
+        r#"{"name":"n","options":{"coerce":true,"fast":false,"fieldnorms":true,"indexed":true,"stored":false},"type":"u64"}"#,
+    ),
+    (
+        r#"{"name":"i","type":"i64","options":{}}"#,
+        r#"{"name":"i","options":{"coerce":false,"fast":false,"fieldnorms":false,"indexed":false,"stored":false},"type":"i64"}"#,
+    ),
+    (
+        r#"{"name":"i","type":"i64","options":{"fieldnorms":true,"stored":true}}"#,
+        r#"{"name":"i","options":{"coerce":false,"fast":false,"fieldnorms":true,"indexed":false,"stored":true},"type":"i64"}"#,
+    ),
+    (
+        r#"{"name":"o","type":"bool","options":{}}"#,
+        r#"{"name":"o","options":{"coerce":false,"fast":false,"fieldnorms":false,"indexed":false,"stored":false},"type":"bool"}"#,
+    ),
+    (
+        r#"{"name":"o","type":"bool","options":{"coerce":true,"fast":true,"indexed":true,"fieldnorms":false}}"#,
+        r#"{"name":"o","options":{"coerce":true,"fast":true,"fieldnorms":false,"indexed":true,"stored":false},"type":"bool"}"#,
+    ),
+    (
+        r#"{"name":"d","type":"date","options":{"coerce":7}}"#,
+        r#"{"name":"d","options":{"fast":false,"fieldnorms":false,"indexed":false,"stored":false},"type":"date"}"#,
+    ),
+    (
+        r#"{"name":"d","type":"date","options":{"indexed":true,"fast":true}}"#,
+        r#"{"name":"d","options":{"fast":true,"fieldnorms":true,"indexed":true,"stored":false},"type":"date"}"#,
+    ),
+    (
+        r#"{"name":"f","type":"facet","options":{"fast":7,"indexed":false}}"#,
+        r#"{"name":"f","options":{"stored":false},"type":"facet"}"#,
+    ),
+    (
+        r#"{"name":"f","type":"facet","options":{"stored":true}}"#,
+        r#"{"name":"f","options":{"stored":true},"type":"facet"}"#,
+    ),
+    (
+        r#"{"name":"b","type":"bytes","options":{"expand_dots":7}}"#,
+        r#"{"name":"b","options":{"fast":false,"fieldnorms":false,"indexed":false,"stored":false},"type":"bytes"}"#,
+    ),
+    (
+        r#"{"name":"b","type":"bytes","options":{"stored":true,"indexed":true}}"#,
+        r#"{"name":"b","options":{"fast":false,"fieldnorms":true,"indexed":true,"stored":true},"type":"bytes"}"#,
+    ),
+    (
+        r#"{"name":"j","type":"json_object","options":{"indexed":7}}"#,
+        r#"{"name":"j","options":{"expand_dots":false,"fast":false,"indexing":null,"stored":false},"type":"json_object"}"#,
+    ),
+    (
+        r#"{"name":"j","type":"json_object","options":{"expand_dots":true,"fast":true,"indexing":{"record":"freq","tokenizer":"raw"}}}"#,
+        r#"{"name":"j","options":{"expand_dots":true,"fast":true,"indexing":{"fieldnorms":true,"record":"freq","tokenizer":"raw"},"stored":false},"type":"json_object"}"#,
+    ),
+    (
+        r#"{"name":"p","type":"ip_addr","options":{}}"#,
+        r#"{"name":"p","options":{"fast":false,"fieldnorms":false,"indexed":false,"stored":false},"type":"ip_addr"}"#,
+    ),
+    (
+        r#"{"name":"p","type":"ip_addr","options":{"fast":true,"fieldnorms":true}}"#,
+        r#"{"name":"p","options":{"fast":true,"fieldnorms":true,"indexed":false,"stored":false},"type":"ip_addr"}"#,
+    ),
+];
+
+#[test]
+fn fields_of_all_types_are_read_and_written(rt: HostRuntime) -> Result<(), Fail> {
+    let alloc = rt.alloc();
+    for (read, written) in FIELDS {
+        let schema = schema_in(alloc, &format!(in alloc; "[{read}]")?)??;
+        let value = schema.to_json_value(alloc)?;
+        let expected = format!(in alloc; "[{written}]")?;
+        assert_eq!(rt; value.to_string(alloc)?.as_str(), expected.as_str());
+        let again = Schema::from_json_value(alloc, &value)?.to_json_value(alloc)?;
+        assert_eq!(rt; again.to_string(alloc)?.as_str(), expected.as_str());
+    }
+    Ok(())
+}
+
+/// Fields that no schema has.
+const REFUSED: [&str; 14] = [
+    r#"{"name":"x","type":"f64","options":{}}"#,
+    r#"{"name":"x","type":"json","options":{}}"#,
+    r#"{"name":"x","type":"ip","options":{}}"#,
+    r#"{"name":"t","type":"text","options":{"fast":7}}"#,
+    r#"{"name":"t","type":"text","options":{"coerce":"true"}}"#,
+    r#"{"name":"n","type":"u64","options":{"fast":null}}"#,
+    r#"{"name":"i","type":"i64","options":{"coerce":1}}"#,
+    r#"{"name":"o","type":"bool","options":{"indexed":"yes"}}"#,
+    r#"{"name":"d","type":"date","options":{"fieldnorms":[]}}"#,
+    r#"{"name":"f","type":"facet","options":{"stored":0}}"#,
+    r#"{"name":"b","type":"bytes","options":{"fast":{}}}"#,
+    r#"{"name":"j","type":"json_object","options":{"expand_dots":1}}"#,
+    r#"{"name":"j","type":"json_object","options":{"indexing":true}}"#,
+    r#"{"name":"p","type":"ip_addr","options":{"stored":null}}"#,
+];
+
+#[test]
+fn fields_that_are_refused(rt: HostRuntime) -> Result<(), Fail> {
+    let alloc = rt.alloc();
+    for field in REFUSED {
+        let refused = schema_in(alloc, &format!(in alloc; "[{field}]")?)?.err();
+        assert_eq!(rt; refused, Some(Fault::BadSchema), "{field}");
+    }
+    Ok(())
+}
+
+// A field of each type, by the builder's calls and by flags.
+fn built(alloc: Global) -> Result<Schema, Fault> {
+    let mut builder = Schema::builder(alloc);
+    builder.add_text_field("t", TEXT | STORED | COERCE)?;
+    builder.add_text_field("s", STRING.set_fast())?;
+    builder.add_u64_field("n", INDEXED | FAST)?;
+    builder.add_i64_field("i", NumericOptions::default().set_fieldnorm() | COERCE)?;
+    builder.add_bool_field("o", STORED)?;
+    builder.add_date_field("d", DateOptions::default().set_indexed())?;
+    builder.add_facet_field("f", INDEXED | STORED)?;
+    builder.add_bytes_field("b", BytesOptions::default().set_fieldnorms() | FAST)?;
+    let indexing = TextFieldIndexing::default();
+    let options = JsonObjectOptions::default().set_indexing_options(indexing);
+    builder.add_json_field("j", options.set_expand_dots_enabled() | STORED)?;
+    builder.add_ip_addr_field("p", INDEXED | STORED)?;
+    Ok(builder.build())
+}
+
+/// The fields of that schema.
+const BUILT: [&str; 10] = [
+    r#"{"name":"t","options":{"coerce":true,"fast":false,"indexing":{"fieldnorms":true,"record":"position","tokenizer":"default"},"stored":true},"type":"text"}"#,
+    r#"{"name":"s","options":{"coerce":false,"fast":true,"indexing":{"fieldnorms":true,"record":"basic","tokenizer":"raw"},"stored":false},"type":"text"}"#,
+    r#"{"name":"n","options":{"coerce":false,"fast":true,"fieldnorms":true,"indexed":true,"stored":false},"type":"u64"}"#,
+    r#"{"name":"i","options":{"coerce":true,"fast":false,"fieldnorms":true,"indexed":false,"stored":false},"type":"i64"}"#,
+    r#"{"name":"o","options":{"coerce":false,"fast":false,"fieldnorms":false,"indexed":false,"stored":true},"type":"bool"}"#,
+    r#"{"name":"d","options":{"fast":false,"fieldnorms":false,"indexed":true,"stored":false},"type":"date"}"#,
+    r#"{"name":"f","options":{"stored":true},"type":"facet"}"#,
+    r#"{"name":"b","options":{"fast":true,"fieldnorms":true,"indexed":false,"stored":false},"type":"bytes"}"#,
+    r#"{"name":"j","options":{"expand_dots":true,"fast":false,"indexing":{"fieldnorms":true,"record":"basic","tokenizer":"default"},"stored":true},"type":"json_object"}"#,
+    r#"{"name":"p","options":{"fast":false,"fieldnorms":true,"indexed":true,"stored":true},"type":"ip_addr"}"#,
+];
+
+#[test]
+fn fields_of_all_types_are_added(rt: HostRuntime) -> Result<(), Fail> {
+    let alloc = rt.alloc();
+    let value = built(alloc)?.to_json_value(alloc)?;
+    let fields = value.as_array().ok_or(Fault::BadSchema)?;
+    assert_eq!(rt; fields.len(), BUILT.len());
+    for (field, expected) in fields.iter().zip(BUILT) {
+        assert_eq!(rt; field.to_string(alloc)?.as_str(), expected);
+    }
+    Ok(())
+}
+
+// Each generic call at the flags of its options.
+#[test]
+fn flags_of_the_other_types(rt: HostRuntime) -> Result<(), Fail> {
+    let date = DateOptions::from(STORED | INDEXED | FAST);
+    assert!(rt; date.is_stored() && date.fieldnorms() && date.is_fast());
+    assert!(rt; (STORED | DateOptions::default()).is_stored());
+    assert!(rt; !DateOptions::from(STORED).is_indexed());
+    assert!(rt; FacetOptions::from(STORED | INDEXED).is_stored());
+    assert!(rt; !FacetOptions::from(INDEXED).is_stored());
+    assert!(rt; (FacetOptions::default() | STORED).is_stored());
+    assert!(rt; (BytesOptions::default() | INDEXED).fieldnorms());
+    assert!(rt; (IpAddrOptions::default().set_indexed() | FAST).is_fast());
+    assert!(rt; JsonObjectOptions::from(STORED | FAST).is_fast());
+    assert!(rt; NumericOptions::from(COERCE | FAST).should_coerce());
+    assert!(rt; TextOptions::from(COERCE).should_coerce());
+    assert!(rt; (FAST | TextOptions::default()).is_fast());
+    let json = JsonObjectOptions::default().set_indexing_options(TextFieldIndexing::default());
+    assert!(rt; json.clone()?.is_indexed());
+    Ok(())
+}
