@@ -7,9 +7,9 @@ ghost use Rattle.serde_json.specs.View.{view};
 ghost use Rattle.serde_json.specs.Written.{compact_text};
 
 use definitions::Fault;
+use json_keys::has_only;
 use schema::Schema;
 use serde_json::{Value as Json, json};
-use settings::json_keys::has_only;
 use settings::{Settings, has_built_kinds};
 use std::alloc::{AllocError, Global};
 

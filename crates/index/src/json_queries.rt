@@ -18,11 +18,11 @@ ghost use Rattle.serde_json.specs.Find.{get};
 ghost use Rattle.serde_json.specs.View.{items_view, view};
 
 use definitions::Fault;
+use json_keys::{has_only, number_in, text_at};
 use options::IndexRecordOption;
 use plain::{AnyQuery, BooleanQuery, Occur, TermQuery};
 use schema::Schema;
 use serde_json::Value as Json;
-use settings::json_keys::{has_only, text_at};
 use settings::term_beside;
 use std::alloc::Global;
 
@@ -162,17 +162,6 @@ fn read_minimum(json: &Json, clauses: Vec<(Occur, AnyQuery)>) -> Result<AnyQuery
         ))),
         None => Err(Fault::BadQuery),
     }
-}
-
-/// A whole number from 0 to 2^63 - 1.
-fn number_in(json: &Json) -> Option<u64>
-    ensures { result ≡ keys.number_in (view json.now) }
-{
-    let number = json.as_u64()?;
-    if number >= 1 << 63 {
-        return None;
-    }
-    Some(number)
 }
 
 /// Adds a clause for each query in the list at a key.

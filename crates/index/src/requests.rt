@@ -6,8 +6,8 @@ ghost use Rattle.definitions.specs.Requests as definitions;
 ghost use Rattle.index.specs.AskedRequests.{request_of};
 ghost use Rattle.serde_json.specs.View.{view};
 
+use json_keys::{has_only, number_at, text_at};
 use serde_json::Value as Json;
-use settings::json_keys::{has_only, number_at, text_at};
 
 /// What a request asks for, with what it is about as it was sent.
 #[derive(Clone, Copy)]

@@ -10,7 +10,6 @@ mod field_name;
 mod field_type;
 mod fields;
 mod ip_addr;
-mod json_keys;
 pub mod json_laws;
 mod json_path;
 mod read_schema;

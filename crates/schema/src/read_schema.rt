@@ -14,9 +14,9 @@ ghost use Rattle.schema.specs.Kinds.{kind_of};
 
 use crate::field_entry::FieldType;
 use crate::field_type::Type;
-use crate::json_keys::{flag_or, has_only, object_at, text_at};
 use crate::schema::Schema;
 use definitions::Fault;
+use json_keys::{flag_or, has_only, object_at, text_at};
 use options::{
     BytesOptions, DateOptions, FacetOptions, IndexRecordOption, IpAddrOptions, JsonObjectOptions,
     NumericOptions, TextFieldIndexing, TextOptions,

@@ -9,8 +9,8 @@ ghost use Rattle.definitions.specs.declared.fault.Fault.TheVariants as faults;
 ghost use Rattle.serde_json.specs.Find.{get};
 ghost use Rattle.serde_json.specs.View.{view};
 
-use crate::json_keys::{has_only_beside, text_at};
 use definitions::Fault;
+use json_keys::{has_only_beside, text_at};
 use schema::{Field, FieldType, Schema, Term};
 use serde_json::Value as Json;
 use std::alloc::{AllocError, Global};

@@ -2,7 +2,6 @@
 #![tactic(auto)]
 
 mod built_kinds;
-pub mod json_keys;
 mod json_settings;
 mod json_terms;
 mod settings;
