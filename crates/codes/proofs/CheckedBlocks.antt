@@ -33,7 +33,7 @@ small_append [] ys first last i = last i
 small_append (x ∷ xs) ys first last zero = first 0
 small_append (x ∷ xs) ys first last (suc i) = small_append xs ys (λ k. first (suc k)) last i
 
-small_drop : (n : ℕ) (xs : List ℕ) → AreSmall xs → AreSmall (drop n xs)
+pub small_drop : (n : ℕ) (xs : List ℕ) → AreSmall xs → AreSmall (drop n xs)
 small_drop n xs small i = subst (λ m. m < 2 ^ 31) (sym (get_or-drop n xs i 0)) (small (n + i))
 
 small_take : (n : ℕ) (xs : List ℕ) → AreSmall xs → AreSmall (take n xs)

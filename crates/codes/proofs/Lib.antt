@@ -17,6 +17,5 @@ pub mod ListLaws
 pub mod PositionBlocks
 pub mod CheckedBlocks
 pub mod PositionsOpened
+pub mod PositionNumbers
 pub mod PositionsPut
-pub mod SkipReading
-pub mod SkipLaws

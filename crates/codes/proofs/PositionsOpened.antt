@@ -1,9 +1,11 @@
 -- Positions that are opened from their bytes and read.
 use Rattle.std.proofs.Common.{[], IsSome, List, None, Option, Some, ap, ap₂, arith, drop, length, length-append, length-drop, length-take, refl, subst, suc, sym, take, take_all, zero, ◌%◌, ◌*◌, ◌++◌, ◌+◌, ◌-◌, ◌/◌, ◌<◌, ◌≡◌, ◌≤◌, ◌∙◌, ◌∷◌, ◌^◌, ℕ}
-use Rattle.std.proofs.lemmas.List.{drop-take, take_rest}
+use Rattle.std.proofs.lemmas.List.{drop-take, take-append-drop, take_rest}
 use Rattle.std.proofs.Math.Seq.{take-add}
 use Rattle.common.proofs.TakenBack.{bytes_back, bytes_put}
+use Rattle.codes.proofs.CheckedBlocks.{small_drop}
 use Rattle.codes.proofs.ListLaws.{Small, all_back, all_stood}
+use Rattle.codes.proofs.Packings.{one_reading}
 use Rattle.codes.proofs.PositionBlocks.{drop_drop, rest_numbers, unpacked_count}
 use Rattle.codes.specs.PositionBlocks.{AreSmall, HasAll, Holds, listed, numbers_in, packed_len, unpacked}
 use Rattle.definitions.specs.Json.{◌>>=◌}
@@ -186,3 +188,22 @@ all_counted ws packed held block at holds last =
     let few = numbers_few ws packed in
     let least = numbers_least ws packed in
     omega (arith, is, length-take 128 (drop (128 * length ws) numbers), length-drop (128 * length ws) numbers)
+
+-- ---- one reading
+
+-- numbers in the same blocks
+same_blocks : (ws a b bytes : List ℕ) → AreBlocks ws a bytes → AreBlocks ws b bytes → AreSmall a → AreSmall b → a ≡ b
+same_blocks [] a b bytes p q small_a small_b = ap listed (sym (rest_taken bytes a p small_a) ∙ rest_taken bytes b q small_b)
+same_blocks (w ∷ ws) a b bytes p q small_a small_b =
+    let first : take 128 a ≡ take 128 b = one_reading w (take 128 a) (take 128 b) (take (16 * w) bytes) p.0.packed q.0.packed in
+    let later : drop 128 a ≡ drop 128 b = same_blocks ws (drop 128 a) (drop 128 b) (drop (16 * w) bytes) p.1 q.1 (small_drop 128 a small_a) (small_drop 128 b small_b) in
+    sym (take-append-drop 128 a) ∙ ap₂ (λ xs ys. xs ++ ys) first later ∙ take-append-drop 128 b
+
+-- no other numbers have these bytes
+pub one_list : (a b bytes : List ℕ) → length bytes < 2 ^ 64 → ArePositions a bytes → ArePositions b bytes → a ≡ b
+one_list a b bytes few p q =
+    let ws = p.widths in
+    let whole : bytes ≡ sized_bytes ws ++ p.packed = p.whole in
+    let taken : take_bytes bytes ≡ Some (ws, p.packed) = ap take_bytes whole ∙ bytes_back ws p.packed (widths_within (vint_bytes (length ws)) ws p.packed bytes p.whole few) in
+    let other = blocks_of bytes ws p.packed b few taken q in
+    same_blocks ws a b p.packed p.blocks other.0 p.small other.1

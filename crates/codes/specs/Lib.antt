@@ -4,4 +4,3 @@ pub mod Decoded
 pub mod FieldNorms
 pub mod Readers
 pub mod PositionBlocks
-pub mod SkipBlocks

@@ -1,4 +1,4 @@
-//! Byte layouts of postings and lengths: blocks of numbers, lists of numbers, and the lengths of fields.
+//! Byte layouts of postings and lengths: blocks of numbers, lists of numbers, positions, and the lengths of fields.
 #![tactic(auto)]
 
 ghost use Rattle.std.specs.Prelude.{◌*◌, ◌≡◌};
@@ -12,10 +12,9 @@ mod fieldnorms;
 pub mod layout_laws;
 mod offset;
 mod packing;
+pub mod position_laws;
 mod position_reader;
 mod position_serializer;
-mod skip_reader;
-mod skip_serializer;
 mod summing;
 mod unpacking;
 mod vint;
@@ -29,8 +28,6 @@ pub use fieldnorms::{
 };
 pub use position_reader::PositionReader;
 pub use position_serializer::PositionSerializer;
-pub use skip_reader::{BlockInfo, Recorded, SkipReader};
-pub use skip_serializer::SkipSerializer;
 pub use vint::{VIntDecoder, VIntEncoder};
 
 /// How many numbers stand in a block.

@@ -43,6 +43,7 @@ impl<'a> PositionReader<'a> {
     /// Reads the bytes of a term's positions; other bytes are `Damaged`. Every block is checked.
     pub fn open(bytes: &'a [u8]) -> Result<PositionReader<'a>, Fault>
         ensures ok { IfOk result (λ reader. ArePositions reader bytes.now) }
+        ensures one { IfOk result (λ reader. (numbers : List ℕ) → ArePositions numbers bytes.now → numbers ≡ reader) }
         ensures err { IfErr result (λ fault. (fault ≡ faults.Damaged None) × ((numbers : List ℕ) → ArePositions numbers bytes.now → ⊥)) }
     {
         let (widths, packed) = take_bytes(bytes)?;

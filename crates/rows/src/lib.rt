@@ -26,7 +26,7 @@ mod schema_kinds;
 #[cfg(test)]
 mod schemas;
 #[cfg(test)]
-mod skips;
+mod skip_entries;
 #[cfg(test)]
 mod stores;
 #[cfg(test)]

@@ -1,8 +1,8 @@
-//! Positions of terms, and the bytes of skip entries.
+//! Positions of terms, written and read.
 
 ghost use Rattle.std.specs.Prelude.{◌<◌, ◌^◌};
 
-use codes::{PositionReader, PositionSerializer, SkipSerializer};
+use codes::{PositionReader, PositionSerializer};
 use definitions::Fault;
 use std::alloc::{AllocError, Global};
 use std::test::Fail;
@@ -113,16 +113,26 @@ fn every_cut_of_positions_is_damaged(rt: HostRuntime) -> Result<(), Fail> {
     Ok(())
 }
 
+/// Whether the last number of a reader, where it has one, is below 2^31.
+fn last_is_small(reader: &mut PositionReader) -> bool {
+    let mut number = [0];
+    let count = reader.num_positions();
+    if 0 < count && count < 1_000_000 {
+        reader.read((count - 1) as u64, &mut number);
+    }
+    number[0] < 0x8000_0000
+}
+
 #[test]
 fn a_changed_byte_of_positions_is_an_answer_or_damaged(rt: HostRuntime) -> Result<(), Fail> {
     let bytes = positions(rt.alloc(), 130)?;
     for place in 0..bytes.len() {
-        for byte in [0, 255] {
+        for byte in 0..=u8::MAX {
             let mut changed = Vec::from_slice(rt.alloc(), &bytes[..place])?;
             changed.push(byte)?;
             changed.extend_from_slice(&bytes[place + 1..])?;
             match PositionReader::open(changed.as_slice()) {
-                Ok(mut reader) => assert!(rt; reader.num_positions() <= 131),
+                Ok(mut reader) => assert!(rt; last_is_small(&mut reader), "{place} {byte}"),
                 Err(fault) => assert_eq!(rt; fault, Fault::Damaged(None)),
             }
         }
@@ -145,25 +155,4 @@ fn bytes_that_are_no_positions(rt: HostRuntime) {
     }
     assert!(rt; PositionReader::open(b"\x80\x7f\x7f\x7f\x7f\x87").is_ok());
     assert!(rt; PositionReader::open(b"\x82\x00\x00").is_ok());
-}
-
-#[test]
-fn skip_entries_as_bytes(rt: HostRuntime) -> Result<(), Fail> {
-    let mut serializer = SkipSerializer::new(rt.alloc());
-    serializer.write_doc(254, 1)?;
-    serializer.write_blockwand_max(1, 1)?;
-    assert_eq!(rt;
-        serializer.data(),
-        b"\xfe\x00\x00\x00\x01\x01\x01".as_slice()
-    );
-    serializer.clear();
-    serializer.write_doc(127, 0)?;
-    serializer.write_term_freq(2)?;
-    serializer.write_total_term_freq(300)?;
-    serializer.write_blockwand_max(9, 255)?;
-    assert_eq!(rt;
-        serializer.data(),
-        b"\x7f\x00\x00\x00\x00\x02\x2c\x01\x00\x00\x09\xff".as_slice()
-    );
-    Ok(())
 }

@@ -1,6 +1,6 @@
 use Rattle.std.proofs.Common.{arith, length, ◌<◌, ◌^◌}
 use Rattle.std.proofs.lemmas.Result.{err_from_is_err_and}
-use Rattle.codes.proofs.PositionsOpened.{held_last, no_blocks, no_rest, no_widths, opened}
+use Rattle.codes.proofs.PositionsOpened.{held_last, no_blocks, no_rest, no_widths, one_list, opened}
 use Rattle.codes.proofs.position_reader.PositionReader.open.Goals as goal
 
 pub returns-in_err-widths-clause-err : goal.returns-in_err-widths-clause-err
@@ -27,3 +27,6 @@ invariant_of-result c = held_last c.in_ok-widths.widths.now c.in_ok-widths.packe
 
 pub returns-clause-ok : goal.returns-clause-ok
 returns-clause-ok c = opened c.args.bytes.now c.in_ok-widths.widths.now c.in_ok-widths.packed.now _ c.in_ok-at.at (λ i. omega (arith, c.type_inv.bytes i)) c.in_ok-widths.ensures.ok c.in_ok-at.ensures.ok c.in_ok-checked_rest.ensures.ok
+
+pub returns-clause-one : goal.returns-clause-one
+returns-clause-one c = λ numbers positions. one_list numbers _ c.args.bytes.now (let few : length c.args.bytes.now < 2 ^ 64 = omega arith in few) positions (opened c.args.bytes.now c.in_ok-widths.widths.now c.in_ok-widths.packed.now _ c.in_ok-at.at (λ i. omega (arith, c.type_inv.bytes i)) c.in_ok-widths.ensures.ok c.in_ok-at.ensures.ok c.in_ok-checked_rest.ensures.ok)

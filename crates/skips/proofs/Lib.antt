@@ -1,0 +1,3 @@
+-- Lemmas behind skip entries.
+pub mod SkipReading
+pub mod SkipLaws
