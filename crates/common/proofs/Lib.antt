@@ -3,3 +3,4 @@ pub mod VintDigits
 pub mod TakenBack
 pub mod DigitNumbers
 pub mod MadeCalls
+pub mod RisingTokens

@@ -8,6 +8,7 @@ mod memory_device;
 mod number;
 pub mod number_code_laws;
 mod number_codes;
+mod pre_tokenized_string;
 mod raw_and_default;
 mod run_fault;
 mod synced;
@@ -26,6 +27,7 @@ pub use number::{
 pub use number_codes::{
     put_bytes, put_u32, put_u64, put_vint, take_bytes, take_text, take_u32, take_u64, take_vint,
 };
+pub use pre_tokenized_string::PreTokenizedString;
 pub use raw_and_default::RawAndDefault;
 pub use run_fault::RunFault;
 pub use synced::{cut_synced, write_synced};

@@ -16,11 +16,11 @@ use Rattle.document.proofs.Many.{bind_some, bytes_after, many_back, many_put}
 
 -- ---- without tokens a value is held as it is written
 
-count_plain : (vs : Values) → values_count (plain_values vs) ≡ values_count vs
+pub count_plain : (vs : Values) → values_count (plain_values vs) ≡ values_count vs
 count_plain no_values = refl
 count_plain (value v vs) = ap suc (count_plain vs)
 
-members_plain : (ms : Members) → members_count (plain_members ms) ≡ members_count ms
+pub members_plain : (ms : Members) → members_count (plain_members ms) ≡ members_count ms
 members_plain no_members = refl
 members_plain (member k v ms) = ap suc (members_plain ms)
 

@@ -4,12 +4,16 @@ use Rattle.std.specs.Int.{w64}
 use Rattle.std.specs.List.{AllByRecursion}
 use Rattle.definitions.specs.Facets.{encoded}
 use Rattle.definitions.specs.NumberCodes.{AreBytes}
-use Rattle.definitions.specs.Values.{IsFacet, bool, bytes, date, facet, i64, ip_addr, str, u64}
+use Rattle.definitions.specs.Values.{IsFacet, Token, bool, bytes, date, facet, i64, ip_addr, pre_tok_str, str, u64}
 use Rattle.document.specs.Docs.{IsGoodPair}
+use Rattle.document.specs.Held.{IsHeldValue}
 use Rattle.document.specs.Taking.{deepest}
 
 pub str_pair : (f : ℕ) (s : List ℕ) → f < 2 ^ 32 → IsUtf8 s → length s < 2 ^ 64 → IsGoodPair true deepest (f, str s)
 str_pair f s field text short = record { field = field; value = record { value = text; sized = short; shallow = omega arith; kept = λ e. refl } }
+
+pub tokens_pair : (f : ℕ) (s : List ℕ) (ts : List Token) → f < 2 ^ 32 → IsHeldValue (pre_tok_str s ts) → IsGoodPair true deepest (f, pre_tok_str s ts)
+tokens_pair f s ts field held = record { field = field; value = record { value = held.0; sized = held.1; shallow = omega arith; kept = λ e. cc } }
 
 pub facet_pair : (f : ℕ) (steps : List (List ℕ)) → f < 2 ^ 32 → IsFacet steps → length (encoded steps) < 2 ^ 64 → IsGoodPair true deepest (f, facet steps)
 facet_pair f steps field is short = record { field = field; value = record { value = is; sized = short; shallow = omega arith; kept = λ e. refl } }

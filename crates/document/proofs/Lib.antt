@@ -8,3 +8,11 @@ pub mod Skips
 pub mod HeldPairs
 pub mod LeafPairs
 pub mod BinaryForm
+pub mod WholeItems
+pub mod WrittenParts
+pub mod StoredPairs
+pub mod SameDocuments
+pub mod OwnedParts
+pub mod WholePairs
+pub mod JsonParts
+pub mod ReadingSteps

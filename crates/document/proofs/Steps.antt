@@ -1,10 +1,10 @@
 -- The steps of a facet are the parts of its text between zeros.
-use Rattle.std.proofs.Common.{[], ◌++◌, ◌∷◌, ◌≡◌, ◌≢◌, ◌≤◌, ◌∙◌, ◌&&◌, ◌+◌, Bool, IsUtf8, List, ap, append-nil, arith, cond, eqb, eqb-true, false, inl, inr, length, ltb, refl, rules, subst, sym, true, ℕ}
-use Rattle.std.specs.List.{AllByRecursion, count_by, onto_first}
+use Rattle.std.proofs.Common.{[], ◌++◌, ◌∷◌, ◌≡◌, ◌≢◌, ◌≤◌, ◌∙◌, ◌&&◌, ◌+◌, ◌==◌, Bool, IsUtf8, List, None, Some, ap, append-nil, arith, cond, eqb, eqb-true, false, if◌then◌else◌, inl, inr, length, ltb, refl, rules, subst, sym, true, ℕ}
+use Rattle.std.specs.List.{AllByRecursion, count_by, list_any, onto_first}
 use Rattle.std.proofs.lemmas.Bool.{and_parts, cases_lt, cond_both}
 use Rattle.std.proofs.lemmas.List.Splits.{join_with_byte-slice_split, length-slice_split}
 use Rattle.std.proofs.lemmas.Str.{IsUtf8-append, IsUtf8-from_ascii, IsUtf8-nil, encode_ascii}
-use Rattle.definitions.specs.Facets.{encoded}
+use Rattle.definitions.specs.Facets.{encoded, facet_of_steps}
 use Rattle.definitions.specs.Values.{IsFacet, IsStep}
 use Rattle.definitions.proofs.Runs.{onto_front, onto_front_none, onto_front_part}
 use Rattle.document.specs.Taking.{steps_in}
@@ -98,8 +98,17 @@ chars_steps (c ∷ cs) h =
     let are = and_parts (scalar c) (scalars cs) h in
     steps_more c (encodes cs) (char_text c are.0) (chars_steps cs are.1)
 
-some_steps : (text : List ℕ) → steps_in text ≢ []
+pub some_steps : (text : List ℕ) → steps_in text ≢ []
 some_steps text e = (let more : length (steps_in text) ≡ count_by (λ b. eqb b 0) text + 1 = length-slice_split (λ b. eqb b 0) text in let none : length (steps_in text) ≡ 0 = ap length e in omega arith)
 
 pub steps_are_facet : (text : List ℕ) → IsUtf8 text → IsFacet (steps_in text)
 steps_are_facet text utf8 = (some_steps text, subst (λ bs. AllByRecursion IsStep (steps_in bs)) utf8.1.1 (chars_steps utf8.0 utf8.1.0))
+
+-- a facet that is made of steps has these
+pub made_of_steps : (steps made : List (List ℕ)) → steps ≢ [] → facet_of_steps steps ≡ Some made → made ≡ steps
+made_of_steps [] made some e = absurd (some refl)
+made_of_steps (s ∷ steps) made some e = go (list_any (list_any (◌==◌ 0)) (s ∷ steps)) e
+  where
+    go : (t : Bool) → (if t then None else Some (s ∷ steps)) ≡ Some made → made ≡ s ∷ steps
+    go true e = cc
+    go false e = cc

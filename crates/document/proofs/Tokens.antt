@@ -1,5 +1,5 @@
 -- Tokens as a document holds them: what was put is taken back, and what is taken was put.
-use Rattle.std.proofs.Common.{[], ◌++◌, ◌<◌, ◌≤◌, ◌^◌, ◌∷◌, ◌≡◌, ◌∙◌, IsUtf8, List, Option, Some, ap, ap₂, append_assoc, arith, flat_map, length, nat_le, refl, subst, suc, sym, true, zero, ℕ}
+use Rattle.std.proofs.Common.{[], ◌++◌, ◌-◌, ◌<◌, ◌≤◌, ◌^◌, ◌∷◌, ◌≡◌, ◌∙◌, IsUtf8, List, None, Option, Some, ap, ap₂, append_assoc, arith, flat_map, length, nat_le, option_map, refl, subst, suc, sym, true, zero, ℕ}
 use Rattle.std.proofs.lemmas.Bool.Decides.{nat_tests}
 use Rattle.common.proofs.TakenBack.{text_back, text_put, vint_back, vint_put}
 use Rattle.definitions.specs.Json.{only_if, ◌>>=◌}
@@ -83,7 +83,7 @@ from_put least (suc n) bs rest ts bytes e =
     let others = from_put one.0.0.position n one.0.1 rest more.0 (bytes_after (token_bytes one.0.0) one.0.1 (subst AreBytes first.1 bytes)) more.1 in
     subst (λ ts. AreTokensFrom least ts × AreSizedTokens ts × (length ts ≡ suc n) × (bs ≡ flat_map token_bytes ts ++ rest)) more.2 (
       (first.0.after, first.0.text, others.0),
-      (first.0.place, first.0.places, first.0.short, others.1),
+      ((first.0.place, first.0.places, first.0.short), others.1),
       ap suc others.2,
       first.1 ∙ ap (λ ys. token_bytes one.0.0 ++ ys) others.3 ∙ sym (append_assoc (token_bytes one.0.0) (flat_map token_bytes more.0) rest),
     )
@@ -92,8 +92,8 @@ from_back : (least : ℕ) (ts : List Token) (rest : List ℕ) → AreTokensFrom 
 from_back least [] rest are sized = refl
 from_back least (t ∷ ts) rest are sized =
     ap (take_tokens_from least (suc (length ts))) (append_assoc (token_bytes t) (flat_map token_bytes ts) rest)
-    ∙ ap (λ o. o >>= (λ p. taken_map (λ ys. p.0 ∷ ys) (take_tokens_from p.0.position (length ts) p.1))) (token_back least t (flat_map token_bytes ts ++ rest) (record { after = are.0; place = sized.0; places = sized.1; text = are.1; short = sized.2 }))
-    ∙ ap (taken_map (λ ys. t ∷ ys)) (from_back t.position ts rest are.2 sized.3)
+    ∙ ap (λ o. o >>= (λ p. taken_map (λ ys. p.0 ∷ ys) (take_tokens_from p.0.position (length ts) p.1))) (token_back least t (flat_map token_bytes ts ++ rest) (record { after = are.0; place = sized.0.0; places = sized.0.1; text = are.1; short = sized.0.2 }))
+    ∙ ap (taken_map (λ ys. t ∷ ys)) (from_back t.position ts rest are.2 sized.1)
 
 pub tokens_put : (bs rest : List ℕ) (ts : List Token) → AreBytes bs → take_tokens bs ≡ Some (ts, rest) → AreTokens ts × AreSizedTokens ts × (length ts < 2 ^ 64) × (bs ≡ tokens_bytes ts ++ rest)
 tokens_put bs rest ts bytes e =
@@ -107,3 +107,21 @@ tokens_back ts rest are sized few =
     ap take_tokens (append_assoc (vint_bytes (length ts)) (flat_map token_bytes ts) rest)
     ∙ ap (λ o. o >>= (λ p. take_tokens_from 0 p.0 p.1)) (vint_back (length ts) (flat_map token_bytes ts ++ rest) few)
     ∙ from_back 0 ts rest are sized
+
+-- ---- tokens copied one by one
+
+-- the tokens behind others
+abbrev pub behind_tokens : List Token → Option (List Token × List ℕ) → Option (List Token)
+behind_tokens done o = option_map (λ p. done ++ p.0) o
+
+pub one_token : (done more : List Token) (least left : ℕ) (rest after : List ℕ) (t : Token) → 0 < left → take_token least rest ≡ Some (t, after) → more ≡ done ++ (t ∷ []) → behind_tokens more (take_tokens_from t.position (left - 1) after) ≡ behind_tokens done (take_tokens_from least left rest)
+one_token done more least zero rest after t some e is = absurd (omega arith)
+one_token done more least (suc n) rest after t some e is =
+    let one : suc n - 1 ≡ n = omega arith in
+    ap₂ (λ d k. behind_tokens d (take_tokens_from t.position k after)) is one
+    ∙ go (take_tokens_from t.position n after)
+    ∙ ap (λ o. behind_tokens done (o >>= (λ p. taken_map (λ ts. p.0 ∷ ts) (take_tokens_from p.0.position n p.1)))) (sym e)
+  where
+    go : (o : Option (List Token × List ℕ)) → behind_tokens (done ++ (t ∷ [])) o ≡ behind_tokens done (taken_map (λ ts. t ∷ ts) o)
+    go None = refl
+    go (Some p) = ap Some (append_assoc done (t ∷ []) p.0)

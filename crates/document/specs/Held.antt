@@ -2,7 +2,7 @@
 use Rattle.std.specs.Prelude.{[], ⊤, ◌++◌, ◌<◌, ◌^◌, ◌∷◌, List, flat_map, length, ℕ}
 use Rattle.definitions.specs.Facets.{encoded}
 use Rattle.definitions.specs.NumberCodes.{sized_bytes, u32_bytes, vint_bytes}
-use Rattle.definitions.specs.Values.{Document, Members, Token, Value, Values, array, bytes, facet, member, no_members, no_values, object, pre_tok_str, str, value}
+use Rattle.definitions.specs.Values.{Document, IsValue, Members, Token, Value, Values, array, bytes, facet, member, no_members, no_values, object, pre_tok_str, str, value}
 use Rattle.layouts.specs.DocumentBytes.{members_count, value_bytes, values_count}
 
 -- a token: its place, how many places it takes, and its text
@@ -38,9 +38,12 @@ held_pairs doc = flat_map held_pair doc
 
 -- ---- what can be held: lengths and places below 2^64
 
+abbrev pub IsSizedToken : Token → Type 0
+IsSizedToken t = (t.position < 2 ^ 64) × (t.position_length < 2 ^ 64) × (length t.text < 2 ^ 64)
+
 abbrev pub AreSizedTokens : List Token → Type 0
 AreSizedTokens [] = ⊤
-AreSizedTokens (t ∷ ts) = (t.position < 2 ^ 64) × (t.position_length < 2 ^ 64) × (length t.text < 2 ^ 64) × AreSizedTokens ts
+AreSizedTokens (t ∷ ts) = IsSizedToken t × AreSizedTokens ts
 
 abbrev mutual
   pub IsSized : Value → Type 0
@@ -59,3 +62,7 @@ abbrev mutual
   pub AreSizedMembers : Members → Type 0
   AreSizedMembers no_members = ⊤
   AreSizedMembers (member k v ms) = (length k < 2 ^ 64) × IsSized v × AreSizedMembers ms
+
+-- a value that can be held, however deep
+abbrev pub IsHeldValue : Value → Type 0
+IsHeldValue v = IsValue v × IsSized v

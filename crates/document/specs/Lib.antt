@@ -5,3 +5,6 @@ pub mod Taking
 pub mod Docs
 pub mod Shown
 pub mod CodeHeads
+pub mod Owned
+pub mod IndexedKinds
+pub mod JsonRead

@@ -172,13 +172,3 @@ skip_tokens bs = take_vint bs >>= (λ p. skip_tokens_from 0 p.0 p.1)
 
 abbrev pub tokens_at : List ℕ → List Token
 tokens_at bs = elim (take_tokens bs) [ None ↦ [] | Some p ↦ p.0 ]
-
--- a value whose parts are lent, and what stands behind its head
-abbrev pub lend_inside : (List ℕ → Option (Value × List ℕ)) → Head × List ℕ → Option (Value × List ℕ)
-lend_inside item (leaf v, bs) = Some (v, bs)
-lend_inside item (array_head n, bs) = Some (array (to_values (items_at item n bs)), bs)
-lend_inside item (object_head n, bs) = Some (object (to_members (items_at (take_member item) n bs)), bs)
-
-abbrev pub lend_held : Bool → ℕ → List ℕ → Option (Value × List ℕ)
-lend_held tokens zero bs = take_head tokens bs >>= take_alone
-lend_held tokens (suc depth) bs = take_head tokens bs >>= lend_inside (take_held tokens depth)

@@ -4,20 +4,23 @@ ghost use Rattle.std.specs.Prelude.{[], ◌%◌, ◌++◌, ◌/◌, ◌<◌, ◌
 ghost use Rattle.std.specs.Int.{from_bool};
 ghost use Rattle.definitions.specs.NumberCodes.{sized_bytes, u32_bytes, u64_bytes};
 ghost use Rattle.definitions.specs.Values as values;
-ghost use Rattle.definitions.specs.Values.{Value as DocValue};
+ghost use Rattle.definitions.specs.Values.{Value as DocValue, values_of};
 ghost use Rattle.document.specs.Docs.{IsGoodPair};
-ghost use Rattle.document.specs.Held.{held_pair};
-ghost use Rattle.document.specs.Taking.{deepest, read_document};
+ghost use Rattle.document.specs.Held.{IsHeldValue, held_bytes, held_pair};
+ghost use Rattle.document.specs.Owned.{owned_members, owned_value};
+ghost use Rattle.document.specs.Taking.{deepest, read_document, to_members};
 ghost use Rattle.definitions.specs.declared.fault.Fault.TheVariants as faults;
-ghost use Rattle.std.specs.List.{find};
+ghost use Rattle.std.specs.List.{AllByRecursion, find};
 
 use crate::compact_value::CompactDocValue;
-use crate::date_time::DateTime;
-use crate::facet::Facet;
-use crate::iterators::FieldValueIterRef;
+use crate::iterators::{FieldValueIterRef, ValuesOfField};
+use crate::owned_value::OwnedValue;
+use crate::pairs::{
+    address_pair, bool_pair, number_pair, object_pair, owned_pair, sized_pair, tokens_pair,
+};
 use crate::taking::skip_pairs;
-use common::{Fault, put_bytes, put_u32, put_u64, take_vint};
-use schema::Field;
+use common::{Fault, PreTokenizedString, take_vint};
+use schema::{DateTime, Facet, Field};
 use std::alloc::{AllocError, Global};
 use std::marker::Model;
 
@@ -60,7 +63,8 @@ impl CompactDoc {
 
     /// How many pairs there are.
     pub fn len(&self) -> usize
-        ensures { result ≡ length self.now }
+        ensures count { result ≡ length self.now }
+        ensures pairs { AllByRecursion (IsGoodPair true deepest) self.now }
     {
         self.count
     }
@@ -91,6 +95,13 @@ impl CompactDoc {
         None
     }
 
+    /// The values of a field, in order of addition.
+    pub fn get_all(&self, field: Field) -> ValuesOfField<'_>
+        ensures { result ≡ values_of field self.now }
+    {
+        ValuesOfField::new(field, self.field_values())
+    }
+
     /// The document of the binary form that these bytes are. Bytes that are none are `Damaged`, and so is a
     /// document with a value that nests more than 128 deep.
     pub fn deserialize(alloc: Global, bytes: &[u8]) -> Result<CompactDoc, Fault>
@@ -118,6 +129,19 @@ impl CompactDoc {
         self.add(pair)
     }
 
+    /// Adds a text with its tokens.
+    pub fn add_pre_tokenized_text(
+        &mut self,
+        field: Field,
+        text: &PreTokenizedString,
+    ) -> Result<(), AllocError>
+        ensures ok { OnOk result (self.new ≡ self.old ++ ((field, values.pre_tok_str text.now.0 text.now.1) ∷ [])) }
+        ensures err { OnErr result (self.new ≡ self.old) }
+    {
+        let pair = tokens_pair(*self.heap.allocator(), field, text)?;
+        self.add(pair)
+    }
+
     /// Adds a facet.
     pub fn add_facet(&mut self, field: Field, facet: &Facet) -> Result<(), AllocError>
         ensures ok { OnOk result (self.new ≡ self.old ++ ((field, values.facet facet.now) ∷ [])) }
@@ -134,6 +158,28 @@ impl CompactDoc {
         ensures err { OnErr result (self.new ≡ self.old) }
     {
         let pair = sized_pair(*self.heap.allocator(), field, 4, bytes)?;
+        self.add(pair)
+    }
+
+    /// Adds an object of these members, in order.
+    pub fn add_object(
+        &mut self,
+        field: Field,
+        members: &[(String, OwnedValue)],
+    ) -> Result<(), AllocError>
+        ensures ok { OnOk result (self.new ≡ self.old ++ ((field, values.object (to_members (owned_members members.now))) ∷ [])) }
+        ensures err { OnErr result (self.new ≡ self.old) }
+    {
+        let pair = object_pair(*self.heap.allocator(), field, members)?;
+        self.add(pair)
+    }
+
+    /// Adds a value of any kind.
+    pub fn add_field_value(&mut self, field: Field, value: &OwnedValue) -> Result<(), AllocError>
+        ensures ok { OnOk result (self.new ≡ self.old ++ ((field, owned_value value.now) ∷ [])) }
+        ensures err { OnErr result (self.new ≡ self.old) }
+    {
+        let pair = owned_pair(*self.heap.allocator(), field, value)?;
         self.add(pair)
     }
 
@@ -185,8 +231,8 @@ impl CompactDoc {
 }
 
 impl CompactDoc {
-    // Adds the pair that these bytes are.
-    fn add(&mut self, pair: Vec<u8>) -> Result<(), AllocError>
+    /// Adds the pair that these bytes are.
+    pub(crate) fn add(&mut self, pair: Vec<u8>) -> Result<(), AllocError>
         requires { (p : ℕ × DocValue) × IsGoodPair true deepest p × (pair.items ≡ held_pair p) }
         ensures ok { OnOk result ((p : ℕ × DocValue) → IsGoodPair true deepest p → pair.items ≡ held_pair p → self.new ≡ self.old ++ (p ∷ [])) }
         ensures err { OnErr result (self.new ≡ self.old) }
@@ -197,52 +243,24 @@ impl CompactDoc {
     }
 }
 
-/// A field with a code and a byte string.
-fn sized_pair(alloc: Global, field: Field, code: u8, bytes: &[u8]) -> Result<Vec<u8>, AllocError>
-    ensures pair { IfOk result (λ pair. pair.items ≡ u32_bytes field ++ (code ∷ sized_bytes bytes.now)) }
-    ensures short { length bytes.now < 2 ^ 64 }
-    ensures field { field < 2 ^ 32 }
-{
-    let mut pair = Vec::with_capacity(alloc, bytes.len().saturating_add(15))?;
-    put_u32(&mut pair, field.field_id())?;
-    pair.push(code)?;
-    put_bytes(&mut pair, bytes)?;
-    Ok(pair)
+impl PartialEq for CompactDoc {
+    ghost use Rattle.std.specs.Cmp.{on_per, partial_equiv_from_equiv};
+    ghost use Rattle.std.specs.Cmp.Lexicographic.{nat_list_eq_equiv};
+    ghost use Rattle.document.specs.Docs.{held_document, same_document};
+
+    ghost eq = { same_document };
+
+    ghost laws = { on_per held_document (partial_equiv_from_equiv nat_list_eq_equiv) };
+
+    fn eq(&self, other: &Self) -> bool {
+        self.count == other.count && self.heap.as_slice() == other.heap.as_slice()
+    }
 }
 
-/// A field with a code and eight bytes.
-fn number_pair(alloc: Global, field: Field, code: u8, n: u64) -> Result<Vec<u8>, AllocError>
-    ensures pair { IfOk result (λ pair. pair.items ≡ u32_bytes field ++ (code ∷ u64_bytes n)) }
-    ensures field { field < 2 ^ 32 }
-{
-    let mut pair = Vec::with_capacity(alloc, 13)?;
-    put_u32(&mut pair, field.field_id())?;
-    pair.push(code)?;
-    put_u64(&mut pair, n)?;
-    Ok(pair)
-}
+impl Eq for CompactDoc {
+    ghost use Rattle.std.specs.Cmp.{on_equiv};
+    ghost use Rattle.std.specs.Cmp.Lexicographic.{nat_list_eq_equiv};
+    ghost use Rattle.document.specs.Docs.{held_document};
 
-/// A field with true or false.
-fn bool_pair(alloc: Global, field: Field, b: bool) -> Result<Vec<u8>, AllocError>
-    ensures pair { IfOk result (λ pair. pair.items ≡ u32_bytes field ++ (9 ∷ from_bool b ∷ [])) }
-    ensures field { field < 2 ^ 32 }
-{
-    let mut pair = Vec::with_capacity(alloc, 6)?;
-    put_u32(&mut pair, field.field_id())?;
-    pair.push(9)?;
-    pair.push(b as u8)?;
-    Ok(pair)
-}
-
-/// A field with an address.
-fn address_pair(alloc: Global, field: Field, address: u128) -> Result<Vec<u8>, AllocError>
-    ensures pair { IfOk result (λ pair. pair.items ≡ u32_bytes field ++ (10 ∷ (u64_bytes (address % 2 ^ 64) ++ u64_bytes (address / 2 ^ 64)))) }
-    ensures field { field < 2 ^ 32 }
-{
-    let mut pair = Vec::with_capacity(alloc, 21)?;
-    put_u32(&mut pair, field.field_id())?;
-    pair.push(10)?;
-    put_u64(&mut pair, (address % 18446744073709551616) as u64)?;
-    put_u64(&mut pair, (address / 18446744073709551616) as u64)?;
-    Ok(pair)
+    ghost laws = { on_equiv held_document nat_list_eq_equiv };
 }

@@ -1,8 +1,8 @@
 //! A value of a document, lent from the document's bytes.
 
 use crate::compact_tokens::CompactDocTokens;
-use crate::date_time::DateTime;
 use crate::iterators::{CompactDocArrayIter, CompactDocObjectIter};
+use schema::DateTime;
 
 /// A value of a document. Texts and bytes are lent, and arrays and objects are read item by item.
 #[derive(Drop)]

@@ -11,8 +11,8 @@ ghost use Rattle.document.specs.Taking.{skip_tokens, skip_tokens_from, take_addr
 
 use crate::compact_tokens::CompactDocTokens;
 use crate::compact_value::CompactDocValue;
-use crate::date_time::DateTime;
 use common::{Fault, take_bytes, take_text, take_u64, take_vint};
+use schema::DateTime;
 
 /// A value that holds no others, or how many it holds.
 #[derive(Drop)]

@@ -2,7 +2,8 @@
 
 ghost use Rattle.std.specs.Prelude.{[], ◌≡◌, ◌∷◌, length};
 ghost use Rattle.std.specs.Iterator.{YieldsFirstBy, item_count};
-ghost use Rattle.document.specs.Docs.{pairs_at};
+ghost use Rattle.definitions.specs.Values.{values_of};
+ghost use Rattle.document.specs.Docs.{IsWhole, pairs_at};
 ghost use Rattle.document.specs.Taking.{items_at, take_held, take_member};
 
 use crate::compact_value::CompactDocValue;
@@ -24,6 +25,7 @@ impl<'a> Model for CompactDocArrayIter<'a> {
     ghost use Rattle.std.specs.Prelude.{List};
     ghost use Rattle.std.specs.Coded.{codes, coded_list};
     ghost use Rattle.definitions.specs.Values.{Value as DocValue};
+    ghost use Rattle.document.specs.Docs.{IsWhole};
     ghost use Rattle.document.specs.Taking.{items_at, take_held};
     ghost use Rattle.document.specs.ValueCodes.{value_code};
 
@@ -32,6 +34,8 @@ impl<'a> Model for CompactDocArrayIter<'a> {
     ghost coded = { coded_list (value_code (Prim.hlevel codes)) };
 
     ghost view = { λ i. items_at (take_held i.tokens i.depth) i.left i.bytes.now };
+
+    ghost invariant = { λ i. IsWhole (take_held i.tokens i.depth) i.left i.bytes.now };
 }
 
 impl<'a> CompactDocArrayIter<'a> {
@@ -42,6 +46,7 @@ impl<'a> CompactDocArrayIter<'a> {
         left: u64,
         bytes: &'a [u8],
     ) -> CompactDocArrayIter<'a>
+        requires { IsWhole (take_held tokens depth) left bytes.now }
         ensures { result ≡ items_at (take_held tokens depth) left bytes.now }
     {
         CompactDocArrayIter {
@@ -50,6 +55,13 @@ impl<'a> CompactDocArrayIter<'a> {
             left,
             bytes,
         }
+    }
+
+    /// How many are left.
+    pub(crate) fn count_left(&self) -> u64
+        ensures { result ≡ length self.now }
+    {
+        self.left
     }
 }
 
@@ -84,6 +96,7 @@ impl<'a> Model for CompactDocObjectIter<'a> {
     ghost use Rattle.std.specs.Prelude.{List, ℕ};
     ghost use Rattle.std.specs.Coded.{codes, coded_list, coded_ℕ, coded×};
     ghost use Rattle.definitions.specs.Values.{Value as DocValue};
+    ghost use Rattle.document.specs.Docs.{IsWhole};
     ghost use Rattle.document.specs.Taking.{items_at, take_held, take_member};
     ghost use Rattle.document.specs.ValueCodes.{value_code};
 
@@ -92,6 +105,8 @@ impl<'a> Model for CompactDocObjectIter<'a> {
     ghost coded = { coded_list (coded× (coded_list coded_ℕ) (value_code (Prim.hlevel codes))) };
 
     ghost view = { λ i. items_at (take_member (take_held i.tokens i.depth)) i.left i.bytes.now };
+
+    ghost invariant = { λ i. IsWhole (take_member (take_held i.tokens i.depth)) i.left i.bytes.now };
 }
 
 impl<'a> CompactDocObjectIter<'a> {
@@ -102,6 +117,7 @@ impl<'a> CompactDocObjectIter<'a> {
         left: u64,
         bytes: &'a [u8],
     ) -> CompactDocObjectIter<'a>
+        requires { IsWhole (take_member (take_held tokens depth)) left bytes.now }
         ensures { result ≡ items_at (take_member (take_held tokens depth)) left bytes.now }
     {
         CompactDocObjectIter {
@@ -110,6 +126,13 @@ impl<'a> CompactDocObjectIter<'a> {
             left,
             bytes,
         }
+    }
+
+    /// How many are left.
+    pub(crate) fn count_left(&self) -> u64
+        ensures { result ≡ length self.now }
+    {
+        self.left
     }
 }
 
@@ -177,5 +200,53 @@ impl<'a> Iterator for FieldValueIterRef<'a> {
         self.left = left;
         self.bytes = rest;
         Some((Field::from_field_id(field), value))
+    }
+}
+
+/// The values of one field, seen as the list of those that are left.
+#[derive(Drop)]
+pub struct ValuesOfField<'a> {
+    field: Field,
+    pairs: FieldValueIterRef<'a>,
+}
+
+impl<'a> Model for ValuesOfField<'a> {
+    ghost use Rattle.std.specs.Prelude.{List};
+    ghost use Rattle.std.specs.Coded.{codes, coded_list};
+    ghost use Rattle.definitions.specs.Values.{Value as DocValue, values_of};
+    ghost use Rattle.document.specs.ValueCodes.{value_code};
+
+    ghost Value = { List DocValue };
+
+    ghost coded = { coded_list (value_code (Prim.hlevel codes)) };
+
+    ghost view = { λ i. values_of i.field i.pairs };
+}
+
+impl<'a> ValuesOfField<'a> {
+    /// The values of that field among these pairs.
+    pub(crate) fn new(field: Field, pairs: FieldValueIterRef<'a>) -> ValuesOfField<'a>
+        ensures { result ≡ values_of field pairs.entry }
+    {
+        ValuesOfField { field, pairs }
+    }
+}
+
+impl<'a> Iterator for ValuesOfField<'a> {
+    ghost use Rattle.document.specs.Shown.{value_of};
+
+    type Item = CompactDocValue<'a>;
+
+    ghost next_gives = { YieldsFirstBy value_of (λ rest. rest) };
+
+    ghost remaining = { item_count (λ rest. rest) };
+
+    fn next(&mut self) -> Option<CompactDocValue<'a>> {
+        while let Some((field, value)) = self.pairs.next() {
+            if field == self.field {
+                return Some(value);
+            }
+        }
+        None
     }
 }

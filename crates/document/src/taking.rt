@@ -3,7 +3,7 @@
 ghost use Rattle.std.specs.Prelude.{[], ◌≡◌, ◌∷◌, IfErr, IfOk, None, Some, suc};
 ghost use Rattle.definitions.specs.declared.fault.Fault.TheVariants as faults;
 ghost use Rattle.document.specs.Shown.{value_of};
-ghost use Rattle.document.specs.Taking.{lend_held, skip_many, take_any, take_held, take_member, take_pair, take_value};
+ghost use Rattle.document.specs.Taking.{skip_many, take_any, take_held, take_member, take_pair, take_value};
 
 use crate::compact_value::CompactDocValue;
 use crate::heads::{Head, take_head};
@@ -118,27 +118,4 @@ fn skip_members(tokens: bool, depth: usize, count: u64, bytes: &[u8]) -> Result<
         left -= 1;
     }
     Ok(rest)
-}
-
-/// The value that bytes begin with, and what stands behind its head: its parts aren't looked at.
-pub(crate) fn lend(
-    tokens: bool,
-    depth: usize,
-    bytes: &[u8],
-) -> Result<(CompactDocValue<'_>, &[u8]), Fault>
-    ensures ok { IfOk result (λ p. lend_held tokens depth bytes.now ≡ Some (value_of p.0, p.1.now)) }
-    ensures err { IfErr result (λ fault. (fault ≡ faults.Damaged None) × (lend_held tokens depth bytes.now ≡ None)) }
-{
-    let (head, rest) = take_head(tokens, bytes)?;
-    match head {
-        Head::Leaf(value) => Ok((value, rest)),
-        Head::Array(count) => {
-            let values = CompactDocArrayIter::new(tokens, inner(depth)?, count, rest);
-            Ok((CompactDocValue::Array(values), rest))
-        }
-        Head::Object(count) => {
-            let members = CompactDocObjectIter::new(tokens, inner(depth)?, count, rest);
-            Ok((CompactDocValue::Object(members), rest))
-        }
-    }
 }

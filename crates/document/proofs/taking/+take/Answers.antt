@@ -41,3 +41,9 @@ pub take-returns-in_ok-after-in-Object-clause-ok : goal.take-returns-in_ok-after
 take-returns-in_ok-after-in-Object-clause-ok t c =
     object_some c.args.tokens c.args.depth c.in_ok-depth-in-Object.depth c.in-Object.count c.args.bytes.now c.in_ok-head.rest.now c.in_ok-after-in-Object.after.now (c.in_ok-head.ensures.ok ∙ ap (λ h. Some (head_of h, c.in_ok-head.rest.now)) c.in-Object.is) c.in_ok-depth-in-Object.ensures.ok c.in_ok-after-in-Object.ensures.ok
     ∙ ap (λ ms. Some (object (to_members ms), c.in_ok-after-in-Object.after.now)) (sym c.new-members.ensures)
+
+pub take-new-values-requires : goal.take-new-values-requires
+take-new-values-requires t c = (c.in_ok-after-in-Array.after.now, c.in_ok-after-in-Array.ensures.ok)
+
+pub take-new-members-requires : goal.take-new-members-requires
+take-new-members-requires t c = (c.in_ok-after-in-Object.after.now, c.in_ok-after-in-Object.ensures.ok)

@@ -1,0 +1,65 @@
+//! Documents put in the binary form.
+
+ghost use Rattle.std.specs.Prelude.{◌++◌, ◌≡◌, ◌≤◌, IfOk, OnOk, Some, flat_map, length, true};
+ghost use Rattle.std.specs.List.{AllByRecursion};
+ghost use Rattle.definitions.specs.Indexable.{max_nesting};
+ghost use Rattle.definitions.specs.Schema.{field_has};
+ghost use Rattle.definitions.specs.Stored.{stored_pairs};
+ghost use Rattle.definitions.specs.Values.{nesting};
+ghost use Rattle.document.specs.Docs.{IsGoodPair};
+ghost use Rattle.document.specs.Taking.{deepest, read_document};
+ghost use Rattle.layouts.specs.DocumentBytes.{document_bytes, pair_bytes};
+
+use crate::compact_doc::CompactDoc;
+use crate::writing::put_value;
+use common::{put_u32, put_vint};
+use schema::{Field, Schema};
+use std::alloc::{AllocError, Global};
+
+impl CompactDoc {
+    /// The binary form of the pairs of stored fields, pre-tokenised texts as texts. `deserialize` makes the
+    /// document of these pairs of it where no value nests more than 128 deep.
+    pub fn serialize(&self, alloc: Global, schema: &Schema) -> Result<Vec<u8>, AllocError>
+        ensures bytes { IfOk result (λ bytes. bytes.items ≡ document_bytes (stored_pairs schema.now self.now)) }
+        ensures read_back { AllByRecursion (λ p. nesting p.1 ≤ max_nesting) self.now → read_document (document_bytes (stored_pairs schema.now self.now)) ≡ Some (stored_pairs schema.now self.now) }
+    {
+        let mut bytes = Vec::new(alloc);
+        put_vint(&mut bytes, self.stored_count(schema) as u64)?;
+        self.put_stored(&mut bytes, schema)?;
+        Ok(bytes)
+    }
+
+    // How many pairs are of stored fields.
+    fn stored_count(&self, schema: &Schema) -> usize
+        ensures count { result ≡ length (stored_pairs schema.now self.now) }
+        ensures pairs { AllByRecursion (IsGoodPair true deepest) self.now }
+    {
+        let mut stored = self.len();
+        for (field, _) in self.field_values() {
+            if !is_stored(schema, field) {
+                stored -= 1;
+            }
+        }
+        stored
+    }
+
+    // Appends the pairs of stored fields.
+    fn put_stored(&self, out: &mut Vec<u8>, schema: &Schema) -> Result<(), AllocError>
+        ensures { OnOk result (out.new.items ≡ out.old.items ++ flat_map pair_bytes (stored_pairs schema.now self.now)) }
+    {
+        for (field, value) in self.field_values() {
+            if is_stored(schema, field) {
+                put_u32(out, field.field_id())?;
+                put_value(out, value)?;
+            }
+        }
+        Ok(())
+    }
+}
+
+/// Whether there is a field of that number, and its values come back with their documents.
+fn is_stored(schema: &Schema, field: Field) -> bool
+    ensures { result ≡ field_has (λ e. e.stored) schema.now field }
+{
+    (field.field_id() as usize) < schema.num_fields() && schema.get_field_entry(field).is_stored()
+}
