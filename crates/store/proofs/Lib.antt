@@ -11,3 +11,4 @@ pub mod Opened
 pub mod Readers
 pub mod Stacked
 pub mod CacheLaws
+pub mod DocumentSlots

@@ -8,3 +8,4 @@ pub mod Caches
 pub mod Slots
 pub mod Stacking
 pub mod Walking
+pub mod DocumentSlots

@@ -7,6 +7,7 @@ pub mod cache_laws;
 mod cache_stats;
 mod checkpoint_block;
 mod current_block;
+mod documents;
 mod footer;
 mod groups;
 mod parts;

@@ -1,0 +1,26 @@
+-- Slots as documents.
+use Rattle.std.specs.Prelude.{◌<◌, ◌≡◌, ◌≤◌, ◌⊎◌, List, None, Some, length, slice_index_or, [], ℕ}
+use Rattle.definitions.specs.declared.fault.Fault.{Fault}
+use Rattle.definitions.specs.declared.fault.Fault.TheVariants as faults
+use Rattle.definitions.specs.Values.{Document}
+use Rattle.document.specs.Taking.{read_document}
+use Rattle.layouts.specs.Stores.{Block}
+use Rattle.store.specs.Slots.{HasSlot, IsSlotFault}
+
+-- a document's slot reads as this
+abbrev pub HasDocument : List Block → ℕ → Document → Type 0
+HasDocument blocks doc read = (bytes : List ℕ) × HasSlot blocks doc bytes × (read_document bytes ≡ Some read)
+
+-- a document's slot reads as none
+abbrev pub HasNoDocument : List Block → ℕ → Type 0
+HasNoDocument blocks doc = (bytes : List ℕ) × HasSlot blocks doc bytes × (read_document bytes ≡ None)
+
+-- memory was wanting, the slot isn't to be had, or it is no document
+abbrev pub IsGetFault : List Block → ℕ → Fault → Type 0
+IsGetFault blocks doc fault = (fault ≡ faults.OutOfMemory) ⊎ (IsSlotFault blocks doc fault ⊎ ((fault ≡ faults.Damaged None) × HasNoDocument blocks doc))
+
+-- memory was wanting, there is no slot at this place, or it is no document
+abbrev pub IsUnread : List (List ℕ) → ℕ → Fault → Type 0
+IsUnread slots doc fault = (fault ≡ faults.OutOfMemory)
+    ⊎ (((fault ≡ faults.InvalidArgument) × (length slots ≤ doc))
+    ⊎ ((fault ≡ faults.Damaged None) × (doc < length slots) × (read_document (slice_index_or slots doc []) ≡ None)))
