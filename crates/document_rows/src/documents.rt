@@ -1,7 +1,7 @@
 //! Documents as bytes.
 
-use document::{CompactDoc, CompactDocValue, DateTime, take_value};
-use schema::Field;
+use document::{CompactDoc, CompactDocValue, take_value};
+use schema::{DateTime, Field};
 use std::alloc::{AllocError, Global};
 use std::test::Fail;
 

@@ -6,8 +6,6 @@ mod blocks;
 #[cfg(test)]
 mod codes_lengths;
 #[cfg(test)]
-mod documents;
-#[cfg(test)]
 mod facets;
 #[cfg(test)]
 mod field_paths;
@@ -27,10 +25,6 @@ mod schema_kinds;
 mod schemas;
 #[cfg(test)]
 mod skip_entries;
-#[cfg(test)]
-mod stores;
-#[cfg(test)]
-mod stores_read;
 #[cfg(test)]
 mod terms;
 #[cfg(test)]
