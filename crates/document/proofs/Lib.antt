@@ -16,3 +16,7 @@ pub mod OwnedParts
 pub mod WholePairs
 pub mod JsonParts
 pub mod ReadingSteps
+pub mod PrintedParts
+pub mod StoredParts
+pub mod NamedParts
+pub mod NamedForms

@@ -8,3 +8,4 @@ pub mod CodeHeads
 pub mod Owned
 pub mod IndexedKinds
 pub mod JsonRead
+pub mod NamedDocs

@@ -1,7 +1,8 @@
 -- Values as lists of marks, from which they are read back: so a proof tells values apart.
 use Rattle.std.specs.Prelude.{[], ◌++◌, ◌∷◌, ◌≡◌, Bool, List, refl, ℕ, ℤ}
 use mathlib.Core.Path.{◌∙◌, ap}
-use Rattle.std.specs.Coded.{Coded, code_by, coded_list}
+use Rattle.std.specs.Coded.{Coded, code_by, coded_list, coded_ℕ, coded×}
+use Rattle.definitions.specs.Stored.{Named}
 use Rattle.definitions.specs.Values.{Members, Token, Value, Values, array, bool, bytes, date, facet, i64, ip_addr, member, no_members, no_values, null, object, pre_tok_str, str, u64, value}
 
 -- what a value is made of, without the values in it
@@ -131,3 +132,7 @@ value_at-marks v = ap last_value (past-value v [])
 -- a value is stored as its marks
 abbrev pub value_code : Coded Mark → Coded Value
 value_code mark = code_by (List Mark) (coded_list mark) marks value_at value_at-marks
+
+-- names and values are stored in order
+abbrev pub named_code : Coded Mark → Coded Named
+named_code mark = coded_list (coded× (coded_list coded_ℕ) (coded_list (value_code mark)))

@@ -6,6 +6,8 @@ mod documents;
 #[cfg(test)]
 mod documents_json;
 #[cfg(test)]
+mod documents_printed;
+#[cfg(test)]
 mod documents_written;
 #[cfg(test)]
 mod json_values;

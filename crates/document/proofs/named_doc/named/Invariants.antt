@@ -1,0 +1,10 @@
+use Rattle.std.proofs.Common.{drop, length, ◌++◌, ◌+◌, ◌≡◌}
+use Rattle.document.specs.NamedDocs.{lists_of, named_lists, named_of}
+use Rattle.document.proofs.named_doc.named.Given as goal
+
+-- the fields so far, and those whose lists are left, are all
+abbrev pub invariant-loop-values : goal.invariant-loop-values
+invariant-loop-values l =
+    let left = l.values-iterator.rest.items in
+    (l.field + length left ≡ length l.schema)
+    × (named_of l.fields.items ++ named_lists (drop l.field l.schema) (lists_of left) ≡ named_lists l.schema (lists_of l.fn.lists.items))

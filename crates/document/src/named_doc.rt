@@ -1,0 +1,159 @@
+//! The stored values of a document, by the names of their fields.
+
+ghost use Rattle.std.specs.Prelude.{◌++◌, ◌<◌, ◌≡◌, ◌≤◌, IfOk, OnOk, bytes_eq, length, map, option_map, slice_get};
+ghost use Rattle.std.specs.List.{find};
+ghost use Rattle.definitions.specs.Schema.{field_has, max_fields};
+ghost use Rattle.definitions.specs.Stored.{stored_pairs, stored_values};
+ghost use Rattle.document.specs.NamedDocs.{lists_of, named_list, named_lists, named_of, no_lists, put_all, put_at};
+ghost use Rattle.document.specs.Owned.{owned_value, owned_values};
+
+use crate::compact_doc::CompactDoc;
+use crate::owned_value::OwnedValue;
+use crate::stored::stored_value;
+use schema::{Field, Schema};
+use std::alloc::{AllocError, Global};
+use std::marker::Model;
+
+/// The stored values of a document: each field that has some, by name, in the order of the schema.
+#[derive(Drop)]
+pub struct NamedDocument {
+    fields: Vec<(String, Vec<OwnedValue>)>,
+}
+
+impl Model for NamedDocument {
+    ghost use Rattle.std.specs.Coded.{codes};
+    ghost use Rattle.definitions.specs.Stored.{Named};
+    ghost use Rattle.document.specs.NamedDocs.{named_of};
+    ghost use Rattle.document.specs.ValueCodes.{named_code};
+
+    ghost Value = { Named };
+
+    ghost coded = { named_code (Prim.hlevel codes) };
+
+    ghost view = { λ d. named_of d.fields.items };
+}
+
+impl NamedDocument {
+    /// The fields with their values, in order.
+    pub fn fields(&self) -> &[(String, Vec<OwnedValue>)]
+        ensures { named_of result.now ≡ self.now }
+    {
+        self.fields.as_slice()
+    }
+
+    /// The values of the field of that name. `None` where the document has none there.
+    pub fn get(&self, name: &str) -> Option<&[OwnedValue]>
+        ensures { option_map (λ values. owned_values values.now) result ≡ option_map (λ f. f.1) (find (λ f. bytes_eq f.0 name.now) self.now) }
+    {
+        for field in &self.fields {
+            if field.0.as_str() == name {
+                return Some(field.1.as_slice());
+            }
+        }
+        None
+    }
+}
+
+impl CompactDoc {
+    /// The stored values by the names of their fields, each pre-tokenised text as a text. Values of fields that the
+    /// schema doesn't have are left out.
+    pub fn to_named_doc(&self, alloc: Global, schema: &Schema) -> Result<NamedDocument, AllocError>
+        ensures { IfOk result (λ named. named ≡ stored_values schema.now self.now) }
+    {
+        let mut lists = empty_lists(alloc, schema.num_fields())?;
+        put_stored(alloc, schema, self, &mut lists)?;
+        let fields = named(alloc, schema, lists)?;
+        Ok(NamedDocument { fields })
+    }
+}
+
+/// So many empty lists.
+fn empty_lists(alloc: Global, count: usize) -> Result<Vec<Vec<OwnedValue>>, AllocError>
+    ensures len { IfOk result (λ lists. length lists.items ≡ count) }
+    ensures lists { IfOk result (λ lists. lists_of lists.items ≡ no_lists count) }
+{
+    let mut lists = Vec::with_capacity(alloc, count)?;
+    while lists.len() < count {
+        lists.push(Vec::new(alloc))?;
+    }
+    Ok(lists)
+}
+
+/// Puts each stored value at the end of its field's list. There is a list for each field of the schema.
+fn put_stored(
+    alloc: Global,
+    schema: &Schema,
+    doc: &CompactDoc,
+    lists: &mut Vec<Vec<OwnedValue>>,
+) -> Result<(), AllocError>
+    requires { length lists.old.items ≡ length schema.now }
+    ensures len { OnOk result (length lists.new.items ≡ length schema.now) }
+    ensures lists { OnOk result (lists_of lists.new.items ≡ put_all (stored_pairs schema.now doc.now) (lists_of lists.old.items)) }
+{
+    for (field, value) in doc.field_values() {
+        if is_stored(schema, field) {
+            put(lists, field, stored_value(alloc, value)?)?;
+        }
+    }
+    Ok(())
+}
+
+/// Whether the schema has the field, and its values are stored.
+fn is_stored(schema: &Schema, field: Field) -> bool
+    ensures { result ≡ field_has (λ e. e.stored) schema.now field }
+{
+    (field.field_id() as usize) < schema.num_fields() && schema.get_field_entry(field).is_stored()
+}
+
+/// Puts a value at the end of its field's list.
+#[tactic(auto, using(crate::proofs::NamedParts::put_set))]
+fn put(lists: &mut Vec<Vec<OwnedValue>>, field: Field, value: OwnedValue) -> Result<(), AllocError>
+    requires { field < length lists.old.items }
+    ensures len { length lists.new.items ≡ length lists.old.items }
+    ensures lists { OnOk result (lists_of lists.new.items ≡ put_at field (owned_value value) (lists_of lists.old.items)) }
+{
+    Ok(lists[field.field_id() as usize].push(value)?)
+}
+
+/// The lists that aren't empty, with their fields' names.
+fn named(
+    alloc: Global,
+    schema: &Schema,
+    lists: Vec<Vec<OwnedValue>>,
+) -> Result<Vec<(String, Vec<OwnedValue>)>, AllocError>
+    requires each { length lists.items ≡ length schema.now }
+    requires few { length schema.now ≤ max_fields }
+    ensures { IfOk result (λ fields. named_of fields.items ≡ named_lists schema.now (lists_of lists.items)) }
+{
+    let mut fields = Vec::new(alloc);
+    let mut field = 0;
+    for values in lists {
+        push_named(
+            alloc,
+            schema,
+            Field::from_field_id(field),
+            values,
+            &mut fields,
+        )?;
+        field += 1;
+    }
+    Ok(fields)
+}
+
+/// Appends a field's name with its values, where it has some.
+fn push_named(
+    alloc: Global,
+    schema: &Schema,
+    field: Field,
+    values: Vec<OwnedValue>,
+    fields: &mut Vec<(String, Vec<OwnedValue>)>,
+) -> Result<(), AllocError>
+    requires { field < length schema.now }
+    ensures { OnOk result (named_of fields.new.items ≡ named_of fields.old.items ++ named_list (slice_get schema.now field) (owned_values values.items)) }
+{
+    if values.is_empty() {
+        return Ok(());
+    }
+    let name = String::from_str(alloc, schema.get_field_name(field))?;
+    Ok(fields.push((name, values))?)
+}
