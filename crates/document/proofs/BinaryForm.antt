@@ -9,7 +9,7 @@ use Rattle.definitions.specs.Values.{Document, Members, Value, Values, array, bo
 use Rattle.layouts.specs.DocumentBytes.{document_bytes, members_bytes, members_count, pair_bytes, value_bytes, values_bytes, values_count}
 use Rattle.document.specs.Docs.{IsGood, IsGoodPair}
 use Rattle.document.specs.Held.{held_bytes, held_members, held_pair, held_pairs, held_values}
-use Rattle.document.specs.Taking.{read_document, take_many, take_pair, take_value}
+use Rattle.layouts.specs.DocumentReading.{read_document, take_many, take_pair, take_value}
 use Rattle.document.proofs.HeldPairs.{pair_back, pair_put}
 use Rattle.document.proofs.HeldValues.{held_back, held_put}
 use Rattle.document.proofs.Many.{bind_some, bytes_after, many_back, many_put}

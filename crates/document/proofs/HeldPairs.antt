@@ -11,7 +11,7 @@ use Rattle.definitions.specs.NumberCodes.{AreBytes, take_u32, take_vint, u32_byt
 use Rattle.definitions.specs.Values.{Document, Value}
 use Rattle.document.specs.Docs.{HoldsPairs, IsGood, IsGoodPair, IsHeap, pairs_at}
 use Rattle.document.specs.Held.{held_bytes, held_pair, held_pairs}
-use Rattle.document.specs.Taking.{deepest, items_at, read_document, skip_many, take_any, take_held, take_many, take_pair, take_value, taken_map}
+use Rattle.layouts.specs.DocumentReading.{deepest, items_at, read_document, skip_many, take_any, take_held, take_many, take_pair, take_value, taken_map}
 use Rattle.document.proofs.HeldValues.{held_back, held_put}
 use Rattle.document.proofs.Many.{IsBack, IsPut, bind_some, bytes_after, many_back, many_put, map_some}
 use Rattle.document.proofs.Skips.{many_of_skip, none_of_skip}

@@ -7,7 +7,7 @@ use Rattle.definitions.specs.Stored.{plain_members, plain_values}
 use Rattle.definitions.specs.Values.{AreMembers, AreValues, Members, Value, Values, member, members_nesting, nesting, no_members, no_values, null, value, values_nesting}
 use Rattle.layouts.specs.DocumentBytes.{members_count, values_count}
 use Rattle.document.specs.Held.{AreSized, AreSizedMembers, held_bytes, held_members, held_values}
-use Rattle.document.specs.Taking.{to_members, to_values}
+use Rattle.layouts.specs.DocumentReading.{to_members, to_values}
 use Rattle.document.specs.Docs.{IsGood}
 
 -- ---- arrays

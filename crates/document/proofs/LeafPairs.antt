@@ -1,13 +1,13 @@
 -- Pairs of a field and a leaf that can be held.
-use Rattle.std.proofs.Common.{FitsSigned, [], ◌<◌, ◌^◌, ◌∷◌, Bool, IsUtf8, List, arith, length, refl, suc, true, ℕ, ℤ}
+use Rattle.std.proofs.Common.{FitsSigned, [], ◌++◌, ◌<◌, ◌^◌, ◌∷◌, ◌≡◌, ◌∙◌, Bool, IsUtf8, List, ap, append_assoc, arith, length, refl, suc, true, ℕ, ℤ}
 use Rattle.std.specs.Int.{w64}
 use Rattle.std.specs.List.{AllByRecursion}
 use Rattle.definitions.specs.Facets.{encoded}
-use Rattle.definitions.specs.NumberCodes.{AreBytes}
+use Rattle.definitions.specs.NumberCodes.{AreBytes, sized_bytes, u32_bytes, vint_bytes}
 use Rattle.definitions.specs.Values.{IsFacet, Token, bool, bytes, date, facet, i64, ip_addr, pre_tok_str, str, u64}
 use Rattle.document.specs.Docs.{IsGoodPair}
 use Rattle.document.specs.Held.{IsHeldValue}
-use Rattle.document.specs.Taking.{deepest}
+use Rattle.layouts.specs.DocumentReading.{deepest}
 
 pub str_pair : (f : ℕ) (s : List ℕ) → f < 2 ^ 32 → IsUtf8 s → length s < 2 ^ 64 → IsGoodPair true deepest (f, str s)
 str_pair f s field text short = record { field = field; value = record { value = text; sized = short; shallow = omega arith; kept = λ e. refl } }
@@ -39,3 +39,7 @@ bool_pair f b field = record { field = field; value = record { value = tt; sized
 
 pub address_pair : (f n : ℕ) → f < 2 ^ 32 → n < 2 ^ 128 → IsGoodPair true deepest (f, ip_addr n)
 address_pair f n field fits = record { field = field; value = record { value = fits; sized = tt; shallow = omega arith; kept = λ e. refl } }
+
+-- what stands before a byte string, and the byte string
+pub sized_parts : (field code : ℕ) (head s : List ℕ) → head ≡ u32_bytes field ++ (code ∷ vint_bytes (length s)) → head ++ s ≡ u32_bytes field ++ (code ∷ sized_bytes s)
+sized_parts field code head s is = ap (λ h. h ++ s) is ∙ append_assoc (u32_bytes field) (code ∷ vint_bytes (length s)) s

@@ -20,3 +20,7 @@ pub mod PrintedParts
 pub mod StoredParts
 pub mod NamedParts
 pub mod NamedForms
+pub mod MemberOrder
+pub mod FieldOrder
+pub mod LentMembers
+pub mod WrittenTokens

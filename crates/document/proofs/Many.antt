@@ -3,7 +3,7 @@ use Rattle.std.proofs.Common.{[], ◌++◌, ◌∷◌, ◌≡◌, ◌∙◌, Boo
 use Rattle.std.specs.List.{AllByRecursion}
 use Rattle.definitions.specs.Json.{only_if, ◌>>=◌}
 use Rattle.definitions.specs.NumberCodes.{AreBytes}
-use Rattle.document.specs.Taking.{take_many, taken_map}
+use Rattle.layouts.specs.DocumentReading.{take_many, taken_map}
 
 -- ---- what stands behind an option
 

@@ -1,15 +1,13 @@
 -- Stored values as JSON, field by field.
-use Rattle.std.proofs.Common.{[], ◌++◌, ◌||◌, ◌∷◌, ◌≡◌, ◌∙◌, Bool, Global, List, String, Vec, ap, arith, false, length, refl, string_bytes, sym, true, ℕ}
+use Rattle.std.proofs.Common.{[], ◌++◌, ◌∷◌, ◌≡◌, ◌∙◌, Global, List, String, Vec, ap, arith, length, refl, string_bytes, sym, ℕ}
 use Rattle.std.proofs.lemmas.List.{map_push}
-use Rattle.definitions.proofs.ReplyTexts.{hits_float}
-use Rattle.definitions.specs.Printed.{printed_fields, printed_list, printed_named}
+use Rattle.definitions.specs.Printed.{printed_fields, printed_list}
 use Rattle.definitions.specs.Stored.{Named}
 use Rattle.definitions.specs.Values.{Value}
 use Rattle.document.specs.NamedDocs.{NamedFields, named_field, named_of}
 use Rattle.document.specs.Owned.{owned_values}
 use Rattle.document.specs.declared.owned_value.OwnedValue.{OwnedValue}
 use Rattle.serde_json.specs.Data.{put}
-use Rattle.serde_json.specs.Written.{has_float}
 use Rattle.serde_json.specs.Data as json
 
 -- fields put in their places among the members of later fields
@@ -35,12 +33,3 @@ before_empty (f ∷ fields) later none = absurd (omega arith)
 -- a field that is taken from the back of those that are left is put before the members
 pub put_from_back : (fields : NamedFields) (f : String Global × Vec OwnedValue Global) (later : json.Members) → printed_before (named_of fields) (put (string_bytes f.0) (json.array (printed_list (owned_values f.1.items))) later) ≡ printed_before (named_of (fields ++ (f ∷ []))) later
 put_from_back fields f later = sym (before_last (named_of fields) (string_bytes f.0) (owned_values f.1.items) later) ∙ ap (λ fs. printed_before fs later) (sym (map_push named_field fields f))
-
--- the first of two, where neither has a float
-or_first : (a b : Bool) → (a || b) ≡ false → a ≡ false
-or_first true b h = h
-or_first false b h = refl
-
--- stored values have no float, since no hit has one
-pub named_float : (fields : Named) → has_float (printed_named fields) ≡ false
-named_float fields = or_first (has_float (printed_named fields)) _ (or_first _ _ (or_first _ _ (hits_float ((0, fields) ∷ []))))

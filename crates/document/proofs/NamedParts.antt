@@ -20,13 +20,13 @@ other-is : (m n : ℕ) → m ≢ n → (m == n) ≡ false
 other-is m n e = grind (arith, nat_tests)
 
 -- a pair of a field at the end
-values-own : (field : ℕ) (v : Value) (ps : Document) → values_of field (ps ++ (field, v) ∷ []) ≡ values_of field ps ++ v ∷ []
+pub values-own : (field : ℕ) (v : Value) (ps : Document) → values_of field (ps ++ (field, v) ∷ []) ≡ values_of field ps ++ v ∷ []
 values-own field v ps =
     ap (map (λ p. p.1)) (filter-append (λ p. p.0 == field) ps ((field, v) ∷ []) ∙ ap (λ b. filter (λ (p : ℕ × Value). p.0 == field) ps ++ cond b ((field, v) ∷ []) []) (equal-self field))
     ∙ map-append (λ (p : ℕ × Value). p.1) (filter (λ p. p.0 == field) ps) ((field, v) ∷ [])
 
 -- a pair of another field at the end
-values-other : (field other : ℕ) (v : Value) (ps : Document) → other ≢ field → values_of field (ps ++ (other, v) ∷ []) ≡ values_of field ps
+pub values-other : (field other : ℕ) (v : Value) (ps : Document) → other ≢ field → values_of field (ps ++ (other, v) ∷ []) ≡ values_of field ps
 values-other field other v ps apart =
     ap (map (λ p. p.1)) (filter-append (λ p. p.0 == field) ps ((other, v) ∷ []) ∙ ap (λ b. filter (λ (p : ℕ × Value). p.0 == field) ps ++ cond b ((other, v) ∷ []) []) (other-is other field apart) ∙ append-nil (filter (λ (p : ℕ × Value). p.0 == field) ps))
 
@@ -56,7 +56,7 @@ lists-put k (suc i) v (e ∷ es) ps =
     let there : k + 1 + i ≡ k + suc i = omega arith in
     ap₂ ◌∷◌ (sym (values-other k (k + suc i) v ps (λ same. absurd (omega arith)))) (lists-put (k + 1) i v es ps ∙ ap (λ f. lists_from (k + 1) es (ps ++ (f, v) ∷ [])) there)
 
-append_more : (ps qs : Document) (q : ℕ × Value) → (ps ++ q ∷ []) ++ qs ≡ ps ++ q ∷ qs
+pub append_more : (ps qs : Document) (q : ℕ × Value) → (ps ++ q ∷ []) ++ qs ≡ ps ++ q ∷ qs
 append_more [] qs q = refl
 append_more (p ∷ ps) qs q = ap (λ r. p ∷ r) (append_more ps qs q)
 

@@ -7,7 +7,7 @@ use Rattle.definitions.specs.Values.{AreMembers, AreValues, array, object}
 use Rattle.layouts.specs.DocumentBytes.{members_count, values_count}
 use Rattle.document.specs.Held.{AreSized, AreSizedMembers, IsHeldValue, held_bytes, held_members, held_values}
 use Rattle.document.specs.Owned.{owned_members, owned_value, owned_values}
-use Rattle.document.specs.Taking.{to_members, to_values}
+use Rattle.layouts.specs.DocumentReading.{to_members, to_values}
 use Rattle.document.specs.declared.owned_value.OwnedValue.{Object, OwnedValue, the_lemmas}
 use Rattle.document.proofs.Inside.{members_length, values_length}
 use Rattle.document.proofs.WrittenParts.{parts_put}

@@ -3,7 +3,7 @@ use Rattle.std.proofs.Common.{Global, [], ◌∷◌, ◌≡◌, List, Vec, ap, m
 use Rattle.definitions.specs.Printed.{printed, printed_list, printed_values}
 use Rattle.definitions.specs.Values.{Value, array}
 use Rattle.document.specs.Owned.{owned_value, owned_values}
-use Rattle.document.specs.Taking.{to_values}
+use Rattle.layouts.specs.DocumentReading.{to_values}
 use Rattle.document.specs.declared.owned_value.OwnedValue.{Array, OwnedValue, the_lemmas}
 use Rattle.serde_json.specs.Data.{item}
 use Rattle.serde_json.specs.View.{items_of}

@@ -5,7 +5,7 @@ use Rattle.std.specs.List.{AllByRecursion}
 use Rattle.definitions.specs.Values.{Document}
 use Rattle.document.specs.Docs.{HoldsPairs, IsGoodPair, IsHeap, held_document, pairs_at, same_document}
 use Rattle.document.specs.Held.{held_pairs}
-use Rattle.document.specs.Taking.{deepest}
+use Rattle.layouts.specs.DocumentReading.{deepest}
 use Rattle.document.proofs.HeldPairs.{pairs_held}
 
 holds_itself : (doc : Document) → AllByRecursion (IsGoodPair true deepest) doc → HoldsPairs (held_pairs doc) (length doc) doc

@@ -3,7 +3,7 @@ use Rattle.std.proofs.Common.{[], ◌-◌, ◌<◌, ◌∷◌, ◌≡◌, ◌∙
 use Rattle.definitions.specs.Json.{◌>>=◌}
 use Rattle.definitions.specs.NumberCodes.{take_text, take_u32, take_vint}
 use Rattle.definitions.specs.Values.{Token, Value, array, object, pre_tok_str}
-use Rattle.document.specs.Taking.{Head, array_head, items_at, leaf, object_head, skip_many, skip_tokens, skip_tokens_from, take_head, take_held, take_inside, take_many, take_member, take_pair, take_pre_tokenized_leaf, take_token, take_tokens, take_tokens_from, taken_map, to_members, to_values, tokens_at}
+use Rattle.layouts.specs.DocumentReading.{Head, array_head, items_at, leaf, object_head, skip_many, skip_tokens, skip_tokens_from, take_head, take_held, take_inside, take_many, take_member, take_pair, take_pre_tokenized_leaf, take_token, take_tokens, take_tokens_from, taken_map, to_members, to_values, tokens_at}
 
 -- what follows what was taken
 abbrev pub behind : {A : Type 0} → Option (A × List ℕ) → Option (List ℕ)

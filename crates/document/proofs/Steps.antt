@@ -7,7 +7,7 @@ use Rattle.std.proofs.lemmas.Str.{IsUtf8-append, IsUtf8-from_ascii, IsUtf8-nil, 
 use Rattle.definitions.specs.Facets.{encoded, facet_of_steps}
 use Rattle.definitions.specs.Values.{IsFacet, IsStep}
 use Rattle.definitions.proofs.Runs.{onto_front, onto_front_none, onto_front_part}
-use Rattle.document.specs.Taking.{steps_in}
+use Rattle.layouts.specs.DocumentReading.{steps_in}
 use lib.Utf8.{encode, encodes, scalar, scalars}
 
 -- no byte is zero

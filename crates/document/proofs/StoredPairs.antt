@@ -9,7 +9,7 @@ use Rattle.definitions.specs.Values.{AreMembers, AreValues, Document, IsValue, M
 use Rattle.layouts.specs.DocumentBytes.{document_bytes, members_bytes, pair_bytes, value_bytes, values_bytes}
 use Rattle.document.specs.Docs.{IsGoodPair}
 use Rattle.document.specs.Held.{AreSized, AreSizedMembers, IsSized}
-use Rattle.document.specs.Taking.{deepest, read_document}
+use Rattle.layouts.specs.DocumentReading.{deepest, read_document}
 use Rattle.document.proofs.BinaryForm.{count_plain, document_back, members_plain}
 
 -- ---- a value without its tokens

@@ -2,7 +2,7 @@
 use Rattle.std.proofs.Common.{[], ◌∷◌, ◌≡◌, List, ap, map, refl, ℕ}
 use Rattle.definitions.specs.Stored.{plain, plain_members, plain_values}
 use Rattle.definitions.specs.Values.{Value, member, value}
-use Rattle.document.specs.Taking.{to_members, to_values}
+use Rattle.layouts.specs.DocumentReading.{to_members, to_values}
 
 pub plain_listed : (vs : List Value) → to_values (map plain vs) ≡ plain_values (to_values vs)
 plain_listed [] = refl

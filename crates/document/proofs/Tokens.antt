@@ -6,7 +6,7 @@ use Rattle.definitions.specs.Json.{only_if, ◌>>=◌}
 use Rattle.definitions.specs.NumberCodes.{AreBytes, sized_bytes, take_text, take_vint, vint_bytes}
 use Rattle.definitions.specs.Values.{AreTokens, AreTokensFrom, Token}
 use Rattle.document.specs.Held.{AreSizedTokens, token_bytes, tokens_bytes}
-use Rattle.document.specs.Taking.{take_token, take_tokens, take_tokens_from, taken_map}
+use Rattle.layouts.specs.DocumentReading.{take_token, take_tokens, take_tokens_from, taken_map}
 use Rattle.document.proofs.Many.{bind_some, bytes_after, map_some, only_some, parts_are}
 
 -- ---- one token

@@ -2,7 +2,7 @@
 use Rattle.std.proofs.Common.{◌≡◌, ◌∙◌, ◌∷◌, [], List, None, Option, Some, ap, length, refl, suc, sym, zero, ℕ}
 use Rattle.definitions.specs.Json.{◌>>=◌}
 use Rattle.document.specs.Docs.{IsWhole}
-use Rattle.document.specs.Taking.{items_at, skip_many}
+use Rattle.layouts.specs.DocumentReading.{items_at, skip_many}
 
 -- there are as many as is said
 pub whole_length : {A : Type 0} (item : List ℕ → Option (A × List ℕ)) (n : ℕ) (bs : List ℕ) → IsWhole item n bs → n ≡ length (items_at item n bs)

@@ -5,7 +5,7 @@ use Rattle.definitions.specs.Values.{Members, Value, Values, array, bool, bytes,
 use Rattle.layouts.specs.DocumentBytes.{members_count, values_count}
 use Rattle.document.specs.Docs.{IsGoodPair}
 use Rattle.document.specs.Held.{IsHeldValue, held_bytes, held_members, held_pair, held_values}
-use Rattle.document.specs.Taking.{deepest}
+use Rattle.layouts.specs.DocumentReading.{deepest}
 use Rattle.std.proofs.Math.Nat.{max-le}
 
 -- ---- a value has at least as many bytes as levels

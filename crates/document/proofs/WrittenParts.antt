@@ -2,7 +2,7 @@
 use Rattle.std.proofs.Common.{[], ◌++◌, ◌∷◌, ◌≡◌, ◌∙◌, List, ap, ap₂, append-nil, append_assoc, length, sym, ℕ}
 use Rattle.definitions.specs.NumberCodes.{vint_bytes}
 use Rattle.definitions.specs.Values.{Value, array, object}
-use Rattle.document.specs.Taking.{to_members, to_values}
+use Rattle.layouts.specs.DocumentReading.{to_members, to_values}
 use Rattle.document.proofs.Inside.{members_length, values_length}
 use Rattle.layouts.specs.DocumentBytes.{members_bytes, value_bytes, values_bytes}
 

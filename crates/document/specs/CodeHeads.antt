@@ -1,6 +1,6 @@
 -- The head that the code takes.
 use Rattle.document.specs.Shown.{value_of}
-use Rattle.document.specs.Taking as taking
+use Rattle.layouts.specs.DocumentReading as taking
 use Rattle.document.specs.declared.heads.Head.{Head}
 use Rattle.document.specs.declared.heads.Head.TheVariants.{Array, Leaf, Object}
 

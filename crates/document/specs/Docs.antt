@@ -4,7 +4,7 @@ use Rattle.std.specs.List.{AllByRecursion}
 use Rattle.definitions.specs.Stored.{plain}
 use Rattle.definitions.specs.Values.{Document, IsValue, Value, nesting}
 use Rattle.document.specs.Held.{IsSized, held_pairs}
-use Rattle.document.specs.Taking.{deepest, items_at, skip_many, skip_tokens, take_any, take_pair}
+use Rattle.layouts.specs.DocumentReading.{deepest, items_at, skip_many, skip_tokens, take_any, take_pair}
 
 -- so many pairs from the first byte on
 abbrev pub pairs_at : ℕ → List ℕ → Document

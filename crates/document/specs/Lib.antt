@@ -1,7 +1,6 @@
 -- Documents in memory and as bytes.
 pub mod ValueCodes
 pub mod Held
-pub mod Taking
 pub mod Docs
 pub mod Shown
 pub mod CodeHeads
@@ -9,3 +8,4 @@ pub mod Owned
 pub mod IndexedKinds
 pub mod JsonRead
 pub mod NamedDocs
+pub mod WrittenJson

@@ -2,7 +2,7 @@
 use Rattle.std.specs.Prelude.{List, String, map, string_bytes, ℕ}
 use Rattle.std.specs.declared.alloc.Global.{Global}
 use Rattle.definitions.specs.Values.{Value, array, bool, bytes, date, facet, i64, ip_addr, null, object, pre_tok_str, str, u64}
-use Rattle.document.specs.Taking.{to_members, to_values}
+use Rattle.layouts.specs.DocumentReading.{to_members, to_values}
 use Rattle.document.specs.declared.owned_value.OwnedValue.{OwnedValue, fold-OwnedValue}
 use Rattle.document.specs.declared.owned_value.OwnedValue.TheOpen.{OwnedValue-F}
 

@@ -1,6 +1,6 @@
 -- The value that a lent one shows.
 use Rattle.definitions.specs.Values.{Value, array, bool, bytes, date, facet, i64, ip_addr, null, object, pre_tok_str, str, u64}
-use Rattle.document.specs.Taking.{steps_in, to_members, to_values}
+use Rattle.layouts.specs.DocumentReading.{steps_in, to_members, to_values}
 use Rattle.document.specs.declared.compact_value.CompactDocValue.{CompactDocValue}
 use Rattle.document.specs.declared.compact_value.CompactDocValue.TheVariants.{Array, Bool, Bytes, Date, Facet, I64, IpAddr, Null, Object, PreTokStr, Str, U64}
 

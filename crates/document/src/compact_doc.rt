@@ -8,7 +8,7 @@ ghost use Rattle.definitions.specs.Values.{Value as DocValue, values_of};
 ghost use Rattle.document.specs.Docs.{IsGoodPair};
 ghost use Rattle.document.specs.Held.{IsHeldValue, held_bytes, held_pair};
 ghost use Rattle.document.specs.Owned.{owned_members, owned_value};
-ghost use Rattle.document.specs.Taking.{deepest, read_document, to_members};
+ghost use Rattle.layouts.specs.DocumentReading.{deepest, read_document, to_members};
 ghost use Rattle.definitions.specs.declared.fault.Fault.TheVariants as faults;
 ghost use Rattle.std.specs.List.{AllByRecursion, find};
 
@@ -16,7 +16,7 @@ use crate::compact_value::CompactDocValue;
 use crate::iterators::{FieldValueIterRef, ValuesOfField};
 use crate::owned_value::OwnedValue;
 use crate::pairs::{
-    address_pair, bool_pair, number_pair, object_pair, owned_pair, sized_pair, tokens_pair,
+    address_pair, append, object_pair, owned_pair, sized_head, tokens_pair, value_head,
 };
 use crate::taking::skip_pairs;
 use common::{Fault, PreTokenizedString, take_vint};
@@ -66,7 +66,8 @@ impl CompactDoc {
         ensures count { result ≡ length self.now }
         ensures pairs { AllByRecursion (IsGoodPair true deepest) self.now }
     {
-        self.count
+        let CompactDoc { count, .. } = self;
+        *count
     }
 
     /// Whether there is no pair.
@@ -125,8 +126,8 @@ impl CompactDoc {
         ensures ok { OnOk result (self.new ≡ self.old ++ ((field, values.str text.now) ∷ [])) }
         ensures err { OnErr result (self.new ≡ self.old) }
     {
-        let pair = sized_pair(*self.heap.allocator(), field, 0, text.as_bytes())?;
-        self.add(pair)
+        let head = sized_head(*self.heap.allocator(), field, 0, text.len())?;
+        self.add_parts(head.as_slice(), text.as_bytes())
     }
 
     /// Adds a text with its tokens.
@@ -148,8 +149,8 @@ impl CompactDoc {
         ensures err { OnErr result (self.new ≡ self.old) }
     {
         let steps = facet.encoded_str();
-        let pair = sized_pair(*self.heap.allocator(), field, 3, steps.as_bytes())?;
-        self.add(pair)
+        let head = sized_head(*self.heap.allocator(), field, 3, steps.len())?;
+        self.add_parts(head.as_slice(), steps.as_bytes())
     }
 
     /// Adds a byte string.
@@ -157,8 +158,8 @@ impl CompactDoc {
         ensures ok { OnOk result (self.new ≡ self.old ++ ((field, values.bytes bytes.now) ∷ [])) }
         ensures err { OnErr result (self.new ≡ self.old) }
     {
-        let pair = sized_pair(*self.heap.allocator(), field, 4, bytes)?;
-        self.add(pair)
+        let head = sized_head(*self.heap.allocator(), field, 4, bytes.len())?;
+        self.add_parts(head.as_slice(), bytes)
     }
 
     /// Adds an object of these members, in order.
@@ -188,8 +189,7 @@ impl CompactDoc {
         ensures ok { OnOk result (self.new ≡ self.old ++ ((field, values.u64 n) ∷ [])) }
         ensures err { OnErr result (self.new ≡ self.old) }
     {
-        let pair = number_pair(*self.heap.allocator(), field, 1, n)?;
-        self.add(pair)
+        self.add_parts(&value_head(field, 1), &u64::to_le_bytes(n))
     }
 
     /// Adds a number from -2^63 below 2^63.
@@ -197,8 +197,7 @@ impl CompactDoc {
         ensures ok { OnOk result (self.new ≡ self.old ++ ((field, values.i64 n) ∷ [])) }
         ensures err { OnErr result (self.new ≡ self.old) }
     {
-        let pair = number_pair(*self.heap.allocator(), field, 2, n.cast_unsigned())?;
-        self.add(pair)
+        self.add_parts(&value_head(field, 2), &u64::to_le_bytes(n.cast_unsigned()))
     }
 
     /// Adds a point of time.
@@ -207,8 +206,10 @@ impl CompactDoc {
         ensures err { OnErr result (self.new ≡ self.old) }
     {
         let nanos = time.into_timestamp_nanos();
-        let pair = number_pair(*self.heap.allocator(), field, 5, nanos.cast_unsigned())?;
-        self.add(pair)
+        self.add_parts(
+            &value_head(field, 5),
+            &u64::to_le_bytes(nanos.cast_unsigned()),
+        )
     }
 
     /// Adds true or false.
@@ -216,8 +217,7 @@ impl CompactDoc {
         ensures ok { OnOk result (self.new ≡ self.old ++ ((field, values.bool b) ∷ [])) }
         ensures err { OnErr result (self.new ≡ self.old) }
     {
-        let pair = bool_pair(*self.heap.allocator(), field, b)?;
-        self.add(pair)
+        self.add_parts(&value_head(field, 9), &[b as u8])
     }
 
     /// Adds an address by its 128 bits; one of IPv4 is mapped into IPv6.
@@ -237,7 +237,16 @@ impl CompactDoc {
         ensures ok { OnOk result ((p : ℕ × DocValue) → IsGoodPair true deepest p → pair.items ≡ held_pair p → self.new ≡ self.old ++ (p ∷ [])) }
         ensures err { OnErr result (self.new ≡ self.old) }
     {
-        self.heap.extend_from_slice(pair.as_slice())?;
+        self.add_parts(pair.as_slice(), &[])
+    }
+
+    /// Adds the pair that these bytes are, the second behind the first.
+    fn add_parts(&mut self, first: &[u8], second: &[u8]) -> Result<(), AllocError>
+        requires { (p : ℕ × DocValue) × IsGoodPair true deepest p × (first.now ++ second.now ≡ held_pair p) }
+        ensures ok { OnOk result ((p : ℕ × DocValue) → IsGoodPair true deepest p → first.now ++ second.now ≡ held_pair p → self.new ≡ self.old ++ (p ∷ [])) }
+        ensures err { OnErr result (self.new ≡ self.old) }
+    {
+        append(&mut self.heap, first, second)?;
         self.count += 1;
         Ok(())
     }

@@ -3,7 +3,7 @@
 ghost use Rattle.std.specs.Prelude.{◌≡◌, IfOk, Some, map};
 ghost use Rattle.common.specs.Token.{token_of};
 ghost use Rattle.document.specs.Docs.{AreTokensAt};
-ghost use Rattle.document.specs.Taking.{take_token, tokens_at};
+ghost use Rattle.layouts.specs.DocumentReading.{take_token, tokens_at};
 
 use common::{Fault, PreTokenizedString, Token, take_text, take_vint};
 use std::alloc::{AllocError, Global};
@@ -20,7 +20,7 @@ impl<'a> Model for CompactDocTokens<'a> {
     ghost use Rattle.std.specs.Prelude.{List, ℕ};
     ghost use Rattle.definitions.specs.Values.{Token};
     ghost use Rattle.document.specs.Docs.{AreTokensAt};
-    ghost use Rattle.document.specs.Taking.{tokens_at};
+    ghost use Rattle.layouts.specs.DocumentReading.{tokens_at};
 
     ghost Value = { List ℕ × List Token };
 

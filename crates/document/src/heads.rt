@@ -7,7 +7,7 @@ ghost use Rattle.definitions.specs.NumberCodes.{take_vint};
 ghost use Rattle.definitions.specs.Values.{date, facet, i64, str, u64};
 ghost use Rattle.definitions.specs.declared.fault.Fault.TheVariants as faults;
 ghost use Rattle.document.specs.CodeHeads.{head_of};
-ghost use Rattle.document.specs.Taking.{skip_tokens, skip_tokens_from, take_address_leaf, take_bool_leaf, take_bytes_leaf, take_coded, take_head, take_pre_tokenized_leaf, steps_in, take_text_leaf, take_token, take_u64_leaf, array_head, object_head, taken_map};
+ghost use Rattle.layouts.specs.DocumentReading.{skip_tokens, skip_tokens_from, take_address_leaf, take_bool_leaf, take_bytes_leaf, take_coded, take_head, take_pre_tokenized_leaf, steps_in, take_text_leaf, take_token, take_u64_leaf, array_head, object_head, taken_map};
 
 use crate::compact_tokens::CompactDocTokens;
 use crate::compact_value::CompactDocValue;

@@ -5,7 +5,7 @@ ghost use Rattle.common.specs.Token.{token_of};
 ghost use Rattle.definitions.specs.Values.{array, bool, bytes, date, facet, i64, ip_addr, object, pre_tok_str, str, u64};
 ghost use Rattle.document.specs.Held.{AreSizedTokens, IsHeldValue, IsSizedToken, held_bytes, token_bytes, tokens_bytes};
 ghost use Rattle.document.specs.Owned.{owned_members, owned_value, owned_values};
-ghost use Rattle.document.specs.Taking.{to_members, to_values};
+ghost use Rattle.layouts.specs.DocumentReading.{to_members, to_values};
 
 use crate::owned_value::OwnedValue;
 use crate::writing::{put_address, put_bool, put_number, put_sized};

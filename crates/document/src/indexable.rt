@@ -6,7 +6,7 @@ ghost use Rattle.definitions.specs.Json.{only_if};
 ghost use Rattle.definitions.specs.Values.{members_nesting, nesting, values_nesting};
 ghost use Rattle.document.specs.IndexedKinds.{indexed_kind};
 ghost use Rattle.document.specs.Shown.{value_of};
-ghost use Rattle.document.specs.Taking.{to_members, to_values};
+ghost use Rattle.layouts.specs.DocumentReading.{to_members, to_values};
 ghost use Rattle.schema.specs.Kinds.{kind_of};
 
 use crate::compact_doc::CompactDoc;

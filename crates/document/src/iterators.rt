@@ -4,7 +4,7 @@ ghost use Rattle.std.specs.Prelude.{[], ◌≡◌, ◌∷◌, length};
 ghost use Rattle.std.specs.Iterator.{YieldsFirstBy, item_count};
 ghost use Rattle.definitions.specs.Values.{values_of};
 ghost use Rattle.document.specs.Docs.{IsWhole, pairs_at};
-ghost use Rattle.document.specs.Taking.{items_at, take_held, take_member};
+ghost use Rattle.layouts.specs.DocumentReading.{items_at, take_held, take_member};
 
 use crate::compact_value::CompactDocValue;
 use crate::taking::{take, take_any};
@@ -26,7 +26,7 @@ impl<'a> Model for CompactDocArrayIter<'a> {
     ghost use Rattle.std.specs.Coded.{codes, coded_list};
     ghost use Rattle.definitions.specs.Values.{Value as DocValue};
     ghost use Rattle.document.specs.Docs.{IsWhole};
-    ghost use Rattle.document.specs.Taking.{items_at, take_held};
+    ghost use Rattle.layouts.specs.DocumentReading.{items_at, take_held};
     ghost use Rattle.document.specs.ValueCodes.{value_code};
 
     ghost Value = { List DocValue };
@@ -97,7 +97,7 @@ impl<'a> Model for CompactDocObjectIter<'a> {
     ghost use Rattle.std.specs.Coded.{codes, coded_list, coded_ℕ, coded×};
     ghost use Rattle.definitions.specs.Values.{Value as DocValue};
     ghost use Rattle.document.specs.Docs.{IsWhole};
-    ghost use Rattle.document.specs.Taking.{items_at, take_held, take_member};
+    ghost use Rattle.layouts.specs.DocumentReading.{items_at, take_held, take_member};
     ghost use Rattle.document.specs.ValueCodes.{value_code};
 
     ghost Value = { List (List ℕ × DocValue) };

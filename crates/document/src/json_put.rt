@@ -6,7 +6,7 @@ ghost use Rattle.definitions.specs.Reading.{json_members, json_value, json_value
 ghost use Rattle.definitions.specs.Values as values;
 ghost use Rattle.definitions.specs.Values.{AreMembers, AreValues};
 ghost use Rattle.document.specs.Docs.{IsGoodPair};
-ghost use Rattle.document.specs.Taking.{deepest};
+ghost use Rattle.layouts.specs.DocumentReading.{deepest};
 ghost use Rattle.document.specs.Held.{AreSized, AreSizedMembers, IsHeldValue, held_bytes, held_members, held_pair, held_values};
 ghost use Rattle.serde_json.specs.View.{items_view, members_view, number_view, view};
 

@@ -4,12 +4,14 @@
 mod compact_doc;
 mod compact_tokens;
 mod compact_value;
+mod document_json;
 pub mod document_laws;
 mod heads;
 mod holding;
 mod indexable;
 mod iterators;
 mod json_put;
+mod json_text;
 mod named_doc;
 mod named_json;
 mod owned_value;

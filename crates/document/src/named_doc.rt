@@ -2,13 +2,14 @@
 
 ghost use Rattle.std.specs.Prelude.{◌++◌, ◌<◌, ◌≡◌, ◌≤◌, IfOk, OnOk, bytes_eq, length, map, option_map, slice_get};
 ghost use Rattle.std.specs.List.{find};
-ghost use Rattle.definitions.specs.Schema.{field_has, max_fields};
+ghost use Rattle.definitions.specs.Schema.{max_fields};
 ghost use Rattle.definitions.specs.Stored.{stored_pairs, stored_values};
 ghost use Rattle.document.specs.NamedDocs.{lists_of, named_list, named_lists, named_of, no_lists, put_all, put_at};
 ghost use Rattle.document.specs.Owned.{owned_value, owned_values};
 
 use crate::compact_doc::CompactDoc;
 use crate::owned_value::OwnedValue;
+use crate::serialize::is_stored;
 use crate::stored::stored_value;
 use schema::{Field, Schema};
 use std::alloc::{AllocError, Global};
@@ -96,13 +97,6 @@ fn put_stored(
         }
     }
     Ok(())
-}
-
-/// Whether the schema has the field, and its values are stored.
-fn is_stored(schema: &Schema, field: Field) -> bool
-    ensures { result ≡ field_has (λ e. e.stored) schema.now field }
-{
-    (field.field_id() as usize) < schema.num_fields() && schema.get_field_entry(field).is_stored()
 }
 
 /// Puts a value at the end of its field's list.

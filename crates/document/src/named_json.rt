@@ -1,15 +1,11 @@
 //! Stored values as JSON.
 
-ghost use Rattle.std.specs.Prelude.{◌≡◌, IfOk, string_bytes};
+ghost use Rattle.std.specs.Prelude.{◌≡◌, IfOk};
 ghost use Rattle.definitions.specs.Printed.{printed_named};
-ghost use Rattle.definitions.specs.Stored.{stored_values};
 ghost use Rattle.serde_json.specs.View.{view};
-ghost use Rattle.serde_json.specs.Written.{compact_text};
 
-use crate::compact_doc::CompactDoc;
 use crate::named_doc::NamedDocument;
 use crate::printing::values_to_json;
-use schema::Schema;
 use serde_json::{Map, Value as Json};
 use std::alloc::{AllocError, Global};
 
@@ -25,16 +21,5 @@ impl NamedDocument {
             drop(members.insert(key, Json::Array(list))?);
         }
         Ok(Json::Object(members))
-    }
-}
-
-impl CompactDoc {
-    /// The stored values as the text of one JSON object, field names as keys, with a list of values for each.
-    #[tactic(auto, using(crate::proofs::NamedForms::named_float))]
-    pub fn to_json(&self, alloc: Global, schema: &Schema) -> Result<String, AllocError>
-        ensures { IfOk result (λ text. string_bytes text ≡ compact_text (printed_named (stored_values schema.now self.now))) }
-    {
-        let named = self.to_named_doc(alloc, schema)?;
-        named.to_json_value(alloc)?.to_string(alloc)
     }
 }

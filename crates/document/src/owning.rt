@@ -3,7 +3,7 @@
 ghost use Rattle.std.specs.Prelude.{◌≡◌, IfOk, map};
 ghost use Rattle.document.specs.Owned.{owned_members, owned_value, owned_values};
 ghost use Rattle.document.specs.Shown.{value_of};
-ghost use Rattle.document.specs.Taking.{steps_in};
+ghost use Rattle.layouts.specs.DocumentReading.{steps_in};
 
 use crate::compact_value::CompactDocValue;
 use crate::iterators::{CompactDocArrayIter, CompactDocObjectIter};
@@ -69,7 +69,7 @@ fn own_members(
 }
 
 /// The facet whose steps a text parts by U+0000.
-fn own_facet(alloc: Global, steps: &str) -> Result<Facet, AllocError>
+pub(crate) fn own_facet(alloc: Global, steps: &str) -> Result<Facet, AllocError>
     ensures { IfOk result (λ facet. facet ≡ steps_in steps.now) }
 {
     let path = path_in(alloc, steps)?;

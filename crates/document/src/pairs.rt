@@ -1,36 +1,59 @@
 //! Pairs of a field and a value, as the bytes by which a document holds them.
 
-ghost use Rattle.std.specs.Prelude.{[], ◌%◌, ◌++◌, ◌/◌, ◌<◌, ◌^◌, ◌∷◌, ◌≡◌, length, true, IfOk};
-ghost use Rattle.std.specs.Int.{from_bool};
-ghost use Rattle.definitions.specs.NumberCodes.{sized_bytes, u32_bytes, u64_bytes};
+ghost use Rattle.std.specs.Prelude.{[], ◌%◌, ◌++◌, ◌/◌, ◌<◌, ◌^◌, ◌∷◌, ◌≡◌, true, IfOk, OnErr, OnOk};
+ghost use Rattle.definitions.specs.NumberCodes.{u32_bytes, u64_bytes, vint_bytes};
 ghost use Rattle.definitions.specs.Values as values;
 ghost use Rattle.document.specs.Docs.{IsGoodPair};
 ghost use Rattle.document.specs.Held.{IsHeldValue, held_bytes, held_pair};
 ghost use Rattle.document.specs.Owned.{owned_members, owned_value};
-ghost use Rattle.document.specs.Taking.{deepest, to_members};
+ghost use Rattle.layouts.specs.DocumentReading.{deepest, to_members};
 
 use crate::holding::{put_owned, put_owned_members, put_pre_tokenized};
 use crate::owned_value::OwnedValue;
-use crate::writing::{put_address, put_bool, put_number, put_sized};
-use common::{PreTokenizedString, put_u32};
+use crate::writing::put_address;
+use common::{PreTokenizedString, put_u32, put_vint};
 use schema::Field;
 use std::alloc::{AllocError, Global};
 
-/// A field with a code and a byte string.
-pub(crate) fn sized_pair(
+/// Appends the first bytes and then the second, or nothing.
+pub(crate) fn append(heap: &mut Vec<u8>, first: &[u8], second: &[u8]) -> Result<(), AllocError>
+    ensures ok { OnOk result (heap.new.items ≡ heap.old.items ++ (first.now ++ second.now)) }
+    ensures err { OnErr result (heap.new.items ≡ heap.old.items) }
+{
+    let start = heap.len();
+    heap.extend_from_slice(first)?;
+    if heap.extend_from_slice(second).is_err() {
+        heap.truncate(start);
+        return Err(AllocError);
+    }
+    Ok(())
+}
+
+/// A field and a code, which stand before a value.
+pub(crate) fn value_head(field: Field, code: u8) -> [u8; 5]
+    ensures head { result ≡ u32_bytes field ++ (code ∷ []) }
+    ensures field { field < 2 ^ 32 }
+{
+    let [first, second, third, fourth] = u32::to_le_bytes(field.field_id());
+    [first, second, third, fourth, code]
+}
+
+/// What stands before a byte string of so many bytes: its field, a code and the count.
+pub(crate) fn sized_head(
     alloc: Global,
     field: Field,
     code: u8,
-    bytes: &[u8],
+    count: usize,
 ) -> Result<Vec<u8>, AllocError>
-    ensures pair { IfOk result (λ pair. pair.items ≡ u32_bytes field ++ (code ∷ sized_bytes bytes.now)) }
-    ensures short { length bytes.now < 2 ^ 64 }
+    ensures head { IfOk result (λ head. head.items ≡ u32_bytes field ++ (code ∷ vint_bytes count)) }
+    ensures few { count < 2 ^ 64 }
     ensures field { field < 2 ^ 32 }
 {
-    let mut pair = Vec::with_capacity(alloc, bytes.len().saturating_add(15))?;
-    put_u32(&mut pair, field.field_id())?;
-    put_sized(&mut pair, code, bytes)?;
-    Ok(pair)
+    let mut head = Vec::with_capacity(alloc, 15)?;
+    put_u32(&mut head, field.field_id())?;
+    head.push(code)?;
+    put_vint(&mut head, count as u64)?;
+    Ok(head)
 }
 
 /// A field with a text and its tokens.
@@ -76,33 +99,6 @@ pub(crate) fn object_pair(
     let mut pair = Vec::new(alloc);
     put_u32(&mut pair, field.field_id())?;
     put_owned_members(&mut pair, members)?;
-    Ok(pair)
-}
-
-/// A field with a code and eight bytes.
-pub(crate) fn number_pair(
-    alloc: Global,
-    field: Field,
-    code: u8,
-    n: u64,
-) -> Result<Vec<u8>, AllocError>
-    ensures pair { IfOk result (λ pair. pair.items ≡ u32_bytes field ++ (code ∷ u64_bytes n)) }
-    ensures field { field < 2 ^ 32 }
-{
-    let mut pair = Vec::with_capacity(alloc, 13)?;
-    put_u32(&mut pair, field.field_id())?;
-    put_number(&mut pair, code, n)?;
-    Ok(pair)
-}
-
-/// A field with true or false.
-pub(crate) fn bool_pair(alloc: Global, field: Field, b: bool) -> Result<Vec<u8>, AllocError>
-    ensures pair { IfOk result (λ pair. pair.items ≡ u32_bytes field ++ (9 ∷ from_bool b ∷ [])) }
-    ensures field { field < 2 ^ 32 }
-{
-    let mut pair = Vec::with_capacity(alloc, 6)?;
-    put_u32(&mut pair, field.field_id())?;
-    put_bool(&mut pair, b)?;
     Ok(pair)
 }
 

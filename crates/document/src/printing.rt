@@ -3,7 +3,7 @@
 ghost use Rattle.std.specs.Prelude.{◌≡◌, IfOk};
 ghost use Rattle.definitions.specs.Printed.{printed, printed_list, printed_onto};
 ghost use Rattle.document.specs.Owned.{owned_members, owned_value, owned_values};
-ghost use Rattle.document.specs.Taking.{to_members};
+ghost use Rattle.layouts.specs.DocumentReading.{to_members};
 ghost use Rattle.serde_json.specs.Data as json;
 ghost use Rattle.serde_json.specs.View.{items_view, members_view, view};
 

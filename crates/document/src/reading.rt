@@ -1,6 +1,6 @@
 //! Documents read from JSON.
 
-ghost use Rattle.std.specs.Prelude.{[], ◌++◌, ◌∷◌, ◌≡◌, ◌≢◌, Err, IfErr, IfOk, Ok, OnErr, OnOk, false, true};
+ghost use Rattle.std.specs.Prelude.{[], ◌++◌, ◌∷◌, ◌≡◌, ◌≢◌, Err, IfErr, IfOk, IfSome, Ok, OnErr, OnOk, false, true};
 ghost use Rattle.definitions.specs.Reading as reading;
 ghost use Rattle.definitions.specs.Schema.{json_kind};
 ghost use Rattle.definitions.specs.Values as definitions;
@@ -116,6 +116,10 @@ fn read_one(
     ensures ok { OnOk result ((value : definitions.Value) × (reading.read_value entry.now (view json.now) ≡ Ok value) × (doc.new ≡ doc.old ++ (field, value) ∷ [])) }
     ensures err { IfErr result (λ fault. fault ≢ faults.OutOfMemory → reading.read_value entry.now (view json.now) ≡ Err fault) }
 {
+    if let Some(text) = plain_text(entry, json) {
+        doc.add_text(field, text)?;
+        return Ok(());
+    }
     if has_float(json) {
         return Err(Fault::FloatValue);
     }
@@ -125,6 +129,16 @@ fn read_one(
     let leaf = read_plain(alloc, entry, json)?;
     add_leaf(doc, field, leaf)?;
     Ok(())
+}
+
+/// The text of a text field's value.
+fn plain_text<'a>(entry: &FieldEntry, json: &'a Json) -> Option<&'a str>
+    ensures { IfSome result (λ text. reading.read_value entry.now (view json.now) ≡ Ok (definitions.str text.now)) }
+{
+    match entry.field_type() {
+        FieldType::Str(_) => json.as_str(),
+        _ => None,
+    }
 }
 
 /// One value of a field that has no objects.

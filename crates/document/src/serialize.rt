@@ -7,7 +7,7 @@ ghost use Rattle.definitions.specs.Schema.{field_has};
 ghost use Rattle.definitions.specs.Stored.{stored_pairs};
 ghost use Rattle.definitions.specs.Values.{nesting};
 ghost use Rattle.document.specs.Docs.{IsGoodPair};
-ghost use Rattle.document.specs.Taking.{deepest, read_document};
+ghost use Rattle.layouts.specs.DocumentReading.{deepest, read_document};
 ghost use Rattle.layouts.specs.DocumentBytes.{document_bytes, pair_bytes};
 
 use crate::compact_doc::CompactDoc;
@@ -58,7 +58,7 @@ impl CompactDoc {
 }
 
 /// Whether there is a field of that number, and its values come back with their documents.
-fn is_stored(schema: &Schema, field: Field) -> bool
+pub(crate) fn is_stored(schema: &Schema, field: Field) -> bool
     ensures { result ≡ field_has (λ e. e.stored) schema.now field }
 {
     (field.field_id() as usize) < schema.num_fields() && schema.get_field_entry(field).is_stored()

@@ -3,7 +3,7 @@
 ghost use Rattle.std.specs.Prelude.{[], ◌≡◌, ◌∷◌, IfErr, IfOk, None, Some, suc};
 ghost use Rattle.definitions.specs.declared.fault.Fault.TheVariants as faults;
 ghost use Rattle.document.specs.Shown.{value_of};
-ghost use Rattle.document.specs.Taking.{skip_many, take_any, take_held, take_member, take_pair, take_value};
+ghost use Rattle.layouts.specs.DocumentReading.{skip_many, take_any, take_held, take_member, take_pair, take_value};
 
 use crate::compact_value::CompactDocValue;
 use crate::heads::{Head, take_head};
@@ -26,7 +26,7 @@ pub fn take_value(bytes: &[u8]) -> Result<(CompactDocValue<'_>, &[u8]), Fault>
 }
 
 /// The value that bytes begin with as a document holds it, and what follows it.
-#[tactic(auto, unfolding(crate::specs::Taking::take_any))]
+#[tactic(auto, unfolding(layouts::specs::DocumentReading::take_any))]
 pub(crate) fn take_any(bytes: &[u8]) -> Result<(CompactDocValue<'_>, &[u8]), Fault>
     ensures ok { IfOk result (λ p. take_any bytes.now ≡ Some (value_of p.0, p.1.now)) }
     ensures err { IfErr result (λ fault. (fault ≡ faults.Damaged None) × (take_any bytes.now ≡ None)) }

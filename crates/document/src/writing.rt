@@ -5,7 +5,7 @@ ghost use Rattle.std.specs.Int.{from_bool};
 ghost use Rattle.definitions.specs.NumberCodes.{sized_bytes, u64_bytes};
 ghost use Rattle.definitions.specs.Values.{array, object};
 ghost use Rattle.document.specs.Shown.{value_of};
-ghost use Rattle.document.specs.Taking.{to_members, to_values};
+ghost use Rattle.layouts.specs.DocumentReading.{to_members, to_values};
 ghost use Rattle.layouts.specs.DocumentBytes.{value_bytes};
 
 use crate::compact_value::CompactDocValue;

@@ -5,6 +5,7 @@ use definitions::Fault;
 use document::{CompactDoc, OwnedValue};
 use options::{INDEXED, STORED, STRING};
 use schema::{DateTime, Facet, Field, Schema};
+use serde_json::Value;
 use std::alloc::Global;
 use std::test::Fail;
 
@@ -86,5 +87,64 @@ fn stored_values_by_name(rt: HostRuntime) -> Result<(), Fail> {
         )
     );
     assert!(rt; named.get("hidden").is_none());
+    Ok(())
+}
+
+// The document in a text.
+fn read(alloc: Global, schema: &Schema, text: &str) -> Result<CompactDoc, Fault> {
+    match Value::from_str(alloc, text) {
+        Ok(json) => CompactDoc::from_json_object(alloc, schema, &json),
+        Err(_) => Err(Fault::BadRequest),
+    }
+}
+
+#[test]
+fn what_is_printed_reads_back(rt: HostRuntime) -> Result<(), Fail> {
+    let alloc = rt.alloc();
+    let schema = schema_of_each_type(alloc)?;
+    let rows = [
+        ("{}", "{}"),
+        (r#"{"text":[]}"#, "{}"),
+        (
+            r#"{"text":["sea","","a \"b\" \\ \u0001 \u00e9 \/"]}"#,
+            r#"{"text":["sea","","a \"b\" \\ \u0001 é /"]}"#,
+        ),
+        (
+            r#"{"u64":[0,18446744073709551615],"i64":[-9223372036854775808,9223372036854775807],"bool":[true,false]}"#,
+            r#"{"bool":[true,false],"i64":[-9223372036854775808,9223372036854775807],"u64":[0,18446744073709551615]}"#,
+        ),
+        (
+            r#"{"date":["2024-05-01T12:00:00.75+02:00","1969-12-31T23:59:59.5Z","1970-01-01T00:00:00Z",-5]}"#,
+            r#"{"date":["2024-05-01T10:00:00.75Z","1969-12-31T23:59:59.5Z","1970-01-01T00:00:00Z",-5]}"#,
+        ),
+        (
+            r#"{"facet":["/","/a/b","/a\\/b/c\\\\"]}"#,
+            r#"{"facet":["/","/a/b","/a\\/b/c\\\\"]}"#,
+        ),
+        (
+            r#"{"bytes":["","AP8=","dGhpcyBpcyBhIHRlc3Q="]}"#,
+            r#"{"bytes":["","AP8=","dGhpcyBpcyBhIHRlc3Q="]}"#,
+        ),
+        (
+            r#"{"address":["1.2.3.4","::ffff:1.2.3.4","2001:DB8::1","::","1::0.0.0.1"]}"#,
+            r#"{"address":["1.2.3.4","1.2.3.4","2001:db8:0:0:0:0:0:1","0:0:0:0:0:0:0:0","1:0:0:0:0:0:0:1"]}"#,
+        ),
+        (
+            r#"{"json":[{},{"b":{"c":[1,-2,null,true,"x",[],{}]},"a":18446744073709551615}]}"#,
+            r#"{"json":[{},{"a":18446744073709551615,"b":{"c":[1,-2,null,true,"x",[],{}]}}]}"#,
+        ),
+        (
+            r#"{"zzz":1.5,"hidden":7,"u64":1,"text":"sea","json":{"k":"v"}}"#,
+            r#"{"json":[{"k":"v"}],"text":["sea"],"u64":[1]}"#,
+        ),
+    ];
+    for (text, printed) in rows {
+        let doc = read(alloc, &schema, text)?;
+        let json = doc.to_json(alloc, &schema)?;
+        assert_eq!(rt; json.as_str(), printed);
+        let again = read(alloc, &schema, json.as_str())?;
+        let bytes = doc.serialize(alloc, &schema)?;
+        assert!(rt; again.serialize(alloc, &schema)? == bytes, "{text}");
+    }
     Ok(())
 }

@@ -6,6 +6,7 @@ pub mod FieldNorms
 pub mod Positions
 pub mod SkipEntries
 pub mod DocumentBytes
+pub mod DocumentReading
 pub mod RecordFiles
 pub mod RecordBodies
 pub mod Stores

@@ -3,7 +3,7 @@ use Rattle.std.specs.Prelude.{◌<◌, ◌≡◌, ◌≤◌, ◌⊎◌, List, No
 use Rattle.definitions.specs.declared.fault.Fault.{Fault}
 use Rattle.definitions.specs.declared.fault.Fault.TheVariants as faults
 use Rattle.definitions.specs.Values.{Document}
-use Rattle.document.specs.Taking.{read_document}
+use Rattle.layouts.specs.DocumentReading.{read_document}
 use Rattle.layouts.specs.Stores.{Block}
 use Rattle.store.specs.Slots.{HasSlot, IsSlotFault}
 

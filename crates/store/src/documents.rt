@@ -3,7 +3,7 @@
 ghost use Rattle.std.specs.Prelude.{[], ◌<◌, ◌≡◌, ◌≤◌, ◌⊎◌, IfErr, IfOk, List, OnErr, OnOk, Some, false, length, true, slice_index_or, ℕ};
 ghost use Rattle.definitions.specs.Stored.{stored_pairs};
 ghost use Rattle.definitions.specs.declared.fault.Fault.TheVariants as faults;
-ghost use Rattle.document.specs.Taking.{read_document};
+ghost use Rattle.layouts.specs.DocumentReading.{read_document};
 ghost use Rattle.layouts.specs.DocumentBytes.{document_bytes};
 ghost use Rattle.layouts.specs.Stores.{Hold};
 ghost use Rattle.store.specs.Caches.{looked_up, opened};

@@ -1,6 +1,6 @@
 use Rattle.std.proofs.Common.{◌++◌, ◌≡◌, map, option_map}
 use Rattle.common.specs.Token.{token_of}
-use Rattle.document.specs.Taking.{take_tokens, take_tokens_from}
+use Rattle.layouts.specs.DocumentReading.{take_tokens, take_tokens_from}
 use Rattle.document.proofs.compact_tokens.own_tokens.Given as goal
 
 -- what is copied so far, with the tokens that are left

@@ -1,5 +1,5 @@
 use Rattle.std.proofs.Common.{◌≡◌}
-use Rattle.document.specs.Taking.{skip_tokens, skip_tokens_from}
+use Rattle.layouts.specs.DocumentReading.{skip_tokens, skip_tokens_from}
 use Rattle.document.proofs.heads.skip_tokens.Given as goal
 
 -- what is left decides

@@ -2,7 +2,7 @@ use Rattle.std.proofs.Common.{Some, ap, ◌∙◌, sym, ◌≡◌, true}
 use Rattle.std.proofs.lemmas.Result.{err_from_is_err_and}
 use Rattle.definitions.specs.Json.{only_if}
 use Rattle.definitions.specs.Values.{pre_tok_str}
-use Rattle.document.specs.Taking.{leaf, take_pre_tokenized_leaf}
+use Rattle.layouts.specs.DocumentReading.{leaf, take_pre_tokenized_leaf}
 use Rattle.document.proofs.Skips.{leaf_taken, no_leaf}
 use Rattle.document.proofs.heads.tokens_leaf.Goals as goal
 

@@ -4,7 +4,7 @@ use Rattle.definitions.specs.NumberCodes.{sized_bytes}
 use Rattle.definitions.specs.Values.{object}
 use Rattle.document.specs.Held.{IsHeldValue, held_bytes}
 use Rattle.document.specs.Owned.{owned_members, owned_value}
-use Rattle.document.specs.Taking.{to_members}
+use Rattle.layouts.specs.DocumentReading.{to_members}
 use Rattle.document.proofs.OwnedParts.{Member, member_is, member_put, member_sized, members_held, members_put, object_seen, values_held, values_put}
 use Rattle.document.proofs.holding.+put_owned.Goals as goal
 

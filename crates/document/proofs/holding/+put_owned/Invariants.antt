@@ -2,7 +2,7 @@ use Rattle.std.proofs.Common.{◌++◌, ◌≡◌, drop}
 use Rattle.definitions.specs.Values.{AreMembers, AreValues}
 use Rattle.document.specs.Held.{AreSized, AreSizedMembers, held_members, held_values}
 use Rattle.document.specs.Owned.{owned_members, owned_values}
-use Rattle.document.specs.Taking.{to_members, to_values}
+use Rattle.layouts.specs.DocumentReading.{to_members, to_values}
 use Rattle.document.proofs.holding.+put_owned.Given as goal
 
 -- what is put so far, with the values that are left

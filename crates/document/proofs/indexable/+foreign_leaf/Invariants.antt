@@ -2,7 +2,7 @@ use Rattle.std.proofs.Common.{Some, nat_le, ◌*◌, ◌+◌, ◌||◌, ◌≡�
 use Rattle.definitions.specs.Indexable.{have_foreign_leaf, members_have_foreign_leaf}
 use Rattle.definitions.specs.Json.{only_if}
 use Rattle.definitions.specs.Values.{members_nesting, values_nesting}
-use Rattle.document.specs.Taking.{to_members, to_values}
+use Rattle.layouts.specs.DocumentReading.{to_members, to_values}
 use Rattle.document.proofs.indexable.+foreign_leaf.Given as goal
 
 abbrev pub decreases-foreign_leaf : goal.decreases-foreign_leaf

@@ -2,7 +2,7 @@ use Rattle.std.proofs.Common.{◌*◌, ◌++◌, ◌+◌, ◌≡◌, ◌≤◌}
 use Rattle.definitions.specs.Values.{members_nesting, nesting, values_nesting}
 use Rattle.document.specs.Owned.{owned_members, owned_values}
 use Rattle.document.specs.Shown.{value_of}
-use Rattle.document.specs.Taking.{to_members, to_values}
+use Rattle.layouts.specs.DocumentReading.{to_members, to_values}
 use Rattle.document.proofs.owning.+own.Given as goal
 
 abbrev pub decreases-own : goal.decreases-own

@@ -1,6 +1,6 @@
 use Rattle.std.proofs.Common.{Bor, List, Some, ap, map, subst, ◌∙◌, ◌≡◌, ℕ}
 use Rattle.definitions.specs.Facets.{facet_of_steps}
-use Rattle.document.specs.Taking.{steps_in}
+use Rattle.layouts.specs.DocumentReading.{steps_in}
 use Rattle.document.proofs.Steps.{made_of_steps, some_steps}
 use Rattle.document.proofs.owning.own_facet.Goals as goal
 

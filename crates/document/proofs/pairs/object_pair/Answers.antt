@@ -2,7 +2,7 @@ use Rattle.std.proofs.Common.{arith, length, rules, ◌<◌, ◌^◌, ◌≡◌}
 use Rattle.definitions.specs.Values.{object}
 use Rattle.document.specs.Held.{held_pair}
 use Rattle.document.specs.Owned.{owned_members}
-use Rattle.document.specs.Taking.{to_members}
+use Rattle.layouts.specs.DocumentReading.{to_members}
 use Rattle.document.proofs.WholePairs.{whole_pair}
 use Rattle.document.proofs.pairs.object_pair.Goals as goal
 

@@ -4,7 +4,7 @@ use Rattle.std.proofs.lemmas.Grind.{common_steps}
 use Rattle.std.proofs.lemmas.List.{drop_more}
 use Rattle.definitions.specs.Printed.{printed, printed_list, printed_onto}
 use Rattle.document.specs.Owned.{owned_members, owned_value, owned_values}
-use Rattle.document.specs.Taking.{to_members}
+use Rattle.layouts.specs.DocumentReading.{to_members}
 use Rattle.document.proofs.OwnedParts.{Member, object_seen}
 use Rattle.document.proofs.PrintedParts.{array_seen, items_of_values, printed_listed}
 use Rattle.serde_json.proofs.Views.{members_view-insert_entry, view-Array, view-Object}

@@ -1,7 +1,7 @@
 use Rattle.std.proofs.Common.{◌≡◌, drop, map, take}
 use Rattle.definitions.specs.Printed.{printed, printed_onto}
 use Rattle.document.specs.Owned.{owned_members, owned_value}
-use Rattle.document.specs.Taking.{to_members}
+use Rattle.layouts.specs.DocumentReading.{to_members}
 use Rattle.serde_json.specs.Data as json
 use Rattle.serde_json.specs.View.{members_view, view}
 use Rattle.document.proofs.printing.+print.Given as goal

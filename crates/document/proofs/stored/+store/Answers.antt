@@ -3,7 +3,7 @@ use Rattle.std.proofs.Common.{◌∙◌, ap, sym}
 use Rattle.definitions.specs.Stored.{plain}
 use Rattle.definitions.specs.Values.{array, object}
 use Rattle.document.specs.Shown.{value_of}
-use Rattle.document.specs.Taking.{to_members, to_values}
+use Rattle.layouts.specs.DocumentReading.{to_members, to_values}
 use Rattle.document.proofs.OwnedParts.{object_seen}
 use Rattle.document.proofs.PrintedParts.{array_seen}
 use Rattle.document.proofs.StoredParts.{plain_keyed, plain_listed}

@@ -3,7 +3,7 @@ use Rattle.definitions.specs.Stored.{plain}
 use Rattle.definitions.specs.Values.{members_nesting, nesting, values_nesting}
 use Rattle.document.specs.Owned.{owned_members, owned_values}
 use Rattle.document.specs.Shown.{value_of}
-use Rattle.document.specs.Taking.{to_members, to_values}
+use Rattle.layouts.specs.DocumentReading.{to_members, to_values}
 use Rattle.document.proofs.stored.+store.Given as goal
 
 abbrev pub decreases-stored_value : goal.decreases-stored_value

@@ -3,7 +3,7 @@ use Rattle.std.proofs.lemmas.Result.{err_from_is_err_and}
 use Rattle.definitions.specs.Values.{array, object}
 use Rattle.document.specs.CodeHeads.{head_of}
 use Rattle.document.specs.Shown.{value_of}
-use Rattle.document.specs.Taking.{take_held, take_member, to_members, to_values}
+use Rattle.layouts.specs.DocumentReading.{take_held, take_member, to_members, to_values}
 use Rattle.document.proofs.Skips.{array_none, array_some, many_step, member_taken, object_none, object_some}
 use Rattle.document.proofs.taking.+take.Goals as goal
 

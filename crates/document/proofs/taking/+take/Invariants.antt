@@ -1,5 +1,5 @@
 use Rattle.std.proofs.Common.{◌*◌, ◌+◌, ◌≡◌}
-use Rattle.document.specs.Taking.{skip_many, take_held, take_member}
+use Rattle.layouts.specs.DocumentReading.{skip_many, take_held, take_member}
 use Rattle.document.proofs.taking.+take.Given as goal
 
 abbrev pub decreases-take : goal.decreases-take

@@ -1,6 +1,6 @@
 use Rattle.std.proofs.Common.{◌∙◌, sym}
 use Rattle.document.specs.Shown.{value_of}
-use Rattle.document.specs.Taking.{take_pair, take_value}
+use Rattle.layouts.specs.DocumentReading.{take_pair, take_value}
 use Rattle.document.proofs.Skips.{many_step, pair_taken}
 use Rattle.document.proofs.taking.skip_pairs.Goals as goal
 

@@ -1,5 +1,5 @@
 use Rattle.std.proofs.Common.{◌≡◌}
-use Rattle.document.specs.Taking.{skip_many, take_pair, take_value}
+use Rattle.layouts.specs.DocumentReading.{skip_many, take_pair, take_value}
 use Rattle.document.proofs.taking.skip_pairs.Given as goal
 
 -- what is left decides

@@ -1,7 +1,7 @@
 use Rattle.std.proofs.Common.{◌*◌, ◌++◌, ◌+◌, ◌≡◌, ◌≤◌}
 use Rattle.definitions.specs.Values.{members_nesting, nesting, values_nesting}
 use Rattle.document.specs.Shown.{value_of}
-use Rattle.document.specs.Taking.{to_members, to_values}
+use Rattle.layouts.specs.DocumentReading.{to_members, to_values}
 use Rattle.layouts.specs.DocumentBytes.{members_bytes, values_bytes}
 use Rattle.document.proofs.writing.+put_value.Given as goal
 

@@ -1,16 +1,16 @@
-use Rattle.std.proofs.Common.{ap, ◌++◌, ◌∙◌, ◌∷◌, ◌≡◌, rules, FitsSigned}
+use Rattle.std.proofs.Common.{ap, ap₂, ◌++◌, ◌∙◌, ◌≡◌, rules, FitsSigned}
 use Rattle.std.proofs.lemmas.Int.{to_z-of_z}
 use Rattle.std.specs.Int.{cast_unsigned, w64}
+use Rattle.definitions.specs.NumberCodes.{u64_bytes}
 use Rattle.definitions.specs.Values as values
-use Rattle.definitions.specs.NumberCodes.{u32_bytes, u64_bytes}
 use Rattle.document.proofs.LeafPairs.{i64_pair}
 use Rattle.document.proofs.compact_doc.CompactDoc.add_i64.Goals as goal
 
-pub add-requires : goal.add-requires
-add-requires c =
+pub add_parts-requires : goal.add_parts-requires
+add_parts-requires c =
     let fits : FitsSigned w64 c.args.n = search rules in
     let cast : c.cast_unsigned.result ≡ cast_unsigned w64 c.args.n = c.cast_unsigned.ensures ∙ ap (cast_unsigned w64) (to_z-of_z w64 c.args.n fits) in (
       (c.args.field, values.i64 c.args.n),
-      i64_pair c.args.field c.args.n c.in_ok-pair.ensures.field fits,
-      c.in_ok-pair.ensures.pair ∙ ap (λ m. u32_bytes c.args.field ++ (2 ∷ u64_bytes m)) cast,
+      i64_pair c.args.field c.args.n c.value_head.ensures.field fits,
+      ap₂ (λ h ns. h ++ ns) c.value_head.ensures.head (c.to_le_bytes.ensures ∙ ap u64_bytes cast),
     )

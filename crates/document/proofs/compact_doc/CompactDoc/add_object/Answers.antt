@@ -1,6 +1,6 @@
 use Rattle.definitions.specs.Values as values
 use Rattle.document.specs.Owned.{owned_members}
-use Rattle.document.specs.Taking.{to_members}
+use Rattle.layouts.specs.DocumentReading.{to_members}
 use Rattle.document.proofs.compact_doc.CompactDoc.add_object.Goals as goal
 
 pub add-requires : goal.add-requires

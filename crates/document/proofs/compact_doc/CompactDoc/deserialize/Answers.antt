@@ -1,7 +1,7 @@
 use Rattle.std.proofs.Common.{Some, ap, arith, inr, refl, sym, ◌++◌, ◌∙◌}
 use Rattle.std.proofs.lemmas.Result.{err_from_is_err_and}
 use Rattle.definitions.specs.NumberCodes.{AreBytes}
-use Rattle.document.specs.Taking.{items_at, take_pair, take_value}
+use Rattle.layouts.specs.DocumentReading.{items_at, take_pair, take_value}
 use Rattle.document.proofs.HeldPairs.{empty, not_empty, pairs_held, read_held, read_more, read_none, read_whole}
 use Rattle.document.proofs.compact_doc.CompactDoc.deserialize.Goals as goal
 

@@ -1,5 +1,5 @@
 use Rattle.std.proofs.Common.{ap, length, ◌∙◌}
-use Rattle.document.specs.Taking.{take_held}
+use Rattle.layouts.specs.DocumentReading.{take_held}
 use Rattle.document.proofs.WholeItems.{whole_length}
 use Rattle.document.proofs.iterators.CompactDocArrayIter.count_left.Goals as goal
 

@@ -1,5 +1,5 @@
 use Rattle.std.proofs.Common.{ap, length, ◌∙◌}
-use Rattle.document.specs.Taking.{take_held, take_member}
+use Rattle.layouts.specs.DocumentReading.{take_held, take_member}
 use Rattle.document.proofs.WholeItems.{whole_length}
 use Rattle.document.proofs.iterators.CompactDocObjectIter.count_left.Goals as goal
 

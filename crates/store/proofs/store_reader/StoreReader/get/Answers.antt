@@ -1,7 +1,7 @@
 -- A slot that is no document stands at its place.
 use Rattle.std.proofs.Common.{◌∙◌, ap, inl, inr, sym}
 use Rattle.std.proofs.lemmas.Result.{IfErr-weaker}
-use Rattle.document.specs.Taking.{read_document}
+use Rattle.layouts.specs.DocumentReading.{read_document}
 use Rattle.store.proofs.DocumentSlots.{slot_below}
 use Rattle.store.proofs.store_reader.StoreReader.get.Goals as goal
 

@@ -1,4 +1,4 @@
--- Taking values from the bytes that hold them.
+-- Documents read from bytes: in the binary form, and as they are held in memory, where texts may have tokens.
 use Rattle.std.specs.Prelude.{[], ◌*◌, ◌+◌, ◌^◌, ◌∷◌, Bool, List, None, Option, Some, eqb, false, if◌then◌else◌, nat_le, nat_lt, option_map, suc, true, zero, ℕ}
 use Rattle.std.specs.Int.{cast_signed, w64}
 use Rattle.std.specs.List.{slice_split}
