@@ -2,5 +2,6 @@
 pub mod BodiesGrow
 pub mod DocumentsBack
 pub mod MadeTexts
+pub mod PairsBelow
 pub mod PlainData
 pub mod Taking

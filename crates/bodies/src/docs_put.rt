@@ -1,15 +1,14 @@
 //! Bodies of documents, written part by part.
 
-ghost use Rattle.std.specs.Prelude.{◌++◌, ◌∷◌, ◌≡◌, OnOk, flat_map, map};
+ghost use Rattle.std.specs.Prelude.{◌++◌, ◌<◌, ◌^◌, ◌∷◌, ◌≡◌, OnOk, length, true};
 ghost use Rattle.std.specs.List.{AllByRecursion};
 ghost use Rattle.definitions.specs.NumberCodes.{u64_bytes};
+ghost use Rattle.document.specs.Docs.{IsGoodPair};
 ghost use Rattle.layouts.specs.DocumentBytes as bytes;
-ghost use Rattle.layouts.specs.RecordBodies.{FitsDocument, FitsValue};
-ghost use Rattle.plain.specs.Documents.{document_of, value_of};
+ghost use Rattle.layouts.specs.DocumentReading.{deepest};
 
-use common::{put_bytes, put_u32, put_u64, put_vint};
-use plain::{IndexedDoc, Value};
-use schema::Field;
+use common::{put_u32, put_u64, put_vint};
+use document::{CompactDoc, put_value};
 use std::alloc::AllocError;
 
 /// Appends byte 3 and how many documents follow. Each of them is put by itself behind it.
@@ -20,44 +19,16 @@ pub fn put_docs_head(out: &mut Vec<u8>, num_docs: usize) -> Result<(), AllocErro
     put_u64(out, num_docs as u64)
 }
 
-/// Appends documents one after another.
-pub fn put_documents(out: &mut Vec<u8>, docs: &[IndexedDoc]) -> Result<(), AllocError>
-    ensures put { OnOk result (out.new.items ≡ out.old.items ++ flat_map bytes.document_bytes (map (λ doc. document_of doc.values.items) docs.now)) }
-    ensures fits { OnOk result (AllByRecursion FitsDocument (map (λ doc. document_of doc.values.items) docs.now)) }
+/// Appends a document: how many pairs it has, and each value behind its field's number. All pairs are put,
+/// stored or not, pre-tokenised texts as texts.
+pub fn put_document(out: &mut Vec<u8>, doc: &CompactDoc) -> Result<(), AllocError>
+    ensures put { OnOk result (out.new.items ≡ out.old.items ++ bytes.document_bytes doc.now) }
+    ensures held { (length doc.now < 2 ^ 64) × AllByRecursion (IsGoodPair true deepest) doc.now }
 {
-    for doc in docs {
-        put_document(out, &doc.values)?;
-    }
-    Ok(())
-}
-
-/// Appends a document: how many values it has, and each behind its field's number.
-pub fn put_document(out: &mut Vec<u8>, values: &[(Field, Value)]) -> Result<(), AllocError>
-    ensures put { OnOk result (out.new.items ≡ out.old.items ++ bytes.document_bytes (document_of values.now)) }
-    ensures fits { OnOk result (FitsDocument (document_of values.now)) }
-{
-    put_vint(out, values.len() as u64)?;
-    for (field, value) in values {
+    put_vint(out, doc.len() as u64)?;
+    for (field, value) in doc.field_values() {
         put_u32(out, field.field_id())?;
         put_value(out, value)?;
     }
     Ok(())
-}
-
-/// Appends a value behind its code.
-#[tactic(auto, using(crate::proofs::MadeTexts::string_utf8))]
-fn put_value(out: &mut Vec<u8>, value: &Value) -> Result<(), AllocError>
-    ensures put { OnOk result (out.new.items ≡ out.old.items ++ bytes.value_bytes (value_of value.now)) }
-    ensures fits { OnOk result (FitsValue (value_of value.now)) }
-{
-    match value {
-        Value::Str(text) => {
-            out.push(0)?;
-            put_bytes(out, text.as_bytes())
-        }
-        Value::U64(number) => {
-            out.push(1)?;
-            put_u64(out, *number)
-        }
-    }
 }

@@ -1,26 +1,28 @@
 //! Bodies of documents, read.
 
-ghost use Rattle.std.specs.Prelude.{◌<◌, ◌≡◌, ◌≢◌, IfErr, IfOk, IfSome, None, Some, length, map, option_map, ℕ};
+ghost use Rattle.std.specs.Prelude.{◌<◌, ◌≡◌, ◌≢◌, IfErr, IfOk, IfSome, None, Some, false, length, option_map};
 ghost use Rattle.std.specs.List.{AllByRecursion};
 ghost use Rattle.definitions.specs.declared.fault.Fault.TheVariants as faults;
+ghost use Rattle.document.specs.Docs.{IsGoodPair};
+ghost use Rattle.layouts.specs.DocumentReading.{read_document, skip_many, take_many};
 ghost use Rattle.layouts.specs.RecordBodies as definitions;
-ghost use Rattle.plain.specs.Documents.{document_of, value_of};
 
-use common::{take_text, take_u32, take_u64, take_vint};
+use common::{take_u32, take_u64, take_vint};
 use definitions::Fault;
-use plain::Value;
-use schema::{Field, Schema};
+use document::{CompactDoc, take_value};
+use schema::Schema;
 use std::alloc::{AllocError, Global};
 
-/// The documents of a body, each by its values; nothing where it is no body of documents for that schema.
+/// The documents of a body; nothing where it is no body of documents for that schema.
 #[tactic(auto, unfolding(layouts::specs::RecordBodies::docs_in))]
 pub fn read_docs_body(
     alloc: Global,
     schema: &Schema,
     body: &[u8],
-) -> Result<Option<Vec<Vec<(Field, Value)>>>, AllocError>
-    ensures value { IfOk result (λ found. option_map (λ docs. map (λ doc. document_of doc.items) docs.items) found ≡ definitions.docs_in schema.now body.now) }
-    ensures fields { IfOk result (λ found. IfSome found (λ docs. AllByRecursion (λ doc. AllByRecursion (λ p. p.0 < length schema.now) doc.items) docs.items)) }
+) -> Result<Option<Vec<CompactDoc>>, AllocError>
+    ensures value { IfOk result (λ found. option_map (λ docs. docs.items) found ≡ definitions.docs_in schema.now body.now) }
+    ensures fields { IfOk result (λ found. IfSome found (λ docs. AllByRecursion (λ doc. AllByRecursion (λ p. p.0 < length schema.now) doc) docs.items)) }
+    ensures good { IfOk result (λ found. IfSome found (λ docs. AllByRecursion (λ doc. AllByRecursion (IsGoodPair false 128) doc) docs.items)) }
 {
     match take_docs_body(alloc, schema.num_fields(), body) {
         Ok(docs) => Ok(Some(docs)),
@@ -30,14 +32,9 @@ pub fn read_docs_body(
 }
 
 /// The documents of a body, with fields below this number.
-fn take_docs_body(
-    alloc: Global,
-    num_fields: usize,
-    body: &[u8],
-) -> Result<Vec<Vec<(Field, Value)>>, Fault>
-    ensures ok { IfOk result (λ docs. definitions.docs_below num_fields body.now ≡ Some (map (λ doc. document_of doc.items) docs.items)) }
+fn take_docs_body(alloc: Global, num_fields: usize, body: &[u8]) -> Result<Vec<CompactDoc>, Fault>
+    ensures ok { IfOk result (λ docs. definitions.docs_below num_fields body.now ≡ Some docs.items) }
     ensures err { IfErr result (λ fault. fault ≢ faults.OutOfMemory → definitions.docs_below num_fields body.now ≡ None) }
-    ensures fields { IfOk result (λ docs. AllByRecursion (λ doc. AllByRecursion (λ p. p.0 < num_fields) doc.items) docs.items) }
 {
     let (code, rest) = body.split_first().ok_or(Fault::Damaged(None))?;
     if *code != 3 {
@@ -58,10 +55,9 @@ fn take_documents<'a>(
     num_fields: usize,
     num_docs: u64,
     bytes: &'a [u8],
-) -> Result<(Vec<Vec<(Field, Value)>>, &'a [u8]), Fault>
-    ensures ok { IfOk result (λ p. definitions.take_each (definitions.take_document num_fields) num_docs bytes.now ≡ Some (map (λ doc. document_of doc.items) p.0.items, p.1.now)) }
-    ensures err { IfErr result (λ fault. fault ≢ faults.OutOfMemory → definitions.take_each (definitions.take_document num_fields) num_docs bytes.now ≡ None) }
-    ensures fields { IfOk result (λ p. AllByRecursion (λ doc. AllByRecursion (λ q. q.0 < num_fields) doc.items) p.0.items) }
+) -> Result<(Vec<CompactDoc>, &'a [u8]), Fault>
+    ensures ok { IfOk result (λ p. take_many (definitions.take_document num_fields) num_docs bytes.now ≡ Some (p.0.items, p.1.now)) }
+    ensures err { IfErr result (λ fault. fault ≢ faults.OutOfMemory → take_many (definitions.take_document num_fields) num_docs bytes.now ≡ None) }
 {
     let mut docs = Vec::new(alloc);
     let mut rest = bytes;
@@ -78,82 +74,48 @@ fn take_document<'a>(
     alloc: Global,
     num_fields: usize,
     bytes: &'a [u8],
-) -> Result<(Vec<(Field, Value)>, &'a [u8]), Fault>
-    ensures ok { IfOk result (λ p. definitions.take_document num_fields bytes.now ≡ Some (document_of p.0.items, p.1.now)) }
+) -> Result<(CompactDoc, &'a [u8]), Fault>
+    ensures ok { IfOk result (λ p. definitions.take_document num_fields bytes.now ≡ Some (p.0, p.1.now)) }
     ensures err { IfErr result (λ fault. fault ≢ faults.OutOfMemory → definitions.take_document num_fields bytes.now ≡ None) }
-    ensures fields { IfOk result (λ p. AllByRecursion (λ q. q.0 < num_fields) p.0.items) }
 {
-    let (num_pairs, rest) = take_vint(bytes)?;
-    take_pairs(alloc, num_fields, num_pairs, rest)
+    let (document, rest) = split_document(num_fields, bytes)?;
+    let doc = CompactDoc::deserialize(alloc, document)?;
+    Ok((doc, rest))
 }
 
-/// So many fields with their values, and what follows them.
-#[tactic(auto, using(crate::proofs::Taking::runs_begin, crate::proofs::Taking::runs_refused, crate::proofs::Taking::runs_end))]
-fn take_pairs<'a>(
-    alloc: Global,
-    num_fields: usize,
-    num_pairs: u64,
-    bytes: &'a [u8],
-) -> Result<(Vec<(Field, Value)>, &'a [u8]), Fault>
-    ensures ok { IfOk result (λ p. definitions.take_each (definitions.take_pair num_fields) num_pairs bytes.now ≡ Some (document_of p.0.items, p.1.now)) }
-    ensures err { IfErr result (λ fault. fault ≢ faults.OutOfMemory → definitions.take_each (definitions.take_pair num_fields) num_pairs bytes.now ≡ None) }
-    ensures fields { IfOk result (λ p. AllByRecursion (λ q. q.0 < num_fields) p.0.items) }
+/// The bytes of a document, and what follows them.
+fn split_document(num_fields: usize, bytes: &[u8]) -> Result<(&[u8], &[u8]), Fault>
+    ensures ok { IfOk result (λ p. definitions.take_document num_fields bytes.now ≡ option_map (λ doc. (doc, p.1.now)) (read_document p.0.now)) }
+    ensures err { IfErr result (λ fault. (fault ≡ faults.Damaged None) × (definitions.take_document num_fields bytes.now ≡ None)) }
 {
-    let mut pairs = Vec::new(alloc);
+    let (num_pairs, pairs) = take_vint(bytes)?;
+    let rest = skip_pairs(num_fields, num_pairs, pairs)?;
+    let (document, _) = bytes.split_at(bytes.len() - rest.len());
+    Ok((document, rest))
+}
+
+/// What follows so many pairs of the first fields.
+#[tactic(auto, using(crate::proofs::Taking::skips_on, crate::proofs::Taking::skips_refused, crate::proofs::Taking::skips_end))]
+fn skip_pairs(num_fields: usize, num_pairs: u64, bytes: &[u8]) -> Result<&[u8], Fault>
+    ensures ok { IfOk result (λ rest. skip_many (definitions.take_pair_below num_fields) num_pairs bytes.now ≡ Some rest.now) }
+    ensures err { IfErr result (λ fault. (fault ≡ faults.Damaged None) × (skip_many (definitions.take_pair_below num_fields) num_pairs bytes.now ≡ None)) }
+{
     let mut rest = bytes;
     for _i in 0..num_pairs {
-        let (pair, after) = take_pair(alloc, num_fields, rest)?;
-        pairs.push(pair)?;
-        rest = after;
+        rest = skip_pair(num_fields, rest)?;
     }
-    Ok((pairs, rest))
+    Ok(rest)
 }
 
-/// A field with a value, and what follows them.
-fn take_pair<'a>(
-    alloc: Global,
-    num_fields: usize,
-    bytes: &'a [u8],
-) -> Result<((Field, Value), &'a [u8]), Fault>
-    ensures ok { IfOk result (λ p. definitions.take_pair num_fields bytes.now ≡ Some ((p.0.0, value_of p.0.1), p.1.now)) }
-    ensures err { IfErr result (λ fault. fault ≢ faults.OutOfMemory → definitions.take_pair num_fields bytes.now ≡ None) }
-    ensures field { IfOk result (λ p. p.0.0 < num_fields) }
+/// What follows a pair of the first fields.
+fn skip_pair(num_fields: usize, bytes: &[u8]) -> Result<&[u8], Fault>
+    ensures ok { IfOk result (λ rest. option_map (λ p. p.1) (definitions.take_pair_below num_fields bytes.now) ≡ Some rest.now) }
+    ensures err { IfErr result (λ fault. (fault ≡ faults.Damaged None) × (definitions.take_pair_below num_fields bytes.now ≡ None)) }
 {
-    let (field, rest) = take_u32(bytes)?;
+    let (field, value) = take_u32(bytes)?;
     if field as usize >= num_fields {
         return Err(Fault::Damaged(None));
     }
-    let (value, rest) = take_value(alloc, rest)?;
-    Ok(((Field::from_field_id(field), value), rest))
-}
-
-/// A value behind its code, and what follows it.
-fn take_value<'a>(alloc: Global, bytes: &'a [u8]) -> Result<(Value, &'a [u8]), Fault>
-    ensures ok { IfOk result (λ p. definitions.take_value bytes.now ≡ Some (value_of p.0, p.1.now)) }
-    ensures err { IfErr result (λ fault. fault ≢ faults.OutOfMemory → definitions.take_value bytes.now ≡ None) }
-{
-    let (code, rest) = bytes.split_first().ok_or(Fault::Damaged(None))?;
-    match *code {
-        0 => take_str(alloc, rest),
-        1 => take_number(rest),
-        _ => Err(Fault::Damaged(None)),
-    }
-}
-
-/// A text, and what follows it.
-fn take_str<'a>(alloc: Global, bytes: &'a [u8]) -> Result<(Value, &'a [u8]), Fault>
-    ensures ok { IfOk result (λ p. definitions.take_coded 0 bytes.now ≡ Some (value_of p.0, p.1.now)) }
-    ensures err { IfErr result (λ fault. fault ≢ faults.OutOfMemory → definitions.take_coded 0 bytes.now ≡ None) }
-{
-    let (text, rest) = take_text(bytes)?;
-    Ok((Value::Str(String::from_str(alloc, text)?), rest))
-}
-
-/// A number, and what follows it.
-fn take_number(bytes: &[u8]) -> Result<(Value, &[u8]), Fault>
-    ensures ok { IfOk result (λ p. definitions.take_coded 1 bytes.now ≡ Some (value_of p.0, p.1.now)) }
-    ensures err { IfErr result (λ fault. fault ≢ faults.OutOfMemory → definitions.take_coded 1 bytes.now ≡ None) }
-{
-    let (number, rest) = take_u64(bytes)?;
-    Ok((Value::U64(number), rest))
+    let (_, rest) = take_value(value)?;
+    Ok(rest)
 }

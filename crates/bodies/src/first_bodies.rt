@@ -1,7 +1,6 @@
 //! First bodies: what an index is made of.
 
-ghost use Rattle.std.specs.Prelude.{true, ◌++◌, ◌≡◌, IfOk, IfSome, OnOk, Some, string_bytes};
-ghost use Rattle.definitions.specs.Making.{HasBuiltKinds};
+ghost use Rattle.std.specs.Prelude.{true, ◌++◌, ◌≡◌, IfOk, OnOk, Some, string_bytes};
 ghost use Rattle.layouts.specs.RecordBodies as definitions;
 ghost use Rattle.serde_json.specs.View.{view};
 ghost use Rattle.serde_json.specs.Written.{compact_text};
@@ -10,7 +9,7 @@ use definitions::Fault;
 use json_keys::has_only;
 use schema::Schema;
 use serde_json::{Value as Json, json};
-use settings::{Settings, has_built_kinds};
+use settings::Settings;
 use std::alloc::{AllocError, Global};
 
 /// The most fields of an index.
@@ -24,7 +23,6 @@ pub fn put_first_body(
     schema: &Schema,
     settings: &Settings,
 ) -> Result<(), AllocError>
-    requires { HasBuiltKinds schema.now }
     ensures put { OnOk result (out.new.items ≡ out.old.items ++ definitions.first_body schema.now settings.now) }
     ensures read_back { OnOk result (definitions.makes_index schema.now settings.now ≡ true → definitions.first_in (definitions.first_body schema.now settings.now) ≡ Some (schema.now, settings.now)) }
 {
@@ -37,7 +35,6 @@ pub fn put_first_body(
 #[tactic(auto, unfolding(layouts::specs::RecordBodies::first_in))]
 pub fn read_first_body(alloc: Global, body: &[u8]) -> Result<Option<(Schema, Settings)>, AllocError>
     ensures value { IfOk result (λ found. found ≡ definitions.first_in body.now) }
-    ensures built { IfOk result (λ found. IfSome found (λ made. HasBuiltKinds made.0)) }
 {
     let Some((code, text)) = body.split_first() else {
         return Ok(None);
@@ -51,7 +48,6 @@ pub fn read_first_body(alloc: Global, body: &[u8]) -> Result<Option<(Schema, Set
 /// The compact JSON of a schema and settings.
 #[tactic(auto, using(crate::proofs::PlainData::made_float, crate::proofs::MadeTexts::text_back, crate::proofs::MadeTexts::string_utf8))]
 fn made_text(alloc: Global, schema: &Schema, settings: &Settings) -> Result<String, AllocError>
-    requires { HasBuiltKinds schema.now }
     ensures text { IfOk result (λ text. string_bytes text ≡ compact_text (definitions.made_data schema.now settings.now)) }
     ensures read_back { IfOk result (λ text. definitions.makes_index schema.now settings.now ≡ true → definitions.made_in_text (string_bytes text) ≡ Some (schema.now, settings.now)) }
 {
@@ -62,7 +58,6 @@ fn made_text(alloc: Global, schema: &Schema, settings: &Settings) -> Result<Stri
 
 /// A schema and settings as a JSON object.
 fn made_to_json(alloc: Global, schema: &Schema, settings: &Settings) -> Result<Json, AllocError>
-    requires { HasBuiltKinds schema.now }
     ensures value { IfOk result (λ json. view json ≡ definitions.made_data schema.now settings.now) }
     ensures read_back { IfOk result (λ json. definitions.makes_index schema.now settings.now ≡ true → definitions.made_in (view json) ≡ Some (schema.now, settings.now)) }
 {
@@ -75,7 +70,6 @@ fn made_to_json(alloc: Global, schema: &Schema, settings: &Settings) -> Result<J
 #[tactic(auto, using(crate::proofs::MadeTexts::text_read, crate::proofs::MadeTexts::text_refused))]
 fn read_text(alloc: Global, text: &[u8]) -> Result<Option<(Schema, Settings)>, AllocError>
     ensures value { IfOk result (λ found. found ≡ definitions.made_in_text text.now) }
-    ensures built { IfOk result (λ found. IfSome found (λ made. HasBuiltKinds made.0)) }
 {
     match Json::from_slice(alloc, text) {
         Ok(json) => read_made(alloc, &json),
@@ -85,10 +79,8 @@ fn read_text(alloc: Global, text: &[u8]) -> Result<Option<(Schema, Settings)>, A
 }
 
 /// What an object says an index is made of.
-#[tactic(auto, using(crate::proofs::MadeTexts::unbuilt_refused))]
 fn read_made(alloc: Global, json: &Json) -> Result<Option<(Schema, Settings)>, AllocError>
     ensures value { IfOk result (λ found. found ≡ definitions.made_in (view json.now)) }
-    ensures built { IfOk result (λ found. IfSome found (λ made. HasBuiltKinds made.0)) }
 {
     if !has_only(json, &["schema", "settings"]) {
         return Ok(None);
@@ -96,9 +88,6 @@ fn read_made(alloc: Global, json: &Json) -> Result<Option<(Schema, Settings)>, A
     let Some(schema) = read_schema(alloc, json)? else {
         return Ok(None);
     };
-    if !has_built_kinds(&schema) {
-        return Ok(None);
-    }
     let Some(settings) = read_settings(alloc, &schema, json)? else {
         return Ok(None);
     };
@@ -128,7 +117,6 @@ fn read_settings(
     schema: &Schema,
     json: &Json,
 ) -> Result<Option<Settings>, AllocError>
-    requires { HasBuiltKinds schema.now }
     ensures { IfOk result (λ found. found ≡ definitions.settings_at schema.now (view json.now)) }
 {
     let Some(settings) = json.get("settings") else {

@@ -1,21 +1,34 @@
 //! What the bodies of records promise.
 
-ghost use Rattle.std.specs.Prelude.{[], ◌++◌, ◌<◌, ◌^◌, ◌∷◌, ◌≡◌, ◌≤◌, List, Some, is_some, length, option_and_then, option_map, ℕ};
+ghost use Rattle.std.specs.Prelude.{[], ◌++◌, ◌<◌, ◌^◌, ◌∷◌, ◌≡◌, ◌≤◌, List, Some, is_some, length, option_and_then, option_map, true, ℕ};
 ghost use Rattle.std.specs.List.{AllByRecursion};
+ghost use Rattle.bodies.specs.Fitting.{FitsDocument, HasFields};
 ghost use Rattle.definitions.specs.NumberCodes.{AreBytes};
 ghost use Rattle.definitions.specs.Schema.{Schema};
 ghost use Rattle.definitions.specs.Settings.{Settings};
-ghost use Rattle.definitions.specs.Values.{Document};
-ghost use Rattle.layouts.specs.RecordBodies.{FitsDocument, HasFields, bodies_in, docs_body, docs_in, first_in, takes_body};
+ghost use Rattle.definitions.specs.Stored.{plain};
+ghost use Rattle.definitions.specs.Values.{Document, nesting};
+ghost use Rattle.document.specs.Docs.{IsGoodPair};
+ghost use Rattle.layouts.specs.DocumentReading.{deepest};
+ghost use Rattle.layouts.specs.RecordBodies.{bodies_in, docs_body, docs_in, first_in, takes_body};
 
-/// Documents of texts and numbers, whose fields are the schema's, are read back from their body.
+/// Documents that fit, and whose fields are the schema's, are read back from their body.
 pub fn documents_are_read_back()
-    ensures { (schema : Schema) (docs : List Document) → length schema ≤ 2 ^ 32 → length docs < 2 ^ 64 → AllByRecursion FitsDocument docs → AllByRecursion (HasFields (length schema)) docs → docs_in schema (docs_body docs) ≡ Some docs }
+    ensures { (schema : Schema) (docs : List Document) → length docs < 2 ^ 64 → AllByRecursion FitsDocument docs → AllByRecursion (HasFields (length schema)) docs → docs_in schema (docs_body docs) ≡ Some docs }
 {}
 
-/// Documents that are read stood there as they are put: no other body says the same.
+/// Documents that are read stood there as they are put: no other body says the same. They fit, there are not
+/// too many, and their fields are the schema's.
 pub fn documents_that_are_read_were_put()
-    ensures { (schema : Schema) (body : List ℕ) (docs : List Document) → AreBytes body → docs_in schema body ≡ Some docs → body ≡ docs_body docs }
+    ensures body { (schema : Schema) (body : List ℕ) (docs : List Document) → AreBytes body → docs_in schema body ≡ Some docs → body ≡ docs_body docs }
+    ensures few { (schema : Schema) (body : List ℕ) (docs : List Document) → AreBytes body → docs_in schema body ≡ Some docs → length docs < 2 ^ 64 }
+    ensures fit { (schema : Schema) (body : List ℕ) (docs : List Document) → AreBytes body → docs_in schema body ≡ Some docs → AllByRecursion FitsDocument docs }
+    ensures fields { (schema : Schema) (body : List ℕ) (docs : List Document) → AreBytes body → docs_in schema body ≡ Some docs → AllByRecursion (HasFields (length schema)) docs }
+{}
+
+/// What a document in memory holds fits where no value has tokens or nests more than 128 deep.
+pub fn held_documents_fit()
+    ensures { (doc : Document) → length doc < 2 ^ 64 → AllByRecursion (IsGoodPair true deepest) doc → AllByRecursion (λ p. nesting p.1 ≤ 128) doc → AllByRecursion (λ p. plain p.1 ≡ p.1) doc → FitsDocument doc }
 {}
 
 /// A first body stands for no document, and each later one adds its list.

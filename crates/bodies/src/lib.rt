@@ -6,6 +6,6 @@ mod docs_taken;
 mod first_bodies;
 pub mod laws;
 
-pub use docs_put::{put_docs_head, put_document, put_documents};
+pub use docs_put::{put_docs_head, put_document};
 pub use docs_taken::read_docs_body;
 pub use first_bodies::{put_first_body, read_first_body};

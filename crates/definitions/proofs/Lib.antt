@@ -21,3 +21,4 @@ pub mod SettingsReadBack
 pub mod CallImages
 pub mod CallRuns
 pub mod KeptCalls
+pub mod ReadDocs

@@ -13,7 +13,7 @@ use Rattle.definitions.specs.Making.{are_analyzed, making_fault}
 use Rattle.definitions.specs.Replies.{ok_reply}
 use Rattle.definitions.specs.SchemaGrammar.{schema_in}
 use Rattle.definitions.specs.Settings.{Settings}
-use Rattle.definitions.specs.Step.{Analysis, Held, Session, Stage, answer_reply, answering, call_in, call_step, configuration_of, created, file_of, fresh_index, held_by, if_built, if_empty, in_index, index_of, index_step, is_ready, no_file, no_index, opened, refused_or, refusing, reopened, settings_sent, stage_step, stand_in, step, unless_ready, with_schema, with_settings}
+use Rattle.definitions.specs.Step.{Analysis, Held, Session, Stage, answer_reply, answering, call_in, call_step, configuration_of, created, file_of, fresh_index, held_by, if_empty, in_index, index_of, index_step, is_ready, no_file, no_index, opened, refused_or, refusing, reopened, settings_sent, stage_step, stand_in, step, unless_ready, with_schema, with_settings}
 use Rattle.definitions.specs.TermGrammar.{term_in}
 use Rattle.definitions.proofs.ReplyTexts.{hits_float}
 use Rattle.definitions.specs.declared.fault.Fault.{Fault}
@@ -120,7 +120,7 @@ unless_ready_float : (stage : Stage) (next : json.Data × Stage) → has_float n
 unless_ready_float stage next h = either_float (is_ready stage) (refusing faults.AlreadyOpen stage) next refl h
 
 stage_step_float : (a : Analysis) (stage : Stage) (r : Request) → has_float ((stage_step a stage r).0) ≡ false
-stage_step_float a stage (create_index d more) = unless_ready_float stage (with_schema a.knows stage more (if_built (schema_in d))) (with_schema_float a.knows stage more (if_built (schema_in d)))
+stage_step_float a stage (create_index d more) = unless_ready_float stage (with_schema a.knows stage more (schema_in d)) (with_schema_float a.knows stage more (schema_in d))
 stage_step_float a stage open_index = unless_ready_float stage (opened a.knows (held_by stage)) (opened_float a.knows (held_by stage))
 stage_step_float a stage (add_doc d) = in_index_float a.analyze stage (add_doc d)
 stage_step_float a stage (delete_docs d) = in_index_float a.analyze stage (delete_docs d)

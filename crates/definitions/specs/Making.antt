@@ -1,8 +1,8 @@
 -- What an index may be made of.
-use Rattle.std.specs.Prelude.{[], ◌&&◌, ◌∷◌, ◌||◌, Bool, IsTrue, List, Option, false, length, nat_lt, not, true, ℕ}
-use Rattle.std.specs.List.{AllByRecursion, list_all}
+use Rattle.std.specs.Prelude.{[], ◌&&◌, ◌∷◌, ◌||◌, Bool, List, Option, false, length, nat_lt, not, true, ℕ}
+use Rattle.std.specs.List.{list_all}
 use Rattle.definitions.specs.Refusing.{first_fault}
-use Rattle.definitions.specs.Schema.{Entry, Kind, Schema, json_kind, text_kind, u64_kind}
+use Rattle.definitions.specs.Schema.{Entry, Kind, Schema, json_kind, text_kind}
 use Rattle.definitions.specs.Settings.{Settings}
 use Rattle.definitions.specs.SettingsGrammar.{weighs_named}
 use Rattle.definitions.specs.declared.fault.Fault.{Fault}
@@ -11,20 +11,6 @@ use Rattle.definitions.specs.declared.fault.Fault.TheVariants as faults
 -- the most fields of an index
 abbrev pub max_index_fields : ℕ
 max_index_fields = 65536
-
--- whether documents have values of that kind; so far these two
-abbrev pub is_built_kind : Kind → Bool
-is_built_kind text_kind = true
-is_built_kind u64_kind = true
-is_built_kind _ = false
-
--- whether documents have values of the kinds of all fields
-abbrev pub has_built_kinds : Schema → Bool
-has_built_kinds schema = list_all (λ e. is_built_kind e.kind) schema
-
--- the same of each field
-abbrev pub HasBuiltKinds : Schema → Type 0
-HasBuiltKinds schema = AllByRecursion (λ e. IsTrue (is_built_kind e.kind)) schema
 
 -- the kinds whose values are cut into tokens
 abbrev pub has_tokens : Kind → Bool
@@ -42,4 +28,4 @@ are_analyzed knows schema = list_all (is_analyzed knows) schema
 
 -- why an index can't be made of an analyzer, a schema and settings
 abbrev pub making_fault : (List ℕ → Bool) → Schema → Settings → Option Fault
-making_fault knows schema settings = first_fault ((nat_lt max_index_fields (length schema), faults.TooManyFields) ∷ (not (has_built_kinds schema), faults.BadSchema) ∷ (not (are_analyzed knows schema), faults.UnknownTokenizer) ∷ (not (weighs_named schema settings), faults.BadSettings) ∷ [])
+making_fault knows schema settings = first_fault ((nat_lt max_index_fields (length schema), faults.TooManyFields) ∷ (not (are_analyzed knows schema), faults.UnknownTokenizer) ∷ (not (weighs_named schema settings), faults.BadSettings) ∷ [])

@@ -5,7 +5,7 @@ use Rattle.definitions.specs.Analyzers.{Analyzer}
 use Rattle.definitions.specs.Built.{built_query_in, built_request_in}
 use Rattle.definitions.specs.Calls.{Call, Configuration, Index, Status, add_value, after, closed, commit_pending, count_all, delete_term, merge_range, own_fault, ready, search_best, status_fault, writer_closed}
 use Rattle.definitions.specs.Json.{only_if, ◌>>=◌}
-use Rattle.definitions.specs.Making.{are_analyzed, has_built_kinds, making_fault}
+use Rattle.definitions.specs.Making.{are_analyzed, making_fault}
 use Rattle.definitions.specs.Query.{empty}
 use Rattle.definitions.specs.Refusing.{option_or}
 use Rattle.definitions.specs.Replies.{count_reply, error_reply, hits_reply, ok_reply, reply_of}
@@ -123,11 +123,6 @@ abbrev pub opened : (List ℕ → Bool) → Held → json.Data × Stage
 opened knows no_file = refusing faults.NoIndex (no_index no_file)
 opened knows (file_of schema settings docs) = if are_analyzed knows schema then (ok_reply, index_of schema settings (reopened docs)) else refusing faults.UnknownTokenizer (no_index (file_of schema settings docs))
 
--- a schema of kinds that there are so far, or else none
-abbrev pub if_built : Result Schema Fault → Result Schema Fault
-if_built (Ok schema) = if has_built_kinds schema then Ok schema else Err faults.BadSchema
-if_built (Err fault) = Err fault
-
 -- the settings that are sent, or where none are the defaults
 abbrev pub settings_sent : Schema → Option json.Data → Result Settings Fault
 settings_sent schema None = Ok default_settings
@@ -167,7 +162,7 @@ in_index analyze (index_of schema settings x) r = let p = index_step (configurat
 
 -- the reply to a request, and what stands after it
 abbrev pub stage_step : Analysis → Stage → Request → json.Data × Stage
-stage_step a stage (create_index d more) = unless_ready stage (with_schema a.knows stage more (if_built (schema_in d)))
+stage_step a stage (create_index d more) = unless_ready stage (with_schema a.knows stage more (schema_in d))
 stage_step a stage open_index = unless_ready stage (opened a.knows (held_by stage))
 stage_step a stage r = in_index a.analyze stage r
 

@@ -9,16 +9,17 @@ use Rattle.definitions.specs.Settings.{Settings}
 use Rattle.definitions.specs.State as states
 use Rattle.definitions.specs.Values.{Document}
 use Rattle.index.specs.Accepting.{IsKept}
-use Rattle.index.specs.Files.{FitsBody, last_in, last_of}
+use Rattle.index.specs.Files.{HeldBody, last_in, last_of}
 use Rattle.index.specs.Standing.{Stands, status_of}
 use Rattle.index.specs.declared.collection.Collection.{Collection}
 use Rattle.bodies.proofs.BodiesGrow.{bodies_next}
 use Rattle.bodies.proofs.DocumentsBack.{docs_back}
-use Rattle.layouts.specs.RecordBodies.{HasFields, bodies_in, docs_body, docs_in}
-use Rattle.plain.specs.Documents.{document_of}
+use Rattle.bodies.specs.Fitting.{FitsDocument, HasFields}
+use Rattle.index.proofs.HeldDocs.{held_fit}
+use Rattle.plain.specs.IndexedDocs.{IsRecordable}
+use Rattle.layouts.specs.RecordBodies.{bodies_in, docs_body, docs_in}
 use Rattle.plain.specs.Hits.{Describe, documents_of}
 use Rattle.plain.specs.declared.indexed_doc.IndexedDoc.{IndexedDoc}
-use Rattle.plain.specs.declared.value.Value.{Value}
 use Rattle.index.proofs.LastBodies.{Found, last_found}
 use Rattle.index.proofs.Standings.{all_both, committed_added, stands_with}
 
@@ -67,23 +68,24 @@ says_next (first ∷ bodies) made before docs body is read = ap (option_map last
         ap (λ (o : Option (List Document)). option_map last_found (option_map (λ ds. (found.0, found.1 ++ ds ∷ [])) o)) there
         ∙ ap₂ (λ (m : Schema × Settings) (ds : List Document). Some (m, ds)) one (last_more found.1 docs)
 
-has_fields : (n : ℕ) (pairs : List (ℕ × Value)) → AllByRecursion (λ p. p.0 < n) pairs → HasFields n (document_of pairs)
-has_fields n [] h = tt
-has_fields n (p ∷ pairs) h = (h.0, has_fields n pairs h.1)
-
 all_have_fields : (schema : Schema) (analyze : Analyzer) (docs : List IndexedDoc) → Describe schema analyze docs → AllByRecursion (HasFields (length schema)) (documents_of docs)
 all_have_fields schema analyze [] h = tt
-all_have_fields schema analyze (doc ∷ docs) h = (has_fields (length schema) doc.values.items h.0.known, all_have_fields schema analyze docs h.1)
+all_have_fields schema analyze (doc ∷ docs) h = (h.0.known, all_have_fields schema analyze docs h.1)
+
+all_recordable : (schema : Schema) (analyze : Analyzer) (docs : List IndexedDoc) → Describe schema analyze docs → AllByRecursion (AllByRecursion (λ p. IsRecordable p.1)) (documents_of docs)
+all_recordable schema analyze [] h = tt
+all_recordable schema analyze (doc ∷ docs) h = (h.0.recordable, all_recordable schema analyze docs h.1)
 
 -- the file of a commit says what is committed after it
-pub commit_says : {A : Type 0} (analyze : A → Analyzer) (old : Collection A) (c : calls.Configuration) (x : calls.Index) (settings : Settings) (bodies : List (List ℕ)) → Stands analyze old c x → FitsBody (documents_of old.docs.items ++ documents_of old.pending.items) → last_in bodies ≡ Some ((c.schema, settings), states.committed x.state)
+pub commit_says : {A : Type 0} (analyze : A → Analyzer) (old : Collection A) (c : calls.Configuration) (x : calls.Index) (settings : Settings) (bodies : List (List ℕ)) → Stands analyze old c x → HeldBody (documents_of old.docs.items ++ documents_of old.pending.items) → last_in bodies ≡ Some ((c.schema, settings), states.committed x.state)
     → last_in (bodies ++ docs_body (documents_of old.docs.items ++ documents_of old.pending.items) ∷ []) ≡ Some ((c.schema, settings), states.committed (calls.after c x.state calls.commit_pending))
 commit_says analyze old c x settings bodies s fits says =
     let all : List Document = documents_of old.docs.items ++ documents_of old.pending.items in
     let same : c.schema ≡ old.schema = ap (λ k. k.schema) s.made in
-    let few : length old.schema ≤ 2 ^ 32 = omega (arith, s.few) in
     let fields : AllByRecursion (HasFields (length old.schema)) all = all_both (HasFields (length old.schema)) (documents_of old.docs.items) (documents_of old.pending.items) (all_have_fields old.schema (analyze old.analyzer) old.docs.items s.docs) (all_have_fields old.schema (analyze old.analyzer) old.pending.items s.pending) in
-    let read : docs_in old.schema (docs_body all) ≡ Some all = docs_back old.schema all few fits.few fits.fits fields in
+    let kept : AllByRecursion (AllByRecursion (λ p. IsRecordable p.1)) all = all_both (AllByRecursion (λ p. IsRecordable p.1)) (documents_of old.docs.items) (documents_of old.pending.items) (all_recordable old.schema (analyze old.analyzer) old.docs.items s.docs) (all_recordable old.schema (analyze old.analyzer) old.pending.items s.pending) in
+    let fitting : AllByRecursion FitsDocument all = held_fit all fits.held kept in
+    let read : docs_in old.schema (docs_body all) ≡ Some all = docs_back old.schema all fits.few fitting fields in
     let made : Schema × Settings = (c.schema, settings) in
     says_next bodies made (states.committed x.state) (states.committed (calls.after c x.state calls.commit_pending)) (docs_body all) says
     (ap (λ (schema : Schema). docs_in schema (docs_body all)) same ∙ read ∙ ap (λ (ds : List Document). Some ds) (sym (committed_all analyze old c x s)))

@@ -1,10 +1,10 @@
 -- Lemmas behind the index.
 pub mod QueryForms
 pub mod QuerySteps
-pub mod BuiltKinds
 pub mod Faults
 pub mod ErrorsKept
 pub mod FieldLists
+pub mod HeldDocs
 pub mod Standings
 pub mod LastBodies
 pub mod IndexedContents

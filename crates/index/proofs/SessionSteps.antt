@@ -40,25 +40,25 @@ use Rattle.serde_json.specs.Data as json
 
 -- while an index is ready no other is made or opened
 pub already_made : (s : steps.Session) (d : json.Data) (more : Option json.Data) → steps.is_ready s.stage ≡ true → steps.stage_step s.analysis s.stage (requests.create_index d more) ≡ steps.refusing faults.AlreadyOpen s.stage
-already_made s d more is = ap (λ (b : Bool). cond b (steps.refusing faults.AlreadyOpen s.stage) (steps.with_schema s.analysis.knows s.stage more (steps.if_built (schema_in d)))) is
+already_made s d more is = ap (λ (b : Bool). cond b (steps.refusing faults.AlreadyOpen s.stage) (steps.with_schema s.analysis.knows s.stage more (schema_in d))) is
 
 pub already_opened : (s : steps.Session) → steps.is_ready s.stage ≡ true → steps.stage_step s.analysis s.stage requests.open_index ≡ steps.refusing faults.AlreadyOpen s.stage
 already_opened s is = ap (λ (b : Bool). cond b (steps.refusing faults.AlreadyOpen s.stage) (steps.opened s.analysis.knows (steps.held_by s.stage))) is
 
 -- what is read is made
-pub created_step : (s : steps.Session) (d : json.Data) (more : Option json.Data) (fields : Schema) (numbers : Settings) → steps.is_ready s.stage ≡ false → steps.if_built (schema_in d) ≡ Ok fields → steps.settings_sent fields more ≡ Ok numbers → steps.stage_step s.analysis s.stage (requests.create_index d more) ≡ steps.created s.analysis.knows fields numbers (steps.held_by s.stage)
+pub created_step : (s : steps.Session) (d : json.Data) (more : Option json.Data) (fields : Schema) (numbers : Settings) → steps.is_ready s.stage ≡ false → schema_in d ≡ Ok fields → steps.settings_sent fields more ≡ Ok numbers → steps.stage_step s.analysis s.stage (requests.create_index d more) ≡ steps.created s.analysis.knows fields numbers (steps.held_by s.stage)
 created_step s d more fields numbers is schema settings =
-    ap (λ (b : Bool). cond b (steps.refusing faults.AlreadyOpen s.stage) (steps.with_schema s.analysis.knows s.stage more (steps.if_built (schema_in d)))) is
+    ap (λ (b : Bool). cond b (steps.refusing faults.AlreadyOpen s.stage) (steps.with_schema s.analysis.knows s.stage more (schema_in d))) is
     ∙ ap (λ (r : Result Schema Fault). steps.with_schema s.analysis.knows s.stage more r) schema
     ∙ ap (λ (r : Result Settings Fault). steps.with_settings s.analysis.knows s.stage fields r) settings
 
 -- what isn't read is refused
-pub unread_step : (s : steps.Session) (d : json.Data) (more : Option json.Data) (fault : Fault) → steps.is_ready s.stage ≡ false → (steps.if_built (schema_in d) ≡ Err fault) ⊎ ((fields : Schema) × (steps.if_built (schema_in d) ≡ Ok fields) × (steps.settings_sent fields more ≡ Err fault)) → steps.stage_step s.analysis s.stage (requests.create_index d more) ≡ steps.refusing fault s.stage
+pub unread_step : (s : steps.Session) (d : json.Data) (more : Option json.Data) (fault : Fault) → steps.is_ready s.stage ≡ false → (schema_in d ≡ Err fault) ⊎ ((fields : Schema) × (schema_in d ≡ Ok fields) × (steps.settings_sent fields more ≡ Err fault)) → steps.stage_step s.analysis s.stage (requests.create_index d more) ≡ steps.refusing fault s.stage
 unread_step s d more fault is (inl schema) =
-    ap (λ (b : Bool). cond b (steps.refusing faults.AlreadyOpen s.stage) (steps.with_schema s.analysis.knows s.stage more (steps.if_built (schema_in d)))) is
+    ap (λ (b : Bool). cond b (steps.refusing faults.AlreadyOpen s.stage) (steps.with_schema s.analysis.knows s.stage more (schema_in d))) is
     ∙ ap (λ (r : Result Schema Fault). steps.with_schema s.analysis.knows s.stage more r) schema
 unread_step s d more fault is (inr (fields, schema, settings)) =
-    ap (λ (b : Bool). cond b (steps.refusing faults.AlreadyOpen s.stage) (steps.with_schema s.analysis.knows s.stage more (steps.if_built (schema_in d)))) is
+    ap (λ (b : Bool). cond b (steps.refusing faults.AlreadyOpen s.stage) (steps.with_schema s.analysis.knows s.stage more (schema_in d))) is
     ∙ ap (λ (r : Result Schema Fault). steps.with_schema s.analysis.knows s.stage more r) schema
     ∙ ap (λ (r : Result Settings Fault). steps.with_settings s.analysis.knows s.stage fields r) settings
 

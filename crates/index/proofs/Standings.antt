@@ -1,5 +1,5 @@
 -- What an index stands for, as calls are made.
-use Rattle.std.proofs.Common.{[], ◌||◌, Err, IfErr, IfOk, List, None, Ok, OnErr, OnOk, Result, Some, Vec, ap, cond, false, filter, length, map, refl, subst, sym, true, ⊎_elim, ◌++◌, ◌<◌, ◌∙◌, ◌∷◌, ◌≡◌, ◌≢◌, ◌≤◌, ℕ}
+use Rattle.std.proofs.Common.{[], Bool, ◌||◌, Err, IfErr, IfOk, List, None, Ok, OnErr, OnOk, Result, Some, Vec, ap, ap₂, cond, false, filter, length, map, refl, subst, sym, true, ⊎_elim, ◌++◌, ◌<◌, ◌∙◌, ◌∷◌, ◌≡◌, ◌≢◌, ◌≤◌, ℕ}
 use Rattle.std.specs.Bool.{⊤}
 use Rattle.std.specs.List.{AllByRecursion}
 use Rattle.std.specs.Result.{IsErrAnd, result_err}
@@ -17,17 +17,13 @@ use Rattle.definitions.specs.declared.fault.Fault.{Fault}
 use Rattle.definitions.specs.declared.fault.Fault.TheVariants as faults
 use Rattle.definitions.proofs.Histories.{committed-commit}
 use Rattle.index.specs.Accepting.{Accepts, IsMadeAlike, Stops, Waits}
-use Rattle.plain.specs.Documents.{document_of}
 use Rattle.plain.specs.Hits.{Describe, documents_of}
 use Rattle.plain.specs.IndexedDocs.{Describes}
-use Rattle.definitions.specs.Making.{HasBuiltKinds}
 use Rattle.index.specs.Standing.{Stands, status_of}
 use Rattle.index.specs.declared.collection.Collection.{Collection}
 use Rattle.plain.specs.declared.indexed_doc.IndexedDoc.{IndexedDoc}
-use Rattle.plain.specs.declared.value.Value.{Value}
+use Rattle.index.specs.Contents.{IsOfSchema}
 use Rattle.index.proofs.Faults.{memory_or_other}
-use Rattle.plain.proofs.Filters.{filter-all}
-use Rattle.plain.proofs.ReadDocs.{IsRead, fields_known, indexable_read}
 use Rattle.plain.proofs.ScanSteps.{all_push}
 
 -- ---- made of the same
@@ -50,7 +46,6 @@ module _ {A : Type 0} (analyze : A → Analyzer) (old new : Collection A) (alike
       status = status;
       docs = still_described new.docs.items docs;
       pending = still_described new.pending.items pending;
-      built = same_made (λ schema analyzer settings. HasBuiltKinds schema) s.built;
       few = same_made (λ schema analyzer settings. length schema ≤ max_fields) s.few;
       sized = same_made (λ schema analyzer settings. 1 ≤ settings.docs_per_segment) s.sized;
     }
@@ -66,16 +61,16 @@ module _ {A : Type 0} (analyze : A → Analyzer) (old new : Collection A) (alike
         (subst (Describe old.schema (analyze old.analyzer)) (sym stops.pending) s.pending)
 
     -- one document more waits
-    pub stands_added : (values : List (ℕ × Value)) → AllByRecursion (λ p. p.0 < length old.schema) values → new.docs.items ≡ old.docs.items → Waits analyze old new values → Stands analyze new c (record { state = states.after_add (document_of values) x.state; status = x.status })
+    pub stands_added : (values : Document) → IsOfSchema old.schema values → new.docs.items ≡ old.docs.items → Waits analyze old new values → Stands analyze new c (record { state = states.after_add values x.state; status = x.status })
     stands_added values known docs waits =
         let d = waits.doc in
-        let described : Describes old.schema (analyze old.analyzer) d = record { built = s.built; few = s.few; known = subst (AllByRecursion (λ p. p.0 < length old.schema)) (sym waits.values_kept) known; terms = waits.terms } in
-        stands_with (record { state = states.after_add (document_of values) x.state; status = x.status })
+        let described : Describes old.schema (analyze old.analyzer) d = let kept : IsOfSchema old.schema d.doc = subst (IsOfSchema old.schema) (sym waits.same) known in record { few = s.few; known = kept.0; recordable = kept.1; terms = waits.terms } in
+        stands_with (record { state = states.after_add values x.state; status = x.status })
         (s.seen ∙ ap documents_of (sym docs))
-        (ap (λ ps. ps ++ (states.added (document_of values) ∷ [])) s.waiting
-        ∙ ap (λ vs. map states.added (documents_of old.pending.items) ++ (states.added (document_of vs) ∷ [])) (sym waits.values_kept)
-        ∙ sym (map-append states.added (documents_of old.pending.items) (document_of d.values.items ∷ []))
-        ∙ ap (map states.added) (sym (map-append (λ e. document_of e.values.items) old.pending.items (d ∷ [])))
+        (ap (λ ps. ps ++ (states.added values ∷ [])) s.waiting
+        ∙ ap (λ vs. map states.added (documents_of old.pending.items) ++ (states.added vs ∷ [])) (sym waits.same)
+        ∙ sym (map-append states.added (documents_of old.pending.items) (d.doc ∷ []))
+        ∙ ap (map states.added) (sym (map-append (λ e. e.doc) old.pending.items (d ∷ [])))
         ∙ ap (λ ds. map states.added (documents_of ds)) (sym waits.pending))
         (s.status ∙ ap status_of (sym waits.status))
         (subst (Describe old.schema (analyze old.analyzer)) (sym docs) s.docs)
@@ -86,6 +81,11 @@ module _ {A : Type 0} (analyze : A → Analyzer) (old new : Collection A) (alike
 no_deletions : (docs : List Document) → states.deleted_terms (map states.added docs) ≡ []
 no_deletions [] = refl
 no_deletions (doc ∷ docs) = no_deletions docs
+
+-- where all pass, a filter keeps the list
+filter-all : {X : Type 0} (p : X → Bool) (xs : List X) → AllByRecursion (λ x. p x ≡ true) xs → filter p xs ≡ xs
+filter-all p [] h = refl
+filter-all p (x ∷ xs) h = ap₂ (λ b ys. cond b (x ∷ ys) ys) h.0 (filter-all p xs h.1)
 
 -- where nothing is deleted each document is left
 is_left_all : (schema : Schema) (analyze : Analyzer) (docs : List Document) → AllByRecursion (λ doc. states.is_left schema analyze [] doc ≡ true) docs
@@ -119,7 +119,7 @@ stands_committed analyze old new alike c x s docs pending status =
     stands_with analyze old new alike c x s (record { state = calls.after c x.state calls.commit_pending; status = x.status })
     (committed_added c.schema c.analyze c.docs_per_segment x.state (documents_of old.pending.items) (subst (λ k. 1 ≤ k) (sym n) s.sized) s.waiting
     ∙ ap (λ ds. ds ++ documents_of old.pending.items) s.seen
-    ∙ sym (map-append (λ e. document_of e.values.items) old.docs.items old.pending.items)
+    ∙ sym (map-append (λ e. e.doc) old.docs.items old.pending.items)
     ∙ ap documents_of (sym docs))
     (ap (λ ds. map states.added (documents_of ds)) (sym pending))
     (s.status ∙ ap status_of (sym status))
@@ -142,14 +142,14 @@ pub own_refuses : (c : calls.Configuration) (x : calls.Index) (call : calls.Call
 own_refuses c x call h = ap (λ o. option_or o (calls.own_fault c x.state call)) h
 
 -- a refused add leaves what stood
-pub refused_add : (c : calls.Configuration) (x : calls.Index) (call : calls.Call) (r : Result (Vec (ℕ × Value) Global) Fault) (fault : Fault) → r ≡ Err fault → Accepts c x call r → calls.is_commit call ≡ false → calls.Leaves c x call (Err fault) x
+pub refused_add : (c : calls.Configuration) (x : calls.Index) (call : calls.Call) (r : Result Document Fault) (fault : Fault) → r ≡ Err fault → Accepts c x call r → calls.is_commit call ≡ false → calls.Leaves c x call (Err fault) x
 refused_add c x call r fault is a adds = ⊎_elim
     (λ (memory : fault ≡ faults.OutOfMemory). subst (λ f. calls.Leaves c x call (Err f) x) (sym memory) (calls.memory_refused ((subst (λ e. IfErr e (λ f. f ≡ faults.OutOfMemory → calls.status_fault x.status call ≡ None)) is a.unrefused) memory) adds))
     (λ (other : fault ≢ faults.OutOfMemory). calls.refused fault ((subst (λ e. IfErr e (λ f. f ≢ faults.OutOfMemory → calls.call_fault c x call ≡ Some f)) is a.refused) other))
     (memory_or_other fault)
 
 -- an add that is taken leaves one document more, or a writer that is closed
-pub added_or_stopped : {A : Type 0} (analyze : A → Analyzer) (old new : Collection A) (c : calls.Configuration) (x : calls.Index) (call : calls.Call) (values : List (ℕ × Value)) (result : Result ⊤ Fault) → Stands analyze old c x → IsMadeAlike old new → new.docs.items ≡ old.docs.items → calls.is_add call ≡ true → calls.call_fault c x call ≡ None → calls.after c x.state call ≡ states.after_add (document_of values) x.state → AllByRecursion (λ p. p.0 < length old.schema) values → OnOk result (Waits analyze old new values) → OnErr result (Stops old new) → IfErr result (λ fault. fault ≡ faults.OutOfMemory) → (y : calls.Index) × calls.Leaves c x call result y × Stands analyze new c y
+pub added_or_stopped : {A : Type 0} (analyze : A → Analyzer) (old new : Collection A) (c : calls.Configuration) (x : calls.Index) (call : calls.Call) (values : Document) (result : Result ⊤ Fault) → Stands analyze old c x → IsMadeAlike old new → new.docs.items ≡ old.docs.items → calls.is_add call ≡ true → calls.call_fault c x call ≡ None → calls.after c x.state call ≡ states.after_add values x.state → IsOfSchema old.schema values → OnOk result (Waits analyze old new values) → OnErr result (Stops old new) → IfErr result (λ fault. fault ≡ faults.OutOfMemory) → (y : calls.Index) × calls.Leaves c x call result y × Stands analyze new c y
 added_or_stopped analyze old new c x call values (Ok u) s alike docs adds accepted after known ok err memory =
     (record { state = calls.after c x.state call; status = x.status }, calls.answered accepted, subst (λ t. Stands analyze new c (record { state = t; status = x.status })) (sym after) (stands_added analyze old new alike c x s values known docs ok))
 added_or_stopped analyze old new c x call values (Err fault) s alike docs adds accepted after known ok err memory =
@@ -160,30 +160,17 @@ added_or_stopped analyze old new c x call values (Err fault) s alike docs adds a
 
 -- ---- what an add is taken by
 
--- where a document is read, and what is read can be indexed
-pub accepts_read : (c : calls.Configuration) (x : calls.Index) (call : calls.Call) (found : Result Document Fault) (result : Result (Vec (ℕ × Value) Global) Fault) → HasBuiltKinds c.schema → calls.status_fault x.status call ≡ None → calls.own_fault c x.state call ≡ result_err (calls.if_indexable c.schema found) → calls.after c x.state call ≡ calls.after_document (calls.if_indexable c.schema found) x.state → ((doc : Document) → found ≡ Ok doc → AllByRecursion (IsRead c.schema) doc) → IfOk result (λ values. found ≡ Ok (document_of values.items)) → IfErr result (λ fault. fault ≢ faults.OutOfMemory → found ≡ Err fault) → Accepts c x call result
-accepts_read c x call found (Ok values) built ready own after read ok err =
-    let doc = document_of values.items in
-    let whole = read doc ok in
-    let indexable : calls.if_indexable c.schema found ≡ Ok doc = ap (calls.if_indexable c.schema) ok ∙ ap (λ b. cond b (Ok doc) (Err faults.NotIndexable)) (indexable_read c.schema built doc whole) in
-    record {
-      accepted = own_refuses c x call ready ∙ own ∙ ap result_err indexable;
-      added = after ∙ ap (λ r. calls.after_document r x.state) indexable;
-      refused = tt;
-      unrefused = tt;
-    }
-accepts_read c x call found (Err fault) built ready own after read ok err = record {
+-- where a document is read and can be indexed, or else why not
+pub accepts_read : (c : calls.Configuration) (x : calls.Index) (call : calls.Call) (found result : Result Document Fault) → calls.status_fault x.status call ≡ None → calls.own_fault c x.state call ≡ result_err found → calls.after c x.state call ≡ calls.after_document found x.state → IfOk result (λ doc. found ≡ Ok doc) → IfErr result (λ fault. fault ≢ faults.OutOfMemory → found ≡ Err fault) → Accepts c x call result
+accepts_read c x call found (Ok doc) ready own after ok err = record {
+  accepted = own_refuses c x call ready ∙ own ∙ ap result_err ok;
+  added = after ∙ ap (λ r. calls.after_document r x.state) ok;
+  refused = tt;
+  unrefused = tt;
+}
+accepts_read c x call found (Err fault) ready own after ok err = record {
   accepted = tt;
   added = tt;
-  refused = (λ other. own_refuses c x call ready ∙ own ∙ ap (λ r. result_err (calls.if_indexable c.schema r)) (err other));
+  refused = (λ other. own_refuses c x call ready ∙ own ∙ ap result_err (err other));
   unrefused = (λ memory. ready);
 }
-
-known_values : (n : ℕ) (pairs : List (ℕ × Value)) → AllByRecursion (λ p. p.0 < n) (document_of pairs) → AllByRecursion (λ p. p.0 < n) pairs
-known_values n [] h = tt
-known_values n (p ∷ pairs) h = (h.0, known_values n pairs h.1)
-
--- what is read is of the schema's fields
-pub known_read : (schema : Schema) (found : Result Document Fault) (result : Result (Vec (ℕ × Value) Global) Fault) → ((doc : Document) → found ≡ Ok doc → AllByRecursion (IsRead schema) doc) → IfOk result (λ values. found ≡ Ok (document_of values.items)) → IfOk result (λ values. AllByRecursion (λ p. p.0 < length schema) values.items)
-known_read schema found (Ok values) read ok = known_values (length schema) values.items (fields_known schema (document_of values.items) (read (document_of values.items) ok))
-known_read schema found (Err fault) read ok = tt

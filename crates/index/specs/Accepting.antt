@@ -1,23 +1,20 @@
 -- How an add is taken.
-use Rattle.std.specs.Prelude.{[], ◌++◌, ◌∷◌, ◌≡◌, ◌≢◌, IfErr, IfOk, List, None, Result, Some, ℕ}
-use Rattle.std.specs.declared.alloc.Global.{Global}
-use Rattle.std.specs.declared.vec.Vec.{Vec}
+use Rattle.std.specs.Prelude.{[], ◌++◌, ◌∷◌, ◌≡◌, ◌≢◌, IfErr, IfOk, List, None, Result, Some}
 use Rattle.definitions.specs.Analyzers.{Analyzer}
 use Rattle.definitions.specs.Calls as calls
 use Rattle.definitions.specs.State.{after_add}
+use Rattle.definitions.specs.Values.{Document}
 use Rattle.definitions.specs.declared.fault.Fault.{Fault}
 use Rattle.definitions.specs.declared.fault.Fault.TheVariants as faults
-use Rattle.plain.specs.Documents.{document_of}
 use Rattle.plain.specs.IndexedDocs.{IsIndexed}
 use Rattle.index.specs.declared.collection.Collection.{Collection}
 use Rattle.index.specs.declared.collection.Status.TheVariants as status
 use Rattle.plain.specs.declared.indexed_doc.IndexedDoc.{IndexedDoc}
-use Rattle.plain.specs.declared.value.Value.{Value}
 
--- the call adds these values, or it is refused so
-pub record Accepts (c : calls.Configuration) (x : calls.Index) (call : calls.Call) (result : Result (Vec (ℕ × Value) Global) Fault) : Type 0 where
-  pub accepted : IfOk result (λ values. calls.call_fault c x call ≡ None)
-  pub added : IfOk result (λ values. calls.after c x.state call ≡ after_add (document_of values.items) x.state)
+-- the call adds this document, or it is refused so
+pub record Accepts (c : calls.Configuration) (x : calls.Index) (call : calls.Call) (result : Result Document Fault) : Type 0 where
+  pub accepted : IfOk result (λ doc. calls.call_fault c x call ≡ None)
+  pub added : IfOk result (λ doc. calls.after c x.state call ≡ after_add doc x.state)
   pub refused : IfErr result (λ fault. fault ≢ faults.OutOfMemory → calls.call_fault c x call ≡ Some fault)
   pub unrefused : IfErr result (λ fault. fault ≡ faults.OutOfMemory → calls.status_fault x.status call ≡ None)
 
@@ -28,9 +25,9 @@ pub record IsMadeAlike {A : Type 0} (old new : Collection A) : Type 0 where
   pub settings : new.settings ≡ old.settings
 
 -- one document more waits
-pub record Waits {A : Type 0} (analyze : A → Analyzer) (old new : Collection A) (values : List (ℕ × Value)) : Type 0 where
+pub record Waits {A : Type 0} (analyze : A → Analyzer) (old new : Collection A) (values : Document) : Type 0 where
   pub doc : IndexedDoc
-  pub values_kept : doc.values.items ≡ values
+  pub same : doc.doc ≡ values
   pub terms : IsIndexed old.schema (analyze old.analyzer) doc
   pub pending : new.pending.items ≡ old.pending.items ++ (doc ∷ [])
   pub status : new.status ≡ old.status

@@ -1,5 +1,5 @@
 -- The file of an index: what it says, and how it lies on a device.
-use Rattle.std.specs.Prelude.{[], ◌<◌, ◌^◌, ◌∷◌, ◌≡◌, ◌⊎◌, Bool, List, Option, Some, false, is_some, length, option_map, ℕ}
+use Rattle.std.specs.Prelude.{[], ◌<◌, ◌^◌, ◌∷◌, ◌≡◌, ◌⊎◌, Bool, List, Option, Some, false, is_some, length, option_map, true, ℕ}
 use Rattle.std.specs.List.{AllByRecursion}
 use Rattle.definitions.specs.Analyzers.{Analyzer}
 use Rattle.definitions.specs.Disk.{IsEither, Unsynced, settled}
@@ -13,7 +13,9 @@ use Rattle.definitions.specs.declared.fault.Fault.{Fault}
 use Rattle.definitions.specs.declared.fault.Fault.TheVariants as faults
 use Rattle.index.specs.Standing.{Stands}
 use Rattle.index.specs.declared.collection.Collection.{Collection}
-use Rattle.layouts.specs.RecordBodies.{FitsDocument, bodies_in, first_in, takes_body}
+use Rattle.document.specs.Docs.{IsGoodPair}
+use Rattle.layouts.specs.DocumentReading.{deepest}
+use Rattle.layouts.specs.RecordBodies.{bodies_in, first_in, takes_body}
 use Rattle.layouts.specs.RecordFiles.{EndsAt, IsAtRest, IsFile, IsOneOf}
 use Rattle.records.specs.Outcomes.{IsRefusal}
 
@@ -54,10 +56,14 @@ pub record LeavesEither {D : Type 0} (moment : D → ℕ) (left_since : D → �
   pub says_other : IsEither (Some ((schema, settings), one)) (Some ((schema, settings), other)) (last_in second)
   pub images : LeavesOnly moment left_since old new (IsOneOf first second)
 
--- documents that are read back from their body
-pub record FitsBody (docs : List Document) : Type 0 where
+-- a document as it is held in memory
+abbrev pub IsHeld : Document → Type 0
+IsHeld doc = (length doc < 2 ^ 64) × AllByRecursion (IsGoodPair true deepest) doc
+
+-- documents that are held in memory
+pub record HeldBody (docs : List Document) : Type 0 where
   pub few : length docs < 2 ^ 64
-  pub fits : AllByRecursion FitsDocument docs
+  pub held : AllByRecursion IsHeld docs
 
 -- a first body of an index
 abbrev pub is_first : List ℕ → Bool

@@ -6,7 +6,6 @@ use Rattle.definitions.specs.Schema.{max_fields}
 use Rattle.definitions.specs.State as states
 use Rattle.definitions.specs.Step.{configuration_of}
 use Rattle.plain.specs.Hits.{Describe, documents_of}
-use Rattle.definitions.specs.Making.{HasBuiltKinds}
 use Rattle.index.specs.declared.collection.Collection.{Collection}
 use Rattle.index.specs.declared.collection.Status.{Status}
 use Rattle.index.specs.declared.collection.Status.TheVariants as status
@@ -24,6 +23,5 @@ pub record Stands {A : Type 0} (analyze : A → Analyzer) (index : Collection A)
   pub status : x.status ≡ status_of index.status
   pub docs : Describe index.schema (analyze index.analyzer) index.docs.items
   pub pending : Describe index.schema (analyze index.analyzer) index.pending.items
-  pub built : HasBuiltKinds index.schema
   pub few : length index.schema ≤ max_fields
   pub sized : 1 ≤ index.settings.docs_per_segment

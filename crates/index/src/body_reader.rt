@@ -3,17 +3,16 @@
 ghost use Rattle.std.specs.Prelude.{[], ◌++◌, ◌<◌, ◌∷◌, ◌≡◌, IfOk, IfSome, cond, is_none, is_some, length, map, option_map, true};
 ghost use Rattle.std.specs.List.{AllByRecursion};
 ghost use Rattle.std.specs.Option.{ForNone};
-ghost use Rattle.index.specs.Contents.{documents_in, last_docs};
-ghost use Rattle.definitions.specs.Making.{HasBuiltKinds};
-ghost use Rattle.index.specs.FirstBodies.{is_made_built, made_of};
+ghost use Rattle.index.specs.Contents.{IsOfSchema, last_docs};
+ghost use Rattle.index.specs.FirstBodies.{made_of};
 ghost use Rattle.index.specs.Files.{last_in};
 ghost use Rattle.layouts.specs.RecordBodies.{docs_in, takes_body};
 ghost use Rattle.layouts.specs.RecordFiles.{AreTaken};
 
 use bodies::{read_docs_body, read_first_body};
-use plain::Value;
+use document::CompactDoc;
 use records::Bodies;
-use schema::{Field, Schema};
+use schema::Schema;
 use settings::Settings;
 use std::alloc::{AllocError, Global};
 
@@ -24,7 +23,6 @@ pub(crate) struct BodyReader {
     bodies: Vec<Vec<u8>>,
     made: Option<(Schema, Settings)>,
     ghost first: { made_of (map (λ body. body.items) bodies.items) ≡ made },
-    ghost built: { is_made_built made ≡ true },
     ghost none: { ForNone made (bodies.items ≡ []) },
 }
 
@@ -33,7 +31,7 @@ pub(crate) struct BodyReader {
 pub(crate) struct Found {
     pub(crate) schema: Schema,
     pub(crate) settings: Settings,
-    pub(crate) docs: Vec<Vec<(Field, Value)>>,
+    pub(crate) docs: Vec<CompactDoc>,
 }
 
 impl BodyReader {
@@ -49,12 +47,10 @@ impl BodyReader {
     }
 
     /// What the bodies say, of which there may be none.
-    #[tactic(auto, using(crate::proofs::BuiltKinds::property_of))]
     pub(crate) fn found(self) -> Result<Option<Found>, AllocError>
         requires { AreTaken takes_body [] (map (λ body. body.items) self.bodies.items) }
-        ensures says { IfOk result (λ found. option_map (λ f. ((f.schema, f.settings), documents_in f.docs.items)) found ≡ last_in (map (λ body. body.items) self.bodies.items)) }
-        ensures built { IfOk result (λ found. IfSome found (λ f. HasBuiltKinds f.schema)) }
-        ensures fields { IfOk result (λ found. IfSome found (λ f. AllByRecursion (λ doc. AllByRecursion (λ p. p.0 < length f.schema) doc.items) f.docs.items)) }
+        ensures says { IfOk result (λ found. option_map (λ f. ((f.schema, f.settings), f.docs.items)) found ≡ last_in (map (λ body. body.items) self.bodies.items)) }
+        ensures fields { IfOk result (λ found. IfSome found (λ f. AllByRecursion (IsOfSchema f.schema) f.docs.items)) }
     {
         let BodyReader {
             alloc,
@@ -135,9 +131,9 @@ fn read_last(
     alloc: Global,
     schema: &Schema,
     bodies: &[Vec<u8>],
-) -> Result<Option<Vec<Vec<(Field, Value)>>>, AllocError>
-    ensures value { IfOk result (λ found. option_map (λ docs. documents_in docs.items) found ≡ last_docs schema.now (map (λ b. b.items) bodies.now)) }
-    ensures fields { IfOk result (λ found. IfSome found (λ docs. AllByRecursion (λ doc. AllByRecursion (λ p. p.0 < length schema.now) doc.items) docs.items)) }
+) -> Result<Option<Vec<CompactDoc>>, AllocError>
+    ensures value { IfOk result (λ found. option_map (λ docs. docs.items) found ≡ last_docs schema.now (map (λ b. b.items) bodies.now)) }
+    ensures fields { IfOk result (λ found. IfSome found (λ docs. AllByRecursion (IsOfSchema schema.now) docs.items)) }
 {
     if bodies.len() < 2 {
         return Ok(Some(Vec::new(alloc)));

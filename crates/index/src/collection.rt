@@ -1,9 +1,5 @@
 //! What an index keeps in memory: the documents that are committed, and those that wait.
 
-ghost use Rattle.std.specs.List.{AllByRecursion-prop};
-ghost use Rattle.std.proofs.Props.{props};
-ghost use Rattle.definitions.specs.Making.{HasBuiltKinds};
-
 use plain::IndexedDoc;
 use schema::Schema;
 use settings::Settings;
@@ -30,5 +26,4 @@ pub struct Collection<A> {
     pub(crate) docs: Vec<IndexedDoc>,
     pub(crate) pending: Vec<IndexedDoc>,
     pub(crate) status: Status,
-    ghost built: { HasBuiltKinds schema } by { AllByRecursion-prop _ (λ e. Prim.hlevel props) _ },
 }

@@ -10,32 +10,31 @@ ghost use Rattle.definitions.specs.Step.{configuration_of, fresh_index, reopened
 ghost use Rattle.definitions.specs.declared.fault.Fault.TheVariants as faults;
 ghost use Rattle.layouts.specs.RecordBodies.{docs_body};
 ghost use Rattle.plain.specs.Hits.{Describe, documents_of, hit_of, scored};
-ghost use Rattle.definitions.specs.Making.{HasBuiltKinds, are_analyzed, is_analyzed, making_fault};
+ghost use Rattle.definitions.specs.Making.{are_analyzed, is_analyzed, making_fault};
 ghost use Rattle.plain.specs.Queries.{query_of};
 ghost use Rattle.records.specs.Frames.{frame_bytes};
 ghost use Rattle.index.specs.Accepting.{Accepts, IsKept, IsMadeAlike, Stops, Waits};
-ghost use Rattle.index.specs.Files.{FitsBody};
+ghost use Rattle.index.specs.Contents.{IsOfSchema};
+ghost use Rattle.index.specs.Files.{HeldBody};
 ghost use Rattle.index.specs.Standing.{Stands, status_of};
 ghost use Rattle.serde_json.specs.View.{view};
 
 use crate::collection::{Collection, Status};
-use bodies::{put_docs_head, put_documents};
+use crate::document_values::{put_documents, read_document, read_document_text};
+use bodies::put_docs_head;
 use common::Analyzer;
 use definitions::Fault;
-use plain::{
-    AnyQuery, Hit, IndexedDoc, Value, check_query, read_document, read_document_text, scan,
-    scan_count,
-};
+use document::CompactDoc;
+use plain::{AnyQuery, Hit, IndexedDoc, check_query, scan, scan_count};
 use records::{finish_frame, start_frame};
-use schema::{Field, FieldEntry, FieldType, Schema};
+use schema::{FieldEntry, FieldType, Schema};
 use serde_json::Value as Json;
-use settings::{Settings, has_built_kinds};
+use settings::Settings;
 use std::alloc::{AllocError, Global};
 
 impl<A: Analyzer + Drop> Collection<A> {
     /// A collection without documents.
     pub fn new(alloc: Global, analyzer: A, schema: Schema, settings: Settings) -> Collection<A>
-        requires { HasBuiltKinds schema }
         ensures stands { Stands A.analyze result (configuration_of schema (A.analyze analyzer) settings) fresh_index }
         ensures made { (result.schema ≡ schema) × (result.settings ≡ settings) × (result.analyzer ≡ analyzer) }
     {
@@ -58,8 +57,7 @@ impl<A: Analyzer + Drop> Collection<A> {
         settings: Settings,
         docs: Vec<IndexedDoc>,
     ) -> Collection<A>
-        requires built { HasBuiltKinds schema }
-        requires described { Describe schema (A.analyze analyzer) docs.items }
+        requires { Describe schema (A.analyze analyzer) docs.items }
         ensures stands { Stands A.analyze result (configuration_of schema (A.analyze analyzer) settings) (reopened (documents_of docs.items)) }
         ensures made { (result.schema ≡ schema) × (result.settings ≡ settings) × (result.analyzer ≡ analyzer) × (result.docs ≡ docs) }
     {
@@ -98,8 +96,8 @@ impl<A: Analyzer + Drop> Collection<A> {
             → IfErr result (λ fault. fault ≢ faults.OutOfMemory → calls.call_fault c x (calls.add_json text.now) ≡ Some fault) }
         ensures made { IsMadeAlike self.old self.new }
     {
-        let values = self.accept_text(text)?;
-        self.add(values)
+        let doc = self.accept_text(text)?;
+        self.add(doc)
     }
 
     /// Adds the document in a JSON value, as `add_json` does.
@@ -110,8 +108,8 @@ impl<A: Analyzer + Drop> Collection<A> {
             → IfErr result (λ fault. fault ≢ faults.OutOfMemory → calls.call_fault c x (calls.add_value (view value.now)) ≡ Some fault) }
         ensures made { IsMadeAlike self.old self.new }
     {
-        let values = self.accept_value(value)?;
-        self.add(values)
+        let doc = self.accept_value(value)?;
+        self.add(doc)
     }
 
     /// Finds the memory that a commit takes beside its record.
@@ -126,7 +124,7 @@ impl<A: Analyzer + Drop> Collection<A> {
     pub(crate) fn commit_frame(&self) -> Result<Vec<u8>, AllocError>
         requires { vec_len self.now.docs + vec_len self.now.pending ≤ vec_capacity self.now.docs }
         ensures framed { IfOk result (λ frame. frame.items ≡ frame_bytes (docs_body (documents_of self.now.docs.items ++ documents_of self.now.pending.items))) }
-        ensures fits { OnOk result (FitsBody (documents_of self.now.docs.items ++ documents_of self.now.pending.items)) }
+        ensures fits { OnOk result (HeldBody (documents_of self.now.docs.items ++ documents_of self.now.pending.items)) }
     {
         let mut frame = start_frame(self.alloc)?;
         put_docs_head(&mut frame, self.docs.len() + self.pending.len())?;
@@ -191,33 +189,33 @@ impl<A: Analyzer + Drop> Collection<A> {
     }
 
     /// The document that an add of a text adds.
-    fn accept_text(&self, text: &str) -> Result<Vec<(Field, Value)>, Fault>
+    fn accept_text(&self, text: &str) -> Result<CompactDoc, Fault>
         ensures taken { (c : calls.Configuration) (x : calls.Index) → Stands A.analyze self.now c x → Accepts c x (calls.add_json text.now) result }
-        ensures known { IfOk result (λ values. AllByRecursion (λ p. p.0 < length self.now.schema) values.items) }
+        ensures known { IfOk result (IsOfSchema self.now.schema) }
     {
         self.check_writer()?;
         read_document_text(self.alloc, &self.schema, text)
     }
 
     /// The document that an add of a value adds.
-    fn accept_value(&self, value: &Json) -> Result<Vec<(Field, Value)>, Fault>
+    fn accept_value(&self, value: &Json) -> Result<CompactDoc, Fault>
         ensures taken { (c : calls.Configuration) (x : calls.Index) → Stands A.analyze self.now c x → Accepts c x (calls.add_value (view value.now)) result }
-        ensures known { IfOk result (λ values. AllByRecursion (λ p. p.0 < length self.now.schema) values.items) }
+        ensures known { IfOk result (IsOfSchema self.now.schema) }
     {
         self.check_writer()?;
         read_document(self.alloc, &self.schema, value)
     }
 
     /// Lets a document wait for the next commit.
-    fn add(&mut self, values: Vec<(Field, Value)>) -> Result<(), Fault>
-        requires { AllByRecursion (λ p. p.0 < length self.old.schema) values.items }
+    fn add(&mut self, doc: CompactDoc) -> Result<(), Fault>
+        requires { IsOfSchema self.old.schema doc }
         ensures made { IsMadeAlike self.old self.new }
         ensures docs { self.new.docs.items ≡ self.old.docs.items }
-        ensures ok { OnOk result (Waits A.analyze self.old self.new values.items) }
+        ensures ok { OnOk result (Waits A.analyze self.old self.new doc) }
         ensures err { OnErr result (Stops self.old self.new) }
         ensures memory { IfErr result (λ fault. fault ≡ faults.OutOfMemory) }
     {
-        match self.index_values(values) {
+        match self.index_doc(doc) {
             Ok(()) => Ok(()),
             Err(_) => {
                 self.status = Status::WriterClosed;
@@ -227,15 +225,15 @@ impl<A: Analyzer + Drop> Collection<A> {
     }
 
     /// Adds a document with its terms to those that wait.
-    fn index_values(&mut self, values: Vec<(Field, Value)>) -> Result<(), AllocError>
-        requires { AllByRecursion (λ p. p.0 < length self.old.schema) values.items }
+    fn index_doc(&mut self, doc: CompactDoc) -> Result<(), AllocError>
+        requires { IsOfSchema self.old.schema doc }
         ensures made { IsMadeAlike self.old self.new }
         ensures docs { self.new.docs.items ≡ self.old.docs.items }
-        ensures ok { OnOk result (Waits A.analyze self.old self.new values.items) }
+        ensures ok { OnOk result (Waits A.analyze self.old self.new doc) }
         ensures err { OnErr result (self.new.pending.items ≡ self.old.pending.items) }
     {
-        let doc = IndexedDoc::new(self.alloc, &self.analyzer, &self.schema, values)?;
-        self.pending.push(doc)?;
+        let indexed = IndexedDoc::new(self.alloc, &self.analyzer, &self.schema, doc)?;
+        self.pending.push(indexed)?;
         Ok(())
     }
 
@@ -273,13 +271,9 @@ pub(crate) fn check_making<A: Analyzer>(
     settings: &Settings,
 ) -> Result<(), Fault>
     ensures value { result ≢ Err faults.OutOfMemory → result_err result ≡ making_fault (A.knows_name analyzer.now) schema.now settings.now }
-    ensures built { OnOk result (HasBuiltKinds schema.now) }
 {
     if schema.num_fields() > MAX_INDEX_FIELDS {
         return Err(Fault::TooManyFields);
-    }
-    if !has_built_kinds(schema) {
-        return Err(Fault::BadSchema);
     }
     if !are_analyzed(analyzer, schema) {
         return Err(Fault::UnknownTokenizer);

@@ -3,10 +3,10 @@
 ghost use Rattle.std.specs.Prelude.{◌<◌, ◌≤◌, ◌^◌, ◌≡◌, ◌⊎◌, IfErr, IfOk, IsTrue, List, OnOk, false, length, true};
 ghost use Rattle.std.specs.List.{AllByRecursion};
 ghost use Rattle.definitions.specs.Disk.{HasCause};
-ghost use Rattle.definitions.specs.Making.{HasBuiltKinds, are_analyzed};
+ghost use Rattle.definitions.specs.Making.{are_analyzed};
 ghost use Rattle.definitions.specs.Schema.{max_fields};
 ghost use Rattle.definitions.specs.declared.fault.Fault.TheVariants as faults;
-ghost use Rattle.index.specs.Contents.{documents_in};
+ghost use Rattle.index.specs.Contents.{IsOfSchema};
 ghost use Rattle.index.specs.Files.{Holds, IsOpenRefusal};
 ghost use Rattle.plain.specs.Hits.{Describe, documents_of};
 ghost use Rattle.records.specs.Kept.{IsKept};
@@ -15,9 +15,10 @@ use crate::body_reader::{BodyReader, Found};
 use crate::collection_calls::are_analyzed;
 use common::{Analyzer, Device};
 use definitions::Fault;
-use plain::{IndexedDoc, Value};
+use document::CompactDoc;
+use plain::IndexedDoc;
 use records::read_records;
-use schema::{Field, Schema};
+use schema::Schema;
 use settings::Settings;
 use std::alloc::{AllocError, Global};
 
@@ -43,7 +44,6 @@ pub(crate) fn read_contents<D: Device, A: Analyzer>(
     ensures inside { IsTrue (D.honest device.old) → IfOk result (λ contents. contents.gate < length (D.content device.new)) }
     ensures short { IfOk result (λ contents. contents.gate < 2 ^ 63) }
     ensures known { IfOk result (λ contents. are_analyzed (A.knows_name analyzer.now) contents.schema ≡ true) }
-    ensures built { IfOk result (λ contents. HasBuiltKinds contents.schema) }
     ensures described { IfOk result (λ contents. Describe contents.schema (A.analyze analyzer.now) contents.docs.items) }
     ensures refused { IsTrue (D.honest device.old) → IfErr result (λ fault. (fault ≡ faults.Device) ⊎ (fault ≡ faults.OutOfMemory) ⊎ IsOpenRefusal (A.knows_name analyzer.now) (D.content device.new) fault) }
 {
@@ -69,22 +69,21 @@ pub(crate) fn read_contents<D: Device, A: Analyzer>(
     })
 }
 
-/// The documents of these values, with their terms.
+/// The documents with their terms.
 fn index_docs<A: Analyzer>(
     alloc: Global,
     analyzer: &A,
     schema: &Schema,
-    docs: Vec<Vec<(Field, Value)>>,
+    docs: Vec<CompactDoc>,
 ) -> Result<Vec<IndexedDoc>, AllocError>
-    requires known { AllByRecursion (λ doc. AllByRecursion (λ p. p.0 < length schema.now) doc.items) docs.items }
-    requires built { HasBuiltKinds schema.now }
+    requires docs { AllByRecursion (IsOfSchema schema.now) docs.items }
     requires few { length schema.now ≤ max_fields }
     ensures described { IfOk result (λ indexed. Describe schema.now (A.analyze analyzer.now) indexed.items) }
-    ensures same { IfOk result (λ indexed. documents_of indexed.items ≡ documents_in docs.items) }
+    ensures same { IfOk result (λ indexed. documents_of indexed.items ≡ docs.items) }
 {
     let mut indexed = Vec::new(alloc);
-    for values in docs {
-        indexed.push(IndexedDoc::new(alloc, analyzer, schema, values)?)?;
+    for doc in docs {
+        indexed.push(IndexedDoc::new(alloc, analyzer, schema, doc)?)?;
     }
     Ok(indexed)
 }

@@ -3,14 +3,14 @@
 ghost use Rattle.std.specs.Prelude.{[], ◌++◌, ◌+◌, ◌<◌, ◌^◌, ◌∷◌, ◌≡◌, ◌≢◌, ◌≤◌, ◌⊎◌, IfErr, IfOk, IsErrOf, IsTrue, List, None, OnOk, Some, length, map, true, vec_capacity, vec_len, ℕ};
 ghost use Rattle.definitions.specs.Calls as calls;
 ghost use Rattle.definitions.specs.Disk.{HasCause, IsImage, settled};
-ghost use Rattle.definitions.specs.Making.{HasBuiltKinds, are_analyzed, making_fault};
+ghost use Rattle.definitions.specs.Making.{are_analyzed, making_fault};
 ghost use Rattle.definitions.specs.Moments.{LeavesOnly};
 ghost use Rattle.definitions.specs.Scanning as scanning;
 ghost use Rattle.definitions.specs.State.{committed};
 ghost use Rattle.definitions.specs.Step.{configuration_of, fresh_index, reopened};
 ghost use Rattle.definitions.specs.declared.fault.Fault.TheVariants as faults;
 ghost use Rattle.index.specs.Accepting.{IsKept, IsMadeAlike};
-ghost use Rattle.index.specs.Files.{FitsBody, IsCreateRefusal, IsOpenRefusal, IsOpened, LeavesEither, Rests, is_first};
+ghost use Rattle.index.specs.Files.{HeldBody, IsCreateRefusal, IsOpenRefusal, IsOpened, LeavesEither, Rests, is_first};
 ghost use Rattle.index.specs.Standing.{Stands, status_of};
 ghost use Rattle.layouts.specs.RecordBodies.{docs_body, first_body, first_in};
 ghost use Rattle.layouts.specs.RecordFiles.{EndsAt, IsAtRest, IsFresh, IsOneOf};
@@ -23,7 +23,7 @@ ghost use Rattle.serde_json.specs.View.{view};
 use crate::collection::{Collection, Status};
 use crate::collection_calls::check_making;
 use crate::contents::{Contents, read_contents};
-use bodies::{put_docs_head, put_documents, put_first_body};
+use bodies::put_first_body;
 use common::{Analyzer, Device};
 use definitions::Fault;
 use plain::{AnyQuery, Hit};
@@ -231,8 +231,8 @@ impl<D: Device + Drop, A: Analyzer + Drop> Index<D, A> {
         ensures documents { IsKept self.old.collection self.new.collection }
         ensures room { OnOk result (vec_len self.new.collection.docs + vec_len self.new.collection.pending ≤ vec_capacity self.new.collection.docs) }
         ensures fault { IfErr result (λ fault. (fault ≡ faults.OutOfMemory) ⊎ (fault ≡ faults.Device) ⊎ (fault ≡ faults.Limit)) }
-        ensures fits { OnOk result (FitsBody (documents_of self.old.collection.docs.items ++ documents_of self.old.collection.pending.items)) }
-        ensures fits_err { IfErr result (λ fault. fault ≢ faults.OutOfMemory → FitsBody (documents_of self.old.collection.docs.items ++ documents_of self.old.collection.pending.items)) }
+        ensures fits { OnOk result (HeldBody (documents_of self.old.collection.docs.items ++ documents_of self.old.collection.pending.items)) }
+        ensures fits_err { IfErr result (λ fault. fault ≢ faults.OutOfMemory → HeldBody (documents_of self.old.collection.docs.items ++ documents_of self.old.collection.pending.items)) }
         ensures honest { D.honest self.new.file.device ≡ D.honest self.old.file.device }
         ensures cause { HasCause (D.failed self.old.file.device) (D.failed self.new.file.device) result }
         ensures limit { IsErrOf result faults.Limit → 2 ^ 63 < self.old.file.gate + 1 + length (frame_bytes (docs_body (documents_of self.old.collection.docs.items ++ documents_of self.old.collection.pending.items))) }
@@ -294,7 +294,6 @@ fn first_frame<A: Analyzer>(
     ensures ok { IfOk result (λ frame. frame.items ≡ frame_bytes (first_body schema.now settings.now)) }
     ensures made { OnOk result (making_fault (A.knows_name analyzer.now) schema.now settings.now ≡ None) }
     ensures read_back { OnOk result (first_in (first_body schema.now settings.now) ≡ Some (schema.now, settings.now)) }
-    ensures built { OnOk result (HasBuiltKinds schema.now) }
     ensures err { IfErr result (λ fault. fault ≢ faults.OutOfMemory → making_fault (A.knows_name analyzer.now) schema.now settings.now ≡ Some fault) }
 {
     check_making(alloc, analyzer, schema, settings)?;
@@ -313,7 +312,6 @@ fn open_file<D: Device + Drop, A: Analyzer + Drop>(
 ) -> Result<Index<D, A>, Refused<D, A>>
     requires inside { IsTrue (D.honest device) → contents.gate < length (D.content device) }
     requires short { contents.gate < 2 ^ 63 }
-    requires built { HasBuiltKinds contents.schema }
     requires described { Describe contents.schema (A.analyze analyzer) contents.docs.items }
     ensures stands { IfOk result (λ index. Stands A.analyze index.collection (configuration_of contents.schema (A.analyze analyzer) contents.settings) (reopened (documents_of contents.docs.items))) }
     ensures made { IfOk result (λ index. (index.collection.schema ≡ contents.schema) × (index.collection.settings ≡ contents.settings) × (index.collection.docs ≡ contents.docs)) }

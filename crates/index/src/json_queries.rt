@@ -3,7 +3,6 @@
 ghost use Rattle.std.specs.Prelude.{◌++◌, ◌<◌, ◌≡◌, ◌≢◌, IfErr, IfOk, List, None, OnOk, Some, codes, map, option_map, unwrap_or};
 ghost use Rattle.definitions.specs.Built.{built_query_in};
 ghost use Rattle.definitions.specs.Json as keys;
-ghost use Rattle.definitions.specs.Making.{HasBuiltKinds};
 ghost use Rattle.definitions.specs.Query.{no_queries};
 ghost use Rattle.definitions.specs.QueryGrammar as definitions;
 ghost use Rattle.definitions.specs.Schema.{with_freqs};
@@ -38,7 +37,6 @@ enum Form {
 /// The query in a JSON object, whose key `q` names its form. The forms `all`, `none`, `term` and `bool` are read.
 #[cycle(read_query)]
 pub fn read_query(alloc: Global, schema: &Schema, json: &Json) -> Result<AnyQuery, Fault>
-    requires { HasBuiltKinds schema.now }
     ensures ok { IfOk result (λ query. built_query_in schema.now (view json.now) ≡ Some (query_of query)) }
     ensures err { IfErr result (λ fault. fault ≢ faults.OutOfMemory → (fault ≡ faults.BadQuery) × (built_query_in schema.now (view json.now) ≡ None)) }
 {
@@ -74,7 +72,6 @@ fn form_named(name: &str) -> Option<Form>
 /// The query of a form.
 #[cycle(read_query)]
 fn read_form(alloc: Global, schema: &Schema, form: Form, json: &Json) -> Result<AnyQuery, Fault>
-    requires { HasBuiltKinds schema.now }
     ensures ok { IfOk result (λ query. built.built_formed (form_of form) schema.now (view json.now) ≡ Some (query_of query)) }
     ensures err { IfErr result (λ fault. fault ≢ faults.OutOfMemory → (fault ≡ faults.BadQuery) × (built.built_formed (form_of form) schema.now (view json.now) ≡ None)) }
 {
@@ -111,7 +108,6 @@ fn read_empty_query(json: &Json) -> Result<AnyQuery, Fault>
 /// The query for clauses.
 #[cycle(read_query)]
 fn read_boolean_query(alloc: Global, schema: &Schema, json: &Json) -> Result<AnyQuery, Fault>
-    requires { HasBuiltKinds schema.now }
     ensures ok { IfOk result (λ query. definitions.bool_query (built.built_many_at schema.now (view json.now)) (view json.now) ≡ Some (query_of query)) }
     ensures err { IfErr result (λ fault. fault ≢ faults.OutOfMemory → (fault ≡ faults.BadQuery) × (definitions.bool_query (built.built_many_at schema.now (view json.now)) (view json.now) ≡ None)) }
 {
@@ -129,7 +125,6 @@ fn read_clauses(
     schema: &Schema,
     json: &Json,
 ) -> Result<Vec<(Occur, AnyQuery)>, Fault>
-    requires { HasBuiltKinds schema.now }
     ensures ok { IfOk result (λ clauses. definitions.clauses_at (built.built_many_at schema.now (view json.now)) ≡ Some (clauses_of clauses.items)) }
     ensures err { IfErr result (λ fault. fault ≢ faults.OutOfMemory → (fault ≡ faults.BadQuery) × (definitions.clauses_at (built.built_many_at schema.now (view json.now)) ≡ None)) }
 {
@@ -174,7 +169,6 @@ fn read_queries(
     occur: Occur,
     clauses: &mut Vec<(Occur, AnyQuery)>,
 ) -> Result<(), Fault>
-    requires { HasBuiltKinds schema.now }
     ensures ok { OnOk result ((queries : List AnyQueries)
         × (unwrap_or (built.built_many_at schema.now (view json.now) key.now) (Some no_queries) ≡ Some (queries_of queries))
         × (clauses.new.items ≡ clauses.old.items ++ map (λ q. (occur, q)) queries)) }
@@ -206,7 +200,6 @@ fn read_items(
     occur: Occur,
     clauses: &mut Vec<(Occur, AnyQuery)>,
 ) -> Result<(), Fault>
-    requires { HasBuiltKinds schema.now }
     ensures ok { OnOk result ((queries : List AnyQueries)
         × (built.built_items schema.now (items_view items.now) ≡ Some (queries_of queries))
         × (clauses.new.items ≡ clauses.old.items ++ map (λ q. (occur, q)) queries)) }
@@ -221,7 +214,6 @@ fn read_items(
 
 /// The query for a term. Counts are read where nothing else is said.
 fn read_term_query(alloc: Global, schema: &Schema, json: &Json) -> Result<AnyQuery, Fault>
-    requires { HasBuiltKinds schema.now }
     ensures ok { IfOk result (λ query. definitions.term_query schema.now (view json.now) ≡ Some (query_of query)) }
     ensures err { IfErr result (λ fault. fault ≢ faults.OutOfMemory → (fault ≡ faults.BadQuery) × (definitions.term_query schema.now (view json.now) ≡ None)) }
 {

@@ -1,15 +1,13 @@
 //! Replies written as JSON.
 
 ghost use Rattle.std.specs.Prelude.{◌≡◌, IfOk, List, map, string_bytes};
-ghost use Rattle.definitions.specs.Printed.{printed, printed_list, printed_named};
 ghost use Rattle.definitions.specs.Replies as definitions;
 ghost use Rattle.definitions.specs.Scanning as scanning;
-ghost use Rattle.plain.specs.Documents.{value_of};
 ghost use Rattle.plain.specs.Hits.{hit_of, scored, told};
 ghost use Rattle.serde_json.specs.View.{items_view, view};
 
-use plain::{Hit, NamedDoc, Value};
-use serde_json::{Map, Value as Json, json};
+use plain::Hit;
+use serde_json::{Value as Json, json};
 use std::alloc::{AllocError, Global};
 
 /// The text that a count is answered.
@@ -57,40 +55,6 @@ fn hits_list(alloc: Global, hits: &[Hit]) -> Result<Vec<Json>, AllocError>
 fn hit_json(alloc: Global, hit: &Hit) -> Result<Json, AllocError>
     ensures { IfOk result (λ json. view json ≡ definitions.hit_data (told hit.now)) }
 {
-    let doc = doc_json(alloc, &hit.doc)?;
+    let doc = hit.doc.to_json_value(alloc)?;
     json!(in alloc; {"doc": doc, "score": hit.score.unsigned_abs()})
-}
-
-/// A document's fields, each with its values.
-fn doc_json(alloc: Global, doc: &NamedDoc) -> Result<Json, AllocError>
-    ensures { IfOk result (λ json. view json ≡ printed_named doc.now) }
-{
-    let mut members = Map::new(alloc);
-    for (name, values) in doc.fields().iter().rev() {
-        let list = values_list(alloc, values)?;
-        let key = name.clone()?;
-        drop(members.insert(key, Json::Array(list))?);
-    }
-    Ok(Json::Object(members))
-}
-
-/// The values, one after another.
-fn values_list(alloc: Global, values: &[Value]) -> Result<Vec<Json>, AllocError>
-    ensures { IfOk result (λ list. items_view list.items ≡ printed_list (map value_of values.now)) }
-{
-    let mut list = Vec::with_capacity(alloc, values.len())?;
-    for value in values {
-        list.push(value_json(alloc, value)?)?;
-    }
-    Ok(list)
-}
-
-/// A value.
-fn value_json(alloc: Global, value: &Value) -> Result<Json, AllocError>
-    ensures { IfOk result (λ json. view json ≡ printed (value_of value.now)) }
-{
-    match value {
-        Value::Str(text) => Ok(Json::String(text.clone()?)),
-        Value::U64(number) => Ok(Json::from(*number)),
-    }
 }

@@ -1,7 +1,6 @@
 //! An index is made or opened in place of what stands.
 
 ghost use Rattle.std.specs.Prelude.{◌≡◌, ◌≢◌, ◌⊎◌, Err, IfErr, IfOk, Ok, Some, false, option_map};
-ghost use Rattle.definitions.specs.Making.{HasBuiltKinds};
 ghost use Rattle.definitions.specs.Schema.{Schema as Fields};
 ghost use Rattle.definitions.specs.SchemaGrammar.{schema_in};
 ghost use Rattle.definitions.specs.Step as steps;
@@ -17,7 +16,7 @@ use common::{Analyzer, Device};
 use definitions::Fault;
 use schema::Schema;
 use serde_json::Value as Json;
-use settings::{Settings, has_built_kinds};
+use settings::Settings;
 use std::alloc::Global;
 
 impl<D: Device + Drop, A: Analyzer + Drop> Stage<D, A> {
@@ -101,31 +100,17 @@ pub(crate) fn read_making(
     schema: &Json,
     settings: Option<&Json>,
 ) -> Result<(Schema, Settings), Fault>
-    ensures ok { IfOk result (λ made. (steps.if_built (schema_in (view schema.now)) ≡ Ok made.0) × (steps.settings_sent made.0 (option_map (λ d. view d.now) settings.entry) ≡ Ok made.1)) }
-    ensures err { IfErr result (λ fault. fault ≢ faults.OutOfMemory → (steps.if_built (schema_in (view schema.now)) ≡ Err fault)
-        ⊎ ((fields : Fields) × (steps.if_built (schema_in (view schema.now)) ≡ Ok fields) × (steps.settings_sent fields (option_map (λ d. view d.now) settings.entry) ≡ Err fault))) }
+    ensures ok { IfOk result (λ made. (schema_in (view schema.now) ≡ Ok made.0) × (steps.settings_sent made.0 (option_map (λ d. view d.now) settings.entry) ≡ Ok made.1)) }
+    ensures err { IfErr result (λ fault. fault ≢ faults.OutOfMemory → (schema_in (view schema.now) ≡ Err fault)
+        ⊎ ((fields : Fields) × (schema_in (view schema.now) ≡ Ok fields) × (steps.settings_sent fields (option_map (λ d. view d.now) settings.entry) ≡ Err fault))) }
 {
-    let schema = read_schema(alloc, schema)?;
+    let schema = Schema::from_json_value(alloc, schema)?;
     let settings = read_settings(alloc, &schema, settings)?;
     Ok((schema, settings))
 }
 
-/// The schema that a request gives, of kinds of fields that there are so far.
-fn read_schema(alloc: Global, json: &Json) -> Result<Schema, Fault>
-    ensures ok { IfOk result (λ schema. steps.if_built (schema_in (view json.now)) ≡ Ok schema) }
-    ensures built { IfOk result HasBuiltKinds }
-    ensures err { IfErr result (λ fault. fault ≢ faults.OutOfMemory → steps.if_built (schema_in (view json.now)) ≡ Err fault) }
-{
-    let schema = Schema::from_json_value(alloc, json)?;
-    if !has_built_kinds(&schema) {
-        return Err(Fault::BadSchema);
-    }
-    Ok(schema)
-}
-
 /// The settings that a request gives.
 fn read_settings(alloc: Global, schema: &Schema, settings: Option<&Json>) -> Result<Settings, Fault>
-    requires { HasBuiltKinds schema.now }
     ensures ok { IfOk result (λ made. steps.settings_sent schema.now (option_map (λ d. view d.now) settings.entry) ≡ Ok made) }
     ensures err { IfErr result (λ fault. fault ≢ faults.OutOfMemory → steps.settings_sent schema.now (option_map (λ d. view d.now) settings.entry) ≡ Err fault) }
 {

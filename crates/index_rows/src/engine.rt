@@ -1,8 +1,5 @@
 //! The index: what it finds, and what it refuses.
 
-ghost use Rattle.std.specs.Prelude.{IfOk};
-ghost use Rattle.definitions.specs.Making.{HasBuiltKinds};
-
 mod adds;
 mod bools;
 mod files;
@@ -13,7 +10,7 @@ mod scores;
 
 use common::{MemoryDevice, RawAndDefault, Score};
 use definitions::Fault;
-use index::{AnyQuery, Hit, Index, Refused, Settings, TermQuery, Value, has_built_kinds};
+use index::{AnyQuery, Hit, Index, OwnedValue, Refused, Settings, TermQuery};
 use options::{INDEXED, IndexRecordOption, STORED, TEXT};
 use schema::{Field, Schema, SchemaBuilder, Term};
 use std::alloc::{AllocError, Global};
@@ -42,14 +39,8 @@ fn builder(alloc: Global) -> Result<SchemaBuilder, Fault> {
     Ok(builder)
 }
 
-fn schema(alloc: Global) -> Result<Schema, Fault>
-    ensures { IfOk result (λ schema. HasBuiltKinds schema) }
-{
-    let schema = builder(alloc)?.build();
-    if !has_built_kinds(&schema) {
-        return Err(Fault::BadSchema);
-    }
-    Ok(schema)
+fn schema(alloc: Global) -> Result<Schema, Fault> {
+    Ok(builder(alloc)?.build())
 }
 
 // An index whose file is in memory.
@@ -106,17 +97,17 @@ fn year(alloc: Global, year: u64) -> Result<AnyQuery, AllocError> {
 }
 
 // The one text in a field.
-fn one_text(values: Option<&[Value]>) -> Option<&str> {
+fn one_text(values: Option<&[OwnedValue]>) -> Option<&str> {
     match values {
-        Some([Value::Str(text)]) => Some(text.as_str()),
+        Some([OwnedValue::Str(text)]) => Some(text.as_str()),
         _ => None,
     }
 }
 
 // The one number in a field.
-fn one_number(values: Option<&[Value]>) -> Option<u64> {
+fn one_number(values: Option<&[OwnedValue]>) -> Option<u64> {
     match values {
-        Some([Value::U64(number)]) => Some(*number),
+        Some([OwnedValue::U64(number)]) => Some(*number),
         _ => None,
     }
 }

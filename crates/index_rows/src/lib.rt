@@ -2,6 +2,8 @@
 #![tactic(auto)]
 
 #[cfg(test)]
+mod all_types;
+#[cfg(test)]
 mod engine;
 #[cfg(test)]
 mod lines;

@@ -1,19 +1,18 @@
 -- The bodies of the records of an index's file. The first says what the index is made of; each later one
 -- has the documents that are committed.
-use Rattle.std.specs.Prelude.{[], ◌&&◌, ◌++◌, ◌<◌, ◌==◌, ◌^◌, ◌∷◌, Bool, IsUtf8, List, None, Option, Some, codes, false, flat_map, if◌then◌else◌, is_some, length, nat_le, nat_lt, option_map, suc, zero, ℕ}
-use Rattle.std.specs.List.{AllByRecursion}
+use Rattle.std.specs.Prelude.{[], ◌&&◌, ◌++◌, ◌==◌, ◌∷◌, Bool, List, None, Option, Some, codes, false, flat_map, is_some, length, nat_le, nat_lt, option_map, ℕ}
 use Rattle.std.specs.Option.{option_map_or}
 use Rattle.std.specs.Result.{result_ok}
 use Rattle.std.specs.Str.{is_utf8}
 use Rattle.definitions.specs.Json.{has_only, object_of, only_if, ◌>>=◌}
-use Rattle.definitions.specs.Making.{has_built_kinds}
-use Rattle.definitions.specs.NumberCodes.{take_text, take_u32, take_u64, take_vint, u64_bytes}
+use Rattle.definitions.specs.NumberCodes.{take_u64, take_vint, u64_bytes}
 use Rattle.definitions.specs.Schema.{Schema}
 use Rattle.definitions.specs.SchemaGrammar.{schema_data, schema_in}
 use Rattle.definitions.specs.Settings.{Settings}
 use Rattle.definitions.specs.SettingsGrammar.{settings_data, settings_in, weighs_named}
-use Rattle.definitions.specs.Values.{Document, Value, str, u64}
+use Rattle.definitions.specs.Values.{Document, Value}
 use Rattle.layouts.specs.DocumentBytes.{document_bytes}
+use Rattle.layouts.specs.DocumentReading.{take_many, take_pair, take_value}
 use Rattle.serde_json.specs.Find.{get}
 use Rattle.serde_json.specs.Read.{read}
 use Rattle.serde_json.specs.Written.{compact_text}
@@ -33,10 +32,9 @@ made_data schema settings = object_of ((codes "schema", schema_data schema) ∷ 
 unfoldable pub first_body : Schema → Settings → List ℕ
 first_body schema settings = 1 ∷ compact_text (made_data schema settings)
 
--- whether an index is made of these: of kinds that there are so far, few fields, and each weighted term one that a
--- term's JSON gives
+-- whether an index is made of these: of few fields, and each weighted term one that a term's JSON gives
 abbrev pub makes_index : Schema → Settings → Bool
-makes_index schema settings = has_built_kinds schema && (nat_le (length schema) max_index_fields && weighs_named schema settings)
+makes_index schema settings = nat_le (length schema) max_index_fields && weighs_named schema settings
 
 -- the schema at its key, and the settings at theirs
 abbrev pub schema_at : json.Data → Option Schema
@@ -67,33 +65,19 @@ first_in (code ∷ text) = only_if (code == 1) (made_in_text text)
 unfoldable pub docs_body : List Document → List ℕ
 docs_body docs = 3 ∷ (u64_bytes (length docs) ++ flat_map document_bytes docs)
 
--- a value of that code: texts and numbers so far
-abbrev pub take_coded : ℕ → List ℕ → Option (Value × List ℕ)
-take_coded code bs = if code == 0 then option_map (λ p. (str p.0, p.1)) (take_text bs) else (if code == 1 then option_map (λ p. (u64 p.0, p.1)) (take_u64 bs) else None)
-
--- a code and its value
-abbrev pub take_value : List ℕ → Option (Value × List ℕ)
-take_value [] = None
-take_value (code ∷ bs) = take_coded code bs
-
--- one of the first fields, and a value
-abbrev pub take_pair : ℕ → List ℕ → Option ((ℕ × Value) × List ℕ)
-take_pair fields bs = do
-  field ← take_u32 bs
-  only_if (nat_lt field.0 fields) (option_map (λ v. ((field.0, v.0), v.1)) (take_value field.1))
-
--- so many, one after another
-abbrev pub take_each : {A : Type 0} → (List ℕ → Option (A × List ℕ)) → ℕ → List ℕ → Option (List A × List ℕ)
-take_each f zero bs = Some ([], bs)
-take_each f (suc n) bs = f bs >>= (λ p. option_map (λ q. (p.0 ∷ q.0, q.1)) (take_each f n p.1))
+-- one of the first fields, and a value of the binary form
+abbrev pub take_pair_below : ℕ → List ℕ → Option ((ℕ × Value) × List ℕ)
+take_pair_below fields bs = do
+  p ← take_pair take_value bs
+  only_if (nat_lt p.0.0 fields) (Some p)
 
 -- how many pairs there are, and these
 abbrev pub take_document : ℕ → List ℕ → Option (Document × List ℕ)
-take_document fields bs = take_vint bs >>= (λ n. take_each (take_pair fields) n.0 n.1)
+take_document fields bs = take_vint bs >>= (λ n. take_many (take_pair_below fields) n.0 n.1)
 
 -- how many documents there are, and these
 abbrev pub take_documents : ℕ → List ℕ → Option (List Document × List ℕ)
-take_documents fields bs = take_u64 bs >>= (λ n. take_each (take_document fields) n.0 n.1)
+take_documents fields bs = take_u64 bs >>= (λ n. take_many (take_document fields) n.0 n.1)
 
 -- what was taken, where nothing is left
 abbrev pub if_ended : {A : Type 0} → A × List ℕ → Option A
@@ -108,22 +92,6 @@ docs_below fields (code ∷ bs) = only_if (code == 3) (take_documents fields bs 
 -- the documents of a body whose fields are the schema's
 unfoldable pub docs_in : Schema → List ℕ → Option (List Document)
 docs_in schema body = docs_below (length schema) body
-
--- ---- which documents are read back
-
--- a text or a number
-abbrev pub FitsValue : Value → Type 0
-FitsValue (str s) = IsUtf8 s × (length s < 2 ^ 64)
-FitsValue (u64 n) = n < 2 ^ 64
-FitsValue _ = ⊥
-
--- such values, of which there are not too many
-abbrev pub FitsDocument : Document → Type 0
-FitsDocument doc = (length doc < 2 ^ 64) × AllByRecursion (λ p. FitsValue p.1) doc
-
--- values of the first fields
-abbrev pub HasFields : ℕ → Document → Type 0
-HasFields fields doc = AllByRecursion (λ p. p.0 < fields) doc
 
 -- ---- all bodies of a file
 

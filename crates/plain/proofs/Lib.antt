@@ -1,18 +1,15 @@
 -- Lemmas behind documents and their scan.
-pub mod ReadingSteps
-pub mod Filters
-pub mod FieldGroups
 pub mod TermKinds
-pub mod ValueTerms
+pub mod PathsOnce
 pub mod TermCounts
-pub mod DecimalTexts
+pub mod FacetPrefixes
+pub mod PathTerms
 pub mod DocFacts
 pub mod FieldLengths
 pub mod EntryKinds
 pub mod ScoreFacts
 pub mod Refusals
 pub mod ScanSteps
-pub mod ReadDocs
 pub mod TallySteps
 pub mod ClauseSteps
 pub mod ClauseScores

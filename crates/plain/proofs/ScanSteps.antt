@@ -11,7 +11,6 @@ use Rattle.definitions.specs.Schema.{Schema}
 use Rattle.definitions.specs.Scoring.{Similarity, score}
 use Rattle.definitions.specs.Stored.{stored_values}
 use Rattle.definitions.specs.Values.{Document}
-use Rattle.plain.specs.Documents.{document_of}
 use Rattle.plain.specs.Hits.{Describe, documents_of, match_of}
 use Rattle.plain.specs.IndexedDocs.{Describes}
 use Rattle.plain.specs.declared.indexed_doc.IndexedDoc.{IndexedDoc}
@@ -53,27 +52,27 @@ module _ (schema : Schema) (analyze : Analyzer) (sim : Similarity) (q : Query) w
   abbrev found_of : List IndexedDoc → List scanning.Hit
   found_of docs = scanning.found schema analyze sim (documents_of docs) q
 
-  found_left : (docs : List IndexedDoc) (i : ℕ) (doc : IndexedDoc) (o : Option ℕ) → i < length docs → doc ≡ get_or docs i doc → o ≡ scored_by (document_of doc.values.items) → found_of (drop i docs) ≡ cons_option (option_map (hit_from (document_of doc.values.items)) o) (found_of (drop (i + 1) docs))
+  found_left : (docs : List IndexedDoc) (i : ℕ) (doc : IndexedDoc) (o : Option ℕ) → i < length docs → doc ≡ get_or docs i doc → o ≡ scored_by doc.doc → found_of (drop i docs) ≡ cons_option (option_map (hit_from doc.doc) o) (found_of (drop (i + 1) docs))
   found_left docs i doc o lt same told =
-      let d = document_of doc.values.items in
+      let d = doc.doc in
       ap found_of (next_of docs i doc lt same)
       ∙ ap (λ h. cons_option h (found_of (drop (i + 1) docs))) (hit_same d ∙ ap (option_map (hit_from d)) (sym told))
 
   -- a document that doesn't match is passed over
-  pub found_passed : (docs : List IndexedDoc) (i : ℕ) (doc : IndexedDoc) → i < length docs → doc ≡ get_or docs i doc → None ≡ scored_by (document_of doc.values.items) → found_of (drop i docs) ≡ found_of (drop (i + 1) docs)
+  pub found_passed : (docs : List IndexedDoc) (i : ℕ) (doc : IndexedDoc) → i < length docs → doc ≡ get_or docs i doc → None ≡ scored_by doc.doc → found_of (drop i docs) ≡ found_of (drop (i + 1) docs)
   found_passed docs i doc lt same told = found_left docs i doc None lt same told
 
   -- one that matches is the next that is found
-  pub found_more : (ms : List (ℕ × Bor IndexedDoc)) (docs : List IndexedDoc) (i : ℕ) (n : ℕ) (doc : Bor IndexedDoc) → i < length docs → doc.now ≡ get_or docs i doc.now → Some n ≡ scored_by (document_of doc.now.values.items) → map (match_of schema) (ms ++ ((n, doc) ∷ [])) ++ found_of (drop (i + 1) docs) ≡ map (match_of schema) ms ++ found_of (drop i docs)
+  pub found_more : (ms : List (ℕ × Bor IndexedDoc)) (docs : List IndexedDoc) (i : ℕ) (n : ℕ) (doc : Bor IndexedDoc) → i < length docs → doc.now ≡ get_or docs i doc.now → Some n ≡ scored_by doc.now.doc → map (match_of schema) (ms ++ ((n, doc) ∷ [])) ++ found_of (drop (i + 1) docs) ≡ map (match_of schema) ms ++ found_of (drop i docs)
   found_more ms docs i n doc lt same told =
       ap (λ hs. hs ++ found_of (drop (i + 1) docs)) (map-append (match_of schema) ms ((n, doc) ∷ []))
       ∙ append_assoc (map (match_of schema) ms) (match_of schema (n, doc) ∷ []) (found_of (drop (i + 1) docs))
       ∙ ap (λ hs. map (match_of schema) ms ++ hs) (sym (found_left docs i doc.now (Some n) lt same told))
 
 -- as many documents as their list has
-pub counted_documents : (schema : Schema) (analyze : Analyzer) (q : Query) (docs : List IndexedDoc) → count_by (λ d. matches schema analyze (document_of d.values.items) q) docs ≡ scanning.scan_count schema analyze (documents_of docs) q
+pub counted_documents : (schema : Schema) (analyze : Analyzer) (q : Query) (docs : List IndexedDoc) → count_by (λ d. matches schema analyze d.doc q) docs ≡ scanning.scan_count schema analyze (documents_of docs) q
 counted_documents schema analyze q [] = refl
 counted_documents schema analyze q (doc ∷ docs) =
-    sum_by-cons (λ d. cond (matches schema analyze (document_of d.values.items) q) 1 0) doc docs
-    ∙ ap (λ n. cond (matches schema analyze (document_of doc.values.items) q) 1 0 + n) (counted_documents schema analyze q docs)
-    ∙ sym (sum_by-cons (λ d. cond (matches schema analyze d q) 1 0) (document_of doc.values.items) (documents_of docs))
+    sum_by-cons (λ d. cond (matches schema analyze d.doc q) 1 0) doc docs
+    ∙ ap (λ n. cond (matches schema analyze doc.doc q) 1 0 + n) (counted_documents schema analyze q docs)
+    ∙ sym (sum_by-cons (λ d. cond (matches schema analyze d q) 1 0) doc.doc (documents_of docs))

@@ -8,14 +8,13 @@ use Rattle.definitions.specs.Scanning as scanning
 use Rattle.definitions.specs.Schema.{Schema}
 use Rattle.definitions.specs.Stored.{Named, stored_values}
 use Rattle.definitions.specs.Values.{Document}
-use Rattle.plain.specs.Documents.{document_of}
 use Rattle.plain.specs.IndexedDocs.{Describes}
 use Rattle.plain.specs.declared.indexed_doc.IndexedDoc.{IndexedDoc}
 use Rattle.plain.specs.declared.scanning.Hit.{Hit}
 
 -- the documents that are kept
 abbrev pub documents_of : List IndexedDoc → List Document
-documents_of docs = map (λ d. document_of d.values.items) docs
+documents_of docs = map (λ d. d.doc) docs
 
 -- each is one of the schema's, with its terms
 abbrev pub Describe : Schema → Analyzer → List IndexedDoc → Type 0
@@ -23,7 +22,7 @@ Describe schema analyze docs = AllByRecursion (Describes schema analyze) docs
 
 -- a document that was found, with what is stored of it
 abbrev pub match_of : Schema → ℕ × Bor IndexedDoc → scanning.Hit
-match_of schema m = (m.0, stored_values schema (document_of m.1.now.values.items))
+match_of schema m = (m.0, stored_values schema m.1.now.doc)
 
 -- a hit, its score as an integer
 abbrev pub scored : scanning.Hit → ℤ × Named

@@ -1,11 +1,9 @@
--- What documents, queries and hits are, as the definitions have them.
-pub mod Documents
+-- What documents with their terms, queries and hits are, as the definitions have them.
 pub mod Queries
 pub mod QueryDepths
 pub mod QueryCodes
 pub mod Tallies
 pub mod Ranges
-pub mod ValueCodes
-pub mod NamedDocs
+pub mod FacetPrefixes
 pub mod IndexedDocs
 pub mod Hits

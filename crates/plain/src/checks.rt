@@ -1,22 +1,19 @@
 //! Which queries are refused, and by what.
 
-ghost use Rattle.std.specs.Prelude.{[], ◌&&◌, ◌==◌, ◌∷◌, ◌≡◌, bytes_eq, find, if◌then◌else◌, is_none, is_some, nat_lt, take};
-ghost use Rattle.std.specs.List.{after_first};
+ghost use Rattle.std.specs.Prelude.{[], ◌∷◌, ◌≡◌, if◌then◌else◌, nat_lt};
 ghost use Rattle.std.specs.Result.{result_err};
 ghost use Rattle.definitions.specs.Matching.{is_counted};
 ghost use Rattle.definitions.specs.Query.{clauses_depth, depth};
 ghost use Rattle.definitions.specs.Refusing as refusing;
-ghost use Rattle.definitions.specs.Schema.{json_kind};
 ghost use Rattle.definitions.specs.Settings.{weight_of};
-ghost use Rattle.definitions.specs.Terms.{has_kind, inner_kind, leaf_kinds, type_code};
 ghost use Rattle.plain.specs.Queries.{clauses_of, occur_of, query_of};
 ghost use Rattle.plain.specs.Ranges.{in_range};
-ghost use Rattle.schema.specs.Kinds.{kind_of};
 
 use crate::any_query::{AnyQuery, Occur};
+use crate::term_types::{is_of_field, lacks_leaf};
 use common::MAX_SCORE;
 use definitions::Fault;
-use schema::{FieldEntry, Schema, Term, Type};
+use schema::{Schema, Term};
 use settings::Settings;
 
 /// The most nodes on a path of a query.
@@ -127,60 +124,6 @@ fn check_term(schema: &Schema, term: &Term) -> Result<(), Fault>
         return Err(Fault::TypeMismatch);
     }
     Ok(())
-}
-
-/// Whether the term is of the field's type.
-#[tactic(auto, using(crate::proofs::EntryKinds::kind_of_type))]
-fn is_of_field(entry: &FieldEntry, term: &Term) -> bool
-    ensures { result ≡ has_kind entry.now.kind term.now }
-{
-    has_type(term, entry.field_type().value_type())
-}
-
-/// Whether the term is a JSON term without the code of a leaf behind its path.
-fn lacks_leaf(term: &Term) -> bool
-    ensures { result ≡ (has_kind json_kind term.now && is_none (inner_kind term.now)) }
-{
-    has_type(term, Type::Json) && !has_leaf_code(term.serialized_value_bytes())
-}
-
-/// Whether the term is of that type, by their codes.
-fn has_type(term: &Term, value_type: Type) -> bool
-    ensures { result ≡ has_kind (kind_of value_type) term.now }
-{
-    term.typ().to_code() == value_type.to_code()
-}
-
-/// Whether the byte behind the first U+0000 is the code of a leaf.
-fn has_leaf_code(bytes: &[u8]) -> bool
-    ensures { result ≡ is_some (find (λ kind. bytes_eq (take 1 (after_first (◌==◌ 0) bytes.now)) (type_code kind)) leaf_kinds) }
-{
-    match behind_path(bytes).first() {
-        Some(code) => is_leaf_code(*code),
-        None => false,
-    }
-}
-
-/// What stands behind the first U+0000.
-#[tactic(auto, using(crate::proofs::TermKinds::behind_first, crate::proofs::TermKinds::behind_other))]
-fn behind_path(bytes: &[u8]) -> &[u8]
-    ensures { result.now ≡ after_first (◌==◌ 0) bytes.now }
-{
-    let mut rest = bytes;
-    while let Some((byte, behind)) = rest.split_first() {
-        rest = behind;
-        if *byte == 0 {
-            break;
-        }
-    }
-    rest
-}
-
-/// Whether leaves of some type have this code.
-fn is_leaf_code(code: u8) -> bool
-    ensures { result ≡ is_some (find (λ kind. bytes_eq (code ∷ []) (type_code kind)) leaf_kinds) }
-{
-    matches!(code, b's' | b'u' | b'i' | b'o' | b'd')
 }
 
 /// A number that no document's score is above; `None` where it is above `MAX_SCORE`.

@@ -3,20 +3,17 @@
 
 mod any_query;
 mod checks;
-mod floats;
+mod facet_terms;
 mod indexed_doc;
+mod json_terms;
 mod matching;
-mod named_doc;
-mod reading;
 mod scanning;
 mod scoring;
 mod tally;
-mod value;
+mod term_types;
+mod value_terms;
 
 pub use any_query::{AnyQuery, BooleanQuery, Occur, TermQuery};
 pub use checks::check_query;
 pub use indexed_doc::IndexedDoc;
-pub use named_doc::NamedDoc;
-pub use reading::{read_document, read_document_text};
 pub use scanning::{Hit, scan, scan_count};
-pub use value::Value;

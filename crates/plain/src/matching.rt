@@ -3,7 +3,6 @@
 ghost use Rattle.std.specs.Prelude.{◌≡◌};
 ghost use Rattle.definitions.specs.Analyzers.{Analyzer};
 ghost use Rattle.definitions.specs.Matching.{answers_of, bool_matches, matches};
-ghost use Rattle.plain.specs.Documents.{document_of};
 ghost use Rattle.plain.specs.IndexedDocs.{Describes};
 ghost use Rattle.plain.specs.Queries.{clauses_of, query_of};
 
@@ -16,7 +15,7 @@ use schema::Schema;
 #[cycle(matches)]
 pub(crate) fn matches(schema: &Schema, doc: &IndexedDoc, query: &AnyQuery) -> bool
     ensures { (analyze : Analyzer) → Describes schema.now analyze doc.now
-        → result ≡ matches schema.now analyze (document_of doc.now.values.items) (query_of query.now) }
+        → result ≡ matches schema.now analyze doc.now.doc (query_of query.now) }
 {
     match query {
         AnyQuery::All => true,
@@ -39,7 +38,7 @@ fn clauses_match(
     minimum: usize,
 ) -> bool
     ensures { (analyze : Analyzer) → Describes schema.now analyze doc.now
-        → result ≡ bool_matches minimum (answers_of schema.now analyze (document_of doc.now.values.items) (clauses_of clauses.now)) }
+        → result ≡ bool_matches minimum (answers_of schema.now analyze doc.now.doc (clauses_of clauses.now)) }
 {
     let mut tally = Tally::new(minimum);
     for (occur, query) in clauses {

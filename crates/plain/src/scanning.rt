@@ -14,9 +14,9 @@ ghost use Rattle.plain.specs.Queries.{query_of};
 use crate::any_query::AnyQuery;
 use crate::indexed_doc::IndexedDoc;
 use crate::matching::matches;
-use crate::named_doc::NamedDoc;
 use crate::scoring::score;
 use common::Score;
+use document::NamedDocument;
 use schema::Schema;
 use settings::Settings;
 use std::alloc::{AllocError, Global};
@@ -27,7 +27,7 @@ pub struct Hit {
     /// How well it matches.
     pub score: Score,
     /// What is stored of it.
-    pub doc: NamedDoc,
+    pub doc: NamedDocument,
 }
 
 /// The best k documents, by score and then by place.
@@ -102,7 +102,7 @@ fn hits(alloc: Global, schema: &Schema, best: &[(u64, &IndexedDoc)]) -> Result<V
     for (score, doc) in best {
         hits.push(Hit {
             score: *score as Score,
-            doc: NamedDoc::of_values(alloc, schema, &doc.values)?,
+            doc: doc.doc.to_named_doc(alloc, schema)?,
         })?;
     }
     Ok(hits)

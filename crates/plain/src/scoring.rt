@@ -3,21 +3,20 @@
 ghost use Rattle.std.specs.Prelude.{[], ◌&&◌, ◌<◌, ◌∷◌, ◌≡◌, ◌≤◌, IfSome, IsTrue, None, Some, if◌then◌else◌, length, slice_get, sum, true, List, ℕ};
 ghost use Rattle.definitions.specs.Analyzers.{Analyzer};
 ghost use Rattle.definitions.specs.Lengths.{len_of};
-ghost use Rattle.definitions.specs.Making.{is_built_kind};
 ghost use Rattle.definitions.specs.Matching.{answers_of, bool_matches, matches};
 ghost use Rattle.definitions.specs.Recorded as recorded;
 ghost use Rattle.definitions.specs.Refusing.{bound, clauses_bound, clauses_fault, first_fault, term_tests, tree_fault};
 ghost use Rattle.definitions.specs.Schema.{Schema as Fields, has_freq, is_indexed, keeps_length};
 ghost use Rattle.definitions.specs.Scoring as scoring;
 ghost use Rattle.definitions.specs.Settings.{similarity_of, weight_of};
-ghost use Rattle.definitions.specs.Terms.{field_of, has_kind, is_text_term};
-ghost use Rattle.plain.specs.Documents.{document_of};
+ghost use Rattle.definitions.specs.Terms.{field_of, is_text_term};
 ghost use Rattle.plain.specs.IndexedDocs.{Describes};
 ghost use Rattle.plain.specs.Queries.{clauses_of, query_of};
 
 use crate::any_query::{AnyQuery, Occur, TermQuery};
 use crate::indexed_doc::IndexedDoc;
 use crate::tally::Tally;
+use crate::term_types::is_text_term;
 use codes::fieldnorm_to_id;
 use schema::{Field, FieldEntry, Schema};
 use settings::Settings;
@@ -34,7 +33,7 @@ pub(crate) fn score(
     query: &AnyQuery,
 ) -> Option<u64>
     requires { tree_fault schema.now (weight_of settings.now) 1 (query_of query.now) ≡ None }
-    ensures value { (analyze : Analyzer) → Describes schema.now analyze doc.now → let d = document_of doc.now.values.items in
+    ensures value { (analyze : Analyzer) → Describes schema.now analyze doc.now → let d = doc.now.doc in
         result ≡ (if matches schema.now analyze d (query_of query.now) then Some (scoring.score schema.now analyze (similarity_of settings.now) d 1 (query_of query.now)) else None) }
     ensures within { IfSome result (λ score. score ≤ bound (weight_of settings.now) 1 (query_of query.now)) }
 {
@@ -68,7 +67,7 @@ fn clauses_score(
 ) -> Option<u64>
     requires accepted { clauses_fault schema.now (weight_of settings.now) 1 (clauses_of clauses.now) ≡ None }
     requires bounded { clauses_bound (weight_of settings.now) 1 (clauses_of clauses.now) ≤ scoring.max_score }
-    ensures value { (analyze : Analyzer) → Describes schema.now analyze doc.now → let d = document_of doc.now.values.items in
+    ensures value { (analyze : Analyzer) → Describes schema.now analyze doc.now → let d = doc.now.doc in
         result ≡ (if bool_matches minimum (answers_of schema.now analyze d (clauses_of clauses.now)) then Some (sum (scoring.clause_scores schema.now analyze (similarity_of settings.now) d 1 (clauses_of clauses.now))) else None) }
     ensures within { IfSome result (λ score. score ≤ clauses_bound (weight_of settings.now) 1 (clauses_of clauses.now)) }
 {
@@ -95,7 +94,7 @@ fn term_score(
 ) -> u64
     requires accepted { first_fault (term_tests schema.now (query.now.0 ∷ [])) ≡ None }
     requires some { 0 < occurrences }
-    ensures value { (analyze : Analyzer) → Describes schema.now analyze doc.now → let d = document_of doc.now.values.items in
+    ensures value { (analyze : Analyzer) → Describes schema.now analyze doc.now → let d = doc.now.doc in
         occurrences ≡ length (recorded.occurrences schema.now analyze query.now.0 d)
         → result ≡ scoring.term_score schema.now analyze (similarity_of settings.now) d query.now.0 query.now.1 }
     ensures within { result ≤ weight_of settings.now query.now.0 }
@@ -109,24 +108,23 @@ fn term_score(
 
 /// The count that a query reads of a term that stands so often.
 fn count_read(entry: &FieldEntry, query: &TermQuery, occurrences: usize) -> usize
-    ensures value { IsTrue (is_built_kind entry.now.kind) → is_indexed entry.now ≡ true → has_kind entry.now.kind query.now.0 ≡ true
+    ensures value { is_indexed entry.now ≡ true
         → result ≡ (if has_freq query.now.1 then (if is_text_term query.now.0 && has_freq entry.now.record_option then occurrences else 1) else 1) }
     ensures some { 0 < occurrences → 0 < result }
 {
     if !query.index_record_option().has_freq() {
         return 1;
     }
-    if records_counts(entry) {
+    if is_text_term(query.term()) && records_counts(entry) {
         occurrences
     } else {
         1
     }
 }
 
-/// Whether it is recorded how often a document has a term of the field.
+/// Whether it is recorded how often a document has a text term of the field.
 fn records_counts(entry: &FieldEntry) -> bool
-    ensures { (t : List ℕ) → IsTrue (is_built_kind entry.now.kind) → is_indexed entry.now ≡ true → has_kind entry.now.kind t ≡ true
-        → (is_text_term t && has_freq entry.now.record_option) ≡ result }
+    ensures { is_indexed entry.now ≡ true → result ≡ has_freq entry.now.record_option }
 {
     match entry.field_type().get_index_record_option() {
         Some(option) => option.has_freq(),
@@ -137,7 +135,7 @@ fn records_counts(entry: &FieldEntry) -> bool
 /// The id of the document's length in the field.
 fn length_id(entry: &FieldEntry, doc: &IndexedDoc, field: Field) -> u8
     ensures { (schema : Fields) (analyze : Analyzer) → Describes schema analyze doc.now → slice_get schema field ≡ Some entry.now
-        → result ≡ scoring.length_id schema analyze field (document_of doc.now.values.items) }
+        → result ≡ scoring.length_id schema analyze field doc.now.doc }
 {
     if !entry.has_fieldnorms() {
         return NO_LENGTH_ID;
@@ -149,7 +147,7 @@ fn length_id(entry: &FieldEntry, doc: &IndexedDoc, field: Field) -> u8
 fn fieldnorm(entry: &FieldEntry, doc: &IndexedDoc, field: Field) -> usize
     requires { keeps_length entry.now ≡ true }
     ensures { (schema : Fields) (analyze : Analyzer) → Describes schema analyze doc.now → slice_get schema field ≡ Some entry.now
-        → result ≡ len_of schema analyze field (document_of doc.now.values.items) }
+        → result ≡ len_of schema analyze field doc.now.doc }
 {
     if entry.field_type().is_str() {
         doc.terms_in(field)

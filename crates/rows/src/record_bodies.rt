@@ -2,8 +2,8 @@
 
 use bodies::{put_docs_head, put_document, put_first_body, read_docs_body, read_first_body};
 use definitions::Fault;
+use document::CompactDoc;
 use options::{INDEXED, STORED, TEXT};
-use plain::Value;
 use schema::{Field, Schema};
 use settings::Settings;
 use std::alloc::Global;
@@ -27,21 +27,39 @@ fn book_schema(alloc: Global) -> Result<Schema, Fault> {
 fn a_document_is_put_and_read(rt: HostRuntime) -> Result<(), Fail> {
     let alloc = rt.alloc();
     let schema = book_schema(alloc)?;
-    let mut values = Vec::new(alloc);
-    values.push((
-        Field::from_field_id(0),
-        Value::Str(String::from_str(alloc, "c")?),
-    ))?;
-    values.push((Field::from_field_id(1), Value::U64(7)))?;
+    let mut doc = CompactDoc::new(alloc);
+    doc.add_text(Field::from_field_id(0), "c")?;
+    doc.add_u64(Field::from_field_id(1), 7)?;
     let mut out = Vec::new(alloc);
     put_docs_head(&mut out, 1)?;
-    put_document(&mut out, &values)?;
+    put_document(&mut out, &doc)?;
     assert_eq!(rt; out.as_slice(), BOOK);
     let docs = read_docs_body(alloc, &schema, BOOK)?;
     assert!(rt; docs.is_some());
     if let Some(docs) = docs {
         assert_eq!(rt; docs.len(), 1);
-        assert!(rt; docs[0] == values);
+        assert!(rt; docs[0] == doc);
+    }
+    Ok(())
+}
+
+// An array in an array, so many deep, as a value of the first field.
+fn nested(alloc: Global, depth: usize) -> Result<Vec<u8>, Fault> {
+    let mut body = b"\x03\x01\x00\x00\x00\x00\x00\x00\x00\x81\x00\x00\x00\x00".to_vec(alloc)?;
+    for _i in 0..depth {
+        body.extend_from_slice(b"\x0c\x81")?;
+    }
+    body.push(11)?;
+    Ok(body)
+}
+
+#[test]
+fn values_nest_at_most_128_deep(rt: HostRuntime) -> Result<(), Fail> {
+    let alloc = rt.alloc();
+    let schema = book_schema(alloc)?;
+    for (depth, read) in [(1, true), (128, true), (129, false)] {
+        let body = nested(alloc, depth)?;
+        assert_eq!(rt; read_docs_body(alloc, &schema, &body)?.is_some(), read);
     }
     Ok(())
 }
@@ -59,6 +77,10 @@ fn bodies_that_are_no_documents(rt: HostRuntime) -> Result<(), Fail> {
         (b"\x03\xff\xff\xff\xff\xff\xff\xff\xff\x80", false),
         (
             b"\x03\x01\x00\x00\x00\x00\x00\x00\x00\x81\x00\x00\x00\x00\x0b",
+            true,
+        ),
+        (
+            b"\x03\x01\x00\x00\x00\x00\x00\x00\x00\x81\x00\x00\x00\x00\x08\x80\x80",
             false,
         ),
         (

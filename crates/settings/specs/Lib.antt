@@ -1,2 +1,3 @@
--- What settings keep, as the definitions have it.
+-- What settings keep, as the definitions have it, and terms by the JSON of their values.
+pub mod Terms
 pub mod Weights

@@ -2,7 +2,6 @@
 
 ghost use Rattle.std.specs.Prelude.{[], true, ◌≡◌, ◌≢◌, IfErr, IfOk, None, OnOk, Some, codes, option_map};
 ghost use Rattle.definitions.specs.Json as keys;
-ghost use Rattle.definitions.specs.Making.{HasBuiltKinds};
 ghost use Rattle.definitions.specs.Replies.{number_data};
 ghost use Rattle.definitions.specs.Settings.{default_settings, is_settings};
 ghost use Rattle.definitions.specs.SettingsGrammar as definitions;
@@ -22,7 +21,6 @@ use std::alloc::{AllocError, Global};
 impl Settings {
     /// The settings in a JSON object. A key that is absent has its default.
     pub fn from_json_value(alloc: Global, schema: &Schema, json: &Json) -> Result<Settings, Fault>
-        requires { HasBuiltKinds schema.now }
         ensures ok { IfOk result (λ settings. definitions.settings_in schema.now (view json.now) ≡ Some settings) }
         ensures err { IfErr result (λ fault. fault ≢ faults.OutOfMemory → (fault ≡ faults.BadSettings) × (definitions.settings_in schema.now (view json.now) ≡ None)) }
     {
@@ -50,7 +48,6 @@ impl Settings {
     /// a term's JSON gives.
     #[tactic(auto, using(definitions::proofs::SettingsReadBack::settings_back))]
     pub fn to_json_value(&self, alloc: Global, schema: &Schema) -> Result<Json, AllocError>
-        requires { HasBuiltKinds schema.now }
         ensures value { IfOk result (λ json. view json ≡ definitions.settings_data schema.now self.now) }
         ensures read_back { IfOk result (λ json. definitions.weighs_named schema.now self.now ≡ true → definitions.settings_in schema.now (view json) ≡ Some self.now) }
     {
@@ -59,7 +56,6 @@ impl Settings {
 
     /// Whether each weighted term is one that a term's JSON gives.
     pub fn names_weights(&self, alloc: Global, schema: &Schema) -> Result<bool, AllocError>
-        requires { HasBuiltKinds schema.now }
         ensures { IfOk result (λ named. named ≡ definitions.weighs_named schema.now self.now) }
     {
         for (term, _weight) in self.weights() {
@@ -72,7 +68,6 @@ impl Settings {
 
     /// The settings in range as a JSON object.
     fn keys_to_json(&self, alloc: Global, schema: &Schema) -> Result<Json, AllocError>
-        requires { HasBuiltKinds schema.now }
         ensures value { IfOk result (λ json. view json ≡ definitions.settings_data schema.now self.now) }
         ensures valid { OnOk result (is_settings self.now ≡ true) }
     {
@@ -91,7 +86,6 @@ impl Settings {
 
 /// Whether the term is read from what is written of it.
 fn reads_back(alloc: Global, schema: &Schema, term: &Term) -> Result<bool, AllocError>
-    requires { HasBuiltKinds schema.now }
     ensures { IfOk result (λ back. back ≡ reads_back schema.now term.now) }
 {
     let written = term_to_json(alloc, schema, term)?;
@@ -134,7 +128,6 @@ fn weights_or_none(
     schema: &Schema,
     json: &Json,
 ) -> Result<Option<Vec<(Term, u64)>>, AllocError>
-    requires { HasBuiltKinds schema.now }
     ensures { IfOk result (λ found. option_map (λ weights. weights.items) found ≡ keys.at_or [] (keys.list_of (definitions.weight_in schema.now)) (codes "weights") (view json.now)) }
 {
     match json.get("weights") {
@@ -149,7 +142,6 @@ fn read_weights(
     schema: &Schema,
     json: &Json,
 ) -> Result<Option<Vec<(Term, u64)>>, AllocError>
-    requires { HasBuiltKinds schema.now }
     ensures { IfOk result (λ found. option_map (λ weights. weights.items) found ≡ keys.list_of (definitions.weight_in schema.now) (view json.now)) }
 {
     match json {
@@ -164,7 +156,6 @@ fn read_each_weight(
     schema: &Schema,
     items: &[Json],
 ) -> Result<Option<Vec<(Term, u64)>>, AllocError>
-    requires { HasBuiltKinds schema.now }
     ensures { IfOk result (λ found. option_map (λ weights. weights.items) found ≡ keys.each (definitions.weight_in schema.now) (items_view items.now)) }
 {
     let mut weights = Vec::with_capacity(alloc, items.len())?;
@@ -183,7 +174,6 @@ fn read_weight(
     schema: &Schema,
     json: &Json,
 ) -> Result<Option<(Term, u64)>, AllocError>
-    requires { HasBuiltKinds schema.now }
     ensures { IfOk result (λ found. found ≡ definitions.weight_in schema.now (view json.now)) }
 {
     if !has_only(json, &["term", "weight"]) {
@@ -248,7 +238,6 @@ fn weights_to_json(
     schema: &Schema,
     weights: &[(Term, u64)],
 ) -> Result<Json, AllocError>
-    requires { HasBuiltKinds schema.now }
     ensures { IfOk result (λ json. view json ≡ definitions.array_of (definitions.weight_data schema.now) weights.now) }
 {
     let mut items = Vec::with_capacity(alloc, weights.len())?;

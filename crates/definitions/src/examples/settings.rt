@@ -144,9 +144,9 @@ pub fn other_terms_do_not_read_back()
     ensures small_leaf { reads_back kinds_schema (0 ∷ 0 ∷ 0 ∷ 8 ∷ codes "ja" ++ (0 ∷ codes "u" ++ replicate 8 0)) ≡ false }
 {}
 
-/// An index is made of kinds that there are so far, and then where the analyzer knows the tokenizers.
+/// An index is made of fields of all kinds, where the analyzer knows the tokenizers.
 pub fn makings_are_refused()
     ensures made { making_fault (λ _. true) book_schema default_settings ≡ None }
-    ensures other_kinds { making_fault (λ _. false) kinds_schema default_settings ≡ Some faults.BadSchema }
+    ensures other_kinds { making_fault (λ _. true) kinds_schema default_settings ≡ None }
     ensures tokenizer { making_fault (λ _. false) book_schema default_settings ≡ Some faults.UnknownTokenizer }
 {}

@@ -3,10 +3,10 @@
 
 ghost use Rattle.std.specs.Prelude.{[], ◌++◌, ◌∷◌, ◌≡◌, None, Some, codes, false, replicate, true};
 ghost use Rattle.definitions.specs.LineExamples.{book_schema};
-ghost use Rattle.definitions.specs.Schema.{u64_kind};
+ghost use Rattle.definitions.specs.Schema.{date_kind, u64_kind};
 ghost use Rattle.definitions.specs.SchemaGrammar.{entry_named};
 ghost use Rattle.definitions.specs.Settings.{default_settings};
-ghost use Rattle.definitions.specs.Values.{str, u64};
+ghost use Rattle.definitions.specs.Values.{array, bool, no_values, null, str, u64, value};
 ghost use Rattle.layouts.specs.RecordBodies.{bodies_in, docs_body, docs_in, first_in, takes_body};
 
 /// A book of title `c` and year 7, and no book.
@@ -22,13 +22,15 @@ pub fn documents_are_read()
     ensures none { docs_in book_schema (3 ∷ replicate 8 0) ≡ Some [] }
     ensures empty { docs_in book_schema (3 ∷ 1 ∷ replicate 7 0 ++ (0x80 ∷ [])) ≡ Some ([] ∷ []) }
     ensures another_kind { docs_in book_schema (3 ∷ 1 ∷ replicate 7 0 ++ (0x81 ∷ 0 ∷ 0 ∷ 0 ∷ 0 ∷ 1 ∷ 7 ∷ replicate 7 0)) ≡ Some (((0, u64 7) ∷ []) ∷ []) }
+    ensures array { docs_in book_schema (3 ∷ 1 ∷ replicate 7 0 ++ (0x81 ∷ 0 ∷ 0 ∷ 0 ∷ 0 ∷ 12 ∷ 0x82 ∷ 11 ∷ 9 ∷ 1 ∷ [])) ≡ Some (((0, array (value null (value (bool true) no_values))) ∷ []) ∷ []) }
 {}
 
 /// What no body of documents is.
 pub fn other_bodies_are_no_documents()
     ensures nothing { docs_in book_schema [] ≡ None }
     ensures another_byte { docs_in book_schema (2 ∷ replicate 8 0) ≡ None }
-    ensures another_code { docs_in book_schema (3 ∷ 1 ∷ replicate 7 0 ++ (0x81 ∷ 0 ∷ 0 ∷ 0 ∷ 0 ∷ 2 ∷ 7 ∷ replicate 7 0)) ≡ None }
+    ensures float_code { docs_in book_schema (3 ∷ 1 ∷ replicate 7 0 ++ (0x81 ∷ 0 ∷ 0 ∷ 0 ∷ 0 ∷ 6 ∷ 7 ∷ replicate 7 0)) ≡ None }
+    ensures token_code { docs_in book_schema (3 ∷ 1 ∷ replicate 7 0 ++ (0x81 ∷ 0 ∷ 0 ∷ 0 ∷ 0 ∷ 8 ∷ 0x80 ∷ 0x80 ∷ [])) ≡ None }
     ensures left_over { docs_in book_schema (3 ∷ replicate 8 0 ++ (0 ∷ [])) ≡ None }
     ensures field_past { docs_in book_schema (3 ∷ 1 ∷ replicate 7 0 ++ (0x81 ∷ 2 ∷ 0 ∷ 0 ∷ 0 ∷ 1 ∷ 7 ∷ replicate 7 0)) ≡ None }
     ensures too_few { docs_in book_schema (3 ∷ replicate 7 255 ++ (255 ∷ 0x80 ∷ [])) ≡ None }
@@ -46,7 +48,7 @@ pub fn first_bodies_are_read()
     ensures null { first_in (1 ∷ codes "{\"schema\":[],\"settings\":null}") ≡ None }
     ensures cut { first_in (1 ∷ codes "{\"schema\":[],\"settings\":{}") ≡ None }
     ensures twice { first_in (1 ∷ codes "{\"schema\":[{\"name\":\"n\",\"type\":\"u64\",\"options\":{}},{\"name\":\"n\",\"type\":\"text\",\"options\":{}}],\"settings\":{}}") ≡ None }
-    ensures not_yet { first_in (1 ∷ codes "{\"schema\":[{\"name\":\"d\",\"type\":\"date\",\"options\":{}}],\"settings\":{}}") ≡ None }
+    ensures another_kind { first_in (1 ∷ codes "{\"schema\":[{\"name\":\"d\",\"type\":\"date\",\"options\":{}}],\"settings\":{}}") ≡ Some (entry_named (codes "d") date_kind ∷ [], default_settings) }
     ensures unknown_field { first_in (1 ∷ codes "{\"schema\":[],\"settings\":{\"weights\":[{\"term\":{\"field\":\"n\",\"value\":1},\"weight\":1}]}}") ≡ None }
 {}
 

@@ -2,7 +2,6 @@ use Rattle.std.proofs.Common.{ap, ap₂, bytes_eq, drop, subst, sym, ◌+◌, �
 use Rattle.std.specs.List.{list_any}
 use Rattle.std.proofs.lemmas.List.{drop_all}
 use Rattle.definitions.specs.Matching.{answers_of, matches}
-use Rattle.plain.specs.Documents.{document_of}
 use Rattle.plain.specs.Queries.{clauses_of, occur_of, query_of}
 use Rattle.plain.specs.Tallies.{left_matches}
 use Rattle.plain.proofs.ClauseSteps.{next_of}
@@ -12,14 +11,14 @@ use Rattle.plain.proofs.matching.+matches.Goals as goal
 -- src/plain/matching.rt:43:5
 pub clauses_match-loop-occur-init : goal.clauses_match-loop-occur-init
 clauses_match-loop-occur-init t c analyze d =
-    let all = answers_of c.args.schema.now analyze (document_of c.args.doc.now.values.items) (clauses_of c.args.clauses.now) in
+    let all = answers_of c.args.schema.now analyze c.args.doc.now.doc (clauses_of c.args.clauses.now) in
     ap₂ (λ missing some. left_matches missing some all) c.new-tally.ensures.missing c.new-tally.ensures.some
 
 -- src/plain/matching.rt:45:13
 pub clauses_match-returns-in_default : goal.clauses_match-returns-in_default
 clauses_match-returns-in_default t c analyze d =
     let schema = c.args.schema.now in
-    let doc = document_of c.args.doc.now.values.items in
+    let doc = c.args.doc.now.doc in
     let i = c.loop-occur.occur-index in
     let item = c.loop-occur-item.result in
     let tally = c.loop-occur.tally in
@@ -33,7 +32,7 @@ clauses_match-returns-in_default t c analyze d =
 pub clauses_match-loop-occur-preserved : goal.clauses_match-loop-occur-preserved
 clauses_match-loop-occur-preserved t c analyze d =
     let schema = c.args.schema.now in
-    let doc = document_of c.args.doc.now.values.items in
+    let doc = c.args.doc.now.doc in
     let i = c.loop-occur.occur-index in
     let item = c.loop-occur-item.result in
     let tally = c.loop-occur.tally in
@@ -47,7 +46,7 @@ clauses_match-loop-occur-preserved t c analyze d =
 pub clauses_match-returns : goal.clauses_match-returns
 clauses_match-returns t c analyze d =
     let schema = c.args.schema.now in
-    let doc = document_of c.args.doc.now.values.items in
+    let doc = c.args.doc.now.doc in
     let tally = c.loop-occur.tally in
     c.is_met.ensures
     ∙ ap (λ cs. left_matches tally.missing tally.some (answers_of schema analyze doc (clauses_of cs))) (sym (drop_all c.loop-occur.occur-index c.args.clauses.now c.loop-occur-test.false))
@@ -58,7 +57,7 @@ pub matches-returns-in-Term : goal.matches-returns-in-Term
 matches-returns-in-Term t c analyze d =
     let schema = c.args.schema.now in
     let doc = c.args.doc.now in
-    subst (λ q. c.holds.result ≡ matches schema analyze (document_of doc.values.items) (query_of q)) (sym c.in-Term.is)
+    subst (λ q. c.holds.result ≡ matches schema analyze doc.doc (query_of q)) (sym c.in-Term.is)
     (c.holds.ensures
     ∙ ap (λ u. list_any (λ v. bytes_eq v u) doc.terms.items) c.term.ensures
     ∙ holds_kept schema analyze doc d c.in-Term.query.0)

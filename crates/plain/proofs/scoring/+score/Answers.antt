@@ -8,7 +8,6 @@ use Rattle.definitions.specs.Refusing.{bound, clauses_bound, clauses_fault, tree
 use Rattle.definitions.specs.Scoring as scoring
 use Rattle.definitions.specs.Settings.{similarity_of, weight_of}
 use Rattle.definitions.proofs.Bounds.{accepted_clauses, accepted_first_clause, accepted_fits, accepted_more_clauses, accepted_passes}
-use Rattle.plain.specs.Documents.{document_of}
 use Rattle.plain.specs.Queries.{clauses_of, occur_of, query_of}
 use Rattle.plain.specs.Tallies.{left_matches}
 use Rattle.plain.proofs.ClauseScores.{earned_below, scored_all, scored_left, scored_next, scored_none}
@@ -22,7 +21,7 @@ clauses_score-loop-occur-init t c = record {
   accepted = c.requires.accepted;
   within = omega arith;
   value = λ analyze d.
-      let doc = document_of c.args.doc.now.values.items in
+      let doc = c.args.doc.now.doc in
       let sim = similarity_of c.args.settings.now in
       let cs = clauses_of c.args.clauses.now in
       ap₂ (λ missing some. scored_left c.args.schema.now analyze sim doc missing some 0 cs) c.new-tally.ensures.missing c.new-tally.ensures.some
@@ -46,7 +45,7 @@ clauses_score-score-score-requires t c =
 pub clauses_score-returns-in_default-clause-value : goal.clauses_score-returns-in_default-clause-value
 clauses_score-returns-in_default-clause-value t c analyze d =
     let schema = c.args.schema.now in
-    let doc = document_of c.args.doc.now.values.items in
+    let doc = c.args.doc.now.doc in
     let sim = similarity_of c.args.settings.now in
     let i = c.loop-occur.occur-index in
     let item = c.loop-occur-item.result in
@@ -91,7 +90,7 @@ clauses_score-loop-occur-preserved t c =
           let left = ap (λ cs. clauses_bound weight 1 (clauses_of cs)) next in
           omega (arith, c.unwrap_or-sum.ensures, earned, left, c.loop-occur.invariant.within);
       value = λ analyze d.
-          let doc = document_of c.args.doc.now.values.items in
+          let doc = c.args.doc.now.doc in
           let answers = answers_of schema analyze doc rest in
           let stepped : left_matches c.in-Some.next.missing c.in-Some.next.some answers ≡ left_matches tally.missing tally.some ((occur_of item.0, is_some c.score-score.result) ∷ answers) = c.in-Some.ensures.value answers ∙ ap (λ b. left_matches tally.missing tally.some ((occur_of item.0, b) ∷ answers)) c.is_some.ensures in
           ap (λ n. scored_left schema analyze sim doc c.in-Some.next.missing c.in-Some.next.some (sum + n) rest) c.unwrap_or-sum.ensures
@@ -104,7 +103,7 @@ clauses_score-loop-occur-preserved t c =
 pub clauses_score-returns-then-is_met-clause-value : goal.clauses_score-returns-then-is_met-clause-value
 clauses_score-returns-then-is_met-clause-value t c analyze d =
     let schema = c.args.schema.now in
-    let doc = document_of c.args.doc.now.values.items in
+    let doc = c.args.doc.now.doc in
     let sim = similarity_of c.args.settings.now in
     let tally = c.loop-occur.tally in
     let sum = c.loop-occur.sum in
@@ -123,7 +122,7 @@ clauses_score-returns-then-is_met-clause-within t c = omega (arith, c.loop-occur
 pub clauses_score-returns-else-is_met-clause-value : goal.clauses_score-returns-else-is_met-clause-value
 clauses_score-returns-else-is_met-clause-value t c analyze d =
     let schema = c.args.schema.now in
-    let doc = document_of c.args.doc.now.values.items in
+    let doc = c.args.doc.now.doc in
     let sim = similarity_of c.args.settings.now in
     let tally = c.loop-occur.tally in
     let sum = c.loop-occur.sum in
@@ -136,7 +135,7 @@ clauses_score-returns-else-is_met-clause-value t c analyze d =
 pub score-returns-then-occurrences-eq0-clause-value : goal.score-returns-then-occurrences-eq0-clause-value
 score-returns-then-occurrences-eq0-clause-value t c analyze d =
     let schema = c.args.schema.now in
-    let doc = document_of c.args.doc.now.values.items in
+    let doc = c.args.doc.now.doc in
     let t = c.in-Term.query.0 in
     let n = c.occurrences-occurrences.result in
     let counted = c.occurrences-occurrences.ensures ∙ ap (λ u. count_by (λ v. bytes_eq v u) c.args.doc.now.terms.items) c.term.ensures in
@@ -155,7 +154,7 @@ score-term_score-requires-clause-accepted t c =
 pub score-returns-else-occurrences-eq0-clause-value : goal.score-returns-else-occurrences-eq0-clause-value
 score-returns-else-occurrences-eq0-clause-value t c analyze d =
     let schema = c.args.schema.now in
-    let doc = document_of c.args.doc.now.values.items in
+    let doc = c.args.doc.now.doc in
     let t = c.in-Term.query.0 in
     let n = c.occurrences-occurrences.result in
     let counted = c.occurrences-occurrences.ensures ∙ ap (λ u. count_by (λ v. bytes_eq v u) c.args.doc.now.terms.items) c.term.ensures in

@@ -5,7 +5,6 @@ use Rattle.definitions.specs.Query.{clauses_depth, depth}
 use Rattle.definitions.specs.Refusing.{clauses_bound, clauses_fault}
 use Rattle.definitions.specs.Scoring.{clause_scores}
 use Rattle.definitions.specs.Settings.{similarity_of, weight_of}
-use Rattle.plain.specs.Documents.{document_of}
 use Rattle.plain.specs.IndexedDocs.{Describes}
 use Rattle.plain.specs.Queries.{clauses_of, query_of}
 use Rattle.plain.proofs.ClauseScores.{scored_left}
@@ -24,7 +23,7 @@ abbrev pub invariant-clauses_score-loop-occur : goal.invariant-clauses_score-loo
 invariant-clauses_score-loop-occur l = record {
   accepted : clauses_fault l.schema (weight_of l.settings) 1 (clauses_of (drop l.occur-index l.clauses)) ≡ None;
   within : l.sum + clauses_bound (weight_of l.settings) 1 (clauses_of (drop l.occur-index l.clauses)) ≤ clauses_bound (weight_of l.settings) 1 (clauses_of l.clauses);
-  value : (analyze : Analyzer) → Describes l.schema analyze l.doc → let d = document_of l.doc.values.items in
+  value : (analyze : Analyzer) → Describes l.schema analyze l.doc → let d = l.doc.doc in
       scored_left l.schema analyze (similarity_of l.settings) d l.tally.missing l.tally.some l.sum (clauses_of (drop l.occur-index l.clauses))
       ≡ (if bool_matches l.minimum (answers_of l.schema analyze d (clauses_of l.clauses)) then Some (sum (clause_scores l.schema analyze (similarity_of l.settings) d 1 (clauses_of l.clauses))) else None);
 }

@@ -1,6 +1,5 @@
 use Rattle.std.proofs.Common.{is_some, not, None, ap, map, true≢false, sym, ◌∙◌, ◌≡◌}
 use Rattle.index.specs.FirstBodies.{made_of}
-use Rattle.index.proofs.BuiltKinds.{made_test}
 use Rattle.index.proofs.LastBodies.{first_made, none_there}
 use Rattle.index.proofs.body_reader.BodyReader.take_first.Goals as goal
 
@@ -12,6 +11,3 @@ invariant_of-self-2-clause-first c =
 
 pub invariant_of-self-2-clause-none : goal.invariant_of-self-2-clause-none
 invariant_of-self-2-clause-none c = λ none. absurd (true≢false (ap not (sym c.if-is_none.false) ∙ sym c.is_none.ensures ∙ ap is_some none))
-
-pub invariant_of-self-2-clause-built : goal.invariant_of-self-2-clause-built
-invariant_of-self-2-clause-built c = made_test c.in_ok-made.made c.in_ok-made.ensures.built

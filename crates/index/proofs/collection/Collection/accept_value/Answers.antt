@@ -1,11 +1,9 @@
 use Rattle.std.proofs.Common.{ap, refl, subst, sym, ◌∙◌}
 use Rattle.std.specs.Result.{result_err}
 use Rattle.definitions.specs.Calls as calls
-use Rattle.definitions.specs.Reading.{read_data}
 use Rattle.definitions.specs.Step.{configuration_of}
 use Rattle.index.specs.Accepting.{Accepts}
-use Rattle.plain.proofs.ReadDocs.{data_read}
-use Rattle.index.proofs.Standings.{accepts_read, known_read}
+use Rattle.index.proofs.Standings.{accepts_read}
 use Rattle.serde_json.specs.View.{view}
 use Rattle.index.proofs.collection.Collection.accept_value.Goals as goal
 
@@ -16,7 +14,4 @@ returns-clause-taken g c k x s =
     let call = calls.add_value d in
     let ready = ap (λ status. calls.status_fault status call) s.status ∙ sym (c.check_writer.ensures.value call refl) ∙ ap result_err c.in_ok-check_writer.was in
     subst (λ made. Accepts made x call c.read_document.result) (sym s.made)
-    (accepts_read (configuration_of index.schema (g.A.Analyzer.analyze index.analyzer) index.settings) x call (read_data index.schema d) c.read_document.result s.built ready refl refl (data_read index.schema d) c.read_document.ensures.ok c.read_document.ensures.err)
-
-pub returns-clause-known : goal.returns-clause-known
-returns-clause-known g c = known_read c.args.self.now.schema (read_data c.args.self.now.schema (view c.args.value.now)) c.read_document.result (data_read c.args.self.now.schema (view c.args.value.now)) c.read_document.ensures.ok
+    (accepts_read (configuration_of index.schema (g.A.Analyzer.analyze index.analyzer) index.settings) x call (calls.document_value index.schema d) c.read_document.result ready refl refl c.read_document.ensures.ok c.read_document.ensures.err)

@@ -1,0 +1,2 @@
+-- What bodies hold.
+pub mod Fitting
