@@ -4,3 +4,10 @@ pub mod TakenBack
 pub mod DigitNumbers
 pub mod MadeCalls
 pub mod RisingTokens
+pub mod BitFlags
+pub mod FlagWords
+pub mod AliveSetBytes
+pub mod SetSteps
+pub mod WordBytes
+pub mod FirstBits
+pub mod AliveSetBits

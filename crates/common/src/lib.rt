@@ -2,8 +2,13 @@
 //! and devices.
 #![tactic(auto)]
 
+mod alive_bit_set;
+pub mod alive_set_laws;
 mod analyzer;
+mod bit_set;
+mod bit_words;
 mod device;
+mod has_len;
 mod memory_device;
 mod number;
 pub mod number_code_laws;
@@ -15,10 +20,14 @@ mod synced;
 #[cfg(test)]
 mod tests;
 mod token;
+mod token_stream;
 
+pub use alive_bit_set::{AliveBitSet, AliveIter};
 pub use analyzer::Analyzer;
+pub use bit_set::BitSet;
 pub use definitions::Fault;
 pub use device::Device;
+pub use has_len::HasLen;
 pub use memory_device::MemoryDevice;
 pub use number::{
     DocId, MAX_SCORE, Score, TERMINATED, max_score_is_that_of_definitions,
@@ -32,3 +41,4 @@ pub use raw_and_default::RawAndDefault;
 pub use run_fault::RunFault;
 pub use synced::{cut_synced, write_synced};
 pub use token::Token;
+pub use token_stream::{PreTokenizedStream, TokenStream};

@@ -1,5 +1,6 @@
 //! Stores that are written, stacked, read back and damaged.
 
+use common::AliveBitSet;
 use definitions::Fault;
 use std::alloc::Global;
 use std::test::Fail;
@@ -109,12 +110,54 @@ fn count_blocks(alloc: Global, file: &[u8]) -> Result<usize, Fail> {
 /// How many documents come in order with their bytes.
 fn count_in_order(alloc: Global, reader: &mut StoreReader) -> Result<u32, Fail> {
     let mut right = 0u32;
-    for slot in reader.iter() {
+    for slot in reader.iter(None) {
         if slot?.as_slice() == document(alloc, right)?.as_slice() {
             right = right.wrapping_add(1);
         }
     }
     Ok(right)
+}
+
+#[test]
+fn dead_documents_are_left_out(rt: HostRuntime) -> Result<(), Fail> {
+    let alloc = rt.alloc();
+    for (max_doc, end) in [(0, 3), (4, 10), (94, 94), (95, 101), (100, 101), (200, 101)] {
+        let mut alive = AliveBitSet::for_max_doc(alloc, max_doc)?;
+        for doc in 0..max_doc {
+            if doc % 7 != 3 && (doc as usize) < alive.len() {
+                alive.kill(doc);
+            }
+        }
+        let mut reader = store_of(alloc, 0, 100, 30, 0)?;
+        let mut doc = 3u32;
+        for slot in reader.iter(Some(&alive)) {
+            assert_eq!(rt; slot?.as_slice(), document(alloc, doc)?.as_slice(), "{doc}");
+            doc = doc.wrapping_add(7);
+        }
+        assert_eq!(rt; doc, end, "{max_doc}");
+    }
+    Ok(())
+}
+
+#[test]
+fn blocks_of_the_dead_are_not_looked_up(rt: HostRuntime) -> Result<(), Fail> {
+    let alloc = rt.alloc();
+    let mut alive = AliveBitSet::for_max_doc(alloc, 100)?;
+    for doc in 0..100u32 {
+        if doc / 2 != 20 && (doc as usize) < alive.len() {
+            alive.kill(doc);
+        }
+    }
+    let mut reader = store_of(alloc, 0, 100, 0, 0)?;
+    let mut doc = 40u32;
+    for slot in reader.iter(Some(&alive)) {
+        assert_eq!(rt; slot?.as_slice(), document(alloc, doc)?.as_slice(), "{doc}");
+        doc = doc.wrapping_add(1);
+    }
+    assert_eq!(rt; doc, 42);
+    let stats = reader.cache_stats();
+    assert_eq!(rt; (stats.cache_hits, stats.cache_misses), (0, 2));
+    Ok(())
 }
 
 #[test]

@@ -3,6 +3,7 @@ pub mod Deltas
 pub mod PackedBlocks
 pub mod VintBlocks
 pub mod FieldNorms
+pub mod AliveSets
 pub mod Positions
 pub mod SkipEntries
 pub mod DocumentBytes

@@ -1,5 +1,6 @@
 //! Worked examples, each computed over the definitions.
 
+pub mod alive_sets;
 pub mod document_bytes;
 pub mod field_norms;
 pub mod packed_blocks;

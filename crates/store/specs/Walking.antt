@@ -1,5 +1,6 @@
 -- How an iteration goes through the blocks of a store.
-use Rattle.std.specs.Prelude.{◌+◌, ◌≡◌, ◌≤◌, ◌⊎◌, Bool, Err, List, None, Ok, Option, Result, Some, false, nat_eq, slice_get, true, ℕ}
+use Rattle.std.specs.Prelude.{◌&&◌, ◌+◌, ◌≡◌, ◌⊎◌, Bool, Err, List, None, Ok, Option, Result, Some, false, nat_eq, nat_lt, slice_get, slice_index_or, true, ℕ}
+use Rattle.common.specs.BitSets.{IsFirst}
 use Rattle.definitions.specs.declared.fault.Fault.{Fault}
 use Rattle.layouts.specs.Stores.{Block}
 use Rattle.layouts.specs.declared.checkpoint.Checkpoint.{Checkpoint}
@@ -22,11 +23,16 @@ IsWalked at place old new = elim (stands_in at place) [ true ↦ new ≡ old | f
 abbrev pub IsStep : Reader → ℕ → Reader → ℕ → Type 0
 IsStep old doc new next = (next ≡ doc + 1) × (new.blocks ≡ old.blocks) × (new.current ≡ Some (block_number old.blocks doc)) × IsWalked (block_number old.blocks doc) old.current old.kept new.kept
 
--- one step: a document's bytes, or a fault of its block, and none past the last document
-abbrev pub IsNext : Reader → ℕ → Option (Result (List ℕ) Fault) → Reader → ℕ → Type 0
-IsNext old doc None new next = (count_of old.blocks ≤ doc) × (new ≡ old) × (next ≡ doc)
-IsNext old doc (Some (Ok slot)) new next = HasSlot old.blocks doc slot × IsStep old doc new next
-IsNext old doc (Some (Err fault)) new next = IsSlotFault old.blocks doc fault × IsStep old doc new next
+-- whether an iteration gives a document: each below their number, or those of them that are alive
+abbrev pub is_due : ℕ → Option (List Bool) → ℕ → Bool
+is_due count None doc = nat_lt doc count
+is_due count (Some alive) doc = nat_lt doc count && slice_index_or alive doc false
+
+-- one step: the bytes of the first document that is due, or a fault of its block, and none where none is due
+abbrev pub IsNext : Option (List Bool) → Reader → ℕ → Option (Result (List ℕ) Fault) → Reader → ℕ → Type 0
+IsNext alive old from None new next = IsFirst (is_due (count_of old.blocks) alive) from None × (new ≡ old) × (next ≡ from)
+IsNext alive old from (Some (Ok slot)) new next = (doc : ℕ) × IsFirst (is_due (count_of old.blocks) alive) from (Some doc) × HasSlot old.blocks doc slot × IsStep old doc new next
+IsNext alive old from (Some (Err fault)) new next = (doc : ℕ) × IsFirst (is_due (count_of old.blocks) alive) from (Some doc) × IsSlotFault old.blocks doc fault × IsStep old doc new next
 
 -- ---- the fields of a reader
 

@@ -1,19 +1,40 @@
 //! The documents of a store in order.
 
-ghost use Rattle.std.specs.Prelude.{◌-◌};
+ghost use Rattle.std.specs.Prelude.{◌-◌, ◌<◌, ◌^◌, ◌≡◌, IfSome, option_map};
 ghost use Rattle.std.specs.Iterator.{at_most};
-ghost use Rattle.store.specs.Walking.{IsNext};
+ghost use Rattle.common.specs.BitSets.{IsFirst};
+ghost use Rattle.store.specs.Walking.{IsNext, is_due};
 ghost use Rattle.store.specs.Writing.{count_of};
 
 use crate::store_reader::StoreReader;
 use bytes::Bytes;
+use common::AliveBitSet;
 use definitions::Fault;
 
 /// The documents of a store in order, each as its bytes or as the fault of its block.
 #[derive(Drop)]
 pub struct StoreIter<'a> {
     pub(crate) reader: &'a mut StoreReader,
+    pub(crate) alive: Option<&'a AliveBitSet>,
     pub(crate) doc: u32,
+}
+
+impl<'a> StoreIter<'a> {
+    /// The next document that is due.
+    fn due(&self) -> Option<u32>
+        ensures first { IsFirst (is_due (count_of self.now.reader.now.blocks) (option_map (λ a. a.now) self.now.alive)) self.now.doc result }
+        ensures within { IfSome result (λ doc. (doc < count_of self.now.reader.now.blocks) × (count_of self.now.reader.now.blocks < 2 ^ 32)) }
+    {
+        let doc = match self.alive {
+            Some(alive) => alive.first_alive_from(self.doc)?,
+            None => self.doc,
+        };
+        if doc < self.reader.num_docs() {
+            Some(doc)
+        } else {
+            None
+        }
+    }
 }
 
 impl<'a> Iterator for StoreIter<'a> {
@@ -21,13 +42,10 @@ impl<'a> Iterator for StoreIter<'a> {
 
     ghost remaining = { λ i. at_most (count_of i.reader.now.blocks - i.doc) };
 
-    ghost next_gives = { λ a r b. IsNext a.reader.now a.doc r b.reader.now b.doc };
+    ghost next_gives = { λ a r b. IsNext (option_map (λ s. s.now) a.alive) a.reader.now a.doc r b.reader.now b.doc × (b.alive ≡ a.alive) };
 
     fn next(&mut self) -> Option<Result<Bytes, Fault>> {
-        if self.doc >= self.reader.num_docs() {
-            return None;
-        }
-        let doc = self.doc;
+        let doc = self.due()?;
         self.doc = doc + 1;
         Some(self.reader.next_slot(doc))
     }

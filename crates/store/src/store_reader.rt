@@ -17,6 +17,7 @@ use crate::footer::DocStoreFooter;
 use crate::skip_index::SkipIndex;
 use crate::store_iter::StoreIter;
 use bytes::Bytes;
+use common::AliveBitSet;
 use definitions::Fault;
 use layouts::Checkpoint;
 use std::alloc::Global;
@@ -163,14 +164,17 @@ impl StoreReader {
         }
     }
 
-    /// The documents in order. A block is looked up once, when it is reached.
-    pub fn iter(&mut self) -> StoreIter<'_>
+    /// The documents in order, or those of them that are alive; a document past the alive set isn't. A
+    /// block is looked up once, when a document of it is reached.
+    pub fn iter<'a>(&'a mut self, alive_bitset: Option<&'a AliveBitSet>) -> StoreIter<'a>
         ensures doc { result.doc ≡ 0 }
+        ensures alive { result.alive ≡ alive_bitset.entry }
         ensures reader { result.reader.now ≡ reader self.old.blocks self.old.kept None }
     {
         self.current = None;
         StoreIter {
             reader: self,
+            alive: alive_bitset,
             doc: 0,
         }
     }

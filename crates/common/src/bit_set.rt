@@ -1,0 +1,143 @@
+//! Sets of numbers below a bound, one bit for each number.
+
+ghost use Rattle.std.specs.Prelude.{◌+◌, ◌/◌, ◌<◌, ◌^◌, ◌≡◌, ◌≢◌, Bool, IfNone, IfOk, IfSome, List, false, length, replicate, slice_index, slice_index_or, slice_set, true, ℕ};
+ghost use Rattle.common.specs.BitSets.{IsFirst, count_set};
+ghost use Rattle.layouts.specs.AliveSets.{alive_words};
+
+use crate::bit_words::{count_bits, first_bit, full_words, has_bit, is_clear_from, num_words};
+use std::alloc::{AllocError, Global};
+use std::marker::Model;
+
+/// A set of numbers below a bound, seen as a flag for each of them.
+#[derive(Drop)]
+pub struct BitSet {
+    words: Vec<u64>,
+    len: usize,
+    max_value: u32,
+}
+
+impl Model for BitSet {
+    ghost use Rattle.std.specs.Prelude.{Bool, List};
+    ghost use Rattle.common.specs.BitSets.{IsBitSet, flags_of};
+
+    ghost Value = { List Bool };
+
+    ghost view = { λ s. flags_of s.max_value s.words.items };
+
+    ghost invariant = { λ s. IsBitSet s.max_value s.words.items s.len };
+}
+
+impl BitSet {
+    /// A set of none of the numbers below a bound.
+    pub fn with_max_value(alloc: Global, max_value: u32) -> Result<BitSet, AllocError>
+        ensures { IfOk result (λ set. set ≡ replicate max_value false) }
+    {
+        Ok(BitSet {
+            words: vec![in alloc; 0; num_words(max_value)]?,
+            len: 0,
+            max_value,
+        })
+    }
+
+    /// A set of all numbers below a bound.
+    pub fn with_max_value_and_full(alloc: Global, max_value: u32) -> Result<BitSet, AllocError>
+        ensures { IfOk result (λ set. set ≡ replicate max_value true) }
+    {
+        Ok(BitSet {
+            words: full_words(alloc, max_value)?,
+            len: max_value as usize,
+            max_value,
+        })
+    }
+
+    /// Puts a number in.
+    pub fn insert(&mut self, el: u32)
+        requires { el < length self.old }
+        ensures { self.new ≡ slice_set self.old el true }
+    {
+        let at = (el / 64) as usize;
+        let word = self.words[at];
+        let bit = 1 << (el % 64);
+        if word & bit == 0 {
+            self.words[at] = word | bit;
+            self.len += 1;
+        }
+    }
+
+    /// Takes a number out.
+    pub fn remove(&mut self, el: u32)
+        requires { el < length self.old }
+        ensures { self.new ≡ slice_set self.old el false }
+    {
+        let at = (el / 64) as usize;
+        let word = self.words[at];
+        let bit = 1 << (el % 64);
+        if word & bit != 0 {
+            self.words[at] = word & !bit;
+            self.len -= 1;
+        }
+    }
+
+    /// Whether a number is in. None from the bound on is.
+    pub fn contains(&self, el: u32) -> bool
+        ensures { result ≡ slice_index_or self.now el false }
+    {
+        el < self.max_value && has_bit(&self.words, el)
+    }
+
+    /// The least number that is in and isn't below this one.
+    pub fn first_from(&self, el: u32) -> Option<u32>
+        ensures first { IsFirst (λ i. slice_index_or self.now i false) el result }
+        ensures within { IfSome result (λ at. (at < length self.now) × (length self.now < 2 ^ 32)) }
+    {
+        first_bit(&self.words, el)
+    }
+
+    /// How many numbers are in.
+    pub fn len(&self) -> usize
+        ensures { result ≡ count_set self.now }
+    {
+        self.len
+    }
+
+    /// The bound that the numbers are below.
+    pub fn max_value(&self) -> u32
+        ensures { result ≡ length self.now }
+    {
+        self.max_value
+    }
+
+    /// Whether a number below the bound is in.
+    #[inline]
+    pub(crate) fn has(&self, el: u32) -> bool
+        requires { el < length self.now }
+        ensures { result ≡ slice_index_or self.now el false }
+    {
+        has_bit(&self.words, el)
+    }
+
+    /// The flags in words of 64.
+    pub(crate) fn words(&self) -> &[u64]
+        ensures { result.now ≡ alive_words self.now }
+    {
+        &self.words
+    }
+
+    /// The set with these words; none where a bit from the bound on is set.
+    pub(crate) fn from_words(words: Vec<u64>, max_value: u32) -> Option<BitSet>
+        requires { length words.items ≡ (max_value + 63) / 64 }
+        ensures some { IfSome result (λ set. (length set ≡ max_value) × (words.items ≡ alive_words set)) }
+        ensures none { IfNone result ((flags : List Bool) → length flags ≡ max_value → words.items ≢ alive_words flags) }
+        ensures small { (i : ℕ) → slice_index words.items i < 2 ^ 64 }
+    {
+        if !is_clear_from(&words, max_value) {
+            return None;
+        }
+        let len = count_bits(&words);
+        Some(BitSet {
+            words,
+            len,
+            max_value,
+        })
+    }
+}
