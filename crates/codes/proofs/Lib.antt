@@ -15,6 +15,7 @@ pub mod VintLists
 pub mod SumsOfDeltas
 pub mod ListLaws
 pub mod PositionBlocks
+pub mod BlockBytes
 pub mod CheckedBlocks
 pub mod PositionsOpened
 pub mod PositionNumbers

@@ -17,7 +17,7 @@ use lib.Lanes.{digits_l, number_l}
 
 -- ---- one block
 
-count_of_digits : (p n x : ℕ) → length (digits_l p n x) ≡ n
+pub count_of_digits : (p n x : ℕ) → length (digits_l p n x) ≡ n
 count_of_digits p zero x = refl
 count_of_digits p (suc n) x = ap suc (count_of_digits p n (x / p))
 
@@ -35,7 +35,7 @@ pub unpacked_count : (w : ℕ) (bytes : List ℕ) → length (unpacked w bytes) 
 unfolding unpacked
 unpacked_count w bytes = count_of_digits (2 ^ w) 128 (number_l 256 bytes)
 
-unpacked_field : (w : ℕ) (bytes : List ℕ) (i : ℕ) → i < 128 → get_or (unpacked w bytes) i 0 ≡ field w (number_l 256 bytes) i
+pub unpacked_field : (w : ℕ) (bytes : List ℕ) (i : ℕ) → i < 128 → get_or (unpacked w bytes) i 0 ≡ field w (number_l 256 bytes) i
 unfolding unpacked
 unpacked_field w bytes i within = digit_of w 128 (number_l 256 bytes) i within
 

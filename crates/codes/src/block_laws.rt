@@ -2,7 +2,9 @@
 #![tactic(auto)]
 
 ghost use Rattle.std.specs.Prelude.{◌≡◌, List, ℕ};
+ghost use Rattle.definitions.specs.NumberCodes.{AreBytes};
 ghost use Rattle.layouts.specs.PackedBlocks.{IsBlock, IsPacked, IsSortedBlock};
+ghost use Rattle.layouts.specs.PackedBytes.{packed_bytes, width_of};
 
 /// No other numbers have the bytes of a block, and no other documents after the same offset: what was
 /// written is what is read.
@@ -15,4 +17,10 @@ pub fn blocks_have_one_reading()
 /// Numbers have one width.
 pub fn numbers_have_one_width()
     ensures { (v w : ℕ) (numbers a b : List ℕ) → IsBlock v numbers a → IsBlock w numbers b → v ≡ w }
+{}
+
+/// Numbers have one block: its width and its bytes compute.
+pub fn numbers_have_one_block()
+    ensures width { (w : ℕ) (numbers bytes : List ℕ) → IsBlock w numbers bytes → w ≡ width_of numbers }
+    ensures bytes { (w : ℕ) (numbers bytes : List ℕ) → AreBytes bytes → IsBlock w numbers bytes → bytes ≡ packed_bytes numbers }
 {}

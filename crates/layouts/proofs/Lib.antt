@@ -1,3 +1,4 @@
 -- Lemmas on the layouts, behind the laws and for the crates above.
 pub mod PackedTests
 pub mod FilesOfRecords
+pub mod EntryBounds

@@ -9,4 +9,6 @@ pub mod record_bodies;
 pub mod record_files;
 pub mod skip_entries;
 pub mod stores;
+pub mod term_postings;
+pub mod term_sections;
 pub mod vint_blocks;

@@ -4,5 +4,6 @@
 mod checkpoint;
 pub mod examples;
 pub mod record_file_laws;
+pub mod term_postings_laws;
 
 pub use checkpoint::Checkpoint;

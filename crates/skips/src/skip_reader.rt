@@ -108,7 +108,8 @@ impl<'a> SkipReader<'a> {
 
     /// How many positions stand before the block.
     pub fn position_offset(&self) -> u64
-        ensures { result ≡ self.now.position_offset }
+        ensures offset { result ≡ self.now.position_offset }
+        ensures few { result < 2 ^ 62 }
     {
         self.position_offset
     }

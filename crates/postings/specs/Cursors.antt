@@ -1,0 +1,29 @@
+-- What remains of a term's postings.
+use Rattle.std.proofs.Common.{refl}
+use Rattle.std.specs.Prelude.{[], ◌++◌, ◌+◌, ◌≡◌, List, drop, map, sum, take, ℕ}
+use Rattle.postings.specs.Entries.{AreSingle, Entry, Rising, first_positions, single}
+use Rattle.postings.specs.Reading.{counts_at, docs_at}
+use Rattle.postings.specs.TermEntries.{entries_from, numbers_of}
+use Rattle.postings.specs.TermEntryLaws.{Ascends-behind, Rising-entries_of}
+use Rattle.postings.specs.declared.block_segment_postings.BlockSegmentPostings.{BlockSegmentPostings}
+use Rattle.postings.specs.declared.segment_postings.SegmentPostings.{SegmentPostings}
+
+-- the documents, and their counts, from the block on that is held
+abbrev pub docs_left : BlockSegmentPostings → List ℕ
+docs_left s = docs_at s.before s.skips s.bytes.now
+
+abbrev pub counts_left : BlockSegmentPostings → List ℕ
+counts_left s = counts_at s.reads_counts s.before s.skips s.bytes.now
+
+-- the entries from a document on
+abbrev pub entries_left : SegmentPostings → List Entry
+entries_left s = entries_from s.cur s.blocks.skips.position_offset (docs_left s.blocks) (counts_left s.blocks) (numbers_of s.positions)
+
+pub rising_left : (s : SegmentPostings) → Rising 0 (entries_left s)
+rising_left s = Rising-entries_of 0 (drop s.cur (docs_left s.blocks)) (drop s.cur (counts_left s.blocks)) (drop (s.blocks.skips.position_offset + sum (take s.cur (counts_left s.blocks))) (numbers_of s.positions)) (Ascends-behind s.cur 0 (docs_left s.blocks) s.blocks.ascends)
+
+pub single_left : (s : SegmentPostings) → AreSingle (entries_left s)
+single_left s = s.of_one_term
+
+pub alone_left : (s : SegmentPostings) (offset : ℕ) → [] ++ map (λ p. p + offset) (single (first_positions (entries_left s))) ≡ map (λ p. p + offset) (single (first_positions (entries_left s)))
+alone_left s offset = refl

@@ -1,0 +1,5 @@
+//! Tests of postings by public calls, with expected values from outside the program.
+#![tactic(auto)]
+
+#[cfg(test)]
+mod written_postings;
