@@ -9,6 +9,7 @@ pub mod Positions
 pub mod SkipEntries
 pub mod TermPostings
 pub mod TermSections
+pub mod InvertedIndexes
 pub mod TermExamples
 pub mod DocumentBytes
 pub mod DocumentReading

@@ -2,7 +2,8 @@
 use Rattle.std.proofs.Common.{[], ap, Bool, false, List, refl, subst, true, ◌++◌, ◌≡◌, ◌∙◌, ℕ, if◌then◌else◌}
 use Rattle.layouts.specs.Positions.{ArePositions}
 use Rattle.layouts.specs.TermSections.{TermLengths}
-use Rattle.postings.specs.FieldWriting.{HasPositions, Terms, inserted}
+use Rattle.layouts.specs.InvertedIndexes.{HasPositions}
+use Rattle.postings.specs.FieldWriting.{Terms, inserted}
 
 -- positions of a term that records them are all numbers
 pub numbers_recorded : (b : Bool) (xs numbers bytes : List ℕ) → xs ≡ (if b then numbers else []) → HasPositions b xs bytes → HasPositions b numbers bytes

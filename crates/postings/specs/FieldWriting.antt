@@ -5,7 +5,7 @@ use Rattle.definitions.specs.NumberCodes.{u32_bytes, u64_bytes, vint_bytes}
 use Rattle.definitions.specs.Schema.{IndexRecordOption, has_positions}
 use Rattle.definitions.specs.declared.fault.Fault.{Fault}
 use Rattle.definitions.specs.declared.fault.Fault.TheVariants as faults
-use Rattle.layouts.specs.Positions.{ArePositions}
+use Rattle.layouts.specs.InvertedIndexes.{HasPositions}
 use Rattle.layouts.specs.TermPostings.{postings_bytes}
 use Rattle.layouts.specs.TermSections.{TermLengths, entry_of_term}
 use Rattle.postings.specs.TermWriting.{AreWritten, Writing, begun}
@@ -37,11 +37,6 @@ pub record IsOpen (w : FieldWriting) (docs counts numbers : List ℕ) : Type 0 w
   pub written : AreWritten w.writing docs counts
   pub doc_freq_is : w.doc_freq ≡ length docs
   pub numbers_are : w.positions.1 ≡ (if has_positions w.writing.option then numbers else [])
-
--- the bytes of a term's positions; none where they aren't recorded
-abbrev pub HasPositions : Bool → List ℕ → List ℕ → Type 0
-HasPositions true numbers bytes = ArePositions numbers bytes
-HasPositions false numbers bytes = bytes ≡ []
 
 -- the postings of a term
 abbrev pub postings_of : Writing → List ℕ → List ℕ → List ℕ

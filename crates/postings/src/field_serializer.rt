@@ -2,7 +2,8 @@
 
 ghost use Rattle.std.specs.Prelude.{[], ◌+◌, ◌++◌, ◌<◌, ◌≡◌, ◌≤◌, ◌^◌, ◌∷◌, IfErr, IfOk, IfSome, IsTrue, List, OnOk, if◌then◌else◌, length, slice_index, ℕ};
 ghost use Rattle.definitions.specs.Schema.{basic, has_freq, has_positions};
-ghost use Rattle.postings.specs.FieldWriting.{HasPositions, IsCloseRefusal, IsClosed, IsOpen, field_closed};
+ghost use Rattle.layouts.specs.InvertedIndexes.{HasPositions};
+ghost use Rattle.postings.specs.FieldWriting.{IsCloseRefusal, IsClosed, IsOpen, field_closed};
 ghost use Rattle.postings.specs.TermWriting.{IsRefusal, passes_sum, recorded_count};
 
 use crate::inverted_index_serializer::InvertedIndexSerializer;

@@ -1,6 +1,7 @@
 use Rattle.std.proofs.Common.{[], ap, arith, Bool, length, length-append, List, subst, sym, ◌++◌, ◌-◌, ◌≡◌, ◌∙◌, ℕ, if◌then◌else◌}
 use Rattle.definitions.specs.Schema.{has_positions}
-use Rattle.postings.specs.FieldWriting.{FieldWriting, HasPositions, IsClosed, IsOpen, postings_of}
+use Rattle.layouts.specs.InvertedIndexes.{HasPositions}
+use Rattle.postings.specs.FieldWriting.{FieldWriting, IsClosed, IsOpen, postings_of}
 use Rattle.postings.specs.TermWriting.{Writing}
 use Rattle.postings.proofs.ClosedTerms.{none_waits, numbers_recorded, same_entry}
 use Rattle.postings.proofs.field_serializer.FieldSerializer.close_term.Goals as goal
