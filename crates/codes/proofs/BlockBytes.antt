@@ -1,12 +1,12 @@
 -- A block has one width and one list of bytes, and these compute.
-use Rattle.std.proofs.Common.{[], ap, ap₂, arith, Bool, false, get_or, length, List, mul_comm, nat_lt, pow-suc, refl, suc, sym, true, zero, ◌&&◌, ◌%◌, ◌*◌, ◌+◌, ◌/◌, ◌<◌, ◌≡◌, ◌≢◌, ◌≤◌, ◌∙◌, ◌∷◌, ◌^◌, ℕ, if◌then◌else◌}
+use Rattle.std.proofs.Common.{[], ap, ap₂, arith, Bool, false, get_or, length, List, nat_lt, pow-suc, refl, suc, sym, true, zero, ◌&&◌, ◌%◌, ◌*◌, ◌+◌, ◌/◌, ◌<◌, ◌≡◌, ◌≢◌, ◌≤◌, ◌∙◌, ◌∷◌, ◌^◌, ℕ, if◌then◌else◌}
 use Rattle.std.proofs.Math.Nat.{div-lt_iff_lt-mul, mod-lt, one-le-pow, pow-zero}
 use Rattle.std.proofs.lemmas.Bool.Decides.{nat_tests}
 use Rattle.std.specs.List.{list_all}
 use Rattle.codes.proofs.Packings.{digits_are_packed}
 use Rattle.codes.proofs.PositionBlocks.{count_of_digits, packed_is}
 use Rattle.codes.specs.PositionBlocks.{unpacked}
-use Rattle.common.proofs.DigitNumbers.{AreDigits, number-below, number-digit, number-same, power_of}
+use Rattle.common.proofs.DigitNumbers.{AreDigits, number-below, number-same, power_of}
 use Rattle.layouts.proofs.PackedTests.{all_below}
 use Rattle.layouts.specs.PackedBlocks.{IsBlock, IsLeastWidth, IsPacked}
 use Rattle.layouts.specs.PackedBytes.{packed_at, packed_bytes, width_from, width_of}

@@ -20,3 +20,4 @@ pub mod CheckedBlocks
 pub mod PositionsOpened
 pub mod PositionNumbers
 pub mod PositionsPut
+pub mod KnownPositions

@@ -40,6 +40,25 @@ impl<'a> Model for PositionReader<'a> {
 }
 
 impl<'a> PositionReader<'a> {
+    /// Reads the bytes of a term's positions, which are known to be in their layout; the first block is decoded.
+    pub fn new(bytes: &'a [u8]) -> PositionReader<'a>
+        requires { ∥ ((numbers : List ℕ) × ArePositions numbers bytes.now) ∥₁ }
+        ensures { (numbers : List ℕ) → ArePositions numbers bytes.now → result ≡ numbers }
+    {
+        let Ok((widths, packed)) = take_bytes(bytes) else {
+            unreachable!()
+        };
+        let mut decoder = BlockDecoder::with_val(0);
+        decode(widths, packed, 0, 0, &mut decoder);
+        PositionReader {
+            widths,
+            packed,
+            decoder,
+            block: 0,
+            at: 0,
+        }
+    }
+
     /// Reads the bytes of a term's positions; other bytes are `Damaged`. Every block is checked.
     pub fn open(bytes: &'a [u8]) -> Result<PositionReader<'a>, Fault>
         ensures ok { IfOk result (λ reader. ArePositions reader bytes.now) }

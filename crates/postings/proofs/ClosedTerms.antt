@@ -1,5 +1,5 @@
 -- A term that is closed in its field.
-use Rattle.std.proofs.Common.{[], ap, Bool, false, List, refl, subst, true, ◌++◌, ◌≡◌, ◌∙◌, ℕ, if◌then◌else◌}
+use Rattle.std.proofs.Common.{[], ap, Bool, false, List, refl, subst, true, ◌≡◌, ◌∙◌, ℕ, if◌then◌else◌}
 use Rattle.layouts.specs.Positions.{ArePositions}
 use Rattle.layouts.specs.TermSections.{TermLengths}
 use Rattle.layouts.specs.InvertedIndexes.{HasPositions}

@@ -1,12 +1,12 @@
 -- A block that isn't full yet, document by document.
-use Rattle.std.proofs.Common.{[], ap, ap₂, arith, Bool, false, true, List, length, map, max, min, nat_eq, refl, set, sum, suc, sym, take, ◌*◌, ◌++◌, ◌+◌, ◌-◌, ◌<◌, ◌≡◌, ◌≤◌, ◌∙◌, ◌∷◌, ℕ, if◌then◌else◌}
+use Rattle.std.proofs.Common.{[], ap, ap₂, arith, Bool, false, true, List, length, map, max, min, nat_eq, refl, set, sum, suc, take, ◌++◌, ◌+◌, ◌-◌, ◌<◌, ◌≡◌, ◌∙◌, ◌∷◌, ℕ, if◌then◌else◌}
 use Rattle.std.proofs.lemmas.Bool.Decides.{nat_tests}
-use Rattle.std.proofs.lemmas.List.{length-take, map-append, take_more_set}
+use Rattle.std.proofs.lemmas.List.{map-append, take_more_set}
 use Rattle.std.proofs.lemmas.List.Sums.{sum_by-append}
 use Rattle.definitions.specs.Blocks.{least_of}
 use Rattle.definitions.specs.Scoring.{greatest_of}
 use Rattle.layouts.specs.TermPostings.{less_1}
-use Rattle.postings.specs.TermWriting.{Blocks, Waiting, joined}
+use Rattle.postings.specs.TermWriting.{Blocks}
 
 -- counts from the numbers that are kept
 abbrev pub counts_of : List ℕ → List ℕ

@@ -1,5 +1,5 @@
 -- What a serializer of postings stands for while it writes a term.
-use Rattle.std.specs.Prelude.{[], ◌&&◌, ◌*◌, ◌++◌, ◌+◌, ◌<◌, ◌^◌, ◌∷◌, ◌≡◌, ◌≤◌, ◌⊎◌, Bool, List, None, Option, Some, if◌then◌else◌, length, map, min, nat_eq, nat_le, sum, true, false, ℕ}
+use Rattle.std.specs.Prelude.{[], ◌&&◌, ◌*◌, ◌++◌, ◌+◌, ◌<◌, ◌^◌, ◌∷◌, ◌≡◌, ◌⊎◌, Bool, List, Option, if◌then◌else◌, length, map, min, nat_eq, nat_le, sum, true, false, ℕ}
 use Rattle.std.specs.List.{AllByRecursion}
 use Rattle.codes.specs.PositionBlocks.{listed}
 use Rattle.definitions.specs.Blocks.{least_of}

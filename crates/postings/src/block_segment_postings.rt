@@ -57,7 +57,7 @@ impl<'a> BlockSegmentPostings<'a> {
         reads_counts: bool,
         reads_positions: bool,
     ) -> BlockSegmentPostings<'a>
-        requires known { (docs counts : List ℕ) × HasPostings recorded.counts recorded.positions doc_freq bytes.now docs counts }
+        requires known { ∥ ((docs counts : List ℕ) × HasPostings recorded.counts recorded.positions doc_freq bytes.now docs counts) ∥₁ }
         requires counts { reads_counts ≡ true → recorded.counts ≡ true }
         requires positions { reads_positions ≡ true → (recorded.positions ≡ true) × (reads_counts ≡ true) }
         ensures docs { (docs counts : List ℕ) → HasPostings recorded.counts recorded.positions doc_freq bytes.now docs counts → docs_left result ≡ docs }

@@ -53,7 +53,7 @@ impl<'a> SegmentPostings<'a> {
         recorded: Recorded,
         reads_counts: bool,
     ) -> SegmentPostings<'a>
-        requires known { (docs counts : List ℕ) × HasPostings recorded.counts recorded.positions doc_freq bytes.now docs counts }
+        requires known { ∥ ((docs counts : List ℕ) × HasPostings recorded.counts recorded.positions doc_freq bytes.now docs counts) ∥₁ }
         requires counts { reads_counts ≡ true → recorded.counts ≡ true }
         ensures entries { (docs counts : List ℕ) → HasPostings recorded.counts recorded.positions doc_freq bytes.now docs counts → entries_left result ≡ entries_of docs (if reads_counts then counts else replicate doc_freq 1) [] }
         ensures decoded { result.blocks.decoded ≡ min 1 doc_freq }
@@ -74,7 +74,7 @@ impl<'a> SegmentPostings<'a> {
         recorded: Recorded,
         positions: PositionReader<'a>,
     ) -> SegmentPostings<'a>
-        requires known { (docs counts : List ℕ) × (lists : List (List ℕ)) × HasPostings recorded.counts recorded.positions doc_freq bytes.now docs counts × HasPositions counts lists positions }
+        requires known { ∥ ((docs counts : List ℕ) × (lists : List (List ℕ)) × HasPostings recorded.counts recorded.positions doc_freq bytes.now docs counts × HasPositions counts lists positions) ∥₁ }
         requires recorded { (recorded.counts ≡ true) × (recorded.positions ≡ true) }
         ensures entries { (docs counts : List ℕ) (lists : List (List ℕ)) → HasPostings recorded.counts recorded.positions doc_freq bytes.now docs counts → HasPositions counts lists positions.entry → entries_left result ≡ term_entries docs counts lists }
         ensures decoded { result.blocks.decoded ≡ min 1 doc_freq }

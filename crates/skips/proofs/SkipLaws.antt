@@ -1,5 +1,7 @@
 -- Skip entries are taken as they are put.
-use Rattle.std.proofs.Common.{[], Bool, if◌then◌else◌, List, None, Option, Some, ap, ap₂, append_assoc, append-nil, arith, false, length, length-append, option_map, refl, subst, suc, suc-mul, sym, true, zero, ◌&&◌, ◌*◌, ◌++◌, ◌+◌, ◌<◌, ◌≡◌, ◌∙◌, ◌∷◌, ◌^◌, ℕ}
+use Rattle.std.proofs.Common.{[], Bool, if◌then◌else◌, IsSome, List, None, Option, Some, ap, ap₂, append_assoc, append-nil, arith, false, length, length-append, option_map, refl, subst, suc, suc-mul, sym, true, zero, ◌&&◌, ◌*◌, ◌++◌, ◌+◌, ◌<◌, ◌≡◌, ◌∙◌, ◌∷◌, ◌^◌, ℕ}
+use Rattle.std.proofs.Math.Logic.{∥∥₁_elim}
+use Rattle.std.proofs.Props.{props}
 use Rattle.std.proofs.lemmas.Bool.Decides.{nat_tests}
 use Rattle.std.proofs.lemmas.Nat.{from_le_bytes-to_le_bytes_4}
 use Rattle.std.specs.Option.{option_map_or}
@@ -190,6 +192,12 @@ entries_back c p least (e ∷ es) sound =
 
 pub skips_taken : (c p : Bool) (n : ℕ) (bs : List ℕ) (es : List SkipEntry) → AreSkips c p n bs es → take_entries c p n bs ≡ Some es
 skips_taken c p n bs es skips = ap₂ (λ k xs. take_entries c p k xs) (sym skips.many) skips.whole ∙ entries_back c p 0 es skips.sound
+
+pub merely_some : (c p : Bool) (n : ℕ) (bs : List ℕ) → ∥ ((es : List SkipEntry) × AreSkips c p n bs es) ∥₁ → IsSome (take_entries c p n bs)
+merely_some c p n bs known = ∥∥₁_elim known (IsSome-prop (take_entries c p n bs)) (λ k. subst (λ o. IsSome o) (sym (skips_taken c p n bs k.0 k.1)) refl)
+  where
+    IsSome-prop : (o : Option (List SkipEntry)) → IsProp (IsSome o)
+    IsSome-prop o = hlevel props
 
 pub skips_checked : (c p : Bool) (n : ℕ) (bs : List ℕ) (es : List SkipEntry) → AreSkips c p n bs es → are_skips c p n 0 bs ≡ true
 skips_checked c p n bs es skips = ap (λ o. option_map_or (are_entries c p 0) o false) (skips_taken c p n bs es skips) ∙ skips.sound

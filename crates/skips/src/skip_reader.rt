@@ -73,7 +73,7 @@ impl<'a> Model for SkipReader<'a> {
 impl<'a> SkipReader<'a> {
     /// Stands at the first block of entries that are known to be in their layout.
     pub fn new(bytes: &'a [u8], doc_freq: u32, recorded: Recorded) -> SkipReader<'a>
-        requires { (entries : List SkipEntry) × AreSkips recorded.counts recorded.positions (doc_freq / 128) bytes.now entries }
+        requires { ∥ ((entries : List SkipEntry) × AreSkips recorded.counts recorded.positions (doc_freq / 128) bytes.now entries) ∥₁ }
         ensures { (entries : List SkipEntry) → AreSkips recorded.counts recorded.positions (doc_freq / 128) bytes.now entries → result ≡ begun recorded.counts recorded.positions doc_freq entries }
     {
         SkipReader {
@@ -100,7 +100,7 @@ impl<'a> SkipReader<'a> {
 
     /// Stands at the first block of another term with the same recorded.
     pub fn reset(&mut self, bytes: &'a [u8], doc_freq: u32)
-        requires { (entries : List SkipEntry) × AreSkips self.old.counts self.old.positions (doc_freq / 128) bytes.now entries }
+        requires { ∥ ((entries : List SkipEntry) × AreSkips self.old.counts self.old.positions (doc_freq / 128) bytes.now entries) ∥₁ }
         ensures { (entries : List SkipEntry) → AreSkips self.old.counts self.old.positions (doc_freq / 128) bytes.now entries → self.new ≡ begun self.old.counts self.old.positions doc_freq entries }
     {
         *self = SkipReader::new(bytes, doc_freq, self.recorded);

@@ -1,4 +1,4 @@
-use Rattle.std.proofs.Common.{ap, arith, length, length-take, max, refl, sum, sym, take, ◌*◌, ◌+◌, ◌<◌, ◌≡◌, ◌≤◌, ◌∙◌}
+use Rattle.std.proofs.Common.{ap, arith, length, length-take, max, sum, sym, take, ◌*◌, ◌+◌, ◌<◌, ◌≡◌, ◌≤◌, ◌∙◌}
 use Rattle.definitions.specs.Scoring.{greatest_of}
 use Rattle.postings.specs.TermWriting.{Waiting}
 use Rattle.postings.proofs.WaitingBlocks.{counts_more, counts_of, greatest_more, sum_more}

@@ -1,4 +1,4 @@
-use Rattle.std.proofs.Common.{[], ap, Bool, List, subst, sym, true, ◌++◌, ◌≡◌, ◌∙◌, ◌∷◌, ℕ, if◌then◌else◌}
+use Rattle.std.proofs.Common.{[], ap, Bool, subst, sym, true, ◌++◌, ◌≡◌, ◌∙◌, ◌∷◌, if◌then◌else◌}
 use Rattle.codes.proofs.BlockBytes.{width_is}
 use Rattle.definitions.specs.Schema.{has_freq}
 use Rattle.layouts.specs.PackedBytes.{packed_bytes, width_of}

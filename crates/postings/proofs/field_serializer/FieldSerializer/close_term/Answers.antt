@@ -1,4 +1,4 @@
-use Rattle.std.proofs.Common.{[], ap, arith, Bool, length, length-append, List, subst, sym, ◌++◌, ◌-◌, ◌≡◌, ◌∙◌, ℕ, if◌then◌else◌}
+use Rattle.std.proofs.Common.{[], ap, arith, Bool, length, length-append, List, subst, sym, ◌++◌, ◌∙◌, ℕ, if◌then◌else◌}
 use Rattle.definitions.specs.Schema.{has_positions}
 use Rattle.layouts.specs.InvertedIndexes.{HasPositions}
 use Rattle.postings.specs.FieldWriting.{FieldWriting, IsClosed, IsOpen, postings_of}

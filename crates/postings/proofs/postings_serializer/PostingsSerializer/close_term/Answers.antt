@@ -1,10 +1,6 @@
-use Rattle.std.proofs.Common.{ap, arith, length, nat_le, subst, sym, ◌++◌, ◌<◌, ◌≡◌, ◌^◌, ◌∙◌, List, ℕ}
+use Rattle.std.proofs.Common.{ap, length, subst, sym, ◌++◌, ◌<◌, ◌^◌, ◌∙◌, List, ℕ}
 use Rattle.std.proofs.lemmas.Result.{err_from_is_err_and}
-use Rattle.codes.specs.PositionBlocks.{listed}
-use Rattle.layouts.specs.TermPostings.{postings_bytes}
-use Rattle.options.specs.RecordOption.{record_option_of}
 use Rattle.postings.proofs.WrittenPostings.{written_closed, written_posted}
-use Rattle.postings.specs.TermWriting.{AreWritten, IsRefusal, Writing, term_bytes}
 use Rattle.postings.proofs.postings_serializer.PostingsSerializer.close_term.Goals as goal
 
 pub returns-in_err-append_to-clause-err : goal.returns-in_err-append_to-clause-err

@@ -1,4 +1,4 @@
-use Rattle.std.proofs.Common.{ap, arith, length, length-append, List, sym, ◌++◌, ◌<◌, ◌≡◌, ◌∙◌, ◌∷◌, []}
+use Rattle.std.proofs.Common.{ap, arith, length, length-append, sym, ◌<◌, ◌≡◌, ◌∙◌, ◌∷◌, []}
 use Rattle.std.proofs.lemmas.Bool.Decides.{nat_tests}
 use Rattle.codes.specs.PositionBlocks.{listed}
 use Rattle.layouts.specs.TermPostings.{id_of}

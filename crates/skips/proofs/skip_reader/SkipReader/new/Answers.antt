@@ -1,11 +1,11 @@
-use Rattle.std.proofs.Common.{IsSome, ap, arith, refl, subst, sym, ◌/◌, ◌%◌}
-use Rattle.skips.proofs.SkipLaws.{skips_taken}
+use Rattle.std.proofs.Common.{ap, arith, ◌/◌, ◌%◌}
+use Rattle.skips.proofs.SkipLaws.{merely_some, skips_taken}
 use Rattle.skips.specs.SkipBlocks.{entries_of}
 use Rattle.skips.proofs.skip_reader.SkipReader.new.Goals as goal
 
 pub invariant_of-result : goal.invariant_of-result
 invariant_of-result c = record {
-  some = subst (λ o. IsSome o) (sym (skips_taken c.args.recorded.counts c.args.recorded.positions (c.args.doc_freq / 128) c.args.bytes.now c.requires.0 c.requires.1)) refl;
+  some = merely_some c.args.recorded.counts c.args.recorded.positions (c.args.doc_freq / 128) c.args.bytes.now c.requires;
   bytes_fit = (let h = c.ranges.doc_freq.fits in omega arith);
   positions_fit = (let h = c.ranges.doc_freq.fits in omega arith);
 }

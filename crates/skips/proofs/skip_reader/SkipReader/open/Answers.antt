@@ -1,4 +1,5 @@
 use Rattle.std.proofs.Common.{List, ap, arith, false, refl, rules, subst, sym, true, ◌/◌, ◌≡◌, ◌∙◌}
+use Rattle.std.proofs.lemmas.Grind.{merely}
 use Rattle.skips.proofs.SkipLaws.{skips_are, skips_checked}
 use Rattle.skips.specs.SkipBlocks.{are_skips, begun, entries_of, take_entries}
 use Rattle.layouts.specs.SkipEntries.{AreSkips, SkipEntry}
@@ -12,7 +13,7 @@ returns-then-not-are_skips-clause-err c =
 pub new-requires : goal.new-requires
 new-requires c =
     let yes : are_skips c.args.recorded.counts c.args.recorded.positions (c.args.doc_freq / 128) 0 c.args.bytes.now ≡ true = search rules in
-    (entries_of (take_entries c.args.recorded.counts c.args.recorded.positions (c.args.doc_freq / 128) c.args.bytes.now), skips_are c.args.recorded.counts c.args.recorded.positions (c.args.doc_freq / 128) c.args.bytes.now (λ i. omega (arith, c.type_inv.bytes i)) yes)
+    merely (entries_of (take_entries c.args.recorded.counts c.args.recorded.positions (c.args.doc_freq / 128) c.args.bytes.now), skips_are c.args.recorded.counts c.args.recorded.positions (c.args.doc_freq / 128) c.args.bytes.now (λ i. omega (arith, c.type_inv.bytes i)) yes)
 
 pub returns-clause-ok : goal.returns-clause-ok
 returns-clause-ok c =
