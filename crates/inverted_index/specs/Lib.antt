@@ -1,0 +1,4 @@
+-- Words of the contracts.
+pub mod TakenTerms
+pub mod Dictionaries
+pub mod Searching

@@ -1,0 +1,10 @@
+//! Inverted indexes, read from their sections: dictionaries of terms, and the postings of each term.
+#![tactic(auto)]
+
+mod term_dictionary;
+mod term_entry;
+mod term_info;
+mod term_start;
+
+pub use term_dictionary::TermDictionary;
+pub use term_info::TermInfo;
