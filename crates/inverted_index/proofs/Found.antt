@@ -1,8 +1,7 @@
 -- What a dictionary finds.
-use Rattle.std.proofs.Common.{[], Bool, List, None, Option, Some, ap, false, find, get_or, if◌then◌else◌, length, map, option_map, subst, sym, true, ◌<◌, ◌≡◌, ◌≤◌, ◌∙◌, ◌∷◌, ℕ}
+use Rattle.std.proofs.Common.{[], List, None, Option, Some, ap, false, find, get_or, if◌then◌else◌, length, map, option_map, sym, true, ◌<◌, ◌≡◌, ◌≤◌, ◌∙◌, ◌∷◌, ℕ}
 use Rattle.std.proofs.Math.Logic.{∥∥₁_elim}
 use Rattle.std.proofs.Props.{props}
-use Rattle.std.specs.Coded.{Unit-prop}
 use Rattle.std.specs.List.{prefix_len}
 use Rattle.std.specs.Prelude.{bytes_eq}
 use Rattle.layouts.specs.TermSections.{TermsAscend}

@@ -1,3 +1,6 @@
 -- Lemmas of the proofs.
 pub mod Ordered
 pub mod Found
+pub mod EntriesTaken
+pub mod TermSteps
+pub mod TermsLoop

@@ -1,11 +1,9 @@
 -- Terms in ascending order: where a key stands among them.
-use Rattle.std.proofs.Common.{[], Bool, List, None, Option, Some, ap, arith, cond, false, find, get_or, if◌then◌else◌, length, map, option_map, refl, subst, suc, sym, true, true≢false, zero, ◌+◌, ◌<◌, ◌≡◌, ◌≤◌, ◌∙◌, ◌∷◌, ◌⊎◌, ℕ}
+use Rattle.std.proofs.Common.{[], Bool, List, None, Option, Some, ap, arith, false, find, get_or, if◌then◌else◌, length, map, refl, suc, sym, true, true≢false, zero, ◌+◌, ◌<◌, ◌≡◌, ◌≤◌, ◌∙◌, ◌∷◌, ℕ}
 use Rattle.std.proofs.Math.Logic.{∥∥₁_elim}
 use Rattle.std.proofs.Props.{props}
 use Rattle.std.proofs.lemmas.List.{length-map}
-use Rattle.std.proofs.lemmas.List.Sums.{prefix_len_passes, prefix_len_stops}
 use Rattle.std.proofs.lemmas.Map.Text.{is_eq-slice_cmp}
-use Rattle.std.specs.Cmp.{IsTotalOrder}
 use Rattle.std.specs.Cmp.Lexicographic.{nat_list_cmp_total, slice_cmp}
 use Rattle.std.specs.List.{AllByRecursion, prefix_len}
 use Rattle.std.specs.List.Sorted.{IsPartitionPoint, IsPartitionedBy}
@@ -23,7 +21,7 @@ use Rattle.inverted_index.specs.declared.term_start.TermStart.{TermStart}
 compare : List ℕ → List ℕ → Ordering
 compare s t = slice_cmp nat_cmp s t
 
-less_from : (o : Ordering) → is_lt o ≡ true → o ≡ Less
+pub less_from : (o : Ordering) → is_lt o ≡ true → o ≡ Less
 less_from Less h = refl
 less_from Equal h = absurd (true≢false (sym h))
 less_from Greater h = absurd (true≢false (sym h))

@@ -1,10 +1,8 @@
 -- Dictionaries: the terms of a field, and where their postings stand.
-use Rattle.std.specs.Prelude.{[], ◌+◌, ◌<◌, ◌^◌, ◌∷◌, Bool, List, Option, drop, false, map, not, ℕ}
-use Rattle.std.specs.Cmp.Lexicographic.{slice_cmp}
+use Rattle.std.specs.Prelude.{◌+◌, ◌<◌, ◌^◌, List, map, ℕ}
 use Rattle.std.specs.List.{AllByRecursion}
-use Rattle.std.specs.Ordering.{nat_cmp}
 use Rattle.layouts.specs.TermSections.{TermLengths, TermsAscend}
-use Rattle.inverted_index.specs.TakenTerms.{Told, entry_at}
+use Rattle.inverted_index.specs.TakenTerms.{entry_at}
 use Rattle.inverted_index.specs.declared.term_info.TermInfo.{TermInfo}
 use Rattle.inverted_index.specs.declared.term_start.TermStart.{TermStart}
 

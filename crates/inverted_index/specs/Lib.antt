@@ -2,3 +2,4 @@
 pub mod TakenTerms
 pub mod Dictionaries
 pub mod Searching
+pub mod TermPlaces

@@ -5,6 +5,7 @@ mod term_dictionary;
 mod term_entry;
 mod term_info;
 mod term_start;
+mod terms_read;
 
 pub use term_dictionary::TermDictionary;
 pub use term_info::TermInfo;

@@ -1,5 +1,4 @@
-use Rattle.std.proofs.Common.{None, Option, Some, ap, false, find, get_or, if◌then◌else◌, option_map, rules, subst, sym, true, ◌≡◌, ◌∙◌}
-use Rattle.std.proofs.Math.Logic.{∥∥₁_elim}
+use Rattle.std.proofs.Common.{Some, ap, false, rules, subst, sym, true, ◌≡◌, ◌∙◌}
 use Rattle.std.specs.Prelude.{bytes_eq}
 use Rattle.inverted_index.proofs.Found.{none_found, other_found, same_found}
 use Rattle.inverted_index.proofs.Ordered.{fits_at}

@@ -1,0 +1,58 @@
+-- Terms as they stand in their section, one after another.
+use Rattle.std.specs.Prelude.{[], ◌++◌, ◌+◌, ◌<◌, ◌^◌, ◌∷◌, ◌≡◌, ◌≤◌, Bool, List, None, Option, Some, drop, flat_map, length, map, true, ℕ}
+use Rattle.std.specs.List.{AllByRecursion}
+use Rattle.layouts.specs.TermSections.{TermsAscend, entry_of_term}
+use Rattle.inverted_index.specs.Searching.{is_below}
+use Rattle.inverted_index.specs.TakenTerms.{Told}
+use Rattle.inverted_index.specs.declared.term_start.TermStart.{TermStart}
+
+-- where the term behind one begins
+abbrev pub behind : TermStart → Told → TermStart
+behind at t = record { entry = at.entry + length (entry_of_term t); postings = at.postings + t.1.postings_len; positions = at.positions + t.1.positions_len }
+
+-- where terms begin that stand one after another, and where the last of them ends
+abbrev pub starts_from : TermStart → List Told → List TermStart
+starts_from at [] = []
+starts_from at (t ∷ ts) = at ∷ starts_from (behind at t) ts
+
+abbrev pub end_of : TermStart → List Told → TermStart
+end_of at [] = at
+end_of at (t ∷ ts) = end_of (behind at t) ts
+
+-- a term that a document has, and whose numbers fit
+pub record EntryFits (t : Told) : Type 0 where
+  pub some : 0 < t.1.doc_freq
+  pub few : t.1.doc_freq < 2 ^ 32
+  pub postings_fit : t.1.postings_len < 2 ^ 64
+  pub positions_fit : t.1.positions_len < 2 ^ 64
+
+-- none, or the key of the term before
+abbrev pub key_before : Option (List ℕ) → List (List ℕ)
+key_before None = []
+key_before (Some key) = key ∷ []
+
+-- terms behind another, which ascend and whose postings end within their sections
+pub record AreTerms (section : List ℕ) (at : TermStart) (postings_len positions_len : ℕ) (before : Option (List ℕ)) (ts : List Told) (rest : List ℕ) : Type 0 where
+  pub spelled : drop at.entry section ≡ flat_map entry_of_term ts ++ rest
+  pub ascend : TermsAscend (key_before before ++ map (λ t. t.0) ts)
+  pub fit : AllByRecursion EntryFits ts
+  pub postings_end : (end_of at ts).postings ≤ postings_len
+  pub positions_end : (end_of at ts).positions ≤ positions_len
+
+-- the same of terms that were read, up to a place
+pub record AreRead (section : List ℕ) (at : TermStart) (postings_len positions_len : ℕ) (before : Option (List ℕ)) (ts : List Told) (end : TermStart) : Type 0 where
+  pub terms : AreTerms section at postings_len positions_len before ts (drop end.entry section)
+  pub end_is : end ≡ end_of at ts
+  pub within : end.entry ≤ length section
+
+-- whether a key stands above the one before, if there is one
+abbrev pub is_above : Option (List ℕ) → List ℕ → Bool
+is_above None key = true
+is_above (Some before) key = is_below key before
+
+-- a term's places end within the sections, at these
+pub record EndsWithin (entry_end : ℕ) (at : TermStart) (t : Told) (postings_len positions_len : ℕ) (end : TermStart) : Type 0 where
+  pub fits : EntryFits t
+  pub end_is : end ≡ record { entry = entry_end; postings = at.postings + t.1.postings_len; positions = at.positions + t.1.positions_len }
+  pub postings_end : at.postings + t.1.postings_len ≤ postings_len
+  pub positions_end : at.positions + t.1.positions_len ≤ positions_len
