@@ -4,3 +4,4 @@ pub mod Found
 pub mod EntriesTaken
 pub mod TermSteps
 pub mod TermsLoop
+pub mod HeadersTaken

@@ -1,7 +1,8 @@
 -- Terms as they stand in their section, one after another.
 use Rattle.std.specs.Prelude.{[], ◌++◌, ◌+◌, ◌<◌, ◌^◌, ◌∷◌, ◌≡◌, ◌≤◌, Bool, List, None, Option, Some, drop, flat_map, length, map, true, ℕ}
 use Rattle.std.specs.List.{AllByRecursion}
-use Rattle.layouts.specs.TermSections.{TermsAscend, entry_of_term}
+use Rattle.definitions.specs.NumberCodes.{u32_bytes, u64_bytes, vint_bytes}
+use Rattle.layouts.specs.TermSections.{FieldTerms, TermsAscend, entry_of_term}
 use Rattle.inverted_index.specs.Searching.{is_below}
 use Rattle.inverted_index.specs.TakenTerms.{Told}
 use Rattle.inverted_index.specs.declared.term_start.TermStart.{TermStart}
@@ -56,3 +57,37 @@ pub record EndsWithin (entry_end : ℕ) (at : TermStart) (t : Told) (postings_le
   pub end_is : end ≡ record { entry = entry_end; postings = at.postings + t.1.postings_len; positions = at.positions + t.1.positions_len }
   pub postings_end : at.postings + t.1.postings_len ≤ postings_len
   pub positions_end : at.positions + t.1.positions_len ≤ positions_len
+
+-- ---- fields
+
+-- a field's number, how many tokens it has and how many terms
+abbrev pub header_bytes : ℕ → ℕ → ℕ → List ℕ
+header_bytes field num_tokens num_terms = u32_bytes field ++ u64_bytes num_tokens ++ vint_bytes num_terms
+
+abbrev pub header_of : FieldTerms → List ℕ
+header_of f = header_bytes f.field f.num_tokens (length f.terms)
+
+-- where a field's terms begin, and where the field ends
+abbrev pub first_in : TermStart → FieldTerms → TermStart
+first_in at f = record { entry = at.entry + length (header_of f); postings = at.postings; positions = at.positions }
+
+abbrev pub field_end : TermStart → FieldTerms → TermStart
+field_end at f = end_of (first_in at f) f.terms
+
+-- a header at a place, and where it ends
+pub record IsHeader (section : List ℕ) (at field num_tokens num_terms end : ℕ) : Type 0 where
+  pub spelled : drop at section ≡ header_bytes field num_tokens num_terms ++ drop end section
+  pub tokens_fit : num_tokens < 2 ^ 64
+  pub terms_fit : num_terms < 2 ^ 64
+  pub end_is : end ≡ at + length (header_bytes field num_tokens num_terms)
+  pub within : end ≤ length section
+
+-- a field at a place, and what follows its terms
+pub record IsField (section : List ℕ) (at : TermStart) (postings_len positions_len : ℕ) (f : FieldTerms) (rest : List ℕ) : Type 0 where
+  pub header : IsHeader section at.entry f.field f.num_tokens (length f.terms) (first_in at f).entry
+  pub terms : AreTerms section (first_in at f) postings_len positions_len None f.terms rest
+
+-- the same of a field that was read, up to a place
+pub record IsReadField (section : List ℕ) (at : TermStart) (postings_len positions_len : ℕ) (f : FieldTerms) (end : TermStart) : Type 0 where
+  pub header : IsHeader section at.entry f.field f.num_tokens (length f.terms) (first_in at f).entry
+  pub read : AreRead section (first_in at f) postings_len positions_len None f.terms end

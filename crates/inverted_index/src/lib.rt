@@ -1,6 +1,7 @@
 //! Inverted indexes, read from their sections: dictionaries of terms, and the postings of each term.
 #![tactic(auto)]
 
+mod field_read;
 mod term_dictionary;
 mod term_entry;
 mod term_info;
