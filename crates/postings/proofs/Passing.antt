@@ -1,8 +1,8 @@
 -- Blocks that are passed.
-use Rattle.std.proofs.Common.{[], Bool, List, None, Option, Some, ap, arith, cond, drop, false, get_or, length, length-append, length-drop, nat_eq, nat_lt, refl, replicate, subst, suc, sum, sym, take, true, zero, ◌*◌, ◌++◌, ◌+◌, ◌-◌, ◌/◌, ◌%◌, ◌<◌, ◌≡◌, ◌≤◌, ◌∙◌, ◌∷◌, ◌^◌, ℕ}
+use Rattle.std.proofs.Common.{[], Bool, List, None, Option, Some, ap, arith, cond, drop, false, get_or, length, length-append, length-drop, length-take, nat_eq, nat_lt, refl, replicate, subst, suc, sum, sym, take, true, zero, ◌*◌, ◌++◌, ◌+◌, ◌-◌, ◌/◌, ◌%◌, ◌<◌, ◌≡◌, ◌≤◌, ◌∙◌, ◌∷◌, ◌^◌, ℕ}
 use Rattle.std.proofs.Math.Seq.{drop-append_seam, take-append_seam}
 use Rattle.std.proofs.lemmas.Bool.Decides.{nat_tests}
-use Rattle.std.proofs.lemmas.List.{drop-drop, drop_all, drop_more, get_or_append_left, length-map, length-replicate}
+use Rattle.std.proofs.lemmas.List.{drop-drop, drop_all, drop_more, get_or-replicate, get_or_append_left, length-map, length-replicate}
 use Rattle.std.proofs.lemmas.List.Sums.{prefix_len-le-length, sum_by-append, sum_by-take-drop}
 use Rattle.definitions.specs.Json.{only_if, ◌>>=◌}
 use Rattle.definitions.specs.Postings.{terminated}
@@ -72,7 +72,7 @@ below_all target (x ∷ xs) ys all =
     ap (λ b. cond b (1 + below target (xs ++ ys)) 0) yes ∙ (let e : 1 + below target (xs ++ ys) ≡ suc (length xs) + below target ys = omega (arith, ih) in e)
 
 -- a document isn't below one
-below_stops : (target i : ℕ) (xs : List ℕ) → i < length xs → target ≤ get_or xs i 0 → below target xs ≤ i
+pub below_stops : (target i : ℕ) (xs : List ℕ) → i < length xs → target ≤ get_or xs i 0 → below target xs ≤ i
 below_stops target i [] within late = absurd (omega arith)
 below_stops target zero (x ∷ xs) within late = (let no : nat_lt x target ≡ false = grind (arith, nat_tests) in let e : below target (x ∷ xs) ≡ 0 = ap (λ b. cond b (1 + below target xs) 0) no in omega (arith, e))
 below_stops target (suc i) (x ∷ xs) within late = go (nat_lt x target) (below_stops target i xs (omega arith) late)
@@ -253,18 +253,6 @@ all_passed reads sums target before s after t bytes k passing late =
 
 -- ---- a place in a block
 
--- a document below another is passed
-pub below_more : (target i : ℕ) (docs : List ℕ) → i < length docs → get_or docs i 0 < target → below target (drop i docs) ≡ 1 + below target (drop (i + 1) docs)
-below_more target i docs within early =
-    let yes : nat_lt (get_or docs i 0) target ≡ true = grind (arith, nat_tests) in
-    ap (below target) (drop_more docs i 0 within) ∙ ap (λ b. cond b (1 + below target (drop (i + 1) docs)) 0) yes
-
--- and at one that isn't the search ends
-pub below_none : (target i : ℕ) (docs : List ℕ) → i < length docs → target ≤ get_or docs i 0 → below target (drop i docs) ≡ 0
-below_none target i docs within late =
-    let no : nat_lt (get_or docs i 0) target ≡ false = grind (arith, nat_tests) in
-    ap (below target) (drop_more docs i 0 within) ∙ ap (λ b. cond b (1 + below target (drop (i + 1) docs)) 0) no
-
 -- what is padded behind a block isn't below
 pub below_padded : (n m target : ℕ) (docs : List ℕ) → target ≤ terminated → below target docs < n → below target (take n docs ++ replicate m terminated) ≡ below target docs
 below_padded zero m target docs small few = absurd (omega (arith, few))
@@ -287,6 +275,40 @@ pub below_held : (target len : ℕ) (docs counts all all_counts : List ℕ) → 
 below_held target len docs counts all all_counts held small few =
     let same : below target docs ≡ below target all = ap (below target) held.docs_are ∙ below_padded 128 (128 - len) target all small few in
     (same, omega (arith, same, few))
+
+not_padding : (m target place : ℕ) → target ≤ terminated → place < length (replicate m terminated) → get_or (replicate m terminated) place 0 < target → ⊥
+not_padding m target place small within early = (let long = length-replicate {A = ℕ} m terminated in let is = get_or-replicate m place terminated 0 (omega (arith, within, long)) in omega (arith, is, small, early))
+
+-- documents that are below one stand before the first that isn't, and what is padded behind them isn't below
+order_padded : (n m low target place : ℕ) (docs : List ℕ) → Ascends low docs → target ≤ terminated → place < length (take n docs ++ replicate m terminated) → get_or (take n docs ++ replicate m terminated) place 0 < target → (low ≤ get_or (take n docs ++ replicate m terminated) place 0) × (place < below target (take n docs ++ replicate m terminated))
+order_padded zero m low target place docs a small within early = absurd (not_padding m target place small within early)
+order_padded (suc n) m low target place [] a small within early = absurd (not_padding m target place small within early)
+order_padded (suc n) m low target zero (d ∷ ds) a small within early =
+    let yes : nat_lt d target ≡ true = grind (arith, nat_tests) in
+    let whole : below target (d ∷ take n ds ++ replicate m terminated) ≡ 1 + below target (take n ds ++ replicate m terminated) = ap (λ b. cond b (1 + below target (take n ds ++ replicate m terminated)) 0) yes in
+    (a.0, omega (arith, whole))
+order_padded (suc n) m low target (suc place) (d ∷ ds) a small within early =
+    let ih = order_padded n m (d + 1) target place ds a.2 small (omega (arith, within)) early in
+    let least = a.0 in
+    let next = ih.0 in
+    let some = ih.1 in
+    let less : d < target = omega (arith, next, early) in
+    let yes : nat_lt d target ≡ true = grind (arith, nat_tests) in
+    let whole : below target (d ∷ take n ds ++ replicate m terminated) ≡ 1 + below target (take n ds ++ replicate m terminated) = ap (λ b. cond b (1 + below target (take n ds ++ replicate m terminated)) 0) yes in
+    (omega (arith, least, next), omega (arith, whole, some))
+
+-- documents of a block that are below one stand before the first that isn't
+pub order_held : (target len : ℕ) (docs counts all all_counts : List ℕ) → IsHeld docs counts len all all_counts → Ascends 0 all → target ≤ terminated → (place : ℕ) → place < 128 → get_or docs place 0 < target → place < below target docs
+order_held target len docs counts all all_counts held ascends small place within early =
+    let same = held.docs_are in
+    let len_is = held.len_is in
+    let long = length-append (take 128 all) (replicate (128 - len) terminated) in
+    let taken = length-take 128 all in
+    let padded = length-replicate {A = ℕ} (128 - len) terminated in
+    let at = ap (λ xs. get_or xs place 0) same in
+    let first = (order_padded 128 (128 - len) 0 target place all ascends small (omega (arith, within, long, taken, padded, len_is)) (omega (arith, at, early))).1 in
+    let whole = ap (below target) same in
+    omega (arith, first, whole)
 
 -- where a block ends before the document, all its documents are below
 pub passes_some : (reads sums : Bool) (target before : ℕ) (s : Skips) (bytes : List ℕ) → StandsIn reads sums before s bytes → last_doc s.left < target → target ≤ terminated → 128 ≤ below target (docs_at before s bytes)

@@ -254,12 +254,18 @@ fn pass_blocks(skips: &mut SkipReader, before: u32, target: DocId) -> u32
 
 /// The place of the first document of a block that isn't below another.
 fn first_from(docs: &[u32; 128], target: DocId) -> usize
-    requires { below target docs.now < 128 }
+    requires within { below target docs.now < 128 }
+    requires order { (place : ℕ) → place < 128 → slice_index docs.now place < target → place < below target docs.now }
     ensures { result ≡ below target docs.now }
 {
     let mut place = 0;
-    while docs[place] < target {
-        place += 1;
+    let mut len = 128;
+    while len > 1 {
+        let half = len / 2;
+        if docs[place + half - 1] < target {
+            place += half;
+        }
+        len -= half;
     }
     place
 }

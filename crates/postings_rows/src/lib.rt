@@ -2,4 +2,6 @@
 #![tactic(auto)]
 
 #[cfg(test)]
+mod cursors;
+#[cfg(test)]
 mod written_postings;

@@ -49,8 +49,8 @@ struct Entry {
 }
 
 /// The skip entries of a term's full blocks, lent from their bytes: the reader stands at a block, and behind
-/// all of them in the rest.
-#[derive(Drop)]
+/// all of them in the rest. A copy of it may go ahead of the block that is decoded.
+#[derive(Clone, Drop)]
 pub struct SkipReader<'a> {
     bytes: &'a [u8],
     recorded: Recorded,

@@ -1,12 +1,15 @@
-use Rattle.std.proofs.Common.{arith}
-use Rattle.postings.proofs.Passing.{below_none}
+use Rattle.std.proofs.Common.{◌+◌, ◌-◌, ◌/◌, arith}
+use Rattle.postings.proofs.Passing.{below_stops}
+use Rattle.postings.proofs.block_segment_postings.first_from.Goals.{else-docs-place, then-docs-place}
 use Rattle.postings.proofs.block_segment_postings.first_from.Goals as goal
 
-pub returns : goal.returns
-returns c =
-    let sum = c.loop-place.invariant in
-    let few = c.requires in
+pub loop-len-preserved : goal.loop-len-preserved
+loop-len-preserved c =
+    let so_far = c.loop-len.invariant in
+    let test = c.loop-len-test.true in
     let long = c.told-docs in
-    let late = c.loop-place-test.false in
-    let none = below_none c.args.target c.loop-place.place c.args.docs.now (omega (arith, sum, few, long)) (omega (arith, late)) in
-    omega (arith, sum, none)
+    let at = c.loop-len.place + c.loop-len.len / 2 - 1 in
+    elim c.if-docs-place.branch [
+      | then-docs-place w ↦ (let is = w.place-is in let next = c.requires.order at (omega (arith, so_far, test)) (omega (arith, w.if-docs-place.true)) in omega (arith, so_far, test, is, next))
+      | else-docs-place w ↦ (let is = w.place-is in let next = below_stops c.args.target at c.args.docs.now (omega (arith, so_far, test, long)) (omega (arith, w.if-docs-place.false)) in omega (arith, so_far, test, is, next))
+    ]

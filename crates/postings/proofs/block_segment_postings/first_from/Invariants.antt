@@ -1,10 +1,10 @@
-use Rattle.std.proofs.Common.{drop, ◌+◌, ◌-◌, ◌≡◌}
+use Rattle.std.proofs.Common.{◌+◌, ◌<◌, ◌≤◌}
 use Rattle.postings.specs.Reading.{below}
 use Rattle.postings.proofs.block_segment_postings.first_from.Given as goal
 
--- those so far are below
-abbrev pub invariant-loop-place : goal.invariant-loop-place
-invariant-loop-place l = l.place + below l.target (drop l.place l.docs) ≡ below l.target l.docs
+-- the place that is sought is among so many
+abbrev pub invariant-loop-len : goal.invariant-loop-len
+invariant-loop-len l = (l.place ≤ below l.fn.target l.fn.docs) × (below l.fn.target l.fn.docs < l.place + l.len) × (l.place + l.len ≤ 128)
 
-abbrev pub decreases-loop-place : goal.decreases-loop-place
-decreases-loop-place l = 128 - l.place
+abbrev pub decreases-loop-len : goal.decreases-loop-len
+decreases-loop-len l = l.len

@@ -1,7 +1,7 @@
-use Rattle.std.proofs.Common.{ap, arith, cond, drop, false, length, length-drop, min, nat_lt, subst, sum, sym, take, true, ◌*◌, ◌/◌, ◌<◌, ◌∙◌, ◌≡◌, ◌≤◌}
+use Rattle.std.proofs.Common.{List, ap, arith, cond, drop, false, length, length-drop, min, nat_lt, subst, sum, sym, take, true, ◌*◌, ◌/◌, ◌<◌, ◌∙◌, ◌≡◌, ◌≤◌, ℕ}
 use Rattle.std.proofs.lemmas.Bool.Decides.{nat_tests}
 use Rattle.postings.proofs.BlockLists.{Ascends-drop}
-use Rattle.postings.proofs.Passing.{room_of, below_held, passes_some, stops_here}
+use Rattle.postings.proofs.Passing.{room_of, below_held, order_held, passes_some, stops_here}
 use Rattle.postings.specs.Reading.{Ascends, HasPassed, below, counts_at, docs_at}
 use Rattle.postings.proofs.block_segment_postings.BlockSegmentPostings.seek.Goals.{After-pass_blocks-self, Then-target-last_doc_in_block}
 use Rattle.postings.proofs.block_segment_postings.BlockSegmentPostings.seek.Goals as goal
@@ -21,7 +21,10 @@ held : (c : Then-target-last_doc_in_block) → (below c.args.target c.args.self.
 held c = below_held c.args.target c.args.self.now.len c.args.self.now.docs c.args.self.now.counts _ _ c.args.self.now.held c.requires (here c)
 
 pub first_from-requires : goal.first_from-requires
-first_from-requires c = (held (goal.at.first_from-requires c).Then-target-last_doc_in_block).1
+first_from-requires c = record {
+  within = (held (goal.at.first_from-requires c).Then-target-last_doc_in_block).1;
+  order = order_held c.args.target c.args.self.now.len c.args.self.now.docs c.args.self.now.counts _ _ c.args.self.now.held c.args.self.now.ascends c.requires;
+}
 
 pub returns-then-target-last_doc_in_block-clause-docs : goal.returns-then-target-last_doc_in_block-clause-docs
 returns-then-target-last_doc_in_block-clause-docs c = ap (λ k. drop (128 * k) (docs_at c.args.self.now.before c.args.self.now.skips c.args.self.now.bytes.now)) (none (goal.at.returns-then-target-last_doc_in_block-clause-docs c).Then-target-last_doc_in_block)
@@ -61,6 +64,9 @@ more c =
     let early = c.if-target-last_doc_in_block.false in
     passes_some c.args.self.now.reads_counts c.args.self.now.reads_positions c.args.target c.args.self.now.before c.args.self.now.skips c.args.self.now.bytes.now c.args.self.now.stands (omega (arith, last, early)) c.requires
 
+ascends_on : (k : ℕ) (all left : List ℕ) → left ≡ drop (128 * k) all → Ascends 0 all → Ascends 0 left
+ascends_on k all left cut ascends = subst (λ xs. Ascends 0 xs) (sym cut) (Ascends-drop (128 * k) 0 all ascends)
+
 pub invariant_of-self : goal.invariant_of-self
 invariant_of-self c =
     let on = passed (goal.at.invariant_of-self c).After-pass_blocks-self in
@@ -76,7 +82,7 @@ invariant_of-self c =
     record {
       stands = on.stands;
       held = held;
-      ascends = subst (λ xs. Ascends 0 xs) (sym on.docs) (Ascends-drop (128 * k) 0 all c.args.self.now.ascends);
+      ascends = ascends_on k all _ on.docs c.args.self.now.ascends;
       few = omega (arith, few, long, len, one, cut, some);
     }
 
@@ -84,7 +90,13 @@ held_then : (c : After-pass_blocks-self) → below c.args.target (docs_at c.pass
 held_then c = (let place = (passed c).place in omega (arith, place))
 
 pub first_from-requires-2 : goal.first_from-requires-2
-first_from-requires-2 c = (below_held c.args.target c.decode_block-self.result c.decode_block-self.new.docs c.decode_block-self.new.counts _ _ c.decode_block-self.ensures c.requires (held_then (goal.at.first_from-requires-2 c).After-pass_blocks-self)).1
+first_from-requires-2 c =
+    let on = passed (goal.at.first_from-requires-2 c).After-pass_blocks-self in
+    let all = docs_at c.args.self.now.before c.args.self.now.skips c.args.self.now.bytes.now in
+    record {
+      within = (below_held c.args.target c.decode_block-self.result c.decode_block-self.new.docs c.decode_block-self.new.counts _ _ c.decode_block-self.ensures c.requires (held_then (goal.at.first_from-requires-2 c).After-pass_blocks-self)).1;
+      order = order_held c.args.target c.decode_block-self.result c.decode_block-self.new.docs c.decode_block-self.new.counts _ _ c.decode_block-self.ensures (ascends_on (below c.args.target all / 128) all _ on.docs c.args.self.now.ascends) c.requires;
+    }
 
 pub returns-clause-place : goal.returns-clause-place
 returns-clause-place c =

@@ -1,0 +1,135 @@
+//! `postings_bench`: how long a step of a cursor over postings takes.
+//!
+//! With an argument it prints a table in nanoseconds; without one it does nothing.
+#![tactic(auto)]
+
+mod terms;
+
+ghost use Rattle.std.specs.Prelude.{◌≤◌, List, true, false, ℕ};
+ghost use Rattle.postings.specs.Reading.{HasPostings};
+
+use crate::terms::{opened, written};
+use common::TERMINATED;
+use postings::{DocSet, Postings};
+use std::alloc::Global;
+use std::io;
+use std::process::ExitCode;
+use std::time::{Clock, Instant};
+
+/// How far the targets of seeks are from one another.
+const STEP: u32 = 20000;
+
+/// The best of so many runs is told.
+const RUNS: u32 = 60;
+
+/// What is measured.
+#[derive(Clone, Copy)]
+enum Work {
+    Walk,
+    Seeks,
+    PlainWalk,
+}
+
+fn main(rt: HostRuntime) -> ExitCode {
+    if !has_argument(&rt) {
+        return ExitCode::SUCCESS;
+    }
+    match measure(&rt, rt.alloc()) {
+        Ok(()) => ExitCode::SUCCESS,
+        Err(_) => ExitCode::FAILURE,
+    }
+}
+
+/// Whether the program was started with an argument.
+fn has_argument(rt: &(impl Alloc + std::rt::Env)) -> bool {
+    match std::env::args(rt) {
+        Ok(args) => args.count() > 1,
+        Err(_) => false,
+    }
+}
+
+/// Prints a row for each term.
+fn measure(rt: &HostRuntime, alloc: Global) -> io::Result<()> {
+    println!(rt; "| postings | bytes | walk, ps each | plain list, ps each | seeks | ns each |")?;
+    println!(rt; "|---|---|---|---|---|---|")?;
+    row(rt, alloc, 24064)?;
+    row(rt, alloc, 1000000)
+}
+
+/// Prints what a term of so many documents takes.
+fn row(rt: &HostRuntime, alloc: Global, num_docs: u32) -> io::Result<()>
+    requires { num_docs ≤ 1000000 }
+{
+    let mut plain = Vec::new(alloc);
+    let Ok(bytes) = written(alloc, &mut plain, num_docs) else {
+        return Ok(());
+    };
+    let (walk, seen) = best(rt, &bytes, &plain, num_docs, Work::Walk)?;
+    let (list, same) = best(rt, &bytes, &plain, num_docs, Work::PlainWalk)?;
+    let (seeks, count) = best(rt, &bytes, &plain, num_docs, Work::Seeks)?;
+    let len = bytes.len();
+    let step = walk.saturating_mul(1000) / u128::from(num_docs.max(1));
+    let plain_step = list.saturating_mul(1000) / u128::from(num_docs.max(1));
+    let seek = seeks / u128::from(count.max(1));
+    println!(rt; "| {num_docs} | {len} | {step} | {plain_step} | {count} | {seek} |")?;
+    if seen != same {
+        println!(rt; "(the walks differ)")?;
+    }
+    Ok(())
+}
+
+/// The nanoseconds of the best run, and what it saw.
+fn best(
+    clock: &impl Clock,
+    bytes: &[u8],
+    plain: &[(u32, u32)],
+    num_docs: u32,
+    work: Work,
+) -> io::Result<(u128, u64)>
+    requires { (docs counts : List ℕ) × HasPostings true false num_docs bytes.now docs counts }
+{
+    let mut best = u128::MAX;
+    let mut seen = 0;
+    for _ in 0..RUNS {
+        let start = Instant::now(clock)?;
+        seen = match work {
+            Work::Walk => walk(&mut opened(bytes, num_docs)),
+            Work::Seeks => seeks(&mut opened(bytes, num_docs)),
+            Work::PlainWalk => plain_walk(plain),
+        };
+        best = best.min(start.elapsed(clock)?.as_nanos());
+    }
+    Ok((best, seen))
+}
+
+/// Goes over all documents with their counts.
+fn walk<P: Postings>(postings: &mut P) -> u64 {
+    let mut seen = 0u64;
+    let mut doc = postings.doc();
+    while doc < TERMINATED {
+        seen = seen.wrapping_add(u64::from(doc ^ postings.term_freq()));
+        doc = postings.advance();
+    }
+    seen
+}
+
+/// Seeks in steps; answers how many seeks there were.
+fn seeks<D: DocSet>(postings: &mut D) -> u64 {
+    for count in 0..1000000 {
+        let doc = postings.doc();
+        if doc >= TERMINATED {
+            return count;
+        }
+        postings.seek(doc.saturating_add(STEP).min(TERMINATED));
+    }
+    0
+}
+
+/// Goes over the plain list.
+fn plain_walk(plain: &[(u32, u32)]) -> u64 {
+    let mut seen = 0u64;
+    for (doc, count) in plain {
+        seen = seen.wrapping_add(u64::from(*doc ^ *count));
+    }
+    seen
+}

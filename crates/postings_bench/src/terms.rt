@@ -1,0 +1,65 @@
+//! Terms to walk over: each document some 50 behind the one before, with a count of 1 to 4.
+
+ghost use Rattle.std.specs.Prelude.{[], ◌<◌, ◌≡◌, ◌≤◌, IfOk, List, None, OnOk, false, length, true, ℕ};
+ghost use Rattle.postings.specs.Reading.{HasPostings};
+ghost use Rattle.postings.specs.TermWriting.{AreWritten};
+
+use definitions::Fault;
+use options::IndexRecordOption;
+use postings::{PostingsSerializer, SegmentPostings};
+use skips::Recorded;
+use std::alloc::Global;
+
+/// Numbers without order.
+fn next_state(state: u32) -> u32 {
+    state.wrapping_mul(1664525).wrapping_add(1013904223)
+}
+
+/// Adds documents, and to the plain list each with its count.
+fn write_docs(
+    serializer: &mut PostingsSerializer,
+    plain: &mut Vec<(u32, u32)>,
+    num_docs: u32,
+) -> Result<(), Fault>
+    requires few { num_docs ≤ 1000000 }
+    requires next { serializer.old.next ≡ 0 }
+    requires lengths { serializer.old.norms ≡ None }
+    requires nothing { AreWritten serializer.old [] [] }
+    ensures written { OnOk result ((docs counts : List ℕ) × AreWritten serializer.new docs counts × (length docs ≡ num_docs)) }
+    ensures same { OnOk result ((serializer.new.option ≡ serializer.old.option) × (serializer.new.norms ≡ None)) }
+{
+    let mut state = 7u32;
+    let mut next = 0;
+    for place in 0..num_docs {
+        state = next_state(state ^ place);
+        let doc = next + (state >> 8) % 99;
+        let count = 1 + (state >> 20) % 4;
+        serializer.write_doc(doc, count)?;
+        plain.push((doc, count))?;
+        next = doc + 1;
+    }
+    Ok(())
+}
+
+/// The bytes of a term of so many documents, which go into the plain list as well.
+pub fn written(alloc: Global, plain: &mut Vec<(u32, u32)>, num_docs: u32) -> Result<Vec<u8>, Fault>
+    requires { num_docs ≤ 1000000 }
+    ensures { IfOk result (λ bytes. (docs counts : List ℕ) × HasPostings true false num_docs bytes.items docs counts) }
+{
+    let mut serializer = PostingsSerializer::new(alloc, IndexRecordOption::WithFreqs, None);
+    let mut bytes = Vec::new(alloc);
+    write_docs(&mut serializer, plain, num_docs)?;
+    serializer.close_term(num_docs, &mut bytes)?;
+    Ok(bytes)
+}
+
+/// The cursor at its first document.
+pub fn opened(bytes: &[u8], num_docs: u32) -> SegmentPostings<'_>
+    requires { (docs counts : List ℕ) × HasPostings true false num_docs bytes.now docs counts }
+{
+    let recorded = Recorded {
+        counts: true,
+        positions: false,
+    };
+    SegmentPostings::new(bytes, num_docs, recorded, true)
+}
