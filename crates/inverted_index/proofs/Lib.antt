@@ -5,3 +5,4 @@ pub mod EntriesTaken
 pub mod TermSteps
 pub mod TermsLoop
 pub mod HeadersTaken
+pub mod FieldsLoop

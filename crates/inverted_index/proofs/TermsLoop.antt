@@ -31,13 +31,13 @@ first_ascends : (before : Option (List ℕ)) (key : List ℕ) (more : List (List
 first_ascends None key more a = tt
 first_ascends (Some b) key more a = (a.0, tt)
 
-rest_ascends : (before : Option (List ℕ)) (key : List ℕ) (more : List (List ℕ)) → TermsAscend (key_before before ++ key ∷ more) → TermsAscend (key ∷ more)
+pub rest_ascends : (before : Option (List ℕ)) (key : List ℕ) (more : List (List ℕ)) → TermsAscend (key_before before ++ key ∷ more) → TermsAscend (key ∷ more)
 rest_ascends None key more a = a
 rest_ascends (Some b) key more a = a.1
 
 -- ---- places
 
-ends_grow : (at : TermStart) (ts : List Told) → (at.postings ≤ (end_of at ts).postings) × (at.positions ≤ (end_of at ts).positions)
+pub ends_grow : (at : TermStart) (ts : List Told) → (at.postings ≤ (end_of at ts).postings) × (at.positions ≤ (end_of at ts).positions)
 ends_grow at [] = (omega arith, omega arith)
 ends_grow at (t ∷ ts) = (let later = ends_grow (behind at t) ts in (omega (arith, later.0), omega (arith, later.1)))
 
@@ -74,7 +74,7 @@ nothing_read section at p q n within first second = record {
 }
 
 -- the first of several terms
-first_alone : (section : List ℕ) (at : TermStart) (p q : ℕ) (before : Option (List ℕ)) (t : Told) (ts : List Told) (rest : List ℕ) → AreTerms section at p q before (t ∷ ts) rest → AreTerms section at p q before (t ∷ []) (flat_map entry_of_term ts ++ rest)
+pub first_alone : (section : List ℕ) (at : TermStart) (p q : ℕ) (before : Option (List ℕ)) (t : Told) (ts : List Told) (rest : List ℕ) → AreTerms section at p q before (t ∷ ts) rest → AreTerms section at p q before (t ∷ []) (flat_map entry_of_term ts ++ rest)
 first_alone section at p q before t ts rest terms =
     let grow = ends_grow (behind at t) ts in
     let first = terms.postings_end in

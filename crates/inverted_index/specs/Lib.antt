@@ -3,3 +3,4 @@ pub mod TakenTerms
 pub mod Dictionaries
 pub mod Searching
 pub mod TermPlaces
+pub mod ToldFields

@@ -1,5 +1,5 @@
 -- Terms as they stand in their section, one after another.
-use Rattle.std.specs.Prelude.{[], ◌++◌, ◌+◌, ◌<◌, ◌^◌, ◌∷◌, ◌≡◌, ◌≤◌, Bool, List, None, Option, Some, drop, flat_map, length, map, true, ℕ}
+use Rattle.std.specs.Prelude.{[], ⊤, ◌++◌, ◌+◌, ◌<◌, ◌^◌, ◌∷◌, ◌≡◌, ◌≤◌, Bool, List, None, Option, Some, drop, flat_map, length, map, slice_get, true, ℕ}
 use Rattle.std.specs.List.{AllByRecursion}
 use Rattle.definitions.specs.NumberCodes.{u32_bytes, u64_bytes, vint_bytes}
 use Rattle.layouts.specs.TermSections.{FieldTerms, TermsAscend, entry_of_term}
@@ -91,3 +91,24 @@ pub record IsField (section : List ℕ) (at : TermStart) (postings_len positions
 pub record IsReadField (section : List ℕ) (at : TermStart) (postings_len positions_len : ℕ) (f : FieldTerms) (end : TermStart) : Type 0 where
   pub header : IsHeader section at.entry f.field f.num_tokens (length f.terms) (first_in at f).entry
   pub read : AreRead section (first_in at f) postings_len positions_len None f.terms end
+
+-- where the last of fields that stand one after another ends
+abbrev pub fields_end : TermStart → List FieldTerms → TermStart
+fields_end at [] = at
+fields_end at (f ∷ fs) = fields_end (field_end at f) fs
+
+-- fields that stand one after another
+abbrev pub AreFields : List ℕ → TermStart → ℕ → ℕ → List FieldTerms → Type 0
+AreFields section at p q [] = ⊤
+AreFields section at p q (f ∷ fs) = IsReadField section at p q f (field_end at f) × AreFields section (field_end at f) p q fs
+
+-- the first byte tells the kind of dictionary, and the fields begin behind it
+abbrev pub fields_start : TermStart
+fields_start = record { entry = 1; postings = 0; positions = 0 }
+
+-- a section with these fields, whose postings and positions have so many bytes
+pub record IsSection (section : List ℕ) (postings_len positions_len : ℕ) (numbers : List ℕ) (fs : List FieldTerms) : Type 0 where
+  pub kind : slice_get section 0 ≡ Some 0
+  pub names : map (λ (f : FieldTerms). f.field) fs ≡ numbers
+  pub fields : AreFields section fields_start postings_len positions_len fs
+  pub ends : fields_end fields_start fs ≡ record { entry = length section; postings = postings_len; positions = positions_len }
