@@ -3,6 +3,7 @@
 pub mod alive_sets;
 pub mod document_bytes;
 pub mod field_norms;
+pub mod inverted_indexes;
 pub mod packed_blocks;
 pub mod positions;
 pub mod record_bodies;
