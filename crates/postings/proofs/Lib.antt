@@ -12,3 +12,4 @@ pub mod PlacedEntries
 pub mod WaitingBlocks
 pub mod WrittenPostings
 pub mod ClosedTerms
+pub mod BoundedCounts

@@ -1,5 +1,5 @@
 -- Entries with the positions of their documents.
-use Rattle.std.proofs.Common.{[], List, ap, ap₂, arith, drop, get_or, length, length-append, map, min, refl, subst, suc, sum, sym, take, zero, ◌++◌, ◌+◌, ◌-◌, ◌<◌, ◌≡◌, ◌≤◌, ◌∙◌, ◌∷◌, ◌^◌, ℕ}
+use Rattle.std.proofs.Common.{[], List, ap, ap₂, arith, drop, get_or, length, length-append, map, refl, subst, suc, sum, sym, take, zero, ◌++◌, ◌+◌, ◌-◌, ◌≡◌, ◌≤◌, ◌∙◌, ◌∷◌, ℕ}
 use Rattle.std.proofs.Math.Seq.{drop-append_seam, take-append_seam}
 use Rattle.std.proofs.lemmas.List.Sums.{sum_by-cons}
 use Rattle.std.specs.List.{AllByRecursion}
@@ -74,16 +74,9 @@ opened_entries offset all all_counts numbers docs counts lists docs_are counts_a
     ∙ (ap (λ ns. entries_of docs counts ns) has.whole
     ∙ subst (λ cs. entries_of docs cs (position_numbers lists) ≡ term_entries docs cs lists) has.counted (entries_placed docs lists (omega (arith, count, same)) has.placed)))
 
-pub opened_most : (counts numbers docs : List ℕ) (lists : List (List ℕ)) (most : ℕ) → HasPositions counts lists numbers → ((i : ℕ) → get_or counts i 0 < 2 ^ 32) → most ≡ min (length numbers) 4294967295 → most_positions (term_entries docs counts lists) ≤ most
-opened_most counts numbers docs lists most has fit is = most_entries docs counts lists most few
-  where
-    few : (i : ℕ) → get_or (map length lists) i 0 ≤ most
-    few i =
-        let total = ap length has.whole ∙ count_of_numbers lists in
-        let small = below_sum (map length lists) i in
-        let same = ap (λ cs. get_or cs i 0) has.counted in
-        let h = fit i in
-        omega (arith, is, total, small, same, h)
+-- there are as many positions as the counts say
+pub all_positions : (counts numbers : List ℕ) (lists : List (List ℕ)) → HasPositions counts lists numbers → length numbers ≡ sum counts
+all_positions counts numbers lists has = ap length has.whole ∙ count_of_numbers lists ∙ ap sum has.counted
 
 pub opened_room : (offset : ℕ) (all_counts numbers counts : List ℕ) (lists : List (List ℕ)) → all_counts ≡ counts → offset ≡ 0 → HasPositions counts lists numbers → offset + sum all_counts ≤ length numbers
 opened_room offset all_counts numbers counts lists counts_are begins has =

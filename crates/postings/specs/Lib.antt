@@ -7,6 +7,7 @@ pub mod Reading
 pub mod ReadingLaws
 pub mod TermEntries
 pub mod TermEntryLaws
+pub mod CountBounds
 pub mod Cursors
 pub mod TermWriting
 pub mod FieldWriting

@@ -2,10 +2,13 @@
 
 ghost use Rattle.std.specs.Prelude.{[], ◌%◌, ◌*◌, ◌+◌, ◌/◌, ◌<◌, ◌≡◌, ◌≤◌, Bool, IsSome, List, Some, drop, if◌then◌else◌, length, min, nat_lt, replicate, slice_index, slice_index_or, sum, take, true, ℕ};
 ghost use Rattle.definitions.specs.NumberCodes.{take_bytes};
+ghost use Rattle.layouts.specs.TermPostings.{skip_entries};
+ghost use Rattle.postings.specs.CountBounds.{TellCounts};
 ghost use Rattle.postings.specs.Reading.{Ascends, HasPassed, HasPostings, IsHeld, StandsIn, below, counts_at, docs_at};
 ghost use Rattle.postings.specs.ReadingLaws.{Ascends-prop, StandsIn-prop};
 
 use crate::decoding::decode_block;
+use crate::greatest_count::greatest_count;
 use codes::BlockDecoder;
 use common::{DocId, take_bytes};
 use skips::{Recorded, SkipReader};
@@ -66,6 +69,7 @@ impl<'a> BlockSegmentPostings<'a> {
         ensures doc_freq { result.doc_freq ≡ doc_freq }
         ensures offset { result.skips.position_offset ≡ 0 }
         ensures reads { (result.reads_counts ≡ reads_counts) × (result.reads_positions ≡ reads_positions) }
+        ensures entries { (docs counts : List ℕ) (known : HasPostings recorded.counts recorded.positions doc_freq bytes.now docs counts) → result.skips.left ≡ skip_entries known.option known.ids (length docs / 128) 0 docs counts }
     {
         let (entries, blocks) = split_entries(bytes, doc_freq);
         let skips = SkipReader::new(entries, doc_freq, recorded);
@@ -87,6 +91,7 @@ impl<'a> BlockSegmentPostings<'a> {
         ensures doc_freq { result.doc_freq ≡ doc_freq }
         ensures reads { (result.reads_counts ≡ reads_counts) × (result.reads_positions ≡ reads_positions) }
         ensures offset { result.skips.position_offset ≡ skips.entry.position_offset }
+        ensures entries { result.skips.left ≡ skips.entry.left }
     {
         let mut decoder = BlockDecoder::with_val(0);
         let mut docs = [0; 128];
@@ -166,6 +171,13 @@ impl<'a> BlockSegmentPostings<'a> {
         ensures { result ≡ self.now.skips.position_offset + sum (take place (counts_left self.now)) }
     {
         self.skips.position_offset() + sum_of(&self.counts[..place])
+    }
+
+    /// A number that no count from the block on is above, where there are so many positions in all.
+    pub(crate) fn greatest_count(&self, num_positions: u128) -> u32
+        ensures { (counts : List ℕ) → TellCounts num_positions self.now.skips counts → (i : ℕ) → slice_index counts i ≤ result }
+    {
+        greatest_count(self.skips.copied(), num_positions)
     }
 
     /// How many blocks with documents were decoded, the first among them.

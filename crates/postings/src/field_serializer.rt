@@ -68,7 +68,7 @@ impl<'a> FieldSerializer<'a> {
         requires some { IsTrue (has_freq self.old.writing.option) → 0 < term_freq }
         requires positions { (i : ℕ) → slice_index position_deltas.now i < 2 ^ 31 }
         ensures written { (docs counts numbers : List ℕ) → IsOpen self.old docs counts numbers → OnOk result (IsOpen self.new (docs ++ doc ∷ []) (counts ++ recorded_count self.old.writing.option term_freq ∷ []) (numbers ++ position_deltas.now)) }
-        ensures same { OnOk result ((self.new.field ≡ self.old.field) × (self.new.num_tokens ≡ self.old.num_tokens) × (self.new.terms ≡ self.old.terms) × (self.new.postings ≡ self.old.postings) × (self.new.key ≡ self.old.key) × (self.new.writing.mode ≡ self.old.writing.mode) × (self.new.writing.option ≡ self.old.writing.option) × (self.new.writing.norms ≡ self.old.writing.norms) × (self.new.writing.next ≡ doc + 1)) }
+        ensures same { OnOk result ((self.new.field ≡ self.old.field) × (self.new.num_tokens ≡ self.old.num_tokens) × (self.new.terms ≡ self.old.terms) × (self.new.postings ≡ self.old.postings) × (self.new.key ≡ self.old.key) × (self.new.writing.mode ≡ self.old.writing.mode) × (self.new.writing.option ≡ self.old.writing.option) × (self.new.writing.norms ≡ self.old.writing.norms) × (self.new.writing.next ≡ doc + 1) × (self.new.positions.0 ≡ self.old.positions.0)) }
         ensures err { IfErr result (λ fault. IsRefusal fault (passes_sum (self.old.writing.waiting.counts ++ recorded_count self.old.writing.option term_freq ∷ []))) }
     {
         self.postings_serializer.write_doc(doc, term_freq)?;

@@ -7,6 +7,7 @@ mod block_writer;
 mod decoding;
 mod doc_set;
 mod field_serializer;
+mod greatest_count;
 mod inverted_index_serializer;
 mod position_lists;
 pub mod posting_laws;

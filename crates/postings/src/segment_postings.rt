@@ -81,9 +81,10 @@ impl<'a> SegmentPostings<'a> {
         ensures doc_freq { result.blocks.doc_freq ≡ doc_freq }
     {
         let mut positions = positions;
-        let most = positions.num_positions().min(4294967295) as usize;
+        let blocks = BlockSegmentPostings::new(bytes, doc_freq, recorded, true, true);
+        let most = blocks.greatest_count(positions.num_positions()) as usize;
         SegmentPostings {
-            blocks: BlockSegmentPostings::new(bytes, doc_freq, recorded, true, true),
+            blocks,
             cur: 0,
             positions: Some(positions),
             most,

@@ -2,6 +2,8 @@
 #![tactic(auto)]
 
 #[cfg(test)]
+mod checked_terms;
+#[cfg(test)]
 mod cursors;
 #[cfg(test)]
 mod written_postings;

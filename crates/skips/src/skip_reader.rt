@@ -49,8 +49,8 @@ struct Entry {
 }
 
 /// The skip entries of a term's full blocks, lent from their bytes: the reader stands at a block, and behind
-/// all of them in the rest. A copy of it may go ahead of the block that is decoded.
-#[derive(Clone, Drop)]
+/// all of them in the rest.
+#[derive(Drop)]
 pub struct SkipReader<'a> {
     bytes: &'a [u8],
     recorded: Recorded,
@@ -96,6 +96,20 @@ impl<'a> SkipReader<'a> {
             return Err(Fault::Damaged(None));
         }
         Ok(SkipReader::new(bytes, doc_freq, recorded))
+    }
+
+    /// Another reader at the same block, which may go ahead of this one.
+    pub fn copied(&self) -> SkipReader<'a>
+        ensures { result ≡ self.now }
+    {
+        SkipReader {
+            bytes: self.bytes,
+            recorded: self.recorded,
+            blocks: self.blocks,
+            rest: self.rest,
+            byte_offset: self.byte_offset,
+            position_offset: self.position_offset,
+        }
     }
 
     /// Stands at the first block of another term with the same recorded.

@@ -46,3 +46,6 @@ returns-clause-decoded c = ∥∥₁_elim c.requires.known (Coded-set coded_ℕ 
 
 pub returns-clause-offset : goal.returns-clause-offset
 returns-clause-offset c = ∥∥₁_elim c.requires.known (Coded-set coded_ℕ _ _) (λ k. c.begin.ensures.offset ∙ ap (λ (s : Skips). s.position_offset) (begins (goal.at.returns-clause-offset c).After-new-skips k.0 k.1 k.2 (parts (goal.at.returns-clause-offset c).After-split_entries k.0 k.1 k.2)))
+
+pub returns-clause-entries : goal.returns-clause-entries
+returns-clause-entries c = λ docs counts h. c.begin.ensures.entries ∙ ap (λ (s : Skips). s.left) (begins (goal.at.returns-clause-entries c).After-new-skips docs counts h (parts (goal.at.returns-clause-entries c).After-split_entries docs counts h))

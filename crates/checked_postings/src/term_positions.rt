@@ -1,0 +1,125 @@
+//! The positions of a term, checked.
+
+ghost use Rattle.std.specs.Prelude.{IfErr, IfNone, IfOk, IfSome, IsTrue, List, None, OnOk, ℕ, ◌+◌, ◌<◌, ◌^◌, ◌≡◌, ◌≤◌, ◌↔◌, drop, length, sum, take, true};
+ghost use Rattle.checked_postings.specs.Placed.{AreBounded, HasNumbers};
+ghost use Rattle.definitions.specs.declared.fault.Fault.TheVariants as faults;
+ghost use Rattle.postings.specs.Cursors.{counts_left, docs_left};
+ghost use Rattle.postings.specs.Reading.{HasPostings};
+
+use codes::PositionReader;
+use definitions::Fault;
+use postings::BlockSegmentPostings;
+use skips::Recorded;
+
+/// Checks the positions of a term whose postings are known, with the sum of its counts.
+pub(crate) fn check_positions(
+    postings: &[u8],
+    positions: &[u8],
+    doc_freq: u32,
+    total: u64,
+) -> Result<(), Fault>
+    requires { ∥ ((docs counts : List ℕ) × HasPostings true true doc_freq postings.now docs counts × (total ≡ sum counts)) ∥₁ }
+    ensures ok { OnOk result ((docs counts : List ℕ) → HasPostings true true doc_freq postings.now docs counts → HasNumbers counts positions.now) }
+    ensures err { IfErr result (λ fault. (fault ≡ faults.Damaged None) × ((docs counts : List ℕ) → HasPostings true true doc_freq postings.now docs counts → HasNumbers counts positions.now → ⊥)) }
+{
+    let mut reader = PositionReader::open(positions)?;
+    let recorded = Recorded {
+        counts: true,
+        positions: true,
+    };
+    let mut blocks = BlockSegmentPostings::new(postings, doc_freq, recorded, true, false);
+    if reader.num_positions() != total as u128 {
+        return Err(Fault::Damaged(None));
+    }
+    if !are_bounded(&mut blocks, &mut reader) {
+        return Err(Fault::Damaged(None));
+    }
+    Ok(())
+}
+
+/// Whether each document's positions are below 2^31, where there are as many as the counts say.
+fn are_bounded(blocks: &mut BlockSegmentPostings, reader: &mut PositionReader) -> bool
+    requires same { length (counts_left blocks.old) ≡ length (docs_left blocks.old) }
+    requires many { sum (counts_left blocks.old) ≡ length reader.old }
+    requires few { sum (counts_left blocks.old) < 2 ^ 64 }
+    ensures { IsTrue result ↔ AreBounded (counts_left blocks.old) reader.old }
+{
+    let mut place = 0;
+    let mut room = [0; 128];
+    while blocks.block_len() > 0 {
+        match bounded_end(blocks.freqs(), reader, place, &mut room) {
+            Some(end) => place = end,
+            None => return false,
+        }
+        blocks.advance();
+    }
+    true
+}
+
+/// Where the positions of documents end that begin at a place, where each document's are below 2^31.
+fn bounded_end(
+    counts: &[u32],
+    reader: &mut PositionReader,
+    place: u64,
+    room: &mut [u32; 128],
+) -> Option<u64>
+    requires within { place + sum counts.now ≤ length reader.old }
+    requires few { place + sum counts.now < 2 ^ 64 }
+    ensures some { IfSome result (λ end. AreBounded counts.now (drop place reader.old) × (end ≡ place + sum counts.now)) }
+    ensures none { IfNone result (AreBounded counts.now (drop place reader.old) → ⊥) }
+    ensures same { reader.new ≡ reader.old }
+{
+    let mut end = place;
+    for count in counts {
+        if !is_bounded(reader, end, *count, room) {
+            return None;
+        }
+        end += u64::from(*count);
+    }
+    Some(end)
+}
+
+/// Whether the sum of so many numbers from a place on is below 2^31.
+fn is_bounded(reader: &mut PositionReader, place: u64, count: u32, room: &mut [u32; 128]) -> bool
+    requires within { place + count ≤ length reader.old }
+    requires few { place + count < 2 ^ 64 }
+    ensures value { IsTrue result ↔ (sum (take count (drop place reader.old)) < 2 ^ 31) }
+    ensures same { reader.new ≡ reader.old }
+{
+    let mut done: u32 = 0;
+    let mut total: u64 = 0;
+    while done < count {
+        let len = (count - done).min(128);
+        total += sum_at(reader, place + u64::from(done), len as usize, room);
+        if total >= 1 << 31 {
+            return false;
+        }
+        done += len;
+    }
+    true
+}
+
+/// The sum of so many numbers from a place on.
+fn sum_at(reader: &mut PositionReader, place: u64, len: usize, room: &mut [u32; 128]) -> u64
+    requires few { len ≤ 128 }
+    requires within { place + len ≤ length reader.old }
+    ensures value { result ≡ sum (take len (drop place reader.old)) }
+    ensures small { result ≤ 549755813760 }
+    ensures same { reader.new ≡ reader.old }
+{
+    reader.read(place, &mut room[..len]);
+    sum_of(&room[..len])
+}
+
+/// The sum of at most 128 numbers.
+fn sum_of(numbers: &[u32]) -> u64
+    requires { length numbers.now ≤ 128 }
+    ensures value { result ≡ sum numbers.now }
+    ensures small { result ≤ 549755813760 }
+{
+    let mut total = 0;
+    for number in numbers {
+        total += u64::from(*number);
+    }
+    total
+}

@@ -1,0 +1,52 @@
+-- Recorders of places as postings, and what is recorded of a term by its value bytes.
+use Rattle.std.proofs.Common.{[], ◌<◌, ◌^◌, ◌≡◌, ◌∙◌, ◌∷◌, Bool, List, None, Some, ap, cond, false, length, map, refl, slice_get, true, ℕ}
+use Rattle.std.specs.Option.{option_map_or}
+use Rattle.definitions.specs.Schema.{Entry, IndexRecordOption, Kind, Schema, basic, bool_kind, bytes_kind, date_kind, facet_kind, i64_kind, ip_addr_kind, is_text, json_kind, text_kind, u64_kind, with_freqs, with_freqs_and_positions}
+use Rattle.definitions.specs.Terms.{field_of, is_text_term, term_bytes}
+use Rattle.layouts.specs.InvertedIndexes.{option_of_term}
+use Rattle.postings_writer.specs.Fields.{is_text_key, option_of_key}
+use Rattle.postings_writer.specs.Occurrences.{by_document, posting_in, postings_at}
+use Rattle.postings_writer.specs.Recorders.{recorded_as}
+use Rattle.postings_writer.specs.Serializing.{of_count, of_doc, postings_from}
+use Rattle.postings_writer.proofs.Standing.{field_of-term}
+
+-- the recorder of places stands for their postings
+pub recorded_postings : (option : IndexRecordOption) (ps : List (ℕ × ℕ)) → postings_from (recorded_as option ps) 0 ≡ postings_at option ps
+recorded_postings basic ps = go (by_document ps)
+  where
+    go : (gs : List (ℕ × List ℕ)) → map of_doc (map (λ g. g.0) gs) ≡ map (posting_in basic) gs
+    go [] = refl
+    go (g ∷ gs) = ap (λ qs. of_doc g.0 ∷ qs) (go gs)
+recorded_postings with_freqs ps = go (by_document ps)
+  where
+    go : (gs : List (ℕ × List ℕ)) → map of_count (map (λ g. (g.0, length g.1)) gs) ≡ map (posting_in with_freqs) gs
+    go [] = refl
+    go (g ∷ gs) = ap (λ qs. of_count (g.0, length g.1) ∷ qs) (go gs)
+recorded_postings with_freqs_and_positions ps = refl
+
+-- of the kinds of leaves text comes first
+leaf_is_text : (a b c d e : Bool) → option_map_or is_text (cond a (Some text_kind) (cond b (Some u64_kind) (cond c (Some i64_kind) (cond d (Some bool_kind) (cond e (Some date_kind) None))))) false ≡ a
+leaf_is_text true b c d e = refl
+leaf_is_text false true c d e = refl
+leaf_is_text false false true d e = refl
+leaf_is_text false false false true e = refl
+leaf_is_text false false false false true = refl
+leaf_is_text false false false false false = refl
+
+-- a term is a text's where its value bytes are
+pub text_terms : (f : ℕ) (kind : Kind) (key : List ℕ) → is_text_term (term_bytes f kind key) ≡ is_text_key kind key
+text_terms f text_kind key = refl
+text_terms f u64_kind key = refl
+text_terms f i64_kind key = refl
+text_terms f bool_kind key = refl
+text_terms f date_kind key = refl
+text_terms f facet_kind key = refl
+text_terms f bytes_kind key = refl
+text_terms f json_kind key = leaf_is_text _ _ _ _ _
+text_terms f ip_addr_kind key = refl
+
+-- what is recorded of a term
+pub same_option : (schema : Schema) (f : ℕ) (e : Entry) (key : List ℕ) → f < 2 ^ 32 → slice_get schema f ≡ Some e → option_of_term schema (term_bytes f e.kind key) ≡ option_of_key e key
+same_option schema f e key fits at =
+    ap (λ b. cond b (option_map_or (λ (x : Entry). x.record_option) (slice_get schema (field_of (term_bytes f e.kind key))) basic) basic) (text_terms f e.kind key)
+    ∙ ap (λ o. cond (is_text_key e.kind key) (option_map_or (λ (x : Entry). x.record_option) o basic) basic) (ap (slice_get schema) (field_of-term f e.kind key fits) ∙ at)

@@ -1,0 +1,74 @@
+-- A field's terms with their recorders, as one more place is recorded.
+use Rattle.std.proofs.Common.{[], ◌++◌, ◌≡◌, ◌∙◌, ◌∷◌, Bool, Err, List, None, Ok, OnOk, Option, Result, Some, Vec, ap, bytes_eq, cond, false, map, nat_eq, refl, subst, sym, true, ℕ}
+use Rattle.std.specs.Cmp.Lexicographic.{pointwise}
+use Rattle.std.specs.HashMap.{HashMap, UpdatesBy, get_by}
+use Rattle.std.specs.Map.{KeepsOthers, lookup, update}
+use Rattle.std.specs.declared.alloc.Global.{Global}
+use Rattle.std.proofs.lemmas.Bool.{false_from_ne_true, true≢false}
+use Rattle.std.proofs.lemmas.Slice.Eq.{bytes_eq-Decides}
+use Rattle.definitions.specs.Schema.{Entry, IndexRecordOption}
+use Rattle.postings_writer.specs.Fields.{HasPlaces, Terms, option_of_key, with_place}
+use Rattle.postings_writer.specs.Recorders.{recorded_as, recorder_of}
+use Rattle.postings_writer.specs.declared.recorder.Recorder.{Recorder}
+
+-- the value at the key of these bytes
+abbrev pub get_by_bytes : {X S : Type 0} → HashMap (Vec ℕ Global) X S → List ℕ → Option X
+get_by_bytes m bytes = get_by (λ key. bytes_eq bytes key.items) m
+
+-- entries by the bytes of their keys
+pub lookup_items : {X : Type 0} (bytes : List ℕ) (es : List (Vec ℕ Global × X)) → lookup (bytes_eq bytes) (map (λ e. (e.0.items, e.1)) es) ≡ lookup (λ key. bytes_eq bytes key.items) es
+lookup_items bytes [] = refl
+lookup_items bytes (e ∷ es) = ap (λ o. cond (bytes_eq bytes e.0.items) (Some e.1) o) (lookup_items bytes es)
+
+-- bytes that aren't equal aren't so the other way round
+unequal : (a b : List ℕ) → bytes_eq a b ≡ false → bytes_eq b a ≡ false
+unequal a b other = false_from_ne_true (bytes_eq b a) (λ same. true≢false (sym ((bytes_eq-Decides a b).1 (sym ((bytes_eq-Decides b a).0 same))) ∙ other))
+
+-- after a value is put at a key, what stands at any bytes
+pub updates_bytes : {X S : Type 0} (key : List ℕ) (old new : HashMap (Vec ℕ Global) X S) (value : Option X) → UpdatesBy (λ x y. pointwise nat_eq x.items y.items) (λ k. pointwise nat_eq key k.items) old new value → (bytes : List ℕ) → get_by_bytes new bytes ≡ update bytes_eq (get_by_bytes old) key value bytes
+unfolding KeepsOthers
+updates_bytes key old new value updated bytes = go (bytes_eq key bytes) refl
+  where
+    go : (b : Bool) → bytes_eq key bytes ≡ b → get_by_bytes new bytes ≡ cond b value (get_by_bytes old bytes)
+    go true e = subst (λ bs. get_by_bytes new bs ≡ value) ((bytes_eq-Decides key bytes).0 e) updated.1
+    go false e = updated.3 (λ k. bytes_eq bytes k.items)
+        (λ x y same. ap (λ bs. bytes_eq bs y.items) ((bytes_eq-Decides bytes x.items).0 same))
+        (λ k same. subst (λ bs. bytes_eq bytes bs ≡ false) ((bytes_eq-Decides key k.items).0 same) (unequal key bytes e))
+
+-- ---- recorders
+
+-- the recorder of places, where there are places
+pub recorder_push : (option : IndexRecordOption) (ps : List (ℕ × ℕ)) (p : ℕ × ℕ) → recorder_of option (ps ++ p ∷ []) ≡ Some (recorded_as option (ps ++ p ∷ []))
+recorder_push option [] p = refl
+recorder_push option (q ∷ ps) p = refl
+
+pub recorder_is : (option : IndexRecordOption) (ps : List (ℕ × ℕ)) (r : Recorder) → recorder_of option ps ≡ Some r → r ≡ recorded_as option ps
+recorder_is option [] r is = cc
+recorder_is option (p ∷ ps) r is = cc
+
+pub recorder_none : (option : IndexRecordOption) (ps : List (ℕ × ℕ)) → recorder_of option ps ≡ None → ps ≡ []
+recorder_none option [] is = refl
+recorder_none option (p ∷ ps) is = cc
+
+-- one place more of one term
+recorded_more : (e : Entry) (old new : List ℕ → Option Recorder) (places : List ℕ → List (ℕ × ℕ)) (key : List ℕ) (place : ℕ × ℕ) (r : Recorder) → ((q : List ℕ) → old q ≡ recorder_of (option_of_key e q) (places q)) → r ≡ recorded_as (option_of_key e key) (places key ++ place ∷ []) → ((q : List ℕ) → new q ≡ update bytes_eq old key (Some r) q) → (q : List ℕ) → new q ≡ recorder_of (option_of_key e q) (with_place key place places q)
+recorded_more e old new places key place r has is put q = put q ∙ go (bytes_eq key q) refl
+  where
+    go : (b : Bool) → bytes_eq key q ≡ b → cond b (Some r) (old q) ≡ recorder_of (option_of_key e q) (cond b (places q ++ place ∷ []) (places q))
+    go true same = ap Some (is ∙ ap (λ k. recorded_as (option_of_key e k) (places k ++ place ∷ [])) ((bytes_eq-Decides key q).0 same)) ∙ sym (recorder_push (option_of_key e q) (places q) place)
+    go false other = has q
+
+-- a map after a write at a key
+pub has_places-more : {S : Type 0} (e : Entry) (old new : HashMap (Vec ℕ Global) Recorder S) (terms : Terms) (places : List ℕ → List (ℕ × ℕ)) (key : List ℕ) (place : ℕ × ℕ) (r : Recorder) → map (λ x. (x.0.items, x.1)) old.entries ≡ terms → HasPlaces e places terms → r ≡ recorded_as (option_of_key e key) (places key ++ place ∷ []) → UpdatesBy (λ x y. pointwise nat_eq x.items y.items) (λ k. pointwise nat_eq key k.items) old new (Some r) → HasPlaces e (with_place key place places) (map (λ x. (x.0.items, x.1)) new.entries)
+has_places-more e old new terms places key place r view has is put q =
+    lookup_items q new.entries
+    ∙ recorded_more e (get_by_bytes old) (get_by_bytes new) places key place r (λ k. sym (lookup_items k old.entries) ∙ ap (lookup (bytes_eq k)) view ∙ has k) is (updates_bytes key old new (Some r) put) q
+
+-- what a map has of places
+pub found_places : {S : Type 0} (e : Entry) (old : HashMap (Vec ℕ Global) Recorder S) (terms : Terms) (places : List ℕ → List (ℕ × ℕ)) (key : List ℕ) → map (λ x. (x.0.items, x.1)) old.entries ≡ terms → HasPlaces e places terms → get_by (λ k. pointwise nat_eq key k.items) old ≡ recorder_of (option_of_key e key) (places key)
+found_places e old terms places key view has = sym (lookup_items key old.entries) ∙ ap (lookup (bytes_eq key)) view ∙ has key
+
+-- what follows from what holds where a call succeeds
+pub on_ok : {A E : Type 0} (r : Result A E) {P Q : Type 0} → (P → Q) → OnOk r P → OnOk r Q
+on_ok (Ok x) f p = f p
+on_ok (Err e) f p = tt

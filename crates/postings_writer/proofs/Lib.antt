@@ -1,0 +1,10 @@
+-- Lemmas behind the writer of postings.
+pub mod Groups
+pub mod KeptRecorders
+pub mod TextKeys
+pub mod Standing
+pub mod TextRuns
+pub mod Runs
+pub mod Sorting
+pub mod WrittenTerms
+pub mod Bridges

@@ -1,0 +1,118 @@
+-- Places of one document in a row, and differences of positions.
+use Rattle.std.proofs.Common.{[], ◌++◌, ◌+◌, ◌-◌, ◌<◌, ◌≡◌, ◌≢◌, ◌≤◌, ◌∙◌, ◌∷◌, Bool, List, add-one, ap, ap₂, append_assoc, arith, cond, drop, false, get_or, length, map, nat_eq, refl, set, subst, suc, sym, take, true, zero, zero-add, ℕ}
+use Rattle.std.proofs.Math.Seq.{drop-cons, take-suc-set}
+use Rattle.std.proofs.lemmas.Bool.Decides.{nat_tests}
+use Rattle.std.proofs.lemmas.List.{drop-drop, drop-set-lt, drop_all, length-drop, length-map, length-take-le, take_all}
+use Rattle.definitions.specs.Scoring.{DontFall}
+use Rattle.layouts.specs.Positions.{differences}
+use Rattle.definitions.specs.Postings.{Posting}
+use Rattle.definitions.specs.Recorded.{ascending}
+use Rattle.definitions.specs.Schema.{with_freqs_and_positions}
+use Rattle.postings_writer.specs.Occurrences.{by_document, grouped, posting_in, postings_at}
+use Rattle.postings_writer.specs.Serializing.{StandsAt}
+use Rattle.postings_writer.specs.declared.recorder.Recorder.TheVariants.{TfAndPositions}
+
+abbrev pick : Bool → List (ℕ × List ℕ) → List (ℕ × List ℕ) → List (ℕ × List ℕ)
+pick b x y = cond b x y
+
+-- the first group is of the first place's document
+first_group : (q : ℕ × ℕ) (gs : List (ℕ × List ℕ)) (p : ℕ × ℕ) → q.0 ≢ p.0 → grouped p (grouped q gs) ≡ (p.0, p.1 ∷ []) ∷ grouped q gs
+first_group q [] p apart = (let e : nat_eq p.0 q.0 ≡ false = grind (arith, nat_tests) in ap (λ b. pick b ((q.0, p.1 ∷ q.1 ∷ []) ∷ []) ((p.0, p.1 ∷ []) ∷ (q.0, q.1 ∷ []) ∷ [])) e)
+first_group q (g ∷ gs) p apart = go (nat_eq q.0 g.0) refl
+  where
+    go : (b : Bool) → nat_eq q.0 g.0 ≡ b → grouped p (pick b ((g.0, q.1 ∷ g.1) ∷ gs) ((q.0, q.1 ∷ []) ∷ g ∷ gs)) ≡ (p.0, p.1 ∷ []) ∷ pick b ((g.0, q.1 ∷ g.1) ∷ gs) ((q.0, q.1 ∷ []) ∷ g ∷ gs)
+    go true e = (let same : q.0 ≡ g.0 = grind (arith, nat_tests) in let other : nat_eq p.0 g.0 ≡ false = grind (arith, nat_tests) in ap (λ b. pick b ((g.0, p.1 ∷ q.1 ∷ g.1) ∷ gs) ((p.0, p.1 ∷ []) ∷ (g.0, q.1 ∷ g.1) ∷ gs)) other)
+    go false e = (let other : nat_eq p.0 q.0 ≡ false = grind (arith, nat_tests) in ap (λ b. pick b ((q.0, p.1 ∷ q.1 ∷ []) ∷ g ∷ gs) ((p.0, p.1 ∷ []) ∷ (q.0, q.1 ∷ []) ∷ g ∷ gs)) other)
+
+-- the document of a place
+abbrev pub doc_at : List (ℕ × ℕ) → ℕ → ℕ
+doc_at ps k = (get_or {A = ℕ × ℕ} ps k (0, 0)).0
+
+abbrev seconds : List (ℕ × ℕ) → List ℕ
+seconds ps = map (λ p. p.1) ps
+
+-- places of one document, which the next place isn't of, are one group
+pub run_grouped : (ps : List (ℕ × ℕ)) (n doc : ℕ) → n < length ps → ((k : ℕ) → k < suc n → doc_at ps k ≡ doc) → (suc n < length ps → doc_at ps (suc n) ≢ doc) → by_document ps ≡ (doc, seconds (take (suc n) ps)) ∷ by_document (drop (suc n) ps)
+run_grouped [] n doc inside all ends = absurd (omega arith)
+run_grouped (p ∷ []) zero doc inside all ends = ap (λ d. (d, p.1 ∷ []) ∷ none) (all 0 (omega arith))
+  where
+    none : List (ℕ × List ℕ)
+    none = []
+run_grouped (p ∷ q ∷ ps) zero doc inside all ends =
+    let here : p.0 ≡ doc = all 0 (omega arith) in
+    first_group q (by_document ps) p (λ same. ends (omega arith) (same ∙ here)) ∙ ap (λ d. (d, p.1 ∷ []) ∷ by_document (q ∷ ps)) here
+run_grouped (p ∷ ps) (suc n) doc inside all ends =
+    let here : p.0 ≡ doc = all 0 (omega arith) in
+    let test : nat_eq p.0 doc ≡ true = grind (arith, nat_tests) in
+    ap (grouped p) (run_grouped ps n doc (omega arith) (λ k below. all (suc k) (omega arith)) (λ more. ends (omega arith)))
+    ∙ ap (λ b. pick b ((doc, p.1 ∷ seconds (take (suc n) ps)) ∷ by_document (drop (suc n) ps)) ((p.0, p.1 ∷ []) ∷ (doc, seconds (take (suc n) ps)) ∷ by_document (drop (suc n) ps))) test
+
+-- ---- from a place on
+
+get_or_from : (ps : List (ℕ × ℕ)) (start k : ℕ) → doc_at (drop start ps) k ≡ doc_at ps (start + k)
+get_or_from ps zero k = ap (doc_at ps) (sym (zero-add k))
+get_or_from [] (suc start) k = refl
+get_or_from (p ∷ ps) (suc start) k = get_or_from ps start k ∙ ap (doc_at (p ∷ ps)) (let e : suc (start + k) ≡ suc start + k = omega arith in e)
+
+-- the places from one on that are of its document, up to an end
+pub run_from : (ps : List (ℕ × ℕ)) (start end doc : ℕ) → start < end → end ≤ length ps → ((k : ℕ) → start ≤ k → k < end → doc_at ps k ≡ doc) → (end < length ps → doc_at ps end ≢ doc) → by_document (drop start ps) ≡ (doc_at ps start, seconds (take (end - start) (drop start ps))) ∷ by_document (drop end ps)
+run_from ps start end doc above within all ends =
+    let n = end - start - 1 in
+    let long : length (drop start ps) ≡ length ps - start = length-drop start ps in
+    let up : suc n ≡ end - start = omega arith in
+    let whole = run_grouped (drop start ps) n doc (omega arith) (λ k below. get_or_from ps start k ∙ all (start + k) (omega arith) (omega arith)) (λ more same. ends (omega arith) (ap (doc_at ps) (let e : end ≡ start + suc n = omega arith in e) ∙ sym (get_or_from ps start (suc n)) ∙ same)) in
+    whole
+    ∙ ap (λ d. (d, seconds (take (suc n) (drop start ps))) ∷ by_document (drop (suc n) (drop start ps))) (sym (all start (omega arith) above))
+    ∙ ap (λ m. (doc_at ps start, seconds (take m (drop start ps))) ∷ by_document (drop m (drop start ps))) up
+    ∙ ap (λ qs. (doc_at ps start, seconds (take (end - start) (drop start ps))) ∷ by_document qs) (drop-drop (end - start) start ps ∙ ap (λ m. drop m ps) (let e : start + (end - start) ≡ end = omega arith in e))
+
+-- ---- differences
+
+-- one difference more
+pub differences_more : (before here i : ℕ) (xs all : List ℕ) → i < length xs → here ≡ get_or xs i 0 → take i xs ++ differences before (drop i xs) ≡ all → take (i + 1) (set xs i (here - before)) ++ differences here (drop (i + 1) (set xs i (here - before))) ≡ all
+differences_more before here i xs all inside is told =
+    let put : take (i + 1) (set xs i (here - before)) ≡ take i xs ++ (here - before) ∷ [] = ap (λ n. take n (set xs i (here - before))) (add-one i) ∙ take-suc-set xs i (here - before) inside in
+    let left : drop (i + 1) (set xs i (here - before)) ≡ drop (suc i) xs = drop-set-lt (i + 1) xs i (here - before) (omega arith) ∙ ap (λ n. drop n xs) (add-one i) in
+    let first : drop i xs ≡ here ∷ drop (suc i) xs = drop-cons xs i 0 inside ∙ ap (λ x. x ∷ drop (suc i) xs) (sym is) in
+    ap (λ ys. ys ++ differences here (drop (i + 1) (set xs i (here - before)))) put
+    ∙ ap (λ ys. (take i xs ++ (here - before) ∷ []) ++ differences here ys) left
+    ∙ append_assoc (take i xs) ((here - before) ∷ []) (differences here (drop (suc i) xs))
+    ∙ ap (λ ys. take i xs ++ differences before ys) (sym first)
+    ∙ told
+
+-- what is left doesn't fall
+pub rising_more : (before here i : ℕ) (xs : List ℕ) (d : ℕ) → i < length xs → here ≡ get_or xs i 0 → DontFall (before ∷ drop i xs) → (before ≤ here) × DontFall (here ∷ drop (i + 1) (set xs i d))
+rising_more before here i xs d inside is rising =
+    let left : drop (i + 1) (set xs i d) ≡ drop (suc i) xs = drop-set-lt (i + 1) xs i d (omega arith) ∙ ap (λ n. drop n xs) (add-one i) in
+    let first : drop i xs ≡ here ∷ drop (suc i) xs = drop-cons xs i 0 inside ∙ ap (λ x. x ∷ drop (suc i) xs) (sym is) in
+    let both = subst (λ ys. DontFall (before ∷ ys)) first rising in
+    (both.0, subst (λ ys. DontFall (here ∷ ys)) (sym left) both.1)
+
+-- all differences
+pub differences_all : (before i : ℕ) (xs all : List ℕ) → i ≡ length xs → take i xs ++ differences before (drop i xs) ≡ all → xs ≡ all
+differences_all before i xs all is told = sym (append_nil xs) ∙ ap₂ (λ ys zs. ys ++ differences before zs) (sym (take_all i xs (omega arith))) (sym (drop_all i xs (omega arith))) ∙ told
+  where
+    append_nil : (ys : List ℕ) → ys ++ [] ≡ ys
+    append_nil [] = refl
+    append_nil (y ∷ ys) = ap (λ zs. y ∷ zs) (append_nil ys)
+
+pub zero_first : (xs : List ℕ) → DontFall xs → DontFall (0 ∷ xs)
+zero_first [] rising = tt
+zero_first (x ∷ xs) rising = (omega arith, rising)
+
+-- ---- a posting
+
+abbrev posting : ℕ → ℕ → List ℕ → Posting
+posting doc count positions = record { doc = doc; count = count; positions = positions }
+
+-- the posting of places in a row
+pub place_stands : (places : List (ℕ × ℕ)) (at count end : ℕ) (deltas : List ℕ) → at < end → end ≤ length places → by_document (drop at places) ≡ (doc_at places at, seconds (take (end - at) (drop at places))) ∷ by_document (drop end places) → count ≡ end - at → deltas ≡ differences 0 (ascending (seconds (take (end - at) (drop at places)))) → StandsAt (TfAndPositions places) at (doc_at places at) count end deltas
+place_stands places at count end deltas above within run counted deltas_are =
+    let qs = seconds (take (end - at) (drop at places)) in
+    let long : length qs ≡ count = length-map (take (end - at) (drop at places)) (λ (p : ℕ × ℕ). p.1) ∙ length-take-le (end - at) (drop at places) (omega (arith, length-drop at places)) ∙ sym counted in
+    record {
+      positions = ascending qs;
+      rest = ap (map (posting_in with_freqs_and_positions)) run ∙ ap (λ n. posting (doc_at places at) n (ascending qs) ∷ postings_at with_freqs_and_positions (drop end places)) long;
+      deltas_are = deltas_are;
+      further = above;
+    }

@@ -1,0 +1,163 @@
+-- Postings as they are written to a term, one after another.
+use Rattle.std.proofs.Common.{[], ◌++◌, ◌+◌, ◌<◌, ◌^◌, ◌≡◌, ◌≤◌, ◌∙◌, ◌∷◌, ◌⊎◌, IfSome, List, None, Option, Some, ap, ap₂, append_assoc, arith, inl, inr, length, map, refl, slice_index, subst, suc, sym, zero, ℕ}
+use Rattle.std.specs.List.{AllByRecursion}
+use Rattle.std.proofs.lemmas.List.{map-append}
+use Rattle.definitions.specs.Postings.{Posting}
+use Rattle.layouts.specs.Deltas.{IsAscendingFrom}
+use Rattle.layouts.specs.Positions.{differences, position_numbers}
+use Rattle.codes.specs.PositionBlocks.{listed}
+use Rattle.definitions.specs.declared.fault.Fault.{Fault}
+use Rattle.definitions.specs.declared.fault.Fault.TheVariants as faults
+use Rattle.definitions.specs.Schema.{IndexRecordOption, has_positions}
+use Rattle.layouts.specs.InvertedIndexes.{HasPositions}
+use Rattle.layouts.specs.TermPostings.{postings_bytes}
+use Rattle.postings.specs.FieldWriting.{FieldWriting, IsCloseRefusal, IsClosed, IsOpen, Terms, inserted, postings_of}
+use Rattle.postings.specs.TermWriting.{recorded_count}
+use Rattle.std.proofs.lemmas.List.{drop_all}
+use Rattle.definitions.specs.Schema.{with_freqs_and_positions}
+use Rattle.postings_writer.specs.Occurrences.{postings_at}
+use Rattle.postings_writer.specs.Serializing.{CanWrite, IsWrittenTerm, length_of, of_count, of_doc, postings_from}
+use Rattle.postings_writer.specs.declared.recorder.Recorder.{Recorder}
+use Rattle.postings_writer.specs.declared.recorder.Recorder.TheVariants.{DocIds, TermFrequencies, TfAndPositions}
+
+abbrev docs_in : List Posting → List ℕ
+docs_in ps = map (λ (p : Posting). p.doc) ps
+
+abbrev counts_in : FieldWriting → List Posting → List ℕ
+counts_in w ps = map (λ (p : Posting). recorded_count w.writing.option p.count) ps
+
+abbrev numbers_in : List Posting → List ℕ
+numbers_in ps = position_numbers (map (λ (p : Posting). p.positions) ps)
+
+-- what writing a posting leaves as it is
+abbrev pub IsSame : FieldWriting → FieldWriting → Type 0
+IsSame was now = (now.field ≡ was.field) × (now.num_tokens ≡ was.num_tokens) × (now.terms ≡ was.terms) × (now.postings ≡ was.postings) × (now.key ≡ was.key) × (now.writing.mode ≡ was.writing.mode) × (now.writing.option ≡ was.writing.option) × (now.writing.norms ≡ was.writing.norms)
+
+-- some of all postings were written, and the others may be
+pub record Written (was now : FieldWriting) (all rest : List Posting) : Type 0 where
+  pub done : List Posting
+  pub split : all ≡ done ++ rest
+  pub can : CanWrite now.writing.next now.writing.norms rest
+  pub open_is : (docs counts numbers : List ℕ) → IsOpen was docs counts numbers → IsOpen now (docs ++ docs_in done) (counts ++ counts_in was done) (numbers ++ numbers_in done)
+  pub same : IsSame was now
+
+append_nil : {A : Type 0} (xs : List A) → xs ++ [] ≡ xs
+append_nil [] = refl
+append_nil (x ∷ xs) = ap (λ ys. x ∷ ys) (append_nil xs)
+
+pub none_written : (was : FieldWriting) (all : List Posting) → CanWrite was.writing.next was.writing.norms all → Written was was all all
+none_written was all can = record {
+  done = [];
+  split = refl;
+  can = can;
+  open_is = λ docs counts numbers is. subst (λ ns. IsOpen was (docs ++ []) (counts ++ []) ns) (sym (append_nil numbers)) (subst (λ ns. IsOpen was (docs ++ []) ns numbers) (sym (append_nil counts)) (subst (λ ds. IsOpen was ds counts numbers) (sym (append_nil docs)) is));
+  same = (refl, refl, refl, refl, refl, refl, refl, refl);
+}
+
+-- what may be written after a posting
+pub can_more : (now new : FieldWriting) (p : Posting) (rest : List Posting) → CanWrite now.writing.next now.writing.norms (p ∷ rest) → new.writing.next ≡ p.doc + 1 → new.writing.norms ≡ now.writing.norms → CanWrite new.writing.next new.writing.norms rest
+can_more now new p rest can next norms = record {
+  ascending = subst (λ n. IsAscendingFrom n (docs_in rest)) (sym next) can.ascending.1;
+  fits = can.fits.1;
+  kept = subst (λ o. IfSome o (λ ids. AllByRecursion (λ (q : Posting). q.doc < length ids) rest)) (sym norms) (go now.writing.norms can.kept);
+  counted = can.counted.1;
+  placed = can.placed.1;
+}
+  where
+    go : (o : Option (List ℕ)) → IfSome o (λ ids. AllByRecursion (λ (q : Posting). q.doc < length ids) (p ∷ rest)) → IfSome o (λ ids. AllByRecursion (λ (q : Posting). q.doc < length ids) rest)
+    go None kept = tt
+    go (Some ids) kept = kept.1
+
+pub kept_first : (o : Option (List ℕ)) (p : Posting) (rest : List Posting) → IfSome o (λ ids. AllByRecursion (λ (q : Posting). q.doc < length ids) (p ∷ rest)) → IfSome o (λ ids. p.doc < length ids)
+kept_first None p rest kept = tt
+kept_first (Some ids) p rest kept = kept.0
+
+-- differences of small positions are small
+pub small_differences : (before : ℕ) (ps : List ℕ) (i : ℕ) → AllByRecursion (λ n. n < 2 ^ 31) ps → slice_index (differences before ps) i < 2 ^ 31
+small_differences before [] i small = omega arith
+small_differences before (p ∷ ps) zero small = (let first = small.0 in omega arith)
+small_differences before (p ∷ ps) (suc i) small = small_differences p ps i small.1
+
+-- one posting more
+pub written_more : (was now new : FieldWriting) (all rest after : List Posting) (p : Posting) (deltas : List ℕ) → Written was now all rest → rest ≡ p ∷ after → deltas ≡ differences 0 p.positions
+    → ((docs counts numbers : List ℕ) → IsOpen now docs counts numbers → IsOpen new (docs ++ p.doc ∷ []) (counts ++ recorded_count now.writing.option p.count ∷ []) (numbers ++ deltas))
+    → IsSame now new → new.writing.next ≡ p.doc + 1 → Written was new all after
+written_more was now new all rest after p deltas before is deltas_are more same next = record {
+  done = before.done ++ p ∷ [];
+  split = before.split ∙ ap (λ ps. before.done ++ ps) is ∙ sym (append_assoc before.done (p ∷ []) after);
+  can = can_more now new p after (subst (λ ps. CanWrite now.writing.next now.writing.norms ps) is before.can) next same.7;
+  open_is = λ docs counts numbers open_was.
+      subst (λ ns. IsOpen new (docs ++ docs_in (before.done ++ p ∷ [])) (counts ++ counts_in was (before.done ++ p ∷ [])) ns) (numbers_are numbers)
+      (subst (λ ns. IsOpen new (docs ++ docs_in (before.done ++ p ∷ [])) ns ((numbers ++ numbers_in before.done) ++ deltas)) (counts_are counts)
+      (subst (λ ds. IsOpen new ds ((counts ++ counts_in was before.done) ++ recorded_count now.writing.option p.count ∷ []) ((numbers ++ numbers_in before.done) ++ deltas)) (docs_are docs)
+      (more (docs ++ docs_in before.done) (counts ++ counts_in was before.done) (numbers ++ numbers_in before.done) (before.open_is docs counts numbers open_was))));
+  same = (same.0 ∙ before.same.0, same.1 ∙ before.same.1, same.2 ∙ before.same.2, same.3 ∙ before.same.3, same.4 ∙ before.same.4, same.5 ∙ before.same.5, same.6 ∙ before.same.6, same.7 ∙ before.same.7);
+}
+  where
+    docs_are : (docs : List ℕ) → (docs ++ docs_in before.done) ++ p.doc ∷ [] ≡ docs ++ docs_in (before.done ++ p ∷ [])
+    docs_are docs = append_assoc docs (docs_in before.done) (p.doc ∷ []) ∙ ap (λ ds. docs ++ ds) (sym (map-append (λ (q : Posting). q.doc) before.done (p ∷ [])))
+
+    counts_are : (counts : List ℕ) → (counts ++ counts_in was before.done) ++ recorded_count now.writing.option p.count ∷ [] ≡ counts ++ counts_in was (before.done ++ p ∷ [])
+    counts_are counts =
+        append_assoc counts (counts_in was before.done) (recorded_count now.writing.option p.count ∷ [])
+        ∙ ap (λ o. counts ++ (counts_in was before.done ++ recorded_count o p.count ∷ [])) before.same.6
+        ∙ ap (λ ns. counts ++ ns) (sym (map-append (λ (q : Posting). recorded_count was.writing.option q.count) before.done (p ∷ [])))
+
+    numbers_join : (ps : List Posting) → numbers_in (ps ++ p ∷ []) ≡ numbers_in ps ++ differences 0 p.positions
+    numbers_join [] = append_nil (differences 0 p.positions)
+    numbers_join (q ∷ ps) = ap (λ ns. differences 0 q.positions ++ ns) (numbers_join ps) ∙ sym (append_assoc (differences 0 q.positions) (numbers_in ps) (differences 0 p.positions))
+
+    numbers_are : (numbers : List ℕ) → (numbers ++ numbers_in before.done) ++ deltas ≡ numbers ++ numbers_in (before.done ++ p ∷ [])
+    numbers_are numbers = append_assoc numbers (numbers_in before.done) deltas ∙ ap (λ ds. numbers ++ (numbers_in before.done ++ ds)) deltas_are ∙ ap (λ ns. numbers ++ ns) (sym (numbers_join before.done))
+
+-- all were written
+pub written_all : (was now : FieldWriting) (all rest : List Posting) (before : Written was now all rest) → rest ≡ [] → before.done ≡ all
+written_all was now all rest before none = sym (before.split ∙ ap (λ ps. before.done ++ ps) none ∙ append_nil before.done)
+
+pub all_opened : (was now : FieldWriting) (all rest : List Posting) → Written was now all rest → rest ≡ [] → (docs counts numbers : List ℕ) → IsOpen was docs counts numbers → IsOpen now (docs ++ docs_in all) (counts ++ counts_in was all) (numbers ++ numbers_in all)
+all_opened was now all rest before none docs counts numbers is = subst (λ ps. IsOpen now (docs ++ docs_in ps) (counts ++ counts_in was ps) (numbers ++ numbers_in ps)) (written_all was now all rest before none) (before.open_is docs counts numbers is)
+
+-- nothing stands past the end of a recorder
+pub none_left : (r : Recorder) (at : ℕ) → length_of r ≤ at → postings_from r at ≡ []
+none_left (DocIds docs) at past = ap (map of_doc) (drop_all at docs past)
+none_left (TermFrequencies counts) at past = ap (map of_count) (drop_all at counts past)
+none_left (TfAndPositions places) at past = ap (postings_at with_freqs_and_positions) (drop_all at places past)
+
+-- ---- a term
+
+-- why a term isn't closed
+pub close_refused : (fault : Fault) (w : FieldWriting) (docs counts numbers : List ℕ) → IsCloseRefusal fault w docs counts numbers → (fault ≡ faults.OutOfMemory) ⊎ (fault ≡ faults.Limit)
+close_refused fault w docs counts numbers (inl memory) = inl memory
+close_refused fault w docs counts numbers (inr limit) = inr limit.0
+
+abbrev entry_in : List ℕ → List ℕ → List ℕ → List ℕ → Terms → Terms
+entry_in key docs postings positions terms = inserted key (record { doc_freq = length docs; postings_len = length postings; positions_len = length positions }) terms
+
+-- a term that was begun, written and closed
+pub term_written : (was begun full now : FieldWriting) (key : List ℕ) (option : IndexRecordOption) (ps : List Posting) → begun.key ≡ key → begun.writing.option ≡ option
+    → (begun.field ≡ was.field) × (begun.num_tokens ≡ was.num_tokens) × (begun.terms ≡ was.terms) × (begun.postings ≡ was.postings) × (begun.positions ≡ was.positions) × (begun.writing.mode ≡ was.writing.mode) × (begun.writing.norms ≡ was.writing.norms) × (begun.writing.next ≡ 0)
+    → IsSame begun full → IsClosed full now (docs_in ps) (counts_in begun ps) (numbers_in ps)
+    → (now.field ≡ full.field) × (now.num_tokens ≡ full.num_tokens) × (now.writing.mode ≡ full.writing.mode) × (now.writing.norms ≡ full.writing.norms)
+    → IsWrittenTerm was now key option ps
+term_written was begun full now key option ps key_is option_is first second closed last =
+    let o : full.writing.option ≡ option = second.6 ∙ option_is in
+    let n : full.writing.norms ≡ was.writing.norms = second.7 ∙ first.6 in
+    let terms_are : full.terms ≡ was.terms = second.2 ∙ first.2 in
+    let bytes : postings_of full.writing (docs_in ps) (counts_in begun ps) ≡ postings_bytes option (listed was.writing.norms) (docs_in ps) (map (λ (p : Posting). recorded_count option p.count) ps) =
+    ap (λ x. postings_bytes x (listed full.writing.norms) (docs_in ps) (counts_in begun ps)) o
+    ∙ ap (λ x. postings_bytes option (listed x) (docs_in ps) (counts_in begun ps)) n
+    ∙ ap (λ x. postings_bytes option (listed was.writing.norms) (docs_in ps) (map (λ (p : Posting). recorded_count x p.count) ps)) option_is in
+    record {
+      bytes = closed.bytes;
+      positions_fit = closed.positions_fit;
+      terms_fit = subst (λ (t : Terms). t.num_terms < 4294967295) terms_are closed.terms_fit;
+      positions_are = subst (λ x. HasPositions (has_positions x) (numbers_in ps) closed.bytes) o closed.positions_are;
+      postings = closed.postings ∙ ap₂ (λ xs ys. xs ++ ys) (second.3 ∙ first.3) bytes;
+      before = full.positions.0;
+      positions = closed.positions;
+      terms = closed.terms
+          ∙ ap (λ k. entry_in k (docs_in ps) (postings_of full.writing (docs_in ps) (counts_in begun ps)) closed.bytes full.terms) (second.4 ∙ key_is)
+          ∙ ap (λ xs. entry_in key (docs_in ps) xs closed.bytes full.terms) bytes
+          ∙ ap (entry_in key (docs_in ps) (postings_bytes option (listed was.writing.norms) (docs_in ps) (map (λ (p : Posting). recorded_count option p.count) ps)) closed.bytes) terms_are;
+      same = (last.0 ∙ second.0 ∙ first.0, last.1 ∙ second.1 ∙ first.1, last.2 ∙ second.5 ∙ first.5, last.3 ∙ n);
+    }

@@ -1,0 +1,8 @@
+use Rattle.postings_writer.proofs.Sorting.{sorted_is_ascending, sorted_rises}
+use Rattle.postings_writer.proofs.serialize_term.sort.Goals as goal
+
+pub returns-clause-ascending : goal.returns-clause-ascending
+returns-clause-ascending c = sorted_is_ascending c.args.positions.now.items c.sort_unstable.new.self.items c.sort_unstable.ensures.permutation (sorted_rises c.sort_unstable.new.self.items c.sort_unstable.ensures.sorted)
+
+pub returns-clause-rising : goal.returns-clause-rising
+returns-clause-rising c = sorted_rises c.sort_unstable.new.self.items c.sort_unstable.ensures.sorted

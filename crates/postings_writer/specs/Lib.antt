@@ -1,0 +1,7 @@
+-- Words of the contracts.
+pub mod Occurrences
+pub mod Recorders
+pub mod Fields
+pub mod Writers
+pub mod Texts
+pub mod Serializing

@@ -1,0 +1,62 @@
+-- The postings that recorders stand for, as a serializer takes them.
+use Rattle.std.specs.Prelude.{[], ◌++◌, ◌<◌, ◌^◌, ◌≡◌, ◌∷◌, IfSome, List, Option, drop, length, map, ℕ}
+use Rattle.std.specs.List.{AllByRecursion}
+use Rattle.definitions.specs.Postings.{Posting}
+use Rattle.codes.specs.PositionBlocks.{listed}
+use Rattle.definitions.specs.Schema.{IndexRecordOption, has_positions, with_freqs_and_positions}
+use Rattle.layouts.specs.Deltas.{IsAscendingFrom}
+use Rattle.layouts.specs.InvertedIndexes.{HasPositions}
+use Rattle.layouts.specs.Positions.{differences, position_numbers}
+use Rattle.layouts.specs.TermPostings.{postings_bytes}
+use Rattle.postings.specs.FieldWriting.{FieldWriting, inserted}
+use Rattle.postings.specs.TermWriting.{recorded_count}
+use Rattle.postings_writer.specs.Occurrences.{postings_at}
+use Rattle.postings_writer.specs.declared.recorder.Recorder.{Recorder}
+use Rattle.postings_writer.specs.declared.recorder.Recorder.TheVariants.{DocIds, TermFrequencies, TfAndPositions}
+
+-- a document without counts
+abbrev pub of_doc : ℕ → Posting
+of_doc doc = record { doc = doc; count = 1; positions = [] }
+
+-- a document with its count
+abbrev pub of_count : ℕ × ℕ → Posting
+of_count p = record { doc = p.0; count = p.1; positions = [] }
+
+-- how much a recorder holds
+abbrev pub length_of : Recorder → ℕ
+length_of (DocIds docs) = length docs
+length_of (TermFrequencies counts) = length counts
+length_of (TfAndPositions places) = length places
+
+-- the postings from a place on
+abbrev pub postings_from : Recorder → ℕ → List Posting
+postings_from (DocIds docs) at = map of_doc (drop at docs)
+postings_from (TermFrequencies counts) at = map of_count (drop at counts)
+postings_from (TfAndPositions places) at = postings_at with_freqs_and_positions (drop at places)
+
+-- a posting that stands at a place, with where the next one does
+pub record StandsAt (r : Recorder) (at doc count next : ℕ) (deltas : List ℕ) : Type 0 where
+  pub positions : List ℕ
+  pub rest : postings_from r at ≡ record { doc = doc; count = count; positions = positions } ∷ postings_from r next
+  pub deltas_are : deltas ≡ differences 0 positions
+  pub further : at < next
+
+-- postings that may be written to a term whose next document isn't below a least one, in a field of these lengths
+pub record CanWrite (next : ℕ) (norms : Option (List ℕ)) (ps : List Posting) : Type 0 where
+  pub ascending : IsAscendingFrom next (map (λ (p : Posting). p.doc) ps)
+  pub fits : AllByRecursion (λ (p : Posting). p.doc < 2147483647) ps
+  pub kept : IfSome norms (λ ids. AllByRecursion (λ (p : Posting). p.doc < length ids) ps)
+  pub counted : AllByRecursion (λ (p : Posting). (0 < p.count) × (p.count < 2 ^ 32)) ps
+  pub placed : AllByRecursion (λ (p : Posting). AllByRecursion (λ n. n < 2 ^ 31) p.positions) ps
+
+-- a term was written behind those before: its postings, its positions and its entry
+pub record IsWrittenTerm (was now : FieldWriting) (key : List ℕ) (option : IndexRecordOption) (ps : List Posting) : Type 0 where
+  pub bytes : List ℕ
+  pub positions_fit : length bytes < 2 ^ 32
+  pub terms_fit : was.terms.num_terms < 4294967295
+  pub positions_are : HasPositions (has_positions option) (position_numbers (map (λ (p : Posting). p.positions) ps)) bytes
+  pub postings : now.postings ≡ was.postings ++ postings_bytes option (listed was.writing.norms) (map (λ (p : Posting). p.doc) ps) (map (λ (p : Posting). recorded_count option p.count) ps)
+  pub before : List ℕ
+  pub positions : now.positions ≡ (before ++ bytes, [])
+  pub terms : now.terms ≡ inserted key (record { doc_freq = length (map (λ (p : Posting). p.doc) ps); postings_len = length (postings_bytes option (listed was.writing.norms) (map (λ (p : Posting). p.doc) ps) (map (λ (p : Posting). recorded_count option p.count) ps)); positions_len = length bytes }) was.terms
+  pub same : (now.field ≡ was.field) × (now.num_tokens ≡ was.num_tokens) × (now.writing.mode ≡ was.writing.mode) × (now.writing.norms ≡ was.writing.norms)

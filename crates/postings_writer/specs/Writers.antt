@@ -1,0 +1,41 @@
+-- What a writer of postings stands for.
+use Rattle.std.specs.Prelude.{◌<◌, ◌^◌, ◌≡◌, ◌≤◌, List, Some, length, map, slice_get, true, ℕ}
+use Rattle.std.specs.List.{AllByRecursion}
+use Rattle.definitions.specs.Schema.{Entry, Schema, is_indexed, max_fields}
+use Rattle.definitions.specs.Scoring.{DontFall}
+use Rattle.definitions.specs.Terms.{term_bytes}
+use Rattle.postings_writer.specs.Fields.{HasPlaces, Terms}
+use Rattle.postings_writer.specs.Occurrences.{Occurrence, places_of}
+
+-- a writer: its schema, the recorders of each field's terms, and one more than the last document, or 0
+pub record Writer : Type 0 where
+  pub schema : Schema
+  pub fields : List Terms
+  pub num_docs : ℕ
+
+-- the bytes are a term of an indexed field
+pub record IsIndexedTerm (schema : Schema) (t : List ℕ) : Type 0 where
+  pub field : ℕ
+  pub entry : Entry
+  pub key : List ℕ
+  pub fits : field < 2 ^ 32
+  pub is : slice_get schema field ≡ Some entry
+  pub indexed : is_indexed entry ≡ true
+  pub whole : t ≡ term_bytes field entry.kind key
+
+-- an occurrence of such a term, which the layout has room for
+pub record IsOccurrence (schema : Schema) (num_docs : ℕ) (o : Occurrence) : Type 0 where
+  pub known : IsIndexedTerm schema o.term
+  pub within : o.doc < num_docs
+  pub placed_fit : o.position < 2 ^ 31
+
+-- the recorders are those of the occurrences
+abbrev pub HasOccurrences : List Occurrence → List Terms → ℕ × Entry → Type 0
+HasOccurrences os fields (field, e) = (terms : Terms) × (slice_get fields field ≡ Some terms) × HasPlaces e (λ key. places_of (term_bytes field e.kind key) os) terms
+
+-- These occurrences were recorded, in this order, and documents don't fall.
+pub record Stands (w : Writer) (os : List Occurrence) : Type 0 where
+  pub few : length w.schema ≤ max_fields
+  pub each : AllByRecursion (IsOccurrence w.schema w.num_docs) os
+  pub rising : DontFall (map (λ (o : Occurrence). o.doc) os)
+  pub recorded : (field : ℕ) (e : Entry) → slice_get w.schema field ≡ Some e → HasOccurrences os w.fields (field, e)

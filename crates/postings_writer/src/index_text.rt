@@ -1,0 +1,129 @@
+//! Records the tokens of texts.
+
+ghost use Rattle.std.specs.Prelude.{[], ◌++◌, ◌+◌, ◌<◌, ◌^◌, ◌≡◌, ◌≤◌, ◌∷◌, IfErr, IfOk, List, OnOk, min, ℕ};
+ghost use Rattle.common.specs.Token.{token_of};
+ghost use Rattle.definitions.specs.Analyzers.{kept};
+ghost use Rattle.definitions.specs.Places.{ends, greatest_from, next_start};
+ghost use Rattle.definitions.specs.declared.fault.Fault.TheVariants as faults;
+ghost use Rattle.postings_writer.specs.Occurrences.{Occurrence};
+ghost use Rattle.postings_writer.specs.Texts.{AreWithin, EndsPast, IsTextRefusal, end_of, text_occurrences};
+ghost use Rattle.postings_writer.specs.Writers.{IsIndexedTerm, Stands};
+
+use crate::postings_writer::PostingsWriter;
+use common::{Token, TokenStream};
+use definitions::Fault;
+
+/// The longest token that is indexed.
+const MAX_TOKEN_LEN: usize = 65530;
+
+/// What every position, with its length and the gap behind it, is below.
+const MAX_POSITION: u32 = 2147483648;
+
+/// The position of a token in a value that begins at a start, and where the token ends. With the gap behind it
+/// the end is below 2147483648.
+fn place_of(start: u32, gap: u32, token: &Token) -> Result<(u32, u32), Fault>
+    ensures ok { IfOk result (λ p. (p.0 ≡ start + token.now.position) × (p.1 ≡ start + token.now.position + token.now.position_length) × (p.1 + gap < 2 ^ 31)) }
+    ensures err { IfErr result (λ fault. (fault ≡ faults.Limit) × (2 ^ 31 ≤ end_of gap start (token_of token.now))) }
+{
+    let position = below_limit(token.position)?;
+    let length = below_limit(token.position_length)?;
+    let end = u64::from(start) + u64::from(position) + u64::from(length);
+    if end + u64::from(gap) >= u64::from(MAX_POSITION) {
+        return Err(Fault::Limit);
+    }
+    Ok((start + position, end as u32))
+}
+
+/// The number, where it is below 2147483648.
+fn below_limit(n: usize) -> Result<u32, Fault>
+    ensures ok { IfOk result (λ m. (m ≡ n) × (n < 2 ^ 31)) }
+    ensures err { IfErr result (λ fault. (fault ≡ faults.Limit) × (2 ^ 31 ≤ n)) }
+{
+    if n >= MAX_POSITION as usize {
+        return Err(Fault::Limit);
+    }
+    Ok(n as u32)
+}
+
+impl<'a> PostingsWriter<'a> {
+    /// Records the tokens of a value that begins at a start, each as the term of its text behind the first bytes
+    /// that the buffer holds, and answers where the next value begins, or 2147483648 where it would begin behind
+    /// that. Tokens over 65530 bytes are dropped. A token that ends past 2147483647, with the gap behind it, is
+    /// refused, so a start that was cut to 2147483648 refuses what the real one does.
+    pub fn index_text<T: TokenStream>(
+        &mut self,
+        doc: u32,
+        term_buffer: &mut Vec<u8>,
+        stream: &mut T,
+        start: u32,
+        gap: u32,
+    ) -> Result<u32, Fault>
+        requires known { (text : List ℕ) → IsIndexedTerm self.old.schema (term_buffer.old.items ++ text) }
+        requires next { self.old.num_docs ≤ doc + 1 }
+        requires fits { doc < 2147483647 }
+        requires small { gap < 2 ^ 31 }
+        ensures ok { (os : List Occurrence) (real : ℕ) → Stands self.old os → start ≡ min (2 ^ 31) real → OnOk result (Stands self.new (os ++ text_occurrences doc term_buffer.old.items real (kept (T.rest stream.old)))) }
+        ensures next { (real : ℕ) → start ≡ min (2 ^ 31) real → IfOk result (λ next. next ≡ min (2 ^ 31) (next_start gap real (kept (T.rest stream.old)))) }
+        ensures within { (real : ℕ) → start ≡ min (2 ^ 31) real → OnOk result (AreWithin gap real (kept (T.rest stream.old))) }
+        ensures same { OnOk result ((self.new.schema ≡ self.old.schema) × (self.new.num_docs ≤ doc + 1) × (term_buffer.new.items ≡ term_buffer.old.items)) }
+        ensures err { (os : List Occurrence) (real : ℕ) → Stands self.old os → start ≡ min (2 ^ 31) real → IfErr result (λ fault. IsTextRefusal fault os doc term_buffer.old.items gap real (kept (T.rest stream.old))) }
+    {
+        let end = self.index_tokens(doc, term_buffer, stream, start, gap)?;
+        Ok((end.min(MAX_POSITION) + gap).min(MAX_POSITION))
+    }
+
+    /// Records the tokens of a value that begins at a start, and answers where they end.
+    fn index_tokens<T: TokenStream>(
+        &mut self,
+        doc: u32,
+        term_buffer: &mut Vec<u8>,
+        stream: &mut T,
+        start: u32,
+        gap: u32,
+    ) -> Result<u32, Fault>
+        requires known { (text : List ℕ) → IsIndexedTerm self.old.schema (term_buffer.old.items ++ text) }
+        requires next { self.old.num_docs ≤ doc + 1 }
+        requires fits { doc < 2147483647 }
+        ensures ok { (os : List Occurrence) → Stands self.old os → OnOk result (Stands self.new (os ++ text_occurrences doc term_buffer.old.items start (kept (T.rest stream.old)))) }
+        ensures end { IfOk result (λ end. end ≡ greatest_from start (ends start (kept (T.rest stream.old)))) }
+        ensures within { OnOk result (AreWithin gap start (kept (T.rest stream.old))) }
+        ensures same { OnOk result ((self.new.schema ≡ self.old.schema) × (self.new.num_docs ≤ doc + 1) × (term_buffer.new.items ≡ term_buffer.old.items)) }
+        ensures err { (os : List Occurrence) → Stands self.old os → IfErr result (λ fault. IsTextRefusal fault os doc term_buffer.old.items gap start (kept (T.rest stream.old))) }
+    {
+        let mut end = start;
+        while stream.advance() {
+            let token_end = self.index_token(doc, term_buffer, stream.token(), start, gap)?;
+            end = end.max(token_end);
+        }
+        Ok(end)
+    }
+
+    /// Records a token, unless it is dropped, and answers where it ends, or the start.
+    fn index_token(
+        &mut self,
+        doc: u32,
+        term_buffer: &mut Vec<u8>,
+        token: &Token,
+        start: u32,
+        gap: u32,
+    ) -> Result<u32, Fault>
+        requires known { (text : List ℕ) → IsIndexedTerm self.old.schema (term_buffer.old.items ++ text) }
+        requires next { self.old.num_docs ≤ doc + 1 }
+        requires fits { doc < 2147483647 }
+        ensures ok { (os : List Occurrence) → Stands self.old os → OnOk result (Stands self.new (os ++ text_occurrences doc term_buffer.old.items start (kept (token_of token.now ∷ [])))) }
+        ensures end { IfOk result (λ end. end ≡ greatest_from start (ends start (kept (token_of token.now ∷ [])))) }
+        ensures within { OnOk result (AreWithin gap start (kept (token_of token.now ∷ []))) }
+        ensures same { OnOk result ((self.new.schema ≡ self.old.schema) × (self.new.num_docs ≤ doc + 1) × (term_buffer.new.items ≡ term_buffer.old.items)) }
+        ensures err { (os : List Occurrence) → Stands self.old os → IfErr result (λ fault. IsTextRefusal fault os doc term_buffer.old.items gap start (kept (token_of token.now ∷ []))) }
+    {
+        if token.text.len() > MAX_TOKEN_LEN {
+            return Ok(start);
+        }
+        let (position, end) = place_of(start, gap, token)?;
+        let prefix_len = term_buffer.len();
+        term_buffer.extend_from_slice(token.text.as_bytes())?;
+        self.subscribe(doc, term_buffer, position)?;
+        term_buffer.truncate(prefix_len);
+        Ok(end)
+    }
+}

@@ -1,0 +1,11 @@
+//! Writes the terms of documents, with their postings and positions.
+#![tactic(auto)]
+
+mod field_postings;
+mod index_text;
+mod postings_writer;
+mod recorder;
+mod serialize_term;
+
+pub use postings_writer::PostingsWriter;
+pub use recorder::{DocIdRecorder, Recorder, TermFrequencyRecorder, TfAndPositionRecorder};

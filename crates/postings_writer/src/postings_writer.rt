@@ -1,0 +1,93 @@
+//! Records the terms of documents, field by field.
+
+ghost use Rattle.std.specs.Prelude.{[], ◌++◌, ◌+◌, ◌<◌, ◌^◌, ◌≡◌, ◌≤◌, ◌∷◌, IfErr, IfOk, List, OnOk, length, replicate};
+ghost use Rattle.definitions.specs.Terms.{field_of, payload_of};
+ghost use Rattle.postings_writer.specs.Occurrences.{Occurrence, places_of};
+ghost use Rattle.postings_writer.specs.Recorders.{IsCountRefusal};
+ghost use Rattle.postings_writer.specs.Writers.{IsIndexedTerm, Stands};
+
+use crate::field_postings::FieldPostings;
+use definitions::Fault;
+use schema::{Field, Schema};
+use std::alloc::{AllocError, Global};
+use std::marker::Model;
+
+/// How many bytes a term has before its value: four of the field's number, and one of the type's code.
+const HEADER_LEN: usize = 5;
+
+/// The number of a term's field.
+fn field_of(term: &[u8]) -> u32
+    requires { HEADER_LEN ≤ length term.now }
+    ensures { result ≡ field_of term.now }
+{
+    u32::from_be_bytes([term[0], term[1], term[2], term[3]])
+}
+
+/// A term's value bytes.
+fn payload_of(term: &[u8]) -> &[u8]
+    requires { HEADER_LEN ≤ length term.now }
+    ensures { result.now ≡ payload_of term.now }
+{
+    &term[HEADER_LEN..]
+}
+
+/// Records the terms of documents, document by document, and writes their postings. After a refused call what
+/// was recorded is of no use.
+#[derive(Drop)]
+pub struct PostingsWriter<'a> {
+    alloc: Global,
+    schema: &'a Schema,
+    fields: Vec<FieldPostings>,
+    // One more than the last document, or 0.
+    num_docs: u32,
+}
+
+impl<'a> Model for PostingsWriter<'a> {
+    ghost use Rattle.std.specs.Prelude.{◌≡◌, length};
+    ghost use Rattle.postings_writer.specs.Writers.{Writer};
+
+    ghost Value = { Writer };
+
+    ghost view = { λ w. record { schema = w.schema.now; fields = w.fields.items; num_docs = w.num_docs } };
+
+    ghost invariant = { λ w. length w.fields.items ≡ length w.schema.now };
+}
+
+impl<'a> PostingsWriter<'a> {
+    /// Nothing is recorded yet.
+    pub fn for_schema(alloc: Global, schema: &'a Schema) -> Result<PostingsWriter<'a>, AllocError>
+        ensures value { IfOk result (λ writer. writer ≡ record { schema = schema.now; fields = replicate (length schema.now) []; num_docs = 0 }) }
+        ensures nothing { IfOk result (λ writer. Stands writer []) }
+    {
+        let num_fields = schema.num_fields();
+        let mut fields = Vec::with_capacity(alloc, num_fields)?;
+        for _ in 0..num_fields {
+            fields.push(FieldPostings::new(alloc))?;
+        }
+        Ok(PostingsWriter {
+            alloc,
+            schema,
+            fields,
+            num_docs: 0,
+        })
+    }
+
+    /// Records that the term stands in the document, at the position. The document isn't below the last one.
+    /// A count of the term in the document that would pass 4294967295 is refused.
+    pub fn subscribe(&mut self, doc: u32, term: &[u8], position: u32) -> Result<(), Fault>
+        requires known { IsIndexedTerm self.old.schema term.now }
+        requires next { self.old.num_docs ≤ doc + 1 }
+        requires fits { doc < 2147483647 }
+        requires placed { position < 2 ^ 31 }
+        ensures ok { (os : List Occurrence) → Stands self.old os → OnOk result (Stands self.new (os ++ record { doc = doc; term = term.now; position = position } ∷ [])) }
+        ensures same { OnOk result ((self.new.schema ≡ self.old.schema) × (self.new.num_docs ≡ doc + 1)) }
+        ensures err { (os : List Occurrence) → Stands self.old os → IfErr result (λ fault. IsCountRefusal fault (places_of term.now os ++ (doc, position) ∷ [])) }
+    {
+        let field = field_of(term);
+        let entry = self.schema.get_field_entry(Field::from_field_id(field));
+        let key = payload_of(term);
+        self.fields[field as usize].record(self.alloc, entry, key, doc, position)?;
+        self.num_docs = doc + 1;
+        Ok(())
+    }
+}

@@ -1,0 +1,245 @@
+//! What is recorded of one term: the documents that it stands in, how often, and where.
+
+ghost use Rattle.std.specs.Prelude.{[], ◌++◌, ◌+◌, ◌<◌, ◌^◌, ◌≡◌, ◌≤◌, ◌∷◌, IfErr, IfOk, List, OnOk, length, map, slice_index_or as get_or, slice_set as set, suc, ℕ};
+ghost use Rattle.definitions.specs.Schema as definitions;
+ghost use Rattle.definitions.specs.declared.fault.Fault.TheVariants as faults;
+ghost use Rattle.options.specs.RecordOption.{record_option_of};
+ghost use Rattle.postings_writer.specs.Occurrences.{by_document, counts_of, docs_of, ends_in, last_count as count_at_end};
+ghost use Rattle.postings_writer.specs.Recorders.{IsCountRefusal, recorded_as};
+
+use definitions::Fault;
+use options::IndexRecordOption;
+use std::alloc::{AllocError, Global};
+use std::marker::Model;
+
+/// Whether the last document is that one.
+fn ends_in(docs: &[u32], doc: u32) -> bool
+    ensures { result ≡ ends_in doc docs.now }
+{
+    match docs.last() {
+        Some(last) => *last == doc,
+        None => false,
+    }
+}
+
+/// Whether the last pair is of that document.
+fn stands_last(pairs: &[(u32, u32)], doc: u32) -> bool
+    ensures { result ≡ ends_in doc (map (λ p. p.0) pairs.now) }
+{
+    match pairs.last() {
+        Some(last) => last.0 == doc,
+        None => false,
+    }
+}
+
+/// Raises the last count.
+fn raise_last(counts: &mut Vec<(u32, u32)>) -> Result<(), Fault>
+    requires { 0 < length counts.old.items }
+    ensures ok { OnOk result ((m : ℕ) → length counts.old.items ≡ suc m → counts.new.items ≡ set counts.old.items m ((get_or counts.old.items m (0, 0)).0, (get_or counts.old.items m (0, 0)).1 + 1)) }
+    ensures err { IfErr result (λ fault. (fault ≡ faults.Limit) × ((m : ℕ) → length counts.old.items ≡ suc m → 2 ^ 32 ≤ (get_or counts.old.items m (0, 0)).1 + 1)) }
+{
+    let last = counts.len() - 1;
+    let (doc, count) = counts[last];
+    counts[last] = (doc, count.checked_add(1).ok_or(Fault::Limit)?);
+    Ok(())
+}
+
+/// The documents of a term.
+#[derive(Drop)]
+pub struct DocIdRecorder {
+    docs: Vec<u32>,
+}
+
+impl Model for DocIdRecorder {
+    ghost use Rattle.std.specs.Prelude.{List, ℕ};
+
+    ghost Value = { List ℕ };
+
+    ghost view = { λ r. r.docs.items };
+}
+
+impl DocIdRecorder {
+    /// No document.
+    pub fn new(alloc: Global) -> DocIdRecorder
+        ensures { result ≡ [] }
+    {
+        DocIdRecorder {
+            docs: Vec::new(alloc),
+        }
+    }
+
+    /// Records that the term stands in the document, which isn't below the last one.
+    pub fn record(&mut self, doc: u32) -> Result<(), AllocError>
+        ensures { (ps : List (ℕ × ℕ)) (position : ℕ) → self.old ≡ docs_of ps → OnOk result (self.new ≡ docs_of (ps ++ (doc, position) ∷ [])) }
+    {
+        if ends_in(&self.docs, doc) {
+            return Ok(());
+        }
+        self.docs.push(doc)?;
+        Ok(())
+    }
+
+    /// The documents.
+    pub fn docs(&self) -> &[u32]
+        ensures { result.now ≡ self.now }
+    {
+        &self.docs
+    }
+}
+
+/// The documents of a term, and how often it stands in each.
+#[derive(Drop)]
+pub struct TermFrequencyRecorder {
+    counts: Vec<(u32, u32)>,
+}
+
+impl Model for TermFrequencyRecorder {
+    ghost use Rattle.std.specs.Prelude.{List, ℕ};
+
+    ghost Value = { List (ℕ × ℕ) };
+
+    ghost view = { λ r. r.counts.items };
+}
+
+impl TermFrequencyRecorder {
+    /// No document.
+    pub fn new(alloc: Global) -> TermFrequencyRecorder
+        ensures { result ≡ [] }
+    {
+        TermFrequencyRecorder {
+            counts: Vec::new(alloc),
+        }
+    }
+
+    /// Records that the term stands in the document once more, which isn't below the last one. A count past
+    /// 4294967295 is refused.
+    pub fn record(&mut self, doc: u32) -> Result<(), Fault>
+        ensures ok { (ps : List (ℕ × ℕ)) (position : ℕ) → self.old ≡ counts_of ps → OnOk result (self.new ≡ counts_of (ps ++ (doc, position) ∷ [])) }
+        ensures err { (ps : List (ℕ × ℕ)) (position : ℕ) → self.old ≡ counts_of ps → IfErr result (λ fault. IsCountRefusal fault (ps ++ (doc, position) ∷ [])) }
+    {
+        if !stands_last(&self.counts, doc) {
+            self.counts.push((doc, 1))?;
+            return Ok(());
+        }
+        raise_last(&mut self.counts)?;
+        Ok(())
+    }
+
+    /// The documents, each with its count.
+    pub fn counts(&self) -> &[(u32, u32)]
+        ensures { result.now ≡ self.now }
+    {
+        &self.counts
+    }
+}
+
+/// The documents of a term, and its positions in each.
+#[derive(Drop)]
+pub struct TfAndPositionRecorder {
+    places: Vec<(u32, u32)>,
+    // How many places the last document has.
+    last_count: u32,
+}
+
+impl Model for TfAndPositionRecorder {
+    ghost use Rattle.std.specs.Prelude.{List, ◌≡◌, ℕ};
+    ghost use Rattle.postings_writer.specs.Occurrences as occurrences;
+
+    ghost Value = { List (ℕ × ℕ) };
+
+    ghost view = { λ r. r.places.items };
+
+    ghost invariant = { λ r. r.last_count ≡ occurrences.last_count (occurrences.by_document r.places.items) };
+}
+
+impl TfAndPositionRecorder {
+    /// No document.
+    pub fn new(alloc: Global) -> TfAndPositionRecorder
+        ensures { result ≡ [] }
+    {
+        TfAndPositionRecorder {
+            places: Vec::new(alloc),
+            last_count: 0,
+        }
+    }
+
+    /// Records that the term stands in the document, which isn't below the last one, at the position. A count
+    /// past 4294967295 is refused.
+    pub fn record(&mut self, doc: u32, position: u32) -> Result<(), Fault>
+        ensures ok { OnOk result (self.new ≡ self.old ++ (doc, position) ∷ []) }
+        ensures err { IfErr result (λ fault. IsCountRefusal fault (self.old ++ (doc, position) ∷ [])) }
+    {
+        let last_count = self.next_count(doc)?;
+        self.places.push((doc, position))?;
+        self.last_count = last_count;
+        Ok(())
+    }
+
+    /// How many places the document has with one more.
+    fn next_count(&self, doc: u32) -> Result<u32, Fault>
+        ensures ok { IfOk result (λ n. (position : ℕ) → n ≡ count_at_end (by_document (self.now ++ (doc, position) ∷ []))) }
+        ensures err { IfErr result (λ fault. (fault ≡ faults.Limit) × ((position : ℕ) → 2 ^ 32 ≤ count_at_end (by_document (self.now ++ (doc, position) ∷ [])))) }
+    {
+        if !stands_last(&self.places, doc) {
+            return Ok(1);
+        }
+        let count = self.last_count.checked_add(1).ok_or(Fault::Limit)?;
+        Ok(count)
+    }
+
+    /// Documents and positions, in the order in which they were recorded.
+    pub fn places(&self) -> &[(u32, u32)]
+        ensures { result.now ≡ self.now }
+    {
+        &self.places
+    }
+}
+
+/// What is recorded of one term.
+#[derive(Drop)]
+pub enum Recorder {
+    /// Documents.
+    DocIds(DocIdRecorder),
+    /// Documents and counts.
+    TermFrequencies(TermFrequencyRecorder),
+    /// Documents, counts and positions.
+    TfAndPositions(TfAndPositionRecorder),
+}
+
+impl Recorder {
+    /// A recorder of so much, without a document.
+    pub fn new(alloc: Global, option: IndexRecordOption) -> Recorder
+        ensures { result ≡ recorded_as (record_option_of option) [] }
+    {
+        match option {
+            IndexRecordOption::Basic => Recorder::DocIds(DocIdRecorder::new(alloc)),
+            IndexRecordOption::WithFreqs => Recorder::TermFrequencies(TermFrequencyRecorder::new(
+                alloc,
+            )),
+            IndexRecordOption::WithFreqsAndPositions => Recorder::TfAndPositions(
+                TfAndPositionRecorder::new(alloc),
+            ),
+        }
+    }
+
+    /// Records that the term stands in the document, which isn't below the last one, at the position.
+    pub fn record(&mut self, doc: u32, position: u32) -> Result<(), Fault>
+        ensures ok { (option : definitions.IndexRecordOption) (ps : List (ℕ × ℕ)) → self.old ≡ recorded_as option ps → OnOk result (self.new ≡ recorded_as option (ps ++ (doc, position) ∷ [])) }
+        ensures err { (option : definitions.IndexRecordOption) (ps : List (ℕ × ℕ)) → self.old ≡ recorded_as option ps → IfErr result (λ fault. IsCountRefusal fault (ps ++ (doc, position) ∷ [])) }
+    {
+        match self {
+            Recorder::DocIds(recorder) => {
+                recorder.record(doc)?;
+                Ok(())
+            }
+            Recorder::TermFrequencies(recorder) => {
+                recorder.record(doc)?;
+                Ok(())
+            }
+            Recorder::TfAndPositions(recorder) => {
+                recorder.record(doc, position)?;
+                Ok(())
+            }
+        }
+    }
+}

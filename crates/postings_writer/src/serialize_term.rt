@@ -1,0 +1,164 @@
+//! Writes the postings of a term.
+
+ghost use Rattle.std.specs.Prelude.{[], ◌++◌, ◌-◌, ◌<◌, ◌≡◌, ◌≤◌, ◌⊎◌, ◌∷◌, IfErr, IfOk, List, OnOk, drop, if◌then◌else◌, length, map, slice_index_or as get_or, take, ℕ};
+ghost use Rattle.definitions.specs.Postings.{Posting};
+ghost use Rattle.definitions.specs.Recorded.{ascending};
+ghost use Rattle.definitions.specs.Schema.{basic};
+ghost use Rattle.definitions.specs.Scoring.{DontFall};
+ghost use Rattle.definitions.specs.declared.fault.Fault.TheVariants as faults;
+ghost use Rattle.layouts.specs.Positions.{differences, position_numbers};
+ghost use Rattle.postings.specs.FieldWriting.{IsOpen};
+ghost use Rattle.postings.specs.TermWriting.{recorded_count};
+ghost use Rattle.postings_writer.specs.Occurrences.{by_document};
+ghost use Rattle.postings_writer.specs.Serializing.{CanWrite, IsWrittenTerm, StandsAt, length_of, postings_from};
+ghost use Rattle.postings_writer.specs.declared.recorder.Recorder.TheVariants as recorders;
+
+use crate::recorder::Recorder;
+use definitions::Fault;
+use postings::FieldSerializer;
+use std::alloc::AllocError;
+
+/// Where the places of the document that stands at a place end.
+fn run_end(places: &[(u32, u32)], start: usize) -> usize
+    requires { start < length places.now }
+    ensures within { (start < result) × (result ≤ length places.now) }
+    ensures run { by_document (drop start places.now) ≡ ((get_or places.now start (0, 0)).0, map (λ p. p.1) (take (result - start) (drop start places.now))) ∷ by_document (drop result places.now) }
+{
+    let doc = places[start].0;
+    let mut end = start + 1;
+    while end < places.len() && places[end].0 == doc {
+        end += 1;
+    }
+    end
+}
+
+/// The positions of these places, in their order.
+fn gather(places: &[(u32, u32)], positions: &mut Vec<u32>) -> Result<(), AllocError>
+    ensures { OnOk result (positions.new.items ≡ map (λ p. p.1) places.now) }
+{
+    positions.clear();
+    for place in places {
+        positions.push(place.1)?;
+    }
+    Ok(())
+}
+
+/// Puts positions into ascending order.
+fn sort(positions: &mut Vec<u32>)
+    ensures ascending { positions.new.items ≡ ascending positions.old.items }
+    ensures rising { DontFall positions.new.items }
+{
+    positions.sort_unstable();
+}
+
+/// Puts in the place of ascending positions the first of them and the differences.
+fn to_differences(positions: &mut [u32])
+    requires { DontFall positions.old }
+    ensures { positions.new ≡ differences 0 positions.old }
+{
+    let mut before = 0;
+    for position in positions.iter_mut() {
+        let here = *position;
+        *position = here - before;
+        before = here;
+    }
+}
+
+/// The same of all positions that a vector holds.
+fn put_differences(positions: &mut Vec<u32>)
+    requires { DontFall positions.old.items }
+    ensures { positions.new.items ≡ differences 0 positions.old.items }
+{
+    to_differences(positions.as_mut_slice());
+}
+
+impl Recorder {
+    /// How much it holds.
+    fn len(&self) -> usize
+        ensures { result ≡ length_of self.now }
+    {
+        match self {
+            Recorder::DocIds(recorder) => recorder.docs().len(),
+            Recorder::TermFrequencies(recorder) => recorder.counts().len(),
+            Recorder::TfAndPositions(recorder) => recorder.places().len(),
+        }
+    }
+
+    /// The document and the count of the posting that stands at a place, and the place of the next one. Its
+    /// first position and the differences are put into the buffer.
+    fn posting_at(&self, at: usize, deltas: &mut Vec<u32>) -> Result<(u32, u32, usize), Fault>
+        requires { at < length_of self.now }
+        ensures ok { IfOk result (λ p. StandsAt self.now at p.0 p.1 p.2 deltas.new.items) }
+        ensures err { IfErr result (λ fault. (fault ≡ faults.OutOfMemory) ⊎ (fault ≡ faults.Limit)) }
+    {
+        deltas.clear();
+        match self {
+            Recorder::DocIds(recorder) => Ok((recorder.docs()[at], 1, at + 1)),
+            Recorder::TermFrequencies(recorder) => {
+                let (doc, count) = recorder.counts()[at];
+                Ok((doc, count, at + 1))
+            }
+            Recorder::TfAndPositions(recorder) => position_posting(recorder.places(), at, deltas),
+        }
+    }
+}
+
+/// The same of places.
+fn position_posting(
+    places: &[(u32, u32)],
+    at: usize,
+    deltas: &mut Vec<u32>,
+) -> Result<(u32, u32, usize), Fault>
+    requires { at < length places.now }
+    ensures ok { IfOk result (λ p. StandsAt (recorders.TfAndPositions places.now) at p.0 p.1 p.2 deltas.new.items) }
+    ensures err { IfErr result (λ fault. (fault ≡ faults.OutOfMemory) ⊎ (fault ≡ faults.Limit)) }
+{
+    let end = run_end(places, at);
+    let Ok(count) = u32::try_from(end - at) else {
+        return Err(Fault::Limit);
+    };
+    gather(&places[at..end], deltas)?;
+    sort(deltas);
+    put_differences(deltas);
+    Ok((places[at].0, count, end))
+}
+
+/// Writes what a recorder stands for.
+fn write_postings<'a>(
+    recorder: &Recorder,
+    deltas: &mut Vec<u32>,
+    serializer: &mut FieldSerializer<'a>,
+) -> Result<(), Fault>
+    requires { CanWrite serializer.old.writing.next serializer.old.writing.norms (postings_from recorder.now 0) }
+    ensures ok { (docs counts numbers : List ℕ) → IsOpen serializer.old docs counts numbers → OnOk result (IsOpen serializer.new (docs ++ map (λ p. p.doc) (postings_from recorder.now 0)) (counts ++ map (λ p. recorded_count serializer.old.writing.option p.count) (postings_from recorder.now 0)) (numbers ++ position_numbers (map (λ p. p.positions) (postings_from recorder.now 0)))) }
+    ensures same { OnOk result ((serializer.new.field ≡ serializer.old.field) × (serializer.new.num_tokens ≡ serializer.old.num_tokens) × (serializer.new.terms ≡ serializer.old.terms) × (serializer.new.postings ≡ serializer.old.postings) × (serializer.new.key ≡ serializer.old.key) × (serializer.new.writing.mode ≡ serializer.old.writing.mode) × (serializer.new.writing.option ≡ serializer.old.writing.option) × (serializer.new.writing.norms ≡ serializer.old.writing.norms)) }
+    ensures err { IfErr result (λ fault. (fault ≡ faults.OutOfMemory) ⊎ (fault ≡ faults.Limit)) }
+{
+    let mut at = 0;
+    while at < recorder.len() {
+        let (doc, count, next) = recorder.posting_at(at, deltas)?;
+        serializer.write_doc(doc, count, deltas)?;
+        at = next;
+    }
+    Ok(())
+}
+
+/// Writes a term by its value bytes, with what a recorder stands for. Of a term that isn't a text's the documents
+/// alone are written.
+pub(crate) fn serialize_term<'a>(
+    key: &[u8],
+    is_text: bool,
+    recorder: &Recorder,
+    deltas: &mut Vec<u32>,
+    serializer: &mut FieldSerializer<'a>,
+) -> Result<(), Fault>
+    requires nothing { serializer.old.positions.1 ≡ [] }
+    requires can { CanWrite 0 serializer.old.writing.norms (postings_from recorder.now 0) }
+    ensures ok { OnOk result (IsWrittenTerm serializer.old serializer.new key.now (if is_text then serializer.old.writing.mode else basic) (postings_from recorder.now 0)) }
+    ensures err { IfErr result (λ fault. (fault ≡ faults.OutOfMemory) ⊎ (fault ≡ faults.Limit)) }
+{
+    serializer.new_term(key, is_text)?;
+    write_postings(recorder, deltas, serializer)?;
+    serializer.close_term()?;
+    Ok(())
+}
