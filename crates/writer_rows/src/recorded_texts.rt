@@ -1,0 +1,106 @@
+//! Tokens of texts, recorded one value after another.
+
+ghost use Rattle.std.specs.Prelude.{◌≡◌, IsTrue, Some, slice_get, true};
+ghost use Rattle.definitions.specs.Schema.{Entry, is_indexed, text_kind};
+
+use common::{PreTokenizedStream, Token};
+use definitions::Fault;
+use options::TEXT;
+use postings_writer::PostingsWriter;
+use schema::{Field, Schema, Type};
+use std::alloc::Global;
+use std::test::Fail;
+
+// The position of a token, its length in places, and its length in bytes.
+type Shape = (usize, usize, usize);
+
+/// Whether the first field is an indexed one of texts.
+fn begins_with_a_text_field(schema: &Schema) -> bool
+    ensures { IsTrue result → (e : Entry) × (slice_get schema.now 0 ≡ Some e) × (is_indexed e ≡ true) × (e.kind ≡ text_kind) }
+{
+    if schema.num_fields() == 0 {
+        return false;
+    }
+    let entry = schema.get_field_entry(Field::from_field_id(0));
+    entry.is_indexed() && entry.field_type().value_type() == Type::Str
+}
+
+fn tokens_of(alloc: Global, shapes: &[Shape]) -> Result<Vec<Token>, Fault> {
+    let mut tokens = Vec::new(alloc);
+    for (position, position_length, len) in shapes {
+        let mut text = String::new(alloc);
+        for _ in 0..*len {
+            text.push('x')?;
+        }
+        tokens.push(Token {
+            position: *position,
+            position_length: *position_length,
+            text,
+        })?;
+    }
+    Ok(tokens)
+}
+
+/// Where the value behind one with these tokens begins.
+fn next_start(alloc: Global, schema: &Schema, shapes: &[Shape], start: u32) -> Result<u32, Fault> {
+    if !begins_with_a_text_field(schema) {
+        return Err(Fault::BadSchema);
+    }
+    let mut term_buffer = Vec::new(alloc);
+    term_buffer.extend_from_slice(b"\0\0\0\0s")?;
+    let tokens = tokens_of(alloc, shapes)?;
+    let mut stream = PreTokenizedStream::new(&tokens);
+    let mut writer = PostingsWriter::for_schema(alloc, schema)?;
+    let next = writer.index_text(0, &mut term_buffer, &mut stream, start, 1)?;
+    Ok(next)
+}
+
+fn texts(alloc: Global) -> Result<Schema, Fault> {
+    let mut builder = Schema::builder(alloc);
+    builder.add_text_field("body", TEXT)?;
+    Ok(builder.build())
+}
+
+#[test]
+fn values_follow_one_another(rt: HostRuntime) -> Result<(), Fail> {
+    let alloc = rt.alloc();
+    let schema = texts(alloc)?;
+    assert_eq!(rt; next_start(alloc, &schema, &[], 0)?, 1);
+    assert_eq!(rt; next_start(alloc, &schema, &[(0, 1, 3), (1, 1, 4)], 0)?, 3);
+    assert_eq!(rt; next_start(alloc, &schema, &[(0, 1, 3), (0, 1, 3)], 3)?, 5);
+    assert_eq!(rt; next_start(alloc, &schema, &[(5, 4, 1), (6, 1, 1)], 2)?, 12);
+    assert_eq!(rt; next_start(alloc, &schema, &[(9, 1, 65530)], 0)?, 11);
+    assert_eq!(rt;
+        next_start(alloc, &schema, &[(0, 1, 1), (9, 1, 65531)], 0)?,
+        2
+    );
+    Ok(())
+}
+
+#[test]
+fn positions_have_a_limit(rt: HostRuntime) -> Result<(), Fail> {
+    let alloc = rt.alloc();
+    let schema = texts(alloc)?;
+    assert_eq!(rt;
+        next_start(alloc, &schema, &[(0, 1, 1)], 2147483645),
+        Ok(2147483647)
+    );
+    assert_eq!(rt;
+        next_start(alloc, &schema, &[(0, 1, 1)], 2147483646),
+        Err(Fault::Limit)
+    );
+    assert_eq!(rt;
+        next_start(alloc, &schema, &[(usize::MAX, 1, 1)], 0),
+        Err(Fault::Limit)
+    );
+    assert_eq!(rt;
+        next_start(alloc, &schema, &[(0, usize::MAX, 1)], 0),
+        Err(Fault::Limit)
+    );
+    assert_eq!(rt; next_start(alloc, &schema, &[], 2147483648), Ok(2147483648));
+    assert_eq!(rt;
+        next_start(alloc, &schema, &[(usize::MAX, 1, 65531)], 7),
+        Ok(8)
+    );
+    Ok(())
+}
