@@ -31,7 +31,7 @@ numbers_in ps = position_numbers (map (λ (p : Posting). p.positions) ps)
 
 -- what writing a posting leaves as it is
 abbrev pub IsSame : FieldWriting → FieldWriting → Type 0
-IsSame was now = (now.field ≡ was.field) × (now.num_tokens ≡ was.num_tokens) × (now.terms ≡ was.terms) × (now.postings ≡ was.postings) × (now.key ≡ was.key) × (now.writing.mode ≡ was.writing.mode) × (now.writing.option ≡ was.writing.option) × (now.writing.norms ≡ was.writing.norms)
+IsSame was now = (now.field ≡ was.field) × (now.num_tokens ≡ was.num_tokens) × (now.terms ≡ was.terms) × (now.postings ≡ was.postings) × (now.key ≡ was.key) × (now.writing.mode ≡ was.writing.mode) × (now.writing.option ≡ was.writing.option) × (now.writing.norms ≡ was.writing.norms) × (now.positions.0 ≡ was.positions.0)
 
 -- some of all postings were written, and the others may be
 pub record Written (was now : FieldWriting) (all rest : List Posting) : Type 0 where
@@ -51,7 +51,7 @@ none_written was all can = record {
   split = refl;
   can = can;
   open_is = λ docs counts numbers is. subst (λ ns. IsOpen was (docs ++ []) (counts ++ []) ns) (sym (append_nil numbers)) (subst (λ ns. IsOpen was (docs ++ []) ns numbers) (sym (append_nil counts)) (subst (λ ds. IsOpen was ds counts numbers) (sym (append_nil docs)) is));
-  same = (refl, refl, refl, refl, refl, refl, refl, refl);
+  same = (refl, refl, refl, refl, refl, refl, refl, refl, refl);
 }
 
 -- what may be written after a posting
@@ -91,7 +91,7 @@ written_more was now new all rest after p deltas before is deltas_are more same 
       (subst (λ ns. IsOpen new (docs ++ docs_in (before.done ++ p ∷ [])) ns ((numbers ++ numbers_in before.done) ++ deltas)) (counts_are counts)
       (subst (λ ds. IsOpen new ds ((counts ++ counts_in was before.done) ++ recorded_count now.writing.option p.count ∷ []) ((numbers ++ numbers_in before.done) ++ deltas)) (docs_are docs)
       (more (docs ++ docs_in before.done) (counts ++ counts_in was before.done) (numbers ++ numbers_in before.done) (before.open_is docs counts numbers open_was))));
-  same = (same.0 ∙ before.same.0, same.1 ∙ before.same.1, same.2 ∙ before.same.2, same.3 ∙ before.same.3, same.4 ∙ before.same.4, same.5 ∙ before.same.5, same.6 ∙ before.same.6, same.7 ∙ before.same.7);
+  same = (same.0 ∙ before.same.0, same.1 ∙ before.same.1, same.2 ∙ before.same.2, same.3 ∙ before.same.3, same.4 ∙ before.same.4, same.5 ∙ before.same.5, same.6 ∙ before.same.6, same.7 ∙ before.same.7, same.8 ∙ before.same.8);
 }
   where
     docs_are : (docs : List ℕ) → (docs ++ docs_in before.done) ++ p.doc ∷ [] ≡ docs ++ docs_in (before.done ++ p ∷ [])
@@ -153,8 +153,7 @@ term_written was begun full now key option ps key_is option_is first second clos
       terms_fit = subst (λ (t : Terms). t.num_terms < 4294967295) terms_are closed.terms_fit;
       positions_are = subst (λ x. HasPositions (has_positions x) (numbers_in ps) closed.bytes) o closed.positions_are;
       postings = closed.postings ∙ ap₂ (λ xs ys. xs ++ ys) (second.3 ∙ first.3) bytes;
-      before = full.positions.0;
-      positions = closed.positions;
+      positions = closed.positions ∙ ap (λ xs. (xs ++ closed.bytes, [])) (second.8 ∙ ap (λ (p : List ℕ × List ℕ). p.0) first.4);
       terms = closed.terms
           ∙ ap (λ k. entry_in k (docs_in ps) (postings_of full.writing (docs_in ps) (counts_in begun ps)) closed.bytes full.terms) (second.4 ∙ key_is)
           ∙ ap (λ xs. entry_in key (docs_in ps) xs closed.bytes full.terms) bytes

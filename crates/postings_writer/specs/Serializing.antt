@@ -56,7 +56,6 @@ pub record IsWrittenTerm (was now : FieldWriting) (key : List ℕ) (option : Ind
   pub terms_fit : was.terms.num_terms < 4294967295
   pub positions_are : HasPositions (has_positions option) (position_numbers (map (λ (p : Posting). p.positions) ps)) bytes
   pub postings : now.postings ≡ was.postings ++ postings_bytes option (listed was.writing.norms) (map (λ (p : Posting). p.doc) ps) (map (λ (p : Posting). recorded_count option p.count) ps)
-  pub before : List ℕ
-  pub positions : now.positions ≡ (before ++ bytes, [])
+  pub positions : now.positions ≡ (was.positions.0 ++ bytes, [])
   pub terms : now.terms ≡ inserted key (record { doc_freq = length (map (λ (p : Posting). p.doc) ps); postings_len = length (postings_bytes option (listed was.writing.norms) (map (λ (p : Posting). p.doc) ps) (map (λ (p : Posting). recorded_count option p.count) ps)); positions_len = length bytes }) was.terms
   pub same : (now.field ≡ was.field) × (now.num_tokens ≡ was.num_tokens) × (now.writing.mode ≡ was.writing.mode) × (now.writing.norms ≡ was.writing.norms)

@@ -131,7 +131,7 @@ fn write_postings<'a>(
 ) -> Result<(), Fault>
     requires { CanWrite serializer.old.writing.next serializer.old.writing.norms (postings_from recorder.now 0) }
     ensures ok { (docs counts numbers : List ℕ) → IsOpen serializer.old docs counts numbers → OnOk result (IsOpen serializer.new (docs ++ map (λ p. p.doc) (postings_from recorder.now 0)) (counts ++ map (λ p. recorded_count serializer.old.writing.option p.count) (postings_from recorder.now 0)) (numbers ++ position_numbers (map (λ p. p.positions) (postings_from recorder.now 0)))) }
-    ensures same { OnOk result ((serializer.new.field ≡ serializer.old.field) × (serializer.new.num_tokens ≡ serializer.old.num_tokens) × (serializer.new.terms ≡ serializer.old.terms) × (serializer.new.postings ≡ serializer.old.postings) × (serializer.new.key ≡ serializer.old.key) × (serializer.new.writing.mode ≡ serializer.old.writing.mode) × (serializer.new.writing.option ≡ serializer.old.writing.option) × (serializer.new.writing.norms ≡ serializer.old.writing.norms)) }
+    ensures same { OnOk result ((serializer.new.field ≡ serializer.old.field) × (serializer.new.num_tokens ≡ serializer.old.num_tokens) × (serializer.new.terms ≡ serializer.old.terms) × (serializer.new.postings ≡ serializer.old.postings) × (serializer.new.key ≡ serializer.old.key) × (serializer.new.writing.mode ≡ serializer.old.writing.mode) × (serializer.new.writing.option ≡ serializer.old.writing.option) × (serializer.new.writing.norms ≡ serializer.old.writing.norms) × (serializer.new.positions.0 ≡ serializer.old.positions.0)) }
     ensures err { IfErr result (λ fault. (fault ≡ faults.OutOfMemory) ⊎ (fault ≡ faults.Limit)) }
 {
     let mut at = 0;
