@@ -46,7 +46,7 @@ pub record CanWrite (next : ℕ) (norms : Option (List ℕ)) (ps : List Posting)
   pub ascending : IsAscendingFrom next (map (λ (p : Posting). p.doc) ps)
   pub fits : AllByRecursion (λ (p : Posting). p.doc < 2147483647) ps
   pub kept : IfSome norms (λ ids. AllByRecursion (λ (p : Posting). p.doc < length ids) ps)
-  pub counted : AllByRecursion (λ (p : Posting). (0 < p.count) × (p.count < 2 ^ 32)) ps
+  pub counted : AllByRecursion (λ (p : Posting). 0 < p.count) ps
   pub placed : AllByRecursion (λ (p : Posting). AllByRecursion (λ n. n < 2 ^ 31) p.positions) ps
 
 -- a term was written behind those before: its postings, its positions and its entry
