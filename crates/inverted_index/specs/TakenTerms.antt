@@ -1,8 +1,8 @@
 -- Terms as they are taken out of their section.
-use Rattle.std.specs.Prelude.{[], ◌∷◌, List, None, Option, Some, drop, nat_eq, suc, zero, ℕ}
-use Rattle.definitions.specs.Json.{only_if, ◌>>=◌}
-use Rattle.definitions.specs.NumberCodes.{take_bytes, take_u32, take_u64, take_vint}
-use Rattle.layouts.specs.TermSections.{FieldTerms, TermLengths}
+use Rattle.std.specs.Prelude.{[], List, None, Option, Some, drop, ℕ}
+use Rattle.definitions.specs.Json.{◌>>=◌}
+use Rattle.definitions.specs.NumberCodes.{take_bytes, take_vint}
+use Rattle.layouts.specs.TermSections.{TermLengths}
 use Rattle.inverted_index.specs.declared.term_entry.TermEntry.{TermEntry}
 
 -- a term by its value bytes, and its lengths
@@ -21,23 +21,6 @@ take_entry bs = do
   postings ← take_vint docs.1
   positions ← take_vint postings.1
   Some ((key.0, record { doc_freq = docs.0; postings_len = postings.0; positions_len = positions.0 }), positions.1)
-
--- so many entries
-abbrev pub take_entries : ℕ → List ℕ → Option (List Told × List ℕ)
-take_entries zero bs = Some ([], bs)
-take_entries (suc n) bs = do
-  t ← take_entry bs
-  ts ← take_entries n t.1
-  Some (t.0 ∷ ts.0, ts.1)
-
--- a field of that number: its tokens, how many terms it has, and these
-abbrev pub take_field : ℕ → List ℕ → Option (FieldTerms × List ℕ)
-take_field field bs = do
-  number ← take_u32 bs
-  tokens ← take_u64 number.1
-  count ← take_vint tokens.1
-  terms ← take_entries count.0 count.1
-  only_if (nat_eq number.0 field) (Some (record { field = field; num_tokens = tokens.0; terms = terms.0 }, terms.1))
 
 -- an entry without bytes and documents
 abbrev pub no_entry : Told

@@ -42,7 +42,11 @@ fn write_docs(
 }
 
 /// The bytes of a term of so many documents, which go into the plain list as well.
-pub fn written(alloc: Global, plain: &mut Vec<(u32, u32)>, num_docs: u32) -> Result<Vec<u8>, Fault>
+pub(crate) fn written(
+    alloc: Global,
+    plain: &mut Vec<(u32, u32)>,
+    num_docs: u32,
+) -> Result<Vec<u8>, Fault>
     requires { num_docs ≤ 1000000 }
     ensures { IfOk result (λ bytes. (docs counts : List ℕ) × HasPostings true false num_docs bytes.items docs counts) }
 {
@@ -54,7 +58,7 @@ pub fn written(alloc: Global, plain: &mut Vec<(u32, u32)>, num_docs: u32) -> Res
 }
 
 /// The cursor at its first document.
-pub fn opened(bytes: &[u8], num_docs: u32) -> SegmentPostings<'_>
+pub(crate) fn opened(bytes: &[u8], num_docs: u32) -> SegmentPostings<'_>
     requires { (docs counts : List ℕ) × HasPostings true false num_docs bytes.now docs counts }
 {
     let recorded = Recorded {
