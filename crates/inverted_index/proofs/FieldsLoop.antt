@@ -15,7 +15,7 @@ use Rattle.inverted_index.specs.declared.term_start.TermStart.{TermStart}
 
 -- ---- one reading
 
-terms_tail : (section : List ℕ) (at : TermStart) (p q : ℕ) (before : Option (List ℕ)) (t : Told) (ts : List Told) (rest : List ℕ) → AreTerms section at p q before (t ∷ ts) rest → AreTerms section (behind at t) p q (Some t.0) ts rest
+pub terms_tail : (section : List ℕ) (at : TermStart) (p q : ℕ) (before : Option (List ℕ)) (t : Told) (ts : List Told) (rest : List ℕ) → AreTerms section at p q before (t ∷ ts) rest → AreTerms section (behind at t) p q (Some t.0) ts rest
 terms_tail section at p q before t ts rest terms =
     let n = length (entry_of_term t) in
     let is : drop at.entry section ≡ entry_of_term t ++ (flat_map entry_of_term ts ++ rest) = terms.spelled ∙ append_assoc (entry_of_term t) (flat_map entry_of_term ts) rest in
@@ -41,7 +41,7 @@ same_terms section at p q first second (t ∷ ts) (u ∷ us) rest after short a 
     let rests = same_terms section (behind at t) p q (Some t.0) (Some u.0) ts us rest after short (terms_tail section at p q first t ts rest a) tail (omega (arith, long)) in
     ap (λ x. x ∷ ts) same ∙ ap (λ xs. u ∷ xs) rests
 
-same_field : (section : List ℕ) (at : TermStart) (p q : ℕ) (f g : FieldTerms) (end last : TermStart) → length section < 2 ^ 63 → f.field < 2 ^ 32 → f.field ≡ g.field → IsReadField section at p q f end → IsReadField section at p q g last → f ≡ g
+pub same_field : (section : List ℕ) (at : TermStart) (p q : ℕ) (f g : FieldTerms) (end last : TermStart) → length section < 2 ^ 63 → f.field < 2 ^ 32 → f.field ≡ g.field → IsReadField section at p q f end → IsReadField section at p q g last → f ≡ g
 same_field section at p q f g end last short small same a b =
     let there = b.header.spelled ∙ ap (λ k. header_bytes k g.num_tokens (length g.terms) ++ drop (first_in at g).entry section) (sym same) in
     let one = same_header (drop at.entry section) f.field f.num_tokens (length f.terms) g.num_tokens (length g.terms) (drop (first_in at f).entry section) (drop (first_in at g).entry section) small a.header.tokens_fit a.header.terms_fit b.header.tokens_fit b.header.terms_fit a.header.spelled there in
@@ -60,7 +60,7 @@ end_pushed : (at : TermStart) (fs : List FieldTerms) (f : FieldTerms) → fields
 end_pushed at [] f = refl
 end_pushed at (g ∷ fs) f = end_pushed (field_end at g) fs f
 
-told_pushed : (at : TermStart) (fs : List FieldTerms) (is : List FieldIndex) (f : FieldTerms) (i : FieldIndex) → AreTold at fs is → i.field ≡ f.field → i.num_tokens ≡ f.num_tokens → i.starts.items ≡ starts_from (first_in (fields_end at fs) f) f.terms → AreTold at (fs ++ f ∷ []) (is ++ i ∷ [])
+told_pushed : (at : TermStart) (fs : List FieldTerms) (is : List FieldIndex) (f : FieldTerms) (i : FieldIndex) → AreTold at fs is → i.kind.field ≡ f.field → i.num_tokens ≡ f.num_tokens → i.starts.items ≡ starts_from (first_in (fields_end at fs) f) f.terms → AreTold at (fs ++ f ∷ []) (is ++ i ∷ [])
 told_pushed at [] [] f i told a b c = (a, b, c, tt)
 told_pushed at [] (j ∷ is) f i told a b c = absurd told
 told_pushed at (g ∷ fs) [] f i told a b c = absurd told
@@ -111,7 +111,7 @@ map_pushed : (fs : List FieldTerms) (f : FieldTerms) → map (λ (g : FieldTerms
 map_pushed [] f = refl
 map_pushed (g ∷ fs) f = ap (λ xs. g.field ∷ xs) (map_pushed fs f)
 
-pub one_more : (section : List ℕ) (p q : ℕ) (numbers : List ℕ) (i : ℕ) (told : List FieldIndex) (place end : TermStart) (index : FieldIndex) → length section < 2 ^ 63 → i < length numbers → get_or numbers i 0 < 2 ^ 32 → index.field ≡ get_or numbers i 0 → Reading section p q numbers i told place → FieldThere section place p q (get_or numbers i 0) index.num_tokens index.starts.items end → Reading section p q numbers (i + 1) (told ++ index ∷ []) end
+pub one_more : (section : List ℕ) (p q : ℕ) (numbers : List ℕ) (i : ℕ) (told : List FieldIndex) (place end : TermStart) (index : FieldIndex) → length section < 2 ^ 63 → i < length numbers → get_or numbers i 0 < 2 ^ 32 → index.kind.field ≡ get_or numbers i 0 → Reading section p q numbers i told place → FieldThere section place p q (get_or numbers i 0) index.num_tokens index.starts.items end → Reading section p q numbers (i + 1) (told ++ index ∷ []) end
 one_more section p q numbers i told place end index short more small number reading there =
     let f = there.told in
     let done = reading.done in

@@ -6,3 +6,16 @@ pub mod TermSteps
 pub mod TermsLoop
 pub mod HeadersTaken
 pub mod FieldsLoop
+pub mod TermBytes
+pub mod KindsKnown
+pub mod SectionsThere
+pub mod FieldsChecked
+pub mod SectionsRead
+pub mod DictionariesPlaced
+pub mod OneReading
+pub mod NumbersFound
+pub mod ReadersMade
+pub mod FieldsKept
+pub mod CheckedOnce
+pub mod CheckedLists
+pub mod OpenedPostings

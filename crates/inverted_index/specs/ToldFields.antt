@@ -8,6 +8,6 @@ use Rattle.inverted_index.specs.declared.term_start.TermStart.{TermStart}
 -- of each field its number, its tokens, and where its terms begin
 abbrev pub AreTold : TermStart → List FieldTerms → List FieldIndex → Type 0
 AreTold at [] [] = ⊤
-AreTold at (f ∷ fs) (i ∷ is) = (i.field ≡ f.field) × (i.num_tokens ≡ f.num_tokens) × (i.starts.items ≡ starts_from (first_in at f) f.terms) × AreTold (field_end at f) fs is
+AreTold at (f ∷ fs) (i ∷ is) = (i.kind.field ≡ f.field) × (i.num_tokens ≡ f.num_tokens) × (i.starts.items ≡ starts_from (first_in at f) f.terms) × AreTold (field_end at f) fs is
 AreTold at [] (i ∷ is) = ⊥
 AreTold at (f ∷ fs) [] = ⊥

@@ -1,12 +1,13 @@
 //! The section of terms, read whole.
 
-ghost use Rattle.std.specs.Prelude.{◌↔◌, ◌≡◌, ◌≢◌, IfErr, IfOk, IsTrue, List, None, length};
+ghost use Rattle.std.specs.Prelude.{◌↔◌, ◌≡◌, ◌≢◌, IfErr, IfOk, IsTrue, List, None, length, map};
 ghost use Rattle.definitions.specs.declared.fault.Fault.TheVariants as faults;
 ghost use Rattle.layouts.specs.TermSections.{FieldTerms};
 ghost use Rattle.inverted_index.specs.TermPlaces.{IsSection, fields_start};
 ghost use Rattle.inverted_index.specs.ToldFields.{AreTold};
 
 use crate::field_index::FieldIndex;
+use crate::field_kind::FieldKind;
 use crate::field_read::take_field;
 use crate::term_start::TermStart;
 use crate::terms_read::SectionLengths;
@@ -18,10 +19,11 @@ pub(crate) fn take_fields(
     alloc: Global,
     section: &[u8],
     lengths: SectionLengths,
-    fields: &[u32],
+    kinds: &[FieldKind],
 ) -> Result<Vec<FieldIndex>, Fault>
-    ensures ok { IfOk result (λ told. (fs : List FieldTerms) × IsSection section.now lengths.postings lengths.positions fields.now fs × AreTold fields_start fs told.items) }
-    ensures err { IfErr result (λ fault. fault ≢ faults.OutOfMemory → (fault ≡ faults.Damaged None) × ((fs : List FieldTerms) → IsSection section.now lengths.postings lengths.positions fields.now fs → ⊥)) }
+    ensures ok { IfOk result (λ told. (fs : List FieldTerms) × IsSection section.now lengths.postings lengths.positions (map (λ k. k.field) kinds.now) fs × AreTold fields_start fs told.items) }
+    ensures kinds { IfOk result (λ told. map (λ i. i.kind) told.items ≡ kinds.now) }
+    ensures err { IfErr result (λ fault. fault ≢ faults.OutOfMemory → (fault ≡ faults.Damaged None) × ((fs : List FieldTerms) → IsSection section.now lengths.postings lengths.positions (map (λ k. k.field) kinds.now) fs → ⊥)) }
 {
     if section.first() != Some(&0) {
         return Err(Fault::Damaged(None));
@@ -32,10 +34,10 @@ pub(crate) fn take_fields(
         positions: 0,
     };
     let mut told = Vec::new(alloc);
-    for field in fields {
-        let (num_tokens, starts, end) = take_field(alloc, section, place, lengths, *field)?;
+    for kind in kinds {
+        let (num_tokens, starts, end) = take_field(alloc, section, place, lengths, kind.field)?;
         told.push(FieldIndex {
-            field: *field,
+            kind: *kind,
             num_tokens,
             starts,
         })?;

@@ -4,11 +4,12 @@ use Rattle.std.specs.Option.{option_map_or}
 use Rattle.definitions.specs.Schema.{Entry, IndexRecordOption, Kind, Schema, basic, bool_kind, bytes_kind, date_kind, facet_kind, i64_kind, ip_addr_kind, is_text, json_kind, text_kind, u64_kind, with_freqs, with_freqs_and_positions}
 use Rattle.definitions.specs.Terms.{field_of, is_text_term, term_bytes}
 use Rattle.layouts.specs.InvertedIndexes.{option_of_term}
-use Rattle.postings_writer.specs.Fields.{is_text_key, option_of_key}
+use Rattle.postings_writer.specs.Fields.{option_of_key}
 use Rattle.postings_writer.specs.Occurrences.{by_document, posting_in, postings_at}
 use Rattle.postings_writer.specs.Recorders.{recorded_as}
 use Rattle.postings_writer.specs.Serializing.{of_count, of_doc, postings_from}
 use Rattle.postings_writer.proofs.Standing.{field_of-term}
+use Rattle.schema.specs.TextKeys.{is_text_key}
 
 -- the recorder of places stands for their postings
 pub recorded_postings : (option : IndexRecordOption) (ps : List (ℕ × ℕ)) → postings_from (recorded_as option ps) 0 ≡ postings_at option ps

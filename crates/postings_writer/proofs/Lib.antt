@@ -1,7 +1,6 @@
 -- Lemmas behind the writer of postings.
 pub mod Groups
 pub mod KeptRecorders
-pub mod TextKeys
 pub mod Standing
 pub mod TextRuns
 pub mod Runs

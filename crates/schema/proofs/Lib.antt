@@ -10,3 +10,5 @@ pub mod FacetPathTexts
 pub mod FacetBelow
 pub mod FacetLists
 pub mod TermOrder
+pub mod TextKeys
+pub mod TermParts

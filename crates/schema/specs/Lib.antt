@@ -4,3 +4,4 @@ pub mod Names
 pub mod IpAddrs
 pub mod JsonPaths
 pub mod Steps
+pub mod TextKeys

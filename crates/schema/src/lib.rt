@@ -17,6 +17,7 @@ mod schema;
 mod sortable;
 mod term;
 pub mod term_laws;
+mod text_keys;
 mod write_schema;
 
 pub use date_time::DateTime;

@@ -1,7 +1,7 @@
 use Rattle.std.proofs.Common.{◌==◌, ◌∙◌, ap, sym, slice_get}
 use Rattle.std.specs.List.{after_first}
-use Rattle.postings_writer.proofs.TextKeys.{first_is, first_none}
-use Rattle.postings_writer.proofs.field_postings.is_text_leaf.Goals as goal
+use Rattle.schema.proofs.TextKeys.{first_is, first_none}
+use Rattle.schema.proofs.text_keys.is_text_leaf.Goals as goal
 
 pub returns-in-Some : goal.returns-in-Some
 returns-in-Some c = first_is (after_first (◌==◌ 0) c.args.key.now) c.in-Some.code.now (ap (λ leaf. slice_get leaf 0) (sym c.leaf_of.ensures) ∙ sym c.in-Some.ensures.value)

@@ -1,6 +1,6 @@
 use Rattle.std.proofs.Common.{◌==◌}
-use Rattle.postings_writer.proofs.TextKeys.{found_behind, none_behind}
-use Rattle.postings_writer.proofs.field_postings.leaf_of.Goals as goal
+use Rattle.schema.proofs.TextKeys.{found_behind, none_behind}
+use Rattle.schema.proofs.text_keys.leaf_of.Goals as goal
 
 pub returns-in-Some : goal.returns-in-Some
 returns-in-Some c = found_behind (◌==◌ 0) c.args.key.now c.in-Some.end c.in-Some.ensures

@@ -1,0 +1,18 @@
+-- The postings of a term, as they are opened.
+use Rattle.std.specs.Prelude.{[], ◌∷◌, ◌≡◌, List, if◌then◌else◌, length, ℕ}
+use Rattle.checked_postings.specs.Placed.{term_of}
+use Rattle.definitions.specs.Postings.{Posting}
+use Rattle.definitions.specs.Schema.{IndexRecordOption, has_freq, has_positions}
+use Rattle.layouts.specs.InvertedIndexes.{IsTerm}
+use Rattle.postings.specs.Entries.{Entry}
+
+-- the bytes are a term's postings and positions, which so many documents have
+pub record HasTerm (option : IndexRecordOption) (doc_freq : ℕ) (postings positions : List ℕ) (ps : List Posting) : Type 0 where
+  pub num_docs : ℕ
+  pub ids : List ℕ
+  pub is : IsTerm option num_docs ids (term_of ps postings positions)
+  pub many : length ps ≡ doc_freq
+
+-- a posting as a cursor tells it that is asked for so much: a count that isn't asked for is 1
+abbrev pub entry_as : IndexRecordOption → Posting → Entry
+entry_as asked p = record { doc = p.doc; score = 0; count = if has_freq asked then p.count else 1; positions = (if has_positions asked then p.positions else []) ∷ [] }
