@@ -15,6 +15,9 @@ pub mod DictionariesPlaced
 pub mod OneReading
 pub mod NumbersFound
 pub mod ReadersMade
+pub mod TermsHeld
+pub mod ReaderCalls
+pub mod PostingsFound
 pub mod FieldsKept
 pub mod CheckedOnce
 pub mod CheckedLists

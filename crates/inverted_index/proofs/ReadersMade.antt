@@ -64,7 +64,7 @@ told_for : (schema : Schema) (n : ℕ) (norms : List (ℕ × List ℕ)) (s : Sec
 told_for schema n norms s fs told fields made are = subst (λ gs. AreTold fields_start gs told) (fields_are schema n norms s fs told fields made are) made.told_are
 
 pub stands_for : (schema : Schema) (n : ℕ) (norms : List (ℕ × List ℕ)) (s : Sections) (fs : List FieldTerms) (told : List FieldIndex) (fields : List IndexedField) → Made schema n s fs told → AreSections schema n norms fields s.terms s.postings s.positions → IsReader schema n norms fields (record { sections = s; indexes = told })
-stands_for schema n norms s fs told fields made are = record { few = made.few; docs_few = made.docs_few; sections = are; kinds = made.kinds; told = told_for schema n norms s fs told fields made are }
+stands_for schema n norms s fs told fields made are = record { few = made.few; docs_few = made.docs_few; terms_short = made.terms_short; postings_short = made.postings_short; positions_short = made.positions_short; sections = are; kinds = made.kinds; told = told_for schema n norms s fs told fields made are }
 
 pub checked_for : (schema : Schema) (n : ℕ) (norms : List (ℕ × List ℕ)) (s : Sections) (fs : List FieldTerms) (told : List FieldIndex) (fields : List IndexedField) → Made schema n s fs told → AreSections schema n norms fields s.terms s.postings s.positions → AreCheckedFields s n norms told (map (λ (f : IndexedField). f.terms) fields)
 checked_for schema n norms s fs told fields made are =
@@ -77,6 +77,9 @@ reader_made schema n norms s fs told xss made checked = (
   record {
     few = made.few;
     docs_few = made.docs_few;
+    terms_short = made.terms_short;
+    postings_short = made.postings_short;
+    positions_short = made.positions_short;
     sections = sections_read schema n norms s fs told xss made.terms_short made.few made.section made.told_are made.kinds checked;
     kinds = made.kinds;
     told = (told_fields schema n norms s fs told xss made.terms_short made.few made.section made.told_are made.kinds checked).0;

@@ -1,5 +1,5 @@
 -- Terms by their parts: the field, the kind, and the value bytes.
-use Rattle.std.proofs.Common.{[], Bool, List, None, Option, Some, ap, arith, bytes_eq, cond, drop, false, find, length, length-drop, refl, suc, sym, take, true, zero, ◌++◌, ◌+◌, ◌<◌, ◌≡◌, ◌≢◌, ◌≤◌, ◌∙◌, ◌∷◌, ◌^◌, ℕ}
+use Rattle.std.proofs.Common.{[], Bool, List, None, Option, Some, ap, arith, bytes_eq, cond, drop, false, find, get_or, length, length-drop, refl, suc, sym, take, true, zero, ◌++◌, ◌+◌, ◌<◌, ◌≡◌, ◌≢◌, ◌≤◌, ◌∙◌, ◌∷◌, ◌^◌, ℕ}
 use Rattle.std.specs.Int.{to_be_bytes, w32}
 use Rattle.std.specs.Option.{option_map_or}
 use Rattle.std.proofs.lemmas.Bool.{false_from_ne_true}
@@ -37,6 +37,13 @@ kind_in-term f facet_kind key = refl
 kind_in-term f bytes_kind key = refl
 kind_in-term f json_kind key = refl
 kind_in-term f ip_addr_kind key = refl
+
+-- kinds are equal where their codes are
+pub same_code : (a b : Kind) (x y : ℕ) → type_code a ≡ x ∷ [] → type_code b ≡ y ∷ [] → x ≡ y → ◌≡◌ {A = Option Kind} (Some a) (Some b)
+same_code a b x y first second same = sym (kind_in-term 0 a []) ∙ ap (λ code. kind_in (to_be_bytes w32 0 ++ (code ++ []))) (first ∙ ap (λ n. n ∷ []) same ∙ sym second) ∙ kind_in-term 0 b []
+
+pub code_same : (a b : Kind) (x y : ℕ) → type_code a ≡ x ∷ [] → type_code b ≡ y ∷ [] → ◌≡◌ {A = Option Kind} (Some a) (Some b) → x ≡ y
+code_same a b x y first second same = ap (λ xs. get_or xs 0 0) (sym first ∙ ap (λ (o : Option Kind). option_map_or type_code o []) same ∙ second)
 
 same_tests : (a b : Bool) → (a ≡ true → b ≡ true) → (b ≡ true → a ≡ true) → a ≡ b
 same_tests true b to from = sym (to refl)

@@ -33,6 +33,15 @@ const HEADER_LEN: usize = 5;
 /// What stands behind the path of a JSON term.
 const PATH_END: u8 = 0;
 
+/// The type that a term's code names.
+fn type_of(bytes: &[u8]) -> Type
+    requires { IsSome (kind_in bytes.now) }
+    ensures kind { kind_in bytes.now ≡ Some (kind_of result) }
+    ensures parts { bytes.now ≡ term_bytes (field_of bytes.now) (kind_of result) (payload_of bytes.now) }
+{
+    Type::from_code(bytes[4]).unwrap()
+}
+
 /// A term: its field's number, the code of its type and its value, as bytes. Terms are ordered by them.
 #[derive(Drop)]
 pub struct Term {
@@ -205,9 +214,10 @@ impl Term {
 
     /// The type of the term's value.
     pub fn typ(&self) -> Type
-        ensures { kind_in self.now ≡ Some (kind_of result) }
+        ensures kind { kind_in self.now ≡ Some (kind_of result) }
+        ensures parts { self.now ≡ term_bytes (field_of self.now) (kind_of result) (payload_of self.now) }
     {
-        Type::from_code(self.bytes.as_slice()[4]).unwrap()
+        type_of(self.bytes.as_slice())
     }
 
     /// The whole term: field, code and value.
