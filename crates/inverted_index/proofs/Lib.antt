@@ -18,6 +18,7 @@ pub mod ReadersMade
 pub mod TermsHeld
 pub mod ReaderCalls
 pub mod PostingsFound
+pub mod Ranges
 pub mod FieldsKept
 pub mod CheckedOnce
 pub mod CheckedLists

@@ -145,7 +145,7 @@ all_at P f [] n d all within = absurd (omega arith)
 all_at P f (x ∷ xs) zero d all within = all.0
 all_at P f (x ∷ xs) (suc n) d all within = all_at P f xs n d all.1 (omega arith)
 
-InfoFits-prop : (info : TermInfo) → IsProp (InfoFits info)
+pub InfoFits-prop : (info : TermInfo) → IsProp (InfoFits info)
 InfoFits-prop info = hlevel props
 
 -- the numbers of a term fit

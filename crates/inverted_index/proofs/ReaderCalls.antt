@@ -81,9 +81,10 @@ no_dictionary r field terms none is = is ∙ ap (λ (o : Option FieldIndex). opt
 -- whether the values of a field that is found are of a kind
 pub of_kind : (r : Reader) (field : ℕ) (o : Option (Bor FieldIndex)) (index : Bor FieldIndex) (kind : Kind) (x y : ℕ) → option_map (λ (b : Bor FieldIndex). b.now) o ≡ index_in field r.indexes → o ≡ Some index → type_code (kind_of index.now.kind.value_type) ≡ x ∷ [] → type_code kind ≡ y ∷ [] → (x ≡ y → HasKind r field kind) × (HasKind r field kind → x ≡ y)
 of_kind r field o index kind x y told is first second =
-    let found = found_index r field o index told is in
-    ((λ codes. record { index = index.now; found = found; kind_is = some_same (kind_of index.now.kind.value_type) kind (same_code (kind_of index.now.kind.value_type) kind x y first second codes) }),
-     (λ has. code_same (kind_of index.now.kind.value_type) kind x y first second (ap (option_map (λ (i : FieldIndex). kind_of i.kind.value_type)) (sym found ∙ has.found) ∙ ap Some has.kind_is)))
+    let found = found_index r field o index told is in (
+      (λ codes. record { index = index.now; found = found; kind_is = some_same (kind_of index.now.kind.value_type) kind (same_code (kind_of index.now.kind.value_type) kind x y first second codes) }),
+      (λ has. code_same (kind_of index.now.kind.value_type) kind x y first second (ap (option_map (λ (i : FieldIndex). kind_of i.kind.value_type)) (sym found ∙ has.found) ∙ ap Some has.kind_is)),
+    )
 
 pub no_kind : (r : Reader) (field : ℕ) (o : Option (Bor FieldIndex)) (kind : Kind) → option_map (λ (b : Bor FieldIndex). b.now) o ≡ index_in field r.indexes → o ≡ None → HasKind r field kind → ⊥
 no_kind r field o kind told is has =

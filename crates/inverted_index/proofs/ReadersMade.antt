@@ -1,5 +1,5 @@
 -- A reader, of what was read and checked.
-use Rattle.std.proofs.Common.{[], List, None, Option, ap, append_assoc, arith, flat_map, length, map, subst, sym, ◌+◌, ◌++◌, ◌<◌, ◌≡◌, ◌≤◌, ◌∙◌, ◌∷◌, ◌^◌, ℕ}
+use Rattle.std.proofs.Common.{[], List, None, Option, ap, append_assoc, arith, flat_map, length, map, refl, subst, sym, ◌+◌, ◌++◌, ◌<◌, ◌≡◌, ◌≤◌, ◌∙◌, ◌∷◌, ◌^◌, ℕ}
 use Rattle.std.specs.List.{AllByRecursion}
 use Rattle.definitions.specs.Schema.{Schema, max_fields}
 use Rattle.layouts.specs.InvertedIndexes.{AreSections, IndexedField, IndexedTerm, field_terms, indexed_fields}
@@ -13,7 +13,7 @@ use Rattle.inverted_index.proofs.SectionsThere.{sections_there}
 use Rattle.inverted_index.proofs.TermsLoop.{ends_grow, first_alone}
 use Rattle.inverted_index.specs.CheckedTerms.{AreCheckedFields, IsWithin, Sections, fields_with}
 use Rattle.inverted_index.specs.FieldKinds.{kinds_of, shown}
-use Rattle.inverted_index.specs.Readers.{IsReader}
+use Rattle.inverted_index.specs.Readers.{Contents, IsReader}
 use Rattle.inverted_index.specs.TakenTerms.{Told, entry_at}
 use Rattle.inverted_index.specs.TermPlaces.{AreFields, AreTerms, IsSection, behind, field_end, fields_start, first_in, starts_from}
 use Rattle.inverted_index.specs.ToldFields.{AreTold}
@@ -105,3 +105,27 @@ no_sections schema n norms s lent kinds same shown_are docs a b d none fields ar
 
 pub within_lent : (s : Sections) (lent told : List FieldIndex) → lent ≡ told → AllByRecursion (λ (i : FieldIndex). AllByRecursion (IsWithin s) i.starts.items) told → AllByRecursion (λ (i : FieldIndex). AllByRecursion (IsWithin s) i.starts.items) lent
 within_lent s lent told same all = subst (AllByRecursion (λ (i : FieldIndex). AllByRecursion (IsWithin s) i.starts.items)) (sym same) all
+
+-- ---- no fields
+
+pub empty_known : (terms postings positions : List ℕ) (indexes : List FieldIndex) → terms ≡ 0 ∷ [] → postings ≡ [] → positions ≡ [] → indexes ≡ [] → Contents (record { sections = record { terms = terms; postings = postings; positions = positions }; indexes = indexes })
+empty_known terms postings positions indexes a b c none =
+    let first = ap length a in
+    let second = ap length b in
+    let third = ap length c in
+    record {
+      schema = [];
+      num_docs = 0;
+      norms = [];
+      fields = [];
+      is = record {
+        few = omega arith;
+        docs_few = omega arith;
+        terms_short = omega (arith, first);
+        postings_short = omega (arith, second);
+        positions_short = omega (arith, third);
+        sections = record { names = refl; each = tt; terms_are = a; postings_are = b; positions_are = c };
+        kinds = ap (λ (is : List FieldIndex). map shown (map (λ (i : FieldIndex). i.kind) is)) none;
+        told = subst (AreTold fields_start []) (sym none) tt;
+      };
+    }

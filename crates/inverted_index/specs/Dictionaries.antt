@@ -32,6 +32,10 @@ pub record InfoFits (info : TermInfo) : Type 0 where
   pub postings : info.postings_range.end < 2 ^ 64
   pub positions : info.positions_range.end < 2 ^ 64
 
+-- terms whose numbers fit
+abbrev pub AllFit : List Placed → Type 0
+AllFit terms = AllByRecursion (λ t. InfoFits t.1) terms
+
 -- ascending terms, whose numbers fit
 pub record IsDictionary (terms : List Placed) : Type 0 where
   pub ascend : TermsAscend (map (λ t. t.0) terms)

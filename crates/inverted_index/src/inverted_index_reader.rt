@@ -1,6 +1,6 @@
 //! An inverted index, read from its sections.
 
-ghost use Rattle.std.specs.Prelude.{[], ◌↔◌, ◌≡◌, ◌≢◌, ◌≤◌, IfErr, IfNone, IfOk, IfSome, IsTrue, List, None, Some, if◌then◌else◌, length, map, option_map, slice_range};
+ghost use Rattle.std.specs.Prelude.{[], ◌↔◌, ◌∷◌, ◌≡◌, ◌≢◌, ◌≤◌, IfErr, IfNone, IfOk, IfSome, IsTrue, List, None, Some, if◌then◌else◌, length, map, option_map, slice_range};
 ghost use Rattle.std.specs.List.{AllByRecursion};
 ghost use Rattle.definitions.specs.Schema.{has_freq};
 ghost use Rattle.definitions.specs.Terms.{field_of, payload_of};
@@ -9,6 +9,7 @@ ghost use Rattle.inverted_index.specs.FieldDictionaries.{IsFound, dictionary_of}
 ghost use Rattle.inverted_index.specs.FieldKinds.{option_in};
 ghost use Rattle.inverted_index.specs.OpenedTerms.{entry_as};
 ghost use Rattle.inverted_index.specs.Readers.{Contents, HasKind, IsInfo, IsReader, dictionary_in, index_in, info_in, postings_held, postings_in, term_held, term_in, tokens_held};
+ghost use Rattle.inverted_index.specs.Searching.{between};
 ghost use Rattle.inverted_index.specs.declared.field_index.FieldIndex.{FieldIndex};
 ghost use Rattle.layouts.specs.InvertedIndexes.{AreSections, IndexedField};
 ghost use Rattle.options.specs.RecordOption.{record_option_of};
@@ -21,6 +22,7 @@ use crate::indexes_read::read_indexes;
 use crate::opened_term::{open_term, open_term_blocks};
 use crate::term_dictionary::TermDictionary;
 use crate::term_info::TermInfo;
+use crate::term_range::TermRange;
 use bytes::Bytes;
 use codes::FieldNormReaders;
 use definitions::Fault;
@@ -51,6 +53,19 @@ impl Model for InvertedIndexReader {
 }
 
 impl InvertedIndexReader {
+    /// An index without fields.
+    pub fn empty(alloc: Global) -> InvertedIndexReader
+        ensures value { result ≡ record { sections = record { terms = 0 ∷ []; postings = []; positions = [] }; indexes = [] } }
+        ensures ok { IsReader [] 0 [] [] result }
+    {
+        InvertedIndexReader {
+            terms: Bytes::from_static(&[0]),
+            postings: Bytes::from_static(&[]),
+            positions: Bytes::from_static(&[]),
+            indexes: Vec::new(alloc),
+        }
+    }
+
     /// Reads the sections of terms, postings and positions of a segment of so many documents, whose lengths are
     /// given. All of them are checked whole; sections that aren't in the layout are `Damaged`.
     pub fn open(
@@ -103,6 +118,14 @@ impl InvertedIndexReader {
             Some(index) => TermDictionary::new(self.terms.as_slice(), &index.starts),
             None => TermDictionary::new(&[], &[]),
         }
+    }
+
+    /// The terms of a field from a start on that stand before an end, if there is one, by their value bytes.
+    pub fn range(&self, field: Field, start: &[u8], end: Option<&[u8]>) -> TermRange<'_>
+        ensures own { result ≡ between start.now (option_map (λ key. key.now) end.entry) (dictionary_in self.now field) }
+        ensures ok { (contents : Contents self.now) → result ≡ between start.now (option_map (λ key. key.now) end.entry) (dictionary_of 0 0 field contents.fields) }
+    {
+        self.terms(field).range(start, end)
     }
 
     /// Whether a field is indexed, and its values are of that type.

@@ -14,9 +14,11 @@ mod section_read;
 mod term_dictionary;
 mod term_entry;
 mod term_info;
+mod term_range;
 mod term_start;
 mod terms_read;
 
 pub use inverted_index_reader::InvertedIndexReader;
 pub use term_dictionary::TermDictionary;
 pub use term_info::TermInfo;
+pub use term_range::TermRange;

@@ -1,13 +1,14 @@
 //! The terms of a field.
 
-ghost use Rattle.std.specs.Prelude.{◌≡◌, bytes_eq, find, length, option_map};
+ghost use Rattle.std.specs.Prelude.{◌-◌, ◌≡◌, ◌≤◌, bytes_eq, drop, find, length, option_map, take};
 ghost use Rattle.std.specs.List.{prefix_len};
 ghost use Rattle.inverted_index.specs.Dictionaries.{InfoFits, IsDictionary, info_from, terms_at};
-ghost use Rattle.inverted_index.specs.Searching.{is_below};
+ghost use Rattle.inverted_index.specs.Searching.{between, is_before, is_below};
 ghost use Rattle.inverted_index.specs.TakenTerms.{entry_at, entry_of};
 
 use crate::term_entry::{TermEntry, entry_at};
 use crate::term_info::TermInfo;
+use crate::term_range::TermRange;
 use crate::term_start::TermStart;
 use std::marker::Model;
 
@@ -64,6 +65,33 @@ impl<'a> TermDictionary<'a> {
         self.starts
             .partition_point(|start| is_below(self.section, start.entry, key))
     }
+
+    /// The number of the first term that doesn't stand before an end, if there is one.
+    fn end_from(&self, end: Option<&[u8]>) -> usize
+        ensures { result ≡ prefix_len (λ t. is_before (option_map (λ key. key.now) end.entry) t.0) self.now }
+    {
+        match end {
+            Some(key) => self.first_from(key),
+            None => self.starts.len(),
+        }
+    }
+
+    /// The terms from a start on that stand before an end, if there is one.
+    pub fn range(&self, start: &[u8], end: Option<&[u8]>) -> TermRange<'a>
+        ensures { result ≡ between start.now (option_map (λ key. key.now) end.entry) self.now }
+    {
+        let first = self.first_from(start);
+        let last = self.end_from(end).max(first);
+        TermRange::new(self.section, part(self.starts, first, last))
+    }
+}
+
+/// The places from one number on, before another.
+fn part(starts: &[TermStart], first: usize, last: usize) -> &[TermStart]
+    requires { (first ≤ last) × (last ≤ length starts.now) }
+    ensures { result.now ≡ take (last - first) (drop first starts.now) }
+{
+    &starts[first..last]
 }
 
 /// Whether the term that begins at a place of the section of terms stands before one with these value bytes.
@@ -74,7 +102,7 @@ fn is_below(section: &[u8], start: usize, key: &[u8]) -> bool
 }
 
 /// Where the postings of a term stand.
-fn info_of(start: &TermStart, entry: &TermEntry<'_>) -> TermInfo
+pub(crate) fn info_of(start: &TermStart, entry: &TermEntry<'_>) -> TermInfo
     requires { InfoFits (info_from start.now.postings start.now.positions (entry_of entry.now).1) }
     ensures { result ≡ info_from start.now.postings start.now.positions (entry_of entry.now).1 }
 {
