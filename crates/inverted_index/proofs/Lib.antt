@@ -19,6 +19,7 @@ pub mod TermsHeld
 pub mod ReaderCalls
 pub mod PostingsFound
 pub mod Ranges
+pub mod GivenPostings
 pub mod FieldsKept
 pub mod CheckedOnce
 pub mod CheckedLists

@@ -72,7 +72,7 @@ impl<'a> TermDictionary<'a> {
     {
         match end {
             Some(key) => self.first_from(key),
-            None => self.starts.len(),
+            None => self.num_terms(),
         }
     }
 
