@@ -1,19 +1,20 @@
 -- The postings of a term, document by document.
-use Rattle.std.proofs.Common.{[], ap, ap₂, arith, Bool, drop, false, get_or, length, List, map, min, nat_eq, nat_le, refl, subst, suc, sum, sym, take, true, zero, ◌*◌, ◌++◌, ◌+◌, ◌/◌, ◌<◌, ◌≡◌, ◌≤◌, ◌^◌, ◌∙◌, ◌∷◌, ℕ, if◌then◌else◌, Err, Ok, OnOk, Option, Result}
+use Rattle.std.proofs.Common.{[], ap, ap₂, arith, Bool, drop, false, get_or, length, List, map, min, nat_eq, nat_le, refl, subst, suc, sum, sym, take, true, zero, ◌*◌, ◌++◌, ◌+◌, ◌/◌, ◌<◌, ◌≡◌, ◌≤◌, ◌^◌, ◌∙◌, ◌∷◌, ℕ, if◌then◌else◌, Err, IfErr, Ok, inl, inr, OnOk, Option, Result}
 use Rattle.std.proofs.Math.Seq.{drop-append_seam, get_or-append_seam, take-append_seam}
 use Rattle.std.proofs.lemmas.Bool.Decides.{nat_tests}
-use Rattle.std.proofs.lemmas.List.{append_assoc, append-nil, get_or_append_left, length-append, length-map, map-append}
+use Rattle.std.proofs.lemmas.List.{append_assoc, append-nil, get_or_append_left, length-append, length-map, map-append, take_all}
 use Rattle.codes.specs.PositionBlocks.{listed}
 use Rattle.std.specs.List.{AllByRecursion}
 use Rattle.definitions.specs.Blocks.{block_len, least_of}
 use Rattle.definitions.specs.NumberCodes.{sized_bytes}
 use Rattle.definitions.specs.Postings.{terminated}
 use Rattle.definitions.specs.Schema.{IndexRecordOption, has_freq, has_positions}
+use Rattle.definitions.specs.declared.fault.Fault.{Fault}
 use Rattle.layouts.specs.Deltas.{IsAscendingFrom, next_of}
 use Rattle.layouts.specs.SkipEntries.{SkipEntry, entry_bytes, skip_bytes}
 use Rattle.layouts.specs.TermPostings.{ArePosted, SumsFit, all_blocks, full_block, id_of, next_after, postings_bytes, rest_block, skip_data, skip_entries, skip_entry}
 use Rattle.postings.proofs.WaitingBlocks.{least_more}
-use Rattle.postings.specs.TermWriting.{AreWritten, Blocks, IsWriting, Waiting, Writing, begun, block_added, joined, least_after, nothing_waits, recorded_count, rest_added, term_bytes}
+use Rattle.postings.specs.TermWriting.{AreWritten, Blocks, IsRefusal, IsSumRefusal, IsWriting, Waiting, Writing, begun, block_added, joined, least_after, nothing_waits, recorded_count, rest_added, term_bytes}
 
 -- ---- ascending documents
 
@@ -57,6 +58,7 @@ nothing_written mode option norms = record {
   counts_fit = tt;
   alone = λ e. tt;
   sums_are = λ more ns fit. (let P : ℕ → Type 0 = λ k. SumsFit k ns in subst P (let e : more ≡ 0 + more = omega arith in e) fit);
+  sums_left = λ more ns fit. (let P : ℕ → Type 0 = λ k. SumsFit k ns in subst P (let e : 0 + more ≡ more = omega arith in e) fit);
   long = omega arith;
   next_is = refl;
   skips_are = λ more ds ns. ap (λ k. skip_bytes (has_freq option) (has_positions option) (skip_entries option (listed norms) k 0 ds ns)) (let e : more ≡ 0 + more = omega arith in e);
@@ -91,6 +93,10 @@ doc_written w doc count id docs counts may a =
           let P : List ℕ → Type 0 = λ xs. SumsFit more xs in
           let Q : List ℕ → Type 0 = λ xs. SumsFit (a.full + more) xs in
           subst Q (sym (append_assoc counts (count ∷ []) ns)) (a.sums_are more (count ∷ ns) (subst P (append_assoc w.waiting.counts (count ∷ []) ns) fit)));
+      sums_left = λ more ns fit. (
+          let P : List ℕ → Type 0 = λ xs. SumsFit more xs in
+          let Q : List ℕ → Type 0 = λ xs. SumsFit (a.full + more) xs in
+          subst P (sym (append_assoc w.waiting.counts (count ∷ []) ns)) (a.sums_left more (count ∷ ns) (subst Q (append_assoc counts (count ∷ []) ns) fit)));
       long = omega (arith, a.long, length-append docs (doc ∷ []), length-append w.waiting.docs (doc ∷ []));
       next_is = sym (least_after_last 0 docs doc);
       skips_are = λ more ds ns.
@@ -129,6 +135,10 @@ block_written w docs counts a full_docs full_counts up least fits = record {
       let Q : List ℕ → Type 0 = λ xs. SumsFit more xs in
       let R : ℕ → Type 0 = λ k. SumsFit k (counts ++ ns) in
       subst R (let e : a.full + suc more ≡ a.full + 1 + more = omega arith in e) (a.sums_are (suc more) ns (subst P (before wc ns full_counts) fits, subst Q (behind wc ns full_counts) fit)));
+  sums_left = λ more ns fit. (
+      let Q : List ℕ → Type 0 = λ xs. SumsFit more xs in
+      let R : ℕ → Type 0 = λ k. SumsFit k (counts ++ ns) in
+      subst Q (sym (behind wc ns full_counts)) (a.sums_left (suc more) ns (subst R (let e : a.full + 1 + more ≡ a.full + suc more = omega arith in e) fit)).1);
   long = omega (arith, a.long);
   next_is = a.next_is;
   skips_are = λ more ds ns.
@@ -300,6 +310,34 @@ may_come w was doc count term_freq seen least fits counted some count_fits = rec
   count_fits = count_fits;
   alone = λ e. counted ∙ ap (λ o. recorded_count o term_freq) (sym (ap (λ (x : Writing). x.option) seen)) ∙ ap (λ b. if b then term_freq else 1) e;
 }
+
+-- a block whose counts are refused
+pub sum_refused : (fault : Fault) (w was : Writing) (block : Waiting) (doc count id n : ℕ) (docs counts : List ℕ) → w ≡ was → block ≡ joined w.waiting doc count id → count ≡ n → length w.waiting.counts ≡ length w.waiting.docs → length block.docs ≡ 128 → AreWritten was docs counts → IsRefusal fault (nat_le (2 ^ 32) (sum block.counts)) → IsSumRefusal fault (counts ++ n ∷ [])
+sum_refused fault w was block doc count id n docs counts seen is counted held full a (inl memory) = inl memory
+sum_refused fault w was block doc count id n docs counts seen is counted held full a (inr limit) = inr (limit.0, past)
+  where
+    past : SumsFit (length (counts ++ n ∷ []) / block_len) (counts ++ n ∷ []) → ⊥
+    past fit =
+        let S : Writing → Type 0 = λ x. AreWritten x docs counts in
+        let b : AreWritten w docs counts = subst S (sym seen) a in
+        let xs : List ℕ = w.waiting.counts ++ n ∷ [] in
+        let more = length-append w.waiting.docs (doc ∷ []) in
+        let many : length w.waiting.docs + 1 ≡ 128 = (let here = ap (λ (x : Waiting). length x.docs) is in omega arith) in
+        let long : length xs ≡ 128 = omega (arith, length-append w.waiting.counts (n ∷ [])) in
+        let blocks : length (counts ++ n ∷ []) / block_len ≡ b.full + 1 = (let l = b.long in let s = b.same in omega (arith, length-append counts (n ∷ []))) in
+        let P : ℕ → Type 0 = λ k. SumsFit k (counts ++ n ∷ []) in
+        let first = (b.sums_left 1 (n ∷ []) (subst P blocks fit)).0 in
+        let whole : take 128 xs ≡ xs = take_all 128 xs (omega arith) in
+        let sums : sum block.counts ≡ sum xs = ap (λ (x : Waiting). sum x.counts) is ∙ ap (λ k. sum (w.waiting.counts ++ k ∷ [])) counted in
+        let test = limit.1 in
+        let above : 2 ^ 32 ≤ sum block.counts = grind (arith, nat_tests) in
+        let same = ap sum whole in
+        absurd (omega arith)
+
+-- from what holds of an error
+pub on_err : {T E : Type 0} (r : Result T E) (P Q : E → Type 0) → ((e : E) → P e → Q e) → IfErr r P → IfErr r Q
+on_err (Ok x) P Q f p = tt
+on_err (Err e) P Q f p = f e p
 
 -- of two facts on `Ok` another one
 pub on_ok_both : {T E P Q R : Type 0} (r : Result T E) → (P → Q → R) → OnOk r P → OnOk r Q → OnOk r R

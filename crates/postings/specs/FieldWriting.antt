@@ -6,7 +6,7 @@ use Rattle.definitions.specs.Schema.{IndexRecordOption, has_positions}
 use Rattle.definitions.specs.declared.fault.Fault.{Fault}
 use Rattle.definitions.specs.declared.fault.Fault.TheVariants as faults
 use Rattle.layouts.specs.InvertedIndexes.{HasPositions}
-use Rattle.layouts.specs.TermPostings.{postings_bytes}
+use Rattle.layouts.specs.TermPostings.{ArePosted, postings_bytes}
 use Rattle.layouts.specs.TermSections.{TermLengths, entry_of_term}
 use Rattle.postings.specs.TermWriting.{AreWritten, Writing, begun}
 
@@ -45,6 +45,7 @@ postings_of w docs counts = postings_bytes w.option (listed w.norms) docs counts
 -- a term was closed: its postings and positions stand behind the others, and its entry tells of them
 pub record IsClosed (was now : FieldWriting) (docs counts numbers : List ℕ) : Type 0 where
   pub bytes : List ℕ
+  pub posted : ArePosted was.writing.option docs counts
   pub postings_fit : length (postings_of was.writing docs counts) < 2 ^ 32
   pub positions_fit : length bytes < 2 ^ 32
   pub terms_fit : was.terms.num_terms < 4294967295

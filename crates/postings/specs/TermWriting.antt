@@ -1,8 +1,8 @@
 -- What a serializer of postings stands for while it writes a term.
-use Rattle.std.specs.Prelude.{[], ◌&&◌, ◌*◌, ◌++◌, ◌+◌, ◌<◌, ◌^◌, ◌∷◌, ◌≡◌, ◌⊎◌, Bool, List, Option, if◌then◌else◌, length, map, min, nat_eq, nat_le, sum, true, false, ℕ}
+use Rattle.std.specs.Prelude.{[], ◌&&◌, ◌*◌, ◌++◌, ◌+◌, ◌/◌, ◌<◌, ◌^◌, ◌∷◌, ◌≡◌, ◌⊎◌, Bool, List, Option, if◌then◌else◌, length, map, min, nat_eq, nat_le, sum, true, false, ℕ}
 use Rattle.std.specs.List.{AllByRecursion}
 use Rattle.codes.specs.PositionBlocks.{listed}
-use Rattle.definitions.specs.Blocks.{least_of}
+use Rattle.definitions.specs.Blocks.{block_len, least_of}
 use Rattle.definitions.specs.NumberCodes.{sized_bytes}
 use Rattle.definitions.specs.Postings.{terminated}
 use Rattle.definitions.specs.Schema.{IndexRecordOption, has_freq, has_positions}
@@ -83,6 +83,10 @@ passes_sum counts = nat_eq (length counts) 128 && nat_le (2 ^ 32) (sum counts)
 abbrev pub IsRefusal : Fault → Bool → Type 0
 IsRefusal fault limit = (fault ≡ faults.OutOfMemory) ⊎ ((fault ≡ faults.Limit) × (limit ≡ true))
 
+-- memory was wanting, or the sum of a block of these counts passes 32 bits
+abbrev pub IsSumRefusal : Fault → List ℕ → Type 0
+IsSumRefusal fault counts = (fault ≡ faults.OutOfMemory) ⊎ ((fault ≡ faults.Limit) × (SumsFit (length counts / block_len) counts → ⊥))
+
 -- what a serializer always holds: fewer than 128 documents wait, ascending behind the full blocks
 pub record IsWriting (norms : Option (List ℕ)) (offset next : ℕ) (waiting : Waiting) : Type 0 where
   pub few : length waiting.docs < 128
@@ -101,6 +105,7 @@ pub record AreWritten (w : Writing) (docs counts : List ℕ) : Type 0 where
   pub counts_fit : AllByRecursion (λ n. (0 < n) × (n < 2 ^ 32)) counts
   pub alone : has_freq w.option ≡ false → AllByRecursion (λ n. n ≡ 1) counts
   pub sums_are : (more : ℕ) (ns : List ℕ) → SumsFit more (w.waiting.counts ++ ns) → SumsFit (full + more) (counts ++ ns)
+  pub sums_left : (more : ℕ) (ns : List ℕ) → SumsFit (full + more) (counts ++ ns) → SumsFit more (w.waiting.counts ++ ns)
   pub long : length docs ≡ 128 * full + length w.waiting.docs
   pub next_is : w.next ≡ least_after 0 docs
   pub skips_are : (more : ℕ) (ds ns : List ℕ) → w.written.skips ++ skip_bytes (has_freq w.option) (has_positions w.option) (skip_entries w.option (listed w.norms) more (next_of w.offset) (w.waiting.docs ++ ds) (w.waiting.counts ++ ns)) ≡ skip_bytes (has_freq w.option) (has_positions w.option) (skip_entries w.option (listed w.norms) (full + more) 0 (docs ++ ds) (counts ++ ns))

@@ -4,7 +4,7 @@ ghost use Rattle.std.specs.Prelude.{[], ◌+◌, ◌++◌, ◌<◌, ◌≡◌, �
 ghost use Rattle.definitions.specs.Schema.{basic, has_freq, has_positions};
 ghost use Rattle.layouts.specs.InvertedIndexes.{HasPositions};
 ghost use Rattle.postings.specs.FieldWriting.{IsCloseRefusal, IsClosed, IsOpen, field_closed};
-ghost use Rattle.postings.specs.TermWriting.{IsRefusal, passes_sum, recorded_count};
+ghost use Rattle.postings.specs.TermWriting.{IsSumRefusal, recorded_count};
 
 use crate::inverted_index_serializer::InvertedIndexSerializer;
 use crate::postings_serializer::PostingsSerializer;
@@ -69,7 +69,7 @@ impl<'a> FieldSerializer<'a> {
         requires positions { (i : ℕ) → slice_index position_deltas.now i < 2 ^ 31 }
         ensures written { (docs counts numbers : List ℕ) → IsOpen self.old docs counts numbers → OnOk result (IsOpen self.new (docs ++ doc ∷ []) (counts ++ recorded_count self.old.writing.option term_freq ∷ []) (numbers ++ position_deltas.now)) }
         ensures same { OnOk result ((self.new.field ≡ self.old.field) × (self.new.num_tokens ≡ self.old.num_tokens) × (self.new.terms ≡ self.old.terms) × (self.new.postings ≡ self.old.postings) × (self.new.key ≡ self.old.key) × (self.new.writing.mode ≡ self.old.writing.mode) × (self.new.writing.option ≡ self.old.writing.option) × (self.new.writing.norms ≡ self.old.writing.norms) × (self.new.writing.next ≡ doc + 1) × (self.new.positions.0 ≡ self.old.positions.0)) }
-        ensures err { IfErr result (λ fault. IsRefusal fault (passes_sum (self.old.writing.waiting.counts ++ recorded_count self.old.writing.option term_freq ∷ []))) }
+        ensures err { (docs counts numbers : List ℕ) → IsOpen self.old docs counts numbers → IfErr result (λ fault. IsSumRefusal fault (counts ++ recorded_count self.old.writing.option term_freq ∷ [])) }
     {
         self.postings_serializer.write_doc(doc, term_freq)?;
         self.write_positions(position_deltas)?;

@@ -5,7 +5,7 @@ ghost use Rattle.codes.specs.PositionBlocks.{listed};
 ghost use Rattle.definitions.specs.Schema.{basic, has_freq, has_positions};
 ghost use Rattle.layouts.specs.TermPostings.{ArePosted, id_of, postings_bytes};
 ghost use Rattle.options.specs.RecordOption.{record_option_of};
-ghost use Rattle.postings.specs.TermWriting.{AreWritten, IsRefusal, begun, passes_sum, recorded_count};
+ghost use Rattle.postings.specs.TermWriting.{AreWritten, IsRefusal, IsSumRefusal, begun, passes_sum, recorded_count};
 
 use crate::block::Block;
 use crate::block_writer::BlockWriter;
@@ -124,6 +124,7 @@ impl<'a> PostingsSerializer<'a> {
         ensures written { (docs counts : List ℕ) → AreWritten self.old docs counts → OnOk result (AreWritten self.new (docs ++ doc ∷ []) (counts ++ recorded_count self.old.option term_freq ∷ [])) }
         ensures within { OnOk result (passes_sum (self.old.waiting.counts ++ recorded_count self.old.option term_freq ∷ []) ≡ false) }
         ensures err { IfErr result (λ fault. IsRefusal fault (passes_sum (self.old.waiting.counts ++ recorded_count self.old.option term_freq ∷ []))) }
+        ensures sums { (docs counts : List ℕ) → AreWritten self.old docs counts → IfErr result (λ fault. IsSumRefusal fault (counts ++ recorded_count self.old.option term_freq ∷ [])) }
         ensures same { (self.new.mode ≡ self.old.mode) × (self.new.option ≡ self.old.option) × (self.new.norms ≡ self.old.norms) × (self.new.next ≡ doc + 1) }
     {
         let count = self.recorded_count(term_freq);

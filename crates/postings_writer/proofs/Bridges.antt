@@ -8,7 +8,7 @@ use Rattle.postings_writer.specs.Fields.{option_of_key}
 use Rattle.postings_writer.specs.Occurrences.{by_document, posting_in, postings_at}
 use Rattle.postings_writer.specs.Recorders.{recorded_as}
 use Rattle.postings_writer.specs.Serializing.{of_count, of_doc, postings_from}
-use Rattle.postings_writer.proofs.Standing.{field_of-term}
+use Rattle.schema.proofs.TermParts.{field_of-term, text_terms}
 use Rattle.schema.specs.TextKeys.{is_text_key}
 
 -- the recorder of places stands for their postings
@@ -24,27 +24,6 @@ recorded_postings with_freqs ps = go (by_document ps)
     go [] = refl
     go (g ∷ gs) = ap (λ qs. of_count (g.0, length g.1) ∷ qs) (go gs)
 recorded_postings with_freqs_and_positions ps = refl
-
--- of the kinds of leaves text comes first
-leaf_is_text : (a b c d e : Bool) → option_map_or is_text (cond a (Some text_kind) (cond b (Some u64_kind) (cond c (Some i64_kind) (cond d (Some bool_kind) (cond e (Some date_kind) None))))) false ≡ a
-leaf_is_text true b c d e = refl
-leaf_is_text false true c d e = refl
-leaf_is_text false false true d e = refl
-leaf_is_text false false false true e = refl
-leaf_is_text false false false false true = refl
-leaf_is_text false false false false false = refl
-
--- a term is a text's where its value bytes are
-pub text_terms : (f : ℕ) (kind : Kind) (key : List ℕ) → is_text_term (term_bytes f kind key) ≡ is_text_key kind key
-text_terms f text_kind key = refl
-text_terms f u64_kind key = refl
-text_terms f i64_kind key = refl
-text_terms f bool_kind key = refl
-text_terms f date_kind key = refl
-text_terms f facet_kind key = refl
-text_terms f bytes_kind key = refl
-text_terms f json_kind key = leaf_is_text _ _ _ _ _
-text_terms f ip_addr_kind key = refl
 
 -- what is recorded of a term
 pub same_option : (schema : Schema) (f : ℕ) (e : Entry) (key : List ℕ) → f < 2 ^ 32 → slice_get schema f ≡ Some e → option_of_term schema (term_bytes f e.kind key) ≡ option_of_key e key

@@ -7,3 +7,10 @@ pub mod Runs
 pub mod Sorting
 pub mod WrittenTerms
 pub mod Bridges
+pub mod SortedTerms
+pub mod Places
+pub mod Tokens
+pub mod WrittenFields
+pub mod FieldsOfPlaces
+pub mod StandingFields
+pub mod WrittenSections

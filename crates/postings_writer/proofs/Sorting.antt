@@ -88,7 +88,7 @@ insert_rises m (k ∷ j ∷ ks) up = go (nat_le m k) refl (nat_le m j) (insert_r
     go false e true later = (let h : k ≤ m = grind (arith, nat_tests) in h, later)
     go false e false later = (up.0, later)
 
-ascending_rises : (ns : List ℕ) → DontFall (ascending ns)
+pub ascending_rises : (ns : List ℕ) → DontFall (ascending ns)
 ascending_rises [] = tt
 ascending_rises (n ∷ ns) = insert_rises n (ascending ns) (ascending_rises ns)
 

@@ -3,7 +3,6 @@ use Rattle.std.proofs.Common.{[], ◌++◌, ◌+◌, ◌<◌, ◌^◌, ◌≡◌
 use Rattle.std.specs.List.{AllByRecursion}
 use Rattle.std.proofs.lemmas.Bool.{false_from_ne_true}
 use Rattle.std.proofs.lemmas.Bool.Decides.{nat_tests}
-use Rattle.std.proofs.lemmas.Nat.{from_be_bytes-to_be_bytes_4}
 use Rattle.std.proofs.lemmas.List.{map-append}
 use Rattle.std.proofs.lemmas.List.Elements.{filter-append}
 use Rattle.std.proofs.lemmas.Option.{slice_get_within}
@@ -11,41 +10,11 @@ use Rattle.std.proofs.lemmas.Slice.Eq.{bytes_eq-Decides}
 use Rattle.definitions.specs.Schema.{Entry, Kind, Schema, bool_kind, bytes_kind, date_kind, facet_kind, i64_kind, ip_addr_kind, json_kind, max_fields, text_kind, u64_kind}
 use Rattle.definitions.specs.Scoring.{DontFall}
 use Rattle.definitions.specs.Terms.{field_of, payload_of, term_bytes}
+use Rattle.schema.proofs.TermParts.{field_of-term, other_fields, payload_of-term, same_keys}
 use Rattle.postings_writer.specs.Fields.{HasPlaces, Terms, option_of_key, with_place}
 use Rattle.postings_writer.specs.Occurrences.{Occurrence, places_of}
 use Rattle.postings_writer.specs.Recorders.{recorder_of}
 use Rattle.postings_writer.specs.Writers.{HasOccurrences, IsIndexedTerm, IsOccurrence, Stands, Writer}
-
--- ---- terms
-
-pub field_of-term : (f : ℕ) (kind : Kind) (key : List ℕ) → f < 2 ^ 32 → field_of (term_bytes f kind key) ≡ f
-field_of-term f kind key fits = from_be_bytes-to_be_bytes_4 f fits
-
-pub payload_of-term : (f : ℕ) (kind : Kind) (key : List ℕ) → payload_of (term_bytes f kind key) ≡ key
-payload_of-term f text_kind key = refl
-payload_of-term f u64_kind key = refl
-payload_of-term f i64_kind key = refl
-payload_of-term f bool_kind key = refl
-payload_of-term f date_kind key = refl
-payload_of-term f facet_kind key = refl
-payload_of-term f bytes_kind key = refl
-payload_of-term f json_kind key = refl
-payload_of-term f ip_addr_kind key = refl
-
-same_tests : (a b : Bool) → (a ≡ true → b ≡ true) → (b ≡ true → a ≡ true) → a ≡ b
-same_tests true b to from = sym (to refl)
-same_tests false true to from = from refl
-same_tests false false to from = refl
-
--- terms of a field are equal where their values are
-pub same_keys : (f : ℕ) (kind : Kind) (key q : List ℕ) → bytes_eq (term_bytes f kind key) (term_bytes f kind q) ≡ bytes_eq key q
-same_keys f kind key q = same_tests _ _
-    (λ e. (bytes_eq-Decides key q).1 (sym (payload_of-term f kind key) ∙ ap payload_of ((bytes_eq-Decides (term_bytes f kind key) (term_bytes f kind q)).0 e) ∙ payload_of-term f kind q))
-    (λ e. (bytes_eq-Decides (term_bytes f kind key) (term_bytes f kind q)).1 (ap (term_bytes f kind) ((bytes_eq-Decides key q).0 e)))
-
--- terms of two fields aren't equal
-pub other_fields : (f g : ℕ) (kind other : Kind) (key q : List ℕ) → f < 2 ^ 32 → g < 2 ^ 32 → g ≢ f → bytes_eq (term_bytes f kind key) (term_bytes g other q) ≡ false
-other_fields f g kind other key q fits too apart = false_from_ne_true _ (λ e. apart (sym (field_of-term g other q too) ∙ sym (ap field_of ((bytes_eq-Decides (term_bytes f kind key) (term_bytes g other q)).0 e)) ∙ field_of-term f kind key fits))
 
 -- ---- one occurrence more
 

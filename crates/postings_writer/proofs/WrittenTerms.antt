@@ -1,5 +1,5 @@
 -- Postings as they are written to a term, one after another.
-use Rattle.std.proofs.Common.{[], ◌++◌, ◌+◌, ◌<◌, ◌^◌, ◌≡◌, ◌≤◌, ◌∙◌, ◌∷◌, ◌⊎◌, IfSome, List, None, Option, Some, ap, ap₂, append_assoc, arith, inl, inr, length, map, refl, slice_index, subst, suc, sym, zero, ℕ}
+use Rattle.std.proofs.Common.{[], ◌++◌, ◌+◌, ◌<◌, ◌^◌, ◌≡◌, ◌≤◌, ◌∙◌, ◌∷◌, ◌⊎◌, IfSome, List, None, Option, Some, ap, ap₂, append_assoc, arith, drop, inl, inr, length, length-append, map, refl, slice_index, subst, suc, sum, sym, zero, ◌*◌, ◌/◌, ℕ}
 use Rattle.std.specs.List.{AllByRecursion}
 use Rattle.std.proofs.lemmas.List.{map-append}
 use Rattle.definitions.specs.Postings.{Posting}
@@ -10,11 +10,13 @@ use Rattle.definitions.specs.declared.fault.Fault.{Fault}
 use Rattle.definitions.specs.declared.fault.Fault.TheVariants as faults
 use Rattle.definitions.specs.Schema.{IndexRecordOption, has_positions}
 use Rattle.layouts.specs.InvertedIndexes.{HasPositions}
-use Rattle.layouts.specs.TermPostings.{postings_bytes}
-use Rattle.postings.specs.FieldWriting.{FieldWriting, IsCloseRefusal, IsClosed, IsOpen, Terms, inserted, postings_of}
-use Rattle.postings.specs.TermWriting.{recorded_count}
-use Rattle.std.proofs.lemmas.List.{drop_all}
+use Rattle.layouts.specs.TermPostings.{ArePosted, SumsFit, postings_bytes}
+use Rattle.postings.specs.FieldWriting.{FieldWriting, IsCloseRefusal, IsClosed, IsOpen, MeetsLimit, Terms, inserted, postings_of}
+use Rattle.postings.specs.TermWriting.{IsSumRefusal, recorded_count}
+use Rattle.std.proofs.lemmas.List.{drop-append-le, drop_all, length-drop, length-map, take-append-le}
 use Rattle.definitions.specs.Schema.{with_freqs_and_positions}
+use Rattle.definitions.specs.Blocks.{block_len}
+use Rattle.postings_writer.specs.Limits.{CountsPass, SumsPass, TermPasses}
 use Rattle.postings_writer.specs.Occurrences.{postings_at}
 use Rattle.postings_writer.specs.Serializing.{CanWrite, IsWrittenTerm, length_of, of_count, of_doc, postings_from}
 use Rattle.postings_writer.specs.declared.recorder.Recorder.{Recorder}
@@ -117,6 +119,47 @@ written_all was now all rest before none = sym (before.split ∙ ap (λ ps. befo
 pub all_opened : (was now : FieldWriting) (all rest : List Posting) → Written was now all rest → rest ≡ [] → (docs counts numbers : List ℕ) → IsOpen was docs counts numbers → IsOpen now (docs ++ docs_in all) (counts ++ counts_in was all) (numbers ++ numbers_in all)
 all_opened was now all rest before none docs counts numbers is = subst (λ ps. IsOpen now (docs ++ docs_in ps) (counts ++ counts_in was ps) (numbers ++ numbers_in ps)) (written_all was now all rest before none) (before.open_is docs counts numbers is)
 
+-- ---- what is refused
+
+all_behind : {A : Type 0} (P : A → Type 0) (xs ys : List A) → AllByRecursion P (xs ++ ys) → AllByRecursion P ys
+all_behind P [] ys all = all
+all_behind P (x ∷ xs) ys all = all_behind P xs ys all.1
+
+-- a count of what is left is one of all
+count_passes : (was now : FieldWriting) (all rest : List Posting) → Written was now all rest → CountsPass rest → CountsPass all
+count_passes was now all rest before pass fit = pass (all_behind (λ (p : Posting). p.count < 2 ^ 32) before.done rest (subst (AllByRecursion (λ (p : Posting). p.count < 2 ^ 32)) before.split fit))
+
+-- the blocks of a front are blocks of all
+sums_front : (m n : ℕ) (xs ys : List ℕ) → SumsFit n (xs ++ ys) → m ≤ n → 128 * m ≤ length xs → SumsFit m xs
+sums_front zero n xs ys fit le long = tt
+sums_front (suc m) zero xs ys fit le long = absurd (omega arith)
+sums_front (suc m) (suc n) xs ys fit le long =
+    let P : List ℕ → Type 0 = λ zs. sum zs < 2 ^ 32 in
+    let Q : List ℕ → Type 0 = λ zs. SumsFit n zs in (
+      subst P (take-append-le 128 xs ys (omega arith)) fit.0,
+      sums_front m n (drop 128 xs) ys (subst Q (drop-append-le 128 xs ys (omega arith)) fit.1) (omega arith) (omega (arith, length-drop 128 xs)),
+    )
+
+-- a sum that passes in a front passes in all
+sum_passes : (was now : FieldWriting) (all rest after : List Posting) (p : Posting) (n : ℕ) (before : Written was now all rest) → rest ≡ p ∷ after → n ≡ recorded_count was.writing.option p.count → (SumsFit (length (([] ++ counts_in was before.done) ++ n ∷ []) / block_len) (([] ++ counts_in was before.done) ++ n ∷ []) → ⊥) → SumsPass was.writing.option all
+sum_passes was now all rest after p n before is counted pass fit =
+    let front : List ℕ = counts_in was before.done ++ n ∷ [] in
+    let whole : map (λ (q : Posting). recorded_count was.writing.option q.count) all ≡ front ++ counts_in was after =
+    ap (counts_in was) (before.split ∙ ap (λ ps. before.done ++ ps) is) ∙ map-append (λ (q : Posting). recorded_count was.writing.option q.count) before.done (p ∷ after)
+    ∙ ap (λ k. counts_in was before.done ++ k ∷ counts_in was after) (sym counted) ∙ sym (append_assoc (counts_in was before.done) (n ∷ []) (counts_in was after)) in
+    let long : length all ≡ length front + length (counts_in was after) = sym (length-map all (λ (q : Posting). recorded_count was.writing.option q.count)) ∙ ap length whole ∙ length-append front (counts_in was after) in
+    let P : List ℕ → Type 0 = λ xs. SumsFit (length all / block_len) xs in
+    pass (sums_front (length front / block_len) (length all / block_len) front (counts_in was after) (subst P whole fit) (omega arith) (omega arith))
+
+-- why a posting isn't written
+pub doc_refused : (fault : Fault) (was now : FieldWriting) (all rest : List Posting) → Written was now all rest → (fault ≡ faults.OutOfMemory) ⊎ ((fault ≡ faults.Limit) × CountsPass rest) → (fault ≡ faults.OutOfMemory) ⊎ ((fault ≡ faults.Limit) × (CountsPass all ⊎ SumsPass was.writing.option all))
+doc_refused fault was now all rest before (inl memory) = inl memory
+doc_refused fault was now all rest before (inr (limit, pass)) = inr (limit, inl (count_passes was now all rest before pass))
+
+pub sum_refused : (fault : Fault) (was now : FieldWriting) (all rest after : List Posting) (p : Posting) (before : Written was now all rest) → rest ≡ p ∷ after → IsSumRefusal fault (([] ++ counts_in was before.done) ++ recorded_count now.writing.option p.count ∷ []) → (fault ≡ faults.OutOfMemory) ⊎ ((fault ≡ faults.Limit) × (CountsPass all ⊎ SumsPass was.writing.option all))
+sum_refused fault was now all rest after p before is (inl memory) = inl memory
+sum_refused fault was now all rest after p before is (inr (limit, pass)) = inr (limit, inr (sum_passes was now all rest after p (recorded_count now.writing.option p.count) before is (ap (λ o. recorded_count o p.count) before.same.6) pass))
+
 -- nothing stands past the end of a recorder
 pub none_left : (r : Recorder) (at : ℕ) → length_of r ≤ at → postings_from r at ≡ []
 none_left (DocIds docs) at past = ap (map of_doc) (drop_all at docs past)
@@ -124,11 +167,6 @@ none_left (TermFrequencies counts) at past = ap (map of_count) (drop_all at coun
 none_left (TfAndPositions places) at past = ap (postings_at with_freqs_and_positions) (drop_all at places past)
 
 -- ---- a term
-
--- why a term isn't closed
-pub close_refused : (fault : Fault) (w : FieldWriting) (docs counts numbers : List ℕ) → IsCloseRefusal fault w docs counts numbers → (fault ≡ faults.OutOfMemory) ⊎ (fault ≡ faults.Limit)
-close_refused fault w docs counts numbers (inl memory) = inl memory
-close_refused fault w docs counts numbers (inr limit) = inr limit.0
 
 abbrev entry_in : List ℕ → List ℕ → List ℕ → List ℕ → Terms → Terms
 entry_in key docs postings positions terms = inserted key (record { doc_freq = length docs; postings_len = length postings; positions_len = length positions }) terms
@@ -149,6 +187,7 @@ term_written was begun full now key option ps key_is option_is first second clos
     ∙ ap (λ x. postings_bytes option (listed was.writing.norms) (docs_in ps) (map (λ (p : Posting). recorded_count x p.count) ps)) option_is in
     record {
       bytes = closed.bytes;
+      posted = subst (λ x. ArePosted option (docs_in ps) (map (λ (p : Posting). recorded_count x p.count) ps)) option_is (subst (λ x. ArePosted x (docs_in ps) (counts_in begun ps)) o closed.posted);
       positions_fit = closed.positions_fit;
       terms_fit = subst (λ (t : Terms). t.num_terms < 4294967295) terms_are closed.terms_fit;
       positions_are = subst (λ x. HasPositions (has_positions x) (numbers_in ps) closed.bytes) o closed.positions_are;
@@ -160,3 +199,29 @@ term_written was begun full now key option ps key_is option_is first second clos
           ∙ ap (entry_in key (docs_in ps) (postings_bytes option (listed was.writing.norms) (docs_in ps) (map (λ (p : Posting). recorded_count option p.count) ps)) closed.bytes) terms_are;
       same = (last.0 ∙ second.0 ∙ first.0, last.1 ∙ second.1 ∙ first.1, last.2 ∙ second.5 ∙ first.5, last.3 ∙ n);
     }
+
+-- why a term isn't closed
+pub close_passes : (fault : Fault) (was begun full : FieldWriting) (option : IndexRecordOption) (ps : List Posting) → begun.writing.option ≡ option → begun.terms ≡ was.terms → begun.writing.norms ≡ was.writing.norms → IsSame begun full
+    → IsCloseRefusal fault full (docs_in ps) (counts_in begun ps) (numbers_in ps) → (fault ≡ faults.OutOfMemory) ⊎ ((fault ≡ faults.Limit) × (TermPasses option (listed was.writing.norms) ps ⊎ (was.terms.num_terms ≡ 4294967295)))
+close_passes fault was begun full option ps option_is terms norms second (inl memory) = inl memory
+close_passes fault was begun full option ps option_is terms norms second (inr limit) = inr (limit.0, go limit.1)
+  where
+    o : full.writing.option ≡ option
+    o = second.6 ∙ option_is
+
+    bytes : postings_of full.writing (docs_in ps) (counts_in begun ps) ≡ postings_bytes option (listed was.writing.norms) (docs_in ps) (map (λ (p : Posting). recorded_count option p.count) ps)
+    bytes =
+        ap (λ x. postings_bytes x (listed full.writing.norms) (docs_in ps) (counts_in begun ps)) o
+        ∙ ap (λ x. postings_bytes option (listed x) (docs_in ps) (counts_in begun ps)) (second.7 ∙ norms)
+        ∙ ap (λ x. postings_bytes option (listed was.writing.norms) (docs_in ps) (map (λ (p : Posting). recorded_count x p.count) ps)) option_is
+
+    go : MeetsLimit full (docs_in ps) (counts_in begun ps) (numbers_in ps) → TermPasses option (listed was.writing.norms) ps ⊎ (was.terms.num_terms ≡ 4294967295)
+    go (inl long) = inl (inr (inr (inl (subst (λ (xs : List ℕ). 2 ^ 32 ≤ length xs) bytes long))))
+    go (inr (inl many)) = inr (ap (λ (t : Terms). t.num_terms) (sym (second.2 ∙ terms)) ∙ many)
+    go (inr (inr placed)) = inl (inr (inr (inr (placed.0, subst (λ x. HasPositions (has_positions x) (numbers_in ps) placed.0) o placed.1, placed.2))))
+
+-- why its postings aren't written
+pub write_passes : (fault : Fault) (was begun : FieldWriting) (option : IndexRecordOption) (ps : List Posting) → begun.writing.option ≡ option → (fault ≡ faults.OutOfMemory) ⊎ ((fault ≡ faults.Limit) × (CountsPass ps ⊎ SumsPass begun.writing.option ps)) → (fault ≡ faults.OutOfMemory) ⊎ ((fault ≡ faults.Limit) × (TermPasses option (listed was.writing.norms) ps ⊎ (was.terms.num_terms ≡ 4294967295)))
+write_passes fault was begun option ps is (inl memory) = inl memory
+write_passes fault was begun option ps is (inr (limit, inl count)) = inr (limit, inl (inl count))
+write_passes fault was begun option ps is (inr (limit, inr sums)) = inr (limit, inl (inr (inl (subst (λ o. SumsPass o ps) is sums))))

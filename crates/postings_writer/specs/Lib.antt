@@ -5,3 +5,5 @@ pub mod Fields
 pub mod Writers
 pub mod Texts
 pub mod Serializing
+pub mod Limits
+pub mod Sections

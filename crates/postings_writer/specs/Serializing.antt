@@ -1,5 +1,5 @@
 -- The postings that recorders stand for, as a serializer takes them.
-use Rattle.std.specs.Prelude.{[], ◌++◌, ◌<◌, ◌^◌, ◌≡◌, ◌∷◌, IfSome, List, Option, drop, length, map, ℕ}
+use Rattle.std.specs.Prelude.{[], ◌++◌, ◌<◌, ◌^◌, ◌≡◌, ◌∷◌, IfSome, List, Option, drop, length, map, sum_by, ℕ}
 use Rattle.std.specs.List.{AllByRecursion}
 use Rattle.definitions.specs.Postings.{Posting}
 use Rattle.codes.specs.PositionBlocks.{listed}
@@ -7,7 +7,7 @@ use Rattle.definitions.specs.Schema.{IndexRecordOption, has_positions, with_freq
 use Rattle.layouts.specs.Deltas.{IsAscendingFrom}
 use Rattle.layouts.specs.InvertedIndexes.{HasPositions}
 use Rattle.layouts.specs.Positions.{differences, position_numbers}
-use Rattle.layouts.specs.TermPostings.{postings_bytes}
+use Rattle.layouts.specs.TermPostings.{ArePosted, postings_bytes}
 use Rattle.postings.specs.FieldWriting.{FieldWriting, inserted}
 use Rattle.postings.specs.TermWriting.{recorded_count}
 use Rattle.postings_writer.specs.Occurrences.{postings_at}
@@ -34,6 +34,10 @@ postings_from (DocIds docs) at = map of_doc (drop at docs)
 postings_from (TermFrequencies counts) at = map of_count (drop at counts)
 postings_from (TfAndPositions places) at = postings_at with_freqs_and_positions (drop at places)
 
+-- how many tokens a recorder was told of: a document whose count isn't recorded counts 1
+abbrev pub tokens_of : Recorder → ℕ
+tokens_of r = sum_by (λ (p : Posting). p.count) (postings_from r 0)
+
 -- a posting that stands at a place, with where the next one does
 pub record StandsAt (r : Recorder) (at doc count next : ℕ) (deltas : List ℕ) : Type 0 where
   pub positions : List ℕ
@@ -52,6 +56,7 @@ pub record CanWrite (next : ℕ) (norms : Option (List ℕ)) (ps : List Posting)
 -- a term was written behind those before: its postings, its positions and its entry
 pub record IsWrittenTerm (was now : FieldWriting) (key : List ℕ) (option : IndexRecordOption) (ps : List Posting) : Type 0 where
   pub bytes : List ℕ
+  pub posted : ArePosted option (map (λ (p : Posting). p.doc) ps) (map (λ (p : Posting). recorded_count option p.count) ps)
   pub positions_fit : length bytes < 2 ^ 32
   pub terms_fit : was.terms.num_terms < 4294967295
   pub positions_are : HasPositions (has_positions option) (position_numbers (map (λ (p : Posting). p.positions) ps)) bytes

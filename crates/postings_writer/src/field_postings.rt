@@ -1,8 +1,11 @@
 //! The recorders of one field's terms.
 
-ghost use Rattle.std.specs.Prelude.{[], ◌++◌, ◌≡◌, ◌∷◌, IfErr, List, OnOk, true, ℕ};
+ghost use Rattle.std.specs.Prelude.{[], ◌++◌, ◌≡◌, ◌∷◌, IfErr, IfOk, IsSome, List, OnOk, bytes_eq, map, true, ℕ};
+ghost use Rattle.std.specs.List.{AllByRecursion, IsDistinct, list_any};
+ghost use Rattle.std.specs.Map.{keys_of, lookup};
 ghost use Rattle.definitions.specs.Schema.{is_indexed};
 ghost use Rattle.definitions.specs.declared.fault.Fault.TheVariants as faults;
+ghost use Rattle.layouts.specs.TermSections.{TermsAscend};
 ghost use Rattle.options.specs.RecordOption.{record_option_of};
 ghost use Rattle.postings_writer.specs.Fields.{HasPlaces, option_of_key, with_place};
 ghost use Rattle.postings_writer.specs.Recorders.{IsCountRefusal};
@@ -11,7 +14,7 @@ use crate::recorder::Recorder;
 use definitions::Fault;
 use options::IndexRecordOption;
 use schema::FieldEntry;
-use std::alloc::Global;
+use std::alloc::{AllocError, Global};
 use std::collections::HashMap;
 use std::marker::Model;
 
@@ -91,5 +94,27 @@ impl FieldPostings {
         let key = key.to_vec(alloc)?;
         self.terms.insert(key, recorder)?;
         Ok(())
+    }
+
+    /// The terms by their value bytes, each with its recorder, in any order.
+    fn all_terms(&self, alloc: Global) -> Result<Vec<(&[u8], &Recorder)>, AllocError>
+        ensures terms { IfOk result (λ terms. map (λ t. (t.0.now, t.1.now)) terms.items ≡ self.now) }
+        ensures distinct { IsDistinct bytes_eq (keys_of self.now) }
+    {
+        self.terms
+            .iter()
+            .map(|(key, recorder)| (key.as_slice(), recorder))
+            .collect(alloc)
+    }
+
+    /// The terms by their value bytes, ascending, each with its recorder.
+    pub(crate) fn sorted_terms(&self, alloc: Global) -> Result<Vec<(&[u8], &Recorder)>, AllocError>
+        ensures ascend { IfOk result (λ terms. TermsAscend (map (λ t. t.0.now) terms.items)) }
+        ensures each { IfOk result (λ terms. AllByRecursion (λ t. lookup (bytes_eq t.0.now) self.now ≡ Some t.1.now) terms.items) }
+        ensures all { IfOk result (λ terms. (key : List ℕ) → IsSome (lookup (bytes_eq key) self.now) → list_any (bytes_eq key) (map (λ t. t.0.now) terms.items) ≡ true) }
+    {
+        let mut terms = self.all_terms(alloc)?;
+        terms.sort_unstable_by_key(|term| term.0);
+        Ok(terms)
     }
 }

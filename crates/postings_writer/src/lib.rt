@@ -5,6 +5,8 @@ mod field_postings;
 mod index_text;
 mod postings_writer;
 mod recorder;
+mod serialize;
+mod serialize_field;
 mod serialize_term;
 
 pub use postings_writer::PostingsWriter;

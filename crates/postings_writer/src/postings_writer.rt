@@ -35,22 +35,22 @@ fn payload_of(term: &[u8]) -> &[u8]
 /// was recorded is of no use.
 #[derive(Drop)]
 pub struct PostingsWriter<'a> {
-    alloc: Global,
-    schema: &'a Schema,
-    fields: Vec<FieldPostings>,
+    pub(crate) alloc: Global,
+    pub(crate) schema: &'a Schema,
+    pub(crate) fields: Vec<FieldPostings>,
     // One more than the last document, or 0.
     num_docs: u32,
 }
 
 impl<'a> Model for PostingsWriter<'a> {
-    ghost use Rattle.std.specs.Prelude.{◌≡◌, length};
+    ghost use Rattle.std.specs.Prelude.{◌≡◌, ◌≤◌, length};
     ghost use Rattle.postings_writer.specs.Writers.{Writer};
 
     ghost Value = { Writer };
 
     ghost view = { λ w. record { schema = w.schema.now; fields = w.fields.items; num_docs = w.num_docs } };
 
-    ghost invariant = { λ w. length w.fields.items ≡ length w.schema.now };
+    ghost invariant = { λ w. (length w.fields.items ≡ length w.schema.now) × (w.num_docs ≤ 2147483647) };
 }
 
 impl<'a> PostingsWriter<'a> {

@@ -1,6 +1,7 @@
 //! Writes the postings of a term.
 
 ghost use Rattle.std.specs.Prelude.{[], ◌++◌, ◌-◌, ◌<◌, ◌≡◌, ◌≤◌, ◌⊎◌, ◌∷◌, IfErr, IfOk, List, OnOk, drop, if◌then◌else◌, length, map, slice_index_or as get_or, take, ℕ};
+ghost use Rattle.codes.specs.PositionBlocks.{listed};
 ghost use Rattle.definitions.specs.Postings.{Posting};
 ghost use Rattle.definitions.specs.Recorded.{ascending};
 ghost use Rattle.definitions.specs.Schema.{basic};
@@ -9,6 +10,7 @@ ghost use Rattle.definitions.specs.declared.fault.Fault.TheVariants as faults;
 ghost use Rattle.layouts.specs.Positions.{differences, position_numbers};
 ghost use Rattle.postings.specs.FieldWriting.{IsOpen};
 ghost use Rattle.postings.specs.TermWriting.{recorded_count};
+ghost use Rattle.postings_writer.specs.Limits.{CountsPass, SumsPass, TermPasses};
 ghost use Rattle.postings_writer.specs.Occurrences.{by_document};
 ghost use Rattle.postings_writer.specs.Serializing.{CanWrite, IsWrittenTerm, StandsAt, length_of, postings_from};
 ghost use Rattle.postings_writer.specs.declared.recorder.Recorder.TheVariants as recorders;
@@ -89,7 +91,7 @@ impl Recorder {
     fn posting_at(&self, at: usize, deltas: &mut Vec<u32>) -> Result<(u32, u32, usize), Fault>
         requires { at < length_of self.now }
         ensures ok { IfOk result (λ p. StandsAt self.now at p.0 p.1 p.2 deltas.new.items) }
-        ensures err { IfErr result (λ fault. (fault ≡ faults.OutOfMemory) ⊎ (fault ≡ faults.Limit)) }
+        ensures err { IfErr result (λ fault. (fault ≡ faults.OutOfMemory) ⊎ ((fault ≡ faults.Limit) × CountsPass (postings_from self.now at))) }
     {
         deltas.clear();
         match self {
@@ -111,7 +113,7 @@ fn position_posting(
 ) -> Result<(u32, u32, usize), Fault>
     requires { at < length places.now }
     ensures ok { IfOk result (λ p. StandsAt (recorders.TfAndPositions places.now) at p.0 p.1 p.2 deltas.new.items) }
-    ensures err { IfErr result (λ fault. (fault ≡ faults.OutOfMemory) ⊎ (fault ≡ faults.Limit)) }
+    ensures err { IfErr result (λ fault. (fault ≡ faults.OutOfMemory) ⊎ ((fault ≡ faults.Limit) × CountsPass (postings_from (recorders.TfAndPositions places.now) at))) }
 {
     let end = run_end(places, at);
     let Ok(count) = u32::try_from(end - at) else {
@@ -132,7 +134,7 @@ fn write_postings<'a>(
     requires { CanWrite serializer.old.writing.next serializer.old.writing.norms (postings_from recorder.now 0) }
     ensures ok { (docs counts numbers : List ℕ) → IsOpen serializer.old docs counts numbers → OnOk result (IsOpen serializer.new (docs ++ map (λ p. p.doc) (postings_from recorder.now 0)) (counts ++ map (λ p. recorded_count serializer.old.writing.option p.count) (postings_from recorder.now 0)) (numbers ++ position_numbers (map (λ p. p.positions) (postings_from recorder.now 0)))) }
     ensures same { OnOk result ((serializer.new.field ≡ serializer.old.field) × (serializer.new.num_tokens ≡ serializer.old.num_tokens) × (serializer.new.terms ≡ serializer.old.terms) × (serializer.new.postings ≡ serializer.old.postings) × (serializer.new.key ≡ serializer.old.key) × (serializer.new.writing.mode ≡ serializer.old.writing.mode) × (serializer.new.writing.option ≡ serializer.old.writing.option) × (serializer.new.writing.norms ≡ serializer.old.writing.norms) × (serializer.new.positions.0 ≡ serializer.old.positions.0)) }
-    ensures err { IfErr result (λ fault. (fault ≡ faults.OutOfMemory) ⊎ (fault ≡ faults.Limit)) }
+    ensures err { IsOpen serializer.old [] [] [] → IfErr result (λ fault. (fault ≡ faults.OutOfMemory) ⊎ ((fault ≡ faults.Limit) × (CountsPass (postings_from recorder.now 0) ⊎ SumsPass serializer.old.writing.option (postings_from recorder.now 0)))) }
 {
     let mut at = 0;
     while at < recorder.len() {
@@ -155,7 +157,7 @@ pub(crate) fn serialize_term<'a>(
     requires nothing { serializer.old.positions.1 ≡ [] }
     requires can { CanWrite 0 serializer.old.writing.norms (postings_from recorder.now 0) }
     ensures ok { OnOk result (IsWrittenTerm serializer.old serializer.new key.now (if is_text then serializer.old.writing.mode else basic) (postings_from recorder.now 0)) }
-    ensures err { IfErr result (λ fault. (fault ≡ faults.OutOfMemory) ⊎ (fault ≡ faults.Limit)) }
+    ensures err { IfErr result (λ fault. (fault ≡ faults.OutOfMemory) ⊎ ((fault ≡ faults.Limit) × (TermPasses (if is_text then serializer.old.writing.mode else basic) (listed serializer.old.writing.norms) (postings_from recorder.now 0) ⊎ (serializer.old.terms.num_terms ≡ 4294967295)))) }
 {
     serializer.new_term(key, is_text)?;
     write_postings(recorder, deltas, serializer)?;

@@ -35,4 +35,4 @@ pub use options::{
     TextOptions,
 };
 pub use schema::{Schema, SchemaBuilder};
-pub use term::Term;
+pub use term::{Term, push_json_path, push_term_header};

@@ -61,10 +61,33 @@ fn bytes_of(alloc: Global, field: Field, kind: Type, value: &[u8]) -> Result<Vec
     ensures { IfOk result (λ bytes. bytes.items ≡ term_bytes field (kind_of kind) value.now) }
 {
     let mut bytes = Vec::with_capacity(alloc, HEADER_LEN + value.len())?;
-    bytes.extend_from_slice(&field.field_id().to_be_bytes())?;
-    bytes.push(kind.to_code())?;
+    push_term_header(&mut bytes, field, kind)?;
     bytes.extend_from_slice(value)?;
     Ok(bytes)
+}
+
+/// Appends the first bytes of the terms of a field: its number, and the code of its type.
+pub fn push_term_header(bytes: &mut Vec<u8>, field: Field, kind: Type) -> Result<(), AllocError>
+    ensures { OnOk result (bytes.new.items ≡ bytes.old.items ++ term_bytes field (kind_of kind) []) }
+{
+    bytes.extend_from_slice(&field.field_id().to_be_bytes())?;
+    bytes.push(kind.to_code())?;
+    Ok(())
+}
+
+/// Appends the first bytes of the terms at a path of a JSON field, by its keys, which may be any texts.
+pub fn push_json_path(
+    bytes: &mut Vec<u8>,
+    field: Field,
+    keys: &[&str],
+    expand_dots: bool,
+) -> Result<(), AllocError>
+    ensures { OnOk result (bytes.new.items ≡ bytes.old.items ++ json_term field (path_of_keys expand_dots (map (λ key. key.now) keys.now)) []) }
+{
+    push_term_header(bytes, field, Type::Json)?;
+    push_keys(bytes, keys, expand_dots)?;
+    bytes.push(PATH_END)?;
+    Ok(())
 }
 
 impl Term {
@@ -159,9 +182,8 @@ impl Term {
     ) -> Result<Term, AllocError>
         ensures { IfOk result (λ term. term ≡ json_term field (path_of_keys expand_dots (map (λ key. key.now) keys.now)) []) }
     {
-        let mut bytes = bytes_of(alloc, field, Type::Json, &[])?;
-        push_keys(&mut bytes, keys, expand_dots)?;
-        bytes.push(PATH_END)?;
+        let mut bytes = Vec::new(alloc);
+        push_json_path(&mut bytes, field, keys, expand_dots)?;
         Ok(Term { bytes })
     }
 

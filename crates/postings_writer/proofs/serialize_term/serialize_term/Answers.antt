@@ -4,7 +4,7 @@ use Rattle.definitions.specs.Postings.{Posting}
 use Rattle.layouts.specs.Positions.{position_numbers}
 use Rattle.postings.specs.TermWriting.{recorded_count}
 use Rattle.postings_writer.specs.Serializing.{postings_from}
-use Rattle.postings_writer.proofs.WrittenTerms.{close_refused, term_written}
+use Rattle.postings_writer.proofs.WrittenTerms.{close_passes, term_written, write_passes}
 use Rattle.postings_writer.proofs.serialize_term.serialize_term.Goals as goal
 
 pub returns-in_err-close_term-clause-err : goal.returns-in_err-close_term-clause-err
@@ -15,7 +15,14 @@ returns-in_err-close_term-clause-err c =
     let counts = map (λ (p : Posting). recorded_count w.writing.option p.count) ps in
     let numbers = position_numbers (map (λ (p : Posting). p.positions) ps) in
     let p = err_from_is_err_and c.from_residual-in_err-close_term.result c.from_residual-in_err-close_term.ensures.1 in
-    rw (p.1, p.2) (close_refused c.in_err-close_term.field-0.0 c.write_postings.new.serializer docs counts numbers (c.in_err-close_term.ensures.err docs counts numbers (c.in_ok-write_postings.ensures.ok [] [] [] c.in_ok-new_term.ensures.ready)))
+    let begun = c.in_ok-new_term.ensures in
+    rw (p.1, p.2) (close_passes c.in_err-close_term.field-0.0 c.args.serializer.now w c.write_postings.new.serializer _ ps begun.option begun.same.2 begun.same.6 c.in_ok-write_postings.ensures.same (c.in_err-close_term.ensures.err docs counts numbers (c.in_ok-write_postings.ensures.ok [] [] [] begun.ready)))
+
+pub returns-in_err-write_postings-clause-err : goal.returns-in_err-write_postings-clause-err
+returns-in_err-write_postings-clause-err c =
+    let begun = c.in_ok-new_term.ensures in
+    let p = err_from_is_err_and c.from_residual-in_err-write_postings.result c.from_residual-in_err-write_postings.ensures.1 in
+    rw (p.1, p.2) (write_passes c.in_err-write_postings.field-0.0 c.args.serializer.now c.new_term.new.self _ (postings_from c.args.recorder.now 0) begun.option (c.in_err-write_postings.ensures.err begun.ready))
 
 pub returns-clause-ok : goal.returns-clause-ok
 returns-clause-ok c =

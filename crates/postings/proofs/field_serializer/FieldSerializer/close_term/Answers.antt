@@ -21,6 +21,7 @@ returns-clause-ok c docs counts numbers a =
     let Q : FieldWriting → Type 0 = λ x. IsClosed x (record { field = c.self-2.inside.field; num_tokens = c.self-2.inside.num_tokens; terms = c.insert.new.self; postings = c.self-2.inside.postings.items; positions = c.self-2.inside.positions_serializer; key = c.self-2.inside.key.items; doc_freq = c.self-2.inside.doc_freq; writing = c.self-2.inside.postings_serializer }) docs counts numbers in
     subst Q c.self.view_is (record {
       bytes = p.0;
+      posted = c.in_ok-close_term.ensures.posted docs counts open_term.written;
       postings_fit = c.in_ok-close_term.ensures.within docs counts open_term.written (sym open_term.doc_freq_is);
       positions_fit = (let more = ap (λ (x : List ℕ × List ℕ). length x.0) placed in omega (arith, more, length-append was.positions_serializer.0 p.0, c.written_bytes.ensures, c.written_bytes-positions_start.ensures, c.if-positions_len.false));
       terms_fit = (let here = c.in_ok-insert.ensures.within in let same = ap (λ (x : FieldWriting). x.terms.num_terms) stands in omega arith);

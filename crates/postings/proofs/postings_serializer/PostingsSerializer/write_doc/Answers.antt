@@ -1,9 +1,9 @@
-use Rattle.std.proofs.Common.{ap, arith, length, length-append, sym, ◌<◌, ◌≡◌, ◌∙◌, ◌∷◌, []}
+use Rattle.std.proofs.Common.{ap, arith, length, ◌++◌, length-append, sym, ◌<◌, ◌≡◌, ◌∙◌, ◌∷◌, []}
 use Rattle.std.proofs.lemmas.Bool.Decides.{nat_tests}
 use Rattle.codes.specs.PositionBlocks.{listed}
 use Rattle.layouts.specs.TermPostings.{id_of}
-use Rattle.postings.proofs.WrittenPostings.{docs_more, may_come, on_ok_both, writing_more, writing_none, written_full, written_open}
-use Rattle.postings.specs.TermWriting.{Waiting, Writing}
+use Rattle.postings.proofs.WrittenPostings.{docs_more, may_come, on_err, on_ok_both, sum_refused, writing_more, writing_none, written_full, written_open}
+use Rattle.postings.specs.TermWriting.{IsSumRefusal, Waiting, Writing, recorded_count}
 use Rattle.postings.proofs.postings_serializer.PostingsSerializer.write_doc.Goals as goal
 
 pub invariant_of-self : goal.invariant_of-self
@@ -38,3 +38,11 @@ returns-clause-written c docs counts a =
     (λ put fits. written_full _ c.args.self.now c.append_doc.new.self c.clear.new.self c.write_block-written.new.self c.args.doc c.recorded_count-count.result c.fieldnorm_id-fieldnorm_id.result _ docs counts may fits c.self.view_is c.append_doc.ensures c.clear.ensures put c.recorded_count-count.ensures.count (c.fieldnorm_id-fieldnorm_id.ensures ∙ ap (λ (w : Writing). id_of (listed w.norms) c.args.doc) (sym c.self.view_is)) c.self.invariant full a)
     c.write_block-written.ensures.ok
     c.write_block-written.ensures.within
+
+pub returns-clause-sums : goal.returns-clause-sums
+returns-clause-sums c docs counts a =
+    let full : length c.append_doc.new.self.docs ≡ 128 = (let is = c.if-not-is_full.ensures in grind (arith, nat_tests)) in
+    let n = recorded_count c.args.self.now.option c.args.term_freq in
+    on_err c.write_block-written.result _ (λ fault. IsSumRefusal fault (counts ++ n ∷ []))
+    (λ fault refused. sum_refused fault _ c.args.self.now c.append_doc.new.self c.args.doc c.recorded_count-count.result c.fieldnorm_id-fieldnorm_id.result n docs counts c.self.view_is c.append_doc.ensures c.recorded_count-count.ensures.count c.self.invariant.same full a refused)
+    c.write_block-written.ensures.err

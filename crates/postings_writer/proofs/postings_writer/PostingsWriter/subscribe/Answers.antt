@@ -22,7 +22,7 @@ returns-in_err-record-clause-err c os stands =
     let K : Writer → Type 0 = λ x. IsIndexedTerm x.schema t in
     let k : IsIndexedTerm w.schema t = subst K (sym view) c.requires.known in
     let at : slice_get w.schema field ≡ Some e = ap (slice_get w.schema) (sym c.from_field_id.ensures) ∙ c.get_field_entry-entry.ensures in
-    let inside : field < length w.fields = (let within = slice_get_within w.schema field e at in let long = c.self.invariant in omega arith) in
+    let inside : field < length w.fields = (let within = slice_get_within w.schema field e at in let long = c.self.invariant.0 in omega arith) in
     let here : slice_get w.fields field ≡ Some old = slice_get-get_or w.fields field old inside ∙ ap Some (sym c.index_mut.ensures.value) in
     let has = known_has w os t c.args.doc c.args.position k e field key old there c.field_of-field.ensures at here in
     let p = err_from_is_err_and c.from_residual.result c.from_residual.ensures.1 in
@@ -43,7 +43,7 @@ returns-clause-ok c os stands =
     let K : Writer → Type 0 = λ x. IsIndexedTerm x.schema t in
     let k : IsIndexedTerm w.schema t = subst K (sym view) c.requires.known in
     let at : slice_get w.schema field ≡ Some e = ap (slice_get w.schema) (sym c.from_field_id.ensures) ∙ c.get_field_entry-entry.ensures in
-    let inside : field < length w.fields = (let within = slice_get_within w.schema field e at in let long = c.self.invariant in omega arith) in
+    let inside : field < length w.fields = (let within = slice_get_within w.schema field e at in let long = c.self.invariant.0 in omega arith) in
     let here : slice_get w.fields field ≡ Some old = slice_get-get_or w.fields field old inside ∙ ap Some (sym c.index_mut.ensures.value) in
     let has = known_has w os t c.args.doc c.args.position k e field key old there c.field_of-field.ensures at here in
     let next : w.num_docs ≤ c.args.doc + 1 = (let same = ap (λ (x : Writer). x.num_docs) view in let below = c.requires.next in omega arith) in

@@ -1,0 +1,14 @@
+//! Indexes documents: the terms of their values, by the types of their fields.
+#![tactic(auto)]
+
+mod document_indexer;
+mod index_document;
+mod index_facet;
+mod index_json;
+mod index_value;
+mod indexing_context;
+pub mod indexing_laws;
+mod indexing_positions;
+mod term_indexer;
+
+pub use document_indexer::DocumentIndexer;

@@ -1,0 +1,136 @@
+-- Terms that were written to a field, and fields that were written to the sections.
+use Rattle.std.proofs.Common.{[], ◌++◌, ◌⊎◌, IsSomeAnd, Some, inl, inr, option_map, slice_get, suc, zero, ◌+◌, ◌<◌, ◌≡◌, ◌∙◌, ◌∷◌, List, ap, ap₂, append_assoc, arith, get_or, length, length-append, map, refl, subst, sym, take, ℕ}
+use Rattle.std.specs.List.{AllByRecursion, flat_map}
+use Rattle.std.proofs.lemmas.List.{length-map, length-take-le, map-append, take_more}
+use Rattle.std.proofs.lemmas.Option.{slice_get-get_or}
+use Rattle.codes.specs.PositionBlocks.{listed}
+use Rattle.definitions.specs.Postings.{Posting}
+use Rattle.definitions.specs.Schema.{IndexRecordOption, Kind}
+use Rattle.definitions.specs.declared.fault.Fault.{Fault}
+use Rattle.definitions.specs.declared.fault.Fault.TheVariants as faults
+use Rattle.layouts.specs.InvertedIndexes.{IndexedTerm, lengths_of}
+use Rattle.layouts.specs.TermPostings.{postings_bytes}
+use Rattle.layouts.specs.TermSections.{entry_of_term}
+use Rattle.postings.specs.FieldWriting.{FieldWriting, Terms, inserted}
+use Rattle.postings.specs.TermWriting.{recorded_count}
+use Rattle.postings_writer.specs.Limits.{TermPasses}
+use Rattle.postings_writer.specs.Sections.{AnyTermPasses, AreAdded, IsSpelled, option_in}
+use Rattle.postings_writer.specs.Serializing.{IsWrittenTerm, postings_from}
+use Rattle.postings_writer.specs.declared.recorder.Recorder.{Recorder}
+
+append_nil : {A : Type 0} (xs : List A) → xs ++ [] ≡ xs
+append_nil [] = refl
+append_nil (x ∷ xs) = ap (λ ys. x ∷ ys) (append_nil xs)
+
+-- one list more at the end of those that are joined
+pub flat_map_push : {A B : Type 0} (f : A → List B) (xs : List A) (x : A) → flat_map f (xs ++ x ∷ []) ≡ flat_map f xs ++ f x
+flat_map_push f [] x = append_nil (f x)
+flat_map_push f (y ∷ ys) x = ap (λ zs. f y ++ zs) (flat_map_push f ys x) ∙ sym (append_assoc (f y) (flat_map f ys) (f x))
+
+pub all_push : {A : Type 0} (P : A → Type 0) (xs : List A) (x : A) → AllByRecursion P xs → P x → AllByRecursion P (xs ++ x ∷ [])
+all_push P [] x all last = (last, tt)
+all_push P (y ∷ ys) x all last = (all.0, all_push P ys x all.1 last)
+
+-- ---- terms of a field
+
+-- a term that was written
+abbrev term_of : List ℕ → Recorder → IndexRecordOption → List ℕ → List ℕ → IndexedTerm
+term_of key r option ids positions = (let ps = postings_from r 0 in record { key = key; postings = ps; postings_bytes = postings_bytes option ids (map (λ p. p.doc) ps) (map (λ p. recorded_count option p.count) ps); positions_bytes = positions })
+
+abbrev Recorded : Type 0
+Recorded = List ℕ × Recorder
+
+abbrev told_of : IndexedTerm → List ℕ × List Posting
+told_of t = (t.key, t.postings)
+
+abbrev stands_for : Recorded → List ℕ × List Posting
+stands_for r = (r.0, postings_from r.1 0)
+
+pub none_added : (kind : Kind) (was : FieldWriting) → was.positions.1 ≡ [] → AreAdded kind was was [] []
+none_added kind was nothing = record {
+  told = refl;
+  each = tt;
+  terms = ap₂ (λ es n. record { closed = was.terms.closed; entries = es; num_terms = n }) (sym (append_nil was.terms.entries)) (let P : was.terms.num_terms ≡ was.terms.num_terms + 0 = omega arith in P);
+  postings = sym (append_nil was.postings);
+  positions = ap₂ (λ xs ys. (xs, ys)) (sym (append_nil was.positions.0)) nothing;
+  same = (refl, refl, refl, refl);
+}
+
+-- one term more
+module _ (kind : Kind) (was now new : FieldWriting) (rs : List Recorded) (ts : List IndexedTerm) (key : List ℕ) (r : Recorder) (before : AreAdded kind was now rs ts) (w : IsWrittenTerm now new key (option_in kind was.writing.mode key) (postings_from r 0)) where
+  abbrev option : IndexRecordOption
+  option = option_in kind was.writing.mode key
+
+  abbrev ps : List Posting
+  ps = postings_from r 0
+
+  abbrev t : IndexedTerm
+  t = term_of key r option (listed was.writing.norms) w.bytes
+
+  bytes_are : postings_bytes option (listed now.writing.norms) (map (λ (p : Posting). p.doc) ps) (map (λ (p : Posting). recorded_count option p.count) ps) ≡ t.postings_bytes
+  bytes_are = ap (λ o. postings_bytes option (listed o) (map (λ (p : Posting). p.doc) ps) (map (λ (p : Posting). recorded_count option p.count) ps)) before.same.3
+
+  spelled : IsSpelled option (listed was.writing.norms) t
+  spelled = record { postings_are = record { posted = w.posted; whole = refl }; positions_are = w.positions_are }
+
+  abbrev entered : ℕ → List ℕ → Terms → Terms
+  entered freq bytes terms = inserted key (record { doc_freq = freq; postings_len = length bytes; positions_len = length w.bytes }) terms
+
+  terms_are : new.terms ≡ record { closed = was.terms.closed; entries = was.terms.entries ++ flat_map entry_of_term (map lengths_of (ts ++ t ∷ [])); num_terms = was.terms.num_terms + length (ts ++ t ∷ []) }
+  terms_are =
+      w.terms
+      ∙ ap₂ (λ n xs. entered n xs now.terms) (length-map ps (λ (p : Posting). p.doc)) bytes_are
+      ∙ ap (entered (length ps) t.postings_bytes) before.terms
+      ∙ ap₂ (λ es n. record { closed = was.terms.closed; entries = es; num_terms = n })
+      (append_assoc was.terms.entries (flat_map entry_of_term (map lengths_of ts)) (entry_of_term (lengths_of t)) ∙ ap (λ es. was.terms.entries ++ es) (sym (flat_map_push entry_of_term (map lengths_of ts) (lengths_of t)) ∙ ap (flat_map entry_of_term) (sym (map-append lengths_of ts (t ∷ [])))))
+      (let long = length-append ts (t ∷ []) in let P : was.terms.num_terms + length ts + 1 ≡ was.terms.num_terms + length (ts ++ t ∷ []) = omega arith in P)
+
+  added_more : AreAdded kind was new (rs ++ (key, r) ∷ []) (ts ++ t ∷ [])
+  added_more = record {
+    told = map-append told_of ts (t ∷ []) ∙ ap (λ xs. xs ++ stands_for (key, r) ∷ []) before.told ∙ sym (map-append stands_for rs ((key, r) ∷ []));
+    each = all_push (λ (x : IndexedTerm). IsSpelled (option_in kind was.writing.mode x.key) (listed was.writing.norms) x) ts t before.each spelled;
+    terms = terms_are;
+    postings = w.postings ∙ ap₂ (λ xs ys. xs ++ ys) before.postings bytes_are ∙ append_assoc was.postings (flat_map (λ (x : IndexedTerm). x.postings_bytes) ts) t.postings_bytes ∙ ap (λ xs. was.postings ++ xs) (sym (flat_map_push (λ (x : IndexedTerm). x.postings_bytes) ts t));
+    positions = w.positions ∙ ap (λ (xs : List ℕ × List ℕ). (xs.0 ++ w.bytes, [])) before.positions ∙ ap (λ xs. (xs, [])) (append_assoc was.positions.0 (flat_map (λ (x : IndexedTerm). x.positions_bytes) ts) w.bytes ∙ ap (λ xs. was.positions.0 ++ xs) (sym (flat_map_push (λ (x : IndexedTerm). x.positions_bytes) ts t)));
+    same = (w.same.0 ∙ before.same.0, w.same.1 ∙ before.same.1, w.same.2 ∙ before.same.2, w.same.3 ∙ before.same.3);
+  }
+
+  pub added_next : (next : List Recorded) → rs ++ (key, r) ∷ [] ≡ next → (us : List IndexedTerm) × AreAdded kind was new next us
+  added_next next is = (ts ++ t ∷ [], subst (λ xs. AreAdded kind was new xs (ts ++ t ∷ [])) is added_more)
+
+-- the front of a list with one element more
+pub mapped_more : {A B : Type 0} (v : A → B) (xs : List A) (i : ℕ) (x : A) → i < length xs → x ≡ get_or xs i x → map v (take i xs) ++ v x ∷ [] ≡ map v (take (i + 1) xs)
+mapped_more v xs i x inside is = ap (λ y. map v (take i xs) ++ v y ∷ []) is ∙ sym (map-append v (take i xs) (get_or xs i x ∷ [])) ∙ ap (map v) (sym (take_more xs i x inside))
+
+-- ---- what is refused
+
+at_mapped : {A B : Type 0} (v : A → B) (xs : List A) (i : ℕ) (x : A) → slice_get xs i ≡ Some x → slice_get (map v xs) i ≡ Some (v x)
+at_mapped v [] i x at = cc
+at_mapped v (y ∷ ys) zero x at = ap (option_map v) at
+at_mapped v (y ∷ ys) (suc i) x at = at_mapped v ys i x at
+
+-- a term that passes a limit, behind those that were written
+pub term_refused : {A : Type 0} (fault : Fault) (kind : Kind) (was now : FieldWriting) (v : A → Recorded) (items : List A) (ts : List IndexedTerm) (i : ℕ) (x : A) (option : IndexRecordOption) → AreAdded kind was now (map v (take i items)) ts → i < length items → x ≡ get_or items i x → option ≡ option_in kind was.writing.mode (v x).0
+    → (fault ≡ faults.OutOfMemory) ⊎ ((fault ≡ faults.Limit) × (TermPasses option (listed now.writing.norms) (postings_from (v x).1 0) ⊎ (now.terms.num_terms ≡ 4294967295)))
+    → (fault ≡ faults.OutOfMemory) ⊎ ((fault ≡ faults.Limit) × AnyTermPasses kind was (map v items))
+term_refused fault kind was now v items ts i x option added inside is option_is (inl memory) = inl memory
+term_refused fault kind was now v items ts i x option added inside is option_is (inr (limit, inl pass)) = inr (
+  limit,
+  inl (i, subst (λ o. IsSomeAnd o (λ (r : Recorded). TermPasses (option_in kind was.writing.mode r.0) (listed was.writing.norms) (postings_from r.1 0))) (sym (at_mapped v items i x (slice_get-get_or items i x inside ∙ ap Some (sym is)))) passes),
+)
+  where
+    passes : TermPasses (option_in kind was.writing.mode (v x).0) (listed was.writing.norms) (postings_from (v x).1 0)
+    passes = subst (λ o. TermPasses o (listed was.writing.norms) (postings_from (v x).1 0)) option_is (subst (λ o. TermPasses option (listed o) (postings_from (v x).1 0)) added.same.3 pass)
+term_refused fault kind was now v items ts i x option added inside is option_is (inr (limit, inr many)) = inr (
+  limit,
+  inr (
+      let told = ap length added.told in
+      let a = length-map ts told_of in
+      let b = length-map (map v (take i items)) stands_for in
+      let c = length-map (take i items) v in
+      let d = length-take-le i items (omega arith) in
+      let e = length-map items v in
+      let f = ap (λ (t : Terms). t.num_terms) added.terms in
+      omega arith
+      ),
+)

@@ -1,0 +1,63 @@
+-- The terms of fields, as they are written to the sections of a segment.
+use Rattle.std.specs.Prelude.{[], ◌++◌, ◌+◌, ◌<◌, ◌^◌, ◌≡◌, ◌⊎◌, IsSomeAnd, List, bytes_eq, flat_map, if◌then◌else◌, length, map, slice_get, true, ℕ}
+use Rattle.std.specs.List.{AllByRecursion, list_any}
+use Rattle.codes.specs.PositionBlocks.{listed}
+use Rattle.definitions.specs.Postings.{Posting}
+use Rattle.definitions.specs.Schema.{Entry, IndexRecordOption, Kind, basic, has_positions}
+use Rattle.layouts.specs.InvertedIndexes.{HasPositions, IndexedField, IndexedTerm, field_terms, lengths_of, num_tokens}
+use Rattle.layouts.specs.Positions.{position_numbers}
+use Rattle.layouts.specs.TermPostings.{AreTermPostings}
+use Rattle.layouts.specs.TermSections.{TermsAscend, entry_of_term, field_terms_bytes}
+use Rattle.postings.specs.FieldWriting.{FieldWriting, Sections}
+use Rattle.postings.specs.TermWriting.{recorded_count}
+use Rattle.postings_writer.specs.Fields.{option_of_key}
+use Rattle.schema.specs.TextKeys.{is_text_key}
+use Rattle.postings_writer.specs.Limits.{TermPasses}
+use Rattle.postings_writer.specs.Occurrences.{postings_at}
+use Rattle.postings_writer.specs.Serializing.{postings_from}
+use Rattle.postings_writer.specs.declared.recorder.Recorder.{Recorder}
+
+-- ---- what stands in the sections
+
+-- the bytes of a term are those of its postings and of their positions
+pub record IsSpelled (option : IndexRecordOption) (ids : List ℕ) (t : IndexedTerm) : Type 0 where
+  pub postings_are : AreTermPostings option ids (map (λ p. p.doc) t.postings) (map (λ p. recorded_count option p.count) t.postings) t.postings_bytes
+  pub positions_are : HasPositions (has_positions option) (position_numbers (map (λ p. p.positions) t.postings)) t.positions_bytes
+
+-- what is recorded of a term by its value bytes, in a field of a kind that records so much of texts
+abbrev pub option_in : Kind → IndexRecordOption → List ℕ → IndexRecordOption
+option_in kind mode key = if is_text_key kind key then mode else basic
+
+-- terms were written behind those before: these, with what their recorders stand for
+pub record AreAdded (kind : Kind) (was now : FieldWriting) (recorded : List (List ℕ × Recorder)) (ts : List IndexedTerm) : Type 0 where
+  pub told : map {B = List ℕ × List Posting} (λ (t : IndexedTerm). (t.key, t.postings)) ts ≡ map (λ (r : List ℕ × Recorder). (r.0, postings_from r.1 0)) recorded
+  pub each : AllByRecursion (λ (t : IndexedTerm). IsSpelled (option_in kind was.writing.mode t.key) (listed was.writing.norms) t) ts
+  pub terms : now.terms ≡ record { closed = was.terms.closed; entries = was.terms.entries ++ flat_map entry_of_term (map lengths_of ts); num_terms = was.terms.num_terms + length ts }
+  pub postings : now.postings ≡ was.postings ++ flat_map (λ (t : IndexedTerm). t.postings_bytes) ts
+  pub positions : now.positions ≡ (was.positions.0 ++ flat_map (λ (t : IndexedTerm). t.positions_bytes) ts, [])
+  pub same : (now.field ≡ was.field) × (now.num_tokens ≡ was.num_tokens) × (now.writing.mode ≡ was.writing.mode) × (now.writing.norms ≡ was.writing.norms)
+
+-- one of these terms passes a limit, or with those before they are too many
+abbrev pub AnyTermPasses : Kind → FieldWriting → List (List ℕ × Recorder) → Type 0
+AnyTermPasses kind was recorded = ((i : ℕ) × IsSomeAnd (slice_get recorded i) (λ r. TermPasses (option_in kind was.writing.mode r.0) (listed was.writing.norms) (postings_from r.1 0))) ⊎ (4294967295 < was.terms.num_terms + length recorded)
+
+-- fields were written behind those before
+pub record AreFieldsAdded (was now : Sections) (fields : List IndexedField) : Type 0 where
+  pub terms : now.terms ≡ was.terms ++ flat_map field_terms_bytes (map field_terms fields)
+  pub postings : now.postings ≡ was.postings ++ flat_map (λ (f : IndexedField). flat_map (λ (t : IndexedTerm). t.postings_bytes) f.terms) fields
+  pub positions : now.positions ≡ was.positions ++ flat_map (λ (f : IndexedField). flat_map (λ (t : IndexedTerm). t.positions_bytes) f.terms) fields
+
+-- ---- of places
+
+-- a term that has places, with their postings
+pub record IsTermOf (e : Entry) (ids : List ℕ) (places : List ℕ → List (ℕ × ℕ)) (t : IndexedTerm) : Type 0 where
+  pub some : 0 < length (places t.key)
+  pub postings_are : t.postings ≡ postings_at (option_of_key e t.key) (places t.key)
+  pub spelled : IsSpelled (option_of_key e t.key) ids t
+
+-- a field with the terms that have places
+pub record IsFieldOf (e : Entry) (ids : List ℕ) (places : List ℕ → List (ℕ × ℕ)) (f : IndexedField) : Type 0 where
+  pub ascend : TermsAscend (map (λ (t : IndexedTerm). t.key) f.terms)
+  pub tokens_fit : num_tokens f < 2 ^ 64
+  pub each : AllByRecursion (IsTermOf e ids places) f.terms
+  pub all : (key : List ℕ) → 0 < length (places key) → list_any (bytes_eq key) (map (λ (t : IndexedTerm). t.key) f.terms) ≡ true

@@ -1,0 +1,135 @@
+//! Writes the terms of a field.
+
+ghost use Rattle.std.specs.Prelude.{[], ◌^◌, ◌≡◌, ◌≤◌, ◌⊎◌, ◌∷◌, IfErr, IfOk, List, MatchOption, OnOk, bytes_eq, map, sum_by, true, ℕ};
+ghost use Rattle.std.specs.List.{AllByRecursion};
+ghost use Rattle.std.specs.Map.{lookup};
+ghost use Rattle.codes.specs.PositionBlocks.{listed};
+ghost use Rattle.definitions.specs.Schema.{is_indexed};
+ghost use Rattle.definitions.specs.declared.fault.Fault.TheVariants as faults;
+ghost use Rattle.layouts.specs.InvertedIndexes.{IndexedField, IndexedTerm};
+ghost use Rattle.options.specs.RecordOption.{record_option_of};
+ghost use Rattle.postings_writer.specs.Fields.{HasPlaces, option_of_key};
+ghost use Rattle.postings_writer.specs.Limits.{IsFieldRefusal};
+ghost use Rattle.postings_writer.specs.Occurrences.{postings_at};
+ghost use Rattle.postings_writer.specs.Sections.{AnyTermPasses, AreAdded, AreFieldsAdded, IsFieldOf};
+ghost use Rattle.postings_writer.specs.Serializing.{CanWrite, postings_from, tokens_of};
+ghost use Rattle.postings_writer.specs.declared.recorder.Recorder as recorders;
+ghost use Rattle.schema.specs.Kinds.{kind_of};
+
+use crate::field_postings::FieldPostings;
+use crate::recorder::Recorder;
+use crate::serialize_term::serialize_term;
+use codes::FieldNormReader;
+use definitions::Fault;
+use options::IndexRecordOption;
+use postings::{FieldSerializer, InvertedIndexSerializer};
+use schema::{FieldEntry, Type};
+use std::alloc::Global;
+
+/// The sum of the counts, where it has 64 bits.
+fn sum_counts(counts: &[(u32, u32)]) -> Option<u64>
+    ensures { MatchOption result (2 ^ 64 ≤ sum_by (λ p. p.1) counts.now) (λ n. n ≡ sum_by (λ p. p.1) counts.now) }
+{
+    let mut sum: u64 = 0;
+    for (_, count) in counts {
+        sum = sum.checked_add(u64::from(*count))?;
+    }
+    Some(sum)
+}
+
+impl Recorder {
+    /// How many tokens were recorded, where that has 64 bits. A document whose count isn't recorded counts 1.
+    fn num_tokens(&self) -> Option<u64>
+        ensures { MatchOption result (2 ^ 64 ≤ tokens_of self.now) (λ n. n ≡ tokens_of self.now) }
+    {
+        match self {
+            Recorder::DocIds(recorder) => Some(recorder.docs().len() as u64),
+            Recorder::TermFrequencies(recorder) => sum_counts(recorder.counts()),
+            Recorder::TfAndPositions(recorder) => Some(recorder.places().len() as u64),
+        }
+    }
+}
+
+/// How many tokens of these terms were recorded, where that has 64 bits.
+fn num_tokens(terms: &[(&[u8], &Recorder)]) -> Option<u64>
+    ensures { MatchOption result (2 ^ 64 ≤ sum_by (λ t. tokens_of t.1.now) terms.now) (λ n. n ≡ sum_by (λ t. tokens_of t.1.now) terms.now) }
+{
+    let mut sum: u64 = 0;
+    for (_, recorder) in terms {
+        sum = sum.checked_add(recorder.num_tokens()?)?;
+    }
+    Some(sum)
+}
+
+/// What a field records of texts.
+fn index_record_option(entry: &FieldEntry) -> IndexRecordOption
+    requires { is_indexed entry.now ≡ true }
+    ensures { record_option_of result ≡ entry.now.record_option }
+{
+    entry
+        .field_type()
+        .get_index_record_option()
+        .unwrap_or(IndexRecordOption::Basic)
+}
+
+/// A field's type.
+fn value_type(entry: &FieldEntry) -> Type
+    ensures { kind_of result ≡ entry.now.kind }
+{
+    entry.field_type().value_type()
+}
+
+/// Writes terms of a field of a type, one after another.
+fn serialize_terms<'a>(
+    alloc: Global,
+    kind: Type,
+    terms: &[(&[u8], &Recorder)],
+    serializer: &mut FieldSerializer<'a>,
+) -> Result<(), Fault>
+    requires nothing { serializer.old.positions.1 ≡ [] }
+    requires can { AllByRecursion (λ t. CanWrite 0 serializer.old.writing.norms (postings_from t.1.now 0)) terms.now }
+    ensures ok { OnOk result ((ts : List IndexedTerm) × AreAdded (kind_of kind) serializer.old serializer.new (map (λ t. (t.0.now, t.1.now)) terms.now) ts) }
+    ensures err { IfErr result (λ fault. (fault ≡ faults.OutOfMemory) ⊎ ((fault ≡ faults.Limit) × AnyTermPasses (kind_of kind) serializer.old (map (λ t. (t.0.now, t.1.now)) terms.now))) }
+{
+    let mut deltas = Vec::new(alloc);
+    for (key, recorder) in terms {
+        serialize_term(
+            key,
+            kind.is_text_value(key),
+            recorder,
+            &mut deltas,
+            serializer,
+        )?;
+    }
+    Ok(())
+}
+
+impl FieldPostings {
+    /// Writes the field behind those before: its terms in the order of their value bytes.
+    pub(crate) fn serialize<'a>(
+        &self,
+        alloc: Global,
+        field: u32,
+        entry: &FieldEntry,
+        fieldnorm_reader: Option<FieldNormReader<'a>>,
+        serializer: InvertedIndexSerializer,
+    ) -> Result<InvertedIndexSerializer, Fault>
+        requires indexed { is_indexed entry.now ≡ true }
+        requires can { (key : List ℕ) (recorder : recorders.Recorder) → lookup (bytes_eq key) self.now ≡ Some recorder → CanWrite 0 fieldnorm_reader (postings_from recorder 0) }
+        ensures ok { (places : List ℕ → List (ℕ × ℕ)) → HasPlaces entry.now places self.now → IfOk result (λ sections. (f : IndexedField) × (f.field ≡ field) × IsFieldOf entry.now (listed fieldnorm_reader.entry) places f × AreFieldsAdded serializer sections (f ∷ [])) }
+        ensures err { (places : List ℕ → List (ℕ × ℕ)) → HasPlaces entry.now places self.now → IfErr result (λ fault. IsFieldRefusal fault (option_of_key entry.now) (listed fieldnorm_reader.entry) (λ key. postings_at (option_of_key entry.now key) (places key))) }
+    {
+        let terms = self.sorted_terms(alloc)?;
+        let num_tokens = num_tokens(&terms).ok_or(Fault::Limit)?;
+        let option = index_record_option(entry);
+        let mut field_serializer = serializer.new_field(
+            alloc,
+            field,
+            num_tokens,
+            option,
+            fieldnorm_reader,
+        );
+        serialize_terms(alloc, value_type(entry), &terms, &mut field_serializer)?;
+        Ok(field_serializer.close()?)
+    }
+}
