@@ -14,3 +14,4 @@ pub mod DocRuns
 pub mod Grouping
 pub mod PostingsOf
 pub mod Adding
+pub mod PassedLimits

@@ -1,15 +1,21 @@
 //! Indexes documents.
 
 ghost use Rattle.std.specs.Prelude.{[], ◌++◌, ◌∷◌, ◌≡◌, IfErr, IfOk, List, OnOk, length};
+ghost use Rattle.std.specs.List.{AllByRecursion};
+ghost use Rattle.definitions.specs.Postings.{postings};
 ghost use Rattle.definitions.specs.Values.{Document};
+ghost use Rattle.layouts.specs.InvertedIndexes.{AreIndexed, AreSections, IndexedField};
+ghost use Rattle.postings_writer.specs.Limits.{IsSerializeRefusal};
 ghost use Rattle.indexing.specs.Indexed.{IsAddRefusal};
 ghost use Rattle.indexing.specs.Indexers.{HasIndexed, analyzer_of, schema_of, writer_of};
 
 use crate::index_document::index_document;
 use crate::term_indexer::TermIndexer;
+use codes::FieldNormReaders;
 use common::{Analyzer, TERMINATED};
 use definitions::Fault;
 use document::CompactDoc;
+use postings::InvertedIndexSerializer;
 use postings_writer::PostingsWriter;
 use schema::Schema;
 use std::alloc::{AllocError, Global};
@@ -68,5 +74,22 @@ impl<'a, A: Analyzer> DocumentIndexer<'a, A> {
         ensures { result.now ≡ writer_of self.now }
     {
         self.terms.postings_writer()
+    }
+
+    /// The sections of terms, postings and positions of the documents. A field that keeps lengths has one for
+    /// each document.
+    pub fn serialize(
+        &self,
+        alloc: Global,
+        fieldnorm_readers: &FieldNormReaders<'_>,
+    ) -> Result<(Vec<u8>, Vec<u8>, Vec<u8>), Fault>
+        requires { (docs : List Document) × HasIndexed A.analyze self.now docs × AllByRecursion (λ p. length p.1 ≡ length docs) fieldnorm_readers.now }
+        ensures ok { (docs : List Document) → HasIndexed A.analyze self.now docs → IfOk result (λ sections. (fields : List IndexedField) × AreSections (schema_of self.now) (length docs) fieldnorm_readers.now fields sections.0.items sections.1.items sections.2.items × AreIndexed (schema_of self.now) (A.analyze (analyzer_of self.now)) docs fields) }
+        ensures err { (docs : List Document) → HasIndexed A.analyze self.now docs → IfErr result (λ fault. IsSerializeRefusal fault (schema_of self.now) fieldnorm_readers.now (λ t. postings (schema_of self.now) (A.analyze (analyzer_of self.now)) t docs)) }
+    {
+        let serializer = InvertedIndexSerializer::open(alloc)?;
+        let writer = self.postings_writer();
+        let serializer = writer.serialize(fieldnorm_readers, serializer)?;
+        Ok(serializer.close())
     }
 }

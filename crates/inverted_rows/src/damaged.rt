@@ -1,0 +1,1 @@
+//! Sections that were cut, and sections with a changed byte.

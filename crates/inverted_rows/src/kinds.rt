@@ -1,0 +1,1 @@
+//! Fields of all types in one index.

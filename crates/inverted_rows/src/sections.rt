@@ -1,0 +1,89 @@
+//! The sections of documents, written and read again.
+
+ghost use Rattle.std.specs.Prelude.{◌≡◌, ◌≤◌};
+
+use bytes::Bytes;
+use codes::FieldNormReaders;
+use common::RawAndDefault;
+use definitions::Fault;
+use document::CompactDoc;
+use indexing::DocumentIndexer;
+use inverted_index::InvertedIndexReader;
+use options::IndexRecordOption;
+use postings::{DocSet, Postings};
+use schema::{Schema, Term};
+use std::alloc::Global;
+
+/// The most documents that a segment has.
+const MAX_DOCS: u32 = 2147483647;
+
+/// The sections of terms, postings and positions, and how many documents they are of.
+#[derive(Drop)]
+pub(crate) struct Sections {
+    pub(crate) num_docs: u32,
+    pub(crate) terms: Vec<u8>,
+    pub(crate) postings: Vec<u8>,
+    pub(crate) positions: Vec<u8>,
+}
+
+/// The sections of documents, without lengths.
+pub(crate) fn sections_of(
+    alloc: Global,
+    schema: &Schema,
+    docs: &[CompactDoc],
+) -> Result<Sections, Fault> {
+    let mut indexer = DocumentIndexer::for_schema(alloc, schema, &RawAndDefault)?;
+    for doc in docs {
+        indexer.add(doc)?;
+    }
+    let num_docs = indexer.num_docs();
+    let lengths = FieldNormReaders::open(alloc, &[], num_docs, &[])?;
+    let (terms, postings, positions) = indexer.serialize(alloc, &lengths)?;
+    Ok(Sections {
+        num_docs,
+        terms,
+        postings,
+        positions,
+    })
+}
+
+/// The index of sections without lengths.
+pub(crate) fn opened(
+    alloc: Global,
+    schema: &Schema,
+    sections: &Sections,
+) -> Result<InvertedIndexReader, Fault> {
+    let num_docs = sections.num_docs;
+    if num_docs > MAX_DOCS {
+        return Err(Fault::Limit);
+    }
+    let lengths = FieldNormReaders::open(alloc, &[], num_docs, &[])?;
+    InvertedIndexReader::open(
+        alloc,
+        schema,
+        &lengths,
+        num_docs,
+        Bytes::copy_from_slice(alloc, &sections.terms)?,
+        Bytes::copy_from_slice(alloc, &sections.postings)?,
+        Bytes::copy_from_slice(alloc, &sections.positions)?,
+    )
+}
+
+/// A term's documents, each with its count and its positions.
+pub(crate) fn postings_of(
+    alloc: Global,
+    reader: &InvertedIndexReader,
+    term: &Term,
+) -> Result<Vec<(u32, u32, Vec<u32>)>, Fault> {
+    let mut found = Vec::new(alloc);
+    let option = IndexRecordOption::WithFreqsAndPositions;
+    if let Some(mut postings) = reader.read_postings(term, option) {
+        for _ in 0..postings.doc_freq() {
+            let mut positions = Vec::new(alloc);
+            postings.positions(&mut positions)?;
+            found.push((postings.doc(), postings.term_freq(), positions))?;
+            postings.advance();
+        }
+    }
+    Ok(found)
+}
