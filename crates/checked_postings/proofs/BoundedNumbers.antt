@@ -105,3 +105,11 @@ prefix_next counts i within =
     let next : sum (drop i counts) ≡ sum (get_or counts i 0 ∷ drop (i + 1) counts) = ap sum (drop_more counts i 0 within) in
     let first = sum_by-cons (λ x. x) (get_or counts i 0) (drop (i + 1) counts) in
     omega (arith, both, next, first)
+
+-- documents are bounded whose numbers have such a sum all together
+pub bounded_together : (counts numbers : List ℕ) → sum (take (sum counts) numbers) < 2 ^ 31 → AreBounded counts numbers
+bounded_together [] numbers few = tt
+bounded_together (n ∷ ns) numbers few =
+    let total : sum (n ∷ ns) ≡ n + sum ns = sum_by-cons (λ x. x) n ns in
+    let split : sum (take (sum (n ∷ ns)) numbers) ≡ sum (take n numbers) + sum (take (sum ns) (drop n numbers)) = ap (λ k. sum (take k numbers)) total ∙ (ap sum (take-add n (sum ns) numbers) ∙ sum_by-append (λ x. x) (take n numbers) (take (sum ns) (drop n numbers))) in
+    (omega (arith, split, few), bounded_together ns (drop n numbers) (omega (arith, split, few)))

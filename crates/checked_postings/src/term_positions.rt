@@ -47,7 +47,7 @@ fn are_bounded(blocks: &mut BlockSegmentPostings, reader: &mut PositionReader) -
     let mut place = 0;
     let mut room = [0; 128];
     while blocks.block_len() > 0 {
-        match bounded_end(blocks.freqs(), reader, place, &mut room) {
+        match block_end(blocks.freqs(), reader, place, &mut room) {
             Some(end) => place = end,
             None => return false,
         }
@@ -56,7 +56,29 @@ fn are_bounded(blocks: &mut BlockSegmentPostings, reader: &mut PositionReader) -
     true
 }
 
-/// Where the positions of documents end that begin at a place, where each document's are below 2^31.
+/// Where the positions of a block's documents end that begin at a place, where each document's are below 2^31.
+/// Mostly the numbers of the whole block have a sum below that, which one walk over them tells.
+fn block_end(
+    counts: &[u32],
+    reader: &mut PositionReader,
+    place: u64,
+    room: &mut [u32; 128],
+) -> Option<u64>
+    requires block { length counts.now ≤ 128 }
+    requires within { place + sum counts.now ≤ length reader.old }
+    requires few { place + sum counts.now < 2 ^ 64 }
+    ensures some { IfSome result (λ end. AreBounded counts.now (drop place reader.old) × (end ≡ place + sum counts.now)) }
+    ensures none { IfNone result (AreBounded counts.now (drop place reader.old) → ⊥) }
+    ensures same { reader.new ≡ reader.old }
+{
+    let count = sum_of(counts);
+    if is_bounded(reader, place, count, room) {
+        return Some(place + count);
+    }
+    bounded_end(counts, reader, place, room)
+}
+
+/// The same, by a sum for each document.
 fn bounded_end(
     counts: &[u32],
     reader: &mut PositionReader,
@@ -71,7 +93,7 @@ fn bounded_end(
 {
     let mut end = place;
     for count in counts {
-        if !is_bounded(reader, end, *count, room) {
+        if !is_bounded(reader, end, u64::from(*count), room) {
             return None;
         }
         end += u64::from(*count);
@@ -80,17 +102,17 @@ fn bounded_end(
 }
 
 /// Whether the sum of so many numbers from a place on is below 2^31.
-fn is_bounded(reader: &mut PositionReader, place: u64, count: u32, room: &mut [u32; 128]) -> bool
+fn is_bounded(reader: &mut PositionReader, place: u64, count: u64, room: &mut [u32; 128]) -> bool
     requires within { place + count ≤ length reader.old }
     requires few { place + count < 2 ^ 64 }
     ensures value { IsTrue result ↔ (sum (take count (drop place reader.old)) < 2 ^ 31) }
     ensures same { reader.new ≡ reader.old }
 {
-    let mut done: u32 = 0;
+    let mut done: u64 = 0;
     let mut total: u64 = 0;
     while done < count {
         let len = (count - done).min(128);
-        total += sum_at(reader, place + u64::from(done), len as usize, room);
+        total += sum_at(reader, place + done, len as usize, room);
         if total >= 1 << 31 {
             return false;
         }

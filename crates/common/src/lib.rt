@@ -40,5 +40,5 @@ pub use pre_tokenized_string::PreTokenizedString;
 pub use raw_and_default::RawAndDefault;
 pub use run_fault::RunFault;
 pub use synced::{cut_synced, write_synced};
-pub use token::Token;
+pub use token::{MAX_TOKEN_LEN, Token, max_token_len_is_that_of_definitions};
 pub use token_stream::{PreTokenizedStream, TokenStream};

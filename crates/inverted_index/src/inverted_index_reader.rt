@@ -13,7 +13,7 @@ ghost use Rattle.inverted_index.specs.Searching.{between};
 ghost use Rattle.inverted_index.specs.declared.field_index.FieldIndex.{FieldIndex};
 ghost use Rattle.layouts.specs.InvertedIndexes.{AreSections, IndexedField};
 ghost use Rattle.options.specs.RecordOption.{record_option_of};
-ghost use Rattle.postings.specs.Cursors.{counts_left, docs_left, entries_left};
+ghost use Rattle.postings.specs.Cursors.{blocks_decoded, counts_left, cursor_blocks_decoded, cursor_doc_freq, docs_left, entries_left};
 ghost use Rattle.schema.specs.Kinds.{kind_of};
 
 use crate::field_index::FieldIndex;
@@ -206,8 +206,8 @@ impl InvertedIndexReader {
     ) -> SegmentPostings<'_>
         requires { info_in value_bytes.now (dictionary_in self.now field) ≡ Some term_info.now }
         ensures ok { (contents : Contents self.now) → entries_left result ≡ map (entry_as (record_option_of option)) (postings_in contents.fields field value_bytes.now) }
-        ensures decoded { result.blocks.decoded ≡ 1 }
-        ensures doc_freq { result.blocks.doc_freq ≡ term_info.now.doc_freq }
+        ensures decoded { cursor_blocks_decoded result ≡ 1 }
+        ensures doc_freq { cursor_doc_freq result ≡ term_info.now.doc_freq }
     {
         let recorded = self.option_of(field, value_bytes);
         let (postings, positions) = self.bytes_of(term_info);
@@ -222,7 +222,7 @@ impl InvertedIndexReader {
     ) -> Option<SegmentPostings<'_>>
         ensures some { (contents : Contents self.now) → IfSome result (λ p. entries_left p ≡ map (entry_as (record_option_of option)) (postings_held contents.schema contents.fields term.now)) }
         ensures none { (contents : Contents self.now) → IfNone result (postings_held contents.schema contents.fields term.now ≡ []) }
-        ensures decoded { IfSome result (λ p. p.blocks.decoded ≡ 1) }
+        ensures decoded { IfSome result (λ p. cursor_blocks_decoded p ≡ 1) }
     {
         let term_info = self.get_term_info(term)?;
         let value_bytes = term.serialized_value_bytes();
@@ -240,7 +240,7 @@ impl InvertedIndexReader {
         requires { info_in value_bytes.now (dictionary_in self.now field) ≡ Some term_info.now }
         ensures docs { (contents : Contents self.now) → docs_left result ≡ map (λ x. x.doc) (postings_in contents.fields field value_bytes.now) }
         ensures counts { (contents : Contents self.now) → counts_left result ≡ map (λ x. if has_freq (record_option_of option) then x.count else 1) (postings_in contents.fields field value_bytes.now) }
-        ensures decoded { result.decoded ≡ 1 }
+        ensures decoded { blocks_decoded result ≡ 1 }
     {
         let recorded = self.option_of(field, value_bytes);
         let (postings, _) = self.bytes_of(term_info);
@@ -256,7 +256,7 @@ impl InvertedIndexReader {
         ensures docs { (contents : Contents self.now) → IfSome result (λ p. docs_left p ≡ map (λ x. x.doc) (postings_held contents.schema contents.fields term.now)) }
         ensures counts { (contents : Contents self.now) → IfSome result (λ p. counts_left p ≡ map (λ x. if has_freq (record_option_of option) then x.count else 1) (postings_held contents.schema contents.fields term.now)) }
         ensures none { (contents : Contents self.now) → IfNone result (postings_held contents.schema contents.fields term.now ≡ []) }
-        ensures decoded { IfSome result (λ p. p.decoded ≡ 1) }
+        ensures decoded { IfSome result (λ p. blocks_decoded p ≡ 1) }
     {
         let term_info = self.get_term_info(term)?;
         let value_bytes = term.serialized_value_bytes();

@@ -5,7 +5,7 @@ ghost use Rattle.definitions.specs.Postings.{Posting};
 ghost use Rattle.definitions.specs.Schema.{has_freq, has_positions};
 ghost use Rattle.inverted_index.specs.OpenedTerms.{HasTerm, entry_as};
 ghost use Rattle.options.specs.RecordOption.{record_option_of};
-ghost use Rattle.postings.specs.Cursors.{counts_left, docs_left, entries_left};
+ghost use Rattle.postings.specs.Cursors.{blocks_decoded, counts_left, cursor_blocks_decoded, cursor_doc_freq, doc_freq_of, docs_left, entries_left};
 
 use codes::PositionReader;
 use options::IndexRecordOption;
@@ -46,8 +46,8 @@ pub(crate) fn open_term<'a>(
 ) -> SegmentPostings<'a>
     requires { ∥ ((ps : List Posting) × HasTerm (record_option_of option) doc_freq postings.now positions.now ps) ∥₁ }
     ensures entries { (ps : List Posting) → HasTerm (record_option_of option) doc_freq postings.now positions.now ps → entries_left result ≡ map (entry_as (record_option_of asked)) ps }
-    ensures decoded { result.blocks.decoded ≡ 1 }
-    ensures doc_freq { result.blocks.doc_freq ≡ doc_freq }
+    ensures decoded { cursor_blocks_decoded result ≡ 1 }
+    ensures doc_freq { cursor_doc_freq result ≡ doc_freq }
 {
     let recorded = recorded_of(option);
     if reads_positions(option, asked) {
@@ -67,8 +67,8 @@ pub(crate) fn open_term_blocks<'a>(
     requires { ∥ ((ps : List Posting) × (positions : List ℕ) × HasTerm (record_option_of option) doc_freq postings.now positions ps) ∥₁ }
     ensures docs { (ps : List Posting) (positions : List ℕ) → HasTerm (record_option_of option) doc_freq postings.now positions ps → docs_left result ≡ map (λ p. p.doc) ps }
     ensures counts { (ps : List Posting) (positions : List ℕ) → HasTerm (record_option_of option) doc_freq postings.now positions ps → counts_left result ≡ map (λ p. if has_freq (record_option_of asked) then p.count else 1) ps }
-    ensures decoded { result.decoded ≡ 1 }
-    ensures doc_freq { result.doc_freq ≡ doc_freq }
+    ensures decoded { blocks_decoded result ≡ 1 }
+    ensures doc_freq { doc_freq_of result ≡ doc_freq }
 {
     let recorded = recorded_of(option);
     let reads_counts = reads_counts(option, asked);

@@ -1,10 +1,12 @@
 //! The sections of documents, written and read again.
 
-ghost use Rattle.std.specs.Prelude.{◌≡◌, ◌≤◌};
+ghost use Rattle.std.specs.Prelude.{List, OnOk};
+ghost use Rattle.definitions.specs.Values.{Document};
+ghost use Rattle.indexing.specs.Indexers.{HasIndexed};
 
 use bytes::Bytes;
 use codes::FieldNormReaders;
-use common::RawAndDefault;
+use common::{Analyzer, RawAndDefault, TERMINATED};
 use definitions::Fault;
 use document::CompactDoc;
 use indexing::DocumentIndexer;
@@ -26,6 +28,20 @@ pub(crate) struct Sections {
     pub(crate) positions: Vec<u8>,
 }
 
+/// Indexes documents behind those before.
+fn index_all<'a, A: Analyzer>(
+    indexer: &mut DocumentIndexer<'a, A>,
+    docs: &[CompactDoc],
+) -> Result<(), Fault>
+    requires { (before : List Document) × HasIndexed A.analyze indexer.old before }
+    ensures { OnOk result ((all : List Document) × HasIndexed A.analyze indexer.new all) }
+{
+    for doc in docs {
+        indexer.add(doc)?;
+    }
+    Ok(())
+}
+
 /// The sections of documents, without lengths.
 pub(crate) fn sections_of(
     alloc: Global,
@@ -33,9 +49,7 @@ pub(crate) fn sections_of(
     docs: &[CompactDoc],
 ) -> Result<Sections, Fault> {
     let mut indexer = DocumentIndexer::for_schema(alloc, schema, &RawAndDefault)?;
-    for doc in docs {
-        indexer.add(doc)?;
-    }
+    index_all(&mut indexer, docs)?;
     let num_docs = indexer.num_docs();
     let lengths = FieldNormReaders::open(alloc, &[], num_docs, &[])?;
     let (terms, postings, positions) = indexer.serialize(alloc, &lengths)?;
@@ -79,9 +93,11 @@ pub(crate) fn postings_of(
     let option = IndexRecordOption::WithFreqsAndPositions;
     if let Some(mut postings) = reader.read_postings(term, option) {
         for _ in 0..postings.doc_freq() {
-            let mut positions = Vec::new(alloc);
-            postings.positions(&mut positions)?;
-            found.push((postings.doc(), postings.term_freq(), positions))?;
+            if postings.doc() < TERMINATED {
+                let mut positions = Vec::new(alloc);
+                postings.positions(&mut positions)?;
+                found.push((postings.doc(), postings.term_freq(), positions))?;
+            }
             postings.advance();
         }
     }

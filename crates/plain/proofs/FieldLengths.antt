@@ -1,13 +1,12 @@
 -- The terms that are kept with a document tell the lengths of its fields.
-use Rattle.std.proofs.Common.{[], Bool, cond, eq-eqb, eqb-true, false, filter, filter_map, flat_map, if◌then◌else◌, is_some, length, map, option_map, refl, slice_get, subst, suc, sym, take, true, zero, zero-add, ◌++◌, ◌+◌, ◌<◌, ◌==◌, ◌^◌, ◌∙◌, ◌∷◌, ◌≡◌, ◌≤◌, List, None, Option, Some, ap, arith, ℕ}
+use Rattle.std.proofs.Common.{[], Bool, cond, eq-eqb, eqb-true, false, filter_map, flat_map, if◌then◌else◌, is_some, length, map, option_map, refl, slice_get, subst, suc, sym, take, true, zero-add, ◌++◌, ◌+◌, ◌<◌, ◌==◌, ◌^◌, ◌∙◌, ◌∷◌, ◌≡◌, ◌≤◌, List, None, Option, Some, ap, arith, ℕ}
 use Rattle.std.specs.List.{AllByRecursion, cons_option, count_by, range_with_len, sum_by}
 use Rattle.std.specs.Option.{option_map_or}
 use Rattle.std.proofs.lemmas.List.Sums.{sum_by-append, sum_by-cons}
-use Rattle.std.proofs.lemmas.Nat.{from_be_bytes-to_be_bytes_4}
 use Rattle.definitions.specs.Analyzers.{Analyzer, kept, tokens_of}
 use Rattle.definitions.specs.Facets.{encoded}
-use Rattle.definitions.specs.Indexing.{facet_terms, leaf_term}
-use Rattle.definitions.specs.JsonLeaves.{is_text_leaf, leaf_text, leaves}
+use Rattle.definitions.specs.Indexing.{facet_terms}
+use Rattle.definitions.specs.JsonLeaves.{leaf_text, leaves}
 use Rattle.definitions.specs.Lengths.{kind_len, len_of}
 use Rattle.definitions.specs.Schema.{Entry, Kind, Schema, bool_kind, bytes_kind, date_kind, facet_kind, i64_kind, ip_addr_kind, is_indexed, json_kind, max_fields, text_kind, u64_kind}
 use Rattle.definitions.specs.Terms.{field_of, json_term, leaf_bytes, term_bytes, type_code, value_bytes}
@@ -15,11 +14,9 @@ use Rattle.definitions.specs.Values.{Document, Token, Value, array, bool, bytes,
 use Rattle.plain.specs.IndexedDocs.{Describes, as_list, entry_terms, kind_terms, leaf_terms, one_term, own_terms, text_terms, token_terms}
 use Rattle.plain.specs.declared.indexed_doc.IndexedDoc.{IndexedDoc}
 use Rattle.plain.proofs.TermCounts.{sum_by-values_of}
+use Rattle.schema.proofs.TermParts.{field_of-term}
 
 -- ---- terms tell their field
-
-field_of-term : (f : ℕ) (kind : Kind) (payload : List ℕ) → f < 2 ^ 32 → field_of (term_bytes f kind payload) ≡ f
-field_of-term f kind payload fits = from_be_bytes-to_be_bytes_4 f fits
 
 -- all are of that field
 abbrev AreOf : ℕ → List (List ℕ) → Type 0

@@ -1,22 +1,9 @@
 -- The kind that a term's code names, and the kind of a leaf in a JSON term.
-use Rattle.std.proofs.Common.{[], Bool, List, None, Option, Some, ap, arith, bytes_eq, cond, drop, false, find, not, refl, suc, sym, take, true, ◌&&◌, ◌+◌, ◌==◌, ◌∙◌, ◌∷◌, ◌≡◌, ℕ}
+use Rattle.std.proofs.Common.{[], Bool, List, Some, ap, arith, bytes_eq, cond, drop, false, not, refl, suc, true, ◌&&◌, ◌+◌, ◌==◌, ◌∙◌, ◌∷◌, ◌≡◌, ℕ}
 use Rattle.std.specs.List.{after_first, position_or_len}
-use Rattle.std.proofs.lemmas.Slice.Eq.{bytes_eq-Decides}
-use Rattle.definitions.specs.Schema.{Kind, all_kinds}
+use Rattle.definitions.specs.Schema.{Kind}
 use Rattle.definitions.specs.Terms.{has_kind, kind_in, type_code}
-
--- what is found passes
-found_passes : {X : Type 0} (p : X → Bool) (xs : List X) (x : X) → find p xs ≡ Some x → p x ≡ true
-found_passes p [] x found = cc
-found_passes p (y ∷ ys) x found = go (p y) refl (λ h. found_passes p ys x h) found
-  where
-    go : (b : Bool) → p y ≡ b → (find p ys ≡ Some x → p x ≡ true) → cond b (Some y) (find p ys) ≡ Some x → p x ≡ true
-    go true passes later same = (let first : y ≡ x = cc in ap p (sym first) ∙ passes)
-    go false fails later rest = later rest
-
--- the code of a term is that of its kind
-code_of_kind : (t : List ℕ) (kind : Kind) → kind_in t ≡ Some kind → take 1 (drop 4 t) ≡ type_code kind
-code_of_kind t kind named = (bytes_eq-Decides (take 1 (drop 4 t)) (type_code kind)).0 (found_passes (λ k. has_kind k t) all_kinds kind named)
+use Rattle.schema.proofs.TermParts.{code_of_kind}
 
 -- a term has a kind where the codes are the same
 pub has_kind_by_code : (t : List ℕ) (of other : Kind) (a b : ℕ) → kind_in t ≡ Some of → type_code of ≡ a ∷ [] → type_code other ≡ b ∷ [] → has_kind other t ≡ (a == b)

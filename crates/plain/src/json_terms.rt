@@ -10,8 +10,7 @@ ghost use Rattle.document.specs.Shown.{value_of};
 ghost use Rattle.layouts.specs.DocumentReading.{to_members, to_values};
 ghost use Rattle.plain.specs.IndexedDocs.{leaves_terms, path_token_terms, plain_leaf_terms};
 
-use crate::value_terms::MAX_TOKEN_LEN;
-use common::{Analyzer, Token};
+use common::{Analyzer, MAX_TOKEN_LEN, Token};
 use document::{CompactDocArrayIter, CompactDocObjectIter, CompactDocValue};
 use schema::{FastValue, Field, Term};
 use std::alloc::{AllocError, Global};

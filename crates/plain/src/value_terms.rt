@@ -11,14 +11,11 @@ ghost use Rattle.schema.specs.Kinds.{kind_of};
 
 use crate::facet_terms::push_facet_terms;
 use crate::json_terms::push_json_terms;
-use common::{Analyzer, Token};
+use common::{Analyzer, MAX_TOKEN_LEN, Token};
 use document::CompactDocValue;
 use schema::{Field, FieldEntry, FieldType, Schema, Term, Type};
 use std::alloc::{AllocError, Global};
 use std::net::Ipv6Addr;
-
-/// The longest token that is indexed, in bytes.
-pub(crate) const MAX_TOKEN_LEN: usize = 65530;
 
 /// Adds the terms of a value, if the schema has its field and that is indexed.
 pub(crate) fn push_own_terms<A: Analyzer>(

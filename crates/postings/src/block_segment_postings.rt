@@ -35,14 +35,14 @@ pub struct BlockSegmentPostings<'a> {
 }
 
 impl<'a> BlockSegmentPostings<'a> {
-    ghost use Rattle.postings.specs.Cursors.{counts_left, docs_left};
+    ghost use Rattle.postings.specs.Cursors.{blocks_decoded, counts_are_read, counts_left, doc_freq_of, docs_left, positions_are_read, positions_passed, skips_left};
 
     /// No document.
     pub fn empty() -> BlockSegmentPostings<'a>
         ensures docs { docs_left result ≡ [] }
         ensures counts { counts_left result ≡ [] }
-        ensures decoded { result.decoded ≡ 0 }
-        ensures doc_freq { result.doc_freq ≡ 0 }
+        ensures decoded { blocks_decoded result ≡ 0 }
+        ensures doc_freq { doc_freq_of result ≡ 0 }
     {
         let recorded = Recorded {
             counts: false,
@@ -65,11 +65,11 @@ impl<'a> BlockSegmentPostings<'a> {
         requires positions { reads_positions ≡ true → (recorded.positions ≡ true) × (reads_counts ≡ true) }
         ensures docs { (docs counts : List ℕ) → HasPostings recorded.counts recorded.positions doc_freq bytes.now docs counts → docs_left result ≡ docs }
         ensures counts { (docs counts : List ℕ) → HasPostings recorded.counts recorded.positions doc_freq bytes.now docs counts → counts_left result ≡ (if reads_counts then counts else replicate doc_freq 1) }
-        ensures decoded { result.decoded ≡ min 1 doc_freq }
-        ensures doc_freq { result.doc_freq ≡ doc_freq }
-        ensures offset { result.skips.position_offset ≡ 0 }
-        ensures reads { (result.reads_counts ≡ reads_counts) × (result.reads_positions ≡ reads_positions) }
-        ensures entries { (docs counts : List ℕ) (known : HasPostings recorded.counts recorded.positions doc_freq bytes.now docs counts) → result.skips.left ≡ skip_entries known.option known.ids (length docs / 128) 0 docs counts }
+        ensures decoded { blocks_decoded result ≡ min 1 doc_freq }
+        ensures doc_freq { doc_freq_of result ≡ doc_freq }
+        ensures offset { positions_passed result ≡ 0 }
+        ensures reads { (counts_are_read result ≡ reads_counts) × (positions_are_read result ≡ reads_positions) }
+        ensures entries { (docs counts : List ℕ) (known : HasPostings recorded.counts recorded.positions doc_freq bytes.now docs counts) → skips_left result ≡ skip_entries known.option known.ids (length docs / 128) 0 docs counts }
     {
         let (entries, blocks) = split_entries(bytes, doc_freq);
         let skips = SkipReader::new(entries, doc_freq, recorded);
@@ -122,7 +122,7 @@ impl<'a> BlockSegmentPostings<'a> {
 
     /// How many documents have the term.
     pub fn doc_freq(&self) -> u32
-        ensures { result ≡ self.now.doc_freq }
+        ensures { result ≡ doc_freq_of self.now }
     {
         self.doc_freq
     }
@@ -182,7 +182,7 @@ impl<'a> BlockSegmentPostings<'a> {
 
     /// How many blocks with documents were decoded, the first among them.
     pub fn decoded_blocks(&self) -> u64
-        ensures { result ≡ self.now.decoded }
+        ensures { result ≡ blocks_decoded self.now }
     {
         self.decoded
     }
@@ -191,10 +191,10 @@ impl<'a> BlockSegmentPostings<'a> {
     pub fn advance(&mut self)
         ensures docs { docs_left self.new ≡ drop 128 (docs_left self.old) }
         ensures counts { counts_left self.new ≡ drop 128 (counts_left self.old) }
-        ensures decoded { self.new.decoded ≡ self.old.decoded + min 1 (length (docs_left self.new)) }
-        ensures room { self.old.reads_positions ≡ true → self.new.skips.position_offset + sum (counts_left self.new) ≤ self.old.skips.position_offset + sum (counts_left self.old) }
-        ensures offset { self.old.reads_positions ≡ true → 0 < length (docs_left self.new) → self.new.skips.position_offset ≡ self.old.skips.position_offset + sum (take 128 (counts_left self.old)) }
-        ensures kept { (self.new.doc_freq ≡ self.old.doc_freq) × (self.new.reads_counts ≡ self.old.reads_counts) × (self.new.reads_positions ≡ self.old.reads_positions) }
+        ensures decoded { blocks_decoded self.new ≡ blocks_decoded self.old + min 1 (length (docs_left self.new)) }
+        ensures room { positions_are_read self.old ≡ true → positions_passed self.new + sum (counts_left self.new) ≤ positions_passed self.old + sum (counts_left self.old) }
+        ensures offset { positions_are_read self.old ≡ true → 0 < length (docs_left self.new) → positions_passed self.new ≡ positions_passed self.old + sum (take 128 (counts_left self.old)) }
+        ensures kept { (doc_freq_of self.new ≡ doc_freq_of self.old) × (counts_are_read self.new ≡ counts_are_read self.old) × (positions_are_read self.new ≡ positions_are_read self.old) }
     {
         self.before = self.skips.last_doc_in_block();
         self.skips.advance();
@@ -217,10 +217,10 @@ impl<'a> BlockSegmentPostings<'a> {
         ensures docs { docs_left self.new ≡ drop (128 * (below target (docs_left self.old) / 128)) (docs_left self.old) }
         ensures counts { counts_left self.new ≡ drop (128 * (below target (docs_left self.old) / 128)) (counts_left self.old) }
         ensures place { result ≡ below target (docs_left self.old) % 128 }
-        ensures decoded { self.new.decoded ≡ self.old.decoded + (if nat_lt (below target (docs_left self.old)) 128 then 0 else min 1 (length (docs_left self.new))) }
-        ensures room { self.old.reads_positions ≡ true → self.new.skips.position_offset + sum (counts_left self.new) ≤ self.old.skips.position_offset + sum (counts_left self.old) }
-        ensures offset { self.old.reads_positions ≡ true → self.new.skips.position_offset ≡ self.old.skips.position_offset + sum (take (128 * (below target (docs_left self.old) / 128)) (counts_left self.old)) }
-        ensures kept { (self.new.doc_freq ≡ self.old.doc_freq) × (self.new.reads_counts ≡ self.old.reads_counts) × (self.new.reads_positions ≡ self.old.reads_positions) }
+        ensures decoded { blocks_decoded self.new ≡ blocks_decoded self.old + (if nat_lt (below target (docs_left self.old)) 128 then 0 else min 1 (length (docs_left self.new))) }
+        ensures room { positions_are_read self.old ≡ true → positions_passed self.new + sum (counts_left self.new) ≤ positions_passed self.old + sum (counts_left self.old) }
+        ensures offset { positions_are_read self.old ≡ true → positions_passed self.new ≡ positions_passed self.old + sum (take (128 * (below target (docs_left self.old) / 128)) (counts_left self.old)) }
+        ensures kept { (doc_freq_of self.new ≡ doc_freq_of self.old) × (counts_are_read self.new ≡ counts_are_read self.old) × (positions_are_read self.new ≡ positions_are_read self.old) }
     {
         if target <= self.skips.last_doc_in_block() {
             return first_from(&self.docs, target);

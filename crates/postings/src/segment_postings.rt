@@ -30,12 +30,12 @@ pub struct SegmentPostings<'a> {
 }
 
 impl<'a> SegmentPostings<'a> {
-    ghost use Rattle.postings.specs.Cursors.{entries_left};
+    ghost use Rattle.postings.specs.Cursors.{cursor_blocks_decoded, cursor_doc_freq, entries_left};
 
     /// No document.
     pub fn empty() -> SegmentPostings<'a>
         ensures entries { entries_left result ≡ [] }
-        ensures decoded { result.blocks.decoded ≡ 0 }
+        ensures decoded { cursor_blocks_decoded result ≡ 0 }
     {
         SegmentPostings {
             blocks: BlockSegmentPostings::empty(),
@@ -56,8 +56,8 @@ impl<'a> SegmentPostings<'a> {
         requires known { ∥ ((docs counts : List ℕ) × HasPostings recorded.counts recorded.positions doc_freq bytes.now docs counts) ∥₁ }
         requires counts { reads_counts ≡ true → recorded.counts ≡ true }
         ensures entries { (docs counts : List ℕ) → HasPostings recorded.counts recorded.positions doc_freq bytes.now docs counts → entries_left result ≡ entries_of docs (if reads_counts then counts else replicate doc_freq 1) [] }
-        ensures decoded { result.blocks.decoded ≡ min 1 doc_freq }
-        ensures doc_freq { result.blocks.doc_freq ≡ doc_freq }
+        ensures decoded { cursor_blocks_decoded result ≡ min 1 doc_freq }
+        ensures doc_freq { cursor_doc_freq result ≡ doc_freq }
     {
         SegmentPostings {
             blocks: BlockSegmentPostings::new(bytes, doc_freq, recorded, reads_counts, false),
@@ -77,8 +77,8 @@ impl<'a> SegmentPostings<'a> {
         requires known { ∥ ((docs counts : List ℕ) × (lists : List (List ℕ)) × HasPostings recorded.counts recorded.positions doc_freq bytes.now docs counts × HasPositions counts lists positions) ∥₁ }
         requires recorded { (recorded.counts ≡ true) × (recorded.positions ≡ true) }
         ensures entries { (docs counts : List ℕ) (lists : List (List ℕ)) → HasPostings recorded.counts recorded.positions doc_freq bytes.now docs counts → HasPositions counts lists positions.entry → entries_left result ≡ term_entries docs counts lists }
-        ensures decoded { result.blocks.decoded ≡ min 1 doc_freq }
-        ensures doc_freq { result.blocks.doc_freq ≡ doc_freq }
+        ensures decoded { cursor_blocks_decoded result ≡ min 1 doc_freq }
+        ensures doc_freq { cursor_doc_freq result ≡ doc_freq }
     {
         let mut positions = positions;
         let blocks = BlockSegmentPostings::new(bytes, doc_freq, recorded, true, true);
@@ -93,14 +93,14 @@ impl<'a> SegmentPostings<'a> {
 
     /// How many blocks with documents were decoded, the first among them.
     pub fn decoded_blocks(&self) -> u64
-        ensures { result ≡ self.now.blocks.decoded }
+        ensures { result ≡ cursor_blocks_decoded self.now }
     {
         self.blocks.decoded_blocks()
     }
 
     /// How many documents have the term.
     pub fn doc_freq(&self) -> u32
-        ensures { result ≡ self.now.blocks.doc_freq }
+        ensures { result ≡ cursor_doc_freq self.now }
     {
         self.blocks.doc_freq()
     }

@@ -10,11 +10,8 @@ ghost use Rattle.postings_writer.specs.Texts.{AreWithin, EndsPast, IsTextRefusal
 ghost use Rattle.postings_writer.specs.Writers.{IsIndexedTerm, Stands};
 
 use crate::postings_writer::PostingsWriter;
-use common::{Token, TokenStream};
+use common::{MAX_TOKEN_LEN, Token, TokenStream};
 use definitions::Fault;
-
-/// The longest token that is indexed.
-const MAX_TOKEN_LEN: usize = 65530;
 
 /// What every position, with its length and the gap behind it, is below.
 const MAX_POSITION: u32 = 2147483648;

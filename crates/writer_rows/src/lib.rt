@@ -5,3 +5,5 @@
 mod recorded_texts;
 #[cfg(test)]
 mod recorders;
+#[cfg(test)]
+mod written_terms;

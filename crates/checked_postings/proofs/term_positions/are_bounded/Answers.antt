@@ -1,11 +1,16 @@
-use Rattle.std.proofs.Common.{ap, arith, drop, length, length-drop, subst, sum, sym, take, ◌+◌, ◌∙◌, ◌≡◌}
+use Rattle.std.proofs.Common.{ap, arith, drop, length, length-drop, length-take, subst, sum, sym, take, ◌+◌, ◌∙◌, ◌≡◌}
 use Rattle.checked_postings.proofs.BoundedNumbers.{Leaves, block_sum, leaves_more, leaves_not}
 use Rattle.checked_postings.specs.Placed.{AreBounded}
 use Rattle.postings.specs.Cursors.{counts_left, docs_left}
 use Rattle.checked_postings.proofs.term_positions.are_bounded.Goals as goal
 
-pub bounded_end-requires-clause-within : goal.bounded_end-requires-clause-within
-bounded_end-requires-clause-within c =
+pub block_end-requires-clause-block : goal.block_end-requires-clause-block
+block_end-requires-clause-block c =
+    let is = ap length c.freqs.ensures in
+    omega (arith, is, length-take 128 (counts_left c.loop-room.blocks))
+
+pub block_end-requires-clause-within : goal.block_end-requires-clause-within
+block_end-requires-clause-within c =
     let left = counts_left c.loop-room.blocks in
     let many = c.loop-room.invariant.leaves.many in
     let both = block_sum left in
@@ -13,8 +18,8 @@ bounded_end-requires-clause-within c =
     let same = ap length c.loop-room.invariant.reader_same in
     omega (arith, many, both, is, same)
 
-pub bounded_end-requires-clause-few : goal.bounded_end-requires-clause-few
-bounded_end-requires-clause-few c =
+pub block_end-requires-clause-few : goal.block_end-requires-clause-few
+block_end-requires-clause-few c =
     let left = counts_left c.loop-room.blocks in
     let many = c.loop-room.invariant.leaves.many in
     let both = block_sum left in
@@ -46,7 +51,7 @@ loop-room-preserved c =
     let block : AreBounded (take 128 left) (drop c.loop-room.place c.args.reader.now) = subst (λ ns. AreBounded ns (drop c.loop-room.place c.args.reader.now)) c.freqs.ensures (subst (λ xs. AreBounded c.freqs.result.now (drop c.loop-room.place xs)) c.loop-room.invariant.reader_same some.0) in
     let end : c.in-Some.end ≡ c.loop-room.place + sum (take 128 left) = some.1 ∙ ap (λ ns. c.loop-room.place + sum ns) c.freqs.ensures in
     record {
-      reader_same = c.bounded_end.ensures.same ∙ c.loop-room.invariant.reader_same;
+      reader_same = c.block_end.ensures.same ∙ c.loop-room.invariant.reader_same;
       counted = omega (arith, docs, counts, counted, length-drop 128 (docs_left c.loop-room.blocks), length-drop 128 left);
       leaves = subst (λ ns. Leaves (counts_left c.args.blocks.now) c.args.reader.now ns c.in-Some.end) (sym c.advance.ensures.counts) (leaves_more (counts_left c.args.blocks.now) c.args.reader.now left c.loop-room.place c.in-Some.end c.loop-room.invariant.leaves block end);
     }

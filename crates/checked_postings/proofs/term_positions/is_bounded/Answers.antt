@@ -8,9 +8,7 @@ so_far : (c : After-sum_at-total) → c.loop-done.total + c.sum_at-total.result 
 so_far c =
     let numbers = c.args.reader.now in
     let value = c.loop-done.invariant.value in
-    let from = c.from.ensures in
-    let place : c.args.place + c.from.result ≡ c.args.place + c.loop-done.done = omega (arith, from) in
-    let here : c.sum_at-total.result ≡ sum (take c.min-len.result (drop (c.args.place + c.loop-done.done) numbers)) = c.sum_at-total.ensures.value ∙ (ap (λ xs. sum (take c.min-len.result (drop (c.args.place + c.from.result) xs))) c.loop-done.invariant.same ∙ ap (λ k. sum (take c.min-len.result (drop k numbers))) place) in
+    let here : c.sum_at-total.result ≡ sum (take c.min-len.result (drop (c.args.place + c.loop-done.done) numbers)) = c.sum_at-total.ensures.value ∙ ap (λ xs. sum (take c.min-len.result (drop (c.args.place + c.loop-done.done) xs))) c.loop-done.invariant.same in
     let joined = piece_more numbers c.args.place c.loop-done.done c.min-len.result in
     omega (arith, value, here, joined)
 
