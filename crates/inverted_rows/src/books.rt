@@ -129,11 +129,11 @@ fn terms_stand_between_keys(rt: HostRuntime) -> Result<(), Fail> {
         (b"x", None, 0),
     ];
     for (start, end, len) in rows {
-        let mut found = 0;
+        let mut found = 0usize;
         let mut documents = 0u32;
         for (key, info) in reader.range(title(), start, end) {
             assert!(rt; key >= start);
-            found += 1;
+            found = found.wrapping_add(1usize);
             documents = documents.wrapping_add(info.doc_freq);
         }
         assert_eq!(rt; found, len);
@@ -155,8 +155,8 @@ fn postings_are_opened_by_their_infos(rt: HostRuntime) -> Result<(), Fail> {
     assert_eq!(rt; info.positions_range.start, 2);
     assert_eq!(rt; info.positions_range.end, 6);
     let option = IndexRecordOption::Basic;
-    let mut postings =
-        reader.read_postings_from_terminfo(title(), sea.serialized_value_bytes(), &info, option);
+    let value_bytes = sea.serialized_value_bytes();
+    let mut postings = reader.read_postings_from_terminfo(sea.field(), value_bytes, &info, option);
     assert_eq!(rt; postings.decoded_blocks(), 1);
     assert_eq!(rt; postings.advance(), 1);
     let Some(blocks) = reader.read_block_postings(&sea, IndexRecordOption::WithFreqs) else {

@@ -141,7 +141,11 @@ fn fields_have_terms(rt: HostRuntime) -> Result<(), Fail> {
     let rows = [3, 1, 1, 1, 1, 3, 1, 2, 1, 3, 0, 0];
     let mut number = 0;
     for num_terms in rows {
-        assert_eq!(rt; reader.terms(field(number)).num_terms(), num_terms, "{number}");
+        assert_eq!(rt;
+            reader.terms(field(number)).num_terms(),
+            num_terms,
+            "{number}"
+        );
         number = number.wrapping_add(1);
     }
     Ok(())
