@@ -3,6 +3,7 @@
 use crate::sections::{opened, postings_of, sections_of};
 use definitions::Fault;
 use document::{CompactDoc, OwnedValue};
+use options::IndexRecordOption;
 use schema::{
     DateTime, Facet, FacetOptions, Field, INDEXED, JsonObjectOptions, STORED, STRING, Schema, TEXT,
     Term, TextFieldIndexing,
@@ -25,7 +26,10 @@ pub(crate) fn schema(alloc: Global) -> Result<Schema, Fault> {
     builder.add_date_field("day", INDEXED)?;
     builder.add_facet_field("topic", FacetOptions::default())?;
     builder.add_bytes_field("sum", INDEXED)?;
-    let options = JsonObjectOptions::default().set_indexing_options(TextFieldIndexing::default());
+    let indexing = TextFieldIndexing::default().set_index_option(
+        IndexRecordOption::WithFreqsAndPositions,
+    );
+    let options = JsonObjectOptions::default().set_indexing_options(indexing);
     builder.add_json_field("more", options)?;
     builder.add_ip_addr_field("host", INDEXED)?;
     builder.add_text_field("name", STRING)?;
