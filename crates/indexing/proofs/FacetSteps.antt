@@ -1,6 +1,6 @@
 -- The prefixes of a facet's steps, as its text has them.
-use Rattle.std.proofs.Common.{[], ◌++◌, ◌+◌, ◌<◌, ◌≡◌, ◌≢◌, ◌≤◌, ◌∙◌, ◌∷◌, Bool, List, ap, ap₂, append_assoc, arith, cond, drop, eq-eqb, eqb, false, get_or, if◌then◌else◌, length, map, ne_eqb, refl, subst, suc, sym, take, true, zero, ℕ}
-use Rattle.std.specs.List.{join_with_byte, onto_first, range_with_len, slice_split}
+use Rattle.std.proofs.Common.{[], ◌++◌, ◌+◌, ◌<◌, ◌≡◌, ◌≢◌, ◌≤◌, ◌∙◌, ◌∷◌, Bool, List, ap, ap₂, append_assoc, arith, cond, drop, eq-eqb, eqb, false, get_or, if◌then◌else◌, length, map, ne_eqb, refl, suc, sym, take, true, zero, ℕ}
+use Rattle.std.specs.List.{onto_first, range_with_len}
 use Rattle.std.proofs.Math.Seq.{drop-cons, take-suc}
 use Rattle.std.proofs.lemmas.Bool.Decides.{nat_tests}
 use Rattle.std.proofs.lemmas.List.{drop_all, take_all}

@@ -9,7 +9,7 @@ use Rattle.definitions.specs.Schema.{IndexRecordOption, Schema}
 use Rattle.definitions.specs.declared.fault.Fault.{Fault}
 use Rattle.definitions.specs.Values.{Document}
 use Rattle.layouts.specs.InvertedIndexes.{AreGiven, AreSections, IndexedField, field_ids, option_of_term, term_of_key}
-use Rattle.postings_writer.specs.Limits.{AnyPasses, FieldPasses, IsSerializeRefusal, TermPasses, TooMany}
+use Rattle.postings_writer.specs.Limits.{FieldPasses, IsSerializeRefusal, TermPasses, TooMany}
 use Rattle.postings_writer.specs.Occurrences.{Occurrence, postings_at, postings_in}
 use Rattle.postings_writer.specs.Writers.{Stands, Writer}
 use Rattle.indexing.proofs.PostingsOf.{given_are, postings_are}
@@ -44,11 +44,14 @@ field_passes option ids given others same (inr many) = inr (too_many given other
 
 pub refusal_is : (fault : Fault) (schema : Schema) (norms : List (ℕ × List ℕ)) (given others : List ℕ → List Posting) → ((t : List ℕ) → given t ≡ others t) → IsSerializeRefusal fault schema norms given → IsSerializeRefusal fault schema norms others
 refusal_is fault schema norms given others same (inl memory) = inl memory
-refusal_is fault schema norms given others same (inr (limit, any)) = inr (limit, record {
-  field = any.field;
-  indexed = any.indexed;
-  passes = field_passes (λ key. option_of_term schema (term_of_key schema any.field key)) (field_ids norms any.field) (λ key. given (term_of_key schema any.field key)) (λ key. others (term_of_key schema any.field key)) (λ key. same (term_of_key schema any.field key)) any.passes;
-})
+refusal_is fault schema norms given others same (inr (limit, any)) = inr (
+  limit,
+  record {
+    field = any.field;
+    indexed = any.indexed;
+    passes = field_passes (λ key. option_of_term schema (term_of_key schema any.field key)) (field_ids norms any.field) (λ key. given (term_of_key schema any.field key)) (λ key. others (term_of_key schema any.field key)) (λ key. same (term_of_key schema any.field key)) any.passes;
+  },
+)
 
 -- ---- of a writer
 

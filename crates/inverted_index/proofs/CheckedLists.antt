@@ -1,5 +1,5 @@
 -- Fields that are checked one after another.
-use Rattle.std.proofs.Common.{[], Bool, IfSome, List, Option, Some, None, arith, cond, false, find, get_or, length, option_map, refl, sym, take, true, ap, subst, suc, zero, ◌++◌, ◌+◌, ◌<◌, ◌==◌, ◌≡◌, ◌∙◌, ◌∷◌, ℕ}
+use Rattle.std.proofs.Common.{[], Bool, IfSome, List, Option, Some, None, arith, cond, false, find, get_or, length, option_map, sym, take, true, ap, subst, suc, zero, ◌++◌, ◌+◌, ◌<◌, ◌==◌, ◌≡◌, ◌∙◌, ◌∷◌, ℕ}
 use Rattle.std.specs.List.{AllByRecursion}
 use Rattle.std.specs.Option.{option_map_or}
 use Rattle.std.proofs.lemmas.List.{take_more}

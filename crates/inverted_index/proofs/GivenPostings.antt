@@ -1,5 +1,5 @@
 -- Given postings are those that fields hold.
-use Rattle.std.proofs.Common.{[], Bool, List, None, Option, Some, ap, append_assoc, arith, bytes_eq, cond, false, find, flat_map, length, map, option_map, refl, subst, sym, true, true≢false, ◌++◌, ◌<◌, ◌||◌, ◌≡◌, ◌∙◌, ◌∷◌, ℕ}
+use Rattle.std.proofs.Common.{[], Bool, List, None, Option, Some, ap, arith, bytes_eq, cond, false, find, flat_map, length, map, option_map, refl, sym, true, true≢false, ◌++◌, ◌<◌, ◌||◌, ◌≡◌, ◌∙◌, ◌∷◌, ℕ}
 use Rattle.std.proofs.lemmas.Slice.Eq.{bytes_eq-Decides}
 use Rattle.std.specs.List.{AllByRecursion, list_any}
 use Rattle.std.specs.Option.{option_map_or}
@@ -7,7 +7,7 @@ use Rattle.definitions.specs.Postings.{Posting}
 use Rattle.definitions.specs.Schema.{Schema}
 use Rattle.layouts.specs.InvertedIndexes.{AreGiven, HasPostingsOf, IndexedField, IndexedTerm, all_terms, term_of_key}
 use Rattle.inverted_index.proofs.TermsHeld.{found_all}
-use Rattle.inverted_index.specs.Readers.{postings_held, term_held}
+use Rattle.inverted_index.specs.Readers.{postings_held}
 
 abbrev Row : Type 0
 Row = List ℕ × IndexedTerm

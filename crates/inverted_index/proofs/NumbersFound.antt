@@ -1,5 +1,5 @@
 -- A field's place among fields whose numbers ascend.
-use Rattle.std.proofs.Common.{[], Bool, List, None, Option, Some, ap, arith, cond, false, find, get_or, length, map, nat_eq, nat_lt, refl, slice_get, suc, sym, true, true≢false, zero, ◌+◌, ◌<◌, ◌==◌, ◌≡◌, ◌≢◌, ◌≤◌, ◌∙◌, ◌∷◌, ℕ}
+use Rattle.std.proofs.Common.{[], Bool, List, None, Some, ap, arith, cond, false, find, get_or, length, map, nat_lt, refl, suc, sym, true, zero, ◌+◌, ◌<◌, ◌==◌, ◌≡◌, ◌≢◌, ◌≤◌, ◌∙◌, ◌∷◌, ℕ}
 use Rattle.std.proofs.lemmas.Bool.Decides.{nat_tests}
 use Rattle.std.proofs.lemmas.Bool.{ltb-false, ltb-true}
 use Rattle.std.proofs.lemmas.List.{get_or-map, get_or_default, length-map}

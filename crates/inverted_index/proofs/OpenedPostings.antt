@@ -1,9 +1,8 @@
 -- The postings of a term as a cursor tells them.
-use Rattle.std.proofs.Common.{[], Bool, List, ap, arith, cond, drop, false, length, map, min, refl, replicate, subst, suc, sym, true, true≢false, ◌&&◌, ◌<◌, ◌≡◌, ◌∙◌, ◌∷◌, ◌^◌, ◌≤◌, ℕ}
+use Rattle.std.proofs.Common.{[], Bool, List, ap, arith, cond, drop, false, length, map, min, refl, replicate, subst, sym, true, true≢false, ◌&&◌, ◌<◌, ◌≡◌, ◌∙◌, ◌∷◌, ◌^◌, ℕ}
 use Rattle.std.proofs.Math.Seq.{drop-nil, take-nil}
 use Rattle.std.proofs.lemmas.List.{length-map}
 use Rattle.std.specs.List.{AllByRecursion}
-use Rattle.checked_postings.specs.Placed.{term_of}
 use Rattle.definitions.specs.Postings.{Posting}
 use Rattle.definitions.specs.Schema.{IndexRecordOption, basic, has_freq, has_positions, with_freqs, with_freqs_and_positions}
 use Rattle.layouts.specs.InvertedIndexes.{IsPosting, IsTerm}

@@ -1,6 +1,6 @@
 -- The postings of a term, where its info tells of them.
-use Rattle.std.proofs.Common.{[], Bool, List, None, Option, Some, ap, arith, bytes_eq, cond, false, find, length, map, option_map, refl, subst, sym, true, ◌+◌, ◌<◌, ◌==◌, ◌≡◌, ◌≤◌, ◌∙◌, ◌∷◌, ◌^◌, ℕ}
-use Rattle.std.proofs.Math.Logic.{∥∥₁_elim, ∥∥₁_map}
+use Rattle.std.proofs.Common.{[], Bool, List, None, Option, Some, ap, arith, bytes_eq, cond, false, find, length, map, option_map, refl, subst, sym, true, ◌==◌, ◌≡◌, ◌≤◌, ◌∙◌, ◌∷◌, ℕ}
+use Rattle.std.proofs.Math.Logic.{∥∥₁_elim}
 use Rattle.std.proofs.Props.{props}
 use Rattle.std.proofs.lemmas.Bool.Decides.{nat_tests}
 use Rattle.std.proofs.lemmas.Slice.Eq.{bytes_eq-Decides}
@@ -8,20 +8,18 @@ use Rattle.std.specs.List.{AllByRecursion}
 use Rattle.std.specs.Option.{option_map_or}
 use Rattle.std.specs.Prelude.{slice_range}
 use Rattle.checked_postings.specs.Placed.{term_of}
-use Rattle.definitions.specs.Postings.{Posting}
 use Rattle.definitions.specs.Schema.{IndexRecordOption, Schema}
 use Rattle.layouts.specs.InvertedIndexes.{IndexedField, IndexedTerm, IsField, IsTerm, field_ids, option_of_term, term_of_key}
 use Rattle.inverted_index.proofs.DictionariesPlaced.{is_dictionary, term_found}
 use Rattle.inverted_index.proofs.KindsKnown.{IsKind, kinds_known, same_option}
 use Rattle.inverted_index.proofs.ReaderCalls.{dictionary_is}
 use Rattle.inverted_index.proofs.TermsHeld.{all_of_told, found_all}
-use Rattle.inverted_index.specs.Dictionaries.{Placed, info_from, term_at, terms_at}
-use Rattle.inverted_index.specs.FieldDictionaries.{EndsBy, IsFound, StandsAt, dictionary_of, terms_in, terms_of_field}
+use Rattle.inverted_index.specs.Dictionaries.{Placed, terms_at}
+use Rattle.inverted_index.specs.FieldDictionaries.{EndsBy, IsFound, StandsAt, terms_in}
 use Rattle.inverted_index.specs.FieldKinds.{option_in}
 use Rattle.inverted_index.specs.OpenedTerms.{HasTerm}
 use Rattle.inverted_index.specs.Readers.{Contents, IsInfo, Reader, dictionary_in, index_in, info_in, postings_in, term_in}
 use Rattle.inverted_index.specs.declared.field_index.FieldIndex.{FieldIndex}
-use Rattle.inverted_index.specs.declared.field_kind.FieldKind.{FieldKind}
 use Rattle.inverted_index.specs.declared.term_info.TermInfo.{TermInfo}
 use Rattle.inverted_index.specs.declared.term_start.TermStart.{TermStart}
 

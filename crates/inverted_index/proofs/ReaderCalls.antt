@@ -1,5 +1,5 @@
 -- What the calls of a reader find.
-use Rattle.std.proofs.Common.{[], Bool, Bor, IfSome, List, None, Option, Some, ap, arith, cond, find, length, map, option_map, refl, slice_get, subst, sym, true, false, ◌+◌, ◌<◌, ◌==◌, ◌≡◌, ◌≤◌, ◌∙◌, ◌∷◌, ◌^◌, ℕ}
+use Rattle.std.proofs.Common.{[], Bool, Bor, IfSome, List, None, Option, Some, ap, arith, cond, find, map, option_map, refl, subst, sym, true, false, ◌+◌, ◌<◌, ◌==◌, ◌≡◌, ◌∙◌, ◌∷◌, ◌^◌, ℕ}
 use Rattle.std.proofs.Math.Logic.{∥∥₁_elim, ∥∥₁_map}
 use Rattle.std.proofs.Props.{props}
 use Rattle.std.specs.Option.{option_map_or}
@@ -14,7 +14,7 @@ use Rattle.inverted_index.proofs.KindsKnown.{fields_ascend}
 use Rattle.inverted_index.proofs.TermsHeld.{none_held, same_held, same_numbers, some_same}
 use Rattle.inverted_index.specs.Dictionaries.{IsDictionary, Placed, terms_at}
 use Rattle.inverted_index.specs.FieldDictionaries.{IsFound, dictionary_of}
-use Rattle.inverted_index.specs.Readers.{Contents, HasKind, IsReader, Reader, dictionary_in, index_in, info_in, term_held, term_in, tokens_held}
+use Rattle.inverted_index.specs.Readers.{Contents, HasKind, Reader, dictionary_in, index_in, info_in, term_held, term_in, tokens_held}
 use Rattle.inverted_index.specs.TermPlaces.{field_end, fields_start}
 use Rattle.inverted_index.specs.ToldFields.{AreTold}
 use Rattle.inverted_index.specs.declared.field_index.FieldIndex.{FieldIndex}

@@ -10,7 +10,7 @@ use Rattle.inverted_index.proofs.KindsKnown.{fields_small, kind_numbers}
 use Rattle.inverted_index.proofs.OneReading.{same_fields}
 use Rattle.inverted_index.proofs.SectionsRead.{sections_read, told_fields}
 use Rattle.inverted_index.proofs.SectionsThere.{sections_there}
-use Rattle.inverted_index.proofs.TermsLoop.{ends_grow, first_alone}
+use Rattle.inverted_index.proofs.TermsLoop.{first_alone}
 use Rattle.inverted_index.specs.CheckedTerms.{AreCheckedFields, IsWithin, Sections, fields_with}
 use Rattle.inverted_index.specs.FieldKinds.{kinds_of, shown}
 use Rattle.inverted_index.specs.Readers.{Contents, IsReader}

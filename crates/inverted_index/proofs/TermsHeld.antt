@@ -1,12 +1,12 @@
 -- The terms of fields, found by all their bytes.
-use Rattle.std.proofs.Common.{[], Bool, List, None, Option, Some, ap, arith, bytes_eq, cond, drop, false, find, get_or, length, flat_map, map, option_map, refl, slice_get, subst, suc, sym, true, true≢false, ◌++◌, ◌+◌, ◌<◌, ◌==◌, ◌≡◌, ◌≢◌, ◌≤◌, ◌∙◌, ◌∷◌, ◌^◌, ℕ}
+use Rattle.std.proofs.Common.{[], Bool, List, None, Option, Some, ap, arith, bytes_eq, cond, drop, false, find, get_or, length, flat_map, map, option_map, refl, slice_get, subst, sym, true, ◌++◌, ◌+◌, ◌<◌, ◌==◌, ◌≡◌, ◌≢◌, ◌∙◌, ◌∷◌, ◌^◌, ℕ}
 use Rattle.std.proofs.lemmas.Bool.Decides.{nat_tests}
 use Rattle.std.specs.List.{AllByRecursion}
 use Rattle.std.specs.Option.{option_map_or}
-use Rattle.definitions.specs.Schema.{Entry, Kind, Schema, max_fields}
+use Rattle.definitions.specs.Schema.{Entry, Kind, Schema}
 use Rattle.definitions.specs.Terms.{field_of, payload_of, term_bytes}
 use Rattle.layouts.specs.Deltas.{IsAscendingFrom}
-use Rattle.layouts.specs.InvertedIndexes.{IndexedField, IndexedTerm, field_terms, indexed_fields, term_of_key}
+use Rattle.layouts.specs.InvertedIndexes.{IndexedField, IndexedTerm, field_terms, term_of_key}
 use Rattle.schema.proofs.TermParts.{other_fields, other_kinds, same_keys}
 use Rattle.inverted_index.proofs.KindsKnown.{IsKind, fields_ascend, kinds_known}
 use Rattle.inverted_index.specs.FieldDictionaries.{terms_in}

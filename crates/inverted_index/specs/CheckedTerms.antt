@@ -1,5 +1,5 @@
 -- Terms as their bytes stand in the sections.
-use Rattle.std.specs.Prelude.{[], ⊤, ◌+◌, ◌<◌, ◌^◌, ◌∷◌, ◌≡◌, ◌≤◌, List, drop, length, map, sum_by, take, ℕ}
+use Rattle.std.specs.Prelude.{[], ⊤, ◌+◌, ◌<◌, ◌^◌, ◌∷◌, ◌≡◌, ◌≤◌, List, drop, length, sum_by, take, ℕ}
 use Rattle.std.specs.List.{AllByRecursion}
 use Rattle.definitions.specs.Postings.{Posting}
 use Rattle.layouts.specs.InvertedIndexes.{IndexedField, IndexedTerm, IsTerm, field_ids}

@@ -1,7 +1,7 @@
 -- What indexed fields hold, and what is recorded of their terms.
 use Rattle.std.specs.Prelude.{List, filter, if◌then◌else◌, map, ℕ}
 use Rattle.std.specs.List.{enumerate_from}
-use Rattle.definitions.specs.Schema.{Entry, IndexRecordOption, Kind, Schema, basic, is_indexed}
+use Rattle.definitions.specs.Schema.{IndexRecordOption, Kind, Schema, basic, is_indexed}
 use Rattle.options.specs.RecordOption.{record_option_of}
 use Rattle.schema.specs.Kinds.{kind_of}
 use Rattle.schema.specs.TextKeys.{is_text_key}

@@ -1,5 +1,5 @@
 -- The options that are read of a kind, by those that its fields have.
-use Rattle.std.proofs.Common.{[], ◌≡◌, Bool, List, None, Option, Some, codes, false, option_map, refl, true, ℕ}
+use Rattle.std.proofs.Common.{◌≡◌, Bool, List, None, Option, Some, codes, false, option_map, refl, ℕ}
 use Rattle.definitions.specs.Json.{◌>>=◌}
 use Rattle.definitions.specs.Schema.{Entry, Kind, bool_kind, bytes_kind, date_kind, i64_kind, ip_addr_kind, u64_kind}
 use Rattle.definitions.specs.SchemaGrammar.{entry_named, flag_or, options_in}

@@ -1,5 +1,4 @@
 -- Types of fields as the kinds of the definitions.
-use Rattle.std.specs.Prelude.{ℕ}
 use Rattle.definitions.specs.Schema.{Kind, text_kind, u64_kind, i64_kind, bool_kind, date_kind, facet_kind, bytes_kind, json_kind, ip_addr_kind}
 use Rattle.schema.specs.declared.field_type.«Type».{«Type»}
 use Rattle.schema.specs.declared.field_type.«Type».TheVariants.{Str, U64, I64, Bool, Date, Facet, Bytes, Json, IpAddr}

@@ -1,4 +1,4 @@
-use Rattle.std.proofs.Common.{[], ◌++◌, ◌+◌, ◌<◌, ◌∙◌, ◌∷◌, ◌≡◌, IfErr, List, OnOk, ap, arith, drop, get_or, length, map, subst, sym, take, ℕ}
+use Rattle.std.proofs.Common.{[], ◌+◌, ◌<◌, ◌∙◌, ◌∷◌, ◌≡◌, IfErr, List, OnOk, ap, arith, drop, length, map, subst, sym, take, ℕ}
 use Rattle.std.proofs.lemmas.Result.{err_from_is_err_and}
 use Rattle.definitions.specs.Values.{facet}
 use Rattle.layouts.specs.DocumentReading.{steps_in}

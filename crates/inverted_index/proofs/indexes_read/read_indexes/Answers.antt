@@ -1,6 +1,6 @@
-use Rattle.std.proofs.Common.{List, arith, length, map, subst, sym, ◌<◌, ◌≡◌, ◌≤◌, ◌^◌}
+use Rattle.std.proofs.Common.{List, arith, map, subst, sym}
 use Rattle.std.proofs.lemmas.Result.{err_from_is_err_and}
-use Rattle.inverted_index.proofs.ReadersMade.{Made, checked_for, made_of, no_sections, reader_made, stands_for, told_within, within_lent}
+use Rattle.inverted_index.proofs.ReadersMade.{checked_for, made_of, no_sections, reader_made, stands_for, told_within, within_lent}
 use Rattle.inverted_index.specs.CheckedTerms.{AreCheckedFields, Sections}
 use Rattle.inverted_index.specs.declared.field_index.FieldIndex.{FieldIndex}
 use Rattle.inverted_index.proofs.indexes_read.read_indexes.Goals as goal

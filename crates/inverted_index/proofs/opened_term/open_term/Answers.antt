@@ -1,14 +1,12 @@
-use Rattle.std.proofs.Common.{[], Bool, List, ap, cond, false, length, map, min, refl, replicate, subst, sym, true, ◌&&◌, ◌≡◌, ◌∙◌, ℕ}
+use Rattle.std.proofs.Common.{[], ap, cond, false, map, replicate, subst, sym, true, ◌&&◌, ◌≡◌, ◌∙◌}
 use Rattle.std.proofs.Math.Logic.{∥∥₁_elim, ∥∥₁_map}
 use Rattle.std.specs.Coded.{Coded-set, coded_ℕ}
 use Rattle.definitions.specs.Postings.{Posting}
-use Rattle.definitions.specs.Schema.{IndexRecordOption, has_freq, has_positions}
-use Rattle.layouts.specs.Positions.{ArePositions, position_numbers}
+use Rattle.definitions.specs.Schema.{has_positions}
+use Rattle.layouts.specs.Positions.{position_numbers}
 use Rattle.options.specs.RecordOption.{record_option_of}
-use Rattle.postings.specs.Reading.{HasPostings}
 use Rattle.postings.specs.TermEntries.{HasPositions, entries_of}
-use Rattle.inverted_index.proofs.OpenedPostings.{entries_as, has_positions_in, has_postings, one_block, placed_as, reads_all, told_postings}
-use Rattle.inverted_index.specs.OpenedTerms.{HasTerm}
+use Rattle.inverted_index.proofs.OpenedPostings.{entries_as, has_positions_in, one_block, placed_as, reads_all, told_postings}
 use Rattle.inverted_index.proofs.opened_term.open_term.Goals as goal
 
 pub new-reader-requires : goal.new-reader-requires

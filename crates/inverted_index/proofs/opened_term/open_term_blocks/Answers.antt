@@ -1,4 +1,4 @@
-use Rattle.std.proofs.Common.{Bool, List, ap, cond, map, min, replicate, subst, sym, ◌&&◌, ◌≡◌, ◌∙◌, ℕ}
+use Rattle.std.proofs.Common.{ap, cond, map, replicate, ◌∙◌}
 use Rattle.std.proofs.Math.Logic.{∥∥₁_elim, ∥∥₁_map}
 use Rattle.std.specs.Coded.{Coded-set, coded_ℕ}
 use Rattle.definitions.specs.Postings.{Posting}

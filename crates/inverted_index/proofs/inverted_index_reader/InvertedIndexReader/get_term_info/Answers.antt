@@ -1,5 +1,4 @@
-use Rattle.std.proofs.Common.{ap, arith, subst, sym, true≢false, ◌<◌, ◌≡◌, ◌∙◌, ◌^◌}
-use Rattle.std.specs.Bool.{IsTrue}
+use Rattle.std.proofs.Common.{ap, arith, subst, sym, true≢false, ◌≡◌, ◌∙◌}
 use Rattle.definitions.specs.Terms.{field_of, payload_of}
 use Rattle.inverted_index.proofs.ReaderCalls.{for_some, info_of_held, none_found, own_info, same_term}
 use Rattle.inverted_index.specs.Readers.{HasKind, dictionary_in, info_in}

@@ -1,4 +1,4 @@
-use Rattle.std.proofs.Common.{List, ap, map, subst, sym, ◌≡◌, ◌∙◌, ℕ}
+use Rattle.std.proofs.Common.{List, map, subst, sym}
 use Rattle.layouts.specs.Deltas.{IsAscendingFrom}
 use Rattle.inverted_index.proofs.ReaderCalls.{indexes_ascend}
 use Rattle.inverted_index.specs.Readers.{Contents, Reader}

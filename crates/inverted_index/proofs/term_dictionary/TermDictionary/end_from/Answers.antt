@@ -1,4 +1,4 @@
-use Rattle.std.proofs.Common.{Bor, List, Option, ap, option_map, sym, ◌≡◌, ◌∙◌, ℕ}
+use Rattle.std.proofs.Common.{Bor, List, Option, ap, option_map, sym, ◌∙◌, ℕ}
 use Rattle.std.specs.List.{prefix_len}
 use Rattle.inverted_index.proofs.Ranges.{all_true}
 use Rattle.inverted_index.specs.Dictionaries.{Placed}

@@ -1,11 +1,10 @@
-use Rattle.std.proofs.Common.{Bor, List, ap, arith, drop, length, map, max, option_map, subst, sym, take, ◌-◌, ◌≡◌, ◌≤◌, ◌∙◌, ℕ}
-use Rattle.std.proofs.Math.Logic.{∥∥₁_elim, ∥∥₁_map}
+use Rattle.std.proofs.Common.{Bor, List, ap, arith, length, option_map, subst, sym, ◌-◌, ◌≡◌, ◌∙◌, ℕ}
+use Rattle.std.proofs.Math.Logic.{∥∥₁_map}
 use Rattle.std.proofs.lemmas.List.{length-map}
 use Rattle.std.proofs.lemmas.List.Sums.{prefix_len-le-length}
-use Rattle.std.specs.List.{prefix_len}
 use Rattle.inverted_index.proofs.Ranges.{part_fits, range_found}
 use Rattle.inverted_index.specs.Dictionaries.{AllFit, Placed, term_at, terms_at}
-use Rattle.inverted_index.specs.Searching.{between, is_before, is_below}
+use Rattle.inverted_index.specs.Searching.{is_before, is_below}
 use Rattle.inverted_index.specs.declared.term_start.TermStart.{TermStart}
 use Rattle.inverted_index.proofs.term_dictionary.TermDictionary.range.Goals as goal
 

@@ -1,4 +1,4 @@
-use Rattle.std.proofs.Common.{ap, rules, subst, sym}
+use Rattle.std.proofs.Common.{subst, sym}
 use Rattle.inverted_index.proofs.Ranges.{first_fits, rest_fits}
 use Rattle.inverted_index.specs.Dictionaries.{InfoFits, info_from}
 use Rattle.inverted_index.specs.TakenTerms.{Told}

@@ -1,5 +1,5 @@
 -- A dot is one byte, so a text may be cut before it and after it.
-use Rattle.std.proofs.Common.{rules, arith, ◌<◌, length, get_or, ◌≡◌}
+use Rattle.std.proofs.Common.{arith, ◌<◌, length, get_or, ◌≡◌}
 use Rattle.std.proofs.lemmas.Option.{get_or_from_slice_get, slice_get_within}
 use Rattle.std.proofs.lemmas.Str.{IsCharBoundary-after_ascii}
 use Rattle.schema.proofs.schema.Schema.field_before.Goals as goal

@@ -1,5 +1,5 @@
 -- Each turn passes one byte.
-use Rattle.std.proofs.Common.{Bor, List, Option, arith, ℕ, ap, ap₂, sym, ◌∙◌, ◌≡◌, ◌<◌, ◌+◌, ◌==◌, ◌&&◌, not, false, true, get_or, length, take, drop, None, Some, option_map}
+use Rattle.std.proofs.Common.{Bor, List, Option, arith, ℕ, ap, ap₂, sym, ◌∙◌, ◌≡◌, ◌<◌, ◌+◌, ◌==◌, ◌&&◌, not, get_or, length, take, drop, None, Some, option_map}
 use Rattle.std.proofs.lemmas.Option.{slice_get-get_or}
 use Rattle.definitions.specs.Facets.{backslash}
 use Rattle.definitions.specs.FieldPaths.{field_at_split}

@@ -1,5 +1,5 @@
 -- Names are distinct, so the field that is found is the one of that name.
-use Rattle.std.proofs.Common.{◌≡◌, ok_or, rules, subst, sym}
+use Rattle.std.proofs.Common.{◌≡◌, ok_or, rules, subst}
 use Rattle.definitions.specs.Schema.{AreDistinct, field_named}
 use Rattle.definitions.specs.declared.fault.Fault.TheVariants.{FieldNotFound}
 use Rattle.schema.proofs.FieldNames.{answer-exact}

@@ -1,0 +1,158 @@
+//! `writer_bench`: how long the documents of a text take to be indexed and written, one for each of its lines.
+//!
+//! With an argument it reads the text from standard input and prints a table; without one it does nothing.
+#![tactic(auto)]
+
+ghost use Rattle.std.specs.Prelude.{List, OnOk};
+ghost use Rattle.definitions.specs.Values.{Document};
+ghost use Rattle.indexing.specs.Indexers.{HasIndexed};
+
+use codes::FieldNormReaders;
+use common::{Analyzer, RawAndDefault};
+use definitions::Fault;
+use document::CompactDoc;
+use indexing::DocumentIndexer;
+use schema::{Field, Schema, TEXT};
+use std::alloc::Global;
+use std::env;
+use std::io;
+use std::process::ExitCode;
+use std::time::{Clock, Instant};
+
+/// The best of so many runs is told.
+const RUNS: u32 = 5;
+
+/// The name of the tokenizer.
+const TOKENIZER: &str = "default";
+
+/// What was measured of a text: how many tokens it has, and times in nanoseconds.
+#[derive(Clone, Copy)]
+struct Row {
+    tokens: u64,
+    analysis: u128,
+    adding: u128,
+    writing: u128,
+    bytes: usize,
+}
+
+fn main(rt: HostRuntime) -> ExitCode {
+    if !has_argument(&rt) {
+        return ExitCode::SUCCESS;
+    }
+    let alloc = rt.alloc();
+    let Ok(text) = io::read_to_string(alloc, rt.reader()) else {
+        return ExitCode::FAILURE;
+    };
+    match measure(&rt, alloc, &text) {
+        Ok(()) => ExitCode::SUCCESS,
+        Err(fault) => {
+            let _ = eprintln!(rt; "writer_bench: {fault}");
+            ExitCode::FAILURE
+        }
+    }
+}
+
+/// Whether the program was started with an argument.
+fn has_argument(rt: &(impl Alloc + std::rt::Env)) -> bool {
+    match env::args(rt) {
+        Ok(args) => args.count() > 1,
+        Err(_) => false,
+    }
+}
+
+/// Prints the best of some runs.
+fn measure(rt: &HostRuntime, alloc: Global, text: &str) -> Result<(), Fault> {
+    let docs = documents(alloc, text)?;
+    let mut best = run_of(rt, alloc, text, &docs)?;
+    for _ in 1..RUNS {
+        let next = run_of(rt, alloc, text, &docs)?;
+        best.analysis = best.analysis.min(next.analysis);
+        best.adding = best.adding.min(next.adding);
+        best.writing = best.writing.min(next.writing);
+    }
+    let tokens = u128::from(best.tokens.max(1));
+    let analysis = best.analysis / tokens;
+    let adding = best.adding / tokens;
+    let writing = best.writing / tokens;
+    let _ = println!(rt; "| documents | tokens | analysis alone, ns a token | indexing with analysis, ns a token | writing, ns a token | bytes |");
+    let _ = println!(rt; "|---|---|---|---|---|---|");
+    let _ = println!(rt; "| {} | {} | {analysis} | {adding} | {writing} | {} |", docs.len(), best.tokens, best.bytes);
+    Ok(())
+}
+
+/// A document for each line.
+fn documents(alloc: Global, text: &str) -> Result<Vec<CompactDoc>, Fault> {
+    let mut docs = Vec::new(alloc);
+    for line in text.lines() {
+        let mut doc = CompactDoc::new(alloc);
+        doc.add_text(Field::from_field_id(0), line)?;
+        docs.push(doc)?;
+    }
+    Ok(docs)
+}
+
+/// One run.
+fn run_of(rt: &HostRuntime, alloc: Global, text: &str, docs: &[CompactDoc]) -> Result<Row, Fault> {
+    let mut builder = Schema::builder(alloc);
+    builder.add_text_field("body", TEXT)?;
+    let schema = builder.build();
+    let begun = now(rt)?;
+    let tokens = count_tokens(alloc, text)?;
+    let analysis = nanos_since(rt, begun)?;
+    let mut indexer = DocumentIndexer::for_schema(alloc, &schema, &RawAndDefault)?;
+    let begun = now(rt)?;
+    index_all(&mut indexer, docs)?;
+    let adding = nanos_since(rt, begun)?;
+    let begun = now(rt)?;
+    let lengths = FieldNormReaders::open(alloc, &[], indexer.num_docs(), &[])?;
+    let (terms, postings, positions) = indexer.serialize(alloc, &lengths)?;
+    let writing = nanos_since(rt, begun)?;
+    let sizes = [terms.len(), postings.len(), positions.len()];
+    Ok(Row {
+        tokens,
+        analysis,
+        adding,
+        writing,
+        bytes: sizes[0].wrapping_add(sizes[1]).wrapping_add(sizes[2]),
+    })
+}
+
+/// How many tokens the lines of a text have.
+fn count_tokens(alloc: Global, text: &str) -> Result<u64, Fault> {
+    let mut tokens = 0u64;
+    for line in text.lines() {
+        let found = RawAndDefault.tokens(alloc, TOKENIZER, line)?;
+        tokens = tokens.wrapping_add(found.len() as u64);
+    }
+    Ok(tokens)
+}
+
+/// Indexes documents behind those before.
+fn index_all<'a, A: Analyzer>(
+    indexer: &mut DocumentIndexer<'a, A>,
+    docs: &[CompactDoc],
+) -> Result<(), Fault>
+    requires { (before : List Document) × HasIndexed A.analyze indexer.old before }
+    ensures { OnOk result ((all : List Document) × HasIndexed A.analyze indexer.new all) }
+{
+    for doc in docs {
+        indexer.add(doc)?;
+    }
+    Ok(())
+}
+
+/// The time.
+fn now(clock: &impl Clock) -> Result<Instant, Fault> {
+    match Instant::now(clock) {
+        Ok(now) => Ok(now),
+        Err(_) => Err(Fault::Device),
+    }
+}
+
+/// How many nanoseconds went by.
+fn nanos_since(clock: &impl Clock, begun: Instant) -> Result<u128, Fault> {
+    match begun.elapsed(clock) {
+        Ok(elapsed) => Ok(elapsed.as_nanos()),
+        Err(_) => Err(Fault::Device),
+    }
+}
