@@ -54,6 +54,17 @@ impl<'a> FieldSerializer<'a> {
         Ok(())
     }
 
+    /// Begins a term by its value bytes, of which the documents alone are recorded.
+    pub fn new_term_without_freq(&mut self, key: &[u8]) -> Result<(), AllocError>
+        requires { self.old.positions.1 ≡ [] }
+        ensures ready { OnOk result (IsOpen self.new [] [] []) }
+        ensures key { OnOk result (self.new.key ≡ key.now) }
+        ensures option { OnOk result (self.new.writing.option ≡ basic) }
+        ensures same { OnOk result ((self.new.field ≡ self.old.field) × (self.new.num_tokens ≡ self.old.num_tokens) × (self.new.terms ≡ self.old.terms) × (self.new.postings ≡ self.old.postings) × (self.new.positions ≡ self.old.positions) × (self.new.writing.mode ≡ self.old.writing.mode) × (self.new.writing.norms ≡ self.old.writing.norms) × (self.new.writing.next ≡ 0)) }
+    {
+        self.new_term(key, false)
+    }
+
     /// Adds a document to the term: how often the term stands in it and, where positions are recorded, its
     /// first position and the differences.
     pub fn write_doc(
