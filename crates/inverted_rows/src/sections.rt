@@ -3,6 +3,7 @@
 ghost use Rattle.std.specs.Prelude.{List, OnOk};
 ghost use Rattle.definitions.specs.Values.{Document};
 ghost use Rattle.indexing.specs.Indexers.{HasIndexed};
+ghost use Rattle.layouts.specs.Deltas.{IsAscendingFrom};
 
 use bytes::Bytes;
 use codes::FieldNormReaders;
@@ -48,10 +49,23 @@ pub(crate) fn sections_of(
     schema: &Schema,
     docs: &[CompactDoc],
 ) -> Result<Sections, Fault> {
+    sections_with(alloc, schema, docs, &[], &[])
+}
+
+/// The sections of documents, with the lengths of some fields as they stand in their section.
+pub(crate) fn sections_with(
+    alloc: Global,
+    schema: &Schema,
+    docs: &[CompactDoc],
+    fields: &[u32],
+    lengths: &[u8],
+) -> Result<Sections, Fault>
+    requires { IsAscendingFrom 0 fields.now }
+{
     let mut indexer = DocumentIndexer::for_schema(alloc, schema, &RawAndDefault)?;
     index_all(&mut indexer, docs)?;
     let num_docs = indexer.num_docs();
-    let lengths = FieldNormReaders::open(alloc, &[], num_docs, &[])?;
+    let lengths = FieldNormReaders::open(alloc, lengths, num_docs, fields)?;
     let (terms, postings, positions) = indexer.serialize(alloc, &lengths)?;
     Ok(Sections {
         num_docs,
@@ -67,11 +81,24 @@ pub(crate) fn opened(
     schema: &Schema,
     sections: &Sections,
 ) -> Result<InvertedIndexReader, Fault> {
+    opened_with(alloc, schema, sections, &[], &[])
+}
+
+/// The index of sections with the lengths of some fields.
+pub(crate) fn opened_with(
+    alloc: Global,
+    schema: &Schema,
+    sections: &Sections,
+    fields: &[u32],
+    lengths: &[u8],
+) -> Result<InvertedIndexReader, Fault>
+    requires { IsAscendingFrom 0 fields.now }
+{
     let num_docs = sections.num_docs;
     if num_docs > MAX_DOCS {
         return Err(Fault::Limit);
     }
-    let lengths = FieldNormReaders::open(alloc, &[], num_docs, &[])?;
+    let lengths = FieldNormReaders::open(alloc, lengths, num_docs, fields)?;
     InvertedIndexReader::open(
         alloc,
         schema,
