@@ -14,10 +14,9 @@ use document::CompactDoc;
 use indexing::DocumentIndexer;
 use schema::{Field, Schema, TEXT};
 use std::alloc::Global;
-use std::env;
-use std::io;
 use std::process::ExitCode;
 use std::time::{Clock, Instant};
+use std::{env, io};
 
 /// The best of so many runs is told.
 const RUNS: u32 = 5;
@@ -74,9 +73,16 @@ fn measure(rt: &HostRuntime, alloc: Global, text: &str) -> Result<(), Fault> {
     let analysis = best.analysis / tokens;
     let adding = best.adding / tokens;
     let writing = best.writing / tokens;
-    let _ = println!(rt; "| documents | tokens | analysis alone, ns a token | indexing with analysis, ns a token | writing, ns a token | bytes |");
+    let _ = println!(rt;
+        "| documents | tokens | analysis alone, ns a token | indexing with analysis, ns a token | writing, ns a token | bytes |"
+    );
     let _ = println!(rt; "|---|---|---|---|---|---|");
-    let _ = println!(rt; "| {} | {} | {analysis} | {adding} | {writing} | {} |", docs.len(), best.tokens, best.bytes);
+    let _ = println!(rt;
+        "| {} | {} | {analysis} | {adding} | {writing} | {} |",
+        docs.len(),
+        best.tokens,
+        best.bytes
+    );
     Ok(())
 }
 
