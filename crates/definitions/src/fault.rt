@@ -5,11 +5,11 @@ ghost use Rattle.definitions.specs.FaultNames.{name_of, reply_text};
 ghost use Rattle.definitions.specs.declared.fault.Fault.TheVariants.{OutOfMemory};
 
 use std::alloc::{AllocError, AllocFailed};
-use thiserror::Error;
+use std::error::Error;
+use std::fmt::{self, Display, Formatter};
 
 /// Why a call was refused. It is the error of every call of the index.
-#[derive(Clone, Copy, Debug, PartialEq, Eq, Error)]
-#[error("{}", self.name())]
+#[derive(Clone, Copy, Debug, PartialEq, Eq)]
 pub enum Fault {
     /// The index was closed by a failed write; it must be opened again.
     Closed,
@@ -210,6 +210,15 @@ impl Fault {
         }
     }
 }
+
+// By hand, since the derive writes and proves an arm for each variant.
+impl Display for Fault {
+    fn fmt<W: fmt::Write>(&self, f: &mut Formatter<W>) -> fmt::Result {
+        f.write_str(self.name())
+    }
+}
+
+impl Error for Fault {}
 
 impl From<AllocError> for Fault {
     ghost from_gives = { λ _ fault. fault ≡ OutOfMemory };
