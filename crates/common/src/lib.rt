@@ -17,8 +17,6 @@ mod pre_tokenized_string;
 mod raw_and_default;
 mod run_fault;
 mod synced;
-#[cfg(test)]
-mod tests;
 mod token;
 mod token_stream;
 

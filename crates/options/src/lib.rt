@@ -10,8 +10,6 @@ pub mod ip_addr_options;
 pub mod json_object_options;
 pub mod laws;
 pub mod numeric_options;
-#[cfg(test)]
-mod tests;
 pub mod text_options;
 
 pub use bytes_options::BytesOptions;

@@ -6,9 +6,7 @@ mod line;
 mod reading;
 mod service;
 mod serving;
-#[cfg(test)]
-mod tests;
 
 pub use common::RunFault;
 pub use service::Service;
-pub use serving::run;
+pub use serving::{run, run_within};

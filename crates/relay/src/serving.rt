@@ -29,8 +29,23 @@ pub fn run<R: BufRead, W: Write, S: Service>(
         → OnOk result (IfSome (R.remaining reader.old) (λ input.
         Writes S.answer S.after s (lines_of input) (W.contents writer.old) (W.contents writer.new))) }
 {
+    run_within(alloc, reader, writer, service, MOST_TURNS)
+}
+
+/// The same with another number of looks at the reader; where they don't suffice it ends with `ReadFault`.
+pub fn run_within<R: BufRead, W: Write, S: Service>(
+    alloc: Global,
+    reader: &mut R,
+    writer: &mut W,
+    service: &mut S,
+    most_turns: u64,
+) -> Result<(), RunFault>
+    ensures { (s : S.State) → S.stands service.old s
+        → OnOk result (IfSome (R.remaining reader.old) (λ input.
+        Writes S.answer S.after s (lines_of input) (W.contents writer.old) (W.contents writer.new))) }
+{
     let mut line = LineBuffer::new(alloc);
-    let mut turns = MOST_TURNS;
+    let mut turns = most_turns;
     while serve_line(reader, writer, service, &mut line, &mut turns)? {}
     if writer.flush().is_err() {
         return Err(RunFault::WriteFault);

@@ -1,5 +1,5 @@
 use Rattle.relay.proofs.RunFacts.{HasWritten-more, Writes-end}
-use Rattle.relay.proofs.serving.run.Goals as goal
+use Rattle.relay.proofs.serving.run_within.Goals as goal
 
 pub loop-line-preserved : goal.loop-line-preserved
 loop-line-preserved g c first standing =

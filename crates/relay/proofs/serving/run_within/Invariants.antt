@@ -1,5 +1,5 @@
 use Rattle.relay.proofs.RunFacts.{HasWritten}
-use Rattle.relay.proofs.serving.run.Given as goal
+use Rattle.relay.proofs.serving.run_within.Given as goal
 
 abbrev pub invariant-loop-line : goal.invariant-loop-line
 invariant-loop-line g l =
