@@ -1,9 +1,16 @@
-//! Tests of sets and of streams of tokens, with expected values from outside the program.
+//! Tests of the crates at the base: flags of options, sets, streams of tokens, devices in memory, and lines that are
+//! served, with expected values from outside the program.
 #![tactic(auto)]
 
 #[cfg(test)]
 mod alive_sets;
 #[cfg(test)]
 mod bit_sets;
+#[cfg(test)]
+mod memory_devices;
+#[cfg(test)]
+mod option_flags;
+#[cfg(test)]
+mod served_lines;
 #[cfg(test)]
 mod token_streams;

@@ -1,6 +1,6 @@
 //! What no clause says: that the calls of a device in memory go through.
 
-use crate::{Device, MemoryDevice, cut_synced, write_synced};
+use common::{Device, MemoryDevice, cut_synced, write_synced};
 use std::test::Fail;
 
 #[test]

@@ -1,5 +1,5 @@
 //! Calls of the generic impls at types of their own, and calls that may want memory.
-use crate::{
+use options::{
     INDEXED, IndexRecordOption, NumericOptions, STORED, STRING, TEXT, TextFieldIndexing,
     TextOptions,
 };

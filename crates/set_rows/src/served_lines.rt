@@ -2,10 +2,8 @@
 
 ghost use Rattle.std.specs.Prelude.{◌≡◌, ◌==◌, ◌%◌, ◌+◌, ℕ, ◌++◌, codes, if◌then◌else◌};
 
-use crate::line::LineBuffer;
-use crate::reading::read_line;
-use crate::{RunFault, Service, run};
-use definitions::Fault;
+use common::Fault;
+use relay::{RunFault, Service, run, run_within};
 use std::alloc::Global;
 use std::borrow::CowStr;
 use std::cell::Cell;
@@ -257,27 +255,36 @@ fn flushes_before_it_waits(rt: HostRuntime) -> Result<(), Fail> {
     Ok(())
 }
 
+// How a run ends that may look at its reader so often, and what it writes; it takes six looks to read the line, and two
+// more to see the end.
+fn serve_within(alloc: Global, turns: u64) -> Result<(Result<(), RunFault>, usize), Fail> {
+    let failing = FailingReader {
+        bytes: b"a line\n",
+        reads_left: 9,
+        is_interrupted: false,
+    };
+    let mut reader = BufReader::new(alloc, failing)?;
+    let mut written = Vec::new(alloc);
+    let ended = run_within(
+        alloc,
+        &mut reader,
+        &mut written,
+        &mut make_echo(alloc),
+        turns,
+    );
+    Ok((ended, written.len()))
+}
+
 #[test]
 fn counts_its_turns(rt: HostRuntime) -> Result<(), Fail> {
-    for (given, found) in [
-        (0, Err(RunFault::ReadFault)),
-        (5, Err(RunFault::ReadFault)),
-        (6, Ok(true)),
+    for (turns, ended, written) in [
+        (0, Err(RunFault::ReadFault), 0),
+        (5, Err(RunFault::ReadFault), 0),
+        (6, Err(RunFault::ReadFault), 8),
+        (7, Err(RunFault::ReadFault), 8),
+        (8, Ok(()), 8),
     ] {
-        let failing = FailingReader {
-            bytes: b"a line\n",
-            reads_left: 9,
-            is_interrupted: false,
-        };
-        let mut reader = BufReader::new(rt.alloc(), failing)?;
-        let mut line = LineBuffer::new(rt.alloc());
-        let mut writer = Vec::new(rt.alloc());
-        let mut turns = given;
-        assert_eq!(rt;
-            read_line(&mut reader, &mut writer, &mut line, &mut turns),
-            found
-        );
-        assert_eq!(rt; turns, 0);
+        assert!(rt; serve_within(rt.alloc(), turns)? == (ended, written));
     }
     Ok(())
 }
