@@ -1,6 +1,6 @@
 use Rattle.std.proofs.Common.{◌≡◌, length}
 use Rattle.postings.specs.Entries.{first}
-use Rattle.postings_bench.proofs.walk.Given as goal
+use Rattle.bench.proofs.cursors.walk.Given as goal
 
 abbrev pub invariant-loop-doc : goal.invariant-loop-doc
 invariant-loop-doc g l = l.doc ≡ first (g.P.DocSet.entries l.postings)

@@ -1,20 +1,15 @@
-//! `postings_bench`: how long a step of a cursor over postings takes.
-//!
-//! With an argument it prints a table in nanoseconds; without one it does nothing.
-#![tactic(auto)]
-
-mod terms;
+//! How long a step of a cursor over postings takes.
 
 ghost use Rattle.std.specs.Prelude.{◌≤◌, List, true, false, ℕ};
 ghost use Rattle.postings.specs.Reading.{HasPostings};
 
-use crate::terms::{opened, written};
+use crate::spread_terms::{opened, written};
+use crate::times::{nanos_since, now};
 use common::TERMINATED;
+use definitions::Fault;
 use postings::{DocSet, Postings};
 use std::alloc::Global;
-use std::io;
-use std::process::ExitCode;
-use std::time::{Clock, Instant};
+use std::time::Clock;
 
 /// How far the targets of seeks are from one another.
 const STEP: u32 = 20000;
@@ -30,40 +25,22 @@ enum Work {
     PlainWalk,
 }
 
-fn main(rt: HostRuntime) -> ExitCode {
-    if !has_argument(&rt) {
-        return ExitCode::SUCCESS;
-    }
-    match measure(&rt, rt.alloc()) {
-        Ok(()) => ExitCode::SUCCESS,
-        Err(_) => ExitCode::FAILURE,
-    }
-}
-
-/// Whether the program was started with an argument.
-fn has_argument(rt: &(impl Alloc + std::rt::Env)) -> bool {
-    match std::env::args(rt) {
-        Ok(args) => args.count() > 1,
-        Err(_) => false,
-    }
-}
-
 /// Prints a row for each term.
-fn measure(rt: &HostRuntime, alloc: Global) -> io::Result<()> {
-    println!(rt; "| postings | bytes | walk, ps each | plain list, ps each | seeks | ns each |")?;
-    println!(rt; "|---|---|---|---|---|---|")?;
+pub(crate) fn measure(rt: &HostRuntime, alloc: Global) -> Result<(), Fault> {
+    let _ = println!(rt;
+        "| postings | bytes | walk, ps each | plain list, ps each | seeks | ns each |"
+    );
+    let _ = println!(rt; "|---|---|---|---|---|---|");
     row(rt, alloc, 24064)?;
     row(rt, alloc, 1000000)
 }
 
 /// Prints what a term of so many documents takes.
-fn row(rt: &HostRuntime, alloc: Global, num_docs: u32) -> io::Result<()>
+fn row(rt: &HostRuntime, alloc: Global, num_docs: u32) -> Result<(), Fault>
     requires { num_docs ≤ 1000000 }
 {
     let mut plain = Vec::new(alloc);
-    let Ok(bytes) = written(alloc, &mut plain, num_docs) else {
-        return Ok(());
-    };
+    let bytes = written(alloc, &mut plain, num_docs)?;
     let (walk, seen) = best(rt, &bytes, &plain, num_docs, Work::Walk)?;
     let (list, same) = best(rt, &bytes, &plain, num_docs, Work::PlainWalk)?;
     let (seeks, count) = best(rt, &bytes, &plain, num_docs, Work::Seeks)?;
@@ -71,9 +48,9 @@ fn row(rt: &HostRuntime, alloc: Global, num_docs: u32) -> io::Result<()>
     let step = walk.saturating_mul(1000) / u128::from(num_docs.max(1));
     let plain_step = list.saturating_mul(1000) / u128::from(num_docs.max(1));
     let seek = seeks / u128::from(count.max(1));
-    println!(rt; "| {num_docs} | {len} | {step} | {plain_step} | {count} | {seek} |")?;
+    let _ = println!(rt; "| {num_docs} | {len} | {step} | {plain_step} | {count} | {seek} |");
     if seen != same {
-        println!(rt; "(the walks differ)")?;
+        let _ = println!(rt; "(the walks differ)");
     }
     Ok(())
 }
@@ -85,19 +62,19 @@ fn best(
     plain: &[(u32, u32)],
     num_docs: u32,
     work: Work,
-) -> io::Result<(u128, u64)>
+) -> Result<(u128, u64), Fault>
     requires { (docs counts : List ℕ) × HasPostings true false num_docs bytes.now docs counts }
 {
     let mut best = u128::MAX;
     let mut seen = 0;
     for _ in 0..RUNS {
-        let start = Instant::now(clock)?;
+        let begun = now(clock)?;
         seen = match work {
             Work::Walk => walk(&mut opened(bytes, num_docs)),
             Work::Seeks => seeks(&mut opened(bytes, num_docs)),
             Work::PlainWalk => plain_walk(plain),
         };
-        best = best.min(start.elapsed(clock)?.as_nanos());
+        best = best.min(nanos_since(clock, begun)?);
     }
     Ok((best, seen))
 }

@@ -1,14 +1,11 @@
-//! `blocks_bench`: how many integers a second come out of packed blocks, and go into them.
-//!
-//! With an argument it prints a table in millions of integers a second; without one it does nothing.
-#![tactic(auto)]
+//! How many integers a second come out of packed blocks, and go into them: a table in millions.
 
 ghost use Rattle.std.specs.Prelude.{◌<◌, ◌≤◌};
 
+use crate::times::{nanos_since, now};
 use codes::{BlockDecoder, BlockEncoder, compressed_block_size, numbers_by_bits};
-use std::process::ExitCode;
-use std::time::{Clock, Instant};
-use std::{env, io};
+use definitions::Fault;
+use std::time::Clock;
 
 /// How many bytes stand in memory, as blocks one after another.
 const LEN: usize = 16384;
@@ -37,43 +34,26 @@ struct Bench {
     encoder: BlockEncoder,
 }
 
-fn main(rt: HostRuntime) -> ExitCode {
-    if !has_argument(&rt) {
-        return ExitCode::SUCCESS;
-    }
-    match measure(&rt) {
-        Ok(()) => ExitCode::SUCCESS,
-        Err(_) => ExitCode::FAILURE,
-    }
-}
-
-/// Whether the program was started with an argument.
-fn has_argument(rt: &(impl Alloc + std::rt::Env)) -> bool {
-    match env::args(rt) {
-        Ok(args) => args.count() > 1,
-        Err(_) => false,
-    }
-}
-
 /// Prints a row for each width.
-fn measure(rt: &HostRuntime) -> io::Result<()> {
+pub(crate) fn measure(rt: &HostRuntime) -> Result<(), Fault> {
     let mut bench = Bench {
         bytes: noise(),
         numbers: [0; 128],
         decoder: BlockDecoder::with_val(0),
         encoder: BlockEncoder::new(),
     };
-    println!(rt; "| width | unsorted | sorted | bit at a time | packing |")?;
-    println!(rt; "|---|---|---|---|---|")?;
+    let _ = println!(rt; "| width | unsorted | sorted | bit at a time | packing |");
+    let _ = println!(rt; "|---|---|---|---|---|");
     for num_bits in [1, 4, 7, 13, 20, 32] {
         let unsorted = best(rt, &mut bench, Work::Unsorted, num_bits)?;
         let sorted = best(rt, &mut bench, Work::Sorted, num_bits)?;
         let by_bits = best(rt, &mut bench, Work::ByBits, num_bits)?;
         let packing = best(rt, &mut bench, Work::Packing, num_bits)?;
-        println!(rt; "| {num_bits} | {unsorted} | {sorted} | {by_bits} | {packing} |")?;
+        let _ = println!(rt; "| {num_bits} | {unsorted} | {sorted} | {by_bits} | {packing} |");
     }
     let seen = bench.decoder.output(127) ^ bench.numbers[127];
-    println!(rt; "({seen})")
+    let _ = println!(rt; "({seen})");
+    Ok(())
 }
 
 /// Bytes without order.
@@ -88,15 +68,15 @@ fn noise() -> [u8; 16384] {
 }
 
 /// Millions of integers a second in the best run.
-fn best(clock: &impl Clock, bench: &mut Bench, work: Work, num_bits: u8) -> io::Result<u128>
+fn best(clock: &impl Clock, bench: &mut Bench, work: Work, num_bits: u8) -> Result<u128, Fault>
     requires least { 0 < num_bits }
     requires greatest { num_bits ≤ 32 }
 {
     let mut best = 0u128;
     for _ in 0..RUNS {
-        let start = Instant::now(clock)?;
+        let begun = now(clock)?;
         let integers = run(bench, work, num_bits);
-        let nanos = start.elapsed(clock)?.as_nanos();
+        let nanos = nanos_since(clock, begun)?;
         if nanos > 0 {
             best = best.max(integers as u128 * 1000 / nanos);
         }

@@ -1,17 +1,12 @@
-//! `files_bench`: how long a commit and an opening take, and how many bytes a document takes in its file.
-//!
-//! With an argument it prints a table; without one it does nothing.
-#![tactic(auto)]
+//! How long a commit and an opening take, and how many bytes a document takes in its file.
 
+use crate::times::{nanos_since, now};
 use common::{Device, MemoryDevice, RawAndDefault};
 use definitions::Fault;
 use index::{Index, Refused, Settings};
 use options::{INDEXED, STORED, TEXT};
 use schema::Schema;
 use std::alloc::{AllocError, Global};
-use std::env;
-use std::process::ExitCode;
-use std::time::{Clock, Instant};
 
 /// The words of the documents.
 const WORDS: [&str; 16] = [
@@ -25,7 +20,7 @@ const WORDS_PER_DOC: u32 = 8;
 /// An index whose file is in memory.
 type MemoryIndex = Index<MemoryDevice, RawAndDefault>;
 
-/// What was measured of an index with so many documents: the times in microseconds.
+/// What was measured of an index with so many documents: the times in nanoseconds.
 #[derive(Clone, Copy)]
 struct Row {
     docs: u32,
@@ -34,33 +29,16 @@ struct Row {
     bytes: usize,
 }
 
-fn main(rt: HostRuntime) -> ExitCode {
-    if !has_argument(&rt) {
-        return ExitCode::SUCCESS;
-    }
+/// Prints a row for each number of documents.
+pub(crate) fn measure_all(rt: &HostRuntime) -> Result<(), Fault> {
     let _ = println!(rt; "| documents | commit, ms | opening, ms | bytes of file |");
     let _ = println!(rt; "|---|---|---|---|");
     for docs in [1000, 10000, 100000] {
-        match measure(&rt, docs) {
-            Ok(row) => {
-                let (commit, open) = (row.commit / 1000, row.open / 1000);
-                let _ = println!(rt; "| {} | {commit} | {open} | {} |", row.docs, row.bytes);
-            }
-            Err(fault) => {
-                let _ = eprintln!(rt; "files_bench: {fault}");
-                return ExitCode::FAILURE;
-            }
-        }
+        let row = measure(rt, docs)?;
+        let (commit, open) = (row.commit / 1000000, row.open / 1000000);
+        let _ = println!(rt; "| {} | {commit} | {open} | {} |", row.docs, row.bytes);
     }
-    ExitCode::SUCCESS
-}
-
-/// Whether the program was started with an argument.
-fn has_argument(rt: &(impl Alloc + std::rt::Env)) -> bool {
-    match env::args(rt) {
-        Ok(args) => args.count() > 1,
-        Err(_) => false,
-    }
+    Ok(())
 }
 
 /// Fills an index, commits it, and opens its file again.
@@ -69,12 +47,12 @@ fn measure(rt: &HostRuntime, docs: u32) -> Result<Row, Fault> {
     let mut index = filled(alloc, docs)?;
     let begun = now(rt)?;
     index.commit()?;
-    let commit = micros_since(rt, begun)?;
+    let commit = nanos_since(rt, begun)?;
     let (mut device, analyzer) = index.into_device();
     let bytes = device.read(alloc)?.len();
     let begun = now(rt)?;
     let _opened = made(Index::open(alloc, device, analyzer))?;
-    let open = micros_since(rt, begun)?;
+    let open = nanos_since(rt, begun)?;
     Ok(Row {
         docs,
         commit,
@@ -124,21 +102,5 @@ fn made(
                 analyzer: _analyzer,
             },
         ) => Err(fault),
-    }
-}
-
-/// The time, or that the clock fails.
-fn now(clock: &impl Clock) -> Result<Instant, Fault> {
-    match Instant::now(clock) {
-        Ok(now) => Ok(now),
-        Err(_) => Err(Fault::Device),
-    }
-}
-
-/// How many microseconds went by.
-fn micros_since(clock: &impl Clock, begun: Instant) -> Result<u128, Fault> {
-    match begun.elapsed(clock) {
-        Ok(elapsed) => Ok(elapsed.as_micros()),
-        Err(_) => Err(Fault::Device),
     }
 }

@@ -1,6 +1,6 @@
 use Rattle.std.proofs.Common.{[], ◌%◌, ◌+◌, ◌++◌, ◌/◌, ◌∙◌, ◌∷◌, arith, length-append}
 use Rattle.postings.specs.TermWriting.{recorded_count}
-use Rattle.postings_bench.proofs.terms.write_docs.Goals as goal
+use Rattle.bench.proofs.spread_terms.write_docs.Goals as goal
 
 pub loop-place-preserved : goal.loop-place-preserved
 loop-place-preserved c =

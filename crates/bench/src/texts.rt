@@ -1,12 +1,10 @@
-//! `writer_bench`: how long the documents of a text take to be indexed and written, one for each of its lines.
-//!
-//! With an argument it reads the text from standard input and prints a table; without one it does nothing.
-#![tactic(auto)]
+//! How long the documents of a text take to be indexed and written, one for each of its lines.
 
 ghost use Rattle.std.specs.Prelude.{List, OnOk};
 ghost use Rattle.definitions.specs.Values.{Document};
 ghost use Rattle.indexing.specs.Indexers.{HasIndexed};
 
+use crate::times::{nanos_since, now};
 use codes::FieldNormReaders;
 use common::{Analyzer, RawAndDefault};
 use definitions::Fault;
@@ -14,9 +12,7 @@ use document::CompactDoc;
 use indexing::DocumentIndexer;
 use schema::{Field, Schema, TEXT};
 use std::alloc::Global;
-use std::process::ExitCode;
-use std::time::{Clock, Instant};
-use std::{env, io};
+use std::io;
 
 /// The best of so many runs is told.
 const RUNS: u32 = 5;
@@ -34,28 +30,11 @@ struct Row {
     bytes: usize,
 }
 
-fn main(rt: HostRuntime) -> ExitCode {
-    if !has_argument(&rt) {
-        return ExitCode::SUCCESS;
-    }
-    let alloc = rt.alloc();
-    let Ok(text) = io::read_to_string(alloc, rt.reader()) else {
-        return ExitCode::FAILURE;
-    };
-    match measure(&rt, alloc, &text) {
-        Ok(()) => ExitCode::SUCCESS,
-        Err(fault) => {
-            let _ = eprintln!(rt; "writer_bench: {fault}");
-            ExitCode::FAILURE
-        }
-    }
-}
-
-/// Whether the program was started with an argument.
-fn has_argument(rt: &(impl Alloc + std::rt::Env)) -> bool {
-    match env::args(rt) {
-        Ok(args) => args.count() > 1,
-        Err(_) => false,
+/// Reads the text from standard input, and measures it.
+pub(crate) fn measure_input(rt: &HostRuntime, alloc: Global) -> Result<(), Fault> {
+    match io::read_to_string(alloc, rt.reader()) {
+        Ok(text) => measure(rt, alloc, &text),
+        Err(_) => Err(Fault::ReadFault),
     }
 }
 
@@ -145,20 +124,4 @@ fn index_all<'a, A: Analyzer>(
         indexer.add(doc)?;
     }
     Ok(())
-}
-
-/// The time.
-fn now(clock: &impl Clock) -> Result<Instant, Fault> {
-    match Instant::now(clock) {
-        Ok(now) => Ok(now),
-        Err(_) => Err(Fault::Device),
-    }
-}
-
-/// How many nanoseconds went by.
-fn nanos_since(clock: &impl Clock, begun: Instant) -> Result<u128, Fault> {
-    match begun.elapsed(clock) {
-        Ok(elapsed) => Ok(elapsed.as_nanos()),
-        Err(_) => Err(Fault::Device),
-    }
 }

@@ -2,7 +2,7 @@ use Rattle.std.proofs.Common.{ap, ◌++◌, ◌∙◌}
 use Rattle.codes.specs.PositionBlocks.{listed}
 use Rattle.definitions.specs.Schema.{has_freq, has_positions}
 use Rattle.layouts.specs.TermPostings.{postings_bytes}
-use Rattle.postings_bench.proofs.terms.written.Goals as goal
+use Rattle.bench.proofs.spread_terms.written.Goals as goal
 
 pub returns : goal.returns
 returns c =

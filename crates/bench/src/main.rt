@@ -1,0 +1,66 @@
+//! `bench`: how fast the crates work, measured at their public calls.
+//!
+//! With one word it prints a table: `blocks`, `cursors`, `texts` (which reads them from standard input) or `files`. Without
+//! a word it prints nothing.
+#![tactic(auto)]
+
+mod cursors;
+mod files;
+mod packed_blocks;
+mod spread_terms;
+mod texts;
+mod times;
+
+use definitions::Fault;
+use std::env;
+use std::process::ExitCode;
+
+/// What is measured.
+#[derive(Clone, Copy)]
+enum Bench {
+    Nothing,
+    Blocks,
+    Cursors,
+    Texts,
+    Files,
+}
+
+fn main(rt: HostRuntime) -> ExitCode {
+    match measure(&rt, chosen(&rt)) {
+        Ok(()) => ExitCode::SUCCESS,
+        Err(_) => ExitCode::FAILURE,
+    }
+}
+
+/// Prints the table that was asked for.
+fn measure(rt: &HostRuntime, bench: Bench) -> Result<(), Fault> {
+    match bench {
+        Bench::Nothing => Ok(()),
+        Bench::Blocks => packed_blocks::measure(rt),
+        Bench::Cursors => cursors::measure(rt, rt.alloc()),
+        Bench::Texts => texts::measure_input(rt, rt.alloc()),
+        Bench::Files => files::measure_all(rt),
+    }
+}
+
+/// What the program's first argument names.
+fn chosen(rt: &(impl Alloc + std::rt::Env)) -> Bench {
+    let Ok(mut args) = env::args(rt) else {
+        return Bench::Nothing;
+    };
+    let _program = args.next();
+    match args.next() {
+        Some(word) => bench_of(word.as_str()),
+        None => Bench::Nothing,
+    }
+}
+
+fn bench_of(word: &str) -> Bench {
+    match word {
+        "blocks" => Bench::Blocks,
+        "cursors" => Bench::Cursors,
+        "texts" => Bench::Texts,
+        "files" => Bench::Files,
+        _ => Bench::Nothing,
+    }
+}
