@@ -1,76 +1,67 @@
 //! What no clause says: that the calls of a device in memory go through.
 
-use common::{Device, MemoryDevice, cut_synced, write_synced};
+use common::{Device, Fault, MemoryDevice, cut_synced, write_synced};
+use std::alloc::Global;
 use std::test::Fail;
+
+/// Whether the device gives these bytes, and never failed.
+fn holds(alloc: Global, device: &mut MemoryDevice, bytes: &[u8]) -> Result<bool, Fault> {
+    Ok(device.read(alloc)?.as_slice() == bytes && device.failures() == 0)
+}
+
+/// Whether bytes are read after they were written at the end, inside, over the end, and not at all.
+fn writes_are_held(alloc: Global) -> Result<bool, Fault> {
+    let mut device = MemoryDevice::new(alloc);
+    let mut is_held = holds(alloc, &mut device, b"")?;
+    device.write_at(0, b"abcdef")?;
+    is_held = is_held && holds(alloc, &mut device, b"abcdef")?;
+    device.write_at(2, b"XY")?;
+    is_held = is_held && holds(alloc, &mut device, b"abXYef")?;
+    device.write_at(4, b"1234")?;
+    is_held = is_held && holds(alloc, &mut device, b"abXY1234")?;
+    device.write_at(3, b"")?;
+    device.sync()?;
+    Ok(is_held && holds(alloc, &mut device, b"abXY1234")?)
+}
 
 #[test]
 fn writes_are_read(rt: HostRuntime) -> Result<(), Fail> {
-    let alloc = rt.alloc();
-    let mut device = MemoryDevice::new(alloc);
-    assert_eq!(rt; device.read(alloc)?.as_slice(), b"".as_slice(), "new");
-    device.write_at(0, b"abcdef")?;
-    assert_eq!(rt;
-        device.read(alloc)?.as_slice(),
-        b"abcdef".as_slice(),
-        "at the end"
-    );
-    device.write_at(2, b"XY")?;
-    assert_eq!(rt;
-        device.read(alloc)?.as_slice(),
-        b"abXYef".as_slice(),
-        "inside"
-    );
-    device.write_at(4, b"1234")?;
-    assert_eq!(rt;
-        device.read(alloc)?.as_slice(),
-        b"abXY1234".as_slice(),
-        "over the end"
-    );
-    device.write_at(3, b"")?;
-    device.sync()?;
-    assert_eq!(rt;
-        device.read(alloc)?.as_slice(),
-        b"abXY1234".as_slice(),
-        "nothing"
-    );
-    assert_eq!(rt; device.failures(), 0);
+    assert!(rt; writes_are_held(rt.alloc())?);
     Ok(())
+}
+
+/// Whether what was cut is gone: nothing, a part, all; and what is written then is there.
+fn cuts_are_held(alloc: Global) -> Result<bool, Fault> {
+    let mut device = MemoryDevice::new(alloc);
+    device.write_at(0, b"abcdef")?;
+    device.cut(6)?;
+    let mut is_held = holds(alloc, &mut device, b"abcdef")?;
+    device.cut(2)?;
+    device.sync()?;
+    is_held = is_held && holds(alloc, &mut device, b"ab")?;
+    device.write_at(2, b"z")?;
+    is_held = is_held && holds(alloc, &mut device, b"abz")?;
+    device.cut(0)?;
+    Ok(is_held && holds(alloc, &mut device, b"")?)
 }
 
 #[test]
 fn cuts_are_read(rt: HostRuntime) -> Result<(), Fail> {
-    let alloc = rt.alloc();
-    let mut device = MemoryDevice::new(alloc);
-    device.write_at(0, b"abcdef")?;
-    device.cut(6)?;
-    assert_eq!(rt;
-        device.read(alloc)?.as_slice(),
-        b"abcdef".as_slice(),
-        "at the length"
-    );
-    device.cut(2)?;
-    device.sync()?;
-    assert_eq!(rt; device.read(alloc)?.as_slice(), b"ab".as_slice(), "inside");
-    device.write_at(2, b"z")?;
-    assert_eq!(rt;
-        device.read(alloc)?.as_slice(),
-        b"abz".as_slice(),
-        "written again"
-    );
-    device.cut(0)?;
-    assert_eq!(rt; device.read(alloc)?.as_slice(), b"".as_slice(), "to 0");
-    assert_eq!(rt; device.failures(), 0);
+    assert!(rt; cuts_are_held(rt.alloc())?);
     Ok(())
 }
 
-#[test]
-fn steps_are_read(rt: HostRuntime) -> Result<(), Fail> {
-    let alloc = rt.alloc();
+/// Whether bytes are read after calls that sync themselves.
+fn steps_are_held(alloc: Global) -> Result<bool, Fault> {
     let mut device = MemoryDevice::new(alloc);
     write_synced(&mut device, 0, b"abc")?;
     write_synced(&mut device, 1, b"XYZ")?;
     cut_synced(&mut device, 3)?;
-    assert_eq!(rt; device.read(alloc)?.as_slice(), b"aXY".as_slice());
-    assert_eq!(rt; device.failures(), 0);
+    holds(alloc, &mut device, b"aXY")
+}
+
+#[test]
+fn steps_are_read(rt: HostRuntime) -> Result<(), Fail> {
+    assert!(rt; steps_are_held(rt.alloc())?);
     Ok(())
 }

@@ -3,7 +3,7 @@ use options::{
     INDEXED, IndexRecordOption, NumericOptions, STORED, STRING, TEXT, TextFieldIndexing,
     TextOptions,
 };
-use std::alloc::AllocError;
+use std::alloc::{AllocError, Global};
 
 // Whether they say these three.
 fn says(options: NumericOptions, stored: bool, indexed: bool, fieldnorms: bool) -> bool {
@@ -12,13 +12,18 @@ fn says(options: NumericOptions, stored: bool, indexed: bool, fieldnorms: bool) 
         && options.fieldnorms() == fieldnorms
 }
 
+/// Whether flags and options are joined from both sides.
+fn numbers_join() -> bool {
+    let indexed = NumericOptions::default().set_indexed();
+    says(NumericOptions::from(STORED | INDEXED), true, true, true)
+        && says(indexed | STORED, true, true, false)
+        && says(STORED | indexed, true, true, false)
+        && says(INDEXED | NumericOptions::default(), false, true, true)
+}
+
 #[test]
 fn flags_of_numbers(rt: HostRuntime) {
-    let indexed = NumericOptions::default().set_indexed();
-    assert!(rt; says(NumericOptions::from(STORED | INDEXED), true, true, true));
-    assert!(rt; says(indexed | STORED, true, true, false));
-    assert!(rt; says(STORED | indexed, true, true, false));
-    assert!(rt; says(INDEXED | NumericOptions::default(), false, true, true));
+    assert!(rt; numbers_join());
 }
 
 // Whether they say so, and are indexed by this tokenizer and record option.
@@ -37,20 +42,33 @@ fn is_indexed(
         && indexing.fieldnorms()
 }
 
+/// Whether flags and options are joined from both sides.
+fn texts_join() -> bool {
+    let positions = IndexRecordOption::WithFreqsAndPositions;
+    TextOptions::from(STORED).is_stored()
+        && is_indexed(&(TEXT | STORED), true, "default", positions)
+        && is_indexed(&(STORED | TEXT), true, "default", positions)
+        && is_indexed(&(STRING | TEXT), false, "raw", IndexRecordOption::Basic)
+}
+
 #[test]
 fn flags_of_texts(rt: HostRuntime) {
-    let positions = IndexRecordOption::WithFreqsAndPositions;
-    assert!(rt; TextOptions::from(STORED).is_stored());
-    assert!(rt; is_indexed(&(TEXT | STORED), true, "default", positions));
-    assert!(rt; is_indexed(&(STORED | TEXT), true, "default", positions));
-    assert!(rt; is_indexed(&(STRING | TEXT), false, "raw", IndexRecordOption::Basic));
+    assert!(rt; texts_join());
+}
+
+/// Whether calls that may find no memory answer what was set.
+fn names_are_kept(alloc: Global) -> Result<bool, AllocError> {
+    let indexing = TextFieldIndexing::default().set_tokenizer(alloc, "words")?;
+    let options = TextOptions::default().set_indexing_options(indexing.clone()?);
+    let again = options.clone()?;
+    Ok(
+        indexing.tokenizer() == "words"
+            && is_indexed(&again, false, "words", IndexRecordOption::Basic),
+    )
 }
 
 #[test]
 fn calls_that_may_want_memory(rt: HostRuntime) -> Result<(), AllocError> {
-    let indexing = TextFieldIndexing::default().set_tokenizer(rt.alloc(), "words")?;
-    let options = TextOptions::default().set_indexing_options(indexing.clone()?);
-    assert!(rt; indexing.tokenizer() == "words");
-    assert!(rt; is_indexed(&options.clone()?, false, "words", IndexRecordOption::Basic));
+    assert!(rt; names_are_kept(rt.alloc())?);
     Ok(())
 }

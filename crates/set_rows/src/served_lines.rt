@@ -136,8 +136,16 @@ fn make_echo(alloc: Global) -> Echo {
     Echo { alloc, answered: 0 }
 }
 
+/// What a run over an input writes, if it goes through.
+fn written_for(alloc: Global, input: &[u8]) -> Result<Vec<u8>, RunFault> {
+    let mut reader = input;
+    let mut written = Vec::new(alloc);
+    run(alloc, &mut reader, &mut written, &mut make_echo(alloc))?;
+    Ok(written)
+}
+
 #[test]
-fn answers_each_line(rt: HostRuntime) {
+fn answers_each_line(rt: HostRuntime) -> Result<(), Fail> {
     let rows: [(&[u8], &[u8]); 8] = [
         (b"", b""),
         (b"\n", b"+\n"),
@@ -149,109 +157,89 @@ fn answers_each_line(rt: HostRuntime) {
         (b"a\nfail\nb\n", b"+a\n{\"error\":\"Device\"}\n-b\n"),
     ];
     for (input, output) in rows {
-        let mut reader = input;
-        let mut written = Vec::new(rt.alloc());
-        let ended = run(
-            rt.alloc(),
-            &mut reader,
-            &mut written,
-            &mut make_echo(rt.alloc()),
-        );
-        assert_eq!(rt; ended, Ok(()));
-        assert_eq!(rt; written.as_slice(), output);
+        assert!(rt; written_for(rt.alloc(), input)?.as_slice() == output);
     }
+    Ok(())
+}
+
+/// Whether a line of the greatest length is answered, and one that is a byte longer refused.
+fn lines_are_measured(alloc: Global) -> Result<bool, Fail> {
+    let mut input = vec![in alloc; b'x'; 16777216]?;
+    input.extend_from_slice(b"\na")?;
+    let greatest = written_for(alloc, &input)?;
+    input.insert(0, b'x')?;
+    let longer = written_for(alloc, &input)?;
+    Ok(
+        greatest.len() == 16777221
+            && greatest.ends_with(b"x\n-a\n")
+            && longer.as_slice() == b"{\"error\":\"LineTooLong\"}\n+a\n".as_slice(),
+    )
 }
 
 #[test]
 fn measures_lines(rt: HostRuntime) -> Result<(), Fail> {
-    let mut input = vec![in rt.alloc(); b'x'; 16777216]?;
-    input.extend_from_slice(b"\na")?;
-    let mut written = Vec::new(rt.alloc());
-    let mut reader = input.as_slice();
-    run(
-        rt.alloc(),
-        &mut reader,
-        &mut written,
-        &mut make_echo(rt.alloc()),
-    )?;
-    assert_eq!(rt; written.len(), 16777221);
-    assert!(rt; written.ends_with(b"x\n-a\n"));
-    input.insert(0, b'x')?;
-    written.clear();
-    let mut reader = input.as_slice();
-    run(
-        rt.alloc(),
-        &mut reader,
-        &mut written,
-        &mut make_echo(rt.alloc()),
-    )?;
-    assert_eq!(rt;
-        written.as_slice(),
-        b"{\"error\":\"LineTooLong\"}\n+a\n".as_slice()
-    );
+    assert!(rt; lines_are_measured(rt.alloc())?);
     Ok(())
+}
+
+/// Whether a run over a reader that fails after some reads ends so, and writes the first replies alone.
+fn ends_at_a_read(alloc: Global, reads_left: u8) -> Result<bool, Fail> {
+    let failing = FailingReader {
+        bytes: b"the first line\nthe second\n\nthe fourth, a longer one\nand the last\n",
+        reads_left,
+        is_interrupted: false,
+    };
+    let output = b"+the first line\n-the second\n+\n-the fourth, a longer one\n+and the last\n";
+    let mut reader = BufReader::with_capacity(alloc, 8, failing)?;
+    let mut written = Vec::new(alloc);
+    let ended = run(alloc, &mut reader, &mut written, &mut make_echo(alloc));
+    Ok(ended == Err(RunFault::ReadFault) && output.starts_with(written.as_slice()))
 }
 
 #[test]
 fn ends_where_a_read_fails(rt: HostRuntime) -> Result<(), Fail> {
-    let input = b"the first line\nthe second\n\nthe fourth, a longer one\nand the last\n";
-    let output = b"+the first line\n-the second\n+\n-the fourth, a longer one\n+and the last\n";
     for reads_left in 0..20 {
-        let failing = FailingReader {
-            bytes: input,
-            reads_left,
-            is_interrupted: false,
-        };
-        let mut reader = BufReader::with_capacity(rt.alloc(), 8, failing)?;
-        let mut written = Vec::new(rt.alloc());
-        let ended = run(
-            rt.alloc(),
-            &mut reader,
-            &mut written,
-            &mut make_echo(rt.alloc()),
-        );
-        assert_eq!(rt; ended, Err(RunFault::ReadFault));
-        assert!(rt; output.starts_with(written.as_slice()));
+        assert!(rt; ends_at_a_read(rt.alloc(), reads_left)?);
     }
     Ok(())
+}
+
+/// Whether a run over a writer that fails after some writes ends so.
+fn ends_at_a_write(alloc: Global, writes_left: u8) -> bool {
+    let mut reader = "a\nb\nc\nd\n".as_bytes();
+    let mut writer = FailingWriter { writes_left };
+    run(alloc, &mut reader, &mut writer, &mut make_echo(alloc)) == Err(RunFault::WriteFault)
 }
 
 #[test]
 fn ends_where_a_write_fails(rt: HostRuntime) {
     for writes_left in 0..8 {
-        let mut reader = "a\nb\nc\nd\n".as_bytes();
-        let mut writer = FailingWriter { writes_left };
-        let ended = run(
-            rt.alloc(),
-            &mut reader,
-            &mut writer,
-            &mut make_echo(rt.alloc()),
-        );
-        assert_eq!(rt; ended, Err(RunFault::WriteFault));
+        assert!(rt; ends_at_a_write(rt.alloc(), writes_left));
     }
 }
 
-fn serve_client(alloc: Global, flushing: &Flushing) -> Result<(), Fail> {
-    let client = Client {
-        pieces: &[b"a\n", b"b\nc\nd", b"e\n", b"f"],
-        sent: 0,
-        flushing,
-    };
-    let mut reader = BufReader::new(alloc, client)?;
-    let mut writer = Screen { flushing };
-    run(alloc, &mut reader, &mut writer, &mut make_echo(alloc))?;
-    Ok(())
-}
-
-#[test]
-fn flushes_before_it_waits(rt: HostRuntime) -> Result<(), Fail> {
+/// Whether what was written is flushed before each read that may wait, and at the end.
+fn is_flushed_in_time(alloc: Global) -> Result<bool, Fail> {
     let flushing = Flushing {
         is_due: Cell::new(false),
         is_late: Cell::new(false),
     };
-    serve_client(rt.alloc(), &flushing)?;
-    assert!(rt; !flushing.is_late.get());
-    assert!(rt; !flushing.is_due.get());
+    let client = Client {
+        pieces: &[b"a\n", b"b\nc\nd", b"e\n", b"f"],
+        sent: 0,
+        flushing: &flushing,
+    };
+    let mut reader = BufReader::new(alloc, client)?;
+    let mut writer = Screen {
+        flushing: &flushing,
+    };
+    run(alloc, &mut reader, &mut writer, &mut make_echo(alloc))?;
+    Ok(!flushing.is_late.get() && !flushing.is_due.get())
+}
+
+#[test]
+fn flushes_before_it_waits(rt: HostRuntime) -> Result<(), Fail> {
+    assert!(rt; is_flushed_in_time(rt.alloc())?);
     Ok(())
 }
 
