@@ -1,4 +1,4 @@
-//! Schemas of fields of all types: their JSON, and what is refused.
+//! Schemas of fields of all types, added by calls and by flags.
 
 use definitions::Fault;
 use schema::{
@@ -6,132 +6,8 @@ use schema::{
     JsonObjectOptions, NumericOptions, STORED, STRING, Schema, TEXT, TextFieldIndexing,
     TextOptions,
 };
-use serde_json::Value;
 use std::alloc::Global;
 use std::test::Fail;
-
-fn schema_in(alloc: Global, text: &str) -> Result<Result<Schema, Fault>, serde_json::Error> {
-    let value = Value::from_str(alloc, text)?;
-    Ok(Schema::from_json_value(alloc, &value))
-}
-
-/// A field as it is read, and as it is written then: every option of its type is named.
-const FIELDS: [(&str, &str); 18] = [
-    (
-        r#"{"name":"t","type":"text","options":{}}"#,
-        r#"{"name":"t","options":{"coerce":false,"fast":false,"indexing":null,"stored":false},"type":"text"}"#,
-    ),
-    (
-        r#"{"name":"t","type":"text","options":{"coerce":true,"fast":true,"stored":true,"indexing":{}}}"#,
-        r#"{"name":"t","options":{"coerce":true,"fast":true,"indexing":{"fieldnorms":true,"record":"basic","tokenizer":"default"},"stored":true},"type":"text"}"#,
-    ),
-    (
-        r#"{"name":"n","type":"u64","options":{}}"#,
-        r#"{"name":"n","options":{"coerce":false,"fast":false,"fieldnorms":false,"indexed":false,"stored":false},"type":"u64"}"#,
-    ),
-    (
-        r#"{"name":"n","type":"u64","options":{"indexed":true,"coerce":true}}"#,
-        r#"{"name":"n","options":{"coerce":true,"fast":false,"fieldnorms":true,"indexed":true,"stored":false},"type":"u64"}"#,
-    ),
-    (
-        r#"{"name":"i","type":"i64","options":{}}"#,
-        r#"{"name":"i","options":{"coerce":false,"fast":false,"fieldnorms":false,"indexed":false,"stored":false},"type":"i64"}"#,
-    ),
-    (
-        r#"{"name":"i","type":"i64","options":{"fieldnorms":true,"stored":true}}"#,
-        r#"{"name":"i","options":{"coerce":false,"fast":false,"fieldnorms":true,"indexed":false,"stored":true},"type":"i64"}"#,
-    ),
-    (
-        r#"{"name":"o","type":"bool","options":{}}"#,
-        r#"{"name":"o","options":{"coerce":false,"fast":false,"fieldnorms":false,"indexed":false,"stored":false},"type":"bool"}"#,
-    ),
-    (
-        r#"{"name":"o","type":"bool","options":{"coerce":true,"fast":true,"indexed":true,"fieldnorms":false}}"#,
-        r#"{"name":"o","options":{"coerce":true,"fast":true,"fieldnorms":false,"indexed":true,"stored":false},"type":"bool"}"#,
-    ),
-    (
-        r#"{"name":"d","type":"date","options":{"coerce":7}}"#,
-        r#"{"name":"d","options":{"fast":false,"fieldnorms":false,"indexed":false,"stored":false},"type":"date"}"#,
-    ),
-    (
-        r#"{"name":"d","type":"date","options":{"indexed":true,"fast":true}}"#,
-        r#"{"name":"d","options":{"fast":true,"fieldnorms":true,"indexed":true,"stored":false},"type":"date"}"#,
-    ),
-    (
-        r#"{"name":"f","type":"facet","options":{"fast":7,"indexed":false}}"#,
-        r#"{"name":"f","options":{"stored":false},"type":"facet"}"#,
-    ),
-    (
-        r#"{"name":"f","type":"facet","options":{"stored":true}}"#,
-        r#"{"name":"f","options":{"stored":true},"type":"facet"}"#,
-    ),
-    (
-        r#"{"name":"b","type":"bytes","options":{"expand_dots":7}}"#,
-        r#"{"name":"b","options":{"fast":false,"fieldnorms":false,"indexed":false,"stored":false},"type":"bytes"}"#,
-    ),
-    (
-        r#"{"name":"b","type":"bytes","options":{"stored":true,"indexed":true}}"#,
-        r#"{"name":"b","options":{"fast":false,"fieldnorms":true,"indexed":true,"stored":true},"type":"bytes"}"#,
-    ),
-    (
-        r#"{"name":"j","type":"json_object","options":{"indexed":7}}"#,
-        r#"{"name":"j","options":{"expand_dots":false,"fast":false,"indexing":null,"stored":false},"type":"json_object"}"#,
-    ),
-    (
-        r#"{"name":"j","type":"json_object","options":{"expand_dots":true,"fast":true,"indexing":{"record":"freq","tokenizer":"raw"}}}"#,
-        r#"{"name":"j","options":{"expand_dots":true,"fast":true,"indexing":{"fieldnorms":true,"record":"freq","tokenizer":"raw"},"stored":false},"type":"json_object"}"#,
-    ),
-    (
-        r#"{"name":"p","type":"ip_addr","options":{}}"#,
-        r#"{"name":"p","options":{"fast":false,"fieldnorms":false,"indexed":false,"stored":false},"type":"ip_addr"}"#,
-    ),
-    (
-        r#"{"name":"p","type":"ip_addr","options":{"fast":true,"fieldnorms":true}}"#,
-        r#"{"name":"p","options":{"fast":true,"fieldnorms":true,"indexed":false,"stored":false},"type":"ip_addr"}"#,
-    ),
-];
-
-#[test]
-fn fields_of_all_types_are_read_and_written(rt: HostRuntime) -> Result<(), Fail> {
-    let alloc = rt.alloc();
-    for (read, written) in FIELDS {
-        let schema = schema_in(alloc, &format!(in alloc; "[{read}]")?)??;
-        let value = schema.to_json_value(alloc)?;
-        let expected = format!(in alloc; "[{written}]")?;
-        assert_eq!(rt; value.to_string(alloc)?.as_str(), expected.as_str());
-        let again = Schema::from_json_value(alloc, &value)?.to_json_value(alloc)?;
-        assert_eq!(rt; again.to_string(alloc)?.as_str(), expected.as_str());
-    }
-    Ok(())
-}
-
-/// Fields that no schema has.
-const REFUSED: [&str; 14] = [
-    r#"{"name":"x","type":"f64","options":{}}"#,
-    r#"{"name":"x","type":"json","options":{}}"#,
-    r#"{"name":"x","type":"ip","options":{}}"#,
-    r#"{"name":"t","type":"text","options":{"fast":7}}"#,
-    r#"{"name":"t","type":"text","options":{"coerce":"true"}}"#,
-    r#"{"name":"n","type":"u64","options":{"fast":null}}"#,
-    r#"{"name":"i","type":"i64","options":{"coerce":1}}"#,
-    r#"{"name":"o","type":"bool","options":{"indexed":"yes"}}"#,
-    r#"{"name":"d","type":"date","options":{"fieldnorms":[]}}"#,
-    r#"{"name":"f","type":"facet","options":{"stored":0}}"#,
-    r#"{"name":"b","type":"bytes","options":{"fast":{}}}"#,
-    r#"{"name":"j","type":"json_object","options":{"expand_dots":1}}"#,
-    r#"{"name":"j","type":"json_object","options":{"indexing":true}}"#,
-    r#"{"name":"p","type":"ip_addr","options":{"stored":null}}"#,
-];
-
-#[test]
-fn fields_that_are_refused(rt: HostRuntime) -> Result<(), Fail> {
-    let alloc = rt.alloc();
-    for field in REFUSED {
-        let refused = schema_in(alloc, &format!(in alloc; "[{field}]")?)?.err();
-        assert_eq!(rt; refused, Some(Fault::BadSchema), "{field}");
-    }
-    Ok(())
-}
 
 // A field of each type, by the builder's calls and by flags.
 fn built(alloc: Global) -> Result<Schema, Fault> {

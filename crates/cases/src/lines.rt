@@ -1,0 +1,51 @@
+//! Lines of cases and the lines of their answers.
+
+use crate::arguments::Arguments;
+use crate::refusal::Refusal;
+use crate::{facets, numbers, schemas, terms, tokens};
+use schema::Schema;
+use serde_json::Value;
+use std::alloc::{AllocError, Global};
+
+/// The answers to all lines of a text, each on a line of its own.
+pub fn answers(alloc: Global, text: &str) -> Result<String, AllocError> {
+    let mut answers = String::new(alloc);
+    let mut schema = Schema::builder(alloc).build();
+    for line in text.lines() {
+        answers.push_str(&answer(alloc, &mut schema, line)?)?;
+        answers.push('\n')?;
+    }
+    Ok(answers)
+}
+
+/// The answer to a line: an empty line and one that begins with `#` are answered by themselves.
+fn answer(alloc: Global, schema: &mut Schema, line: &str) -> Result<String, AllocError> {
+    if line.is_empty() || line.starts_with('#') {
+        return String::from_str(alloc, line);
+    }
+    let (operation, rest) = line.split_once(' ').unwrap_or((line, ""));
+    match value(alloc, schema, operation, rest) {
+        Ok(value) => value.to_string(alloc),
+        Err(Refusal::Fault(fault)) => String::from_str(alloc, fault.name()),
+        Err(Refusal::NotAsked) => format!(in alloc; "? {operation}"),
+    }
+}
+
+/// What an operation answers. What stands before the first `-` of its name says what it is about.
+fn value(
+    alloc: Global,
+    schema: &mut Schema,
+    operation: &str,
+    rest: &str,
+) -> Result<Value, Refusal> {
+    let arguments = Arguments::read(alloc, rest)?;
+    let (about, call) = operation.split_once('-').ok_or(Refusal::NotAsked)?;
+    match about {
+        "facet" => facets::answer(alloc, call, &arguments),
+        "schema" => schemas::answer(alloc, schema, call, &arguments),
+        "term" => terms::answer(alloc, call, &arguments),
+        "number" => numbers::answer(alloc, call, &arguments),
+        "token" => tokens::answer(alloc, call, &arguments),
+        _ => Err(Refusal::NotAsked),
+    }
+}

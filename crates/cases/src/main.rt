@@ -1,0 +1,33 @@
+//! `cases`: answers worked cases. Each line of standard input is a case, an operation and its arguments, and
+//! the line of standard output with the same number is its answer.
+#![tactic(auto)]
+
+mod arguments;
+mod facets;
+mod lines;
+mod numbers;
+mod refusal;
+mod replies;
+mod schema_fields;
+mod schemas;
+mod terms;
+mod terms_as_bytes;
+mod terms_at_paths;
+mod tokens;
+
+use std::io;
+use std::process::ExitCode;
+
+fn main(rt: HostRuntime) -> ExitCode {
+    let alloc = rt.alloc();
+    let Ok(text) = io::read_to_string(alloc, rt.reader()) else {
+        return ExitCode::FAILURE;
+    };
+    let Ok(answers) = lines::answers(alloc, &text) else {
+        return ExitCode::FAILURE;
+    };
+    match print!(rt; "{answers}") {
+        Ok(()) => ExitCode::SUCCESS,
+        Err(_) => ExitCode::FAILURE,
+    }
+}
