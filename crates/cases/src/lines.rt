@@ -2,7 +2,7 @@
 
 use crate::arguments::Arguments;
 use crate::refusal::Refusal;
-use crate::{facets, numbers, schemas, terms, tokens};
+use crate::{operations, sweeps};
 use schema::Schema;
 use serde_json::Value;
 use std::alloc::{AllocError, Global};
@@ -31,21 +31,18 @@ fn answer(alloc: Global, schema: &mut Schema, line: &str) -> Result<String, Allo
     }
 }
 
-/// What an operation answers. What stands before the first `-` of its name says what it is about.
+/// What an operation answers. One that begins with `each-` tries another operation, whose name stands behind it.
 fn value(
     alloc: Global,
     schema: &mut Schema,
     operation: &str,
     rest: &str,
 ) -> Result<Value, Refusal> {
+    let Some(sweep) = operation.strip_prefix("each-") else {
+        let arguments = Arguments::read(alloc, rest)?;
+        return operations::answer(alloc, schema, operation, &arguments);
+    };
+    let (tried, rest) = rest.split_once(' ').ok_or(Refusal::NotAsked)?;
     let arguments = Arguments::read(alloc, rest)?;
-    let (about, call) = operation.split_once('-').ok_or(Refusal::NotAsked)?;
-    match about {
-        "facet" => facets::answer(alloc, call, &arguments),
-        "schema" => schemas::answer(alloc, schema, call, &arguments),
-        "term" => terms::answer(alloc, call, &arguments),
-        "number" => numbers::answer(alloc, call, &arguments),
-        "token" => tokens::answer(alloc, call, &arguments),
-        _ => Err(Refusal::NotAsked),
-    }
+    sweeps::answer(alloc, schema, sweep, tried, arguments)
 }

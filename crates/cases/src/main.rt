@@ -3,13 +3,22 @@
 #![tactic(auto)]
 
 mod arguments;
+mod blocks;
 mod facets;
+mod lengths;
 mod lines;
+mod lists;
 mod numbers;
+mod operations;
+mod outcomes;
+mod positions;
+mod record_bodies;
 mod refusal;
 mod replies;
 mod schema_fields;
 mod schemas;
+mod skips;
+mod sweeps;
 mod terms;
 mod terms_as_bytes;
 mod terms_at_paths;

@@ -46,3 +46,12 @@ pub fn flag(condition: bool) -> Value {
 pub fn number(number: u64) -> Value {
     Value::from(number)
 }
+
+/// Numbers.
+pub fn numbers(alloc: Global, numbers: &[u32]) -> Result<Value, AllocError> {
+    let mut list = Vec::with_capacity(alloc, numbers.len())?;
+    for item in numbers {
+        list.push(number(u64::from(*item)))?;
+    }
+    Ok(Value::Array(list))
+}

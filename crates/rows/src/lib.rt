@@ -2,16 +2,8 @@
 #![tactic(auto)]
 
 #[cfg(test)]
-mod blocks;
-#[cfg(test)]
-mod codes_lengths;
-#[cfg(test)]
-mod positions;
-#[cfg(test)]
-mod record_bodies;
+mod lengths_written;
 #[cfg(test)]
 mod record_files;
 #[cfg(test)]
 mod schema_kinds;
-#[cfg(test)]
-mod skip_entries;
