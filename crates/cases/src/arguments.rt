@@ -132,7 +132,7 @@ impl Arguments {
 }
 
 /// The bytes of hexadecimal digits.
-fn bytes_of_digits(alloc: Global, value: &Value) -> Result<Vec<u8>, Refusal> {
+pub fn bytes_of_digits(alloc: Global, value: &Value) -> Result<Vec<u8>, Refusal> {
     let digits = value.as_str().ok_or(Refusal::NotAsked)?;
     hex::decode(alloc, digits).ok().ok_or(Refusal::NotAsked)
 }

@@ -2,8 +2,11 @@
 //! the line of standard output with the same number is its answer.
 #![tactic(auto)]
 
+mod added_values;
 mod arguments;
 mod blocks;
+mod document_values;
+mod documents;
 mod facets;
 mod lengths;
 mod lines;
@@ -23,6 +26,7 @@ mod terms;
 mod terms_as_bytes;
 mod terms_at_paths;
 mod tokens;
+mod values;
 
 use std::io;
 use std::process::ExitCode;

@@ -3,8 +3,8 @@
 use crate::arguments::Arguments;
 use crate::refusal::Refusal;
 use crate::{
-    blocks, facets, lengths, lists, numbers, positions, record_bodies, schemas, skips, terms,
-    tokens,
+    blocks, documents, facets, lengths, lists, numbers, positions, record_bodies, schemas, skips,
+    terms, tokens, values,
 };
 use schema::Schema;
 use serde_json::Value;
@@ -23,6 +23,8 @@ pub fn answer(
         "schema" => schemas::answer(alloc, schema, call, arguments),
         "term" => terms::answer(alloc, call, arguments),
         "token" => tokens::answer(alloc, call, arguments),
+        "value" => values::answer(alloc, call, arguments),
+        "document" => documents::answer(alloc, schema, call, arguments),
         _ => answer_on_bytes(alloc, schema, about, call, arguments),
     }
 }
