@@ -80,7 +80,7 @@ pub fn document(
 }
 
 /// Each value of a document with its field's number.
-fn values(alloc: Global, doc: &CompactDoc) -> Result<Value, AllocError> {
+pub fn values(alloc: Global, doc: &CompactDoc) -> Result<Value, AllocError> {
     let mut list = Vec::new(alloc);
     for (field, value) in doc.field_values() {
         let id = number(u64::from(field.field_id()));

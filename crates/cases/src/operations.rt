@@ -4,7 +4,7 @@ use crate::arguments::Arguments;
 use crate::refusal::Refusal;
 use crate::{
     blocks, documents, facets, lengths, lists, numbers, positions, record_bodies, schemas, skips,
-    terms, tokens, values,
+    stores, terms, tokens, values,
 };
 use schema::Schema;
 use serde_json::Value;
@@ -25,6 +25,7 @@ pub fn answer(
         "token" => tokens::answer(alloc, call, arguments),
         "value" => values::answer(alloc, call, arguments),
         "document" => documents::answer(alloc, schema, call, arguments),
+        "store" => stores::answer(alloc, schema, call, arguments),
         _ => answer_on_bytes(alloc, schema, about, call, arguments),
     }
 }

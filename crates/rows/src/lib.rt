@@ -2,6 +2,8 @@
 #![tactic(auto)]
 
 #[cfg(test)]
+mod cache_stats;
+#[cfg(test)]
 mod lengths_written;
 #[cfg(test)]
 mod record_files;
