@@ -1,11 +1,14 @@
-//! Tests of the index, its lines and its files, with expected values from outside the program.
+//! Tests of the index of what no line of text says: queries and hits as values, indexes of very many fields, and files cut
+//! at each length or changed at each byte. All other expected values are the lines of `index_cases`.
 #![tactic(auto)]
 
 #[cfg(test)]
-mod all_types;
+mod files;
 #[cfg(test)]
-mod engine;
+mod hits;
 #[cfg(test)]
-mod lines;
+mod indexes;
 #[cfg(test)]
-mod settings_json;
+mod making;
+#[cfg(test)]
+mod queries;

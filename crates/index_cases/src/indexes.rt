@@ -1,0 +1,132 @@
+//! Operations that make an index over a device, change it and end it: `create`, `open`, `add`, `add-value`, `commit`,
+//! `state` and `close`.
+
+use crate::answers::{json_in, ok};
+use crate::cases::{Cases, MemoryIndex};
+use common::{Device, MemoryDevice, RawAndDefault};
+use definitions::Fault;
+use index::{Index, Refused, Settings, Status};
+use schema::Schema;
+use serde_json::Value as Json;
+use std::alloc::Global;
+
+impl Cases {
+    /// The answer, if this is such an operation.
+    pub(crate) fn answer_of_index(
+        &mut self,
+        operation: &str,
+        arguments: &str,
+    ) -> Result<Option<String>, Fault> {
+        match operation {
+            "create" => self.create(arguments)?,
+            "open" => self.open()?,
+            "add" => self.standing_mut()?.add_json(arguments)?,
+            "add-value" => self.add_value(arguments)?,
+            "commit" => self.standing_mut()?.commit()?,
+            "state" => return Ok(Some(self.state()?)),
+            "close" => self.close()?,
+            _ => return Ok(None),
+        }
+        Ok(Some(ok(self.alloc)?))
+    }
+
+    /// The index that stands.
+    pub(crate) fn standing(&self) -> Result<&MemoryIndex, Fault> {
+        match &self.index {
+            Some(index) => Ok(index),
+            None => Err(Fault::NotOpen),
+        }
+    }
+
+    /// The index that stands, to be changed.
+    fn standing_mut(&mut self) -> Result<&mut MemoryIndex, Fault> {
+        match &mut self.index {
+            Some(index) => Ok(index),
+            None => Err(Fault::NotOpen),
+        }
+    }
+
+    /// Makes an index of the schema and the settings in an object.
+    fn create(&mut self, text: &str) -> Result<(), Fault> {
+        self.index = None;
+        let (schema, settings) = making_in(self.alloc, text)?;
+        let device = self.device()?;
+        self.index = Some(made(Index::create(
+            self.alloc,
+            device,
+            RawAndDefault,
+            schema,
+            settings,
+        ))?);
+        Ok(())
+    }
+
+    /// Opens the index of the file.
+    fn open(&mut self) -> Result<(), Fault> {
+        self.index = None;
+        let device = self.device()?;
+        self.index = Some(made(Index::open(self.alloc, device, RawAndDefault))?);
+        Ok(())
+    }
+
+    /// Adds a document as a value that was read.
+    fn add_value(&mut self, text: &str) -> Result<(), Fault> {
+        let value = json_in(self.alloc, text)?;
+        self.standing_mut()?.add_value(&value)
+    }
+
+    /// What the index may still do.
+    fn state(&self) -> Result<String, Fault> {
+        let state = match self.standing()?.state() {
+            Status::Ready => "Ready",
+            Status::WriterClosed => "WriterClosed",
+            Status::Closed => "Closed",
+        };
+        Ok(String::from_str(self.alloc, state)?)
+    }
+
+    /// Ends the index; what its device holds is the file from now on.
+    fn close(&mut self) -> Result<(), Fault> {
+        let Some(index) = self.index.take() else {
+            return Err(Fault::NotOpen);
+        };
+        let (mut device, _analyzer) = index.into_device();
+        self.file = device.read(self.alloc)?;
+        Ok(())
+    }
+}
+
+/// The schema and the settings in an object; the defaults where it has no settings.
+fn making_in(alloc: Global, text: &str) -> Result<(Schema, Settings), Fault> {
+    let json = json_in(alloc, text)?;
+    let Some(schema) = json.get("schema") else {
+        return Err(Fault::BadRequest);
+    };
+    let schema = Schema::from_json_value(alloc, schema)?;
+    let settings = settings_in(alloc, &schema, &json)?;
+    Ok((schema, settings))
+}
+
+/// The settings in an object, or the defaults.
+fn settings_in(alloc: Global, schema: &Schema, json: &Json) -> Result<Settings, Fault> {
+    match json.get("settings") {
+        Some(settings) => Settings::from_json_value(alloc, schema, settings),
+        None => Ok(Settings::default(alloc)?),
+    }
+}
+
+/// The index, or why there is none.
+fn made(
+    outcome: Result<MemoryIndex, Refused<MemoryDevice, RawAndDefault>>,
+) -> Result<MemoryIndex, Fault> {
+    match outcome {
+        Ok(index) => Ok(index),
+        Err(
+            Refused {
+                fault,
+                device: _device,
+                analyzer: _analyzer,
+            },
+        ) => Err(fault),
+    }
+}

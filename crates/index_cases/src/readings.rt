@@ -1,0 +1,22 @@
+//! Settings and terms that were read, as texts.
+
+use index::Settings;
+use schema::{Schema, Term};
+use std::alloc::{AllocError, Global};
+
+/// Settings as they are written.
+pub(crate) fn settings_text(
+    alloc: Global,
+    schema: &Schema,
+    settings: &Settings,
+) -> Result<String, AllocError> {
+    settings.to_json_value(alloc, schema)?.to_string(alloc)
+}
+
+/// A term: the number of its field, its type, and the bytes of its value.
+pub(crate) fn term_text(alloc: Global, term: &Term) -> Result<String, AllocError> {
+    let field = term.field().field_id();
+    let kind = term.typ().name();
+    let value = hex::encode(alloc, term.serialized_value_bytes())?;
+    format!(in alloc; "field {field} {kind} {value}")
+}

@@ -1,0 +1,106 @@
+//! Files that are cut or changed: what is opened of them, and what is damage.
+
+use crate::indexes::{DOCS, MemoryIndex, builder, made, new_index};
+use common::{Device, MemoryDevice, RawAndDefault};
+use definitions::Fault;
+use index::Index;
+use std::alloc::Global;
+use std::test::Fail;
+
+// The file of an index, when it was made and after each of two commits.
+#[derive(Drop)]
+struct Files {
+    made: Vec<u8>,
+    once: Vec<u8>,
+    twice: Vec<u8>,
+}
+
+// The index of a file of these bytes.
+fn opened(alloc: Global, bytes: &[u8]) -> Result<MemoryIndex, Fault> {
+    let mut device = MemoryDevice::new(alloc);
+    device.write_at(0, bytes)?;
+    device.sync()?;
+    made(Index::open(alloc, device, RawAndDefault))
+}
+
+// The bytes of an index's file.
+fn file_of(alloc: Global, index: MemoryIndex) -> Result<Vec<u8>, Fault> {
+    let (mut device, _analyzer) = index.into_device();
+    device.read(alloc)
+}
+
+// The file that one more document is committed to.
+fn file_with(alloc: Global, file: &[u8], doc: &str) -> Result<Vec<u8>, Fault> {
+    let mut index = opened(alloc, file)?;
+    index.add_json(doc)?;
+    index.commit()?;
+    file_of(alloc, index)
+}
+
+// The files of an index with two commits.
+fn written(alloc: Global) -> Result<Files, Fault> {
+    let made = file_of(alloc, new_index(alloc, builder(alloc)?.build())?)?;
+    let once = file_with(alloc, &made, DOCS[0])?;
+    let twice = file_with(alloc, &once, DOCS[1])?;
+    Ok(Files { made, once, twice })
+}
+
+// What the last file is at a length. The last byte of each file is the gate of the next record.
+fn cut_fault(len: usize, files: &Files) -> Fault {
+    if len < 10 {
+        Fault::NoIndex
+    } else if len < files.made.len() {
+        Fault::Damaged(Some(0))
+    } else if len < files.once.len() {
+        Fault::Damaged(Some(files.made.len().saturating_sub(1) as u64))
+    } else {
+        Fault::Damaged(Some(files.once.len().saturating_sub(1) as u64))
+    }
+}
+
+// Whether each shorter file is refused as it is to be, and the whole one is opened.
+fn are_cuts_refused(alloc: Global) -> Result<bool, Fault> {
+    let files = written(alloc)?;
+    for len in 0..files.twice.len() {
+        let refused = opened(alloc, &files.twice[..len]).err();
+        if refused != Some(cut_fault(len, &files)) {
+            return Ok(false);
+        }
+    }
+    Ok(opened(alloc, &files.twice).is_ok())
+}
+
+// Whether a file is opened, or refused as one may be.
+fn is_answered(fault: Option<Fault>) -> bool {
+    match fault {
+        None | Some(Fault::NoIndex | Fault::Damaged(_) | Fault::UnknownTokenizer) => true,
+        Some(_) => false,
+    }
+}
+
+// Whether the last file is answered with this byte at each place.
+fn are_changes_answered(alloc: Global, changed: u8) -> Result<bool, Fault> {
+    let files = written(alloc)?;
+    for i in 0..files.twice.len() {
+        let mut bytes = files.twice.to_vec(alloc)?;
+        bytes[i] = changed;
+        if !is_answered(opened(alloc, &bytes).err()) {
+            return Ok(false);
+        }
+    }
+    Ok(true)
+}
+
+#[test]
+fn files_that_are_cut(rt: HostRuntime) -> Result<(), Fail> {
+    assert!(rt; are_cuts_refused(rt.alloc())?);
+    Ok(())
+}
+
+#[test]
+fn files_with_a_byte_changed(rt: HostRuntime) -> Result<(), Fail> {
+    let zeros = are_changes_answered(rt.alloc(), 0x00)?;
+    let ones = are_changes_answered(rt.alloc(), 0xff)?;
+    assert!(rt; zeros && ones);
+    Ok(())
+}
