@@ -4,24 +4,26 @@ use common::{Device, Fault, MemoryDevice, cut_synced, write_synced};
 use std::alloc::Global;
 use std::test::Fail;
 
-/// Whether the device gives these bytes, and never failed.
-fn holds(alloc: Global, device: &mut MemoryDevice, bytes: &[u8]) -> Result<bool, Fault> {
-    Ok(device.read(alloc)?.as_slice() == bytes && device.failures() == 0)
-}
-
 /// Whether bytes are read after they were written at the end, inside, over the end, and not at all.
 fn writes_are_held(alloc: Global) -> Result<bool, Fault> {
     let mut device = MemoryDevice::new(alloc);
-    let mut is_held = holds(alloc, &mut device, b"")?;
+    let new = device.read(alloc)?;
     device.write_at(0, b"abcdef")?;
-    is_held = is_held && holds(alloc, &mut device, b"abcdef")?;
+    let at_the_end = device.read(alloc)?;
     device.write_at(2, b"XY")?;
-    is_held = is_held && holds(alloc, &mut device, b"abXYef")?;
+    let inside = device.read(alloc)?;
     device.write_at(4, b"1234")?;
-    is_held = is_held && holds(alloc, &mut device, b"abXY1234")?;
+    let over_the_end = device.read(alloc)?;
     device.write_at(3, b"")?;
     device.sync()?;
-    Ok(is_held && holds(alloc, &mut device, b"abXY1234")?)
+    Ok(
+        new.is_empty()
+            && at_the_end.as_slice() == b"abcdef".as_slice()
+            && inside.as_slice() == b"abXYef".as_slice()
+            && over_the_end.as_slice() == b"abXY1234".as_slice()
+            && device.read(alloc)?.as_slice() == over_the_end.as_slice()
+            && device.failures() == 0,
+    )
 }
 
 #[test]
@@ -35,14 +37,20 @@ fn cuts_are_held(alloc: Global) -> Result<bool, Fault> {
     let mut device = MemoryDevice::new(alloc);
     device.write_at(0, b"abcdef")?;
     device.cut(6)?;
-    let mut is_held = holds(alloc, &mut device, b"abcdef")?;
+    let at_the_length = device.read(alloc)?;
     device.cut(2)?;
     device.sync()?;
-    is_held = is_held && holds(alloc, &mut device, b"ab")?;
+    let inside = device.read(alloc)?;
     device.write_at(2, b"z")?;
-    is_held = is_held && holds(alloc, &mut device, b"abz")?;
+    let written_again = device.read(alloc)?;
     device.cut(0)?;
-    Ok(is_held && holds(alloc, &mut device, b"")?)
+    Ok(
+        at_the_length.as_slice() == b"abcdef".as_slice()
+            && inside.as_slice() == b"ab".as_slice()
+            && written_again.as_slice() == b"abz".as_slice()
+            && device.read(alloc)?.is_empty()
+            && device.failures() == 0,
+    )
 }
 
 #[test]
@@ -57,7 +65,7 @@ fn steps_are_held(alloc: Global) -> Result<bool, Fault> {
     write_synced(&mut device, 0, b"abc")?;
     write_synced(&mut device, 1, b"XYZ")?;
     cut_synced(&mut device, 3)?;
-    holds(alloc, &mut device, b"aXY")
+    Ok(device.read(alloc)?.as_slice() == b"aXY".as_slice() && device.failures() == 0)
 }
 
 #[test]

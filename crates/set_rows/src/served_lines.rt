@@ -218,22 +218,25 @@ fn ends_where_a_write_fails(rt: HostRuntime) {
     }
 }
 
+fn serve_client(alloc: Global, flushing: &Flushing) -> Result<(), Fail> {
+    let client = Client {
+        pieces: &[b"a\n", b"b\nc\nd", b"e\n", b"f"],
+        sent: 0,
+        flushing,
+    };
+    let mut reader = BufReader::new(alloc, client)?;
+    let mut writer = Screen { flushing };
+    run(alloc, &mut reader, &mut writer, &mut make_echo(alloc))?;
+    Ok(())
+}
+
 /// Whether what was written is flushed before each read that may wait, and at the end.
 fn is_flushed_in_time(alloc: Global) -> Result<bool, Fail> {
     let flushing = Flushing {
         is_due: Cell::new(false),
         is_late: Cell::new(false),
     };
-    let client = Client {
-        pieces: &[b"a\n", b"b\nc\nd", b"e\n", b"f"],
-        sent: 0,
-        flushing: &flushing,
-    };
-    let mut reader = BufReader::new(alloc, client)?;
-    let mut writer = Screen {
-        flushing: &flushing,
-    };
-    run(alloc, &mut reader, &mut writer, &mut make_echo(alloc))?;
+    serve_client(alloc, &flushing)?;
     Ok(!flushing.is_late.get() && !flushing.is_due.get())
 }
 
