@@ -18,6 +18,7 @@ mod operations;
 mod outcomes;
 mod positions;
 mod record_bodies;
+mod record_files;
 mod refusal;
 mod replies;
 mod schema_fields;

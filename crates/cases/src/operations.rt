@@ -3,8 +3,8 @@
 use crate::arguments::Arguments;
 use crate::refusal::Refusal;
 use crate::{
-    blocks, documents, facets, lengths, lists, numbers, positions, record_bodies, schemas, skips,
-    stores, terms, tokens, values,
+    blocks, documents, facets, lengths, lists, numbers, positions, record_bodies, record_files,
+    schemas, skips, stores, terms, tokens, values,
 };
 use schema::Schema;
 use serde_json::Value;
@@ -45,6 +45,7 @@ fn answer_on_bytes(
         "block" => blocks::answer(alloc, call, arguments),
         "position" => positions::answer(alloc, call, arguments),
         "skip" => skips::answer(alloc, call, arguments),
+        "record" => record_files::answer(alloc, call, arguments),
         "body" => record_bodies::answer(alloc, schema, call, arguments),
         _ => Err(Refusal::NotAsked),
     }

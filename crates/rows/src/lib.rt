@@ -6,6 +6,4 @@ mod cache_stats;
 #[cfg(test)]
 mod lengths_written;
 #[cfg(test)]
-mod record_files;
-#[cfg(test)]
 mod schema_kinds;
