@@ -1,6 +1,6 @@
 //! Lists of numbers in bytes of seven bits.
 
-ghost use Rattle.std.specs.Prelude.{IsTrue};
+ghost use Rattle.std.specs.Prelude.{◌^◌, ◌≡◌, ◌≤◌, IsTrue};
 ghost use Rattle.layouts.specs.Deltas.{IsAscendingFrom, next_of};
 
 use crate::arguments::Arguments;

@@ -23,7 +23,7 @@ mod refusal;
 mod replies;
 mod schema_fields;
 mod schemas;
-mod skips;
+mod skip_entries;
 mod stores;
 mod sweeps;
 mod terms;

@@ -153,7 +153,7 @@ fn iterated(alloc: Global, arguments: &Arguments) -> Result<Value, Refusal> {
 }
 
 /// Where all of the first documents but each seventh from 3 on are dead, in a store of 100: the document behind the
-/// last of those that come, and whether all have their bytes. Documents that the set doesn't know are alive.
+/// last of those that come, and whether all have their bytes. Documents past those are dead.
 fn alive_each_seventh(alloc: Global, max_doc: u32) -> Result<Value, Refusal> {
     let mut alive = AliveBitSet::for_max_doc(alloc, max_doc)?;
     for doc in 0..max_doc {

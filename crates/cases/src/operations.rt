@@ -4,7 +4,7 @@ use crate::arguments::Arguments;
 use crate::refusal::Refusal;
 use crate::{
     blocks, documents, facets, lengths, lists, numbers, positions, record_bodies, record_files,
-    schemas, skips, stores, terms, tokens, values,
+    schemas, skip_entries, stores, terms, tokens, values,
 };
 use schema::Schema;
 use serde_json::Value;
@@ -44,7 +44,7 @@ fn answer_on_bytes(
         "list" => lists::answer(alloc, call, arguments),
         "block" => blocks::answer(alloc, call, arguments),
         "position" => positions::answer(alloc, call, arguments),
-        "skip" => skips::answer(alloc, call, arguments),
+        "skip" => skip_entries::answer(alloc, call, arguments),
         "record" => record_files::answer(alloc, call, arguments),
         "body" => record_bodies::answer(alloc, schema, call, arguments),
         _ => Err(Refusal::NotAsked),

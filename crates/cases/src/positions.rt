@@ -45,6 +45,11 @@ fn bytes_of_pair(alloc: Global, arguments: &Arguments) -> Result<Value, Refusal>
     Ok(triple(alloc, before, written, hex(alloc, &serializer.close())?)?)
 }
 
+/// How many numbers there are; of more than a u64 the greatest one.
+fn how_many(count: u128) -> Value {
+    number(u64::try_from(count).unwrap_or(u64::MAX))
+}
+
 /// How many numbers there are, and so many of them from a place on.
 fn read(alloc: Global, arguments: &Arguments) -> Result<Value, Refusal> {
     let bytes = arguments.bytes(alloc, 0)?;
@@ -57,14 +62,14 @@ fn read(alloc: Global, arguments: &Arguments) -> Result<Value, Refusal> {
         return Err(Refusal::NotAsked);
     }
     reader.read(u64::from(offset), &mut output);
-    Ok(pair(alloc, number(all as u64), numbers(alloc, &output)?)?)
+    Ok(pair(alloc, how_many(all), numbers(alloc, &output)?)?)
 }
 
 /// How many numbers there are.
 fn count(alloc: Global, arguments: &Arguments) -> Result<Value, Refusal> {
     let bytes = arguments.bytes(alloc, 0)?;
     let mut reader = PositionReader::open(&bytes)?;
-    Ok(number(reader.num_positions() as u64))
+    Ok(how_many(reader.num_positions()))
 }
 
 /// The number at a place of a list that holds small and great ones.
@@ -99,7 +104,7 @@ fn read_in_orders(alloc: Global, count: u32) -> Result<Value, Refusal> {
     let bytes = mixed_positions(alloc, count)?;
     let mut reader = PositionReader::open(&bytes)?;
     let mut list = Vec::new(alloc);
-    list.push(number(reader.num_positions() as u64))?;
+    list.push(how_many(reader.num_positions()))?;
     for order in 0..3 {
         list.push(number(right_in_order(&mut reader, order, count)))?;
     }

@@ -1,5 +1,7 @@
 //! Skip entries of blocks.
 
+ghost use Rattle.std.specs.Prelude.{◌≤◌};
+
 use crate::arguments::Arguments;
 use crate::refusal::Refusal;
 use crate::replies::{flag, hex, number};
