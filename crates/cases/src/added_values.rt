@@ -10,7 +10,7 @@ use serde_json::Value;
 use std::alloc::Global;
 
 /// The document of the values that are added to an empty one.
-pub fn document_of_values(alloc: Global, values: &[Value]) -> Result<CompactDoc, Refusal> {
+pub(crate) fn document_of_values(alloc: Global, values: &[Value]) -> Result<CompactDoc, Refusal> {
     let mut doc = CompactDoc::new(alloc);
     for value in values {
         let kind = text_in(part(value, 1)?)?;

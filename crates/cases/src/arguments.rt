@@ -7,7 +7,7 @@ use std::alloc::Global;
 
 /// What is done to the bytes that are the first argument.
 #[derive(Clone, Copy)]
-pub enum Damage {
+pub(crate) enum Damage {
     /// Nothing.
     None,
     /// Only so many bytes are left.
@@ -18,14 +18,14 @@ pub enum Damage {
 
 /// The arguments of a case, in order.
 #[derive(Drop)]
-pub struct Arguments {
+pub(crate) struct Arguments {
     values: Vec<Value>,
     pub damage: Damage,
 }
 
 impl Arguments {
     /// Reads what stands behind the operation.
-    pub fn read(alloc: Global, text: &str) -> Result<Arguments, Refusal> {
+    pub(crate) fn read(alloc: Global, text: &str) -> Result<Arguments, Refusal> {
         let list = format!(in alloc; "[{text}]")?;
         match Value::from_str(alloc, &list) {
             Ok(Value::Array(values)) => Ok(Arguments {
@@ -37,22 +37,22 @@ impl Arguments {
     }
 
     /// The argument at a place.
-    pub fn value(&self, place: usize) -> Result<&Value, Refusal> {
+    pub(crate) fn value(&self, place: usize) -> Result<&Value, Refusal> {
         self.values.get(place).ok_or(Refusal::NotAsked)
     }
 
     /// The argument at a place, a text.
-    pub fn text(&self, place: usize) -> Result<&str, Refusal> {
+    pub(crate) fn text(&self, place: usize) -> Result<&str, Refusal> {
         self.value(place)?.as_str().ok_or(Refusal::NotAsked)
     }
 
     /// The argument at a place, a list.
-    pub fn list(&self, place: usize) -> Result<&Vec<Value>, Refusal> {
+    pub(crate) fn list(&self, place: usize) -> Result<&Vec<Value>, Refusal> {
         self.value(place)?.as_array().ok_or(Refusal::NotAsked)
     }
 
     /// The argument at a place, a list of texts.
-    pub fn texts(&self, alloc: Global, place: usize) -> Result<Vec<&str>, Refusal> {
+    pub(crate) fn texts(&self, alloc: Global, place: usize) -> Result<Vec<&str>, Refusal> {
         let mut texts = Vec::new(alloc);
         for value in self.list(place)? {
             texts.push(value.as_str().ok_or(Refusal::NotAsked)?)?;
@@ -61,41 +61,41 @@ impl Arguments {
     }
 
     /// The argument at a place, a number.
-    pub fn number(&self, place: usize) -> Result<u64, Refusal> {
+    pub(crate) fn number(&self, place: usize) -> Result<u64, Refusal> {
         self.value(place)?.as_u64().ok_or(Refusal::NotAsked)
     }
 
     /// The argument at a place, a number below 2^32.
-    pub fn small_number(&self, place: usize) -> Result<u32, Refusal> {
+    pub(crate) fn small_number(&self, place: usize) -> Result<u32, Refusal> {
         u32::try_from(self.number(place)?)
             .ok()
             .ok_or(Refusal::NotAsked)
     }
 
     /// The argument at a place, a number below 256.
-    pub fn byte(&self, place: usize) -> Result<u8, Refusal> {
+    pub(crate) fn byte(&self, place: usize) -> Result<u8, Refusal> {
         u8::try_from(self.number(place)?)
             .ok()
             .ok_or(Refusal::NotAsked)
     }
 
     /// The argument at a place, a number that may be negative.
-    pub fn signed_number(&self, place: usize) -> Result<i64, Refusal> {
+    pub(crate) fn signed_number(&self, place: usize) -> Result<i64, Refusal> {
         self.value(place)?.as_i64().ok_or(Refusal::NotAsked)
     }
 
     /// The argument at a place, true or false.
-    pub fn flag(&self, place: usize) -> Result<bool, Refusal> {
+    pub(crate) fn flag(&self, place: usize) -> Result<bool, Refusal> {
         self.value(place)?.as_bool().ok_or(Refusal::NotAsked)
     }
 
     /// The argument at a place, a field by its number.
-    pub fn field(&self, place: usize) -> Result<Field, Refusal> {
+    pub(crate) fn field(&self, place: usize) -> Result<Field, Refusal> {
         Ok(Field::from_field_id(self.small_number(place)?))
     }
 
     /// The argument at a place, a list of numbers below 2^32: `[3, [0, 5], 2]` is 3, five times 0, and 2.
-    pub fn numbers(&self, alloc: Global, place: usize) -> Result<Vec<u32>, Refusal> {
+    pub(crate) fn numbers(&self, alloc: Global, place: usize) -> Result<Vec<u32>, Refusal> {
         let mut numbers = Vec::new(alloc);
         for value in self.list(place)? {
             let (number, times) = run_of(value)?;
@@ -106,7 +106,7 @@ impl Arguments {
 
     /// The argument at a place, bytes: a text of two hexadecimal digits for each, or a list whose texts stand for
     /// their bytes and whose numbers are bytes, `[0, 5]` five bytes 0.
-    pub fn bytes(&self, alloc: Global, place: usize) -> Result<Vec<u8>, Refusal> {
+    pub(crate) fn bytes(&self, alloc: Global, place: usize) -> Result<Vec<u8>, Refusal> {
         let mut bytes = match self.value(place)? {
             Value::Array(parts) => joined_parts(alloc, parts)?,
             value => bytes_of_digits(alloc, value)?,
@@ -132,7 +132,7 @@ impl Arguments {
 }
 
 /// The bytes of hexadecimal digits.
-pub fn bytes_of_digits(alloc: Global, value: &Value) -> Result<Vec<u8>, Refusal> {
+pub(crate) fn bytes_of_digits(alloc: Global, value: &Value) -> Result<Vec<u8>, Refusal> {
     let digits = value.as_str().ok_or(Refusal::NotAsked)?;
     hex::decode(alloc, digits).ok().ok_or(Refusal::NotAsked)
 }

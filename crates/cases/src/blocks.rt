@@ -8,7 +8,11 @@ use serde_json::Value;
 use std::alloc::Global;
 
 /// What an operation on blocks answers.
-pub fn answer(alloc: Global, operation: &str, arguments: &Arguments) -> Result<Value, Refusal> {
+pub(crate) fn answer(
+    alloc: Global,
+    operation: &str,
+    arguments: &Arguments,
+) -> Result<Value, Refusal> {
     match operation {
         "of-numbers" => of_numbers(alloc, arguments),
         "of-deltas" => of_deltas(alloc, arguments),

@@ -8,7 +8,11 @@ use std::alloc::Global;
 use store::{Checkpoint, DocStoreFooter, DocStoreVersion, SkipIndex, SkipIndexBuilder};
 
 /// What an operation on checkpoints or on footers answers.
-pub fn answer(alloc: Global, operation: &str, arguments: &Arguments) -> Result<Value, Refusal> {
+pub(crate) fn answer(
+    alloc: Global,
+    operation: &str,
+    arguments: &Arguments,
+) -> Result<Value, Refusal> {
     match operation {
         "checkpoints" => checkpoints(alloc, arguments),
         "checkpoints-read" => checkpoints_read(alloc, arguments),

@@ -6,7 +6,7 @@ use serde_json::Value;
 use std::alloc::{AllocError, Global};
 
 /// The values of a field, in order.
-pub fn value_list(alloc: Global, values: ValuesOfField<'_>) -> Result<Value, AllocError> {
+pub(crate) fn value_list(alloc: Global, values: ValuesOfField<'_>) -> Result<Value, AllocError> {
     let mut list = Vec::new(alloc);
     for value in values {
         list.push(shown(alloc, value)?)?;
@@ -15,13 +15,13 @@ pub fn value_list(alloc: Global, values: ValuesOfField<'_>) -> Result<Value, All
 }
 
 /// A value that is lent from a document.
-pub fn shown(alloc: Global, value: CompactDocValue<'_>) -> Result<Value, AllocError> {
+pub(crate) fn shown(alloc: Global, value: CompactDocValue<'_>) -> Result<Value, AllocError> {
     owned_value(alloc, &OwnedValue::from_compact(alloc, value)?)
 }
 
 /// The name of a value's kind, and the value: an instant by its nanoseconds, bytes by their digits, an address by
 /// its sixteen bytes, and any other value as JSON.
-pub fn owned_value(alloc: Global, value: &OwnedValue) -> Result<Value, AllocError> {
+pub(crate) fn owned_value(alloc: Global, value: &OwnedValue) -> Result<Value, AllocError> {
     let told = match value {
         OwnedValue::Date(time) => Value::from(time.into_timestamp_nanos()),
         OwnedValue::Bytes(bytes) => hex(alloc, bytes)?,

@@ -12,7 +12,7 @@ use std::alloc::{AllocError, Global};
 
 /// What an operation on documents answers. Its first argument is a document: as JSON, as bytes, or as a list of
 /// values that are added.
-pub fn answer(
+pub(crate) fn answer(
     alloc: Global,
     schema: &Schema,
     operation: &str,
@@ -66,7 +66,7 @@ fn answer_on_copies(
 }
 
 /// The document at a place: a text is its bytes, and a list what is added to an empty one.
-pub fn document(
+pub(crate) fn document(
     alloc: Global,
     schema: &Schema,
     arguments: &Arguments,
@@ -80,7 +80,7 @@ pub fn document(
 }
 
 /// Each value of a document with its field's number.
-pub fn values(alloc: Global, doc: &CompactDoc) -> Result<Value, AllocError> {
+pub(crate) fn values(alloc: Global, doc: &CompactDoc) -> Result<Value, AllocError> {
     let mut list = Vec::new(alloc);
     for (field, value) in doc.field_values() {
         let id = number(u64::from(field.field_id()));

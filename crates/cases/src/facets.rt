@@ -8,7 +8,11 @@ use serde_json::Value;
 use std::alloc::Global;
 
 /// What an operation on facets answers.
-pub fn answer(alloc: Global, operation: &str, arguments: &Arguments) -> Result<Value, Refusal> {
+pub(crate) fn answer(
+    alloc: Global,
+    operation: &str,
+    arguments: &Arguments,
+) -> Result<Value, Refusal> {
     match operation {
         "text" => facet_of_text(alloc, arguments.text(0)?),
         "of-steps" => facet_of_steps(alloc, &arguments.texts(alloc, 0)?),

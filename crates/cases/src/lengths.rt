@@ -10,7 +10,11 @@ use serde_json::Value;
 use std::alloc::Global;
 
 /// What an operation on lengths answers.
-pub fn answer(alloc: Global, operation: &str, arguments: &Arguments) -> Result<Value, Refusal> {
+pub(crate) fn answer(
+    alloc: Global,
+    operation: &str,
+    arguments: &Arguments,
+) -> Result<Value, Refusal> {
     match operation {
         "id" => Ok(number(u64::from(fieldnorm_to_id(arguments.number(0)? as usize)))),
         "of-id" => Ok(number(u64::from(id_to_fieldnorm(arguments.byte(0)?)))),

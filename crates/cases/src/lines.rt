@@ -8,7 +8,7 @@ use serde_json::Value;
 use std::alloc::{AllocError, Global};
 
 /// The answers to all lines of a text, each on a line of its own.
-pub fn answers(alloc: Global, text: &str) -> Result<String, AllocError> {
+pub(crate) fn answers(alloc: Global, text: &str) -> Result<String, AllocError> {
     let mut answers = String::new(alloc);
     let mut schema = Schema::builder(alloc).build();
     for line in text.lines() {

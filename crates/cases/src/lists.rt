@@ -11,7 +11,11 @@ use serde_json::Value;
 use std::alloc::Global;
 
 /// What an operation on lists answers.
-pub fn answer(alloc: Global, operation: &str, arguments: &Arguments) -> Result<Value, Refusal> {
+pub(crate) fn answer(
+    alloc: Global,
+    operation: &str,
+    arguments: &Arguments,
+) -> Result<Value, Refusal> {
     match operation {
         "of-numbers" => of_numbers(alloc, arguments),
         "of-documents" => of_documents(alloc, arguments),

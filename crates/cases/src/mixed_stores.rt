@@ -11,7 +11,11 @@ use std::alloc::{AllocError, Global};
 use store::{DocStoreFooter, SkipIndex, StoreReader, StoreWriter};
 
 /// What an operation on such stores answers.
-pub fn answer(alloc: Global, operation: &str, arguments: &Arguments) -> Result<Value, Refusal> {
+pub(crate) fn answer(
+    alloc: Global,
+    operation: &str,
+    arguments: &Arguments,
+) -> Result<Value, Refusal> {
     match operation {
         "bytes" => {
             let writer = writer_of(alloc, 0, arguments.small_number(0)?, arguments.number(1)?)?;

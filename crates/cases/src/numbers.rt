@@ -10,7 +10,11 @@ use serde_json::Value;
 use std::alloc::Global;
 
 /// What an operation on codes answers.
-pub fn answer(alloc: Global, operation: &str, arguments: &Arguments) -> Result<Value, Refusal> {
+pub(crate) fn answer(
+    alloc: Global,
+    operation: &str,
+    arguments: &Arguments,
+) -> Result<Value, Refusal> {
     match operation.strip_prefix("take-") {
         Some(code) => taken(alloc, code, &arguments.bytes(alloc, 0)?),
         None => put(alloc, operation, arguments),

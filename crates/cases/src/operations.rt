@@ -11,7 +11,7 @@ use serde_json::Value;
 use std::alloc::Global;
 
 /// What an operation answers. Some make the schema that later ones are about.
-pub fn answer(
+pub(crate) fn answer(
     alloc: Global,
     schema: &mut Schema,
     operation: &str,

@@ -6,7 +6,7 @@ use serde_json::Value;
 use std::alloc::{AllocError, Global};
 
 /// The name of what became of a try: a fault's name, what a flag says, `null`, or `read` of any other value.
-pub fn outcome(answer: &Result<Value, Refusal>) -> &'static str {
+pub(crate) fn outcome(answer: &Result<Value, Refusal>) -> &'static str {
     match answer {
         Ok(Value::Null) => "null",
         Ok(Value::Bool(true)) => "true",
@@ -19,20 +19,20 @@ pub fn outcome(answer: &Result<Value, Refusal>) -> &'static str {
 
 /// How often there was each outcome.
 #[derive(Drop)]
-pub struct Outcomes {
+pub(crate) struct Outcomes {
     counts: Vec<(&'static str, u64)>,
 }
 
 impl Outcomes {
     /// No outcome.
-    pub fn new(alloc: Global) -> Outcomes {
+    pub(crate) fn new(alloc: Global) -> Outcomes {
         Outcomes {
             counts: Vec::new(alloc),
         }
     }
 
     /// Counts an outcome.
-    pub fn add(&mut self, outcome: &'static str) -> Result<(), AllocError> {
+    pub(crate) fn add(&mut self, outcome: &'static str) -> Result<(), AllocError> {
         for (name, count) in self.counts.iter_mut() {
             if *name == outcome {
                 *count = count.saturating_add(1);
@@ -43,7 +43,7 @@ impl Outcomes {
     }
 
     /// The outcomes in the order of their names, and how often there was each.
-    pub fn with_counts(mut self, alloc: Global) -> Result<Value, AllocError> {
+    pub(crate) fn with_counts(mut self, alloc: Global) -> Result<Value, AllocError> {
         self.counts.sort()?;
         let mut list = Vec::new(alloc);
         for (name, count) in &self.counts {
@@ -53,7 +53,7 @@ impl Outcomes {
     }
 
     /// The outcomes in the order of their names.
-    pub fn names(mut self, alloc: Global) -> Result<Value, AllocError> {
+    pub(crate) fn names(mut self, alloc: Global) -> Result<Value, AllocError> {
         self.counts.sort()?;
         let mut list = Vec::new(alloc);
         for (name, _) in &self.counts {

@@ -10,7 +10,11 @@ use serde_json::Value;
 use std::alloc::{AllocError, Global};
 
 /// What an operation on positions answers.
-pub fn answer(alloc: Global, operation: &str, arguments: &Arguments) -> Result<Value, Refusal> {
+pub(crate) fn answer(
+    alloc: Global,
+    operation: &str,
+    arguments: &Arguments,
+) -> Result<Value, Refusal> {
     match operation {
         "bytes" => bytes_of_pair(alloc, arguments),
         "read" => read(alloc, arguments),

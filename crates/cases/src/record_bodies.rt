@@ -11,7 +11,7 @@ use settings::Settings;
 use std::alloc::{AllocError, Global};
 
 /// What an operation on bodies answers.
-pub fn answer(
+pub(crate) fn answer(
     alloc: Global,
     schema: &Schema,
     operation: &str,

@@ -12,7 +12,11 @@ use serde_json::Value;
 use std::alloc::{AllocError, Global};
 
 /// What an operation on files of records answers.
-pub fn answer(alloc: Global, operation: &str, arguments: &Arguments) -> Result<Value, Refusal> {
+pub(crate) fn answer(
+    alloc: Global,
+    operation: &str,
+    arguments: &Arguments,
+) -> Result<Value, Refusal> {
     match operation {
         "file" => file(alloc, arguments),
         "read" => read(alloc, &arguments.bytes(alloc, 0)?),

@@ -5,7 +5,7 @@ use std::alloc::{AllocError, AllocFailed};
 
 /// Why a case has no value as its answer.
 #[derive(Clone, Copy, Debug, PartialEq, Eq)]
-pub enum Refusal {
+pub(crate) enum Refusal {
     /// The index refused what the case asks for: the answer is the fault's name.
     Fault(Fault),
     /// The operation isn't known, or its arguments are others than it takes.

@@ -9,7 +9,7 @@ use serde_json::Value;
 use std::alloc::Global;
 
 /// Adds the field of a list of its type, its name and its options, and answers its number or the refusal's name.
-pub fn answer_to_add(
+pub(crate) fn answer_to_add(
     alloc: Global,
     builder: &mut SchemaBuilder,
     field: &Value,

@@ -9,7 +9,7 @@ use serde_json::Value;
 use std::alloc::Global;
 
 /// What an operation on schemas answers. `read` and `built` make the schema that later cases are about.
-pub fn answer(
+pub(crate) fn answer(
     alloc: Global,
     schema: &mut Schema,
     operation: &str,

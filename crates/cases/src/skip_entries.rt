@@ -16,7 +16,11 @@ const POSITIONS: Recorded = Recorded {
 };
 
 /// What an operation on skip entries answers.
-pub fn answer(alloc: Global, operation: &str, arguments: &Arguments) -> Result<Value, Refusal> {
+pub(crate) fn answer(
+    alloc: Global,
+    operation: &str,
+    arguments: &Arguments,
+) -> Result<Value, Refusal> {
     match operation {
         "entry-of-documents" => entry_of_documents(alloc, arguments),
         "entry-of-positions" => entry_of_positions(alloc, arguments),

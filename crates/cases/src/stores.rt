@@ -12,7 +12,7 @@ use std::alloc::Global;
 use store::{Bytes, DocStoreFooter, StoreReader, StoreWriter};
 
 /// What an operation on stores answers.
-pub fn answer(
+pub(crate) fn answer(
     alloc: Global,
     schema: &Schema,
     operation: &str,
@@ -77,7 +77,7 @@ fn of_documents(alloc: Global, schema: &Schema, arguments: &Arguments) -> Result
 }
 
 /// A reader of a store that keeps so many blocks.
-pub fn reader(alloc: Global, bytes: &[u8], capacity: usize) -> Result<StoreReader, Refusal> {
+pub(crate) fn reader(alloc: Global, bytes: &[u8], capacity: usize) -> Result<StoreReader, Refusal> {
     let shared = Bytes::copy_from_slice(alloc, bytes)?;
     Ok(StoreReader::open(alloc, shared, capacity)?)
 }

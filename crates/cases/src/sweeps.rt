@@ -9,7 +9,7 @@ use serde_json::Value;
 use std::alloc::Global;
 
 /// What becomes of an operation on damaged bytes.
-pub fn answer(
+pub(crate) fn answer(
     alloc: Global,
     schema: &mut Schema,
     sweep: &str,

@@ -10,7 +10,11 @@ use std::alloc::Global;
 use std::net::IpAddr;
 
 /// What an operation on terms answers.
-pub fn answer(alloc: Global, operation: &str, arguments: &Arguments) -> Result<Value, Refusal> {
+pub(crate) fn answer(
+    alloc: Global,
+    operation: &str,
+    arguments: &Arguments,
+) -> Result<Value, Refusal> {
     if let Some(value) = operation.strip_prefix("of-") {
         return Ok(hex(alloc, of_value(alloc, value, arguments)?.serialized_term())?);
     }

@@ -8,7 +8,11 @@ use serde_json::Value;
 use std::alloc::Global;
 
 /// What an operation on terms as bytes answers.
-pub fn answer(alloc: Global, operation: &str, arguments: &Arguments) -> Result<Value, Refusal> {
+pub(crate) fn answer(
+    alloc: Global,
+    operation: &str,
+    arguments: &Arguments,
+) -> Result<Value, Refusal> {
     match operation {
         "read" => parts(alloc, &term(alloc, arguments, 0)?),
         "before" => Ok(flag(term(alloc, arguments, 0)? < term(alloc, arguments, 1)?)),

@@ -8,7 +8,11 @@ use serde_json::Value;
 use std::alloc::Global;
 
 /// What an operation on terms at paths answers.
-pub fn answer(alloc: Global, operation: &str, arguments: &Arguments) -> Result<Value, Refusal> {
+pub(crate) fn answer(
+    alloc: Global,
+    operation: &str,
+    arguments: &Arguments,
+) -> Result<Value, Refusal> {
     let term = match operation {
         "path" => path(alloc, arguments, arguments.flag(2)?)?,
         "keys" => keys(alloc, arguments)?,

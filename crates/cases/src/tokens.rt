@@ -8,7 +8,11 @@ use serde_json::Value;
 use std::alloc::Global;
 
 /// What an operation on tokens answers.
-pub fn answer(alloc: Global, operation: &str, arguments: &Arguments) -> Result<Value, Refusal> {
+pub(crate) fn answer(
+    alloc: Global,
+    operation: &str,
+    arguments: &Arguments,
+) -> Result<Value, Refusal> {
     match operation {
         "list" => tokens(alloc, arguments.text(0)?, arguments.text(1)?),
         "analyzer-known" => Ok(flag(RawAndDefault.knows(arguments.text(0)?))),

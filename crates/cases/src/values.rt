@@ -17,7 +17,11 @@ use values_json::{
 };
 
 /// What an operation on values answers.
-pub fn answer(alloc: Global, operation: &str, arguments: &Arguments) -> Result<Value, Refusal> {
+pub(crate) fn answer(
+    alloc: Global,
+    operation: &str,
+    arguments: &Arguments,
+) -> Result<Value, Refusal> {
     match operation.strip_prefix("of-text-") {
         Some(kind) => of_text(alloc, kind, arguments.text(0)?),
         None => of_json(alloc, operation, arguments),
@@ -74,7 +78,7 @@ fn text_of_date(alloc: Global, arguments: &Arguments) -> Result<Value, Refusal> 
 }
 
 /// The number of an address, by its bytes, the highest first.
-pub fn bits_of(bytes: &[u8]) -> u128 {
+pub(crate) fn bits_of(bytes: &[u8]) -> u128 {
     let mut bits = 0u128;
     for byte in bytes {
         bits = bits.wrapping_mul(256).wrapping_add(u128::from(*byte));
