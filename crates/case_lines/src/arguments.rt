@@ -1,0 +1,178 @@
+//! The arguments of a case: JSON values with commas between them.
+
+use crate::refusal::Refusal;
+use serde_json::Value;
+use std::alloc::Global;
+
+/// What is done to the bytes that are the first argument.
+#[derive(Clone, Copy)]
+pub(crate) enum Damage {
+    /// Nothing.
+    None,
+    /// Only so many bytes are left.
+    Cut(usize),
+    /// The byte at a place is another one.
+    Change(usize, u8),
+}
+
+/// The arguments of a case, in order.
+#[derive(Drop)]
+pub struct Arguments {
+    values: Vec<Value>,
+    pub(crate) damage: Damage,
+}
+
+impl Arguments {
+    /// Reads what stands behind the operation.
+    pub(crate) fn read(alloc: Global, text: &str) -> Result<Arguments, Refusal> {
+        let list = format!(in alloc; "[{text}]")?;
+        match Value::from_str(alloc, &list) {
+            Ok(Value::Array(values)) => Ok(Arguments {
+                values,
+                damage: Damage::None,
+            }),
+            _ => Err(Refusal::NotAsked),
+        }
+    }
+
+    /// The argument at a place.
+    pub fn value(&self, place: usize) -> Result<&Value, Refusal> {
+        self.values.get(place).ok_or(Refusal::NotAsked)
+    }
+
+    /// The argument at a place, a text.
+    pub fn text(&self, place: usize) -> Result<&str, Refusal> {
+        self.value(place)?.as_str().ok_or(Refusal::NotAsked)
+    }
+
+    /// The argument at a place, a list.
+    pub fn list(&self, place: usize) -> Result<&Vec<Value>, Refusal> {
+        self.value(place)?.as_array().ok_or(Refusal::NotAsked)
+    }
+
+    /// The argument at a place, a list of texts.
+    pub fn texts(&self, alloc: Global, place: usize) -> Result<Vec<&str>, Refusal> {
+        let mut texts = Vec::new(alloc);
+        for value in self.list(place)? {
+            texts.push(value.as_str().ok_or(Refusal::NotAsked)?)?;
+        }
+        Ok(texts)
+    }
+
+    /// The argument at a place, a number.
+    pub fn number(&self, place: usize) -> Result<u64, Refusal> {
+        self.value(place)?.as_u64().ok_or(Refusal::NotAsked)
+    }
+
+    /// The argument at a place, a number below 2^32.
+    pub fn small_number(&self, place: usize) -> Result<u32, Refusal> {
+        u32::try_from(self.number(place)?)
+            .ok()
+            .ok_or(Refusal::NotAsked)
+    }
+
+    /// The argument at a place, a number below 256.
+    pub fn byte(&self, place: usize) -> Result<u8, Refusal> {
+        u8::try_from(self.number(place)?)
+            .ok()
+            .ok_or(Refusal::NotAsked)
+    }
+
+    /// The argument at a place, a number that may be negative.
+    pub fn signed_number(&self, place: usize) -> Result<i64, Refusal> {
+        self.value(place)?.as_i64().ok_or(Refusal::NotAsked)
+    }
+
+    /// The argument at a place, true or false.
+    pub fn flag(&self, place: usize) -> Result<bool, Refusal> {
+        self.value(place)?.as_bool().ok_or(Refusal::NotAsked)
+    }
+
+    /// The argument at a place, a list of numbers below 2^32: `[3, [0, 5], 2]` is 3, five times 0, and 2.
+    pub fn numbers(&self, alloc: Global, place: usize) -> Result<Vec<u32>, Refusal> {
+        let mut numbers = Vec::new(alloc);
+        for value in self.list(place)? {
+            let (number, times) = run_of(value)?;
+            push_times(&mut numbers, number, times)?;
+        }
+        Ok(numbers)
+    }
+
+    /// The argument at a place, bytes: a text of two hexadecimal digits for each, or a list whose texts stand for
+    /// their bytes and whose numbers are bytes, `[0, 5]` five bytes 0.
+    pub fn bytes(&self, alloc: Global, place: usize) -> Result<Vec<u8>, Refusal> {
+        let mut bytes = match self.value(place)? {
+            Value::Array(parts) => joined_parts(alloc, parts)?,
+            value => bytes_of_digits(alloc, value)?,
+        };
+        if place == 0 {
+            self.do_damage(&mut bytes);
+        }
+        Ok(bytes)
+    }
+
+    /// Cuts or changes bytes.
+    fn do_damage(&self, bytes: &mut Vec<u8>) {
+        match self.damage {
+            Damage::None => {}
+            Damage::Cut(length) => bytes.truncate(length),
+            Damage::Change(place, byte) => {
+                if let Some(old) = bytes.get_mut(place) {
+                    *old = byte;
+                }
+            }
+        }
+    }
+}
+
+/// The bytes of hexadecimal digits.
+pub fn bytes_of_digits(alloc: Global, value: &Value) -> Result<Vec<u8>, Refusal> {
+    let digits = value.as_str().ok_or(Refusal::NotAsked)?;
+    hex::decode(alloc, digits).ok().ok_or(Refusal::NotAsked)
+}
+
+/// The bytes of texts and numbers, one after another.
+fn joined_parts(alloc: Global, parts: &[Value]) -> Result<Vec<u8>, Refusal> {
+    let mut bytes = Vec::new(alloc);
+    for part in parts {
+        match part.as_str() {
+            Some(text) => bytes.extend_from_slice(text.as_bytes())?,
+            None => push_bytes(&mut bytes, part)?,
+        }
+    }
+    Ok(bytes)
+}
+
+/// Appends a byte, or one so many times.
+fn push_bytes(bytes: &mut Vec<u8>, part: &Value) -> Result<(), Refusal> {
+    let (number, times) = run_of(part)?;
+    let byte = u8::try_from(number).ok().ok_or(Refusal::NotAsked)?;
+    for _ in 0..times {
+        bytes.push(byte)?;
+    }
+    Ok(())
+}
+
+/// Appends a number so many times.
+fn push_times(numbers: &mut Vec<u32>, number: u32, times: u32) -> Result<(), Refusal> {
+    for _ in 0..times {
+        numbers.push(number)?;
+    }
+    Ok(())
+}
+
+/// A number, and how often it comes.
+fn run_of(value: &Value) -> Result<(u32, u32), Refusal> {
+    match value.as_array() {
+        Some(run) => Ok((number_in(run.first())?, number_in(run.get(1))?)),
+        None => Ok((number_in(Some(value))?, 1)),
+    }
+}
+
+/// A number below 2^32.
+fn number_in(value: Option<&Value>) -> Result<u32, Refusal> {
+    value
+        .and_then(Value::as_u64)
+        .and_then(|number| u32::try_from(number).ok())
+        .ok_or(Refusal::NotAsked)
+}

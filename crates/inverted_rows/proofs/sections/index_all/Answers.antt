@@ -1,4 +1,0 @@
-use Rattle.inverted_rows.proofs.sections.index_all.Goals as goal
-
-pub loop-doc-preserved : goal.loop-doc-preserved
-loop-doc-preserved g c = (_, c.in_ok-add.ensures.ok c.loop-doc.invariant.0 c.loop-doc.invariant.1)

@@ -1,7 +1,0 @@
-use Rattle.std.proofs.Common.{List}
-use Rattle.definitions.specs.Values.{Document}
-use Rattle.indexing.specs.Indexers.{HasIndexed}
-use Rattle.inverted_rows.proofs.sections.index_all.Given as goal
-
-abbrev pub invariant-loop-doc : goal.invariant-loop-doc
-invariant-loop-doc g l = (all : List Document) × HasIndexed g.A.Analyzer.analyze l.indexer all

@@ -1,0 +1,37 @@
+//! What later lines are about.
+
+use crate::sections::Sections;
+use document::CompactDoc;
+use inverted_index::InvertedIndexReader;
+use schema::Schema;
+use std::alloc::Global;
+
+/// The last schema, the documents that were added, and the index that was made of them last.
+#[derive(Drop)]
+pub(crate) struct Held {
+    pub(crate) alloc: Global,
+    pub(crate) schema: Schema,
+    pub(crate) docs: Vec<CompactDoc>,
+    pub(crate) sections: Sections,
+    pub(crate) lengths: Vec<u8>,
+    pub(crate) reader: InvertedIndexReader,
+}
+
+impl Held {
+    /// No field, no document, and an index without fields.
+    pub(crate) fn empty(alloc: Global) -> Held {
+        Held {
+            alloc,
+            schema: Schema::builder(alloc).build(),
+            docs: Vec::new(alloc),
+            sections: Sections {
+                num_docs: 0,
+                terms: Vec::new(alloc),
+                postings: Vec::new(alloc),
+                positions: Vec::new(alloc),
+            },
+            lengths: Vec::new(alloc),
+            reader: InvertedIndexReader::empty(alloc),
+        }
+    }
+}

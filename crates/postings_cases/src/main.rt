@@ -1,0 +1,32 @@
+//! `postings_cases`: answers worked cases of inverted indexes. Each line of standard input is a case, an operation
+//! and its arguments, and the line of standard output with the same number is its answer.
+#![tactic(auto)]
+
+mod added_values;
+mod asked_terms;
+mod damage;
+mod held;
+mod indexes;
+mod lookups;
+mod operations;
+mod outcomes;
+mod sections;
+
+use case_lines::answers;
+use held::Held;
+use std::io;
+use std::process::ExitCode;
+
+fn main(rt: HostRuntime) -> ExitCode {
+    let alloc = rt.alloc();
+    let Ok(text) = io::read_to_string(alloc, rt.reader()) else {
+        return ExitCode::FAILURE;
+    };
+    let Ok(answers) = answers(alloc, &mut Held::empty(alloc), &text) else {
+        return ExitCode::FAILURE;
+    };
+    match print!(rt; "{answers}") {
+        Ok(()) => ExitCode::SUCCESS,
+        Err(_) => ExitCode::FAILURE,
+    }
+}
