@@ -2,7 +2,6 @@
 
 use common::{AliveBitSet, Fault};
 use std::alloc::Global;
-use std::process::Abort;
 use std::test::Fail;
 
 /// Whether a document is dead in the tests: every third one, and the last of 65.
@@ -11,7 +10,7 @@ fn is_dead(doc: u32) -> bool {
 }
 
 /// A set of so many documents, of which the dead ones are killed.
-fn set_of(alloc: Global, max_doc: u32) -> Result<AliveBitSet, Fail> {
+fn set_of(alloc: Global, max_doc: u32) -> Result<AliveBitSet, Fault> {
     let mut alive = AliveBitSet::for_max_doc(alloc, max_doc)?;
     for doc in 0..max_doc {
         if is_dead(doc) && (doc as usize) < alive.len() {
@@ -22,7 +21,7 @@ fn set_of(alloc: Global, max_doc: u32) -> Result<AliveBitSet, Fail> {
 }
 
 /// How many documents, in four bytes, and then their flags in words of eight bytes, bit by bit.
-fn bytes_of(alloc: Global, max_doc: u32) -> Result<Vec<u8>, Fail> {
+fn bytes_of(alloc: Global, max_doc: u32) -> Result<Vec<u8>, Fault> {
     let mut bytes = Vec::new(alloc);
     bytes.extend_from_slice(&max_doc.to_le_bytes())?;
     for word in 0..(max_doc as u64 + 63) / 64 {
@@ -42,58 +41,83 @@ fn bytes_of(alloc: Global, max_doc: u32) -> Result<Vec<u8>, Fail> {
 
 const LENGTHS: [u32; 7] = [0, 1, 63, 64, 65, 128, 1000];
 
+/// Whether a set has its flags, and lists the documents that are alive.
+fn has_its_flags(alive: &AliveBitSet, max_doc: u32) -> bool {
+    let mut in_order = alive.iter_alive();
+    let mut count = 0usize;
+    let mut right = alive.len() == max_doc as usize;
+    for doc in 0..max_doc {
+        right &= (doc as usize) < alive.len() && alive.is_alive(doc) != is_dead(doc);
+        if !is_dead(doc) {
+            right &= in_order.next() == Some(doc);
+            count = count.wrapping_add(1);
+        }
+    }
+    right && in_order.next().is_none() && alive.num_alive() == count
+}
+
+/// Whether sets of each length have their flags.
+fn sets_have_flags(alloc: Global) -> Result<bool, Fault> {
+    let mut right = true;
+    for max_doc in LENGTHS {
+        right &= has_its_flags(&set_of(alloc, max_doc)?, max_doc);
+    }
+    Ok(right)
+}
+
 #[test]
 fn flags_of_documents(rt: HostRuntime) -> Result<(), Fail> {
-    for max_doc in LENGTHS {
-        let alive = set_of(rt.alloc(), max_doc)?;
-        assert_eq!(rt; alive.len(), max_doc as usize);
-        let mut in_order = alive.iter_alive();
-        let mut count = 0usize;
-        for doc in 0..max_doc {
-            assert!(rt; (doc as usize) < alive.len());
-            assert_eq!(rt; alive.is_alive(doc), !is_dead(doc), "{doc} of {max_doc}");
-            if !is_dead(doc) {
-                assert_eq!(rt; in_order.next(), Some(doc));
-                count = count.wrapping_add(1);
-            }
-        }
-        assert_eq!(rt; in_order.next(), None);
-        assert_eq!(rt; alive.num_alive(), count);
-    }
+    assert!(rt; sets_have_flags(rt.alloc())?);
     Ok(())
+}
+
+/// Whether a document that is killed twice is dead, and counted once.
+fn one_document_dies(alloc: Global) -> Result<bool, Fault> {
+    let mut alive = AliveBitSet::for_max_doc(alloc, 70)?;
+    let mut right = alive.num_alive() == 70;
+    for _ in 0..2 {
+        if 69 < alive.len() {
+            alive.kill(69);
+        }
+        right &= alive.len() == 70
+            && alive.num_alive() == 69
+            && alive.first_alive_from(68) == Some(68)
+            && alive.first_alive_from(69).is_none();
+    }
+    Ok(right)
 }
 
 #[test]
 fn a_document_dies_once(rt: HostRuntime) -> Result<(), Fail> {
-    let mut alive = AliveBitSet::for_max_doc(rt.alloc(), 70)?;
-    assert_eq!(rt; alive.num_alive(), 70);
-    for _ in 0..2 {
-        assert_eq!(rt; alive.len(), 70);
-        alive.kill(69);
-        assert_eq!(rt; alive.num_alive(), 69);
-        assert_eq!(rt; alive.first_alive_from(68), Some(68));
-        assert_eq!(rt; alive.first_alive_from(69), None);
-    }
+    assert!(rt; one_document_dies(rt.alloc())?);
     Ok(())
+}
+
+/// Whether a set has its bytes, and these are the set again.
+fn set_is_read_back(alloc: Global, max_doc: u32) -> Result<bool, Fault> {
+    let bytes = set_of(alloc, max_doc)?.to_bytes(alloc)?;
+    let expected = bytes_of(alloc, max_doc)?;
+    let read = AliveBitSet::from_bytes(alloc, &bytes)?;
+    let again = read.to_bytes(alloc)?;
+    Ok(
+        bytes.as_slice() == expected.as_slice()
+            && has_its_flags(&read, max_doc)
+            && again.as_slice() == bytes.as_slice(),
+    )
+}
+
+/// Whether sets of each length are read back.
+fn sets_are_read_back(alloc: Global) -> Result<bool, Fault> {
+    let mut right = true;
+    for max_doc in LENGTHS {
+        right &= set_is_read_back(alloc, max_doc)?;
+    }
+    Ok(right)
 }
 
 #[test]
 fn bytes_of_sets(rt: HostRuntime) -> Result<(), Fail> {
-    for max_doc in LENGTHS {
-        let bytes = set_of(rt.alloc(), max_doc)?.to_bytes(rt.alloc())?;
-        assert_eq!(rt;
-            bytes.as_slice(),
-            bytes_of(rt.alloc(), max_doc)?.as_slice(),
-            "{max_doc}"
-        );
-        let read = AliveBitSet::from_bytes(rt.alloc(), &bytes)?;
-        assert_eq!(rt; read.len(), max_doc as usize);
-        for doc in 0..max_doc {
-            assert!(rt; (doc as usize) < read.len());
-            assert_eq!(rt; read.is_alive(doc), !is_dead(doc), "{doc} of {max_doc}");
-        }
-        assert_eq!(rt; read.to_bytes(rt.alloc())?.as_slice(), bytes.as_slice());
-    }
+    assert!(rt; sets_are_read_back(rt.alloc())?);
     Ok(())
 }
 
@@ -112,63 +136,83 @@ fn is_set(bytes: &[u8]) -> bool {
     flags.len() == (max_doc + 63) / 64 * 8 && !past
 }
 
-/// The bytes are those of a set that has them again, or they are damaged.
-fn reads(rt: &impl Abort, alloc: Global, bytes: &[u8]) -> Result<bool, Fail> {
+/// Whether the bytes are those of a set that has them again; None where they are refused, but not as damaged.
+fn reads(alloc: Global, bytes: &[u8]) -> Result<Option<bool>, Fault> {
     match AliveBitSet::from_bytes(alloc, bytes) {
         Ok(alive) => {
-            assert_eq!(rt; alive.to_bytes(alloc)?.as_slice(), bytes);
-            Ok(true)
+            let again = alive.to_bytes(alloc)?;
+            Ok((again.as_slice() == bytes).then_some(true))
         }
-        Err(fault) => {
-            assert_eq!(rt; fault, Fault::Damaged(None));
-            Ok(false)
-        }
+        Err(Fault::Damaged(None)) => Ok(Some(false)),
+        Err(_) => Ok(None),
     }
+}
+
+/// Whether the bytes of a set are damaged wherever they are cut.
+fn cuts_are_damaged(alloc: Global, bytes: &[u8]) -> Result<bool, Fault> {
+    let mut right = true;
+    for len in 0..bytes.len() {
+        right &= reads(alloc, &bytes[..len])? == Some(false);
+    }
+    Ok(right)
+}
+
+/// Whether the bytes of a set are one or none by the rule, whichever of them is that byte.
+fn changes_are_judged(alloc: Global, bytes: &[u8], byte: u8) -> Result<bool, Fault> {
+    let mut right = true;
+    for (i, _) in bytes.iter().enumerate() {
+        let mut changed = Vec::new(alloc);
+        changed.extend_from_slice(bytes)?;
+        if let Some(place) = changed.get_mut(i) {
+            *place = byte;
+        }
+        right &= reads(alloc, &changed)? == Some(is_set(&changed));
+    }
+    Ok(right)
+}
+
+/// Whether sets are read by all their bytes alone.
+fn bytes_are_judged(alloc: Global) -> Result<bool, Fault> {
+    let mut right = true;
+    for max_doc in [3, 64, 65] {
+        let bytes = bytes_of(alloc, max_doc)?;
+        right &= reads(alloc, &bytes)? == Some(true)
+            && cuts_are_damaged(alloc, &bytes)?
+            && changes_are_judged(alloc, &bytes, 0)?
+            && changes_are_judged(alloc, &bytes, 0xff)?;
+    }
+    Ok(right)
 }
 
 #[test]
 fn bytes_that_are_cut_or_changed(rt: HostRuntime) -> Result<(), Fail> {
-    for max_doc in [3, 64, 65] {
-        let bytes = bytes_of(rt.alloc(), max_doc)?;
-        assert!(rt; reads(&rt, rt.alloc(), &bytes)?);
-        for len in 0..bytes.len() {
-            assert!(rt;
-                !reads(&rt, rt.alloc(), &bytes[..len])?,
-                "{len} bytes of {max_doc}"
-            );
-        }
-        for (i, _) in bytes.iter().enumerate() {
-            for byte in [0, 0xff] {
-                let mut changed = Vec::new(rt.alloc());
-                changed.extend_from_slice(&bytes)?;
-                if let Some(place) = changed.get_mut(i) {
-                    *place = byte;
-                }
-                assert_eq!(rt;
-                    reads(&rt, rt.alloc(), &changed)?,
-                    is_set(&changed),
-                    "{byte} at {i} of {max_doc}"
-                );
-            }
-        }
-    }
+    assert!(rt; bytes_are_judged(rt.alloc())?);
     Ok(())
+}
+
+/// Bytes, and whether they are those of a set.
+const ROWS: [(&[u8], bool); 8] = [
+    (b"", false),
+    (b"\0\0\0\0", true),
+    (b"\0\0\0\0\0", false),
+    (b"\0\0\0\0\0\0\0\0\0\0\0\0", false),
+    (b"\x02\0\0\0\x03\0\0\0\0\0\0\0", true),
+    (b"\x02\0\0\0\x04\0\0\0\0\0\0\0", false),
+    (b"\x02\0\0\0\0\0\0\0\0\0\0\x80", false),
+    (b"\xff\xff\xff\xff\0\0\0\0\0\0\0\0", false),
+];
+
+/// Whether bytes are read or refused so.
+fn rows_are_judged(alloc: Global) -> Result<bool, Fault> {
+    let mut right = true;
+    for (bytes, read) in ROWS {
+        right &= reads(alloc, bytes)? == Some(read);
+    }
+    Ok(right)
 }
 
 #[test]
 fn bytes_of_no_set(rt: HostRuntime) -> Result<(), Fail> {
-    let rows: [(&[u8], bool); 8] = [
-        (b"", false),
-        (b"\0\0\0\0", true),
-        (b"\0\0\0\0\0", false),
-        (b"\0\0\0\0\0\0\0\0\0\0\0\0", false),
-        (b"\x02\0\0\0\x03\0\0\0\0\0\0\0", true),
-        (b"\x02\0\0\0\x04\0\0\0\0\0\0\0", false),
-        (b"\x02\0\0\0\0\0\0\0\0\0\0\x80", false),
-        (b"\xff\xff\xff\xff\0\0\0\0\0\0\0\0", false),
-    ];
-    for (bytes, read) in rows {
-        assert_eq!(rt; reads(&rt, rt.alloc(), bytes)?, read, "{bytes:?}");
-    }
+    assert!(rt; rows_are_judged(rt.alloc())?);
     Ok(())
 }

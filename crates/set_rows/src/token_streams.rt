@@ -1,13 +1,14 @@
 //! Tokens that are read one after another, and what has a length.
 
 use common::{
-    Analyzer, HasLen, PreTokenizedStream, PreTokenizedString, RawAndDefault, Token, TokenStream,
+    Analyzer, Fault, HasLen, PreTokenizedStream, PreTokenizedString, RawAndDefault, Token,
+    TokenStream,
 };
-use std::alloc::Global;
+use std::alloc::{AllocError, Global};
 use std::test::Fail;
 
 /// The texts of a stream, one after another with their positions.
-fn spell<S: TokenStream>(alloc: Global, stream: &mut S) -> Result<String, Fail> {
+fn spell<S: TokenStream>(alloc: Global, stream: &mut S) -> Result<String, AllocError> {
     let mut spelled = String::new(alloc);
     for _ in 0..10 {
         if !stream.advance() {
@@ -19,38 +20,48 @@ fn spell<S: TokenStream>(alloc: Global, stream: &mut S) -> Result<String, Fail> 
     Ok(spelled)
 }
 
-#[test]
-fn tokens_of_an_analyzer(rt: HostRuntime) -> Result<(), Fail> {
-    let tokens = RawAndDefault.tokens(rt.alloc(), "default", "The Old-Sea 42 éa")?;
+/// Whether the tokens of an analyzer are read to their end, and no token where there is none.
+fn analyzed_tokens_are_read(alloc: Global) -> Result<bool, Fault> {
+    let tokens = RawAndDefault.tokens(alloc, "default", "The Old-Sea 42 éa")?;
     let mut stream = PreTokenizedStream::new(&tokens);
-    assert_eq!(rt;
-        spell(rt.alloc(), &mut stream)?.as_str(),
-        "0 the, 1 old, 2 sea, 3 42, 4 éa, "
-    );
-    assert!(rt; !stream.advance());
-    assert_eq!(rt;
-        spell(rt.alloc(), &mut PreTokenizedStream::new(&[]))?.as_str(),
-        ""
-    );
-    Ok(())
+    let spelled = spell(alloc, &mut stream)?;
+    let nothing = spell(alloc, &mut PreTokenizedStream::new(&[]))?;
+    Ok(
+        spelled.as_str() == "0 the, 1 old, 2 sea, 3 42, 4 éa, "
+            && !stream.advance()
+            && nothing.is_empty(),
+    )
 }
 
 #[test]
-fn tokens_that_a_text_came_with(rt: HostRuntime) -> Result<(), Fail> {
-    let mut tokens = Vec::new(rt.alloc());
+fn tokens_of_an_analyzer(rt: HostRuntime) -> Result<(), Fail> {
+    assert!(rt; analyzed_tokens_are_read(rt.alloc())?);
+    Ok(())
+}
+
+/// A text with the tokens that it came with.
+fn text_with_tokens(alloc: Global) -> Result<PreTokenizedString, Fault> {
+    let mut tokens = Vec::new(alloc);
     for (position, text) in [(3, "sea"), (3, "ocean"), (7, "wind")] {
         tokens.push(Token {
             position,
             position_length: 2,
-            text: String::from_str(rt.alloc(), text)?,
+            text: String::from_str(alloc, text)?,
         })?;
     }
-    let text = PreTokenizedString::new(String::from_str(rt.alloc(), "the sea")?, tokens)?;
+    PreTokenizedString::new(String::from_str(alloc, "the sea")?, tokens)
+}
+
+/// Whether the tokens that a text came with are read.
+fn given_tokens_are_read(alloc: Global) -> Result<bool, Fault> {
+    let text = text_with_tokens(alloc)?;
     let mut stream = PreTokenizedStream::new(text.tokens());
-    assert_eq!(rt;
-        spell(rt.alloc(), &mut stream)?.as_str(),
-        "3 sea, 3 ocean, 7 wind, "
-    );
+    Ok(spell(alloc, &mut stream)?.as_str() == "3 sea, 3 ocean, 7 wind, ")
+}
+
+#[test]
+fn tokens_that_a_text_came_with(rt: HostRuntime) -> Result<(), Fail> {
+    assert!(rt; given_tokens_are_read(rt.alloc())?);
     Ok(())
 }
 
@@ -70,9 +81,14 @@ fn length_of<L: HasLen>(elements: &L) -> (usize, bool) {
     (elements.len(), elements.is_empty())
 }
 
+/// Whether lengths are told, and whether they are 0.
+fn lengths_are_told() -> bool {
+    length_of(&Elements(0)) == (0, true)
+        && length_of(&Elements(1)) == (1, false)
+        && length_of(&Elements(usize::MAX)) == (usize::MAX, false)
+}
+
 #[test]
 fn what_has_a_length(rt: HostRuntime) {
-    for (count, is_empty) in [(0, true), (1, false), (usize::MAX, false)] {
-        assert_eq!(rt; length_of(&Elements(count)), (count, is_empty));
-    }
+    assert!(rt; lengths_are_told());
 }
