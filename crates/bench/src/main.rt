@@ -4,9 +4,9 @@
 //! a word it prints nothing.
 #![tactic(auto)]
 
-mod cursors;
+mod cursor_walks;
 mod files;
-mod packed_blocks;
+mod block_codes;
 mod spread_terms;
 mod texts;
 mod times;
@@ -36,8 +36,8 @@ fn main(rt: HostRuntime) -> ExitCode {
 fn measure(rt: &HostRuntime, bench: Bench) -> Result<(), Fault> {
     match bench {
         Bench::Nothing => Ok(()),
-        Bench::Blocks => packed_blocks::measure(rt),
-        Bench::Cursors => cursors::measure(rt, rt.alloc()),
+        Bench::Blocks => block_codes::measure(rt),
+        Bench::Cursors => cursor_walks::measure(rt, rt.alloc()),
         Bench::Texts => texts::measure_input(rt, rt.alloc()),
         Bench::Files => files::measure_all(rt),
     }

@@ -6,7 +6,7 @@ mod blocks;
 mod lengths;
 mod lists;
 mod operations;
-mod positions;
+mod position_lists;
 mod record_files;
 mod skip_entries;
 

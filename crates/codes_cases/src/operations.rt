@@ -1,6 +1,6 @@
 //! Operations by their names. What stands before the first `-` says what an operation is about.
 
-use crate::{blocks, lengths, lists, positions, record_files, skip_entries};
+use crate::{blocks, lengths, lists, position_lists, record_files, skip_entries};
 use case_lines::{Arguments, Operations, Refusal};
 use serde_json::Value;
 use std::alloc::Global;
@@ -19,7 +19,7 @@ impl Operations for CodesOperations {
             "length" => lengths::answer(alloc, call, arguments),
             "list" => lists::answer(alloc, call, arguments),
             "block" => blocks::answer(alloc, call, arguments),
-            "position" => positions::answer(alloc, call, arguments),
+            "position" => position_lists::answer(alloc, call, arguments),
             "skip" => skip_entries::answer(alloc, call, arguments),
             "record" => record_files::answer(alloc, call, arguments),
             _ => Err(Refusal::NotAsked),

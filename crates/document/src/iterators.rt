@@ -177,7 +177,7 @@ impl<'a> Model for FieldValueIterRef<'a> {
 
 impl<'a> FieldValueIterRef<'a> {
     /// So many pairs, one after another from the first byte on.
-    pub(crate) fn new(left: usize, bytes: &'a [u8]) -> FieldValueIterRef<'a>
+    pub fn new(left: usize, bytes: &'a [u8]) -> FieldValueIterRef<'a>
         ensures { result ≡ pairs_at left bytes.now }
     {
         FieldValueIterRef { left, bytes }
@@ -225,7 +225,7 @@ impl<'a> Model for ValuesOfField<'a> {
 
 impl<'a> ValuesOfField<'a> {
     /// The values of that field among these pairs.
-    pub(crate) fn new(field: Field, pairs: FieldValueIterRef<'a>) -> ValuesOfField<'a>
+    pub fn new(field: Field, pairs: FieldValueIterRef<'a>) -> ValuesOfField<'a>
         ensures { result ≡ values_of field pairs.entry }
     {
         ValuesOfField { field, pairs }

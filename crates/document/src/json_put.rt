@@ -17,7 +17,7 @@ use serde_json::{Map, Number, Value as Json};
 use std::alloc::{AllocError, Global};
 
 /// A field with an object.
-pub(crate) fn object_pair(
+pub(crate) fn json_object_pair(
     alloc: Global,
     field: Field,
     members: &Map<String, Json>,

@@ -12,7 +12,7 @@ ghost use Rattle.serde_json.specs.Written.{has_float};
 ghost use Rattle.values_json.specs.Leaves.{value_of};
 
 use crate::compact_doc::CompactDoc;
-use crate::json_put::object_pair;
+use crate::json_put::json_object_pair;
 use common::Fault;
 use schema::{Field, FieldEntry, FieldType, Schema};
 use serde_json::{Map, Value as Json};
@@ -173,7 +173,7 @@ fn add_object(
     ensures ok { OnOk result (doc.new ≡ doc.old ++ (field, definitions.object (reading.json_members (members_view members.now.entries))) ∷ []) }
     ensures err { OnErr result (doc.new ≡ doc.old) }
 {
-    let pair = object_pair(alloc, field, members)?;
+    let pair = json_object_pair(alloc, field, members)?;
     doc.add(pair)
 }
 

@@ -1,7 +1,7 @@
 //! Documents: read, printed, written, copied and compared.
 
 use crate::added_values::document_of_values;
-use crate::document_values::{owned_value, shown, value_list};
+use crate::shown_values::{owned_value, shown, value_list};
 use case_lines::{Arguments, Refusal, flag, hex, number, pair, text};
 use document::{CompactDoc, OwnedValue, put_value, take_value};
 use schema::{Field, Schema};

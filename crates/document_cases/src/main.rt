@@ -4,7 +4,7 @@
 
 mod added_values;
 mod checkpoints;
-mod document_values;
+mod shown_values;
 mod documents;
 mod mixed_stores;
 mod operations;

@@ -20,7 +20,7 @@ ghost use Rattle.index.specs.Standing.{Stands, status_of};
 ghost use Rattle.serde_json.specs.View.{view};
 
 use crate::collection::{Collection, Status};
-use crate::document_values::{put_documents, read_document, read_document_text};
+use crate::read_documents::{put_documents, read_document, read_document_text};
 use bodies::put_docs_head;
 use common::Analyzer;
 use definitions::Fault;

@@ -6,7 +6,7 @@ mod body_reader;
 mod collection;
 mod collection_calls;
 mod contents;
-mod document_values;
+mod read_documents;
 pub mod file_laws;
 mod index;
 mod json_queries;

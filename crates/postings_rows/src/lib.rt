@@ -4,6 +4,6 @@
 #[cfg(test)]
 mod checked_terms;
 #[cfg(test)]
-mod cursors;
+mod cursor_walks;
 #[cfg(test)]
 mod written_postings;

@@ -6,7 +6,7 @@ mod facets;
 mod numbers;
 mod operations;
 mod schemas;
-mod terms;
+mod made_terms;
 mod terms_as_bytes;
 mod terms_at_paths;
 mod tokens;

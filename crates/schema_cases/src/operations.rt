@@ -1,6 +1,6 @@
 //! Operations by their names. What stands before the first `-` says what an operation is about.
 
-use crate::{facets, numbers, schemas, terms, tokens};
+use crate::{facets, numbers, schemas, made_terms, tokens};
 use case_lines::{Arguments, Operations, Refusal};
 use schema::Schema;
 use serde_json::Value;
@@ -32,7 +32,7 @@ impl Operations for SchemaOperations {
         match about {
             "facet" => facets::answer(alloc, call, arguments),
             "schema" => schemas::answer(alloc, schema, call, arguments),
-            "term" => terms::answer(alloc, call, arguments),
+            "term" => made_terms::answer(alloc, call, arguments),
             "token" => tokens::answer(alloc, call, arguments),
             "number" => numbers::answer(alloc, call, arguments),
             _ => Err(Refusal::NotAsked),

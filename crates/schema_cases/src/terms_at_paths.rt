@@ -1,6 +1,6 @@
 //! Terms at the paths of JSON fields, as bytes.
 
-use crate::terms::field;
+use crate::made_terms::field;
 use case_lines::{Arguments, Refusal, hex};
 use schema::{DateTime, Term};
 use serde_json::Value;
