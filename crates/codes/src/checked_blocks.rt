@@ -6,9 +6,9 @@ ghost use Rattle.layouts.specs.Deltas.{documents, next_of};
 ghost use Rattle.definitions.specs.declared.fault.Fault.TheVariants as faults;
 ghost use Rattle.layouts.specs.PackedBlocks.{IsBlock, IsSortedBlock};
 
+use crate::{BlockDecoder, compressed_block_size};
 use crate::offset::least_after;
 use crate::packing::width_of;
-use crate::{BlockDecoder, compressed_block_size};
 use common::Fault;
 
 impl BlockDecoder {

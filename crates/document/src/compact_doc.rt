@@ -20,9 +20,9 @@ use crate::pairs::{
 };
 use crate::taking::skip_pairs;
 use common::{Fault, PreTokenizedString, take_vint};
-use schema::{DateTime, Facet, Field};
 use std::alloc::{AllocError, Global};
 use std::marker::Model;
+use terms::{DateTime, Facet, Field};
 
 /// A document, seen as the list of its pairs: a field's number and one of its values.
 ///

@@ -2,7 +2,7 @@
 
 use crate::compact_tokens::CompactDocTokens;
 use crate::iterators::{CompactDocArrayIter, CompactDocObjectIter};
-use schema::DateTime;
+use terms::DateTime;
 
 /// A value of a document. Texts and bytes are lent, and arrays and objects are read item by item.
 #[derive(Drop)]

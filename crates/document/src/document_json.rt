@@ -12,9 +12,10 @@ use crate::compact_doc::CompactDoc;
 use crate::iterators::ValuesOfField;
 use crate::json_text::write_value;
 use json::Writer;
-use schema::{Field, Schema};
+use schema::Schema;
 use std::alloc::{AllocError, Global};
 use std::collections::BTreeMap;
+use terms::Field;
 
 impl CompactDoc {
     /// The stored values as the text of one JSON object without spaces: field names as keys, in the order of their

@@ -10,8 +10,8 @@ ghost use Rattle.layouts.specs.DocumentReading.{to_members, to_values};
 use crate::owned_value::OwnedValue;
 use crate::writing::{put_address, put_bool, put_number, put_sized};
 use common::{PreTokenizedString, Token, put_bytes, put_vint};
-use schema::{DateTime, Facet};
 use std::alloc::AllocError;
+use terms::{DateTime, Facet};
 
 /// Appends a value.
 #[cycle(put_owned)]

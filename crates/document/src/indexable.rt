@@ -7,12 +7,13 @@ ghost use Rattle.definitions.specs.Values.{members_nesting, nesting, values_nest
 ghost use Rattle.document.specs.IndexedKinds.{indexed_kind};
 ghost use Rattle.document.specs.Shown.{value_of};
 ghost use Rattle.layouts.specs.DocumentReading.{to_members, to_values};
-ghost use Rattle.schema.specs.Kinds.{kind_of};
+ghost use Rattle.terms.specs.Kinds.{kind_of};
 
 use crate::compact_doc::CompactDoc;
 use crate::compact_value::CompactDocValue;
 use crate::iterators::{CompactDocArrayIter, CompactDocObjectIter};
-use schema::{Field, Schema, Type};
+use schema::Schema;
+use terms::{Field, Type};
 
 /// How deep values may nest that are indexed.
 const MAX_NESTING: usize = 128;

@@ -9,8 +9,8 @@ ghost use Rattle.layouts.specs.DocumentReading.{items_at, take_held, take_member
 use crate::compact_value::CompactDocValue;
 use crate::taking::{take, take_any};
 use common::{take_text, take_u32};
-use schema::Field;
 use std::marker::Model;
+use terms::Field;
 
 /// The values of an array, seen as the list of those that are left.
 #[derive(Drop)]

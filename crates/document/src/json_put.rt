@@ -12,9 +12,9 @@ ghost use Rattle.serde_json.specs.View.{items_view, members_view, number_view, v
 
 use crate::writing;
 use common::{put_bytes, put_u32, put_vint};
-use schema::Field;
 use serde_json::{Map, Number, Value as Json};
 use std::alloc::{AllocError, Global};
+use terms::Field;
 
 /// A field with an object.
 pub(crate) fn json_object_pair(

@@ -11,9 +11,10 @@ use crate::compact_doc::CompactDoc;
 use crate::owned_value::OwnedValue;
 use crate::serialize::is_stored;
 use crate::stored::stored_value;
-use schema::{Field, Schema};
+use schema::Schema;
 use std::alloc::{AllocError, Global};
 use std::marker::Model;
+use terms::Field;
 
 /// The stored values of a document: each field that has some, by name, in the order of the schema.
 #[derive(Drop)]

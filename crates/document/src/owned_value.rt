@@ -1,7 +1,7 @@
 //! Values that own what they hold.
 
 use common::PreTokenizedString;
-use schema::{DateTime, Facet};
+use terms::{DateTime, Facet};
 
 /// A value that owns its texts, bytes and the values in it.
 #[derive(Drop)]

@@ -8,8 +8,8 @@ ghost use Rattle.layouts.specs.DocumentReading.{steps_in};
 use crate::compact_value::CompactDocValue;
 use crate::iterators::{CompactDocArrayIter, CompactDocObjectIter};
 use crate::owned_value::OwnedValue;
-use schema::Facet;
 use std::alloc::{AllocError, Global};
+use terms::Facet;
 
 impl OwnedValue {
     /// The value that a document lends, with its texts, bytes and parts copied.

@@ -12,8 +12,8 @@ use crate::holding::{put_owned, put_owned_members, put_pre_tokenized};
 use crate::owned_value::OwnedValue;
 use crate::writing::put_address;
 use common::{PreTokenizedString, put_u32, put_vint};
-use schema::Field;
 use std::alloc::{AllocError, Global};
+use terms::Field;
 
 /// Appends the first bytes and then the second, or nothing.
 pub(crate) fn append(heap: &mut Vec<u8>, first: &[u8], second: &[u8]) -> Result<(), AllocError>

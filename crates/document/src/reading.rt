@@ -14,9 +14,10 @@ ghost use Rattle.values_json.specs.Leaves.{value_of};
 use crate::compact_doc::CompactDoc;
 use crate::json_put::json_object_pair;
 use common::Fault;
-use schema::{Field, FieldEntry, FieldType, Schema};
+use schema::{FieldEntry, FieldType, Schema};
 use serde_json::{Map, Value as Json};
 use std::alloc::{AllocError, Global};
+use terms::Field;
 use values_json::{Leaf, has_float, read_leaf};
 
 impl CompactDoc {

@@ -13,8 +13,9 @@ ghost use Rattle.layouts.specs.DocumentBytes.{document_bytes, pair_bytes};
 use crate::compact_doc::CompactDoc;
 use crate::writing::put_value;
 use common::{put_u32, put_vint};
-use schema::{Field, Schema};
+use schema::Schema;
 use std::alloc::{AllocError, Global};
+use terms::Field;
 
 impl CompactDoc {
     /// The binary form of the pairs of stored fields, pre-tokenised texts as texts. `deserialize` makes the

@@ -2,7 +2,7 @@
 
 ghost use Rattle.std.specs.Prelude.{◌≢◌, IfOk};
 ghost use Rattle.definitions.specs.Schema.{json_kind};
-ghost use Rattle.schema.specs.Kinds.{kind_of};
+ghost use Rattle.terms.specs.Kinds.{kind_of};
 
 use case_lines::{Arguments, Refusal, flag, hex, number, text};
 use schema::{DateTime, Type};

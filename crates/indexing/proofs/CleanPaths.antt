@@ -6,7 +6,7 @@ use Rattle.definitions.specs.JsonLeaves.{has_zero, leaves, members_leaves, value
 use Rattle.definitions.specs.Schema.{json_kind}
 use Rattle.definitions.specs.Terms.{json_term, key_bytes, path_of_keys, payload_of}
 use Rattle.definitions.specs.Values.{Members, Value, Values, array, bool, bytes, date, facet, i64, ip_addr, member, no_members, no_values, null, object, pre_tok_str, str, u64, value}
-use Rattle.schema.proofs.TermParts.{payload_of-term}
+use Rattle.terms.proofs.TermParts.{payload_of-term}
 
 -- ---- the first zero
 

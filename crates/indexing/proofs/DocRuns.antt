@@ -13,7 +13,7 @@ use Rattle.definitions.specs.Recorded.{occurrences}
 use Rattle.definitions.specs.Schema.{Entry, Kind, Schema, bool_kind, bytes_kind, date_kind, facet_kind, gap_of, i64_kind, ip_addr_kind, is_indexed, json_kind, max_fields, text_kind, u64_kind}
 use Rattle.definitions.specs.Terms.{field_of, json_term, leaf_bytes, term_bytes, type_code, value_bytes}
 use Rattle.definitions.specs.Values.{Document, Token, Value, array, bool, bytes, date, facet, i64, ip_addr, null, object, pre_tok_str, str, u64, values_of}
-use Rattle.schema.proofs.TermParts.{field_of-term}
+use Rattle.terms.proofs.TermParts.{field_of-term}
 use Rattle.indexing.specs.Runs.{no_starts, run_terms}
 use Rattle.indexing.specs.Steps.{Step, entry_steps, facet_steps, kind_steps, leaf_steps, path_step, steps_of, term_step, term_steps, text_step, value_steps}
 use Rattle.indexing.proofs.CleanPaths.{HaveCleanPaths, clean_append, leaves_clean}

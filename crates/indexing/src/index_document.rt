@@ -10,7 +10,8 @@ use crate::term_indexer::TermIndexer;
 use common::Analyzer;
 use definitions::Fault;
 use document::{CompactDoc, CompactDocValue};
-use schema::{Field, Schema};
+use schema::Schema;
+use terms::Field;
 
 /// Records the terms of a document, value after value.
 pub(crate) fn index_document<A: Analyzer>(

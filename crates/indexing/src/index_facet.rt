@@ -11,7 +11,7 @@ ghost use Rattle.indexing.specs.Steps.{facet_steps};
 use crate::term_indexer::TermIndexer;
 use definitions::Fault;
 use document::CompactDocValue;
-use schema::{FACET_SEP_BYTE, Field, Type};
+use terms::{FACET_SEP_BYTE, Field, Type};
 
 /// Records the terms of all prefixes of a facet's steps, the empty one included.
 pub(crate) fn index_facet(

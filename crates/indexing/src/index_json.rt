@@ -16,7 +16,8 @@ use crate::term_indexer::TermIndexer;
 use common::Analyzer;
 use definitions::Fault;
 use document::{CompactDocArrayIter, CompactDocObjectIter, CompactDocValue};
-use schema::{FastValue, Field, FieldEntry};
+use schema::FieldEntry;
+use terms::{FastValue, Field};
 
 /// A JSON field whose terms are recorded.
 #[derive(Drop)]

@@ -3,7 +3,7 @@
 ghost use Rattle.std.specs.Prelude.{◌≡◌, IfErr, OnOk};
 ghost use Rattle.definitions.specs.Schema.{bool_kind, bytes_kind, date_kind, i64_kind, ip_addr_kind, text_kind, u64_kind};
 ghost use Rattle.document.specs.Shown.{value_of};
-ghost use Rattle.schema.specs.Kinds.{kind_of};
+ghost use Rattle.terms.specs.Kinds.{kind_of};
 ghost use Rattle.indexing.specs.Contexts.{CanIndex, Records, Refuses};
 ghost use Rattle.indexing.specs.Steps.{kind_steps, plain_steps, text_steps};
 
@@ -13,7 +13,8 @@ use crate::term_indexer::TermIndexer;
 use common::Analyzer;
 use definitions::Fault;
 use document::CompactDocValue;
-use schema::{FastValue, Field, FieldEntry, FieldType, Type};
+use schema::{FieldEntry, FieldType};
+use terms::{FastValue, Field, Type};
 
 /// Records the terms of a value of an indexed field.
 pub(crate) fn index_value<A: Analyzer>(

@@ -6,7 +6,7 @@ ghost use Rattle.definitions.specs.Analyzers.{kept};
 ghost use Rattle.definitions.specs.Schema.{json_kind, text_kind};
 ghost use Rattle.definitions.specs.Terms.{json_term, path_of_keys, term_bytes, type_code};
 ghost use Rattle.postings_writer.specs.Writers.{Stands};
-ghost use Rattle.schema.specs.Kinds.{kind_of};
+ghost use Rattle.terms.specs.Kinds.{kind_of};
 ghost use Rattle.indexing.specs.Contexts.{CanIndex, Records, Refuses};
 ghost use Rattle.indexing.specs.Steps.{path_step, term_step, text_step};
 
@@ -14,9 +14,10 @@ use crate::indexing_context::IndexingContext;
 use common::Token;
 use definitions::Fault;
 use postings_writer::PostingsWriter;
-use schema::{Field, Schema, Type, push_json_path, push_term_header};
+use schema::Schema;
 use std::alloc::{AllocError, Global};
 use std::marker::Model;
+use terms::{Field, Type, push_json_path, push_term_header};
 
 /// How many positions stand between two texts.
 const POSITION_GAP: u32 = 1;

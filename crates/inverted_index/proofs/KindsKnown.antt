@@ -8,9 +8,9 @@ use Rattle.definitions.specs.Terms.{field_of, term_bytes}
 use Rattle.layouts.specs.Deltas.{IsAscendingFrom}
 use Rattle.layouts.specs.InvertedIndexes.{indexed_fields, option_of_term, term_of_key}
 use Rattle.options.specs.RecordOption.{record_option_of}
-use Rattle.schema.proofs.TermParts.{field_of-term, text_terms}
-use Rattle.schema.specs.Kinds.{kind_of}
-use Rattle.schema.specs.TextKeys.{is_text_key}
+use Rattle.terms.proofs.TermParts.{field_of-term, text_terms}
+use Rattle.terms.specs.Kinds.{kind_of}
+use Rattle.terms.specs.TextKeys.{is_text_key}
 use Rattle.inverted_index.specs.FieldKinds.{kinds_of, option_in, shown}
 use Rattle.inverted_index.specs.declared.field_kind.FieldKind.{FieldKind}
 

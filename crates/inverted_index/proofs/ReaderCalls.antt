@@ -7,8 +7,8 @@ use Rattle.definitions.specs.Schema.{Kind}
 use Rattle.definitions.specs.Terms.{field_of, payload_of, term_bytes, type_code}
 use Rattle.layouts.specs.Deltas.{IsAscendingFrom}
 use Rattle.layouts.specs.InvertedIndexes.{IndexedField, field_terms, num_tokens}
-use Rattle.schema.proofs.TermParts.{code_same, same_code}
-use Rattle.schema.specs.Kinds.{kind_of}
+use Rattle.terms.proofs.TermParts.{code_same, same_code}
+use Rattle.terms.specs.Kinds.{kind_of}
 use Rattle.inverted_index.proofs.DictionariesPlaced.{dictionary_found, is_dictionary, term_found}
 use Rattle.inverted_index.proofs.KindsKnown.{fields_ascend}
 use Rattle.inverted_index.proofs.TermsHeld.{none_held, same_held, same_numbers, some_same}

@@ -7,7 +7,7 @@ use Rattle.definitions.specs.Schema.{Entry, Kind, Schema}
 use Rattle.definitions.specs.Terms.{field_of, payload_of, term_bytes}
 use Rattle.layouts.specs.Deltas.{IsAscendingFrom}
 use Rattle.layouts.specs.InvertedIndexes.{IndexedField, IndexedTerm, field_terms, term_of_key}
-use Rattle.schema.proofs.TermParts.{other_fields, other_kinds, same_keys}
+use Rattle.terms.proofs.TermParts.{other_fields, other_kinds, same_keys}
 use Rattle.inverted_index.proofs.KindsKnown.{IsKind, fields_ascend, kinds_known}
 use Rattle.inverted_index.specs.FieldDictionaries.{terms_in}
 use Rattle.inverted_index.specs.Readers.{HasKind, IsReader, Reader, index_in, term_held, term_in}

@@ -3,8 +3,8 @@ use Rattle.std.specs.Prelude.{List, filter, if◌then◌else◌, map, ℕ}
 use Rattle.std.specs.List.{enumerate_from}
 use Rattle.definitions.specs.Schema.{IndexRecordOption, Kind, Schema, basic, is_indexed}
 use Rattle.options.specs.RecordOption.{record_option_of}
-use Rattle.schema.specs.Kinds.{kind_of}
-use Rattle.schema.specs.TextKeys.{is_text_key}
+use Rattle.terms.specs.Kinds.{kind_of}
+use Rattle.terms.specs.TextKeys.{is_text_key}
 use Rattle.inverted_index.specs.declared.field_kind.FieldKind.{FieldKind}
 
 -- a field by its number, the kind of its values, and what is recorded of its texts

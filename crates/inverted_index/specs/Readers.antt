@@ -4,7 +4,7 @@ use Rattle.std.specs.Option.{option_map_or}
 use Rattle.definitions.specs.Postings.{Posting}
 use Rattle.definitions.specs.Schema.{Kind, Schema, max_fields}
 use Rattle.layouts.specs.InvertedIndexes.{AreSections, IndexedField, IndexedTerm, field_terms, num_tokens, term_of_key}
-use Rattle.schema.specs.Kinds.{kind_of}
+use Rattle.terms.specs.Kinds.{kind_of}
 use Rattle.inverted_index.specs.CheckedTerms.{Sections}
 use Rattle.inverted_index.specs.Dictionaries.{Placed}
 use Rattle.inverted_index.specs.FieldDictionaries.{terms_in, terms_of_field}

@@ -6,8 +6,9 @@ ghost use Rattle.inverted_index.specs.FieldKinds.{kinds_of, option_in, shown};
 ghost use Rattle.options.specs.RecordOption.{record_option_of};
 
 use options::IndexRecordOption;
-use schema::{Schema, Type};
+use schema::Schema;
 use std::alloc::{AllocError, Global};
+use terms::Type;
 
 /// An indexed field: its number, the type of its values, and what is recorded of its texts.
 #[derive(Clone, Copy)]

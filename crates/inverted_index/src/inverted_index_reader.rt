@@ -14,7 +14,7 @@ ghost use Rattle.inverted_index.specs.declared.field_index.FieldIndex.{FieldInde
 ghost use Rattle.layouts.specs.InvertedIndexes.{AreSections, IndexedField};
 ghost use Rattle.options.specs.RecordOption.{record_option_of};
 ghost use Rattle.postings.specs.Cursors.{blocks_decoded, counts_left, cursor_blocks_decoded, cursor_doc_freq, docs_left, entries_left};
-ghost use Rattle.schema.specs.Kinds.{kind_of};
+ghost use Rattle.terms.specs.Kinds.{kind_of};
 
 use crate::field_index::FieldIndex;
 use crate::field_lookup::index_of;
@@ -28,9 +28,10 @@ use codes::FieldNormReaders;
 use definitions::Fault;
 use options::IndexRecordOption;
 use postings::{BlockSegmentPostings, SegmentPostings};
-use schema::{Field, Schema, Term, Type};
+use schema::Schema;
 use std::alloc::Global;
 use std::marker::Model;
+use terms::{Field, Term, Type};
 
 /// The terms of all indexed fields of a segment, with their postings. The sections are shared, and no part of
 /// them is copied.

@@ -14,7 +14,7 @@ use Rattle.definitions.specs.Values.{Document, Token, Value, array, bool, bytes,
 use Rattle.plain.specs.IndexedDocs.{Describes, as_list, entry_terms, kind_terms, leaf_terms, one_term, own_terms, text_terms, token_terms}
 use Rattle.plain.specs.declared.indexed_doc.IndexedDoc.{IndexedDoc}
 use Rattle.plain.proofs.TermCounts.{sum_by-values_of}
-use Rattle.schema.proofs.TermParts.{field_of-term}
+use Rattle.terms.proofs.TermParts.{field_of-term}
 
 -- ---- terms tell their field
 

@@ -3,7 +3,7 @@ use Rattle.std.proofs.Common.{[], Bool, List, Some, ap, arith, bytes_eq, cond, d
 use Rattle.std.specs.List.{after_first, position_or_len}
 use Rattle.definitions.specs.Schema.{Kind}
 use Rattle.definitions.specs.Terms.{has_kind, kind_in, type_code}
-use Rattle.schema.proofs.TermParts.{code_of_kind}
+use Rattle.terms.proofs.TermParts.{code_of_kind}
 
 -- a term has a kind where the codes are the same
 pub has_kind_by_code : (t : List ℕ) (of other : Kind) (a b : ℕ) → kind_in t ≡ Some of → type_code of ≡ a ∷ [] → type_code other ≡ b ∷ [] → has_kind other t ≡ (a == b)

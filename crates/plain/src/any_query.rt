@@ -6,8 +6,8 @@ ghost use Rattle.plain.specs.Queries.{clauses_of};
 ghost use Rattle.options.specs.RecordOption.{record_option_of};
 
 use options::IndexRecordOption;
-use schema::Term;
 use std::marker::Model;
+use terms::Term;
 
 /// Documents that have a term.
 #[derive(Drop)]

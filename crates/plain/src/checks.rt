@@ -13,8 +13,9 @@ use crate::any_query::{AnyQuery, Occur};
 use crate::term_types::{is_of_field, lacks_leaf};
 use common::MAX_SCORE;
 use definitions::Fault;
-use schema::{Schema, Term};
+use schema::Schema;
 use settings::Settings;
+use terms::Term;
 
 /// The most nodes on a path of a query.
 const MAX_DEPTH: usize = 64;

@@ -10,8 +10,8 @@ ghost use Rattle.layouts.specs.DocumentReading.{steps_in};
 ghost use Rattle.plain.specs.FacetPrefixes.{prefix_terms};
 
 use document::CompactDocValue;
-use schema::{Facet, Field, Term};
 use std::alloc::{AllocError, Global};
+use terms::{Facet, Field, Term};
 
 /// What stands between two steps of a facet.
 const STEP_SEP: char = '\0';

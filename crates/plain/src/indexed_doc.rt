@@ -9,8 +9,9 @@ ghost use Rattle.plain.specs.IndexedDocs.{IsIndexed};
 use crate::value_terms::push_own_terms;
 use common::Analyzer;
 use document::CompactDoc;
-use schema::{Field, Schema, Term};
+use schema::Schema;
 use std::alloc::{AllocError, Global};
+use terms::{Field, Term};
 
 /// A document, and the terms of all of its values.
 #[derive(Drop)]

@@ -12,8 +12,8 @@ ghost use Rattle.plain.specs.IndexedDocs.{leaves_terms, path_token_terms, plain_
 
 use common::{Analyzer, MAX_TOKEN_LEN, Token};
 use document::{CompactDocArrayIter, CompactDocObjectIter, CompactDocValue};
-use schema::{FastValue, Field, Term};
 use std::alloc::{AllocError, Global};
+use terms::{FastValue, Field, Term};
 
 /// A JSON field whose terms are added.
 #[derive(Drop)]

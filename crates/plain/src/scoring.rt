@@ -18,8 +18,9 @@ use crate::indexed_doc::IndexedDoc;
 use crate::tally::Tally;
 use crate::term_types::is_text_term;
 use codes::fieldnorm_to_id;
-use schema::{Field, FieldEntry, Schema};
+use schema::{FieldEntry, Schema};
 use settings::Settings;
+use terms::Field;
 
 /// The length id of a field that keeps no length.
 const NO_LENGTH_ID: u8 = 1;

@@ -5,10 +5,11 @@ ghost use Rattle.std.specs.List.{after_first};
 ghost use Rattle.std.specs.Option.{option_map_or};
 ghost use Rattle.definitions.specs.Schema.{is_text, json_kind};
 ghost use Rattle.definitions.specs.Terms.{has_kind, inner_kind, is_text_term, leaf_kinds, type_code};
-ghost use Rattle.schema.specs.Kinds.{kind_of};
+ghost use Rattle.terms.specs.Kinds.{kind_of};
 
 use crate::value_terms::type_of;
-use schema::{FieldEntry, Term, Type};
+use schema::FieldEntry;
+use terms::{Term, Type};
 
 /// Whether the term is of the field's type.
 pub(crate) fn is_of_field(entry: &FieldEntry, term: &Term) -> bool

@@ -7,15 +7,16 @@ ghost use Rattle.definitions.specs.Terms.{term_bytes, value_bytes};
 ghost use Rattle.common.specs.Token.{token_of};
 ghost use Rattle.document.specs.Shown.{value_of};
 ghost use Rattle.plain.specs.IndexedDocs.{as_list, entry_terms, kind_terms, own_terms, text_terms, token_terms};
-ghost use Rattle.schema.specs.Kinds.{kind_of};
+ghost use Rattle.terms.specs.Kinds.{kind_of};
 
 use crate::facet_terms::push_facet_terms;
 use crate::json_terms::push_json_terms;
 use common::{Analyzer, MAX_TOKEN_LEN, Token};
 use document::CompactDocValue;
-use schema::{Field, FieldEntry, FieldType, Schema, Term, Type};
+use schema::{FieldEntry, FieldType, Schema};
 use std::alloc::{AllocError, Global};
 use std::net::Ipv6Addr;
+use terms::{Field, Term, Type};
 
 /// Adds the terms of a value, if the schema has its field and that is indexed.
 pub(crate) fn push_own_terms<A: Analyzer>(

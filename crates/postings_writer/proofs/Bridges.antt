@@ -8,8 +8,8 @@ use Rattle.postings_writer.specs.Fields.{option_of_key}
 use Rattle.postings_writer.specs.Occurrences.{by_document, posting_in, postings_at}
 use Rattle.postings_writer.specs.Recorders.{recorded_as}
 use Rattle.postings_writer.specs.Serializing.{of_count, of_doc, postings_from}
-use Rattle.schema.proofs.TermParts.{field_of-term, text_terms}
-use Rattle.schema.specs.TextKeys.{is_text_key}
+use Rattle.terms.proofs.TermParts.{field_of-term, text_terms}
+use Rattle.terms.specs.TextKeys.{is_text_key}
 
 -- the recorder of places stands for their postings
 pub recorded_postings : (option : IndexRecordOption) (ps : List (ℕ × ℕ)) → postings_from (recorded_as option ps) 0 ≡ postings_at option ps

@@ -10,7 +10,7 @@ use Rattle.std.proofs.lemmas.Slice.Eq.{bytes_eq-Decides}
 use Rattle.definitions.specs.Schema.{Entry, Kind, Schema, bool_kind, bytes_kind, date_kind, facet_kind, i64_kind, ip_addr_kind, json_kind, max_fields, text_kind, u64_kind}
 use Rattle.definitions.specs.Scoring.{DontFall}
 use Rattle.definitions.specs.Terms.{field_of, payload_of, term_bytes}
-use Rattle.schema.proofs.TermParts.{field_of-term, other_fields, payload_of-term, same_keys}
+use Rattle.terms.proofs.TermParts.{field_of-term, other_fields, payload_of-term, same_keys}
 use Rattle.postings_writer.specs.Fields.{HasPlaces, Terms, option_of_key, with_place}
 use Rattle.postings_writer.specs.Occurrences.{Occurrence, places_of}
 use Rattle.postings_writer.specs.Recorders.{recorder_of}

@@ -24,7 +24,7 @@ use Rattle.postings_writer.specs.Sections.{AreFieldsAdded, IsFieldOf, IsTermOf}
 use Rattle.postings_writer.specs.Writers.{IsIndexedTerm, IsOccurrence, Stands, Writer}
 use Rattle.postings_writer.proofs.Bridges.{same_option}
 use Rattle.postings_writer.proofs.Places.{ArePlaces, all_then, are_postings, counts_recorded, places_stand, some_places, some_postings}
-use Rattle.schema.proofs.TermParts.{same_keys}
+use Rattle.terms.proofs.TermParts.{same_keys}
 use Rattle.postings_writer.proofs.StandingFields.{places_in}
 use Rattle.postings_writer.proofs.WrittenFields.{all_push, flat_map_push}
 

@@ -3,7 +3,7 @@ use Rattle.std.specs.Prelude.{[], ◌++◌, ◌≡◌, ◌∷◌, List, bytes_eq
 use Rattle.std.specs.Map.{lookup}
 use Rattle.definitions.specs.Schema.{Entry, IndexRecordOption, basic}
 use Rattle.postings_writer.specs.Recorders.{recorder_of}
-use Rattle.schema.specs.TextKeys.{is_text_key}
+use Rattle.terms.specs.TextKeys.{is_text_key}
 use Rattle.postings_writer.specs.declared.recorder.Recorder.{Recorder}
 
 -- terms by their value bytes, each with its recorder

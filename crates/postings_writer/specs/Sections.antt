@@ -11,7 +11,7 @@ use Rattle.layouts.specs.TermSections.{TermsAscend, entry_of_term, field_terms_b
 use Rattle.postings.specs.FieldWriting.{FieldWriting, Sections}
 use Rattle.postings.specs.TermWriting.{recorded_count}
 use Rattle.postings_writer.specs.Fields.{option_of_key}
-use Rattle.schema.specs.TextKeys.{is_text_key}
+use Rattle.terms.specs.TextKeys.{is_text_key}
 use Rattle.postings_writer.specs.Limits.{TermPasses}
 use Rattle.postings_writer.specs.Occurrences.{postings_at}
 use Rattle.postings_writer.specs.Serializing.{postings_from}

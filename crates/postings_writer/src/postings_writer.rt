@@ -8,9 +8,10 @@ ghost use Rattle.postings_writer.specs.Writers.{IsIndexedTerm, Stands};
 
 use crate::field_postings::FieldPostings;
 use definitions::Fault;
-use schema::{Field, Schema};
+use schema::Schema;
 use std::alloc::{AllocError, Global};
 use std::marker::Model;
+use terms::Field;
 
 /// How many bytes a term has before its value: four of the field's number, and one of the type's code.
 const HEADER_LEN: usize = 5;

@@ -15,7 +15,8 @@ use crate::postings_writer::PostingsWriter;
 use codes::FieldNormReaders;
 use definitions::Fault;
 use postings::InvertedIndexSerializer;
-use schema::{Field, FieldEntry};
+use schema::FieldEntry;
+use terms::Field;
 
 impl<'a> PostingsWriter<'a> {
     /// Writes the terms of the indexed fields, field by field in the order of their numbers, with their postings

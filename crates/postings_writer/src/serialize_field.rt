@@ -14,7 +14,7 @@ ghost use Rattle.postings_writer.specs.Occurrences.{postings_at};
 ghost use Rattle.postings_writer.specs.Sections.{AnyTermPasses, AreAdded, AreFieldsAdded, IsFieldOf};
 ghost use Rattle.postings_writer.specs.Serializing.{CanWrite, postings_from, tokens_of};
 ghost use Rattle.postings_writer.specs.declared.recorder.Recorder as recorders;
-ghost use Rattle.schema.specs.Kinds.{kind_of};
+ghost use Rattle.terms.specs.Kinds.{kind_of};
 
 use crate::field_postings::FieldPostings;
 use crate::recorder::Recorder;
@@ -23,8 +23,9 @@ use codes::FieldNormReader;
 use definitions::Fault;
 use options::IndexRecordOption;
 use postings::{FieldSerializer, InvertedIndexSerializer};
-use schema::{FieldEntry, Type};
+use schema::FieldEntry;
 use std::alloc::Global;
+use terms::Type;
 
 /// The sum of the counts, where it has 64 bits.
 fn sum_counts(counts: &[(u32, u32)]) -> Option<u64>

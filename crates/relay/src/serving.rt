@@ -7,9 +7,9 @@ ghost use Rattle.relay.specs.Reading.{Holds};
 ghost use Rattle.relay.specs.Replies.{output_line, Writes};
 ghost use Rattle.relay.specs.Serving.{Grows, ServesLine, WritesAnswer};
 
+use crate::{RunFault, Service};
 use crate::line::LineBuffer;
 use crate::reading::read_line;
-use crate::{RunFault, Service};
 use std::alloc::Global;
 use std::io::{BufRead, Write};
 

@@ -2,13 +2,3 @@ pub mod FieldNames
 pub mod FieldSplits
 pub mod ReadBack
 pub mod ReadKinds
-pub mod MappedAddresses
-pub mod JsonPathSteps
-pub mod FacetSteps
-pub mod FacetTexts
-pub mod FacetPathTexts
-pub mod FacetBelow
-pub mod FacetLists
-pub mod TermOrder
-pub mod TextKeys
-pub mod TermParts

@@ -4,14 +4,14 @@ ghost use Rattle.std.specs.Prelude.{[], if◌then◌else◌, option_map, string_
 ghost use Rattle.definitions.specs.Schema.{bytes_kind, date_kind, has_lengths, ip_addr_kind, is_indexed, is_text, json_kind, keeps_length};
 ghost use Rattle.options.specs.RecordOption.{record_option_of};
 ghost use Rattle.schema.specs.Entries.{entry_of};
-ghost use Rattle.schema.specs.Kinds.{kind_of};
+ghost use Rattle.terms.specs.Kinds.{kind_of};
 
-use crate::field_type::Type;
 use options::{
     BytesOptions, DateOptions, FacetOptions, IndexRecordOption, IpAddrOptions, JsonObjectOptions,
     NumericOptions, TextFieldIndexing, TextOptions,
 };
 use std::marker::Model;
+use terms::Type;
 
 /// The type of a field, with its options.
 #[derive(Drop)]

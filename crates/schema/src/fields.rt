@@ -5,9 +5,9 @@ ghost use Rattle.std.specs.Iterator.{YieldsFirstBy, item_count};
 ghost use Rattle.std.specs.List.{enumerate_from};
 ghost use Rattle.definitions.specs.Schema.{max_fields};
 
-use crate::field::Field;
 use crate::field_entry::FieldEntry;
 use std::marker::Model;
+use terms::Field;
 
 /// The fields of a schema with their entries, seen as the list of those that are left.
 #[derive(Drop)]

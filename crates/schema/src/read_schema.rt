@@ -10,10 +10,9 @@ ghost use Rattle.options.specs.RecordOption.{record_option_of};
 ghost use Rattle.serde_json.specs.Find.{as_object};
 ghost use Rattle.serde_json.specs.View.{items_view, view};
 ghost use Rattle.schema.specs.Entries.{entry_of, facet_entry, indexed_by, json_entry, json_flags_in, numeric_options_in, text_entry, text_flags_in, value_options_in};
-ghost use Rattle.schema.specs.Kinds.{kind_of};
+ghost use Rattle.terms.specs.Kinds.{kind_of};
 
 use crate::field_entry::FieldType;
-use crate::field_type::Type;
 use crate::schema::Schema;
 use definitions::Fault;
 use json_keys::{flag_or, has_only, object_at, text_at};
@@ -23,6 +22,7 @@ use options::{
 };
 use serde_json::Value;
 use std::alloc::Global;
+use terms::Type;
 
 impl Schema {
     /// The schema in JSON. Options that a field's type lacks are ignored. Any other form, and a name that is

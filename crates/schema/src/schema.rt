@@ -10,7 +10,6 @@ ghost use Rattle.definitions.specs.declared.fault.Fault.TheVariants as faults;
 ghost use Rattle.options.specs.Options.{FacetData, JsonData, NumericData, TextData, ValueData};
 ghost use Rattle.schema.specs.Entries.{entry_of, facet_entry, json_entry, numeric_entry, text_entry, value_entry};
 
-use crate::field::Field;
 use crate::field_entry::{FieldEntry, FieldType};
 use crate::fields::Fields;
 use definitions::Fault;
@@ -21,6 +20,7 @@ use options::{
 use std::alloc::Global;
 use std::collections::HashMap;
 use std::marker::Model;
+use terms::Field;
 
 /// The most fields that a schema has.
 const MAX_FIELDS: usize = 4294967295;

@@ -11,9 +11,9 @@ ghost use Rattle.serde_json.specs.View.{items_view, number_view, view};
 ghost use Rattle.settings.specs.Terms.{date_term, leaf_term};
 
 use json_keys::{has_only, has_only_beside, text_at};
-use schema::{DateTime, FastValue, Field, Term};
 use serde_json::{Number, Value as Json};
 use std::alloc::{AllocError, Global};
+use terms::{DateTime, FastValue, Field, Term};
 use values_json::read_date;
 
 /// The term of a JSON field: its name, the path of a value and the value, beside these further keys. With

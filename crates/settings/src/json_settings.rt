@@ -14,9 +14,10 @@ use crate::settings::Settings;
 use crate::terms_to_json::term_to_json;
 use definitions::Fault;
 use json_keys::has_only;
-use schema::{Schema, Term};
+use schema::Schema;
 use serde_json::{Value as Json, json};
 use std::alloc::{AllocError, Global};
+use terms::Term;
 
 impl Settings {
     /// The settings in a JSON object. A key that is absent has its default.

@@ -9,15 +9,15 @@ ghost use Rattle.definitions.specs.TermData.{leaf_data, leaf_of_bytes, path_data
 ghost use Rattle.definitions.specs.Terms.{leaf_kinds, type_code};
 ghost use Rattle.definitions.specs.Values.{null};
 ghost use Rattle.serde_json.specs.Data.{array, string};
-ghost use Rattle.schema.specs.Kinds.{kind_of};
+ghost use Rattle.terms.specs.Kinds.{kind_of};
 ghost use Rattle.serde_json.specs.View.{items_of, view};
 ghost use Rattle.settings.specs.Terms.{is_leaf_kind};
 ghost use Rattle.values_json.specs.Leaves.{value_of};
 
 use crate::term_values::{leaf_of_bytes, parts};
-use schema::Type;
 use serde_json::{Value as Json, json};
 use std::alloc::{AllocError, Global};
+use terms::Type;
 use values_json::{Leaf, leaf_to_json};
 
 /// The term of a JSON field, from its bytes: the path, U+0000 and a leaf.

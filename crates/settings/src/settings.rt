@@ -9,10 +9,10 @@ ghost use Rattle.definitions.specs.declared.fault.Fault.TheVariants as faults;
 ghost use Rattle.settings.specs.Weights.{WeighsTerms, get_by_bytes, settings_of};
 
 use definitions::Fault;
-use schema::Term;
 use std::alloc::{AllocError, Global};
 use std::collections::HashMap;
 use std::marker::Model;
+use terms::Term;
 
 /// The most documents that a segment takes.
 const MAX_DOCS_PER_SEGMENT: u64 = 2147483647;

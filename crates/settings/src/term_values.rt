@@ -8,11 +8,11 @@ ghost use Rattle.std.specs.Str.{is_utf8};
 ghost use Rattle.definitions.specs.Json.{only_if};
 ghost use Rattle.definitions.specs.TermData.{signed_number, value_of_bytes};
 ghost use Rattle.definitions.specs.Values as values;
-ghost use Rattle.schema.specs.Kinds.{kind_of};
+ghost use Rattle.terms.specs.Kinds.{kind_of};
 ghost use Rattle.values_json.specs.Leaves.{value_of};
 
-use schema::{DateTime, Facet, Type};
 use std::alloc::{AllocError, Global};
+use terms::{DateTime, Facet, Type};
 use values_json::Leaf;
 
 /// What is taken off a number from 0 below 2^64 whose sign bit is flipped.

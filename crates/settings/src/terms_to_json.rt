@@ -4,15 +4,16 @@ ghost use Rattle.std.specs.Prelude.{[], ◌∷◌, ◌≡◌, IfOk, codes};
 ghost use Rattle.definitions.specs.Json.{object_of};
 ghost use Rattle.definitions.specs.Printed.{printed};
 ghost use Rattle.definitions.specs.TermData.{term_data, value_of_bytes};
-ghost use Rattle.schema.specs.Kinds.{kind_of};
+ghost use Rattle.terms.specs.Kinds.{kind_of};
 ghost use Rattle.serde_json.specs.Data.{string};
 ghost use Rattle.serde_json.specs.View.{view};
 
 use crate::paths_to_json::path_term_to_json;
 use crate::term_values::leaf_of_bytes;
-use schema::{Schema, Term, Type};
+use schema::Schema;
 use serde_json::{Value as Json, json};
 use std::alloc::{AllocError, Global};
+use terms::{Term, Type};
 use values_json::leaf_to_json;
 
 /// The term as a JSON object, and null where the schema has no such field.

@@ -6,8 +6,8 @@ ghost use Rattle.values_json.specs.DateParts.{civil_text, parts_text};
 
 use crate::civil::{LAST_DAY, days_before, month_and_day, year_of};
 use crate::padded::push_padded;
-use schema::DateTime;
 use std::alloc::{AllocError, Global};
+use terms::DateTime;
 
 /// The longest text of a date: a year of four digits, and a fraction of nine.
 const MAX_LEN: usize = 30;

@@ -8,7 +8,7 @@ ghost use Rattle.values_json.specs.Dates.{date_within};
 
 use definitions::Fault;
 use jiff::Timestamp;
-use schema::DateTime;
+use terms::DateTime;
 
 /// The date in a text that `jiff` reads as a timestamp. Others are `ParseError`, and one that 64 bits of
 /// nanoseconds don't reach is `OverflowError`.

@@ -5,8 +5,8 @@ ghost use Rattle.definitions.specs.Facets.{facet_of_path};
 ghost use Rattle.definitions.specs.declared.fault.Fault.TheVariants as faults;
 
 use definitions::Fault;
-use schema::Facet;
 use std::alloc::Global;
+use terms::Facet;
 
 /// The facet of a path. A text that is none is `ParseError`.
 pub fn read_facet(alloc: Global, text: &str) -> Result<Facet, Fault>

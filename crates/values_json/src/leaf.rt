@@ -1,6 +1,6 @@
 //! Values of fields, but for JSON objects.
 
-use schema::{DateTime, Facet};
+use terms::{DateTime, Facet};
 
 /// A value of a field of any type but JSON objects.
 #[derive(Drop)]

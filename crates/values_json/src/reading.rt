@@ -6,7 +6,7 @@ ghost use Rattle.definitions.specs.Reading.{if_coerced, read_kind};
 ghost use Rattle.definitions.specs.Schema.{bool_kind, bytes_kind, date_kind, facet_kind, i64_kind, ip_addr_kind, json_kind, text_kind, u64_kind};
 ghost use Rattle.definitions.specs.Values as values;
 ghost use Rattle.definitions.specs.declared.fault.Fault.TheVariants as faults;
-ghost use Rattle.schema.specs.Kinds.{kind_of};
+ghost use Rattle.terms.specs.Kinds.{kind_of};
 ghost use Rattle.serde_json.specs.Find.{as_object};
 ghost use Rattle.serde_json.specs.View.{view};
 ghost use Rattle.serde_json.specs.Written.{compact_text, has_float};
@@ -21,7 +21,7 @@ use crate::numbers::{
     read_bool_text, read_i64_number, read_i64_text, read_u64_number, read_u64_text,
 };
 use definitions::Fault;
-use schema::Type;
+use terms::Type;
 use serde_json::Value as Json;
 use std::alloc::Global;
 

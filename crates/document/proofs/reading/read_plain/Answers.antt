@@ -1,7 +1,7 @@
 -- The kind and the option of the field's type are those of its entry.
 use Rattle.std.proofs.Common.{rules, ◌≡◌}
 use Rattle.definitions.specs.Reading as reading
-use Rattle.schema.specs.Kinds.{kind_of}
+use Rattle.terms.specs.Kinds.{kind_of}
 use Rattle.serde_json.specs.View.{view}
 use Rattle.document.proofs.reading.read_plain.Goals as goal
 

@@ -1,6 +1,6 @@
 use Rattle.std.proofs.Common.{Bor, IfOk, List, subst, ◌≡◌, ℕ}
 use Rattle.std.specs.String.{string_bytes}
-use Rattle.schema.proofs.FacetLists.{joined}
+use Rattle.terms.proofs.FacetLists.{joined}
 use Rattle.plain.proofs.facet_terms.joined_steps.Goals as goal
 
 abbrev text_of : Bor (List ℕ) → List ℕ

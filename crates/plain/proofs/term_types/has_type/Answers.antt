@@ -1,5 +1,5 @@
 use Rattle.std.proofs.Common.{sym}
-use Rattle.schema.specs.Kinds.{kind_of}
+use Rattle.terms.specs.Kinds.{kind_of}
 use Rattle.plain.proofs.TermKinds.{has_kind_by_code}
 use Rattle.plain.proofs.term_types.has_type.Goals as goal
 

@@ -1,12 +1,12 @@
 use Rattle.std.proofs.Common.{List, arith, ap, map, subst, take, cond, ◌≡◌, ◌∙◌, ℕ}
 use Rattle.std.proofs.lemmas.Result.{err_from_is_err_and}
 use Rattle.definitions.specs.Schema.{IndexRecordOption, basic}
-use Rattle.schema.specs.TextKeys.{is_text_key}
+use Rattle.terms.specs.TextKeys.{is_text_key}
 use Rattle.postings_writer.specs.Sections.{option_in}
 use Rattle.postings_writer.specs.Serializing.{IsWrittenTerm, postings_from}
 use Rattle.postings_writer.specs.declared.recorder.Recorder.{Recorder}
 use Rattle.postings_writer.proofs.WrittenFields.{added_next, mapped_more, term_refused}
-use Rattle.schema.specs.Kinds.{kind_of}
+use Rattle.terms.specs.Kinds.{kind_of}
 use Rattle.postings_writer.proofs.serialize_field.serialize_terms.Goals as goal
 
 pub loop-key-preserved : goal.loop-key-preserved

@@ -1,7 +1,7 @@
 use Rattle.std.proofs.Common.{List, map, take}
 use Rattle.layouts.specs.InvertedIndexes.{IndexedTerm}
 use Rattle.postings_writer.specs.Sections.{AreAdded}
-use Rattle.schema.specs.Kinds.{kind_of}
+use Rattle.terms.specs.Kinds.{kind_of}
 use Rattle.postings_writer.proofs.serialize_field.serialize_terms.Given as goal
 
 -- the terms so far were written

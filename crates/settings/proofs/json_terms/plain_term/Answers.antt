@@ -1,6 +1,6 @@
 -- The value that stands beside no other key gives the term.
 use Rattle.std.proofs.Common.{IfOk, List, Option, subst, ◌≡◌, ℕ}
-use Rattle.schema.specs.Kinds.{kind_of}
+use Rattle.terms.specs.Kinds.{kind_of}
 use Rattle.serde_json.specs.View.{view}
 use Rattle.settings.specs.Terms.{value_term}
 use Rattle.settings.proofs.ValueTerms.{found_then}

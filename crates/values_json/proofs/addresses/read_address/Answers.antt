@@ -3,7 +3,7 @@ use Rattle.std.proofs.Common.{List, Some, ap, length, rules, sym, ◌∙◌, ◌
 use Rattle.std.specs.Int.{from_be_bytes, w128}
 use Rattle.std.specs.Net.Addr.{ipv6_bits, octets_of}
 use Rattle.definitions.specs.Addresses.{mapped}
-use Rattle.schema.proofs.MappedAddresses.{mapped_bits}
+use Rattle.terms.proofs.MappedAddresses.{mapped_bits}
 use Rattle.values_json.proofs.AddressTexts.{group_bits, groups_address, no_address, quad_address, quad_bits}
 use Rattle.values_json.proofs.addresses.read_address.Goals as goal
 

@@ -4,7 +4,7 @@ use Rattle.std.proofs.lemmas.Option.{none-some}
 use Rattle.definitions.specs.Reading.{read_kind}
 use Rattle.definitions.specs.Schema.{json_kind}
 use Rattle.definitions.specs.declared.fault.Fault.TheVariants.{TypeError}
-use Rattle.schema.specs.Kinds.{kind_of}
+use Rattle.terms.specs.Kinds.{kind_of}
 use Rattle.serde_json.specs.Data as json
 use Rattle.serde_json.specs.Find.{as_object}
 use Rattle.serde_json.specs.View.{view}

@@ -2,7 +2,7 @@ use Rattle.std.proofs.Common.{◌∙◌, map, subst, sym}
 use Rattle.definitions.specs.Schema.{json_kind}
 use Rattle.definitions.specs.Terms.{path_of_keys, type_code}
 use Rattle.postings_writer.specs.Writers.{IsIndexedTerm}
-use Rattle.schema.specs.Kinds.{kind_of}
+use Rattle.terms.specs.Kinds.{kind_of}
 use Rattle.indexing.specs.Contexts.{CanIndex, Context}
 use Rattle.indexing.proofs.PathTerms.{known_behind}
 use Rattle.indexing.proofs.term_indexer.TermIndexer.index_leaf.Goals as goal

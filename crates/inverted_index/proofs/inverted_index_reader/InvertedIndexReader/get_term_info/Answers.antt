@@ -2,7 +2,7 @@ use Rattle.std.proofs.Common.{ap, arith, subst, sym, true≢false, ◌≡◌, �
 use Rattle.definitions.specs.Terms.{field_of, payload_of}
 use Rattle.inverted_index.proofs.ReaderCalls.{for_some, info_of_held, none_found, own_info, same_term}
 use Rattle.inverted_index.specs.Readers.{HasKind, dictionary_in, info_in}
-use Rattle.schema.specs.Kinds.{kind_of}
+use Rattle.terms.specs.Kinds.{kind_of}
 use Rattle.inverted_index.proofs.inverted_index_reader.InvertedIndexReader.get_term_info.Goals.{After-get}
 use Rattle.inverted_index.proofs.inverted_index_reader.InvertedIndexReader.get_term_info.Goals as goal
 

@@ -1,7 +1,7 @@
 use Rattle.std.proofs.Common.{arith, true≢false, sym}
 use Rattle.std.proofs.lemmas.Bool.Decides.{nat_tests}
 use Rattle.inverted_index.proofs.ReaderCalls.{no_kind, of_kind}
-use Rattle.schema.specs.Kinds.{kind_of}
+use Rattle.terms.specs.Kinds.{kind_of}
 use Rattle.inverted_index.proofs.inverted_index_reader.InvertedIndexReader.has_type.Goals as goal
 
 pub returns-in-Some : goal.returns-in-Some

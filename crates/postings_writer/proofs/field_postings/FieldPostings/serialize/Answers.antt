@@ -8,7 +8,7 @@ use Rattle.postings_writer.specs.Sections.{AnyTermPasses, AreAdded}
 use Rattle.postings_writer.specs.Serializing.{CanWrite, postings_from, tokens_of}
 use Rattle.postings_writer.proofs.FieldsOfPlaces.{field_of_items, terms_pass, tokens_pass}
 use Rattle.postings_writer.proofs.Places.{all_then}
-use Rattle.schema.specs.Kinds.{kind_of}
+use Rattle.terms.specs.Kinds.{kind_of}
 use Rattle.postings_writer.proofs.field_postings.FieldPostings.serialize.Goals as goal
 
 pub serialize_terms-requires-clause-can : goal.serialize_terms-requires-clause-can

@@ -3,7 +3,7 @@ use Rattle.std.proofs.Common.{Bor, List, Option, arith, ℕ, ap, ap₂, sym, ◌
 use Rattle.std.proofs.lemmas.Option.{slice_get-get_or}
 use Rattle.definitions.specs.Facets.{backslash}
 use Rattle.definitions.specs.FieldPaths.{field_at_split}
-use Rattle.schema.specs.declared.field.Field.{Field}
+use Rattle.terms.specs.declared.field.Field.{Field}
 use Rattle.schema.proofs.FieldSplits.{found_past, found_past-dot, found_past-escaped, found_past-other, last_field, last_field-at, splits_after, splits_after-nil}
 use Rattle.schema.proofs.schema.Schema.find_before_dot.Goals as goal
 use Rattle.schema.proofs.schema.Schema.find_before_dot.Goals.{then-not-escaped+then-byte-eq46+in-Some, then-not-escaped+then-byte-eq46+in_default, else-not-escaped, else-not-escaped-via-then-not-escaped+else-byte-eq46, else-not-escaped-via-else-not-escaped, then-not-escaped-2, else-not-escaped-2}

@@ -1,6 +1,0 @@
-use Rattle.std.proofs.Common.{◌∷◌, ◌≡◌, flat_map, take}
-use Rattle.schema.specs.Steps.{in_path}
-use Rattle.schema.proofs.facet.path_bytes.Given as goal
-
-abbrev pub invariant-loop-byte : goal.invariant-loop-byte
-invariant-loop-byte l = l.bytes.items ≡ 47 ∷ flat_map in_path (take l.byte-index l.byte-items)

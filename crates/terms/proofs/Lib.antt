@@ -1,0 +1,10 @@
+pub mod MappedAddresses
+pub mod JsonPathSteps
+pub mod FacetSteps
+pub mod FacetTexts
+pub mod FacetPathTexts
+pub mod FacetBelow
+pub mod FacetLists
+pub mod TermOrder
+pub mod TextKeys
+pub mod TermParts

@@ -1,0 +1,5 @@
+pub mod Kinds
+pub mod IpAddrs
+pub mod JsonPaths
+pub mod Steps
+pub mod TextKeys

@@ -1,0 +1,28 @@
+//! Addresses of 128 bits.
+
+ghost use Rattle.std.specs.Prelude.{◌≡◌, ℕ};
+ghost use Rattle.std.specs.Net.Addr.{ipv6_bits};
+ghost use Rattle.terms.specs.IpAddrs.{address_bits};
+
+use std::net::{IpAddr, Ipv6Addr};
+
+/// What stands for an address of 128 bits.
+pub trait IntoIpv6Addr {
+    /// The address as a number.
+    ghost bits: { Self → ℕ };
+
+    /// The address, of an IPv4 address the IPv6 address that it is mapped to.
+    fn into_ipv6_addr(self) -> Ipv6Addr
+        ensures { ipv6_bits result ≡ bits self };
+}
+
+impl IntoIpv6Addr for IpAddr {
+    ghost bits = { address_bits };
+
+    fn into_ipv6_addr(self) -> Ipv6Addr {
+        match self {
+            IpAddr::V4(addr) => addr.to_ipv6_mapped(),
+            IpAddr::V6(addr) => addr,
+        }
+    }
+}
