@@ -11,12 +11,12 @@ use Rattle.definitions.specs.NumberCodes.{AreBytes, take_u64, take_vint, u32_byt
 use Rattle.definitions.specs.Schema.{Schema}
 use Rattle.definitions.specs.Stored.{plain}
 use Rattle.definitions.specs.Values.{Document, Value, nesting}
-use Rattle.document.specs.Docs.{IsGoodPair}
+use Rattle.document_values.specs.Docs.{IsGoodPair}
 use Rattle.document.proofs.BinaryForm.{document_back, written}
 use Rattle.document.proofs.HeldPairs.{pair_back, pair_put}
 use Rattle.document.proofs.HeldValues.{held_back}
-use Rattle.document.proofs.Many.{IsBack, IsPut, bind_some, bytes_after, many_back, many_put, only_some, parts_are}
-use Rattle.document.proofs.Skips.{many_of_skip, none_of_skip}
+use Rattle.document_values.proofs.Many.{IsBack, IsPut, bind_some, bytes_after, many_back, many_put, only_some, parts_are}
+use Rattle.document_values.proofs.Skips.{many_of_skip, none_of_skip}
 use Rattle.layouts.specs.DocumentBytes.{document_bytes, pair_bytes}
 use Rattle.layouts.specs.DocumentReading.{deepest, items_at, read_document, skip_many, take_many, take_pair, take_value}
 use Rattle.layouts.specs.RecordBodies.{docs_below, docs_body, docs_in, if_ended, take_document, take_documents, take_pair_below}

@@ -2,7 +2,7 @@
 use Rattle.std.specs.Prelude.{◌<◌, ◌^◌, false, length, ℕ}
 use Rattle.std.specs.List.{AllByRecursion}
 use Rattle.definitions.specs.Values.{Document}
-use Rattle.document.specs.Docs.{IsGoodPair}
+use Rattle.document_values.specs.Docs.{IsGoodPair}
 
 -- not too many pairs, whose values have no tokens and nest at most 128 deep
 abbrev pub FitsDocument : Document → Type 0

@@ -3,12 +3,13 @@
 ghost use Rattle.std.specs.Prelude.{◌++◌, ◌<◌, ◌^◌, ◌∷◌, ◌≡◌, OnOk, length, true};
 ghost use Rattle.std.specs.List.{AllByRecursion};
 ghost use Rattle.definitions.specs.NumberCodes.{u64_bytes};
-ghost use Rattle.document.specs.Docs.{IsGoodPair};
+ghost use Rattle.document_values.specs.Docs.{IsGoodPair};
 ghost use Rattle.layouts.specs.DocumentBytes as bytes;
 ghost use Rattle.layouts.specs.DocumentReading.{deepest};
 
 use common::{put_u32, put_u64, put_vint};
-use document::{CompactDoc, put_value};
+use document::CompactDoc;
+use document_values::put_value;
 use std::alloc::AllocError;
 
 /// Appends byte 3 and how many documents follow. Each of them is put by itself behind it.

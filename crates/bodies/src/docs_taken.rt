@@ -3,13 +3,14 @@
 ghost use Rattle.std.specs.Prelude.{◌<◌, ◌≡◌, ◌≢◌, IfErr, IfOk, IfSome, None, Some, false, length, option_map};
 ghost use Rattle.std.specs.List.{AllByRecursion};
 ghost use Rattle.definitions.specs.declared.fault.Fault.TheVariants as faults;
-ghost use Rattle.document.specs.Docs.{IsGoodPair};
+ghost use Rattle.document_values.specs.Docs.{IsGoodPair};
 ghost use Rattle.layouts.specs.DocumentReading.{read_document, skip_many, take_many};
 ghost use Rattle.layouts.specs.RecordBodies as definitions;
 
 use common::{take_u32, take_u64, take_vint};
 use definitions::Fault;
-use document::{CompactDoc, take_value};
+use document::CompactDoc;
+use document_values::take_value;
 use schema::Schema;
 use std::alloc::{AllocError, Global};
 

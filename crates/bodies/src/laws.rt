@@ -8,7 +8,7 @@ ghost use Rattle.definitions.specs.Schema.{Schema};
 ghost use Rattle.definitions.specs.Settings.{Settings};
 ghost use Rattle.definitions.specs.Stored.{plain};
 ghost use Rattle.definitions.specs.Values.{Document, nesting};
-ghost use Rattle.document.specs.Docs.{IsGoodPair};
+ghost use Rattle.document_values.specs.Docs.{IsGoodPair};
 ghost use Rattle.layouts.specs.DocumentReading.{deepest};
 ghost use Rattle.layouts.specs.RecordBodies.{bodies_in, docs_body, docs_in, first_in, takes_body};
 

@@ -7,12 +7,12 @@ use Rattle.definitions.specs.NumberCodes.{AreBytes, sized_bytes, take_vint, u32_
 use Rattle.definitions.specs.Stored.{plain, plain_members, plain_values}
 use Rattle.definitions.specs.Values.{Document, Members, Value, Values, array, bool, bytes, date, facet, i64, ip_addr, member, no_members, no_values, null, object, pre_tok_str, str, u64, value}
 use Rattle.layouts.specs.DocumentBytes.{document_bytes, members_bytes, members_count, pair_bytes, value_bytes, values_bytes, values_count}
-use Rattle.document.specs.Docs.{IsGood, IsGoodPair}
-use Rattle.document.specs.Held.{held_bytes, held_members, held_pair, held_pairs, held_values}
+use Rattle.document_values.specs.Docs.{IsGood, IsGoodPair}
+use Rattle.document_values.specs.Held.{held_bytes, held_members, held_pair, held_pairs, held_values}
 use Rattle.layouts.specs.DocumentReading.{read_document, take_many, take_pair, take_value}
 use Rattle.document.proofs.HeldPairs.{pair_back, pair_put}
 use Rattle.document.proofs.HeldValues.{held_back, held_put}
-use Rattle.document.proofs.Many.{bind_some, bytes_after, many_back, many_put}
+use Rattle.document_values.proofs.Many.{bind_some, bytes_after, many_back, many_put}
 
 -- ---- without tokens a value is held as it is written
 

@@ -6,7 +6,7 @@ use Rattle.definitions.specs.Printed.{printed, printed_fields, printed_list, pri
 use Rattle.definitions.specs.Schema.{AreDistinct, Entry, Schema, field_has}
 use Rattle.definitions.specs.Stored.{Named, named_values, plain, plain_members, plain_values, stored_pairs, stored_values}
 use Rattle.definitions.specs.Values.{Document, Members, Value, Values, array, bool, bytes, date, facet, i64, ip_addr, member, no_members, no_values, null, object, pre_tok_str, str, u64, value, values_of}
-use Rattle.document.specs.WrittenJson.{field_list, name_of, put_fields}
+use Rattle.document_values.specs.WrittenJson.{field_list, name_of, put_fields}
 use Rattle.document.proofs.MemberOrder.{put_either, put_twice}
 use Rattle.document.proofs.NamedParts.{append_more, values-other, values-own}
 use Rattle.serde_json.specs.Data.{put}

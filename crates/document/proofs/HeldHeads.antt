@@ -11,12 +11,12 @@ use Rattle.definitions.specs.Facets.{encoded}
 use Rattle.definitions.specs.Json.{only_if, ◌>>=◌}
 use Rattle.definitions.specs.NumberCodes.{AreBytes, sized_bytes, take_bytes, take_text, take_u64, take_vint, u64_bytes, vint_bytes}
 use Rattle.definitions.specs.Values.{IsValue, Token, Value, array, bool, bytes, date, facet, i64, ip_addr, null, object, pre_tok_str, str, u64}
-use Rattle.document.specs.Docs.{IsGood}
-use Rattle.document.specs.Held.{IsSized, held_bytes, tokens_bytes}
+use Rattle.document_values.specs.Docs.{IsGood}
+use Rattle.document_values.specs.Held.{IsSized, held_bytes, tokens_bytes}
 use Rattle.layouts.specs.DocumentReading.{Head, array_head, leaf, object_head, steps_in, take_address_leaf, take_bool_leaf, take_bytes_leaf, take_coded, take_head, take_pre_tokenized_leaf, take_text_leaf, take_tokens, take_u64_leaf, taken_map}
-use Rattle.document.proofs.Many.{IsBack, IsPut, bind_some, bytes_after, map_some, only_some, parts_are}
-use Rattle.document.proofs.Steps.{encoded_text, steps_are_facet, steps_back, steps_spelled}
-use Rattle.document.proofs.Tokens.{tokens_back, tokens_put}
+use Rattle.document_values.proofs.Many.{IsBack, IsPut, bind_some, bytes_after, map_some, only_some, parts_are}
+use Rattle.document_values.proofs.Steps.{encoded_text, steps_are_facet, steps_back, steps_spelled}
+use Rattle.document_values.proofs.Tokens.{tokens_back, tokens_put}
 
 abbrev pub IsHead : Bool → Head → Type 0
 IsHead tokens (leaf v) = IsGood tokens 0 v

@@ -5,12 +5,12 @@ use Rattle.definitions.specs.Json.{◌>>=◌}
 use Rattle.definitions.specs.NumberCodes.{AreBytes, sized_bytes, take_text, vint_bytes}
 use Rattle.definitions.specs.Values.{Members, Value, Values, array, bool, bytes, date, facet, i64, ip_addr, nesting, no_members, no_values, null, object, pre_tok_str, str, u64}
 use Rattle.layouts.specs.DocumentBytes.{members_count, values_count}
-use Rattle.document.specs.Held.{held_bytes, held_members, held_values}
+use Rattle.document_values.specs.Held.{held_bytes, held_members, held_values}
 use Rattle.layouts.specs.DocumentReading.{Head, array_head, leaf, object_head, take_alone, take_held, take_head, take_inside, take_many, take_member, taken_map, to_members, to_values}
-use Rattle.document.specs.Docs.{IsGood}
+use Rattle.document_values.specs.Docs.{IsGood}
 use Rattle.document.proofs.HeldHeads.{head_back, head_bytes, head_put}
-use Rattle.document.proofs.Inside.{AreGood, AreGoodMembers, IsGoodMember, good_members, good_values, held_member, members_good, members_held, members_length, members_list, members_listed, values_good, values_held, values_length, values_list, values_listed}
-use Rattle.document.proofs.Many.{IsBack, IsPut, bind_some, bytes_after, many_back, many_put, map_some, parts_are}
+use Rattle.document_values.proofs.Inside.{AreGood, AreGoodMembers, IsGoodMember, good_members, good_values, held_member, members_good, members_held, members_length, members_list, members_listed, values_good, values_held, values_length, values_list, values_listed}
+use Rattle.document_values.proofs.Many.{IsBack, IsPut, bind_some, bytes_after, many_back, many_put, map_some, parts_are}
 
 -- what is known of a value that was taken
 abbrev pub IsTaken : Bool → ℕ → List ℕ → List ℕ → Value → Type 0

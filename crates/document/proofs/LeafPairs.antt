@@ -5,8 +5,8 @@ use Rattle.std.specs.List.{AllByRecursion}
 use Rattle.definitions.specs.Facets.{encoded}
 use Rattle.definitions.specs.NumberCodes.{AreBytes, sized_bytes, u32_bytes, vint_bytes}
 use Rattle.definitions.specs.Values.{IsFacet, Token, bool, bytes, date, facet, i64, ip_addr, pre_tok_str, str, u64}
-use Rattle.document.specs.Docs.{IsGoodPair}
-use Rattle.document.specs.Held.{IsHeldValue}
+use Rattle.document_values.specs.Docs.{IsGoodPair}
+use Rattle.document_values.specs.Held.{IsHeldValue}
 use Rattle.layouts.specs.DocumentReading.{deepest}
 
 pub str_pair : (f : ℕ) (s : List ℕ) → f < 2 ^ 32 → IsUtf8 s → length s < 2 ^ 64 → IsGoodPair true deepest (f, str s)

@@ -5,8 +5,8 @@ use Rattle.definitions.specs.Printed.{printed_fields, printed_list}
 use Rattle.definitions.specs.Stored.{Named}
 use Rattle.definitions.specs.Values.{Value}
 use Rattle.document.specs.NamedDocs.{NamedFields, named_field, named_of}
-use Rattle.document.specs.Owned.{owned_values}
-use Rattle.document.specs.declared.owned_value.OwnedValue.{OwnedValue}
+use Rattle.document_values.specs.Owned.{owned_values}
+use Rattle.document_values.specs.declared.owned_value.OwnedValue.{OwnedValue}
 use Rattle.serde_json.specs.Data.{put}
 use Rattle.serde_json.specs.Data as json
 

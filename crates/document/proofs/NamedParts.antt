@@ -8,8 +8,8 @@ use Rattle.definitions.specs.Schema.{Schema}
 use Rattle.definitions.specs.Stored.{Named, by_field, named_values}
 use Rattle.definitions.specs.Values.{Document, Value, values_of}
 use Rattle.document.specs.NamedDocs.{lists_of, named_list, named_lists, no_lists, put_all, put_at}
-use Rattle.document.specs.Owned.{owned_value, owned_values}
-use Rattle.document.specs.declared.owned_value.OwnedValue.{OwnedValue}
+use Rattle.document_values.specs.Owned.{owned_value, owned_values}
+use Rattle.document_values.specs.declared.owned_value.OwnedValue.{OwnedValue}
 
 -- ---- values of fields
 

@@ -3,8 +3,8 @@ use Rattle.std.proofs.Common.{[], ◌∷◌, ◌≡◌, ◌∙◌, ◌↔◌, Is
 use Rattle.std.proofs.lemmas.Slice.Eq.{bytes_eq-Decides}
 use Rattle.std.specs.List.{AllByRecursion}
 use Rattle.definitions.specs.Values.{Document}
-use Rattle.document.specs.Docs.{HoldsPairs, IsGoodPair, IsHeap, held_document, pairs_at, same_document}
-use Rattle.document.specs.Held.{held_pairs}
+use Rattle.document_values.specs.Docs.{HoldsPairs, IsGoodPair, IsHeap, held_document, pairs_at, same_document}
+use Rattle.document_values.specs.Held.{held_pairs}
 use Rattle.layouts.specs.DocumentReading.{deepest}
 use Rattle.document.proofs.HeldPairs.{pairs_held}
 

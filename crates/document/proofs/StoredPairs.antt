@@ -7,8 +7,8 @@ use Rattle.definitions.specs.Schema.{Schema, field_has}
 use Rattle.definitions.specs.Stored.{plain, plain_members, plain_values, stored_pairs}
 use Rattle.definitions.specs.Values.{AreMembers, AreValues, Document, IsValue, Members, Value, Values, array, bool, bytes, date, facet, i64, ip_addr, member, members_nesting, nesting, no_members, no_values, null, object, pre_tok_str, str, u64, value, values_nesting}
 use Rattle.layouts.specs.DocumentBytes.{document_bytes, members_bytes, pair_bytes, value_bytes, values_bytes}
-use Rattle.document.specs.Docs.{IsGoodPair}
-use Rattle.document.specs.Held.{AreSized, AreSizedMembers, IsSized}
+use Rattle.document_values.specs.Docs.{IsGoodPair}
+use Rattle.document_values.specs.Held.{AreSized, AreSizedMembers, IsSized}
 use Rattle.layouts.specs.DocumentReading.{deepest, read_document}
 use Rattle.document.proofs.BinaryForm.{count_plain, document_back, members_plain}
 

@@ -4,8 +4,8 @@ use Rattle.std.specs.declared.alloc.Global.{Global}
 use Rattle.definitions.specs.Schema.{Entry, Schema}
 use Rattle.definitions.specs.Stored.{Named}
 use Rattle.definitions.specs.Values.{Document, Value}
-use Rattle.document.specs.Owned.{owned_values}
-use Rattle.document.specs.declared.owned_value.OwnedValue.{OwnedValue}
+use Rattle.document_values.specs.Owned.{owned_values}
+use Rattle.document_values.specs.declared.owned_value.OwnedValue.{OwnedValue}
 
 -- fields with their values, as they are held
 abbrev pub NamedFields : Type 0

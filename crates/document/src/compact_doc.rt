@@ -5,21 +5,15 @@ ghost use Rattle.std.specs.Int.{from_bool};
 ghost use Rattle.definitions.specs.NumberCodes.{sized_bytes, u32_bytes, u64_bytes};
 ghost use Rattle.definitions.specs.Values as values;
 ghost use Rattle.definitions.specs.Values.{Value as DocValue, values_of};
-ghost use Rattle.document.specs.Docs.{IsGoodPair};
-ghost use Rattle.document.specs.Held.{IsHeldValue, held_bytes, held_pair};
-ghost use Rattle.document.specs.Owned.{owned_members, owned_value};
+ghost use Rattle.document_values.specs.Docs.{IsGoodPair};
+ghost use Rattle.document_values.specs.Held.{IsHeldValue, held_bytes, held_pair};
+ghost use Rattle.document_values.specs.Owned.{owned_members, owned_value};
 ghost use Rattle.layouts.specs.DocumentReading.{deepest, read_document, to_members};
 ghost use Rattle.definitions.specs.declared.fault.Fault.TheVariants as faults;
 ghost use Rattle.std.specs.List.{AllByRecursion, find};
 
-use crate::compact_value::CompactDocValue;
-use crate::iterators::{FieldValueIterRef, ValuesOfField};
-use crate::owned_value::OwnedValue;
-use crate::pairs::{
-    address_pair, append, object_pair, owned_pair, sized_head, tokens_pair, value_head,
-};
-use crate::taking::skip_pairs;
 use common::{Fault, PreTokenizedString, take_vint};
+use document_values::{CompactDocValue, FieldValueIterRef, OwnedValue, ValuesOfField, address_pair, append, object_pair, owned_pair, sized_head, skip_pairs, tokens_pair, value_head};
 use std::alloc::{AllocError, Global};
 use std::marker::Model;
 use terms::{DateTime, Facet, Field};
@@ -36,8 +30,8 @@ pub struct CompactDoc {
 impl Model for CompactDoc {
     ghost use Rattle.std.specs.Coded.{codes, coded_list, coded_ℕ, coded×};
     ghost use Rattle.definitions.specs.Values.{Document};
-    ghost use Rattle.document.specs.Docs.{IsHeap, pairs_at};
-    ghost use Rattle.document.specs.ValueCodes.{value_code};
+    ghost use Rattle.document_values.specs.Docs.{IsHeap, pairs_at};
+    ghost use Rattle.document_values.specs.ValueCodes.{value_code};
 
     ghost Value = { Document };
 
@@ -49,7 +43,7 @@ impl Model for CompactDoc {
 }
 
 impl CompactDoc {
-    ghost use Rattle.document.specs.Shown.{value_of};
+    ghost use Rattle.document_values.specs.Shown.{value_of};
 
     /// A document without pairs.
     pub fn new(alloc: Global) -> CompactDoc
@@ -255,7 +249,7 @@ impl CompactDoc {
 impl PartialEq for CompactDoc {
     ghost use Rattle.std.specs.Cmp.{on_per, partial_equiv_from_equiv};
     ghost use Rattle.std.specs.Cmp.Lexicographic.{nat_list_eq_equiv};
-    ghost use Rattle.document.specs.Docs.{held_document, same_document};
+    ghost use Rattle.document_values.specs.Docs.{held_document, same_document};
 
     ghost eq = { same_document };
 
@@ -269,7 +263,7 @@ impl PartialEq for CompactDoc {
 impl Eq for CompactDoc {
     ghost use Rattle.std.specs.Cmp.{on_equiv};
     ghost use Rattle.std.specs.Cmp.Lexicographic.{nat_list_eq_equiv};
-    ghost use Rattle.document.specs.Docs.{held_document};
+    ghost use Rattle.document_values.specs.Docs.{held_document};
 
     ghost laws = { on_equiv held_document nat_list_eq_equiv };
 }

@@ -3,14 +3,13 @@
 ghost use Rattle.std.specs.Prelude.{◌++◌, ◌≡◌, IfOk, OnOk, string_bytes};
 ghost use Rattle.definitions.specs.Printed.{printed_fields, printed_list, printed_named};
 ghost use Rattle.definitions.specs.Stored.{stored_values};
-ghost use Rattle.document.specs.WrittenJson.{field_members};
+ghost use Rattle.document_values.specs.WrittenJson.{field_members};
 ghost use Rattle.json.specs.Tree.{json_tokens};
 ghost use Rattle.serde_json.specs.Data.{array, object};
 ghost use Rattle.serde_json.specs.Written.{compact_text, outline};
 
 use crate::compact_doc::CompactDoc;
-use crate::iterators::ValuesOfField;
-use crate::json_text::write_value;
+use document_values::{ValuesOfField, write_value};
 use json::Writer;
 use schema::Schema;
 use std::alloc::{AllocError, Global};

@@ -4,7 +4,7 @@ ghost use Rattle.std.specs.Prelude.{◌++◌, ◌<◌, ◌↔◌, ◌^◌, ◌�
 ghost use Rattle.std.specs.List.{AllByRecursion};
 ghost use Rattle.definitions.specs.NumberCodes.{AreBytes};
 ghost use Rattle.definitions.specs.Values.{Document, Value};
-ghost use Rattle.document.specs.Docs.{IsGood, IsGoodPair, same_document};
+ghost use Rattle.document_values.specs.Docs.{IsGood, IsGoodPair, same_document};
 ghost use Rattle.layouts.specs.DocumentReading.{deepest, read_document, take_value};
 ghost use Rattle.layouts.specs.DocumentBytes.{document_bytes, value_bytes};
 

@@ -5,13 +5,12 @@ ghost use Rattle.definitions.specs.Indexable.{has_foreign_leaf, have_foreign_lea
 ghost use Rattle.definitions.specs.Json.{only_if};
 ghost use Rattle.definitions.specs.Values.{members_nesting, nesting, values_nesting};
 ghost use Rattle.document.specs.IndexedKinds.{indexed_kind};
-ghost use Rattle.document.specs.Shown.{value_of};
+ghost use Rattle.document_values.specs.Shown.{value_of};
 ghost use Rattle.layouts.specs.DocumentReading.{to_members, to_values};
 ghost use Rattle.terms.specs.Kinds.{kind_of};
 
 use crate::compact_doc::CompactDoc;
-use crate::compact_value::CompactDocValue;
-use crate::iterators::{CompactDocArrayIter, CompactDocObjectIter};
+use document_values::{CompactDocArrayIter, CompactDocObjectIter, CompactDocValue};
 use schema::Schema;
 use terms::{Field, Type};
 

@@ -5,12 +5,11 @@ ghost use Rattle.std.specs.List.{find};
 ghost use Rattle.definitions.specs.Schema.{max_fields};
 ghost use Rattle.definitions.specs.Stored.{stored_pairs, stored_values};
 ghost use Rattle.document.specs.NamedDocs.{lists_of, named_list, named_lists, named_of, no_lists, put_all, put_at};
-ghost use Rattle.document.specs.Owned.{owned_value, owned_values};
+ghost use Rattle.document_values.specs.Owned.{owned_value, owned_values};
 
 use crate::compact_doc::CompactDoc;
-use crate::owned_value::OwnedValue;
 use crate::serialize::is_stored;
-use crate::stored::stored_value;
+use document_values::{OwnedValue, stored_value};
 use schema::Schema;
 use std::alloc::{AllocError, Global};
 use std::marker::Model;
@@ -26,7 +25,7 @@ impl Model for NamedDocument {
     ghost use Rattle.std.specs.Coded.{codes};
     ghost use Rattle.definitions.specs.Stored.{Named};
     ghost use Rattle.document.specs.NamedDocs.{named_of};
-    ghost use Rattle.document.specs.ValueCodes.{named_code};
+    ghost use Rattle.document_values.specs.ValueCodes.{named_code};
 
     ghost Value = { Named };
 

@@ -5,7 +5,7 @@ ghost use Rattle.definitions.specs.Printed.{printed_named};
 ghost use Rattle.serde_json.specs.View.{view};
 
 use crate::named_doc::NamedDocument;
-use crate::printing::values_to_json;
+use document_values::values_to_json;
 use serde_json::{Map, Value as Json};
 use std::alloc::{AllocError, Global};
 

@@ -12,8 +12,8 @@ ghost use Rattle.serde_json.specs.Written.{has_float};
 ghost use Rattle.values_json.specs.Leaves.{value_of};
 
 use crate::compact_doc::CompactDoc;
-use crate::json_put::json_object_pair;
 use common::Fault;
+use document_values::json_object_pair;
 use schema::{FieldEntry, FieldType, Schema};
 use serde_json::{Map, Value as Json};
 use std::alloc::{AllocError, Global};

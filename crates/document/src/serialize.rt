@@ -6,13 +6,13 @@ ghost use Rattle.definitions.specs.Indexable.{max_nesting};
 ghost use Rattle.definitions.specs.Schema.{field_has};
 ghost use Rattle.definitions.specs.Stored.{stored_pairs};
 ghost use Rattle.definitions.specs.Values.{nesting};
-ghost use Rattle.document.specs.Docs.{IsGoodPair};
+ghost use Rattle.document_values.specs.Docs.{IsGoodPair};
 ghost use Rattle.layouts.specs.DocumentReading.{deepest, read_document};
 ghost use Rattle.layouts.specs.DocumentBytes.{document_bytes, pair_bytes};
 
 use crate::compact_doc::CompactDoc;
-use crate::writing::put_value;
 use common::{put_u32, put_vint};
+use document_values::put_value;
 use schema::Schema;
 use std::alloc::{AllocError, Global};
 use terms::Field;

@@ -8,7 +8,7 @@ use Rattle.definitions.specs.Reading.{read_data}
 use Rattle.definitions.specs.Schema.{Schema}
 use Rattle.definitions.specs.Stored.{plain}
 use Rattle.definitions.specs.Values.{Document, Value, nesting}
-use Rattle.document.specs.Docs.{IsGood, IsGoodPair}
+use Rattle.document_values.specs.Docs.{IsGood, IsGoodPair}
 use Rattle.index.specs.Contents.{IsOfSchema}
 use Rattle.index.specs.Files.{IsHeld}
 use Rattle.layouts.specs.DocumentReading.{deepest}

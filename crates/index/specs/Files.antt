@@ -13,7 +13,7 @@ use Rattle.definitions.specs.declared.fault.Fault.{Fault}
 use Rattle.definitions.specs.declared.fault.Fault.TheVariants as faults
 use Rattle.index.specs.Standing.{Stands}
 use Rattle.index.specs.declared.collection.Collection.{Collection}
-use Rattle.document.specs.Docs.{IsGoodPair}
+use Rattle.document_values.specs.Docs.{IsGoodPair}
 use Rattle.layouts.specs.DocumentReading.{deepest}
 use Rattle.layouts.specs.RecordBodies.{bodies_in, first_in, takes_body}
 use Rattle.layouts.specs.RecordFiles.{EndsAt, IsAtRest, IsFile, IsOneOf}

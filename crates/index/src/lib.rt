@@ -17,7 +17,8 @@ mod session;
 mod stage;
 
 pub use collection::Status;
-pub use document::{NamedDocument, OwnedValue};
+pub use document::NamedDocument;
+pub use document_values::OwnedValue;
 pub use index::{Index, Refused};
 pub use json_queries::read_query;
 pub use plain::{AnyQuery, BooleanQuery, Hit, Occur, TermQuery};

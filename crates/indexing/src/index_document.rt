@@ -1,7 +1,7 @@
 //! The terms of documents.
 
 ghost use Rattle.std.specs.Prelude.{◌≡◌, IfErr, OnOk};
-ghost use Rattle.document.specs.Shown.{value_of};
+ghost use Rattle.document_values.specs.Shown.{value_of};
 ghost use Rattle.indexing.specs.Contexts.{IsReady, Records, Refuses};
 ghost use Rattle.indexing.specs.Steps.{steps_of, value_steps};
 
@@ -9,7 +9,8 @@ use crate::index_value::index_value;
 use crate::term_indexer::TermIndexer;
 use common::Analyzer;
 use definitions::Fault;
-use document::{CompactDoc, CompactDocValue};
+use document::CompactDoc;
+use document_values::CompactDocValue;
 use schema::Schema;
 use terms::Field;
 

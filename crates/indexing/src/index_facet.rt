@@ -3,14 +3,14 @@
 ghost use Rattle.std.specs.Prelude.{◌≡◌, IfErr, OnOk};
 ghost use Rattle.definitions.specs.Schema.{facet_kind};
 ghost use Rattle.definitions.specs.Values.{facet};
-ghost use Rattle.document.specs.Shown.{value_of};
+ghost use Rattle.document_values.specs.Shown.{value_of};
 ghost use Rattle.layouts.specs.DocumentReading.{steps_in};
 ghost use Rattle.indexing.specs.Contexts.{CanIndex, Records, Refuses};
 ghost use Rattle.indexing.specs.Steps.{facet_steps};
 
 use crate::term_indexer::TermIndexer;
 use definitions::Fault;
-use document::CompactDocValue;
+use document_values::CompactDocValue;
 use terms::{FACET_SEP_BYTE, Field, Type};
 
 /// Records the terms of all prefixes of a facet's steps, the empty one included.

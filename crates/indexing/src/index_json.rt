@@ -6,7 +6,7 @@ ghost use Rattle.definitions.specs.JsonLeaves.{has_zero, leaves, members_leaves,
 ghost use Rattle.definitions.specs.Schema.{json_kind};
 ghost use Rattle.definitions.specs.Terms.{path_of_keys};
 ghost use Rattle.definitions.specs.Values.{u64};
-ghost use Rattle.document.specs.Shown.{value_of};
+ghost use Rattle.document_values.specs.Shown.{value_of};
 ghost use Rattle.layouts.specs.DocumentReading.{to_members, to_values};
 ghost use Rattle.indexing.specs.Contexts.{CanIndex, Records, Refuses};
 ghost use Rattle.indexing.specs.Steps.{fast_steps, leaves_steps, path_step, plain_leaf_steps};
@@ -15,7 +15,7 @@ use crate::index_value::tokenizer_of;
 use crate::term_indexer::TermIndexer;
 use common::Analyzer;
 use definitions::Fault;
-use document::{CompactDocArrayIter, CompactDocObjectIter, CompactDocValue};
+use document_values::{CompactDocArrayIter, CompactDocObjectIter, CompactDocValue};
 use schema::FieldEntry;
 use terms::{FastValue, Field};
 

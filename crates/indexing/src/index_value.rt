@@ -2,7 +2,7 @@
 
 ghost use Rattle.std.specs.Prelude.{◌≡◌, IfErr, OnOk};
 ghost use Rattle.definitions.specs.Schema.{bool_kind, bytes_kind, date_kind, i64_kind, ip_addr_kind, text_kind, u64_kind};
-ghost use Rattle.document.specs.Shown.{value_of};
+ghost use Rattle.document_values.specs.Shown.{value_of};
 ghost use Rattle.terms.specs.Kinds.{kind_of};
 ghost use Rattle.indexing.specs.Contexts.{CanIndex, Records, Refuses};
 ghost use Rattle.indexing.specs.Steps.{kind_steps, plain_steps, text_steps};
@@ -12,7 +12,7 @@ use crate::index_json::index_json;
 use crate::term_indexer::TermIndexer;
 use common::Analyzer;
 use definitions::Fault;
-use document::CompactDocValue;
+use document_values::CompactDocValue;
 use schema::{FieldEntry, FieldType};
 use terms::{FastValue, Field, Type};
 

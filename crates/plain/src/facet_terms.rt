@@ -5,11 +5,11 @@ ghost use Rattle.definitions.specs.Facets.{encoded};
 ghost use Rattle.definitions.specs.Indexing.{facet_terms};
 ghost use Rattle.definitions.specs.Schema.{facet_kind};
 ghost use Rattle.definitions.specs.Terms.{term_bytes};
-ghost use Rattle.document.specs.Shown.{value_of};
+ghost use Rattle.document_values.specs.Shown.{value_of};
 ghost use Rattle.layouts.specs.DocumentReading.{steps_in};
 ghost use Rattle.plain.specs.FacetPrefixes.{prefix_terms};
 
-use document::CompactDocValue;
+use document_values::CompactDocValue;
 use std::alloc::{AllocError, Global};
 use terms::{Facet, Field, Term};
 

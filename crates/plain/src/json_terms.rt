@@ -6,12 +6,12 @@ ghost use Rattle.definitions.specs.JsonLeaves.{has_zero, leaves, members_leaves,
 ghost use Rattle.definitions.specs.Terms.{json_term, path_of_keys, type_code, value_bytes};
 ghost use Rattle.definitions.specs.Values.{u64};
 ghost use Rattle.common.specs.Token.{token_of};
-ghost use Rattle.document.specs.Shown.{value_of};
+ghost use Rattle.document_values.specs.Shown.{value_of};
 ghost use Rattle.layouts.specs.DocumentReading.{to_members, to_values};
 ghost use Rattle.plain.specs.IndexedDocs.{leaves_terms, path_token_terms, plain_leaf_terms};
 
 use common::{Analyzer, MAX_TOKEN_LEN, Token};
-use document::{CompactDocArrayIter, CompactDocObjectIter, CompactDocValue};
+use document_values::{CompactDocArrayIter, CompactDocObjectIter, CompactDocValue};
 use std::alloc::{AllocError, Global};
 use terms::{FastValue, Field, Term};
 

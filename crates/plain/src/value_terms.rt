@@ -5,14 +5,14 @@ ghost use Rattle.definitions.specs.Analyzers.{kept};
 ghost use Rattle.definitions.specs.Schema.{Kind, bool_kind, bytes_kind, date_kind, i64_kind, ip_addr_kind, u64_kind};
 ghost use Rattle.definitions.specs.Terms.{term_bytes, value_bytes};
 ghost use Rattle.common.specs.Token.{token_of};
-ghost use Rattle.document.specs.Shown.{value_of};
+ghost use Rattle.document_values.specs.Shown.{value_of};
 ghost use Rattle.plain.specs.IndexedDocs.{as_list, entry_terms, kind_terms, own_terms, text_terms, token_terms};
 ghost use Rattle.terms.specs.Kinds.{kind_of};
 
 use crate::facet_terms::push_facet_terms;
 use crate::json_terms::push_json_terms;
 use common::{Analyzer, MAX_TOKEN_LEN, Token};
-use document::CompactDocValue;
+use document_values::CompactDocValue;
 use schema::{FieldEntry, FieldType, Schema};
 use std::alloc::{AllocError, Global};
 use std::net::Ipv6Addr;

@@ -2,10 +2,10 @@
 use Rattle.std.proofs.Common.{[], ◌∙◌, ◌≡◌, ap, arith, false, rules, sym, true}
 use Rattle.definitions.specs.Schema.{field_has}
 use Rattle.definitions.specs.Stored.{stored_pairs}
-use Rattle.document.specs.Shown.{value_of}
-use Rattle.document.specs.WrittenJson.{field_list, field_members, put_fields}
+use Rattle.document_values.specs.Shown.{value_of}
+use Rattle.document_values.specs.WrittenJson.{field_list, field_members, put_fields}
 use Rattle.document.proofs.FieldOrder.{outside, pass_first, put_first, put_stored}
-use Rattle.document.proofs.LentMembers.{fields-insert}
+use Rattle.document_values.proofs.LentMembers.{fields-insert}
 use Rattle.document.proofs.document_json.stored_fields.Goals.{else-field_id-count-via-else-field_id-count, else-field_id-count-via-then-field_id-count+else-is_stored}
 use Rattle.serde_json.specs.Data.{put}
 use Rattle.document.proofs.document_json.stored_fields.Goals as goal

@@ -1,6 +1,6 @@
 use Rattle.std.proofs.Common.{◌≡◌}
 use Rattle.definitions.specs.Stored.{stored_pairs}
-use Rattle.document.specs.WrittenJson.{field_members, put_fields}
+use Rattle.document_values.specs.WrittenJson.{field_members, put_fields}
 use Rattle.serde_json.specs.Data.{no_members}
 use Rattle.document.proofs.document_json.stored_fields.Given as goal
 

@@ -1,5 +1,5 @@
 use Rattle.std.proofs.Common.{◌++◌, ◌≡◌}
-use Rattle.document.specs.WrittenJson.{field_members}
+use Rattle.document_values.specs.WrittenJson.{field_members}
 use Rattle.json.specs.Tree.{members_tokens}
 use Rattle.serde_json.specs.Written.{members_outline}
 use Rattle.document.proofs.document_json.write_fields.Given as goal

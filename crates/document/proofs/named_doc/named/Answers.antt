@@ -1,7 +1,7 @@
 -- Each turn names one list more.
 use Rattle.std.proofs.Common.{ap, arith, length, rules, slice_get, suc, ◌++◌, ◌∷◌, ◌≡◌}
 use Rattle.document.specs.NamedDocs.{named_list, named_of}
-use Rattle.document.specs.Owned.{owned_values}
+use Rattle.document_values.specs.Owned.{owned_values}
 use Rattle.document.proofs.NamedParts.{named-more}
 use Rattle.document.proofs.named_doc.named.Goals as goal
 

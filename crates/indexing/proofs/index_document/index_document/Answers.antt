@@ -1,7 +1,7 @@
 use Rattle.std.proofs.Common.{◌∷◌, ◌≡◌, List, ap, flat_map, ℕ}
 use Rattle.std.proofs.lemmas.Result.{err_from_is_err_and}
 use Rattle.definitions.specs.Values.{Document, Value}
-use Rattle.document.specs.Shown.{value_of}
+use Rattle.document_values.specs.Shown.{value_of}
 use Rattle.indexing.specs.Steps.{Step, value_steps}
 use Rattle.indexing.proofs.Seen.{seen_more, seen_refused}
 use Rattle.indexing.proofs.index_document.index_document.Goals as goal

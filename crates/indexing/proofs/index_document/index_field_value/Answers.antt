@@ -1,7 +1,7 @@
 use Rattle.std.proofs.Common.{[], ap, arith, subst, sym}
 use Rattle.std.proofs.lemmas.Option.{slice_get_past}
 use Rattle.std.specs.Option.{option_map_or}
-use Rattle.document.specs.Shown.{value_of}
+use Rattle.document_values.specs.Shown.{value_of}
 use Rattle.indexing.specs.Contexts.{Records}
 use Rattle.indexing.specs.Steps.{entry_steps}
 use Rattle.indexing.proofs.Recording.{records_none}

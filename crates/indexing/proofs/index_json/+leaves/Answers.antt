@@ -4,7 +4,7 @@ use Rattle.std.proofs.lemmas.Grind.{flat_map-append}
 use Rattle.definitions.specs.JsonLeaves.{leaves, members_leaves, values_leaves}
 use Rattle.definitions.specs.Terms.{path_of_keys}
 use Rattle.definitions.specs.Values.{Value, members_nesting, u64, values_nesting}
-use Rattle.document.specs.Shown.{value_of}
+use Rattle.document_values.specs.Shown.{value_of}
 use Rattle.layouts.specs.DocumentReading.{to_members, to_values}
 use Rattle.indexing.specs.Contexts.{Records, Refuses}
 use Rattle.indexing.specs.Steps.{Step, leaf_steps, leaves_steps}

@@ -1,7 +1,7 @@
 use Rattle.std.proofs.Common.{◌*◌, ◌+◌, ◌≡◌, ◌≤◌, List, map}
 use Rattle.definitions.specs.JsonLeaves.{members_leaves, values_leaves}
 use Rattle.definitions.specs.Values.{Members, Values, members_nesting, nesting, values_nesting}
-use Rattle.document.specs.Shown.{value_of}
+use Rattle.document_values.specs.Shown.{value_of}
 use Rattle.layouts.specs.DocumentReading.{to_members, to_values}
 use Rattle.indexing.specs.Steps.{Step, leaves_steps}
 use Rattle.indexing.proofs.Seen.{Seen}

@@ -1,7 +1,7 @@
 use Rattle.std.proofs.Common.{IfErr, OnOk, subst, sym}
 use Rattle.definitions.specs.Schema.{date_kind}
-use Rattle.document.specs.Shown.{value_of}
-use Rattle.document.specs.declared.compact_value.CompactDocValue.{CompactDocValue}
+use Rattle.document_values.specs.Shown.{value_of}
+use Rattle.document_values.specs.declared.compact_value.CompactDocValue.{CompactDocValue}
 use Rattle.indexing.specs.Contexts.{Records, Refuses}
 use Rattle.indexing.specs.Steps.{plain_steps}
 use Rattle.indexing.proofs.index_value.index_date.Goals as goal

@@ -1,7 +1,7 @@
 use Rattle.std.proofs.Common.{[], ◌∙◌, ◌∷◌, IfErr, List, OnOk, ap, subst, sym}
 use Rattle.definitions.specs.Schema.{ip_addr_kind}
 use Rattle.definitions.specs.Terms.{term_bytes}
-use Rattle.document.specs.Shown.{value_of}
+use Rattle.document_values.specs.Shown.{value_of}
 use Rattle.indexing.specs.Contexts.{Records, Refuses}
 use Rattle.indexing.specs.Steps.{Step, plain_steps, term_step}
 use Rattle.indexing.proofs.index_value.index_ip_addr.Goals as goal

@@ -1,6 +1,6 @@
 use Rattle.std.proofs.Common.{OnOk, ap, map, subst, sym, ◌++◌, ◌∙◌, ◌≡◌}
 use Rattle.definitions.specs.Indexing.{facet_terms}
-use Rattle.document.specs.Shown.{value_of}
+use Rattle.document_values.specs.Shown.{value_of}
 use Rattle.layouts.specs.DocumentReading.{steps_in}
 use Rattle.plain.specs.FacetPrefixes.{prefix_terms}
 use Rattle.plain.proofs.FacetPrefixes.{all_prefixes}

@@ -2,7 +2,7 @@ use Rattle.std.proofs.Common.{Some, ap, option_map, rules, sym, ◌<◌, ◌^◌
 use Rattle.std.specs.Int.{to_be_bytes, w128}
 use Rattle.definitions.specs.Schema.{ip_addr_kind}
 use Rattle.definitions.specs.Terms.{term_bytes, value_bytes}
-use Rattle.document.specs.Shown.{value_of}
+use Rattle.document_values.specs.Shown.{value_of}
 use Rattle.settings.proofs.AddressBits.{bits_of}
 use Rattle.plain.proofs.value_terms.ip_addr_term.Goals as goal
 

@@ -1,7 +1,7 @@
 use Rattle.std.proofs.Common.{[], ap, append-nil, arith, sym, ◌++◌, ◌∙◌}
 use Rattle.std.proofs.lemmas.Option.{slice_get_past}
 use Rattle.std.specs.Option.{option_map_or}
-use Rattle.document.specs.Shown.{value_of}
+use Rattle.document_values.specs.Shown.{value_of}
 use Rattle.plain.specs.IndexedDocs.{entry_terms}
 use Rattle.plain.proofs.value_terms.push_own_terms.Goals as goal
 

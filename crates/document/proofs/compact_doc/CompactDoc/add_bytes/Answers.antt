@@ -1,8 +1,8 @@
 use Rattle.std.proofs.Common.{ap, arith, ◌++◌, ◌≡◌, ◌∙◌}
 use Rattle.std.proofs.lemmas.Result.{on_ok_weaker}
 use Rattle.definitions.specs.Values as values
-use Rattle.document.specs.Docs.{IsGoodPair}
-use Rattle.document.specs.Held.{held_pair}
+use Rattle.document_values.specs.Docs.{IsGoodPair}
+use Rattle.document_values.specs.Held.{held_pair}
 use Rattle.layouts.specs.DocumentReading.{deepest}
 use Rattle.std.specs.Prelude.{true}
 use Rattle.document.proofs.LeafPairs.{bytes_pair, sized_parts}

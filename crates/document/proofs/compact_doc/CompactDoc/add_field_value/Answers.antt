@@ -1,4 +1,4 @@
-use Rattle.document.specs.Owned.{owned_value}
+use Rattle.document_values.specs.Owned.{owned_value}
 use Rattle.document.proofs.compact_doc.CompactDoc.add_field_value.Goals as goal
 
 pub add-requires : goal.add-requires

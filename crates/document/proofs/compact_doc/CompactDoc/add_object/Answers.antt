@@ -1,5 +1,5 @@
 use Rattle.definitions.specs.Values as values
-use Rattle.document.specs.Owned.{owned_members}
+use Rattle.document_values.specs.Owned.{owned_members}
 use Rattle.layouts.specs.DocumentReading.{to_members}
 use Rattle.document.proofs.compact_doc.CompactDoc.add_object.Goals as goal
 

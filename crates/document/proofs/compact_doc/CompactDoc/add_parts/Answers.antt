@@ -1,6 +1,6 @@
 use Rattle.std.proofs.Common.{[], ◌++◌, ◌∙◌, ◌∷◌, ap, arith}
 use Rattle.std.proofs.lemmas.Result.{err_from_is_err_and}
-use Rattle.document.specs.Docs.{pairs_at}
+use Rattle.document_values.specs.Docs.{pairs_at}
 use Rattle.document.proofs.HeldPairs.{heap_long, heap_more, view_more}
 use Rattle.document.proofs.compact_doc.CompactDoc.add_parts.Goals as goal
 

@@ -1,6 +1,6 @@
 use Rattle.std.proofs.Common.{ap, length, subst, sym, true, ◌∙◌}
 use Rattle.std.specs.List.{AllByRecursion}
-use Rattle.document.specs.Docs.{IsGoodPair}
+use Rattle.document_values.specs.Docs.{IsGoodPair}
 use Rattle.layouts.specs.DocumentReading.{deepest}
 use Rattle.document.proofs.HeldPairs.{heap_count, pairs_held}
 use Rattle.document.proofs.compact_doc.CompactDoc.len.Goals as goal

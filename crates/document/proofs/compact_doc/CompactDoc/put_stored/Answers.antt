@@ -1,7 +1,7 @@
 use Rattle.std.proofs.Common.{rules, true, ◌++◌, ◌∷◌, ◌≡◌}
 use Rattle.definitions.specs.NumberCodes.{u32_bytes}
 use Rattle.definitions.specs.Schema.{field_has}
-use Rattle.document.specs.Shown.{value_of}
+use Rattle.document_values.specs.Shown.{value_of}
 use Rattle.document.proofs.StoredPairs.{pair_put}
 use Rattle.document.proofs.compact_doc.CompactDoc.put_stored.Goals as goal
 

@@ -1,6 +1,6 @@
 use Rattle.std.proofs.Common.{false, rules, ◌∷◌, ◌≡◌}
 use Rattle.definitions.specs.Schema.{field_has}
-use Rattle.document.specs.Shown.{value_of}
+use Rattle.document_values.specs.Shown.{value_of}
 use Rattle.document.proofs.StoredPairs.{one_less}
 use Rattle.document.proofs.compact_doc.CompactDoc.stored_count.Goals as goal
 

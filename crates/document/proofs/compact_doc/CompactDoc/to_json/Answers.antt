@@ -1,6 +1,6 @@
 -- What is written is the object of the stored fields alone.
 use Rattle.std.proofs.Common.{◌∙◌, ap}
-use Rattle.document.specs.WrittenJson.{field_members}
+use Rattle.document_values.specs.WrittenJson.{field_members}
 use Rattle.document.proofs.WrittenTokens.{whole_text}
 use Rattle.serde_json.specs.Data.{object}
 use Rattle.serde_json.specs.Written.{compact_text}

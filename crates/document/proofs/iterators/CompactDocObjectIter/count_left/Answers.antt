@@ -1,7 +1,0 @@
-use Rattle.std.proofs.Common.{ap, length, ◌∙◌}
-use Rattle.layouts.specs.DocumentReading.{take_held, take_member}
-use Rattle.document.proofs.WholeItems.{whole_length}
-use Rattle.document.proofs.iterators.CompactDocObjectIter.count_left.Goals as goal
-
-pub returns : goal.returns
-returns c = whole_length (take_member (take_held c.self.inside.tokens c.self.inside.depth)) c.self.inside.left c.self.inside.bytes.now c.self.invariant ∙ ap length c.self.view_is

@@ -1,0 +1,13 @@
+pub mod Steps
+pub mod Many
+pub mod Tokens
+pub mod Inside
+pub mod Skips
+pub mod WholeItems
+pub mod WrittenParts
+pub mod OwnedParts
+pub mod WholePairs
+pub mod JsonParts
+pub mod PrintedParts
+pub mod StoredParts
+pub mod LentMembers

@@ -1,0 +1,29 @@
+//! The values of documents: in memory, as bytes, and as JSON.
+#![tactic(auto)]
+
+mod compact_tokens;
+mod compact_value;
+mod heads;
+mod holding;
+mod iterators;
+mod json_put;
+mod json_text;
+mod owned_value;
+mod owning;
+mod pairs;
+mod printing;
+mod stored;
+mod taking;
+mod writing;
+
+pub use compact_tokens::CompactDocTokens;
+pub use compact_value::CompactDocValue;
+pub use iterators::{CompactDocArrayIter, CompactDocObjectIter, FieldValueIterRef, ValuesOfField};
+pub use json_put::json_object_pair;
+pub use json_text::write_value;
+pub use owned_value::OwnedValue;
+pub use pairs::{address_pair, append, object_pair, owned_pair, sized_head, tokens_pair, value_head};
+pub use printing::{value_to_json, values_to_json};
+pub use stored::stored_value;
+pub use taking::{skip_pairs, take_value};
+pub use writing::put_value;

@@ -1,0 +1,118 @@
+//! Pairs of a field and a value, as the bytes by which a document holds them.
+
+ghost use Rattle.std.specs.Prelude.{[], ◌%◌, ◌++◌, ◌/◌, ◌<◌, ◌^◌, ◌∷◌, ◌≡◌, true, IfOk, OnErr, OnOk};
+ghost use Rattle.definitions.specs.NumberCodes.{u32_bytes, u64_bytes, vint_bytes};
+ghost use Rattle.definitions.specs.Values as values;
+ghost use Rattle.document_values.specs.Docs.{IsGoodPair};
+ghost use Rattle.document_values.specs.Held.{IsHeldValue, held_bytes, held_pair};
+ghost use Rattle.document_values.specs.Owned.{owned_members, owned_value};
+ghost use Rattle.layouts.specs.DocumentReading.{deepest, to_members};
+
+use crate::holding::{put_owned, put_owned_members, put_pre_tokenized};
+use crate::owned_value::OwnedValue;
+use crate::writing::put_address;
+use common::{PreTokenizedString, put_u32, put_vint};
+use std::alloc::{AllocError, Global};
+use terms::Field;
+
+/// Appends the first bytes and then the second, or nothing.
+pub fn append(heap: &mut Vec<u8>, first: &[u8], second: &[u8]) -> Result<(), AllocError>
+    ensures ok { OnOk result (heap.new.items ≡ heap.old.items ++ (first.now ++ second.now)) }
+    ensures err { OnErr result (heap.new.items ≡ heap.old.items) }
+{
+    let start = heap.len();
+    heap.extend_from_slice(first)?;
+    if heap.extend_from_slice(second).is_err() {
+        heap.truncate(start);
+        return Err(AllocError);
+    }
+    Ok(())
+}
+
+/// A field and a code, which stand before a value.
+pub fn value_head(field: Field, code: u8) -> [u8; 5]
+    ensures head { result ≡ u32_bytes field ++ (code ∷ []) }
+    ensures field { field < 2 ^ 32 }
+{
+    let [first, second, third, fourth] = u32::to_le_bytes(field.field_id());
+    [first, second, third, fourth, code]
+}
+
+/// What stands before a byte string of so many bytes: its field, a code and the count.
+pub fn sized_head(
+    alloc: Global,
+    field: Field,
+    code: u8,
+    count: usize,
+) -> Result<Vec<u8>, AllocError>
+    ensures head { IfOk result (λ head. head.items ≡ u32_bytes field ++ (code ∷ vint_bytes count)) }
+    ensures few { count < 2 ^ 64 }
+    ensures field { field < 2 ^ 32 }
+{
+    let mut head = Vec::with_capacity(alloc, 15)?;
+    put_u32(&mut head, field.field_id())?;
+    head.push(code)?;
+    put_vint(&mut head, count as u64)?;
+    Ok(head)
+}
+
+/// A field with a text and its tokens.
+pub fn tokens_pair(
+    alloc: Global,
+    field: Field,
+    text: &PreTokenizedString,
+) -> Result<Vec<u8>, AllocError>
+    ensures pair { IfOk result (λ pair. pair.items ≡ u32_bytes field ++ held_bytes (values.pre_tok_str text.now.0 text.now.1)) }
+    ensures held { IfOk result (λ _. IsHeldValue (values.pre_tok_str text.now.0 text.now.1)) }
+    ensures field { field < 2 ^ 32 }
+{
+    let mut pair = Vec::new(alloc);
+    put_u32(&mut pair, field.field_id())?;
+    put_pre_tokenized(&mut pair, text)?;
+    Ok(pair)
+}
+
+/// A field with a value.
+pub fn owned_pair(
+    alloc: Global,
+    field: Field,
+    value: &OwnedValue,
+) -> Result<Vec<u8>, AllocError>
+    ensures pair { IfOk result (λ pair. pair.items ≡ held_pair (field, owned_value value.now)) }
+    ensures good { IfOk result (λ _. IsGoodPair true deepest (field, owned_value value.now)) }
+{
+    let mut pair = Vec::new(alloc);
+    put_u32(&mut pair, field.field_id())?;
+    put_owned(&mut pair, value)?;
+    Ok(pair)
+}
+
+/// A field with an object of these members.
+pub fn object_pair(
+    alloc: Global,
+    field: Field,
+    members: &[(String, OwnedValue)],
+) -> Result<Vec<u8>, AllocError>
+    ensures pair { IfOk result (λ pair. pair.items ≡ held_pair (field, values.object (to_members (owned_members members.now)))) }
+    ensures good { IfOk result (λ _. IsGoodPair true deepest (field, values.object (to_members (owned_members members.now)))) }
+{
+    let mut pair = Vec::new(alloc);
+    put_u32(&mut pair, field.field_id())?;
+    put_owned_members(&mut pair, members)?;
+    Ok(pair)
+}
+
+/// A field with an address.
+pub fn address_pair(
+    alloc: Global,
+    field: Field,
+    address: u128,
+) -> Result<Vec<u8>, AllocError>
+    ensures pair { IfOk result (λ pair. pair.items ≡ u32_bytes field ++ (10 ∷ (u64_bytes (address % 2 ^ 64) ++ u64_bytes (address / 2 ^ 64)))) }
+    ensures field { field < 2 ^ 32 }
+{
+    let mut pair = Vec::with_capacity(alloc, 21)?;
+    put_u32(&mut pair, field.field_id())?;
+    put_address(&mut pair, address)?;
+    Ok(pair)
+}

@@ -1,0 +1,66 @@
+//! Values printed as JSON.
+
+ghost use Rattle.std.specs.Prelude.{◌≡◌, IfOk};
+ghost use Rattle.definitions.specs.Printed.{printed, printed_list, printed_onto};
+ghost use Rattle.document_values.specs.Owned.{owned_members, owned_value, owned_values};
+ghost use Rattle.layouts.specs.DocumentReading.{to_members};
+ghost use Rattle.serde_json.specs.Data as json;
+ghost use Rattle.serde_json.specs.View.{items_view, members_view, view};
+
+use crate::owned_value::OwnedValue;
+use serde_json::{Map, Value as Json};
+use std::alloc::{AllocError, Global};
+use values_json::{address_text, bytes_text, date_text};
+
+/// The value as JSON: dates, facets, byte strings and addresses as texts, a pre-tokenised text as its text. Of the
+/// members of one key the last stands.
+#[cycle(print)]
+pub fn value_to_json(alloc: Global, value: &OwnedValue) -> Result<Json, AllocError>
+    ensures { IfOk result (λ json. view json ≡ printed (owned_value value.now)) }
+{
+    match value {
+        OwnedValue::Null => Ok(Json::Null),
+        OwnedValue::Str(text) => Ok(Json::String(String::from_str(alloc, text.as_str())?)),
+        OwnedValue::PreTokStr(text) => Ok(Json::String(String::from_str(alloc, text.text())?)),
+        OwnedValue::U64(n) => Ok(Json::from(*n)),
+        OwnedValue::I64(n) => Ok(Json::from(*n)),
+        OwnedValue::Bool(b) => Ok(Json::Bool(*b)),
+        OwnedValue::Date(time) => Ok(Json::String(date_text(alloc, *time)?)),
+        OwnedValue::Facet(facet) => Ok(Json::String(facet.to_path_string(alloc)?)),
+        OwnedValue::Bytes(bytes) => Ok(Json::String(bytes_text(alloc, bytes.as_slice())?)),
+        OwnedValue::IpAddr(address) => Ok(Json::String(address_text(alloc, *address)?)),
+        OwnedValue::Array(values) => Ok(Json::Array(values_to_json(alloc, values.as_slice())?)),
+        OwnedValue::Object(members) => Ok(Json::Object(members_to_json(
+            alloc,
+            members.as_slice(),
+        )?)),
+    }
+}
+
+/// The values as JSON, in order.
+#[cycle(print)]
+pub fn values_to_json(alloc: Global, values: &[OwnedValue]) -> Result<Vec<Json>, AllocError>
+    ensures { IfOk result (λ items. items_view items.items ≡ printed_list (owned_values values.now)) }
+{
+    let mut items = Vec::with_capacity(alloc, values.len())?;
+    for value in values {
+        items.push(value_to_json(alloc, value)?)?;
+    }
+    Ok(items)
+}
+
+/// The members as JSON, put one by one.
+#[cycle(print)]
+fn members_to_json(
+    alloc: Global,
+    members: &[(String, OwnedValue)],
+) -> Result<Map<String, Json>, AllocError>
+    ensures { IfOk result (λ printed. members_view printed.entries ≡ printed_onto json.no_members (to_members (owned_members members.now))) }
+{
+    let mut printed = Map::new(alloc);
+    for (key, value) in members {
+        let name = String::from_str(alloc, key.as_str())?;
+        drop(printed.insert(name, value_to_json(alloc, value)?)?);
+    }
+    Ok(printed)
+}
