@@ -3,7 +3,7 @@ use Rattle.std.proofs.Common.{◌+◌, ◌<◌, ◌⊎◌, ◌≡◌, ◌≤◌,
 use Rattle.std.proofs.lemmas.Bool.{agree_below_at, cases_lt}
 use Rattle.std.proofs.lemmas.Bool.Decides.{nat_tests}
 use Rattle.definitions.specs.Lengths.{fieldnorm_to_id, greatest_id, id_to_fieldnorm}
-use Rattle.codes.specs.declared.fieldnorms.code.TheConstants.{FIELD_NORMS_TABLE}
+use Rattle.codes.specs.declared.code.TheConstants.{FIELD_NORMS_TABLE}
 use Rattle.definitions.proofs.LengthIds.{greatest_id_fits, greatest_id_greatest, greatest_id_within, lengths_rise}
 
 -- the test that two numbers are one

@@ -14,6 +14,7 @@ pub mod Sections
 pub mod VintLists
 pub mod SumsOfDeltas
 pub mod ListLaws
+pub mod SectionLaws
 pub mod PositionBlocks
 pub mod BlockBytes
 pub mod CheckedBlocks

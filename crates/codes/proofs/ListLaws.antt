@@ -6,9 +6,7 @@ use Rattle.common.proofs.TakenBack.{vint_back}
 use Rattle.definitions.specs.Json.{only_if, ◌>>=◌}
 use Rattle.definitions.specs.NumberCodes.{AreBytes, vint_bytes}
 use Rattle.layouts.specs.Deltas.{IsAscendingFrom, deltas, documents, next_of}
-use Rattle.layouts.specs.FieldNorms.{IsNorms}
 use Rattle.layouts.specs.VintBlocks.{documents_bytes, is_u32, numbers_bytes, take_all_numbers, take_documents, take_number, take_numbers}
-use Rattle.codes.proofs.Sections.{section_is_taken}
 use Rattle.codes.proofs.VintLists.{before, last_bytes, number_put, numbers_put}
 
 -- every number is below 2^32
@@ -156,24 +154,3 @@ all_stood (suc room) (b ∷ bs) ns bytes taken = go (λ more few ms e. all_stood
     go : ((more : List ℕ) → AreBytes more → (ms : List ℕ) → take_all_numbers room more ≡ Some ms → (length ms ≤ room) × Small ms × (more ≡ numbers_bytes ms)) → (o : Option (ℕ × List ℕ)) → take_number (b ∷ bs) ≡ o → (o >>= (λ p. take_all_numbers room p.1 >>= (λ ms. Some (p.0 ∷ ms)))) ≡ Some ns → (length ns ≤ suc room) × Small ns × (b ∷ bs ≡ numbers_bytes ns)
     go all None e is = cc
     go all (Some (n, more)) e is = of_some all n more (take_all_numbers room more) refl e is
-
--- ---- sections
-
--- pairs with equal parts are equal
-same_pairs : (a b : List (ℕ × List ℕ)) → map (λ p. p.0) a ≡ map (λ p. p.0) b → map (λ p. p.1) a ≡ map (λ p. p.1) b → a ≡ b
-same_pairs [] [] firsts seconds = refl
-same_pairs [] (q ∷ b) firsts seconds = cc
-same_pairs (p ∷ a) [] firsts seconds = cc
-same_pairs (p ∷ a) (q ∷ b) firsts seconds =
-    let first : p.0 ≡ q.0 = cc in
-    let second : p.1 ≡ q.1 = cc in
-    let later_firsts : map (λ r. r.0) a ≡ map (λ r. r.0) b = cc in
-    let later_seconds : map (λ r. r.1) a ≡ map (λ r. r.1) b = cc in
-    let both : p ≡ q = ap₂ (λ f ids. (f, ids)) first second in
-    ap₂ (λ r rs. r ∷ rs) both (same_pairs a b later_firsts later_seconds)
-
-pub one_section : (fields bytes : List ℕ) (n : ℕ) (a b : List (ℕ × List ℕ)) → Small fields → IsNorms fields n bytes a → IsNorms fields n bytes b → a ≡ b
-one_section fields bytes n a b small is_a is_b =
-    let both : Some (map (λ p. p.1) a) ≡ Some (map (λ p. p.1) b) = sym (section_is_taken n fields bytes a is_a small) ∙ section_is_taken n fields bytes b is_b small in
-    let seconds : map (λ p. p.1) a ≡ map (λ p. p.1) b = cc in
-    same_pairs a b (is_a.names ∙ sym is_b.names) seconds

@@ -211,8 +211,5 @@ field_unread n fields bytes rest first i f so_far inside is none =
     ∙ ap (λ fs. behind first (take_all_ids n fs rest)) (drop-cons fields i 0 inside ∙ ap (λ g. g ∷ drop (suc i) fields) (sym is))
     ∙ ids_none n f (drop (suc i) fields) rest first none
 
-pub is_not_empty : (n : ℕ) → false ≡ nat_eq n 0 → n ≢ 0
-is_not_empty n e = (let e' : nat_eq n 0 ≡ false = sym e in grind (arith, nat_tests))
-
 pub is_empty : (n : ℕ) → true ≡ nat_eq n 0 → n ≡ 0
 is_empty n e = (let e' : nat_eq n 0 ≡ true = sym e in grind (arith, nat_tests))

@@ -1,5 +1,5 @@
 -- Lists of numbers in bytes of seven bits, number by number.
-use Rattle.std.proofs.Common.{[], Bool, IsSome, List, None, Option, Some, add-one, ap, ap₂, append_assoc, arith, drop, drop-cons, false, get_or, length, length-append, option_map, refl, set, subst, suc, sym, take, true, zero, ◌+◌, ◌++◌, ◌-◌, ◌<◌, ◌≡◌, ◌≢◌, ◌≤◌, ◌∙◌, ◌∷◌, ◌^◌, ℕ}
+use Rattle.std.proofs.Common.{[], Bool, IsSome, List, None, Option, Some, add-one, ap, ap₂, append_assoc, arith, drop, drop-cons, false, get_or, length, length-append, option_map, refl, set, subst, suc, sym, take, true, zero, ◌+◌, ◌++◌, ◌-◌, ◌<◌, ◌≡◌, ◌≢◌, ◌≤◌, ◌∙◌, ◌∷◌, ◌^◌, ℕ, nat_eq}
 use Rattle.std.proofs.lemmas.Bool.Decides.{nat_tests}
 use Rattle.std.proofs.Math.Seq.{drop-append_seam, take-suc-set}
 use Rattle.std.specs.List.{AllByRecursion}
@@ -226,3 +226,6 @@ first_of_numbers rest out count i some more =
 pub all_behind_nothing : (o : Option (List ℕ)) → o ≡ all_behind [] o
 all_behind_nothing None = refl
 all_behind_nothing (Some ns) = refl
+
+pub is_not_empty : (n : ℕ) → false ≡ nat_eq n 0 → n ≢ 0
+is_not_empty n e = (let e' : nat_eq n 0 ≡ false = sym e in grind (arith, nat_tests))

@@ -1,7 +1,7 @@
 -- What readers of length ids stand for, and how the ids of a field are taken.
 use Rattle.std.specs.Prelude.{◌==◌, List, Option, replicate, ℕ}
-use Rattle.codes.specs.declared.fieldnorms.reader.Norms.{Norms}
-use Rattle.codes.specs.declared.fieldnorms.reader.Norms.TheVariants.{Constant, Ids}
+use Rattle.codes.specs.declared.reader.Norms.{Norms}
+use Rattle.codes.specs.declared.reader.Norms.TheVariants.{Constant, Ids}
 use Rattle.definitions.specs.Json.{only_if, ◌>>=◌}
 use Rattle.definitions.specs.NumberCodes.{take_count, take_u32}
 

@@ -4,7 +4,7 @@ ghost use Rattle.std.specs.Prelude.{[], ◌*◌, ◌<◌, ◌^◌, ◌≡◌, �
 ghost use Rattle.layouts.specs.Deltas.{IsAscendingFrom, deltas, next_of};
 ghost use Rattle.layouts.specs.PackedBlocks.{IsPacked};
 
-use crate::compressed_block_size;
+use crate::block_size::compressed_block_size;
 use crate::offset::wrapped_after;
 use crate::summing::documents;
 use crate::unpacking::unpack;

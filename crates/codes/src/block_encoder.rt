@@ -4,7 +4,7 @@ ghost use Rattle.std.specs.Prelude.{◌*◌, ◌+◌, ◌<◌, ◌^◌, ◌≡�
 ghost use Rattle.layouts.specs.Deltas.{IsAscendingFrom, deltas, next_of};
 ghost use Rattle.layouts.specs.PackedBlocks.{IsBlock, IsSortedBlock};
 
-use crate::compressed_block_size;
+use crate::block_size::compressed_block_size;
 use crate::offset::least_after;
 use crate::packing::{pack, width_of};
 

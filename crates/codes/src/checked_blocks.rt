@@ -6,7 +6,8 @@ ghost use Rattle.layouts.specs.Deltas.{documents, next_of};
 ghost use Rattle.definitions.specs.declared.fault.Fault.TheVariants as faults;
 ghost use Rattle.layouts.specs.PackedBlocks.{IsBlock, IsSortedBlock};
 
-use crate::{BlockDecoder, compressed_block_size};
+use crate::block_decoder::BlockDecoder;
+use crate::block_size::compressed_block_size;
 use crate::offset::least_after;
 use crate::packing::width_of;
 use common::Fault;

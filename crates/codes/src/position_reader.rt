@@ -7,7 +7,7 @@ ghost use Rattle.layouts.specs.Positions.{AreBlocks, ArePositions};
 ghost use Rattle.layouts.specs.VintBlocks.{take_all_numbers};
 ghost use Rattle.definitions.specs.declared.fault.Fault.TheVariants as faults;
 
-use crate::{COMPRESSION_BLOCK_SIZE, compressed_block_size};
+use crate::block_size::{COMPRESSION_BLOCK_SIZE, compressed_block_size};
 use crate::block_decoder::BlockDecoder;
 use crate::packing::width_of;
 use crate::vint::VIntDecoder;

@@ -3,7 +3,7 @@
 ghost use Rattle.std.specs.Prelude.{[], ◌++◌, ◌<◌, ◌≡◌, ◌^◌, List, OnOk, length, slice_index, ℕ};
 ghost use Rattle.layouts.specs.Positions.{AreBlocks, ArePositions};
 
-use crate::COMPRESSION_BLOCK_SIZE;
+use crate::block_size::COMPRESSION_BLOCK_SIZE;
 use crate::block_encoder::BlockEncoder;
 use crate::vint::VIntEncoder;
 use common::put_bytes;

@@ -6,7 +6,7 @@ ghost use Rattle.definitions.specs.declared.fault.Fault.TheVariants as faults;
 ghost use Rattle.layouts.specs.Deltas.{IsAscendingFrom, deltas, documents, next_of};
 ghost use Rattle.layouts.specs.VintBlocks.{documents_bytes, is_u32, numbers_bytes, take_all_numbers, take_documents, take_number, take_numbers};
 
-use crate::COMPRESSION_BLOCK_SIZE;
+use crate::block_size::COMPRESSION_BLOCK_SIZE;
 use crate::block_decoder::BlockDecoder;
 use crate::block_encoder::BlockEncoder;
 use crate::offset::least_after;

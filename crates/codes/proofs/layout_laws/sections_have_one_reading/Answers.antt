@@ -1,4 +1,4 @@
-use Rattle.codes.proofs.ListLaws.{one_section}
+use Rattle.codes.proofs.SectionLaws.{one_section}
 use Rattle.codes.proofs.layout_laws.sections_have_one_reading.Goals as goal
 
 pub returns : goal.returns

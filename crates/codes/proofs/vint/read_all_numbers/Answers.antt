@@ -1,6 +1,5 @@
-use Rattle.codes.proofs.Sections.{is_not_empty}
+use Rattle.codes.proofs.VintLists.{all_behind_nothing, is_not_empty, next_number, one_read}
 use Rattle.std.proofs.Common.{IsSome, arith, length, subst, ◌<◌, ◌≢◌}
-use Rattle.codes.proofs.VintLists.{all_behind_nothing, next_number, one_read}
 use Rattle.codes.proofs.vint.read_all_numbers.Goals as goal
 
 pub loop-rest-init : goal.loop-rest-init

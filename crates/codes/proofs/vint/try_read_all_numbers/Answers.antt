@@ -1,7 +1,6 @@
-use Rattle.codes.proofs.Sections.{is_not_empty}
+use Rattle.codes.proofs.VintLists.{all_behind_nothing, is_not_empty, one_read, one_unread}
 use Rattle.std.proofs.lemmas.Result.{err_from_is_err_and}
 use Rattle.std.proofs.Common.{arith, length, ◌<◌, ◌≢◌}
-use Rattle.codes.proofs.VintLists.{all_behind_nothing, one_read, one_unread}
 use Rattle.codes.proofs.vint.try_read_all_numbers.Goals as goal
 
 pub loop-rest-init : goal.loop-rest-init
