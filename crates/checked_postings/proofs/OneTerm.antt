@@ -4,8 +4,8 @@ use Rattle.std.proofs.lemmas.Bool.{cases_lt}
 use Rattle.std.proofs.lemmas.List.{length-map}
 use Rattle.std.specs.List.{AllByRecursion}
 use Rattle.checked_postings.specs.Placed.{term_of}
-use Rattle.codes.proofs.PositionNumbers.{same_documents}
-use Rattle.codes.proofs.PositionsOpened.{one_list}
+use Rattle.positions.proofs.PositionNumbers.{same_documents}
+use Rattle.positions.proofs.PositionsOpened.{one_list}
 use Rattle.common.proofs.DigitNumbers.{AreDigits}
 use Rattle.definitions.specs.NumberCodes.{take_bytes}
 use Rattle.definitions.specs.Postings.{Posting}

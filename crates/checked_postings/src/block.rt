@@ -1,7 +1,7 @@
 //! One full block, checked.
 
 ghost use Rattle.std.specs.Prelude.{IfErr, IfOk, IfSome, List, None, ℕ, ◌*◌, ◌≡◌, ◌≤◌, false, if◌then◌else◌, length, sum};
-ghost use Rattle.codes.specs.PositionBlocks.{listed};
+ghost use Rattle.packed_blocks.specs.PositionBlocks.{listed};
 ghost use Rattle.checked_postings.specs.Blocks.{BeginsWithBlock, IsCountBlock, IsDocBlock, entry_of};
 ghost use Rattle.definitions.specs.Schema.{has_freq, has_positions};
 ghost use Rattle.definitions.specs.declared.fault.Fault.TheVariants as faults;
@@ -10,9 +10,10 @@ ghost use Rattle.options.specs.RecordOption.{record_option_of};
 
 use crate::entry::Entry;
 use crate::folds::{are_below, count_sum, greatest_count, least_id};
-use codes::{BlockDecoder, FieldNormReader, compressed_block_size};
 use definitions::Fault;
+use fieldnorms::FieldNormReader;
 use options::IndexRecordOption;
+use packed_blocks::{BlockDecoder, compressed_block_size};
 
 /// The sum of the counts of the full block with which the bytes begin, where they begin with one of which the
 /// entry tells. The document before it is given, or 0 where none stands before.

@@ -1,7 +1,7 @@
 //! All blocks of a term, checked one after another.
 
 ghost use Rattle.std.specs.Prelude.{IfErr, IfOk, IfSome, None, ℕ, ◌*◌, ◌+◌, ◌/◌, ◌%◌, ◌<◌, ◌≡◌, ◌≤◌, drop, length};
-ghost use Rattle.codes.specs.PositionBlocks.{listed};
+ghost use Rattle.packed_blocks.specs.PositionBlocks.{listed};
 ghost use Rattle.checked_postings.specs.Blocks.{HasBlocks, entry_of};
 ghost use Rattle.definitions.specs.declared.fault.Fault.TheVariants as faults;
 ghost use Rattle.options.specs.RecordOption.{record_option_of};
@@ -10,9 +10,10 @@ ghost use Rattle.skips.specs.SkipBlocks.{block_size};
 use crate::block::checked_block;
 use crate::entry::{Entry, first_entry};
 use crate::rest::checked_rest;
-use codes::{FieldNormReader, compressed_block_size};
 use definitions::Fault;
+use fieldnorms::FieldNormReader;
 use options::IndexRecordOption;
+use packed_blocks::compressed_block_size;
 use skips::SkipReader;
 
 /// The sum of the counts of so many documents, where the bytes are their blocks, of which the skip entries tell.

@@ -2,13 +2,13 @@
 
 ghost use Rattle.std.specs.Prelude.{IfNone, IfSome, IsTrue, ◌+◌, ◌*◌, ◌<◌, ◌^◌, ◌≡◌, ◌≤◌, ◌↔◌, length, map, sum};
 ghost use Rattle.std.specs.List.{AllByRecursion};
-ghost use Rattle.codes.specs.PositionBlocks.{listed};
+ghost use Rattle.packed_blocks.specs.PositionBlocks.{listed};
 ghost use Rattle.checked_postings.specs.Blocks.{more_1};
 ghost use Rattle.definitions.specs.Blocks.{least_of};
 ghost use Rattle.definitions.specs.Scoring.{greatest_of};
 ghost use Rattle.layouts.specs.TermPostings.{id_of};
 
-use codes::FieldNormReader;
+use fieldnorms::FieldNormReader;
 
 /// Whether each document is below a number.
 pub(crate) fn are_below(docs: &[u32], num_docs: u32) -> bool

@@ -8,10 +8,10 @@ ghost use Rattle.layouts.specs.Deltas.{next_of};
 ghost use Rattle.options.specs.RecordOption.{record_option_of};
 
 use crate::folds::{are_below, count_sum};
-use codes::{BlockDecoder, VIntDecoder};
 use common::TERMINATED;
 use definitions::Fault;
 use options::IndexRecordOption;
+use packed_blocks::{BlockDecoder, VIntDecoder};
 
 /// The sum of the counts of fewer than 128 documents, where the bytes are so many. The document before them is
 /// given, or 0 where none stands before.

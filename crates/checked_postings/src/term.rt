@@ -1,7 +1,7 @@
 //! A term, checked: its postings, and its positions where they are recorded.
 
 ghost use Rattle.std.specs.Prelude.{IfErr, IfOk, IfSome, List, None, ℕ, ◌≡◌, ◌≤◌, length, sum_by};
-ghost use Rattle.codes.specs.PositionBlocks.{listed};
+ghost use Rattle.packed_blocks.specs.PositionBlocks.{listed};
 ghost use Rattle.checked_postings.specs.Placed.{term_of};
 ghost use Rattle.definitions.specs.Postings.{Posting};
 ghost use Rattle.definitions.specs.declared.fault.Fault.TheVariants as faults;
@@ -10,8 +10,8 @@ ghost use Rattle.options.specs.RecordOption.{record_option_of};
 
 use crate::term_positions::check_positions;
 use crate::term_postings::checked_postings;
-use codes::FieldNormReader;
 use definitions::Fault;
+use fieldnorms::FieldNormReader;
 use options::IndexRecordOption;
 
 /// Checks the postings and positions of a term that so many documents of a segment have, and answers the sum

@@ -6,8 +6,8 @@ ghost use Rattle.definitions.specs.declared.fault.Fault.TheVariants as faults;
 ghost use Rattle.postings.specs.Cursors.{counts_left, docs_left};
 ghost use Rattle.postings.specs.Reading.{HasPostings};
 
-use codes::PositionReader;
 use definitions::Fault;
+use positions::PositionReader;
 use postings::BlockSegmentPostings;
 use skips::Recorded;
 

@@ -1,7 +1,7 @@
 //! The postings of a term, checked.
 
 ghost use Rattle.std.specs.Prelude.{IfErr, IfOk, IfSome, None, Some, ℕ, [], ◌<◌, ◌≡◌, ◌≤◌, length};
-ghost use Rattle.codes.specs.PositionBlocks.{listed};
+ghost use Rattle.packed_blocks.specs.PositionBlocks.{listed};
 ghost use Rattle.checked_postings.specs.Terms.{HasTerm};
 ghost use Rattle.definitions.specs.NumberCodes.{take_bytes};
 ghost use Rattle.definitions.specs.Schema.{has_freq, has_positions};
@@ -9,9 +9,9 @@ ghost use Rattle.definitions.specs.declared.fault.Fault.TheVariants as faults;
 ghost use Rattle.options.specs.RecordOption.{record_option_of};
 
 use crate::blocks::checked_blocks;
-use codes::FieldNormReader;
 use common::take_bytes;
 use definitions::Fault;
+use fieldnorms::FieldNormReader;
 use options::IndexRecordOption;
 use skips::{Recorded, SkipReader};
 

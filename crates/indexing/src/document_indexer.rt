@@ -11,10 +11,10 @@ ghost use Rattle.indexing.specs.Indexers.{HasIndexed, analyzer_of, schema_of, wr
 
 use crate::index_document::index_document;
 use crate::term_indexer::TermIndexer;
-use codes::FieldNormReaders;
 use common::{Analyzer, TERMINATED};
 use definitions::Fault;
 use document::CompactDoc;
+use fieldnorms::FieldNormReaders;
 use postings::InvertedIndexSerializer;
 use postings_writer::PostingsWriter;
 use schema::Schema;

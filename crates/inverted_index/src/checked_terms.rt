@@ -2,7 +2,7 @@
 
 ghost use Rattle.std.specs.Prelude.{IfErr, IfOk, IfSome, List, None, OnOk, ◌≡◌, ◌≤◌, length, sum_by};
 ghost use Rattle.std.specs.List.{AllByRecursion};
-ghost use Rattle.codes.specs.PositionBlocks.{listed};
+ghost use Rattle.packed_blocks.specs.PositionBlocks.{listed};
 ghost use Rattle.definitions.specs.declared.fault.Fault.TheVariants as faults;
 ghost use Rattle.inverted_index.specs.CheckedTerms.{AreCheckedFields, IsCheckedField, IsTermAt, IsWithin, bytes_of};
 ghost use Rattle.inverted_index.specs.FieldKinds.{option_in};
@@ -14,8 +14,8 @@ use crate::section_bytes::SectionBytes;
 use crate::term_entry::entry_at;
 use crate::term_start::TermStart;
 use checked_postings::check_term;
-use codes::{FieldNormReader, FieldNormReaders};
 use definitions::Fault;
+use fieldnorms::{FieldNormReader, FieldNormReaders};
 
 /// Checks the term that begins at a place, and answers how many tokens it has.
 fn check_term_at(

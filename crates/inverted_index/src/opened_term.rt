@@ -7,8 +7,8 @@ ghost use Rattle.inverted_index.specs.OpenedTerms.{HasTerm, entry_as};
 ghost use Rattle.options.specs.RecordOption.{record_option_of};
 ghost use Rattle.postings.specs.Cursors.{blocks_decoded, counts_left, cursor_blocks_decoded, cursor_doc_freq, doc_freq_of, docs_left, entries_left};
 
-use codes::PositionReader;
 use options::IndexRecordOption;
+use positions::PositionReader;
 use postings::{BlockSegmentPostings, SegmentPostings};
 use skips::Recorded;
 

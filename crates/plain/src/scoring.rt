@@ -17,7 +17,7 @@ use crate::any_query::{AnyQuery, Occur, TermQuery};
 use crate::indexed_doc::IndexedDoc;
 use crate::tally::Tally;
 use crate::term_types::is_text_term;
-use codes::fieldnorm_to_id;
+use fieldnorms::fieldnorm_to_id;
 use schema::{FieldEntry, Schema};
 use settings::Settings;
 use terms::Field;

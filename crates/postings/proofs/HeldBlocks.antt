@@ -3,9 +3,9 @@ use Rattle.std.proofs.Common.{[], Bool, IsSome, List, ap, append-nil, arith, dro
 use Rattle.std.proofs.Math.Seq.{take-append_seam}
 use Rattle.std.proofs.lemmas.Bool.{cases_lt}
 use Rattle.std.proofs.lemmas.List.{get_or-append_right, get_or-replicate, get_or-take, get_or_append_left, get_or_default, get_or_past}
-use Rattle.codes.proofs.Ascending.{ascends_apart}
-use Rattle.codes.proofs.Sums.{ascending-documents}
-use Rattle.codes.specs.PositionBlocks.{unpacked}
+use Rattle.fieldnorms.proofs.Ascending.{ascends_apart}
+use Rattle.packed_blocks.proofs.Sums.{ascending-documents}
+use Rattle.packed_blocks.specs.PositionBlocks.{unpacked}
 use Rattle.definitions.specs.Postings.{terminated}
 use Rattle.layouts.specs.Deltas.{IsAscendingFrom, next_of}
 use Rattle.layouts.specs.SkipEntries.{SkipEntry}

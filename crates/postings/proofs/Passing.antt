@@ -6,9 +6,9 @@ use Rattle.std.proofs.lemmas.List.{drop-drop, drop_all, get_or-replicate, get_or
 use Rattle.std.proofs.lemmas.List.Sums.{prefix_len-le-length, sum_by-append, sum_by-take-drop}
 use Rattle.definitions.specs.Json.{only_if, ◌>>=◌}
 use Rattle.definitions.specs.Postings.{terminated}
-use Rattle.codes.proofs.Ascending.{ascends_least}
-use Rattle.codes.proofs.Sums.{ascending-documents}
-use Rattle.codes.specs.PositionBlocks.{unpacked}
+use Rattle.fieldnorms.proofs.Ascending.{ascends_least}
+use Rattle.packed_blocks.proofs.Sums.{ascending-documents}
+use Rattle.packed_blocks.specs.PositionBlocks.{unpacked}
 use Rattle.layouts.specs.Deltas.{IsAscendingFrom, documents, next_of}
 use Rattle.layouts.specs.SkipEntries.{SkipEntry}
 use Rattle.layouts.specs.VintBlocks.{is_u32, take_documents, take_number, take_numbers}

@@ -6,11 +6,11 @@ use Rattle.std.proofs.lemmas.Bool.{cases_lt}
 use Rattle.std.proofs.lemmas.Bool.Decides.{nat_tests}
 use Rattle.std.proofs.lemmas.List.{get_or-drop, get_or-take, get_or_past, length-map, replicate-append-replicate, take-append-drop}
 use Rattle.std.specs.List.{AllByRecursion, list_all}
-use Rattle.codes.proofs.BlockBytes.{packed_stands}
-use Rattle.codes.proofs.ListLaws.{documents_back, numbers_back}
-use Rattle.codes.proofs.PositionBlocks.{packed_is}
-use Rattle.codes.proofs.Sums.{documents-deltas}
-use Rattle.codes.specs.PositionBlocks.{unpacked}
+use Rattle.packed_blocks.proofs.BlockBytes.{packed_stands}
+use Rattle.packed_blocks.proofs.ListLaws.{documents_back, numbers_back}
+use Rattle.packed_blocks.proofs.PositionBlocks.{packed_is}
+use Rattle.packed_blocks.proofs.Sums.{documents-deltas}
+use Rattle.packed_blocks.specs.PositionBlocks.{unpacked}
 use Rattle.common.proofs.DigitNumbers.{AreDigits}
 use Rattle.definitions.specs.Postings.{terminated}
 use Rattle.definitions.specs.Schema.{IndexRecordOption, has_freq, has_positions}

@@ -9,8 +9,8 @@ ghost use Rattle.postings.specs.ReadingLaws.{Ascends-prop, StandsIn-prop};
 
 use crate::decoding::decode_block;
 use crate::greatest_count::greatest_count;
-use codes::BlockDecoder;
 use common::{DocId, take_bytes};
+use packed_blocks::BlockDecoder;
 use skips::{Recorded, SkipReader};
 
 /// The postings of a term, 128 documents at a time, lent from their bytes: the cursor holds a block, and its

@@ -1,12 +1,12 @@
 //! Blocks of documents and counts, taken out of a term's bytes.
 
 ghost use Rattle.std.specs.Prelude.{[], ◌*◌, ◌++◌, ◌+◌, ◌-◌, ◌<◌, ◌^◌, ◌≡◌, ◌≤◌, Bool, IsSome, Some, drop, length, map, min, replicate, true, slice_index, take, ℕ};
-ghost use Rattle.codes.specs.Decoded.{output_list};
+ghost use Rattle.packed_blocks.specs.Decoded.{output_list};
 ghost use Rattle.layouts.specs.VintBlocks.{take_documents, take_numbers};
 ghost use Rattle.postings.specs.Reading.{IsHeld, StandsIn, block_counts, block_docs, counts_at, docs_at, found, more_1, rest_counts, rest_docs};
 
-use codes::{BlockDecoder, VIntDecoder};
 use common::TERMINATED;
+use packed_blocks::{BlockDecoder, VIntDecoder};
 use skips::{BlockInfo, SkipReader};
 
 /// Decodes the block at which the skip entries stand, and answers how many documents it has.

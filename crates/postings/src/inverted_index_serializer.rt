@@ -7,8 +7,9 @@ ghost use Rattle.postings.specs.FieldWriting.{field_begun};
 use crate::field_serializer::FieldSerializer;
 use crate::postings_serializer::PostingsSerializer;
 use crate::term_dictionary_builder::TermDictionaryBuilder;
-use codes::{FieldNormReader, PositionSerializer};
+use fieldnorms::FieldNormReader;
 use options::IndexRecordOption;
+use positions::PositionSerializer;
 use std::alloc::{AllocError, Global};
 use std::marker::Model;
 

@@ -4,7 +4,7 @@ ghost use Rattle.std.specs.Prelude.{◌++◌, ◌+◌, ◌<◌, ◌≡◌, ◌�
 ghost use Rattle.postings.specs.Entries.{highest};
 ghost use Rattle.postings.specs.TermEntries.{numbers_of, places};
 
-use codes::PositionReader;
+use positions::PositionReader;
 use std::alloc::AllocError;
 
 /// Puts so many positions from a place on, each plus an offset, behind those that the output holds; none

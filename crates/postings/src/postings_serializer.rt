@@ -1,7 +1,7 @@
 //! The postings of terms, written as bytes.
 
 ghost use Rattle.std.specs.Prelude.{[], ◌++◌, ◌+◌, ◌<◌, ◌≡◌, ◌≤◌, ◌^◌, ◌∷◌, IfErr, IfSome, IsTrue, List, OnOk, false, if◌then◌else◌, length, nat_le, ℕ};
-ghost use Rattle.codes.specs.PositionBlocks.{listed};
+ghost use Rattle.packed_blocks.specs.PositionBlocks.{listed};
 ghost use Rattle.definitions.specs.Schema.{basic, has_freq, has_positions};
 ghost use Rattle.layouts.specs.TermPostings.{ArePosted, id_of, postings_bytes};
 ghost use Rattle.options.specs.RecordOption.{record_option_of};
@@ -9,9 +9,10 @@ ghost use Rattle.postings.specs.TermWriting.{AreWritten, IsRefusal, IsSumRefusal
 
 use crate::block::Block;
 use crate::block_writer::BlockWriter;
-use codes::{COMPRESSION_BLOCK_SIZE, FieldNormReader};
 use definitions::Fault;
+use fieldnorms::FieldNormReader;
 use options::IndexRecordOption;
+use packed_blocks::COMPRESSION_BLOCK_SIZE;
 use std::alloc::Global;
 use std::marker::Model;
 

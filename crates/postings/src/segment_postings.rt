@@ -10,8 +10,8 @@ use crate::block_segment_postings::BlockSegmentPostings;
 use crate::doc_set::DocSet;
 use crate::position_lists::append_positions;
 use crate::postings::Postings;
-use codes::PositionReader;
 use common::DocId;
+use positions::PositionReader;
 use skips::Recorded;
 use std::alloc::AllocError;
 

@@ -12,8 +12,8 @@ ghost use Rattle.postings_writer.specs.Sections.{AreFieldsAdded, IsFieldOf};
 ghost use Rattle.postings_writer.specs.Writers.{Stands};
 
 use crate::postings_writer::PostingsWriter;
-use codes::FieldNormReaders;
 use definitions::Fault;
+use fieldnorms::FieldNormReaders;
 use postings::InvertedIndexSerializer;
 use schema::FieldEntry;
 use terms::Field;

@@ -3,7 +3,7 @@
 ghost use Rattle.std.specs.Prelude.{[], ◌^◌, ◌≡◌, ◌≤◌, ◌⊎◌, ◌∷◌, IfErr, IfOk, List, MatchOption, OnOk, bytes_eq, map, sum_by, true, ℕ};
 ghost use Rattle.std.specs.List.{AllByRecursion};
 ghost use Rattle.std.specs.Map.{lookup};
-ghost use Rattle.codes.specs.PositionBlocks.{listed};
+ghost use Rattle.packed_blocks.specs.PositionBlocks.{listed};
 ghost use Rattle.definitions.specs.Schema.{is_indexed};
 ghost use Rattle.definitions.specs.declared.fault.Fault.TheVariants as faults;
 ghost use Rattle.layouts.specs.InvertedIndexes.{IndexedField, IndexedTerm};
@@ -19,8 +19,8 @@ ghost use Rattle.terms.specs.Kinds.{kind_of};
 use crate::field_postings::FieldPostings;
 use crate::recorder::Recorder;
 use crate::serialize_term::serialize_term;
-use codes::FieldNormReader;
 use definitions::Fault;
+use fieldnorms::FieldNormReader;
 use options::IndexRecordOption;
 use postings::{FieldSerializer, InvertedIndexSerializer};
 use schema::FieldEntry;

@@ -1,6 +1,6 @@
 //! Lengths of fields that are recorded document by document.
 
-use codes::{FieldNormReaders, FieldNormsSerializer, FieldNormsWriter};
+use fieldnorms::{FieldNormReaders, FieldNormsSerializer, FieldNormsWriter};
 use std::test::Fail;
 
 // Lengths 3, 3 and 1 of field 0 alone.

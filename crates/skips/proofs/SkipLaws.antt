@@ -7,7 +7,7 @@ use Rattle.std.proofs.lemmas.Nat.{from_le_bytes-to_le_bytes_4}
 use Rattle.std.specs.Option.{option_map_or}
 use Rattle.common.proofs.TakenBack.{count_back, u32_put}
 use Rattle.std.specs.Int.{from_le_bytes, w32}
-use Rattle.codes.proofs.VintLists.{last_bytes}
+use Rattle.packed_blocks.proofs.VintLists.{last_bytes}
 use Rattle.skips.specs.SkipBlocks.{are_skips, entries_of, take_byte, take_entries, take_entry, take_where}
 use Rattle.definitions.specs.Json.{◌>>=◌}
 use Rattle.definitions.specs.NumberCodes.{AreBytes, take_u32, u32_bytes}

@@ -6,9 +6,9 @@ ghost use Rattle.definitions.specs.NumberCodes.{take_u32};
 ghost use Rattle.definitions.specs.declared.fault.Fault.TheVariants as faults;
 ghost use Rattle.layouts.specs.SkipEntries.{AreSkips, SkipEntry, is_entry};
 
-use codes::compressed_block_size;
 use common::{TERMINATED, take_u32};
 use definitions::Fault;
+use packed_blocks::compressed_block_size;
 use std::marker::Model;
 
 /// What a term's postings record beside the documents.

@@ -2,7 +2,7 @@ use Rattle.std.proofs.Common.{[], Some, ap, arith, drop, length, length-drop, re
 use Rattle.std.proofs.lemmas.Result.{err_from_is_err_and}
 use Rattle.checked_postings.proofs.NumberFolds.{nothing_left}
 use Rattle.checked_postings.proofs.RestChecks.{rest_counts_held, rest_counts_read, rest_counts_untaken}
-use Rattle.codes.proofs.ListLaws.{numbers_stood}
+use Rattle.packed_blocks.proofs.ListLaws.{numbers_stood}
 use Rattle.definitions.specs.Schema.{has_freq}
 use Rattle.layouts.specs.VintBlocks.{take_numbers}
 use Rattle.options.specs.RecordOption.{record_option_of}

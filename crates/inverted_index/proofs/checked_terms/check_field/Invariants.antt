@@ -1,5 +1,5 @@
 use Rattle.std.proofs.Common.{◌+◌, ◌≡◌, ℕ}
-use Rattle.codes.specs.PositionBlocks.{listed}
+use Rattle.packed_blocks.specs.PositionBlocks.{listed}
 use Rattle.inverted_index.proofs.CheckedOnce.{Checking}
 use Rattle.inverted_index.specs.CheckedTerms.{bytes_of}
 use Rattle.inverted_index.proofs.checked_terms.check_field.Given as goal

@@ -1,6 +1,6 @@
 use Rattle.std.proofs.Common.{ap, arith, get_or, length, subst, sym, take, take_all, true, ◌*◌, ◌<◌, ◌∙◌, ◌≡◌, ◌^◌, ℕ, rules}
-use Rattle.codes.proofs.PositionBlocks.{packed_is}
-use Rattle.codes.proofs.Packings.{digits-take}
+use Rattle.packed_blocks.proofs.PositionBlocks.{packed_is}
+use Rattle.packed_blocks.proofs.Packings.{digits-take}
 use Rattle.postings.specs.Reading.{block_counts, more_1}
 use Rattle.postings.proofs.decoding.decode_counts.Goals.{After-output_array}
 use Rattle.postings.proofs.decoding.decode_counts.Goals as goal

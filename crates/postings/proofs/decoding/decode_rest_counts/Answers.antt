@@ -1,6 +1,6 @@
 use Rattle.std.proofs.Common.{ap, arith, false, get_or, length, subst, sym, take, true, ◌<◌, ◌∙◌, ◌≡◌, ◌^◌, ℕ, rules}
 use Rattle.std.proofs.lemmas.List.{take-replicate}
-use Rattle.codes.proofs.ListLaws.{numbers_stood}
+use Rattle.packed_blocks.proofs.ListLaws.{numbers_stood}
 use Rattle.postings.proofs.BlockLists.{counts_found}
 use Rattle.postings.specs.Reading.{more_1, rest_counts}
 use Rattle.postings.proofs.decoding.decode_rest_counts.Goals.{After-output_array}

@@ -1,5 +1,5 @@
 use Rattle.std.proofs.Common.{ap, arith, drop, length, length-take, sym, take, ◌++◌, ◌∙◌, ◌≡◌}
-use Rattle.codes.proofs.ListLaws.{documents_stood}
+use Rattle.packed_blocks.proofs.ListLaws.{documents_stood}
 use Rattle.postings.proofs.BlockLists.{docs_found, docs_padded}
 use Rattle.postings.specs.Reading.{rest_docs}
 use Rattle.postings.proofs.decoding.decode_rest_docs.Goals.{After-output_array}

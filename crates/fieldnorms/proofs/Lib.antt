@@ -1,0 +1,4 @@
+pub mod LengthsOfIds
+pub mod Ascending
+pub mod Recording
+pub mod Sections

@@ -1,0 +1,2 @@
+pub mod FieldNorms
+pub mod Readers

@@ -1,0 +1,17 @@
+-- What readers of length ids stand for, and how the ids of a field are taken.
+use Rattle.std.specs.Prelude.{◌==◌, List, Option, replicate, ℕ}
+use Rattle.fieldnorms.specs.declared.reader.Norms.{Norms}
+use Rattle.fieldnorms.specs.declared.reader.Norms.TheVariants.{Constant, Ids}
+use Rattle.definitions.specs.Json.{only_if, ◌>>=◌}
+use Rattle.definitions.specs.NumberCodes.{take_count, take_u32}
+
+-- the length id of each document
+abbrev pub ids_in : Norms → List ℕ
+ids_in (Constant num_docs id) = replicate num_docs id
+ids_in (Ids ids) = ids.now
+
+-- the ids of a field, where it stands first, and the rest
+abbrev pub take_ids : ℕ → ℕ → List ℕ → Option (List ℕ × List ℕ)
+take_ids num_docs field bs = do
+  p ← take_u32 bs
+  only_if (p.0 == field) (take_count num_docs p.1)

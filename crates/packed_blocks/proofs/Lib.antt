@@ -1,0 +1,13 @@
+pub mod Windows
+pub mod Packings
+pub mod Widths
+pub mod Filling
+pub mod FirstNumber
+pub mod Sums
+pub mod Refused
+pub mod Bits
+pub mod VintLists
+pub mod SumsOfDeltas
+pub mod ListLaws
+pub mod PositionBlocks
+pub mod BlockBytes

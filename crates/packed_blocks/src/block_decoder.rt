@@ -1,0 +1,81 @@
+//! Blocks of 128 numbers, and of 128 ascending documents, read from their bytes.
+
+ghost use Rattle.std.specs.Prelude.{[], ◌*◌, ◌<◌, ◌^◌, ◌≡◌, ◌≤◌, length, replicate, slice_index, take, List, ℕ};
+ghost use Rattle.layouts.specs.Deltas.{IsAscendingFrom, deltas, next_of};
+ghost use Rattle.layouts.specs.PackedBlocks.{IsPacked};
+
+use crate::block_size::compressed_block_size;
+use crate::offset::wrapped_after;
+use crate::summing::documents;
+use crate::unpacking::unpack;
+
+/// Room for the numbers of a block, and those that were read last.
+#[derive(Drop)]
+pub struct BlockDecoder {
+    pub(crate) output: [u32; 128],
+    pub(crate) output_len: usize,
+    ghost within: { output_len ≤ 128 },
+}
+
+impl BlockDecoder {
+    ghost use Rattle.packed_blocks.specs.Decoded.{output_list};
+
+    /// A decoder that has read nothing yet, with the same number at each of its 128 places.
+    pub fn with_val(val: u32) -> BlockDecoder
+        ensures nothing { output_list result ≡ [] }
+        ensures places { result.output ≡ replicate 128 val }
+    {
+        BlockDecoder {
+            output: [val; 128],
+            output_len: 0,
+        }
+    }
+
+    /// Reads a block of this width in bits, and answers how many bytes it takes, whatever follows it.
+    pub fn uncompress_block_unsorted(&mut self, bytes: &[u8], num_bits: u8) -> usize
+        requires width { num_bits ≤ 32 }
+        requires room { 16 * num_bits ≤ length bytes.now }
+        ensures numbers { IsPacked num_bits (output_list self.new) (take (16 * num_bits) bytes.now) }
+        ensures consumed { result ≡ 16 * num_bits }
+    {
+        unpack(bytes, num_bits as u32, &mut self.output);
+        self.output_len = 128;
+        compressed_block_size(num_bits)
+    }
+
+    /// Reads a block of ascending documents from their strict deltas, and answers how many bytes it takes.
+    /// The offset is the document before the block, or 0 where none stands before.
+    ///
+    /// Where the documents aren't below 2^32 what is read is of no use.
+    pub fn uncompress_block_sorted(&mut self, bytes: &[u8], offset: u32, num_bits: u8) -> usize
+        requires width { num_bits ≤ 32 }
+        requires room { 16 * num_bits ≤ length bytes.now }
+        ensures documents { (docs : List ℕ) → IsAscendingFrom (next_of offset) docs → ((i : ℕ) → slice_index docs i < 2 ^ 32) → IsPacked num_bits (deltas (next_of offset) docs) (take (16 * num_bits) bytes.now) → output_list self.new ≡ docs }
+        ensures length { length (output_list self.new) ≡ 128 }
+        ensures consumed { result ≡ 16 * num_bits }
+    {
+        documents(
+            bytes,
+            num_bits as u32,
+            wrapped_after(offset),
+            &mut self.output,
+        );
+        self.output_len = 128;
+        compressed_block_size(num_bits)
+    }
+
+    /// The numbers that were read last.
+    pub fn output_array(&self) -> &[u32]
+        ensures { result.now ≡ output_list self.now }
+    {
+        &self.output[..self.output_len]
+    }
+
+    /// The number at one of the 128 places, the numbers read last first.
+    pub fn output(&self, place: usize) -> u32
+        requires { place < 128 }
+        ensures { result ≡ slice_index self.now.output place }
+    {
+        self.output[place]
+    }
+}

@@ -1,0 +1,338 @@
+//! Lists of numbers in bytes of seven bits, and of ascending documents by their deltas.
+
+ghost use Rattle.std.specs.Prelude.{drop, length, nat_lt, replicate, take, ◌++◌, ◌-◌, ◌<◌, ◌≡◌, ◌≤◌, ◌^◌, Bool, IfErr, IfOk, IsSome, IsTrue, List, None, OnErr, OnOk, Some, ℕ};
+ghost use Rattle.std.specs.List.{list_all};
+ghost use Rattle.definitions.specs.declared.fault.Fault.TheVariants as faults;
+ghost use Rattle.layouts.specs.Deltas.{IsAscendingFrom, deltas, documents, next_of};
+ghost use Rattle.layouts.specs.VintBlocks.{documents_bytes, is_u32, numbers_bytes, take_all_numbers, take_documents, take_number, take_numbers};
+
+use crate::block_decoder::BlockDecoder;
+use crate::block_encoder::BlockEncoder;
+use crate::block_size::COMPRESSION_BLOCK_SIZE;
+use crate::offset::least_after;
+use common::{put_vint, take_vint};
+use definitions::Fault;
+use std::alloc::AllocError;
+
+/// Appends lists of numbers in bytes of seven bits.
+pub trait VIntEncoder {
+    /// Appends ascending documents by their deltas. The offset is the document before the first; 0 says
+    /// that none stands before.
+    fn compress_vint_sorted(
+        &self,
+        out: &mut Vec<u8>,
+        input: &[u32],
+        offset: u32,
+    ) -> Result<(), AllocError>
+        requires { IsAscendingFrom (next_of offset) input.now }
+        ensures { OnOk result (out.new.items ≡ out.old.items ++ documents_bytes offset input.now) };
+
+    /// Appends numbers as they are.
+    fn compress_vint_unsorted(&self, out: &mut Vec<u8>, input: &[u32]) -> Result<(), AllocError>
+        ensures { OnOk result (out.new.items ≡ out.old.items ++ numbers_bytes input.now) };
+}
+
+/// Reads lists of at most 128 numbers from bytes of seven bits. What is read stands first in the output,
+/// and the padding, where one is given, behind it. The answer is how many bytes were read.
+///
+/// The plain calls are for bytes that are known to be such a list. The others refuse `Damaged` where they
+/// aren't, and then hold no number.
+pub trait VIntDecoder {
+    // All places of the output.
+    ghost places: { Self → List ℕ };
+
+    // How many of them were read last.
+    ghost filled: { Self → ℕ };
+
+    /// Reads documents behind an offset; 0 says that none stands before.
+    fn uncompress_vint_sorted(
+        &mut self,
+        bytes: &[u8],
+        offset: u32,
+        num_els: usize,
+        padding: u32,
+    ) -> usize
+        requires room { num_els ≤ 128 }
+        requires layout { IsSome (take_documents offset num_els bytes.now) }
+        ensures documents { take_documents offset num_els bytes.now ≡ Some (take num_els (places self.new), drop result bytes.now) }
+        ensures padded { drop num_els (places self.new) ≡ replicate (128 - num_els) padding }
+        ensures filled { filled self.new ≡ num_els }
+        ensures within { result ≤ length bytes.now };
+
+    /// Reads numbers as they are.
+    fn uncompress_vint_unsorted(&mut self, bytes: &[u8], num_els: usize, padding: u32) -> usize
+        requires room { num_els ≤ 128 }
+        requires layout { IsSome (take_numbers num_els bytes.now) }
+        ensures numbers { take_numbers num_els bytes.now ≡ Some (take num_els (places self.new), drop result bytes.now) }
+        ensures padded { drop num_els (places self.new) ≡ replicate (128 - num_els) padding }
+        ensures filled { filled self.new ≡ num_els }
+        ensures within { result ≤ length bytes.now };
+
+    /// Reads all numbers up to the end of the bytes.
+    fn uncompress_vint_unsorted_until_end(&mut self, bytes: &[u8])
+        requires layout { IsSome (take_all_numbers 128 bytes.now) }
+        ensures numbers { take_all_numbers 128 bytes.now ≡ Some (take (filled self.new) (places self.new)) }
+        ensures room { filled self.new ≤ 128 };
+
+    /// Reads documents behind an offset from bytes that may be damaged.
+    fn try_uncompress_vint_sorted(
+        &mut self,
+        bytes: &[u8],
+        offset: u32,
+        num_els: usize,
+        padding: u32,
+    ) -> Result<usize, Fault>
+        requires room { num_els ≤ 128 }
+        ensures ok { IfOk result (λ consumed. (consumed ≤ length bytes.now) × (take_documents offset num_els bytes.now ≡ Some (take num_els (places self.new), drop consumed bytes.now))) }
+        ensures padded { OnOk result (drop num_els (places self.new) ≡ replicate (128 - num_els) padding) }
+        ensures filled { OnOk result (filled self.new ≡ num_els) }
+        ensures err { IfErr result (λ fault. (fault ≡ faults.Damaged None) × (take_documents offset num_els bytes.now ≡ None)) }
+        ensures none { OnErr result (filled self.new ≡ 0) };
+
+    /// Reads numbers as they are from bytes that may be damaged.
+    fn try_uncompress_vint_unsorted(
+        &mut self,
+        bytes: &[u8],
+        num_els: usize,
+        padding: u32,
+    ) -> Result<usize, Fault>
+        requires room { num_els ≤ 128 }
+        ensures ok { IfOk result (λ consumed. (consumed ≤ length bytes.now) × (take_numbers num_els bytes.now ≡ Some (take num_els (places self.new), drop consumed bytes.now))) }
+        ensures padded { OnOk result (drop num_els (places self.new) ≡ replicate (128 - num_els) padding) }
+        ensures filled { OnOk result (filled self.new ≡ num_els) }
+        ensures err { IfErr result (λ fault. (fault ≡ faults.Damaged None) × (take_numbers num_els bytes.now ≡ None)) }
+        ensures none { OnErr result (filled self.new ≡ 0) };
+
+    /// Reads all numbers up to the end of bytes that may be damaged.
+    fn try_uncompress_vint_unsorted_until_end(&mut self, bytes: &[u8]) -> Result<(), Fault>
+        ensures ok { OnOk result (take_all_numbers 128 bytes.now ≡ Some (take (filled self.new) (places self.new))) }
+        ensures room { filled self.new ≤ 128 }
+        ensures err { IfErr result (λ fault. (fault ≡ faults.Damaged None) × (take_all_numbers 128 bytes.now ≡ None)) }
+        ensures none { OnErr result (filled self.new ≡ 0) };
+}
+
+impl VIntEncoder for BlockEncoder {
+    fn compress_vint_sorted(
+        &self,
+        out: &mut Vec<u8>,
+        input: &[u32],
+        offset: u32,
+    ) -> Result<(), AllocError> {
+        let mut next = least_after(offset);
+        for document in input {
+            put_vint(out, u64::from(*document) - next)?;
+            next = u64::from(*document) + 1;
+        }
+        Ok(())
+    }
+
+    fn compress_vint_unsorted(&self, out: &mut Vec<u8>, input: &[u32]) -> Result<(), AllocError> {
+        for number in input {
+            put_vint(out, u64::from(*number))?;
+        }
+        Ok(())
+    }
+}
+
+impl VIntDecoder for BlockDecoder {
+    ghost places = { λ d. d.output };
+
+    ghost filled = { λ d. d.output_len };
+
+    fn uncompress_vint_sorted(
+        &mut self,
+        bytes: &[u8],
+        offset: u32,
+        num_els: usize,
+        padding: u32,
+    ) -> usize {
+        let consumed = self.uncompress_vint_unsorted(bytes, num_els, padding);
+        sum_deltas(&mut self.output, num_els, least_after(offset));
+        consumed
+    }
+
+    fn uncompress_vint_unsorted(&mut self, bytes: &[u8], num_els: usize, padding: u32) -> usize {
+        let consumed = read_numbers(bytes, num_els, &mut self.output);
+        pad(&mut self.output, num_els, padding);
+        self.output_len = num_els;
+        consumed
+    }
+
+    fn uncompress_vint_unsorted_until_end(&mut self, bytes: &[u8]) {
+        self.output_len = read_all_numbers(bytes, &mut self.output);
+    }
+
+    fn try_uncompress_vint_sorted(
+        &mut self,
+        bytes: &[u8],
+        offset: u32,
+        num_els: usize,
+        padding: u32,
+    ) -> Result<usize, Fault> {
+        let consumed = self.try_uncompress_vint_unsorted(bytes, num_els, padding)?;
+        if !add_deltas(&mut self.output, num_els, least_after(offset)) {
+            self.output_len = 0;
+            return Err(Fault::Damaged(None));
+        }
+        Ok(consumed)
+    }
+
+    fn try_uncompress_vint_unsorted(
+        &mut self,
+        bytes: &[u8],
+        num_els: usize,
+        padding: u32,
+    ) -> Result<usize, Fault> {
+        self.output_len = 0;
+        let consumed = try_read_numbers(bytes, num_els, &mut self.output)?;
+        pad(&mut self.output, num_els, padding);
+        self.output_len = num_els;
+        Ok(consumed)
+    }
+
+    fn try_uncompress_vint_unsorted_until_end(&mut self, bytes: &[u8]) -> Result<(), Fault> {
+        self.output_len = 0;
+        self.output_len = try_read_all_numbers(bytes, &mut self.output)?;
+        Ok(())
+    }
+}
+
+/// Fills the places behind the first ones.
+fn pad(output: &mut [u32; 128], count: usize, padding: u32)
+    requires { count ≤ 128 }
+    ensures first { take count output.new ≡ take count output.old }
+    ensures padded { drop count output.new ≡ replicate (128 - count) padding }
+{
+    output[count..].fill(padding);
+}
+
+/// Makes the first deltas into documents, unless one isn't below 2^32.
+fn add_deltas(output: &mut [u32; 128], count: usize, next: u64) -> bool
+    requires room { count ≤ 128 }
+    requires few { next ≤ 2 ^ 32 }
+    ensures value { result ≡ list_all is_u32 (documents next (take count output.old)) }
+    ensures documents { IsTrue result → take count output.new ≡ documents next (take count output.old) }
+    ensures rest { drop count output.new ≡ drop count output.old }
+{
+    let mut least = next;
+    for place in 0..count {
+        let document = least + u64::from(output[place]);
+        if document > u64::from(u32::MAX) {
+            return false;
+        }
+        output[place] = document as u32;
+        least = document + 1;
+    }
+    true
+}
+
+/// Makes the first deltas into documents, which are known to be below 2^32.
+fn sum_deltas(output: &mut [u32; 128], count: usize, next: u64)
+    requires room { count ≤ 128 }
+    requires few { next ≤ 2 ^ 32 }
+    requires small { IsTrue (list_all is_u32 (documents next (take count output.old))) }
+    ensures documents { take count output.new ≡ documents next (take count output.old) }
+    ensures rest { drop count output.new ≡ drop count output.old }
+{
+    let mut least = next;
+    for place in 0..count {
+        let document = least + u64::from(output[place]);
+        output[place] = document as u32;
+        least = document + 1;
+    }
+}
+
+/// The number that stands first, and what follows it.
+fn first_number(bytes: &[u8]) -> (u32, &[u8])
+    requires { IsSome (take_number bytes.now) }
+    ensures { take_number bytes.now ≡ Some (result.0, result.1.now) }
+{
+    let mut value: u32 = 0;
+    let mut shift: u32 = 0;
+    let mut rest = bytes;
+    while rest[0] < 128 {
+        value += u32::from(rest[0]) << shift;
+        shift += 7;
+        rest = &rest[1..];
+    }
+    (value + (u32::from(rest[0] - 128) << shift), &rest[1..])
+}
+
+/// The number that stands first, where one below 2^32 does, and what follows it.
+fn try_first_number(bytes: &[u8]) -> Result<(u32, &[u8]), Fault>
+    ensures ok { IfOk result (λ p. take_number bytes.now ≡ Some (p.0, p.1.now)) }
+    ensures err { IfErr result (λ fault. (fault ≡ faults.Damaged None) × (take_number bytes.now ≡ None)) }
+{
+    let (number, rest) = take_vint(bytes)?;
+    if number > u64::from(u32::MAX) {
+        return Err(Fault::Damaged(None));
+    }
+    Ok((number as u32, rest))
+}
+
+/// Reads so many numbers, and answers how many bytes they are.
+fn read_numbers(bytes: &[u8], count: usize, output: &mut [u32; 128]) -> usize
+    requires room { count ≤ 128 }
+    requires layout { IsSome (take_numbers count bytes.now) }
+    ensures numbers { take_numbers count bytes.now ≡ Some (take count output.new, drop result bytes.now) }
+    ensures within { result ≤ length bytes.now }
+{
+    let mut rest = bytes;
+    for place in 0..count {
+        let (number, after) = first_number(rest);
+        output[place] = number;
+        rest = after;
+    }
+    bytes.len() - rest.len()
+}
+
+/// Reads all numbers up to the end, and answers how many there are.
+fn read_all_numbers(bytes: &[u8], output: &mut [u32; 128]) -> usize
+    requires { IsSome (take_all_numbers 128 bytes.now) }
+    ensures numbers { take_all_numbers 128 bytes.now ≡ Some (take result output.new) }
+    ensures room { result ≤ 128 }
+{
+    let mut rest = bytes;
+    let mut count: usize = 0;
+    while !rest.is_empty() {
+        let (number, after) = first_number(rest);
+        output[count] = number;
+        count += 1;
+        rest = after;
+    }
+    count
+}
+
+/// Reads so many numbers, where they stand there, and answers how many bytes they are.
+fn try_read_numbers(bytes: &[u8], count: usize, output: &mut [u32; 128]) -> Result<usize, Fault>
+    requires room { count ≤ 128 }
+    ensures ok { IfOk result (λ consumed. (consumed ≤ length bytes.now) × (take_numbers count bytes.now ≡ Some (take count output.new, drop consumed bytes.now))) }
+    ensures err { IfErr result (λ fault. (fault ≡ faults.Damaged None) × (take_numbers count bytes.now ≡ None)) }
+{
+    let mut rest = bytes;
+    for place in 0..count {
+        let (number, after) = try_first_number(rest)?;
+        output[place] = number;
+        rest = after;
+    }
+    Ok(bytes.len() - rest.len())
+}
+
+/// Reads all numbers up to the end, where there are at most 128, and answers how many.
+fn try_read_all_numbers(bytes: &[u8], output: &mut [u32; 128]) -> Result<usize, Fault>
+    ensures ok { IfOk result (λ count. (count ≤ 128) × (take_all_numbers 128 bytes.now ≡ Some (take count output.new))) }
+    ensures err { IfErr result (λ fault. (fault ≡ faults.Damaged None) × (take_all_numbers 128 bytes.now ≡ None)) }
+{
+    let mut rest = bytes;
+    let mut count: usize = 0;
+    while !rest.is_empty() {
+        if count == COMPRESSION_BLOCK_SIZE {
+            return Err(Fault::Damaged(None));
+        }
+        let (number, after) = try_first_number(rest)?;
+        output[count] = number;
+        count += 1;
+        rest = after;
+    }
+    Ok(count)
+}

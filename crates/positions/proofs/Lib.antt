@@ -1,0 +1,5 @@
+pub mod CheckedBlocks
+pub mod PositionsOpened
+pub mod PositionNumbers
+pub mod PositionsPut
+pub mod KnownPositions

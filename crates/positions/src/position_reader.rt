@@ -1,0 +1,230 @@
+//! Positions of a term, read from their bytes.
+
+ghost use Rattle.std.specs.Prelude.{◌*◌, ◌+◌, ◌<◌, ◌^◌, ◌≡◌, ◌≤◌, ◌++◌, ◌-◌, ◌↔◌, [], IfErr, IfOk, IsTrue, List, None, OnOk, Some, drop, length, take, ℕ};
+ghost use Rattle.packed_blocks.specs.Decoded.{output_list};
+ghost use Rattle.packed_blocks.specs.PositionBlocks.{AreSmall, HasAll, HasBlocks, Holds, numbers_in, packed_len};
+ghost use Rattle.layouts.specs.Positions.{AreBlocks, ArePositions};
+ghost use Rattle.layouts.specs.VintBlocks.{take_all_numbers};
+ghost use Rattle.definitions.specs.declared.fault.Fault.TheVariants as faults;
+
+use common::take_bytes;
+use definitions::Fault;
+use packed_blocks::{BlockDecoder, COMPRESSION_BLOCK_SIZE, VIntDecoder, compressed_block_size, width_of};
+use std::marker::Model;
+
+/// The positions of a term, lent from their bytes. The block that was read last is kept, so that reads that
+/// ascend decode each block once. Seen as the numbers: for each document its first position, and then the
+/// differences.
+#[derive(Drop)]
+pub struct PositionReader<'a> {
+    widths: &'a [u8],
+    packed: &'a [u8],
+    decoder: BlockDecoder,
+    block: usize,
+    at: usize,
+}
+
+impl<'a> Model for PositionReader<'a> {
+    ghost use Rattle.std.specs.Prelude.{List, ℕ};
+    ghost use Rattle.packed_blocks.specs.Decoded.{output_list};
+    ghost use Rattle.packed_blocks.specs.PositionBlocks.{Holds, numbers_in};
+
+    ghost Value = { List ℕ };
+
+    ghost view = { λ r. numbers_in r.widths.now r.packed.now };
+
+    ghost invariant = { λ r. Holds r.widths.now r.packed.now (output_list r.decoder) r.block r.at };
+}
+
+impl<'a> PositionReader<'a> {
+    /// Reads the bytes of a term's positions, which are known to be in their layout; the first block is decoded.
+    pub fn new(bytes: &'a [u8]) -> PositionReader<'a>
+        requires { ∥ ((numbers : List ℕ) × ArePositions numbers bytes.now) ∥₁ }
+        ensures { (numbers : List ℕ) → ArePositions numbers bytes.now → result ≡ numbers }
+    {
+        let Ok((widths, packed)) = take_bytes(bytes) else {
+            unreachable!()
+        };
+        let mut decoder = BlockDecoder::with_val(0);
+        decode(widths, packed, 0, 0, &mut decoder);
+        PositionReader {
+            widths,
+            packed,
+            decoder,
+            block: 0,
+            at: 0,
+        }
+    }
+
+    /// Reads the bytes of a term's positions; other bytes are `Damaged`. Every block is checked.
+    pub fn open(bytes: &'a [u8]) -> Result<PositionReader<'a>, Fault>
+        ensures ok { IfOk result (λ reader. ArePositions reader bytes.now) }
+        ensures one { IfOk result (λ reader. (numbers : List ℕ) → ArePositions numbers bytes.now → numbers ≡ reader) }
+        ensures err { IfErr result (λ fault. (fault ≡ faults.Damaged None) × ((numbers : List ℕ) → ArePositions numbers bytes.now → ⊥)) }
+    {
+        let (widths, packed) = take_bytes(bytes)?;
+        let mut decoder = BlockDecoder::with_val(0);
+        let at = checked_blocks(widths, packed, &mut decoder)?;
+        checked_rest(&packed[at..], &mut decoder)?;
+        Ok(PositionReader {
+            widths,
+            packed,
+            decoder,
+            block: widths.len(),
+            at,
+        })
+    }
+
+    /// How many numbers there are.
+    pub fn num_positions(&mut self) -> u128
+        ensures count { result ≡ length self.old }
+        ensures same { self.new ≡ self.old }
+    {
+        load(
+            self.widths,
+            self.packed,
+            &mut self.decoder,
+            &mut self.block,
+            &mut self.at,
+            self.widths.len(),
+        );
+        self.widths.len() as u128 * 128 + self.decoder.output_array().len() as u128
+    }
+
+    /// Reads as many numbers as the output has, from a place on.
+    pub fn read(&mut self, offset: u64, output: &mut [u32])
+        requires { offset + length output.old ≤ length self.old }
+        ensures read { output.new ≡ take (length output.old) (drop offset self.old) }
+        ensures same { self.new ≡ self.old }
+    {
+        let mut filled = 0;
+        while filled < output.len() {
+            let ahead = (offset % 128) as usize + filled;
+            load(
+                self.widths,
+                self.packed,
+                &mut self.decoder,
+                &mut self.block,
+                &mut self.at,
+                (offset / 128) as usize + ahead / 128,
+            );
+            filled = copy_from(self.decoder.output_array(), ahead % 128, output, filled);
+        }
+    }
+}
+
+/// Reads fewer than 128 numbers below 2^31 up to the end.
+fn checked_rest(bytes: &[u8], decoder: &mut BlockDecoder) -> Result<(), Fault>
+    ensures ok { OnOk result (AreBlocks [] (output_list decoder.new) bytes.now × AreSmall (output_list decoder.new) × (take_all_numbers 128 bytes.now ≡ Some (output_list decoder.new))) }
+    ensures err { IfErr result (λ fault. (fault ≡ faults.Damaged None) × ((numbers : List ℕ) → AreBlocks [] numbers bytes.now → AreSmall numbers → ⊥)) }
+{
+    decoder.try_uncompress_vint_unsorted_until_end(bytes)?;
+    if !is_rest(decoder.output_array()) {
+        return Err(Fault::Damaged(None));
+    }
+    Ok(())
+}
+
+/// Whether there are fewer than 128 numbers, each below 2^31.
+fn is_rest(numbers: &[u32]) -> bool
+    ensures { IsTrue result ↔ ((length numbers.now < 128) × AreSmall numbers.now) }
+{
+    numbers.len() < COMPRESSION_BLOCK_SIZE && are_small(numbers)
+}
+
+/// Whether each number is below 2^31.
+fn are_small(numbers: &[u32]) -> bool
+    ensures { IsTrue result ↔ AreSmall numbers.now }
+{
+    width_of(numbers) <= 31
+}
+
+/// Reads a block that is wanted, unless it is held.
+fn load(
+    widths: &[u8],
+    packed: &[u8],
+    decoder: &mut BlockDecoder,
+    block: &mut usize,
+    at: &mut usize,
+    wanted: usize,
+)
+    requires holds { Holds widths.now packed.now (output_list decoder.old) block.old at.old }
+    requires within { wanted ≤ length widths.now }
+    ensures holds { Holds widths.now packed.now (output_list decoder.new) block.new at.new }
+    ensures wanted { block.new ≡ wanted }
+{
+    if wanted == *block {
+        return;
+    }
+    *at = if wanted < *block {
+        place_of(widths, 0, 0, wanted)
+    } else {
+        place_of(widths, *block, *at, wanted)
+    };
+    *block = wanted;
+    decode(widths, packed, wanted, *at, decoder);
+}
+
+/// Where the block that follows others of these widths begins, from one place on.
+fn place_of(widths: &[u8], from: usize, at: usize, block: usize) -> usize
+    requires order { from ≤ block }
+    requires within { block ≤ length widths.now }
+    requires place { at ≡ packed_len (take from widths.now) }
+    requires few { packed_len widths.now < 2 ^ 64 }
+    ensures { result ≡ packed_len (take block widths.now) }
+{
+    let mut place = at;
+    for passed in from..block {
+        place += compressed_block_size(widths[passed]);
+    }
+    place
+}
+
+/// Reads the numbers of a block, or of the rest behind the blocks, at its place.
+fn decode(widths: &[u8], packed: &[u8], block: usize, at: usize, decoder: &mut BlockDecoder)
+    requires blocks { HasBlocks widths.now packed.now }
+    requires within { block ≤ length widths.now }
+    requires place { at ≡ packed_len (take block widths.now) }
+    requires begins { at ≤ length packed.now }
+    ensures { output_list decoder.new ≡ take 128 (drop (128 * block) (numbers_in widths.now packed.now)) }
+{
+    let bytes = &packed[at..];
+    if block < widths.len() {
+        decoder.uncompress_block_unsorted(bytes, widths[block]);
+    } else {
+        decoder.uncompress_vint_unsorted_until_end(bytes);
+    }
+}
+
+/// Whether the bytes have a block of each width, whose numbers are below 2^31; then the place behind them.
+/// The decoder holds one of the blocks.
+fn checked_blocks(widths: &[u8], packed: &[u8], decoder: &mut BlockDecoder) -> Result<usize, Fault>
+    ensures ok { IfOk result (λ at. HasAll widths.now packed.now at) }
+    ensures err { IfErr result (λ fault. (fault ≡ faults.Damaged None) × ((numbers : List ℕ) → AreBlocks widths.now numbers packed.now → AreSmall numbers → ⊥)) }
+{
+    let mut at = 0;
+    for width in widths {
+        let consumed = decoder.checked_block_unsorted(&packed[at..], *width)?;
+        if *width > 31 {
+            return Err(Fault::Damaged(None));
+        }
+        at += consumed;
+    }
+    Ok(at)
+}
+
+/// Copies numbers from a place on behind those that fill the output so far, as many as there are and as the
+/// output takes; answers how many fill it then.
+fn copy_from(numbers: &[u32], place: usize, output: &mut [u32], filled: usize) -> usize
+    requires place { place ≤ length numbers.now }
+    requires filled { filled ≤ length output.old }
+    ensures within { (filled ≤ result) × (result ≤ length output.old) }
+    ensures some { place < length numbers.now → filled < length output.old → filled < result }
+    ensures long { length output.new ≡ length output.old }
+    ensures room { result - filled ≤ length numbers.now - place }
+    ensures copied { take result output.new ≡ take filled output.old ++ take (result - filled) (drop place numbers.now) }
+{
+    let count = (output.len() - filled).min(numbers.len() - place);
+    output[filled..filled + count].copy_from_slice(&numbers[place..place + count]);
+    filled + count
+}
