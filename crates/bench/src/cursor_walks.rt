@@ -1,7 +1,7 @@
 //! How long a step of a cursor over postings takes.
 
 ghost use Rattle.std.specs.Prelude.{◌≤◌, List, true, false, ℕ};
-ghost use Rattle.postings.specs.Reading.{HasPostings};
+ghost use Rattle.segment_postings.specs.Reading.{HasPostings};
 
 use crate::spread_terms::{opened, written};
 use crate::times::{nanos_since, now};

@@ -1,8 +1,8 @@
 //! Terms to walk over: each document some 50 behind the one before, with a count of 1 to 4.
 
 ghost use Rattle.std.specs.Prelude.{[], ◌<◌, ◌≡◌, ◌≤◌, IfOk, List, None, OnOk, false, length, true, ℕ};
-ghost use Rattle.postings.specs.Reading.{HasPostings};
-ghost use Rattle.postings.specs.TermWriting.{AreWritten};
+ghost use Rattle.segment_postings.specs.Reading.{HasPostings};
+ghost use Rattle.postings_serializer.specs.TermWriting.{AreWritten};
 
 use definitions::Fault;
 use options::IndexRecordOption;

@@ -19,7 +19,7 @@ use Rattle.layouts.specs.PackedBlocks.{IsBlock, IsLeastWidth, IsSortedBlock}
 use Rattle.layouts.specs.PackedBytes.{packed_bytes, width_from, width_of}
 use Rattle.layouts.specs.SkipEntries.{SkipEntry, count_code}
 use Rattle.layouts.specs.TermPostings.{id_of, less_1}
-use Rattle.postings.proofs.ReadBack.{deltas_small, length-deltas, less_small, more_less, width_fits}
+use Rattle.segment_postings.proofs.ReadBack.{deltas_small, length-deltas, less_small, more_less, width_fits}
 
 -- ---- widths
 

@@ -14,8 +14,8 @@ use Rattle.definitions.specs.Scoring.{DontFall}
 use Rattle.layouts.specs.InvertedIndexes.{HasPositions, IsPosting, IsTerm}
 use Rattle.layouts.specs.Positions.{position_numbers}
 use Rattle.layouts.specs.SkipEntries.{skip_bytes}
-use Rattle.postings.proofs.Opening.{blocks, entries, known_skips, opened, parts_known, taken_known}
-use Rattle.postings.specs.Reading.{HasPostings}
+use Rattle.segment_postings.proofs.Opening.{blocks, entries, known_skips, opened, parts_known, taken_known}
+use Rattle.segment_postings.specs.Reading.{HasPostings}
 use Rattle.skips.proofs.SkipLaws.{one_reading}
 use Rattle.skips.specs.SkipBlocks.{begun}
 

@@ -6,7 +6,7 @@ use Rattle.checked_postings.specs.Blocks.{BeginsWithBlock, HasBlocks, IsFirst}
 use Rattle.definitions.specs.Schema.{IndexRecordOption}
 use Rattle.layouts.specs.Deltas.{next_of}
 use Rattle.layouts.specs.SkipEntries.{SkipEntry}
-use Rattle.postings.proofs.ReadBack.{ascends_far}
+use Rattle.segment_postings.proofs.ReadBack.{ascends_far}
 use Rattle.skips.specs.SkipBlocks.{block_size}
 
 -- blocks, whatever the sum of their counts

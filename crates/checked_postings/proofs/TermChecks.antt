@@ -11,8 +11,8 @@ use Rattle.definitions.specs.Postings.{terminated}
 use Rattle.definitions.specs.Schema.{IndexRecordOption, has_freq, has_positions}
 use Rattle.layouts.specs.SkipEntries.{AreSkips, SkipEntry, skip_bytes}
 use Rattle.layouts.specs.TermPostings.{SumsFit, all_blocks, postings_bytes, skip_data, skip_entries}
-use Rattle.postings.proofs.Opening.{known_skips, parts_known, taken_known}
-use Rattle.postings.specs.Reading.{HasPostings}
+use Rattle.segment_postings.proofs.Opening.{known_skips, parts_known, taken_known}
+use Rattle.segment_postings.specs.Reading.{HasPostings}
 
 -- the parts of a term's bytes: entries, and blocks
 pub record AreParts (doc_freq : ℕ) (bytes s b : List ℕ) : Type 0 where

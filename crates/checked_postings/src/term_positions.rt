@@ -3,12 +3,12 @@
 ghost use Rattle.std.specs.Prelude.{IfErr, IfNone, IfOk, IfSome, IsTrue, List, None, OnOk, ℕ, ◌+◌, ◌<◌, ◌^◌, ◌≡◌, ◌≤◌, ◌↔◌, drop, length, sum, take, true};
 ghost use Rattle.checked_postings.specs.Placed.{AreBounded, HasNumbers};
 ghost use Rattle.definitions.specs.declared.fault.Fault.TheVariants as faults;
-ghost use Rattle.postings.specs.Cursors.{counts_left, docs_left};
-ghost use Rattle.postings.specs.Reading.{HasPostings};
+ghost use Rattle.segment_postings.specs.Cursors.{counts_left, docs_left};
+ghost use Rattle.segment_postings.specs.Reading.{HasPostings};
 
 use definitions::Fault;
 use positions::PositionReader;
-use postings::BlockSegmentPostings;
+use segment_postings::BlockSegmentPostings;
 use skips::Recorded;
 
 /// Checks the positions of a term whose postings are known, with the sum of its counts.

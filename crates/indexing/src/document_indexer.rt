@@ -15,7 +15,7 @@ use common::{Analyzer, TERMINATED};
 use definitions::Fault;
 use document::CompactDoc;
 use fieldnorms::FieldNormReaders;
-use postings::InvertedIndexSerializer;
+use postings_serializer::InvertedIndexSerializer;
 use postings_writer::PostingsWriter;
 use schema::Schema;
 use std::alloc::{AllocError, Global};

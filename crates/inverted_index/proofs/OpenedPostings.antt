@@ -7,9 +7,9 @@ use Rattle.definitions.specs.Postings.{Posting}
 use Rattle.definitions.specs.Schema.{IndexRecordOption, basic, has_freq, has_positions, with_freqs, with_freqs_and_positions}
 use Rattle.layouts.specs.InvertedIndexes.{IsPosting, IsTerm}
 use Rattle.layouts.specs.Positions.{ArePositions, position_numbers}
-use Rattle.postings.specs.Entries.{Entry, highest}
-use Rattle.postings.specs.Reading.{HasPostings}
-use Rattle.postings.specs.TermEntries.{HasPositions, IsPlaced, entries_of, places, term_entries}
+use Rattle.cursors.specs.Entries.{Entry, highest}
+use Rattle.segment_postings.specs.Reading.{HasPostings}
+use Rattle.segment_postings.specs.TermEntries.{HasPositions, IsPlaced, entries_of, places, term_entries}
 use Rattle.inverted_index.specs.OpenedTerms.{HasTerm, entry_as}
 
 abbrev docs_in : List Posting → List ℕ

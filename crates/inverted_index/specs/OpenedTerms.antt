@@ -4,7 +4,7 @@ use Rattle.checked_postings.specs.Placed.{term_of}
 use Rattle.definitions.specs.Postings.{Posting}
 use Rattle.definitions.specs.Schema.{IndexRecordOption, has_freq, has_positions}
 use Rattle.layouts.specs.InvertedIndexes.{IsTerm}
-use Rattle.postings.specs.Entries.{Entry}
+use Rattle.cursors.specs.Entries.{Entry}
 
 -- the bytes are a term's postings and positions, which so many documents have
 pub record HasTerm (option : IndexRecordOption) (doc_freq : ℕ) (postings positions : List ℕ) (ps : List Posting) : Type 0 where

@@ -13,7 +13,7 @@ ghost use Rattle.inverted_index.specs.Searching.{between};
 ghost use Rattle.inverted_index.specs.declared.field_index.FieldIndex.{FieldIndex};
 ghost use Rattle.layouts.specs.InvertedIndexes.{AreSections, IndexedField};
 ghost use Rattle.options.specs.RecordOption.{record_option_of};
-ghost use Rattle.postings.specs.Cursors.{blocks_decoded, counts_left, cursor_blocks_decoded, cursor_doc_freq, docs_left, entries_left};
+ghost use Rattle.segment_postings.specs.Cursors.{blocks_decoded, counts_left, cursor_blocks_decoded, cursor_doc_freq, docs_left, entries_left};
 ghost use Rattle.terms.specs.Kinds.{kind_of};
 
 use crate::field_index::FieldIndex;
@@ -27,8 +27,8 @@ use bytes::Bytes;
 use definitions::Fault;
 use fieldnorms::FieldNormReaders;
 use options::IndexRecordOption;
-use postings::{BlockSegmentPostings, SegmentPostings};
 use schema::Schema;
+use segment_postings::{BlockSegmentPostings, SegmentPostings};
 use std::alloc::Global;
 use std::marker::Model;
 use terms::{Field, Term, Type};

@@ -5,11 +5,11 @@ ghost use Rattle.definitions.specs.Postings.{Posting};
 ghost use Rattle.definitions.specs.Schema.{has_freq, has_positions};
 ghost use Rattle.inverted_index.specs.OpenedTerms.{HasTerm, entry_as};
 ghost use Rattle.options.specs.RecordOption.{record_option_of};
-ghost use Rattle.postings.specs.Cursors.{blocks_decoded, counts_left, cursor_blocks_decoded, cursor_doc_freq, doc_freq_of, docs_left, entries_left};
+ghost use Rattle.segment_postings.specs.Cursors.{blocks_decoded, counts_left, cursor_blocks_decoded, cursor_doc_freq, doc_freq_of, docs_left, entries_left};
 
 use options::IndexRecordOption;
 use positions::PositionReader;
-use postings::{BlockSegmentPostings, SegmentPostings};
+use segment_postings::{BlockSegmentPostings, SegmentPostings};
 use skips::Recorded;
 
 /// What an option records.

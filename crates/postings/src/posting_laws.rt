@@ -6,7 +6,7 @@ ghost use Rattle.definitions.specs.NumberCodes.{AreBytes};
 ghost use Rattle.definitions.specs.Schema.{IndexRecordOption, has_freq, has_positions};
 ghost use Rattle.layouts.specs.SkipEntries.{AreSkips, skip_bytes};
 ghost use Rattle.layouts.specs.TermPostings.{ArePosted, all_blocks, skip_entries};
-ghost use Rattle.postings.specs.Reading.{AreReadable, counts_in, docs_in};
+ghost use Rattle.segment_postings.specs.Reading.{AreReadable, counts_in, docs_in};
 
 /// The blocks of a term can be read, and give its documents and counts back.
 pub fn postings_are_read_back()

@@ -14,7 +14,7 @@ ghost use Rattle.postings_writer.specs.Writers.{Stands};
 use crate::postings_writer::PostingsWriter;
 use definitions::Fault;
 use fieldnorms::FieldNormReaders;
-use postings::InvertedIndexSerializer;
+use postings_serializer::InvertedIndexSerializer;
 use schema::FieldEntry;
 use terms::Field;
 

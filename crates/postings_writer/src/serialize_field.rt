@@ -22,7 +22,7 @@ use crate::serialize_term::serialize_term;
 use definitions::Fault;
 use fieldnorms::FieldNormReader;
 use options::IndexRecordOption;
-use postings::{FieldSerializer, InvertedIndexSerializer};
+use postings_serializer::{FieldSerializer, InvertedIndexSerializer};
 use schema::FieldEntry;
 use std::alloc::Global;
 use terms::Type;

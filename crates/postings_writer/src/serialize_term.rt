@@ -8,8 +8,8 @@ ghost use Rattle.definitions.specs.Schema.{basic};
 ghost use Rattle.definitions.specs.Scoring.{DontFall};
 ghost use Rattle.definitions.specs.declared.fault.Fault.TheVariants as faults;
 ghost use Rattle.layouts.specs.Positions.{differences, position_numbers};
-ghost use Rattle.postings.specs.FieldWriting.{IsOpen};
-ghost use Rattle.postings.specs.TermWriting.{recorded_count};
+ghost use Rattle.postings_serializer.specs.FieldWriting.{IsOpen};
+ghost use Rattle.postings_serializer.specs.TermWriting.{recorded_count};
 ghost use Rattle.postings_writer.specs.Limits.{CountsPass, SumsPass, TermPasses};
 ghost use Rattle.postings_writer.specs.Occurrences.{by_document};
 ghost use Rattle.postings_writer.specs.Serializing.{CanWrite, IsWrittenTerm, StandsAt, length_of, postings_from};
@@ -17,7 +17,7 @@ ghost use Rattle.postings_writer.specs.declared.recorder.Recorder.TheVariants as
 
 use crate::recorder::Recorder;
 use definitions::Fault;
-use postings::FieldSerializer;
+use postings_serializer::FieldSerializer;
 use std::alloc::AllocError;
 
 /// Where the places of the document that stands at a place end.

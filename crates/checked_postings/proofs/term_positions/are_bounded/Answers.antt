@@ -1,7 +1,7 @@
 use Rattle.std.proofs.Common.{ap, arith, drop, length, length-drop, length-take, subst, sum, sym, take, ◌+◌, ◌∙◌, ◌≡◌}
 use Rattle.checked_postings.proofs.BoundedNumbers.{Leaves, block_sum, leaves_more, leaves_not}
 use Rattle.checked_postings.specs.Placed.{AreBounded}
-use Rattle.postings.specs.Cursors.{counts_left, docs_left}
+use Rattle.segment_postings.specs.Cursors.{counts_left, docs_left}
 use Rattle.checked_postings.proofs.term_positions.are_bounded.Goals as goal
 
 pub block_end-requires-clause-block : goal.block_end-requires-clause-block

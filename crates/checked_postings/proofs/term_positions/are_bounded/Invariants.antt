@@ -1,6 +1,6 @@
 use Rattle.std.proofs.Common.{length, ◌≡◌}
 use Rattle.checked_postings.proofs.BoundedNumbers.{Leaves}
-use Rattle.postings.specs.Cursors.{counts_left, docs_left}
+use Rattle.segment_postings.specs.Cursors.{counts_left, docs_left}
 use Rattle.checked_postings.proofs.term_positions.are_bounded.Given as goal
 
 abbrev pub invariant-loop-room : goal.invariant-loop-room

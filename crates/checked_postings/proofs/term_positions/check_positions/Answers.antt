@@ -4,8 +4,8 @@ use Rattle.std.proofs.Props.{props}
 use Rattle.std.proofs.lemmas.Result.{err_from_is_err_and}
 use Rattle.std.specs.Coded.{Coded-set, coded_ℕ}
 use Rattle.checked_postings.specs.Placed.{AreBounded}
-use Rattle.postings.specs.Cursors.{counts_left}
-use Rattle.postings.specs.Reading.{HasPostings}
+use Rattle.segment_postings.specs.Cursors.{counts_left}
+use Rattle.segment_postings.specs.Reading.{HasPostings}
 use Rattle.checked_postings.proofs.term_positions.check_positions.Goals.{After-new-blocks}
 use Rattle.checked_postings.proofs.term_positions.check_positions.Goals as goal
 

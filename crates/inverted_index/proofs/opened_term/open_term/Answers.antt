@@ -5,7 +5,7 @@ use Rattle.definitions.specs.Postings.{Posting}
 use Rattle.definitions.specs.Schema.{has_positions}
 use Rattle.layouts.specs.Positions.{position_numbers}
 use Rattle.options.specs.RecordOption.{record_option_of}
-use Rattle.postings.specs.TermEntries.{HasPositions, entries_of}
+use Rattle.segment_postings.specs.TermEntries.{HasPositions, entries_of}
 use Rattle.inverted_index.proofs.OpenedPostings.{entries_as, has_positions_in, one_block, placed_as, reads_all, told_postings}
 use Rattle.inverted_index.proofs.opened_term.open_term.Goals as goal
 

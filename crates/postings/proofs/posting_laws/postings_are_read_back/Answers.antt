@@ -2,8 +2,8 @@ use Rattle.std.proofs.Common.{Bool, List, arith, false, length, refl, true, ◌%
 use Rattle.definitions.specs.NumberCodes.{AreBytes}
 use Rattle.definitions.specs.Schema.{IndexRecordOption, has_freq, has_positions}
 use Rattle.layouts.specs.TermPostings.{ArePosted, all_blocks, skip_entries}
-use Rattle.postings.proofs.EntriesStand.{entries_stand, many_entries}
-use Rattle.postings.proofs.ReadBack.{AllBack, all_back, posted_from}
+use Rattle.segment_postings.proofs.EntriesStand.{entries_stand, many_entries}
+use Rattle.segment_postings.proofs.ReadBack.{AllBack, all_back, posted_from}
 use Rattle.postings.proofs.posting_laws.postings_are_read_back.Goals as goal
 
 whole : (option : IndexRecordOption) (ids docs counts : List ℕ) (reads sums : Bool) → ArePosted option docs counts → AreBytes (all_blocks option (length docs / 128) 0 docs counts) → (reads ≡ true → has_freq option ≡ true) → (sums ≡ true → (has_positions option ≡ true) × (reads ≡ true)) → AllBack option reads sums 0 (length docs % 128) (skip_entries option ids (length docs / 128) 0 docs counts) docs counts (all_blocks option (length docs / 128) 0 docs counts)

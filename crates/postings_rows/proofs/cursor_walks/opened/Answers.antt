@@ -1,8 +1,8 @@
 use Rattle.std.proofs.Common.{[], ◌*◌, ◌∙◌, Bool, ap, if◌then◌else◌, replicate, subst, sym}
 use Rattle.definitions.specs.Schema.{has_freq, has_positions}
 use Rattle.options.specs.RecordOption.{record_option_of}
-use Rattle.postings.specs.Entries.{from}
-use Rattle.postings.specs.Reading.{HasPostings}
+use Rattle.cursors.specs.Entries.{from}
+use Rattle.segment_postings.specs.Reading.{HasPostings}
 use Rattle.postings_rows.proofs.TermEntries.{none_from}
 use Rattle.postings_rows.proofs.cursor_walks.opened.Goals as goal
 

@@ -1,6 +1,6 @@
 use Rattle.std.proofs.Common.{List, subst, sym, ℕ}
 use Rattle.std.proofs.lemmas.Grind.{merely}
-use Rattle.postings.specs.TermEntries.{HasPositions}
+use Rattle.segment_postings.specs.TermEntries.{HasPositions}
 use Rattle.postings_rows.proofs.cursor_walks.places_opened.Goals as goal
 
 pub with_positions-requires-clause-known : goal.with_positions-requires-clause-known

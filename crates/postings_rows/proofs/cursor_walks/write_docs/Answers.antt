@@ -1,5 +1,5 @@
 use Rattle.std.proofs.Common.{[], ◌*◌, ◌+◌, ◌++◌, ◌∙◌, ◌∷◌, arith, length-append}
-use Rattle.postings.specs.TermWriting.{recorded_count}
+use Rattle.postings_serializer.specs.TermWriting.{recorded_count}
 use Rattle.postings_rows.proofs.TermEntries.{all_below, all_below_and}
 use Rattle.postings_rows.proofs.cursor_walks.write_docs.Goals as goal
 

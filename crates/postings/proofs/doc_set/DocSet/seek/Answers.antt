@@ -1,9 +1,0 @@
-use Rattle.std.proofs.Common.{arith, sym, ◌∙◌}
-use Rattle.postings.specs.EntryLaws.{from-first}
-use Rattle.postings.proofs.doc_set.DocSet.seek.Goals as goal
-
-pub returns-clause-rest : goal.returns-clause-rest
-returns-clause-rest g c =
-    let rises = g.met.Self.DocSet.rising c.loop-doc.self in
-    let all = from-first c.args.target 0 (g.Self.DocSet.entries c.loop-doc.self) (omega arith) rises in
-    sym all ∙ c.loop-doc.invariant.rest

@@ -1,0 +1,3 @@
+pub mod WaitingBlocks
+pub mod WrittenPostings
+pub mod ClosedTerms

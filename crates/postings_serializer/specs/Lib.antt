@@ -1,0 +1,2 @@
+pub mod TermWriting
+pub mod FieldWriting

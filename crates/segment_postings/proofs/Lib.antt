@@ -1,0 +1,10 @@
+pub mod BlockLists
+pub mod HeldBlocks
+pub mod Passing
+pub mod EntryMoves
+pub mod ReadBack
+pub mod EntriesStand
+pub mod Opening
+pub mod PositionLists
+pub mod PlacedEntries
+pub mod BoundedCounts

@@ -1,0 +1,121 @@
+use Rattle.std.proofs.Common.{List, ap, arith, cond, drop, false, length, length-drop, min, nat_lt, subst, sum, sym, take, true, ◌*◌, ◌/◌, ◌<◌, ◌∙◌, ◌≡◌, ◌≤◌, ℕ}
+use Rattle.std.proofs.lemmas.Bool.Decides.{nat_tests}
+use Rattle.segment_postings.proofs.BlockLists.{Ascends-drop}
+use Rattle.segment_postings.proofs.Passing.{room_of, below_held, order_held, passes_some, stops_here}
+use Rattle.segment_postings.specs.Reading.{Ascends, HasPassed, below, counts_at, docs_at}
+use Rattle.segment_postings.proofs.block_segment_postings.BlockSegmentPostings.seek.Goals.{After-pass_blocks-self, Then-target-last_doc_in_block}
+use Rattle.segment_postings.proofs.block_segment_postings.BlockSegmentPostings.seek.Goals as goal
+
+-- ---- the block stays
+
+here : (c : Then-target-last_doc_in_block) → below c.args.target (docs_at c.args.self.now.before c.args.self.now.skips c.args.self.now.bytes.now) < 128
+here c =
+    let last = c.last_doc_in_block.ensures in
+    let late = c.if-target-last_doc_in_block.true in
+    stops_here c.args.self.now.reads_counts c.args.self.now.reads_positions c.args.target c.args.self.now.before c.args.self.now.skips c.args.self.now.bytes.now c.args.self.now.stands (omega (arith, last, late))
+
+none : (c : Then-target-last_doc_in_block) → 0 ≡ below c.args.target (docs_at c.args.self.now.before c.args.self.now.skips c.args.self.now.bytes.now) / 128
+none c = (let few = here c in omega (arith, few))
+
+held : (c : Then-target-last_doc_in_block) → (below c.args.target c.args.self.now.docs ≡ below c.args.target (docs_at c.args.self.now.before c.args.self.now.skips c.args.self.now.bytes.now)) × (below c.args.target c.args.self.now.docs < 128)
+held c = below_held c.args.target c.args.self.now.len c.args.self.now.docs c.args.self.now.counts _ _ c.args.self.now.held c.requires (here c)
+
+pub first_from-requires : goal.first_from-requires
+first_from-requires c = record {
+  within = (held (goal.at.first_from-requires c).Then-target-last_doc_in_block).1;
+  order = order_held c.args.target c.args.self.now.len c.args.self.now.docs c.args.self.now.counts _ _ c.args.self.now.held c.args.self.now.ascends c.requires;
+}
+
+pub returns-then-target-last_doc_in_block-clause-docs : goal.returns-then-target-last_doc_in_block-clause-docs
+returns-then-target-last_doc_in_block-clause-docs c = ap (λ k. drop (128 * k) (docs_at c.args.self.now.before c.args.self.now.skips c.args.self.now.bytes.now)) (none (goal.at.returns-then-target-last_doc_in_block-clause-docs c).Then-target-last_doc_in_block)
+
+pub returns-then-target-last_doc_in_block-clause-counts : goal.returns-then-target-last_doc_in_block-clause-counts
+returns-then-target-last_doc_in_block-clause-counts c = ap (λ k. drop (128 * k) (counts_at c.args.self.now.reads_counts c.args.self.now.before c.args.self.now.skips c.args.self.now.bytes.now)) (none (goal.at.returns-then-target-last_doc_in_block-clause-counts c).Then-target-last_doc_in_block)
+
+pub returns-then-target-last_doc_in_block-clause-place : goal.returns-then-target-last_doc_in_block-clause-place
+returns-then-target-last_doc_in_block-clause-place c =
+    let at = (goal.at.returns-then-target-last_doc_in_block-clause-place c).Then-target-last_doc_in_block in
+    let same = (held at).0 in
+    let few = here at in
+    let is = c.first_from.ensures in
+    omega (arith, same, few, is)
+
+pub returns-then-target-last_doc_in_block-clause-decoded : goal.returns-then-target-last_doc_in_block-clause-decoded
+returns-then-target-last_doc_in_block-clause-decoded c =
+    let few = here (goal.at.returns-then-target-last_doc_in_block-clause-decoded c).Then-target-last_doc_in_block in
+    let docs = docs_at c.args.self.now.before c.args.self.now.skips c.args.self.now.bytes.now in
+    let yes : nat_lt (below c.args.target docs) 128 ≡ true = grind (arith, nat_tests) in
+    let nothing = ap (λ b. cond b 0 (min 1 (length docs))) yes in
+    omega (arith, nothing)
+
+pub returns-then-target-last_doc_in_block-clause-offset : goal.returns-then-target-last_doc_in_block-clause-offset
+returns-then-target-last_doc_in_block-clause-offset c = λ yes.
+    (let zero_there = ap (λ k. sum (take (128 * k) (counts_at c.args.self.now.reads_counts c.args.self.now.before c.args.self.now.skips c.args.self.now.bytes.now))) (none (goal.at.returns-then-target-last_doc_in_block-clause-offset c).Then-target-last_doc_in_block) in
+    omega (arith, zero_there))
+
+-- ---- another block
+
+passed : (c : After-pass_blocks-self) → HasPassed c.args.self.now.reads_counts c.args.self.now.reads_positions c.args.target c.args.self.now.before c.args.self.now.skips c.pass_blocks-self.result c.pass_blocks-self.new.skips c.args.self.now.bytes.now
+passed c = c.pass_blocks-self.ensures c.args.self.now.reads_counts c.args.self.now.reads_positions c.args.self.now.bytes.now c.args.self.now.stands
+
+more : (c : After-pass_blocks-self) → 128 ≤ below c.args.target (docs_at c.args.self.now.before c.args.self.now.skips c.args.self.now.bytes.now)
+more c =
+    let last = c.last_doc_in_block.ensures in
+    let early = c.if-target-last_doc_in_block.false in
+    passes_some c.args.self.now.reads_counts c.args.self.now.reads_positions c.args.target c.args.self.now.before c.args.self.now.skips c.args.self.now.bytes.now c.args.self.now.stands (omega (arith, last, early)) c.requires
+
+ascends_on : (k : ℕ) (all left : List ℕ) → left ≡ drop (128 * k) all → Ascends 0 all → Ascends 0 left
+ascends_on k all left cut ascends = subst (λ xs. Ascends 0 xs) (sym cut) (Ascends-drop (128 * k) 0 all ascends)
+
+pub invariant_of-self : goal.invariant_of-self
+invariant_of-self c =
+    let on = passed (goal.at.invariant_of-self c).After-pass_blocks-self in
+    let some = more (goal.at.invariant_of-self c).After-pass_blocks-self in
+    let held = c.decode_block-self.ensures in
+    let all = docs_at c.args.self.now.before c.args.self.now.skips c.args.self.now.bytes.now in
+    let few = c.args.self.now.few in
+    let long = ap length on.docs in
+    let len = held.len_is in
+    let one = c.counted-self.ensures in
+    let k = below c.args.target all / 128 in
+    let cut = length-drop (128 * k) all in
+    record {
+      stands = on.stands;
+      held = held;
+      ascends = ascends_on k all _ on.docs c.args.self.now.ascends;
+      few = omega (arith, few, long, len, one, cut, some);
+    }
+
+held_then : (c : After-pass_blocks-self) → below c.args.target (docs_at c.pass_blocks-self.result c.pass_blocks-self.new.skips c.args.self.now.bytes.now) < 128
+held_then c = (let place = (passed c).place in omega (arith, place))
+
+pub first_from-requires-2 : goal.first_from-requires-2
+first_from-requires-2 c =
+    let on = passed (goal.at.first_from-requires-2 c).After-pass_blocks-self in
+    let all = docs_at c.args.self.now.before c.args.self.now.skips c.args.self.now.bytes.now in
+    record {
+      within = (below_held c.args.target c.decode_block-self.result c.decode_block-self.new.docs c.decode_block-self.new.counts _ _ c.decode_block-self.ensures c.requires (held_then (goal.at.first_from-requires-2 c).After-pass_blocks-self)).1;
+      order = order_held c.args.target c.decode_block-self.result c.decode_block-self.new.docs c.decode_block-self.new.counts _ _ c.decode_block-self.ensures (ascends_on (below c.args.target all / 128) all _ on.docs c.args.self.now.ascends) c.requires;
+    }
+
+pub returns-clause-place : goal.returns-clause-place
+returns-clause-place c =
+    let at = (goal.at.returns-clause-place c).After-pass_blocks-self in
+    let same = (below_held c.args.target c.decode_block-self.result c.decode_block-self.new.docs c.decode_block-self.new.counts _ _ c.decode_block-self.ensures c.requires (held_then at)).0 in
+    c.first_from-2.ensures ∙ (same ∙ (passed at).place)
+
+pub returns-clause-decoded : goal.returns-clause-decoded
+returns-clause-decoded c =
+    let some = more (goal.at.returns-clause-decoded c).After-pass_blocks-self in
+    let docs = docs_at c.args.self.now.before c.args.self.now.skips c.args.self.now.bytes.now in
+    let after = docs_at c.pass_blocks-self.result c.pass_blocks-self.new.skips c.args.self.now.bytes.now in
+    let no : nat_lt (below c.args.target docs) 128 ≡ false = grind (arith, nat_tests) in
+    let one = ap (λ b. cond b 0 (min 1 (length after))) no in
+    let len = c.decode_block-self.ensures.len_is in
+    let is = c.counted-self.ensures in
+    omega (arith, one, len, is)
+
+pub returns-clause-room : goal.returns-clause-room
+returns-clause-room c = λ told.
+    (let on = passed (goal.at.returns-clause-room c).After-pass_blocks-self in
+    room_of c.args.self.now.skips.position_offset c.pass_blocks-self.new.skips.position_offset (128 * (below c.args.target (docs_at c.args.self.now.before c.args.self.now.skips c.args.self.now.bytes.now) / 128)) (counts_at c.args.self.now.reads_counts c.args.self.now.before c.args.self.now.skips c.args.self.now.bytes.now) (counts_at c.args.self.now.reads_counts c.pass_blocks-self.result c.pass_blocks-self.new.skips c.args.self.now.bytes.now) (on.offset told) on.counts)

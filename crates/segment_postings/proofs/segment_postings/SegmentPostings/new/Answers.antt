@@ -1,0 +1,16 @@
+use Rattle.std.proofs.Common.{[], None, ap, arith, ap₂, drop, if◌then◌else◌, replicate, sum, take, ◌+◌, ◌∙◌}
+use Rattle.segment_postings.proofs.EntryMoves.{no_positions, numbers_same}
+use Rattle.segment_postings.specs.Cursors.{counts_left, docs_left}
+use Rattle.segment_postings.specs.TermEntries.{entries_of}
+use Rattle.segment_postings.proofs.segment_postings.SegmentPostings.new.Goals as goal
+
+pub returns-clause-entries : goal.returns-clause-entries
+returns-clause-entries c = λ docs counts h.
+    ap₂ (λ xs ys. entries_of xs ys (drop (c.new.result.skips.position_offset + sum (take 0 (counts_left c.new.result))) [])) (c.new.ensures.docs docs counts h) (c.new.ensures.counts docs counts h)
+    ∙ ap (λ xs. entries_of docs (if c.args.reads_counts then counts else replicate c.args.doc_freq 1) xs) (numbers_same None (c.new.result.skips.position_offset + sum (take 0 (counts_left c.new.result))) 0 (λ some. absurd cc))
+
+pub invariant_of-result : goal.invariant_of-result
+invariant_of-result c =
+    let none = no_positions (drop 0 (docs_left c.new.result)) (drop 0 (counts_left c.new.result)) (drop (c.new.result.skips.position_offset + sum (take 0 (counts_left c.new.result))) []) (numbers_same None (c.new.result.skips.position_offset + sum (take 0 (counts_left c.new.result))) 0 (λ some. absurd cc)) in
+    let most = none.1 in
+    record { inside = omega arith; placed = λ some. absurd cc; counted = λ some. absurd cc; of_one_term = none.0; bounded = omega (arith, most) }

@@ -1,0 +1,42 @@
+use Rattle.std.proofs.Common.{arith, drop, ◌+◌, ◌∙◌, ◌≡◌}
+use Rattle.segment_postings.proofs.EntryMoves.{block_on, most_on, one_on, single_on}
+use Rattle.segment_postings.specs.Cursors.{counts_left, docs_left, entries_left}
+use Rattle.segment_postings.specs.TermEntries.{entries_from, numbers_of}
+use Rattle.segment_postings.proofs.segment_postings.SegmentPostingsDocSet.advance.Goals.{After-advance, Else-self-eq127}
+use Rattle.segment_postings.proofs.segment_postings.SegmentPostingsDocSet.advance.Goals as goal
+
+over : (c : After-advance) → entries_from 0 c.advance.new.self.skips.position_offset (docs_left c.advance.new.self) (counts_left c.advance.new.self) (numbers_of c.args.self.now.positions) ≡ drop 1 (entries_left c.args.self.now)
+over c = block_on c.args.self.now.cur c.args.self.now.blocks.skips.position_offset c.advance.new.self.skips.position_offset (docs_left c.args.self.now.blocks) (counts_left c.args.self.now.blocks) (docs_left c.advance.new.self) (counts_left c.advance.new.self) c.args.self.now.positions c.if-self-eq127.true c.advance.ensures.docs c.advance.ensures.counts (λ some. c.advance.ensures.offset (c.args.self.now.placed some))
+
+on : (c : Else-self-eq127) → entries_from (c.args.self.now.cur + 1) c.args.self.now.blocks.skips.position_offset (docs_left c.args.self.now.blocks) (counts_left c.args.self.now.blocks) (numbers_of c.args.self.now.positions) ≡ drop 1 (entries_left c.args.self.now)
+on c = one_on c.args.self.now.cur c.args.self.now.blocks.skips.position_offset (docs_left c.args.self.now.blocks) (counts_left c.args.self.now.blocks) (numbers_of c.args.self.now.positions)
+
+pub invariant_of-self : goal.invariant_of-self
+invariant_of-self c =
+    let is = over (goal.at.invariant_of-self c).After-advance in
+    let kept = c.advance.ensures.kept.2 in
+    record {
+      inside = omega arith;
+      placed = λ some. kept ∙ c.args.self.now.placed some;
+      counted = λ some. (let old = c.args.self.now.counted some in let room = c.advance.ensures.room (c.args.self.now.placed some) in omega (arith, old, room));
+      of_one_term = single_on (entries_left c.args.self.now) _ is c.args.self.now.of_one_term;
+      bounded = most_on (entries_left c.args.self.now) _ c.args.self.now.most is c.args.self.now.bounded;
+    }
+
+pub invariant_of-self-2 : goal.invariant_of-self-2
+invariant_of-self-2 c =
+    let is = on (goal.at.invariant_of-self-2 c).Else-self-eq127 in
+    let inside = c.args.self.now.inside in
+    record {
+      inside = omega (arith, inside, c.if-self-eq127.false);
+      placed = c.args.self.now.placed;
+      counted = c.args.self.now.counted;
+      of_one_term = single_on (entries_left c.args.self.now) _ is c.args.self.now.of_one_term;
+      bounded = most_on (entries_left c.args.self.now) _ c.args.self.now.most is c.args.self.now.bounded;
+    }
+
+pub returns-then-self-eq127-clause-rest : goal.returns-then-self-eq127-clause-rest
+returns-then-self-eq127-clause-rest c = over (goal.at.returns-then-self-eq127-clause-rest c).After-advance
+
+pub returns-clause-rest : goal.returns-clause-rest
+returns-clause-rest c = on (goal.at.returns-clause-rest c).Else-self-eq127

@@ -1,0 +1,29 @@
+use Rattle.std.proofs.Common.{arith, sym, ◌∙◌, ◌≡◌}
+use Rattle.segment_postings.proofs.EntryMoves.{from_place, most_after, place_on, single_from}
+use Rattle.segment_postings.specs.Cursors.{counts_left, docs_left, entries_left}
+use Rattle.cursors.specs.Entries.{from}
+use Rattle.segment_postings.specs.Reading.{below}
+use Rattle.segment_postings.specs.TermEntries.{entries_from, numbers_of}
+use Rattle.segment_postings.proofs.segment_postings.SegmentPostingsDocSet.seek.Goals.{After-seek-self}
+use Rattle.segment_postings.proofs.segment_postings.SegmentPostingsDocSet.seek.Goals as goal
+
+sought : (c : After-seek-self) → entries_from c.seek-self.result c.seek-self.new.self.skips.position_offset (docs_left c.seek-self.new.self) (counts_left c.seek-self.new.self) (numbers_of c.args.self.now.positions) ≡ from c.args.target (entries_left c.args.self.now)
+sought c =
+    place_on (below c.args.target (docs_left c.args.self.now.blocks)) c.args.self.now.blocks.skips.position_offset c.seek-self.new.self.skips.position_offset c.seek-self.result (docs_left c.args.self.now.blocks) (counts_left c.args.self.now.blocks) (docs_left c.seek-self.new.self) (counts_left c.seek-self.new.self) c.args.self.now.positions c.seek-self.ensures.docs c.seek-self.ensures.counts c.seek-self.ensures.place (λ some. c.seek-self.ensures.offset (c.args.self.now.placed some))
+    ∙ sym (from_place c.args.target c.args.self.now.cur c.args.self.now.blocks.skips.position_offset (docs_left c.args.self.now.blocks) (counts_left c.args.self.now.blocks) (numbers_of c.args.self.now.positions) c.args.self.now.blocks.ascends c.requires.ahead)
+
+pub invariant_of-self : goal.invariant_of-self
+invariant_of-self c =
+    let is = sought (goal.at.invariant_of-self c).After-seek-self in
+    let kept = c.seek-self.ensures.kept.2 in
+    let place = c.seek-self.ensures.place in
+    record {
+      inside = omega (arith, place);
+      placed = λ some. kept ∙ c.args.self.now.placed some;
+      counted = λ some. (let old = c.args.self.now.counted some in let room = c.seek-self.ensures.room (c.args.self.now.placed some) in omega (arith, old, room));
+      of_one_term = single_from c.args.target (entries_left c.args.self.now) _ is c.args.self.now.of_one_term;
+      bounded = most_after c.args.target (entries_left c.args.self.now) _ c.args.self.now.most is c.args.self.now.bounded;
+    }
+
+pub returns-clause-rest : goal.returns-clause-rest
+returns-clause-rest c = sought (goal.at.returns-clause-rest c).After-seek-self

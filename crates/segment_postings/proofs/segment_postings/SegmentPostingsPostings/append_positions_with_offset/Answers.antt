@@ -1,0 +1,41 @@
+use Rattle.std.proofs.Common.{ap, ap₂, arith, drop, length, map, rules, sum, sym, take, vec_capacity, ◌++◌, ◌+◌, ◌<◌, ◌∙◌, ◌≡◌}
+use Rattle.segment_postings.proofs.EntryMoves.{count_within, positions_there, stands_within}
+use Rattle.segment_postings.specs.Cursors.{counts_left, docs_left, entries_left}
+use Rattle.cursors.specs.Entries.{first_positions, highest, single}
+use Rattle.segment_postings.specs.TermEntries.{numbers_of, places}
+use Rattle.segment_postings.proofs.segment_postings.SegmentPostingsPostings.append_positions_with_offset.Goals.{After-positions_before-begin}
+use Rattle.segment_postings.proofs.segment_postings.SegmentPostingsPostings.append_positions_with_offset.Goals as goal
+
+there : (c : After-positions_before-begin) → single (first_positions (entries_left c.args.self.now)) ≡ places 0 (take c.freq-count.result (drop c.positions_before-begin.result (numbers_of c.args.self.now.positions)))
+there c =
+    let docs = docs_left c.args.self.now.blocks in
+    let counts = counts_left c.args.self.now.blocks in
+    let numbers = numbers_of c.args.self.now.positions in
+    let behind = drop (c.args.self.now.blocks.skips.position_offset + sum (take c.args.self.now.cur counts)) numbers in
+    let within = stands_within c.args.self.now.cur docs (drop c.args.self.now.cur counts) behind c.requires.on in
+    positions_there c.args.self.now.cur docs counts behind within ∙ ap₂ (λ k m. places 0 (take k (drop m numbers))) (sym c.freq-count.ensures) (sym c.positions_before-begin.ensures)
+
+pub append_positions-requires-clause-room : goal.append_positions-requires-clause-room
+append_positions-requires-clause-room c = λ some.
+    (let room = c.args.self.now.counted some in
+    let one = count_within c.args.self.now.cur (counts_left c.args.self.now.blocks) in
+    let count = c.freq-count.ensures in
+    let begin = c.positions_before-begin.ensures in
+    omega (arith, room, one, count, begin))
+
+pub append_positions-requires-clause-fits : goal.append_positions-requires-clause-fits
+append_positions-requires-clause-fits c =
+    let same = ap highest (there (goal.at.append_positions-requires-clause-fits c).After-positions_before-begin) in
+    let fits = c.requires.fits in
+    omega (arith, same, fits)
+
+pub returns-in_err-append_positions-clause-full : goal.returns-in_err-append_positions-clause-full
+returns-in_err-append_positions-clause-full c =
+    let is = there (goal.at.returns-in_err-append_positions-clause-full c).After-positions_before-begin in
+    let same = ap (λ ps. length (c.args.output.now.items ++ map (λ p. p + c.args.offset) ps)) is in
+    let full = c.in_err-append_positions.ensures.full in
+    let short : vec_capacity c.args.output.now < length (c.args.output.now.items ++ map (λ p. p + c.args.offset) (single (first_positions (entries_left c.args.self.now)))) = omega (arith, same, full) in
+    search rules
+
+pub returns-clause-ok : goal.returns-clause-ok
+returns-clause-ok c = c.in_ok-append_positions.ensures.ok ∙ ap (λ ps. c.args.output.now.items ++ map (λ p. p + c.args.offset) ps) (sym (there (goal.at.returns-clause-ok c).After-positions_before-begin))

@@ -1,0 +1,62 @@
+-- What remains of a term's postings.
+use Rattle.std.proofs.Common.{refl}
+use Rattle.std.specs.Prelude.{[], ◌++◌, ◌+◌, ◌≡◌, Bool, List, drop, map, sum, take, ℕ}
+use Rattle.layouts.specs.SkipEntries.{SkipEntry}
+use Rattle.cursors.specs.Entries.{AreSingle, Entry, Rising, first_positions, single}
+use Rattle.segment_postings.specs.Reading.{counts_at, docs_at}
+use Rattle.segment_postings.specs.TermEntries.{entries_from, numbers_of}
+use Rattle.segment_postings.specs.TermEntryLaws.{Ascends-behind, Rising-entries_of}
+use Rattle.segment_postings.specs.declared.block_segment_postings.BlockSegmentPostings.{BlockSegmentPostings}
+use Rattle.segment_postings.specs.declared.segment_postings.SegmentPostings.{SegmentPostings}
+
+-- the documents, and their counts, from the block on that is held
+abbrev pub docs_left : BlockSegmentPostings → List ℕ
+docs_left s = docs_at s.before s.skips s.bytes.now
+
+abbrev pub counts_left : BlockSegmentPostings → List ℕ
+counts_left s = counts_at s.reads_counts s.before s.skips s.bytes.now
+
+-- the skip entries from that block on
+abbrev pub skips_left : BlockSegmentPostings → List SkipEntry
+skips_left s = s.skips.left
+
+-- how many positions stand before those of that block
+abbrev pub positions_passed : BlockSegmentPostings → ℕ
+positions_passed s = s.skips.position_offset
+
+-- how many documents have the term
+abbrev pub doc_freq_of : BlockSegmentPostings → ℕ
+doc_freq_of s = s.doc_freq
+
+-- how many blocks with documents were decoded
+abbrev pub blocks_decoded : BlockSegmentPostings → ℕ
+blocks_decoded s = s.decoded
+
+-- whether counts are read
+abbrev pub counts_are_read : BlockSegmentPostings → Bool
+counts_are_read s = s.reads_counts
+
+-- whether positions are read
+abbrev pub positions_are_read : BlockSegmentPostings → Bool
+positions_are_read s = s.reads_positions
+
+-- the entries from a document on
+abbrev pub entries_left : SegmentPostings → List Entry
+entries_left s = entries_from s.cur s.blocks.skips.position_offset (docs_left s.blocks) (counts_left s.blocks) (numbers_of s.positions)
+
+-- how many documents have the term of a cursor over documents
+abbrev pub cursor_doc_freq : SegmentPostings → ℕ
+cursor_doc_freq s = doc_freq_of s.blocks
+
+-- how many blocks with documents it decoded
+abbrev pub cursor_blocks_decoded : SegmentPostings → ℕ
+cursor_blocks_decoded s = blocks_decoded s.blocks
+
+pub rising_left : (s : SegmentPostings) → Rising 0 (entries_left s)
+rising_left s = Rising-entries_of 0 (drop s.cur (docs_left s.blocks)) (drop s.cur (counts_left s.blocks)) (drop (s.blocks.skips.position_offset + sum (take s.cur (counts_left s.blocks))) (numbers_of s.positions)) (Ascends-behind s.cur 0 (docs_left s.blocks) s.blocks.ascends)
+
+pub single_left : (s : SegmentPostings) → AreSingle (entries_left s)
+single_left s = s.of_one_term
+
+pub alone_left : (s : SegmentPostings) (offset : ℕ) → [] ++ map (λ p. p + offset) (single (first_positions (entries_left s))) ≡ map (λ p. p + offset) (single (first_positions (entries_left s)))
+alone_left s offset = refl

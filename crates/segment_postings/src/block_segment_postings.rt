@@ -1,0 +1,311 @@
+//! One term's postings, block by block.
+
+ghost use Rattle.std.specs.Prelude.{[], ◌%◌, ◌*◌, ◌+◌, ◌/◌, ◌<◌, ◌≡◌, ◌≤◌, Bool, IsSome, List, Some, drop, if◌then◌else◌, length, min, nat_lt, replicate, slice_index, slice_index_or, sum, take, true, ℕ};
+ghost use Rattle.definitions.specs.NumberCodes.{take_bytes};
+ghost use Rattle.layouts.specs.TermPostings.{skip_entries};
+ghost use Rattle.segment_postings.specs.CountBounds.{TellCounts};
+ghost use Rattle.segment_postings.specs.Reading.{Ascends, HasPassed, HasPostings, IsHeld, StandsIn, below, counts_at, docs_at};
+ghost use Rattle.segment_postings.specs.ReadingLaws.{Ascends-prop, StandsIn-prop};
+
+use crate::decoding::decode_block;
+use crate::greatest_count::greatest_count;
+use common::{DocId, take_bytes};
+use packed_blocks::BlockDecoder;
+use skips::{Recorded, SkipReader};
+
+/// The postings of a term, 128 documents at a time, lent from their bytes: the cursor holds a block, and its
+/// moves decode the block into which they come.
+#[derive(Drop)]
+pub struct BlockSegmentPostings<'a> {
+    bytes: &'a [u8],
+    skips: SkipReader<'a>,
+    before: u32,
+    reads_counts: bool,
+    reads_positions: bool,
+    doc_freq: u32,
+    decoder: BlockDecoder,
+    docs: [u32; 128],
+    counts: [u32; 128],
+    len: usize,
+    decoded: u64,
+    ghost stands: { StandsIn reads_counts reads_positions before skips bytes.now } by { StandsIn-prop reads_counts reads_positions before skips bytes.now },
+    ghost held: { IsHeld docs counts len (docs_at before skips bytes.now) (counts_at reads_counts before skips bytes.now) },
+    ghost ascends: { Ascends 0 (docs_at before skips bytes.now) } by { Ascends-prop 0 (docs_at before skips bytes.now) },
+    ghost few: { decoded + length (docs_at before skips bytes.now) ≤ 4294967296 },
+}
+
+impl<'a> BlockSegmentPostings<'a> {
+    ghost use Rattle.segment_postings.specs.Cursors.{blocks_decoded, counts_are_read, counts_left, doc_freq_of, docs_left, positions_are_read, positions_passed, skips_left};
+
+    /// No document.
+    pub fn empty() -> BlockSegmentPostings<'a>
+        ensures docs { docs_left result ≡ [] }
+        ensures counts { counts_left result ≡ [] }
+        ensures decoded { blocks_decoded result ≡ 0 }
+        ensures doc_freq { doc_freq_of result ≡ 0 }
+    {
+        let recorded = Recorded {
+            counts: false,
+            positions: false,
+        };
+        BlockSegmentPostings::begin(SkipReader::new(&[], 0, recorded), &[], 0, false, false)
+    }
+
+    /// Stands at the first block of a term's postings, which are known to be in their layout. Where counts
+    /// aren't read each is 1; positions are read only beside counts.
+    pub fn new(
+        bytes: &'a [u8],
+        doc_freq: u32,
+        recorded: Recorded,
+        reads_counts: bool,
+        reads_positions: bool,
+    ) -> BlockSegmentPostings<'a>
+        requires known { ∥ ((docs counts : List ℕ) × HasPostings recorded.counts recorded.positions doc_freq bytes.now docs counts) ∥₁ }
+        requires counts { reads_counts ≡ true → recorded.counts ≡ true }
+        requires positions { reads_positions ≡ true → (recorded.positions ≡ true) × (reads_counts ≡ true) }
+        ensures docs { (docs counts : List ℕ) → HasPostings recorded.counts recorded.positions doc_freq bytes.now docs counts → docs_left result ≡ docs }
+        ensures counts { (docs counts : List ℕ) → HasPostings recorded.counts recorded.positions doc_freq bytes.now docs counts → counts_left result ≡ (if reads_counts then counts else replicate doc_freq 1) }
+        ensures decoded { blocks_decoded result ≡ min 1 doc_freq }
+        ensures doc_freq { doc_freq_of result ≡ doc_freq }
+        ensures offset { positions_passed result ≡ 0 }
+        ensures reads { (counts_are_read result ≡ reads_counts) × (positions_are_read result ≡ reads_positions) }
+        ensures entries { (docs counts : List ℕ) (known : HasPostings recorded.counts recorded.positions doc_freq bytes.now docs counts) → skips_left result ≡ skip_entries known.option known.ids (length docs / 128) 0 docs counts }
+    {
+        let (entries, blocks) = split_entries(bytes, doc_freq);
+        let skips = SkipReader::new(entries, doc_freq, recorded);
+        BlockSegmentPostings::begin(skips, blocks, doc_freq, reads_counts, reads_positions)
+    }
+
+    /// Stands at the block at which the entries stand, which is decoded; the bytes are those of the blocks.
+    pub(crate) fn begin(
+        skips: SkipReader<'a>,
+        bytes: &'a [u8],
+        doc_freq: u32,
+        reads_counts: bool,
+        reads_positions: bool,
+    ) -> BlockSegmentPostings<'a>
+        requires { StandsIn reads_counts reads_positions 0 skips bytes.now }
+        ensures docs { docs_left result ≡ docs_at 0 skips.entry bytes.now }
+        ensures counts { counts_left result ≡ counts_at reads_counts 0 skips.entry bytes.now }
+        ensures decoded { result.decoded ≡ min 1 (length (docs_at 0 skips.entry bytes.now)) }
+        ensures doc_freq { result.doc_freq ≡ doc_freq }
+        ensures reads { (result.reads_counts ≡ reads_counts) × (result.reads_positions ≡ reads_positions) }
+        ensures offset { result.skips.position_offset ≡ skips.entry.position_offset }
+        ensures entries { result.skips.left ≡ skips.entry.left }
+    {
+        let mut decoder = BlockDecoder::with_val(0);
+        let mut docs = [0; 128];
+        let mut counts = [0; 128];
+        let len = decode_block(
+            bytes,
+            &skips,
+            0,
+            reads_counts,
+            &mut decoder,
+            &mut docs,
+            &mut counts,
+        );
+        BlockSegmentPostings {
+            bytes,
+            skips,
+            before: 0,
+            reads_counts,
+            reads_positions,
+            doc_freq,
+            decoder,
+            docs,
+            counts,
+            len,
+            decoded: counted(0, len),
+        }
+    }
+
+    /// How many documents have the term.
+    pub fn doc_freq(&self) -> u32
+        ensures { result ≡ doc_freq_of self.now }
+    {
+        self.doc_freq
+    }
+
+    /// The documents of the block; none behind the last.
+    pub fn docs(&self) -> &[DocId]
+        ensures { result.now ≡ take 128 (docs_left self.now) }
+    {
+        &self.docs[..self.len]
+    }
+
+    /// The document at a place of the block; behind its documents `TERMINATED`.
+    pub fn doc(&self, place: usize) -> DocId
+        requires { place < 128 }
+        ensures { result ≡ slice_index_or (docs_left self.now) place 2147483647 }
+    {
+        self.docs[place]
+    }
+
+    /// How often the term stands in each document of the block; 1 where counts aren't read.
+    pub fn freqs(&self) -> &[u32]
+        ensures { result.now ≡ take 128 (counts_left self.now) }
+    {
+        &self.counts[..self.len]
+    }
+
+    /// The count at a place of the block.
+    pub fn freq(&self, place: usize) -> u32
+        requires block { place < 128 }
+        requires within { place < length (docs_left self.now) }
+        ensures { result ≡ slice_index (counts_left self.now) place }
+    {
+        self.counts[place]
+    }
+
+    /// How many documents the block has.
+    pub fn block_len(&self) -> usize
+        ensures { result ≡ min 128 (length (docs_left self.now)) }
+    {
+        self.docs().len()
+    }
+
+    /// How many positions stand before those of a document of the block, in all blocks.
+    pub(crate) fn positions_before(&self, place: usize) -> u64
+        requires { place ≤ min 128 (length (docs_left self.now)) }
+        ensures { result ≡ self.now.skips.position_offset + sum (take place (counts_left self.now)) }
+    {
+        self.skips.position_offset() + sum_of(&self.counts[..place])
+    }
+
+    /// A number that no count from the block on is above, where there are so many positions in all.
+    pub(crate) fn greatest_count(&self, num_positions: u128) -> u32
+        ensures { (counts : List ℕ) → TellCounts num_positions self.now.skips counts → (i : ℕ) → slice_index counts i ≤ result }
+    {
+        greatest_count(self.skips.copied(), num_positions)
+    }
+
+    /// How many blocks with documents were decoded, the first among them.
+    pub fn decoded_blocks(&self) -> u64
+        ensures { result ≡ blocks_decoded self.now }
+    {
+        self.decoded
+    }
+
+    /// Goes on to the next block.
+    pub fn advance(&mut self)
+        ensures docs { docs_left self.new ≡ drop 128 (docs_left self.old) }
+        ensures counts { counts_left self.new ≡ drop 128 (counts_left self.old) }
+        ensures decoded { blocks_decoded self.new ≡ blocks_decoded self.old + min 1 (length (docs_left self.new)) }
+        ensures room { positions_are_read self.old ≡ true → positions_passed self.new + sum (counts_left self.new) ≤ positions_passed self.old + sum (counts_left self.old) }
+        ensures offset { positions_are_read self.old ≡ true → 0 < length (docs_left self.new) → positions_passed self.new ≡ positions_passed self.old + sum (take 128 (counts_left self.old)) }
+        ensures kept { (doc_freq_of self.new ≡ doc_freq_of self.old) × (counts_are_read self.new ≡ counts_are_read self.old) × (positions_are_read self.new ≡ positions_are_read self.old) }
+    {
+        self.before = self.skips.last_doc_in_block();
+        self.skips.advance();
+        self.len = decode_block(
+            self.bytes,
+            &self.skips,
+            self.before,
+            self.reads_counts,
+            &mut self.decoder,
+            &mut self.docs,
+            &mut self.counts,
+        );
+        self.decoded = counted(self.decoded, self.len);
+    }
+
+    /// Goes on to the first block that may hold a document, which may be the one that is held, and answers the
+    /// place in it of the first document that isn't below.
+    pub fn seek(&mut self, target: DocId) -> usize
+        requires { target ≤ 2147483647 }
+        ensures docs { docs_left self.new ≡ drop (128 * (below target (docs_left self.old) / 128)) (docs_left self.old) }
+        ensures counts { counts_left self.new ≡ drop (128 * (below target (docs_left self.old) / 128)) (counts_left self.old) }
+        ensures place { result ≡ below target (docs_left self.old) % 128 }
+        ensures decoded { blocks_decoded self.new ≡ blocks_decoded self.old + (if nat_lt (below target (docs_left self.old)) 128 then 0 else min 1 (length (docs_left self.new))) }
+        ensures room { positions_are_read self.old ≡ true → positions_passed self.new + sum (counts_left self.new) ≤ positions_passed self.old + sum (counts_left self.old) }
+        ensures offset { positions_are_read self.old ≡ true → positions_passed self.new ≡ positions_passed self.old + sum (take (128 * (below target (docs_left self.old) / 128)) (counts_left self.old)) }
+        ensures kept { (doc_freq_of self.new ≡ doc_freq_of self.old) × (counts_are_read self.new ≡ counts_are_read self.old) × (positions_are_read self.new ≡ positions_are_read self.old) }
+    {
+        if target <= self.skips.last_doc_in_block() {
+            return first_from(&self.docs, target);
+        }
+        self.before = pass_blocks(&mut self.skips, self.before, target);
+        self.len = decode_block(
+            self.bytes,
+            &self.skips,
+            self.before,
+            self.reads_counts,
+            &mut self.decoder,
+            &mut self.docs,
+            &mut self.counts,
+        );
+        self.decoded = counted(self.decoded, self.len);
+        first_from(&self.docs, target)
+    }
+}
+
+/// The blocks that were decoded, and one more that has so many documents, unless these are none.
+fn counted(decoded: u64, len: usize) -> u64
+    requires { decoded ≤ 4294967296 }
+    ensures { result ≡ decoded + min 1 len }
+{
+    decoded + len.min(1) as u64
+}
+
+/// Passes blocks that end before a document; answers the last document of the block before the one at which
+/// the entries then stand, or what is given.
+fn pass_blocks(skips: &mut SkipReader, before: u32, target: DocId) -> u32
+    requires { target ≤ 2147483647 }
+    ensures { (reads sums : Bool) (bytes : List ℕ) → StandsIn reads sums before skips.old bytes → HasPassed reads sums target before skips.old result skips.new bytes }
+{
+    let mut before = before;
+    let mut last = skips.last_doc_in_block();
+    while last < target {
+        before = last;
+        skips.advance();
+        last = skips.last_doc_in_block();
+    }
+    before
+}
+
+/// The place of the first document of a block that isn't below another.
+fn first_from(docs: &[u32; 128], target: DocId) -> usize
+    requires within { below target docs.now < 128 }
+    requires order { (place : ℕ) → place < 128 → slice_index docs.now place < target → place < below target docs.now }
+    ensures { result ≡ below target docs.now }
+{
+    let mut place = 0;
+    let mut len = 128;
+    while len > 1 {
+        let half = len / 2;
+        if docs[place + half - 1] < target {
+            place += half;
+        }
+        len -= half;
+    }
+    place
+}
+
+/// The skip entries of so many documents and the blocks behind them, where they are known to stand there.
+fn split_entries(bytes: &[u8], doc_freq: u32) -> (&[u8], &[u8])
+    requires { 128 ≤ doc_freq → IsSome (take_bytes bytes.now) }
+    ensures few { doc_freq < 128 → (result.0.now ≡ []) × (result.1.now ≡ bytes.now) }
+    ensures many { 128 ≤ doc_freq → take_bytes bytes.now ≡ Some (result.0.now, result.1.now) }
+{
+    if doc_freq < 128 {
+        return (&bytes[..0], bytes);
+    }
+    match take_bytes(bytes) {
+        Ok(parts) => parts,
+        Err(_) => unreachable!(),
+    }
+}
+
+/// The sum of a block's counts.
+fn sum_of(counts: &[u32]) -> u64
+    requires { length counts.now ≤ 128 }
+    ensures value { result ≡ sum counts.now }
+    ensures few { result ≤ 549755813888 }
+{
+    let mut total = 0;
+    for count in counts {
+        total += *count as u64;
+    }
+    total
+}

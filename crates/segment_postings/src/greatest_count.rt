@@ -1,0 +1,36 @@
+//! The greatest count of a term, told without its blocks.
+
+ghost use Rattle.std.specs.Prelude.{◌≡◌, ◌≤◌, List, max, nat_eq, if◌then◌else◌, slice_index, ℕ};
+ghost use Rattle.segment_postings.specs.CountBounds.{TellCounts};
+
+use skips::{BlockInfo, SkipReader};
+
+/// A number that no count from the entries' block on is above: of full blocks the greatest counts that the
+/// entries tell or, where they tell none, the sums of their counts, and of the rest how many positions are left.
+pub(crate) fn greatest_count(skips: SkipReader<'_>, num_positions: u128) -> u32
+    ensures { (counts : List ℕ) → TellCounts num_positions skips.entry counts → (i : ℕ) → slice_index counts i ≤ result }
+{
+    let mut skips = skips;
+    let mut greatest = 0;
+    while let BlockInfo::BitPacked {
+        tf_sum,
+        block_wand_term_freq,
+        ..
+    } = skips.block_info()
+    {
+        greatest = greatest.max(block_bound(tf_sum, block_wand_term_freq));
+        skips.advance();
+    }
+    let left = num_positions.saturating_sub(skips.position_offset() as u128);
+    greatest.max(left.min(4294967295) as u32)
+}
+
+/// The greatest count of a full block or, where its entry tells none, the sum of the counts.
+fn block_bound(count_sum: u32, greatest_count: u8) -> u32
+    ensures { result ≡ (if nat_eq greatest_count 255 then count_sum else greatest_count) }
+{
+    if greatest_count == 255 {
+        return count_sum;
+    }
+    u32::from(greatest_count)
+}

@@ -1,0 +1,11 @@
+//! The postings of one term, read.
+#![tactic(auto)]
+
+mod block_segment_postings;
+mod decoding;
+mod greatest_count;
+mod position_lists;
+mod segment_postings;
+
+pub use block_segment_postings::BlockSegmentPostings;
+pub use segment_postings::SegmentPostings;

@@ -1,0 +1,48 @@
+//! Positions of a document, taken out of those of a term.
+
+ghost use Rattle.std.specs.Prelude.{◌++◌, ◌+◌, ◌<◌, ◌≡◌, ◌≤◌, IsSome, OnErr, OnOk, drop, length, map, take, vec_capacity};
+ghost use Rattle.cursors.specs.Entries.{highest};
+ghost use Rattle.segment_postings.specs.TermEntries.{numbers_of, places};
+
+use positions::PositionReader;
+use std::alloc::AllocError;
+
+/// Puts so many positions from a place on, each plus an offset, behind those that the output holds; none
+/// where none are read.
+pub(crate) fn append_positions(
+    positions: &mut Option<PositionReader>,
+    begin: u64,
+    count: usize,
+    offset: u32,
+    output: &mut Vec<u32>,
+) -> Result<(), AllocError>
+    requires few { count ≤ 4294967295 }
+    requires room { IsSome positions.old → begin + count ≤ length (numbers_of positions.old) }
+    requires fits { highest (places 0 (take count (drop begin (numbers_of positions.old)))) + offset ≤ 4294967295 }
+    ensures same { positions.new ≡ positions.old }
+    ensures ok { OnOk result (output.new.items ≡ output.old.items ++ map (λ p. p + offset) (places 0 (take count (drop begin (numbers_of positions.old))))) }
+    ensures err { OnErr result (output.new.items ≡ output.old.items) }
+    ensures full { OnErr result (vec_capacity output.old < length (output.old.items ++ map (λ p. p + offset) (places 0 (take count (drop begin (numbers_of positions.old)))))) }
+    ensures room { vec_capacity output.old ≤ vec_capacity output.new }
+{
+    let Some(reader) = positions else {
+        return Ok(());
+    };
+    let start = output.len();
+    output.resize(start + count, 0)?;
+    reader.read(begin, &mut output[start..]);
+    add_up(&mut output[start..], offset);
+    Ok(())
+}
+
+/// Makes differences into positions, from an offset on.
+fn add_up(numbers: &mut [u32], offset: u32)
+    requires { highest (places 0 numbers.old) + offset ≤ 4294967295 }
+    ensures { numbers.new ≡ map (λ p. p + offset) (places 0 numbers.old) }
+{
+    let mut last = offset;
+    for i in 0..numbers.len() {
+        last += numbers[i];
+        numbers[i] = last;
+    }
+}

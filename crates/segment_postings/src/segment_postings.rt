@@ -1,0 +1,169 @@
+//! One term's postings, document by document.
+
+ghost use Rattle.std.specs.Prelude.{[], ◌<◌, ◌≡◌, ◌≤◌, ◌+◌, IsSome, List, if◌then◌else◌, length, min, replicate, sum, true, ℕ};
+ghost use Rattle.cursors.specs.Entries.{AreSingle, most_positions};
+ghost use Rattle.cursors.specs.EntryLaws.{AreSingle-prop};
+ghost use Rattle.segment_postings.specs.Reading.{HasPostings, counts_at, docs_at};
+ghost use Rattle.segment_postings.specs.TermEntries.{HasPositions, entries_from, entries_of, numbers_of, term_entries};
+
+use crate::block_segment_postings::BlockSegmentPostings;
+use crate::position_lists::append_positions;
+use common::DocId;
+use cursors::{DocSet, Postings};
+use positions::PositionReader;
+use skips::Recorded;
+use std::alloc::AllocError;
+
+/// A cursor over the documents that have a term, lent from their bytes.
+#[derive(Drop)]
+pub struct SegmentPostings<'a> {
+    blocks: BlockSegmentPostings<'a>,
+    cur: usize,
+    positions: Option<PositionReader<'a>>,
+    most: usize,
+    ghost inside: { cur < 128 },
+    ghost placed: { IsSome positions → blocks.reads_positions ≡ true },
+    ghost counted: { IsSome positions → blocks.skips.position_offset + sum (counts_at blocks.reads_counts blocks.before blocks.skips blocks.bytes.now) ≤ length (numbers_of positions) },
+    ghost of_one_term: { AreSingle (entries_from cur blocks.skips.position_offset (docs_at blocks.before blocks.skips blocks.bytes.now) (counts_at blocks.reads_counts blocks.before blocks.skips blocks.bytes.now) (numbers_of positions)) } by { AreSingle-prop (entries_from cur blocks.skips.position_offset (docs_at blocks.before blocks.skips blocks.bytes.now) (counts_at blocks.reads_counts blocks.before blocks.skips blocks.bytes.now) (numbers_of positions)) },
+    ghost bounded: { most_positions (entries_from cur blocks.skips.position_offset (docs_at blocks.before blocks.skips blocks.bytes.now) (counts_at blocks.reads_counts blocks.before blocks.skips blocks.bytes.now) (numbers_of positions)) ≤ most },
+}
+
+impl<'a> SegmentPostings<'a> {
+    ghost use Rattle.segment_postings.specs.Cursors.{cursor_blocks_decoded, cursor_doc_freq, entries_left};
+
+    /// No document.
+    pub fn empty() -> SegmentPostings<'a>
+        ensures entries { entries_left result ≡ [] }
+        ensures decoded { cursor_blocks_decoded result ≡ 0 }
+    {
+        SegmentPostings {
+            blocks: BlockSegmentPostings::empty(),
+            cur: 0,
+            positions: None,
+            most: 0,
+        }
+    }
+
+    /// Stands on the first document of a term's postings, which are known to be in their layout. Where counts
+    /// aren't read each is 1.
+    pub fn new(
+        bytes: &'a [u8],
+        doc_freq: u32,
+        recorded: Recorded,
+        reads_counts: bool,
+    ) -> SegmentPostings<'a>
+        requires known { ∥ ((docs counts : List ℕ) × HasPostings recorded.counts recorded.positions doc_freq bytes.now docs counts) ∥₁ }
+        requires counts { reads_counts ≡ true → recorded.counts ≡ true }
+        ensures entries { (docs counts : List ℕ) → HasPostings recorded.counts recorded.positions doc_freq bytes.now docs counts → entries_left result ≡ entries_of docs (if reads_counts then counts else replicate doc_freq 1) [] }
+        ensures decoded { cursor_blocks_decoded result ≡ min 1 doc_freq }
+        ensures doc_freq { cursor_doc_freq result ≡ doc_freq }
+    {
+        SegmentPostings {
+            blocks: BlockSegmentPostings::new(bytes, doc_freq, recorded, reads_counts, false),
+            cur: 0,
+            positions: None,
+            most: 0,
+        }
+    }
+
+    /// The same with counts and positions, which are known to be those of the term's documents.
+    pub fn with_positions(
+        bytes: &'a [u8],
+        doc_freq: u32,
+        recorded: Recorded,
+        positions: PositionReader<'a>,
+    ) -> SegmentPostings<'a>
+        requires known { ∥ ((docs counts : List ℕ) × (lists : List (List ℕ)) × HasPostings recorded.counts recorded.positions doc_freq bytes.now docs counts × HasPositions counts lists positions) ∥₁ }
+        requires recorded { (recorded.counts ≡ true) × (recorded.positions ≡ true) }
+        ensures entries { (docs counts : List ℕ) (lists : List (List ℕ)) → HasPostings recorded.counts recorded.positions doc_freq bytes.now docs counts → HasPositions counts lists positions.entry → entries_left result ≡ term_entries docs counts lists }
+        ensures decoded { cursor_blocks_decoded result ≡ min 1 doc_freq }
+        ensures doc_freq { cursor_doc_freq result ≡ doc_freq }
+    {
+        let mut positions = positions;
+        let blocks = BlockSegmentPostings::new(bytes, doc_freq, recorded, true, true);
+        let most = blocks.greatest_count(positions.num_positions()) as usize;
+        SegmentPostings {
+            blocks,
+            cur: 0,
+            positions: Some(positions),
+            most,
+        }
+    }
+
+    /// How many blocks with documents were decoded, the first among them.
+    pub fn decoded_blocks(&self) -> u64
+        ensures { result ≡ cursor_blocks_decoded self.now }
+    {
+        self.blocks.decoded_blocks()
+    }
+
+    /// How many documents have the term.
+    pub fn doc_freq(&self) -> u32
+        ensures { result ≡ cursor_doc_freq self.now }
+    {
+        self.blocks.doc_freq()
+    }
+}
+
+impl<'a> DocSet for SegmentPostings<'a> {
+    ghost use Rattle.segment_postings.specs.Cursors.{docs_left, counts_left, entries_left};
+
+    ghost entries = { entries_left };
+
+    fn advance(&mut self) -> DocId {
+        if self.cur == 127 {
+            self.blocks.advance();
+            self.cur = 0;
+            return self.doc();
+        }
+        self.cur += 1;
+        self.doc()
+    }
+
+    fn seek(&mut self, target: DocId) -> DocId {
+        self.cur = self.blocks.seek(target);
+        self.doc()
+    }
+
+    fn doc(&self) -> DocId {
+        self.blocks.doc(self.cur)
+    }
+
+    fn size_hint(&self) -> u32 {
+        self.doc_freq()
+    }
+
+    ghost use Rattle.segment_postings.specs.Cursors.{rising_left};
+
+    ghost rising = { rising_left };
+}
+
+impl<'a> Postings for SegmentPostings<'a> {
+    ghost use Rattle.std.specs.Prelude.{◌++◌};
+    ghost use Rattle.segment_postings.specs.Cursors.{alone_left, single_left};
+
+    ghost joined = { λ held positions. held ++ positions };
+
+    fn term_freq(&self) -> u32 {
+        self.blocks.freq(self.cur)
+    }
+
+    fn append_positions_with_offset(
+        &mut self,
+        offset: u32,
+        output: &mut Vec<u32>,
+    ) -> Result<(), AllocError> {
+        let count = self.blocks.freq(self.cur) as usize;
+        let begin = self.blocks.positions_before(self.cur);
+        append_positions(&mut self.positions, begin, count, offset, output)?;
+        Ok(())
+    }
+
+    fn most_positions(&self) -> usize {
+        self.most
+    }
+
+    ghost of_one_term = { single_left };
+
+    ghost alone = { alone_left };
+}
