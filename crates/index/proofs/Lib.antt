@@ -1,6 +1,4 @@
 -- Lemmas behind the index.
-pub mod QueryForms
-pub mod QuerySteps
 pub mod Faults
 pub mod ErrorsKept
 pub mod FieldLists

@@ -1,6 +1,4 @@
 -- What the index keeps, as the definitions have it.
-pub mod BuiltQueries
-pub mod QueryNames
 pub mod Standing
 pub mod Accepting
 pub mod Files

@@ -19,12 +19,12 @@ ghost use Rattle.serde_json.specs.View.{view};
 
 use crate::collection::Collection;
 use crate::index::Index;
-use crate::json_queries::read_query;
 use crate::json_replies::{count_text, hits_text};
 use crate::requests::IndexRequest;
 use common::{Analyzer, Device};
 use definitions::Fault;
 use plain::Hit;
+use query_json::read_query;
 use serde_json::Value as Json;
 use std::borrow::CowStr;
 

@@ -1,3 +1,2 @@
 -- What settings keep, as the definitions have it, and terms by the JSON of their values.
-pub mod Terms
 pub mod Weights

@@ -3,7 +3,7 @@ use Rattle.std.specs.Int.{to_be_bytes, w128}
 use Rattle.definitions.specs.Schema.{ip_addr_kind}
 use Rattle.definitions.specs.Terms.{term_bytes, value_bytes}
 use Rattle.document_values.specs.Shown.{value_of}
-use Rattle.settings.proofs.AddressBits.{bits_of}
+use Rattle.term_json.proofs.AddressBits.{bits_of}
 use Rattle.plain.proofs.value_terms.ip_addr_term.Goals as goal
 
 pub returns-in_ok-from_field_ip_addr-in-IpAddr : goal.returns-in_ok-from_field_ip_addr-in-IpAddr

@@ -1,0 +1,2 @@
+pub mod QueryForms
+pub mod QuerySteps

@@ -1,0 +1,2 @@
+pub mod BuiltQueries
+pub mod QueryNames

@@ -1,0 +1,5 @@
+pub mod AddressBits
+pub mod FieldsByName
+pub mod JsonValues
+pub mod TermPaths
+pub mod ValueTerms
