@@ -4,9 +4,9 @@
 //! a word it prints nothing.
 #![tactic(auto)]
 
+mod block_codes;
 mod cursor_walks;
 mod files;
-mod block_codes;
 mod spread_terms;
 mod texts;
 mod times;

@@ -2,14 +2,14 @@
 
 ghost use Rattle.std.specs.Prelude.{List, OnOk};
 ghost use Rattle.definitions.specs.Values.{Document};
-ghost use Rattle.indexing.specs.Indexers.{HasIndexed};
+ghost use Rattle.document_indexer.specs.Indexers.{HasIndexed};
 
 use crate::times::{nanos_since, now};
 use codes::FieldNormReaders;
 use common::{Analyzer, RawAndDefault};
 use definitions::Fault;
 use document::CompactDoc;
-use indexing::DocumentIndexer;
+use document_indexer::DocumentIndexer;
 use schema::{Field, Schema, TEXT};
 use std::alloc::Global;
 use std::io;

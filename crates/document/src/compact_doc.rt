@@ -13,7 +13,10 @@ ghost use Rattle.definitions.specs.declared.fault.Fault.TheVariants as faults;
 ghost use Rattle.std.specs.List.{AllByRecursion, find};
 
 use common::{Fault, PreTokenizedString, take_vint};
-use document_values::{CompactDocValue, FieldValueIterRef, OwnedValue, ValuesOfField, address_pair, append, object_pair, owned_pair, sized_head, skip_pairs, tokens_pair, value_head};
+use document_values::{
+    CompactDocValue, FieldValueIterRef, OwnedValue, ValuesOfField, address_pair, append,
+    object_pair, owned_pair, sized_head, skip_pairs, tokens_pair, value_head,
+};
 use std::alloc::{AllocError, Global};
 use std::marker::Model;
 use terms::{DateTime, Facet, Field};

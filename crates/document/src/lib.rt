@@ -11,5 +11,8 @@ mod reading;
 mod serialize;
 
 pub use compact_doc::CompactDoc;
-pub use document_values::{CompactDocArrayIter, CompactDocObjectIter, CompactDocTokens, CompactDocValue, FieldValueIterRef, OwnedValue, ValuesOfField, put_value, take_value, value_to_json};
+pub use document_values::{
+    CompactDocArrayIter, CompactDocObjectIter, CompactDocTokens, CompactDocValue,
+    FieldValueIterRef, OwnedValue, ValuesOfField, put_value, take_value, value_to_json,
+};
 pub use named_doc::NamedDocument;

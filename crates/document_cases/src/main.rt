@@ -4,11 +4,11 @@
 
 mod added_values;
 mod checkpoints;
-mod shown_values;
 mod documents;
 mod mixed_stores;
 mod operations;
 mod record_bodies;
+mod shown_values;
 mod stores;
 mod values;
 

@@ -22,7 +22,9 @@ pub use iterators::{CompactDocArrayIter, CompactDocObjectIter, FieldValueIterRef
 pub use json_put::json_object_pair;
 pub use json_text::write_value;
 pub use owned_value::OwnedValue;
-pub use pairs::{address_pair, append, object_pair, owned_pair, sized_head, tokens_pair, value_head};
+pub use pairs::{
+    address_pair, append, object_pair, owned_pair, sized_head, tokens_pair, value_head,
+};
 pub use printing::{value_to_json, values_to_json};
 pub use stored::stored_value;
 pub use taking::{skip_pairs, take_value};

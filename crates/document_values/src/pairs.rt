@@ -73,11 +73,7 @@ pub fn tokens_pair(
 }
 
 /// A field with a value.
-pub fn owned_pair(
-    alloc: Global,
-    field: Field,
-    value: &OwnedValue,
-) -> Result<Vec<u8>, AllocError>
+pub fn owned_pair(alloc: Global, field: Field, value: &OwnedValue) -> Result<Vec<u8>, AllocError>
     ensures pair { IfOk result (λ pair. pair.items ≡ held_pair (field, owned_value value.now)) }
     ensures good { IfOk result (λ _. IsGoodPair true deepest (field, owned_value value.now)) }
 {
@@ -103,11 +99,7 @@ pub fn object_pair(
 }
 
 /// A field with an address.
-pub fn address_pair(
-    alloc: Global,
-    field: Field,
-    address: u128,
-) -> Result<Vec<u8>, AllocError>
+pub fn address_pair(alloc: Global, field: Field, address: u128) -> Result<Vec<u8>, AllocError>
     ensures pair { IfOk result (λ pair. pair.items ≡ u32_bytes field ++ (10 ∷ (u64_bytes (address % 2 ^ 64) ++ u64_bytes (address / 2 ^ 64)))) }
     ensures field { field < 2 ^ 32 }
 {

@@ -12,10 +12,7 @@ use std::alloc::{AllocError, Global};
 
 /// The value that a document lends, copied, with each pre-tokenised text in it as a text.
 #[cycle(store)]
-pub fn stored_value(
-    alloc: Global,
-    value: CompactDocValue<'_>,
-) -> Result<OwnedValue, AllocError>
+pub fn stored_value(alloc: Global, value: CompactDocValue<'_>) -> Result<OwnedValue, AllocError>
     ensures { IfOk result (λ stored. owned_value stored ≡ plain (value_of value.entry)) }
 {
     match value {

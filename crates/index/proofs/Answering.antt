@@ -24,7 +24,7 @@ use Rattle.serde_json.specs.Read.{read}
 use Rattle.index.specs.Replying.{Answers, GoesOn, change_text}
 use Rattle.index.specs.Standing.{Stands}
 use Rattle.index.specs.declared.collection.Collection.{Collection}
-use Rattle.relay.specs.Replies.{stops}
+use Rattle.serve_lines.specs.Replies.{stops}
 
 none≢some : {X : Type 0} {x : X} → None ≡ Some x → ⊥
 none≢some h = cc

@@ -10,7 +10,7 @@ ghost use Rattle.definitions.specs.Step as steps;
 ghost use Rattle.index.specs.AskedRequests.{index_request_of, request_of};
 ghost use Rattle.index.specs.Sessions.{HasHeld, IsKnown, LeavesStage, Replies, StandsFor, analysis_of, session_of, session_on};
 ghost use Rattle.index.specs.Standing.{Stands};
-ghost use Rattle.relay.specs.Replies.{Writes, stops};
+ghost use Rattle.serve_lines.specs.Replies.{Writes, stops};
 ghost use Rattle.serde_json.specs.Read.{read};
 ghost use Rattle.serde_json.specs.View.{view};
 
@@ -21,9 +21,9 @@ use crate::requests::{IndexRequest, Request, request_in};
 use crate::stage::{Session, Stage};
 use common::{Analyzer, Device, RunFault};
 use definitions::Fault;
-use relay::Service;
 use schema::Schema;
 use serde_json::Value as Json;
+use serve_lines::Service;
 use settings::Settings;
 use std::alloc::{AllocError, Global};
 use std::borrow::CowStr;
@@ -204,7 +204,7 @@ pub fn run_session<R: BufRead, W: Write, D: Device + Drop, A: Analyzer + Drop>(
         → OnOk result (IfSome (R.remaining reader.old) (λ input.
         Writes steps.answer_of steps.after_line s (lines_of input) (W.contents writer.old) (W.contents writer.new))) }
 {
-    relay::run(session.alloc, reader, writer, session)
+    serve_lines::run(session.alloc, reader, writer, session)
 }
 
 /// Answers the lines of an input one by one, until it ends, over a device on which no index stands yet.

@@ -9,7 +9,9 @@ ghost use Rattle.definitions.specs.declared.fault.Fault.TheVariants as faults;
 
 use common::take_bytes;
 use definitions::Fault;
-use packed_blocks::{BlockDecoder, COMPRESSION_BLOCK_SIZE, VIntDecoder, compressed_block_size, width_of};
+use packed_blocks::{
+    BlockDecoder, COMPRESSION_BLOCK_SIZE, VIntDecoder, compressed_block_size, width_of,
+};
 use std::marker::Model;
 
 /// The positions of a term, lent from their bytes. The block that was read last is kept, so that reads that

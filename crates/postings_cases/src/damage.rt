@@ -6,7 +6,7 @@ use crate::outcomes::Outcomes;
 use crate::sections::{Sections, opened, postings_of};
 use case_lines::{Arguments, Refusal};
 use definitions::Fault;
-use inverted_index::InvertedIndexReader;
+use inverted_index_reader::InvertedIndexReader;
 use schema::Term;
 use serde_json::Value;
 use std::alloc::{AllocError, Global};

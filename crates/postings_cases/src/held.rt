@@ -2,7 +2,7 @@
 
 use crate::sections::Sections;
 use document::CompactDoc;
-use inverted_index::InvertedIndexReader;
+use inverted_index_reader::InvertedIndexReader;
 use schema::Schema;
 use std::alloc::Global;
 

@@ -4,7 +4,7 @@ use crate::added_values::field_in;
 use crate::asked_terms::asked_term;
 use crate::sections::postings_of;
 use case_lines::{Arguments, Refusal, hex, number, numbers, pair, triple};
-use inverted_index::InvertedIndexReader;
+use inverted_index_reader::InvertedIndexReader;
 use options::IndexRecordOption;
 use postings::DocSet;
 use schema::Term;

@@ -2,7 +2,7 @@
 
 ghost use Rattle.std.specs.Prelude.{List, OnOk};
 ghost use Rattle.definitions.specs.Values.{Document};
-ghost use Rattle.indexing.specs.Indexers.{HasIndexed};
+ghost use Rattle.document_indexer.specs.Indexers.{HasIndexed};
 ghost use Rattle.layouts.specs.Deltas.{IsAscendingFrom};
 
 use bytes::Bytes;
@@ -10,8 +10,8 @@ use codes::FieldNormReaders;
 use common::{Analyzer, RawAndDefault, TERMINATED};
 use definitions::Fault;
 use document::CompactDoc;
-use indexing::DocumentIndexer;
-use inverted_index::InvertedIndexReader;
+use document_indexer::DocumentIndexer;
+use inverted_index_reader::InvertedIndexReader;
 use options::IndexRecordOption;
 use postings::{DocSet, Postings};
 use schema::{Schema, Term};

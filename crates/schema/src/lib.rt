@@ -18,4 +18,7 @@ pub use options::{
     TextOptions,
 };
 pub use schema::{Schema, SchemaBuilder};
-pub use terms::{DateTime, FACET_SEP_BYTE, FACET_SEP_CHAR, Facet, FastValue, Field, IntoIpv6Addr, Term, Type, push_json_path, push_term_header, term_laws};
+pub use terms::{
+    DateTime, FACET_SEP_BYTE, FACET_SEP_CHAR, Facet, FastValue, Field, IntoIpv6Addr, Term, Type,
+    push_json_path, push_term_header, term_laws,
+};

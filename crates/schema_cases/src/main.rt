@@ -3,10 +3,10 @@
 #![tactic(auto)]
 
 mod facets;
+mod made_terms;
 mod numbers;
 mod operations;
 mod schemas;
-mod made_terms;
 mod terms_as_bytes;
 mod terms_at_paths;
 mod tokens;

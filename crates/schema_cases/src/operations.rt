@@ -1,6 +1,6 @@
 //! Operations by their names. What stands before the first `-` says what an operation is about.
 
-use crate::{facets, numbers, schemas, made_terms, tokens};
+use crate::{facets, made_terms, numbers, schemas, tokens};
 use case_lines::{Arguments, Operations, Refusal};
 use schema::Schema;
 use serde_json::Value;

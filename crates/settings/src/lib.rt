@@ -1,4 +1,4 @@
-//! Settings of an index, and terms and settings as JSON.
+//! Settings of an index, kept and as JSON.
 #![tactic(auto)]
 
 mod json_settings;

@@ -7,8 +7,8 @@ ghost use Rattle.store.specs.Footers.{take_footer};
 
 use common::{put_u32, put_u64, take_u32, take_u64};
 use definitions::Fault;
-use std::fmt;
 use std::alloc::AllocError;
+use std::fmt;
 
 /// The version of a store's layout.
 #[derive(Clone, Copy, Debug, PartialEq, Eq)]

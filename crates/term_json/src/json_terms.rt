@@ -14,10 +14,10 @@ use crate::json_paths::path_term;
 use definitions::Fault;
 use json_keys::{has_only_beside, text_at};
 use schema::Schema;
-use terms::{Field, Term, Type};
 use serde_json::Value as Json;
 use std::alloc::{AllocError, Global};
 use std::net::Ipv6Addr;
+use terms::{Field, Term, Type};
 use values_json::{read_address, read_bytes, read_date, read_facet};
 
 /// The term in a JSON object: the name of a field, and a value. A text is the token itself. In a JSON field

@@ -21,9 +21,9 @@ use crate::numbers::{
     read_bool_text, read_i64_number, read_i64_text, read_u64_number, read_u64_text,
 };
 use definitions::Fault;
-use terms::Type;
 use serde_json::Value as Json;
 use std::alloc::Global;
+use terms::Type;
 
 /// One value of a field of that type, but for the objects of JSON fields. Where the field coerces, further kinds of
 /// JSON values are taken, and floats are to be refused before.

@@ -1,6 +1,6 @@
 use Rattle.std.proofs.Common.{List}
 use Rattle.definitions.specs.Values.{Document}
-use Rattle.indexing.specs.Indexers.{HasIndexed}
+use Rattle.document_indexer.specs.Indexers.{HasIndexed}
 use Rattle.bench.proofs.texts.index_all.Given as goal
 
 abbrev pub invariant-loop-doc : goal.invariant-loop-doc

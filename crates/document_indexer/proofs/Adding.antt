@@ -1,0 +1,128 @@
+-- One document more.
+use Rattle.std.proofs.Common.{[], ◌++◌, ◌+◌, ◌<◌, ◌==◌, ◌^◌, ◌≡◌, ◌≤◌, ◌∙◌, ◌∷◌, Bool, IfSome, List, None, Option, Some, ap, ap₂, arith, bytes_eq, cond, false, filter, inl, inr, length, map, min, ne_eqb, refl, subst, sym, true, ℕ}
+use Rattle.std.specs.List.{AllByRecursion}
+use Rattle.std.specs.Map.{lookup}
+use Rattle.std.specs.Option.{option_map_or}
+use Rattle.std.proofs.lemmas.List.{length-map, map-append}
+use Rattle.std.proofs.lemmas.List.Elements.{filter-append}
+use Rattle.definitions.specs.Analyzers.{Analyzer}
+use Rattle.definitions.specs.Indexing.{Placed}
+use Rattle.definitions.specs.Recorded.{occurrences}
+use Rattle.definitions.specs.Schema.{Schema, max_fields}
+use Rattle.definitions.specs.Values.{Document}
+use Rattle.definitions.specs.declared.fault.Fault.{Fault}
+use Rattle.postings_writer.specs.Occurrences.{Occurrence, by_document, last_count, places_of}
+use Rattle.document_indexer.specs.Contexts.{AreBefore, Context, HasStarts, Holds, IsRefusal, Positions, Records, Refuses}
+use Rattle.document_indexer.specs.Indexed.{AreCounted, HasRecorded, IsAddRefusal, doc_places, places_in}
+use Rattle.document_indexer.specs.Runs.{no_starts, occurrence_at, occurrences_at, run_terms}
+use Rattle.document_indexer.specs.Steps.{steps_of}
+use Rattle.document_indexer.proofs.DocRuns.{doc_run}
+use Rattle.document_indexer.proofs.Grouping.{last_count_below, one_more, placed, places_from}
+use Rattle.document_indexer.proofs.PostingsOf.{places_are, positions}
+use Rattle.document_indexer.proofs.TermPlaces.{at, at-append}
+
+-- where no text of the document stands yet, all begin at 0
+pub first_starts : (doc : ℕ) (kept : Positions) → AreBefore doc kept → HasStarts doc kept no_starts
+first_starts doc kept before prefix = go (lookup (bytes_eq prefix) kept) (before prefix)
+  where
+    go : (o : Option (ℕ × ℕ)) → IfSome o (λ p. p.0 < doc) → option_map_or (λ (p : ℕ × ℕ). cond (p.0 == doc) p.1 0) o 0 ≡ min (2 ^ 31) 0
+    go None below = omega arith
+    go (Some p) below = (let other : (p.0 == doc) ≡ false = ne_eqb p.0 doc (λ same. absurd (omega arith)) in ap (λ b. cond b p.1 0) other ∙ (let e : 0 ≡ min (2 ^ 31) 0 = omega arith in e))
+
+before_next : (doc : ℕ) (kept : Positions) → AreBefore doc kept → AreBefore (doc + 1) kept
+before_next doc kept before prefix = go (lookup (bytes_eq prefix) kept) (before prefix)
+  where
+    go : (o : Option (ℕ × ℕ)) → IfSome o (λ p. p.0 < doc) → IfSome o (λ p. p.0 < doc + 1)
+    go None below = tt
+    go (Some p) below = omega arith
+
+-- ---- places
+
+abbrev place_in : Occurrence → ℕ × ℕ
+place_in o = (o.doc, o.position)
+
+places-append : (t : List ℕ) (os xs : List Occurrence) → places_of t (os ++ xs) ≡ places_of t os ++ places_of t xs
+places-append t os xs = ap (map place_in) (filter-append (λ (o : Occurrence). bytes_eq o.term t) os xs) ∙ map-append place_in (filter (λ o. bytes_eq o.term t) os) (filter (λ o. bytes_eq o.term t) xs)
+
+-- the places of a term among a document's
+doc_at : (t : List ℕ) (n : ℕ) (ps : List Placed) → places_of t (occurrences_at n ps) ≡ placed (n, at t ps)
+doc_at t n [] = refl
+doc_at t n (p ∷ ps) = go (bytes_eq p.0 t) (doc_at t n ps)
+  where
+    rest : List Occurrence
+    rest = filter (λ o. bytes_eq o.term t) (occurrences_at n ps)
+
+    left : List Placed
+    left = filter (λ p. bytes_eq p.0 t) ps
+
+    go : (b : Bool) → map place_in rest ≡ placed (n, map (λ (p : Placed). p.1) left) → map place_in (cond b (occurrence_at n p ∷ rest) rest) ≡ placed (n, map (λ (p : Placed). p.1) (cond b (p ∷ left) left))
+    go true ih = ap (λ qs. (n, p.1) ∷ qs) ih
+    go false ih = ih
+
+module _ (schema : Schema) (analyze : Analyzer) (was now : Context) (docs : List Document) (doc : Document) (h : HasRecorded schema analyze was docs) where
+  few_fields : length schema ≤ max_fields
+  few_fields = subst (λ s. length s ≤ max_fields) h.written.schema_is h.written.stands.few
+
+  begun : Holds was h.written.os no_starts
+  begun = record { stands = h.written.stands; starts_are = first_starts was.doc was.positions h.before }
+
+  -- ---- it was recorded
+
+  places_more : (t : List ℕ) → places_of t (h.written.os ++ occurrences_at was.doc (run_terms no_starts (steps_of schema analyze doc))) ≡ places_in schema analyze t (docs ++ doc ∷ [])
+  places_more t =
+      places-append t h.written.os (occurrences_at was.doc (run_terms no_starts (steps_of schema analyze doc)))
+      ∙ ap₂ (λ ps qs. ps ++ qs) (h.written.occurrences_are t) (doc_at t was.doc (run_terms no_starts (steps_of schema analyze doc)) ∙ ap₂ (λ n xs. placed (n, xs)) h.count (doc_run analyze t schema few_fields doc))
+      ∙ sym (one_more (doc_places schema analyze t) docs doc)
+
+  length-more : length (docs ++ doc ∷ []) ≡ length docs + 1
+  length-more = go docs
+    where
+      go : (ds : List Document) → length (ds ++ doc ∷ []) ≡ length ds + 1
+      go [] = refl
+      go (d ∷ ds) = (let ih = go ds in omega arith)
+
+  pub document_more : Records was now (steps_of schema analyze doc) → HasRecorded schema analyze (record { writer = now.writer; positions = now.positions; doc = now.doc + 1 }) (docs ++ doc ∷ [])
+  document_more r = record {
+    written = record {
+      os = h.written.os ++ occurrences_at was.doc (run_terms no_starts (steps_of schema analyze doc));
+      stands = (r.holds h.written.os no_starts begun).stands;
+      occurrences_are = places_more;
+      schema_is = r.schema ∙ h.written.schema_is;
+      few = (let below = r.next in let count = h.count in let more = length-more in omega arith);
+    };
+    count = (let same = r.doc in let count = h.count in let more = length-more in omega arith);
+    before = (let P : ℕ → Type 0 = λ n. AreBefore (n + 1) now.positions in subst P (sym r.doc) (r.before (before_next was.doc was.positions h.before)));
+  }
+
+  -- ---- it is refused
+
+  all_positions : (t : List ℕ) (xs : List ℕ) (ds : List Document) → length xs ≤ length (occurrences schema analyze t doc) → AllByRecursion (λ d. length (occurrences schema analyze t d) < 2 ^ 32) (ds ++ doc ∷ []) → AllByRecursion (λ ns. length ns < 2 ^ 32) (positions schema analyze t ds ++ xs ∷ [])
+  all_positions t xs [] within all = ((let below = all.0 in omega arith), tt)
+  all_positions t xs (d ∷ ds) within all = (all.0, all_positions t xs ds within all.1)
+
+  part_within : (xs ys zs : List ℕ) → xs ++ ys ≡ zs → length xs ≤ length zs
+  part_within xs ys zs is = (let long = ap length is in let both = go xs in omega arith)
+    where
+      go : (ws : List ℕ) → length (ws ++ ys) ≡ length ws + length ys
+      go [] = (let e : length ys ≡ 0 + length ys = omega arith in e)
+      go (w ∷ ws) = (let ih = go ws in omega arith)
+
+  -- the counts of a part of the document's terms are below the bound that all keep
+  counts_below : (t : List ℕ) (some rest : List Placed) → run_terms no_starts (steps_of schema analyze doc) ≡ some ++ rest → AreCounted schema analyze (docs ++ doc ∷ []) → last_count (by_document (places_of t (h.written.os ++ occurrences_at was.doc some))) < 2 ^ 32
+  counts_below t some rest split counted =
+      let xs : List ℕ = at t some in
+      let xss : List (List ℕ) = positions schema analyze t docs in
+      let whole : xs ++ at t rest ≡ occurrences schema analyze t doc = sym (at-append t some rest) ∙ ap (at t) (sym split) ∙ doc_run analyze t schema few_fields doc in
+      let here : places_of t (h.written.os ++ occurrences_at was.doc some) ≡ places_from 0 (xss ++ xs ∷ []) =
+      places-append t h.written.os (occurrences_at was.doc some)
+      ∙ ap₂ (λ ps qs. ps ++ qs) (h.written.occurrences_are t ∙ places_are schema analyze t 0 docs) (doc_at t was.doc some ∙ ap (λ n. placed (n, xs)) (h.count ∙ sym (length-map docs (occurrences schema analyze t))))
+      ∙ sym (one_more placed xss xs) in
+      subst (λ ps. last_count (by_document ps) < 2 ^ 32) (sym here) (last_count_below (2 ^ 32) 0 (xss ++ xs ∷ []) (omega arith) (all_positions t xs docs (part_within xs (at t rest) (occurrences schema analyze t doc) whole) (counted t)))
+
+  pub document_refused : (fault : Fault) → Refuses was (steps_of schema analyze doc) fault → IsAddRefusal fault schema analyze docs doc
+  document_refused fault refused = go (refused h.written.os no_starts begun)
+    where
+      go : IsRefusal fault h.written.os was.doc no_starts (steps_of schema analyze doc) → IsAddRefusal fault schema analyze docs doc
+      go (inl memory) = inl memory
+      go (inr (limit, inl past)) = inr (limit, inr (inl past))
+      go (inr (limit, inr count)) = inr (limit, inr (inr (λ counted. (let below = counts_below count.term count.before count.after count.split counted in let past = count.past in absurd (omega arith)))))

@@ -1,0 +1,17 @@
+use Rattle.std.proofs.Common.{IfErr, OnOk, subst, sym}
+use Rattle.definitions.specs.Schema.{bool_kind}
+use Rattle.document_values.specs.Shown.{value_of}
+use Rattle.document_values.specs.declared.compact_value.CompactDocValue.{CompactDocValue}
+use Rattle.document_indexer.specs.Contexts.{Records, Refuses}
+use Rattle.document_indexer.specs.Steps.{plain_steps}
+use Rattle.document_indexer.proofs.index_value.index_bool.Goals as goal
+
+pub returns-in-Bool-clause-ok : goal.returns-in-Bool-clause-ok
+returns-in-Bool-clause-ok c =
+    let P : CompactDocValue → Type 0 = λ v. OnOk c.index_fast_value.result (Records c.args.indexer.now c.index_fast_value.new.indexer (plain_steps bool_kind c.args.field (value_of v))) in
+    subst P (sym c.in-Bool.is) c.index_fast_value.ensures.ok
+
+pub returns-in-Bool-clause-err : goal.returns-in-Bool-clause-err
+returns-in-Bool-clause-err c =
+    let P : CompactDocValue → Type 0 = λ v. IfErr c.index_fast_value.result (Refuses c.args.indexer.now (plain_steps bool_kind c.args.field (value_of v))) in
+    subst P (sym c.in-Bool.is) c.index_fast_value.ensures.err

@@ -1,0 +1,52 @@
+-- What an indexer stands for.
+use Rattle.std.specs.Prelude.{[], ◌++◌, ◌<◌, ◌^◌, ◌∷◌, ◌≡◌, ◌≤◌, ◌⊎◌, List, flat_map, length, map, ℕ}
+use Rattle.std.specs.List.{AllByRecursion, enumerate_from}
+use Rattle.definitions.specs.Analyzers.{Analyzer}
+use Rattle.definitions.specs.Recorded.{occurrences}
+use Rattle.definitions.specs.Schema.{Schema}
+use Rattle.definitions.specs.Values.{Document}
+use Rattle.definitions.specs.declared.fault.Fault.{Fault}
+use Rattle.definitions.specs.declared.fault.Fault.TheVariants as faults
+use Rattle.postings_writer.specs.Occurrences.{Occurrence, places_of}
+use Rattle.postings_writer.specs.Writers.{Stands, Writer}
+use Rattle.document_indexer.specs.Contexts.{AreBefore, Context}
+use Rattle.document_indexer.specs.Runs.{AreStepsWithin, no_starts}
+use Rattle.document_indexer.specs.Steps.{steps_of}
+
+-- a document's places of a term
+abbrev pub doc_places : Schema → Analyzer → List ℕ → ℕ × Document → List (ℕ × ℕ)
+doc_places schema analyze t (n, doc) = map (λ position. (n, position)) (occurrences schema analyze t doc)
+
+-- all documents' places of a term
+abbrev pub places_in : Schema → Analyzer → List ℕ → List Document → List (ℕ × ℕ)
+places_in schema analyze t docs = flat_map (doc_places schema analyze t) (enumerate_from 0 docs)
+
+-- occurrences of these documents' terms
+abbrev pub AreOccurrences : Schema → Analyzer → List Document → List Occurrence → Type 0
+AreOccurrences schema analyze docs os = (t : List ℕ) → places_of t os ≡ places_in schema analyze t docs
+
+-- the writer holds what these documents give
+pub record HasWritten (schema : Schema) (analyze : Analyzer) (w : Writer) (docs : List Document) : Type 0 where
+  pub os : List Occurrence
+  pub stands : Stands w os
+  pub occurrences_are : AreOccurrences schema analyze docs os
+  pub schema_is : w.schema ≡ schema
+  pub few : w.num_docs ≤ length docs
+
+-- these documents are recorded, and the next one is to be
+pub record HasRecorded (schema : Schema) (analyze : Analyzer) (c : Context) (docs : List Document) : Type 0 where
+  pub written : HasWritten schema analyze c.writer docs
+  pub count : c.doc ≡ length docs
+  pub before : AreBefore c.doc c.positions
+
+-- no document has a term more often than 32 bits tell
+abbrev pub AreCounted : Schema → Analyzer → List Document → Type 0
+AreCounted schema analyze docs = (t : List ℕ) → AllByRecursion (λ doc. length (occurrences schema analyze t doc) < 2 ^ 32) docs
+
+-- a limit that one document more would pass: the number of documents, the greatest position, or a count
+abbrev pub PassesLimit : Schema → Analyzer → List Document → Document → Type 0
+PassesLimit schema analyze docs doc = (2147483647 ≤ length docs) ⊎ (AreStepsWithin no_starts (steps_of schema analyze doc) → ⊥) ⊎ (AreCounted schema analyze (docs ++ doc ∷ []) → ⊥)
+
+-- memory was wanting, or a limit would be passed
+abbrev pub IsAddRefusal : Fault → Schema → Analyzer → List Document → Document → Type 0
+IsAddRefusal fault schema analyze docs doc = (fault ≡ faults.OutOfMemory) ⊎ ((fault ≡ faults.Limit) × PassesLimit schema analyze docs doc)

@@ -1,0 +1,202 @@
+//! The terms of values, by the types of their fields.
+
+ghost use Rattle.std.specs.Prelude.{◌≡◌, IfErr, OnOk};
+ghost use Rattle.definitions.specs.Schema.{bool_kind, bytes_kind, date_kind, i64_kind, ip_addr_kind, text_kind, u64_kind};
+ghost use Rattle.document_values.specs.Shown.{value_of};
+ghost use Rattle.terms.specs.Kinds.{kind_of};
+ghost use Rattle.document_indexer.specs.Contexts.{CanIndex, Records, Refuses};
+ghost use Rattle.document_indexer.specs.Steps.{kind_steps, plain_steps, text_steps};
+
+use crate::index_facet::index_facet;
+use crate::index_json::index_json;
+use crate::term_indexer::TermIndexer;
+use common::Analyzer;
+use definitions::Fault;
+use document_values::CompactDocValue;
+use schema::{FieldEntry, FieldType};
+use terms::{FastValue, Field, Type};
+
+/// Records the terms of a value of an indexed field.
+pub(crate) fn index_value<A: Analyzer>(
+    indexer: &mut TermIndexer<'_>,
+    analyzer: &A,
+    field: Field,
+    entry: &FieldEntry,
+    value: CompactDocValue<'_>,
+) -> Result<(), Fault>
+    requires { CanIndex indexer.old field entry.now.kind }
+    ensures ok { OnOk result (Records indexer.old indexer.new (kind_steps entry.now.kind (A.analyze analyzer.now) field entry.now (value_of value.entry))) }
+    ensures err { IfErr result (Refuses indexer.old (kind_steps entry.now.kind (A.analyze analyzer.now) field entry.now (value_of value.entry))) }
+{
+    match type_of(entry) {
+        Type::Str => index_text(indexer, analyzer, field, entry, value),
+        Type::Json => index_json(indexer, analyzer, field, entry, value),
+        Type::Facet => index_facet(indexer, field, value),
+        Type::U64 => index_u64(indexer, field, value),
+        Type::I64 => index_i64(indexer, field, value),
+        Type::Bool => index_bool(indexer, field, value),
+        Type::Date => index_date(indexer, field, value),
+        Type::Bytes => index_bytes(indexer, field, value),
+        Type::IpAddr => index_ip_addr(indexer, field, value),
+    }
+}
+
+/// The type of a field's values.
+#[tactic(auto, using(crate::proofs::EntryKinds::kind_of_type))]
+fn type_of(entry: &FieldEntry) -> Type
+    ensures { kind_of result ≡ entry.now.kind }
+{
+    entry.field_type().value_type()
+}
+
+/// The name of the field's tokenizer, and no text where it has none.
+#[tactic(auto, using(crate::proofs::EntryKinds::tokenizer_of_type))]
+pub(crate) fn tokenizer_of(entry: &FieldEntry) -> &str
+    ensures { result.now ≡ entry.now.tokenizer }
+{
+    let indexing = match entry.field_type() {
+        FieldType::Str(options) => options.get_indexing_options(),
+        FieldType::JsonObject(options) => options.get_text_indexing_options(),
+        _ => None,
+    };
+    match indexing {
+        Some(indexing) => indexing.tokenizer(),
+        None => "",
+    }
+}
+
+/// Records the tokens of a text. A pre-tokenised text has its own.
+fn index_text<A: Analyzer>(
+    indexer: &mut TermIndexer<'_>,
+    analyzer: &A,
+    field: Field,
+    entry: &FieldEntry,
+    value: CompactDocValue<'_>,
+) -> Result<(), Fault>
+    requires { CanIndex indexer.old field text_kind }
+    ensures ok { OnOk result (Records indexer.old indexer.new (text_steps (A.analyze analyzer.now) field entry.now (value_of value.entry))) }
+    ensures err { IfErr result (Refuses indexer.old (text_steps (A.analyze analyzer.now) field entry.now (value_of value.entry))) }
+{
+    match value {
+        CompactDocValue::Str(text) => {
+            let tokens = analyzer.tokens(indexer.alloc(), tokenizer_of(entry), text)?;
+            indexer.index_text(field, &tokens)
+        }
+        CompactDocValue::PreTokStr(text) => {
+            let owned = text.to_pre_tokenized_string(indexer.alloc())?;
+            indexer.index_text(field, owned.tokens())
+        }
+        _ => Ok(()),
+    }
+}
+
+/// Records a number from 0 below 2^64.
+fn index_u64(
+    indexer: &mut TermIndexer<'_>,
+    field: Field,
+    value: CompactDocValue<'_>,
+) -> Result<(), Fault>
+    requires { CanIndex indexer.old field u64_kind }
+    ensures ok { OnOk result (Records indexer.old indexer.new (plain_steps u64_kind field (value_of value.entry))) }
+    ensures err { IfErr result (Refuses indexer.old (plain_steps u64_kind field (value_of value.entry))) }
+{
+    match value {
+        CompactDocValue::U64(n) => index_fast_value(indexer, field, n),
+        _ => Ok(()),
+    }
+}
+
+/// Records a number from -2^63 below 2^63.
+fn index_i64(
+    indexer: &mut TermIndexer<'_>,
+    field: Field,
+    value: CompactDocValue<'_>,
+) -> Result<(), Fault>
+    requires { CanIndex indexer.old field i64_kind }
+    ensures ok { OnOk result (Records indexer.old indexer.new (plain_steps i64_kind field (value_of value.entry))) }
+    ensures err { IfErr result (Refuses indexer.old (plain_steps i64_kind field (value_of value.entry))) }
+{
+    match value {
+        CompactDocValue::I64(n) => index_fast_value(indexer, field, n),
+        _ => Ok(()),
+    }
+}
+
+/// Records true or false.
+fn index_bool(
+    indexer: &mut TermIndexer<'_>,
+    field: Field,
+    value: CompactDocValue<'_>,
+) -> Result<(), Fault>
+    requires { CanIndex indexer.old field bool_kind }
+    ensures ok { OnOk result (Records indexer.old indexer.new (plain_steps bool_kind field (value_of value.entry))) }
+    ensures err { IfErr result (Refuses indexer.old (plain_steps bool_kind field (value_of value.entry))) }
+{
+    match value {
+        CompactDocValue::Bool(b) => index_fast_value(indexer, field, b),
+        _ => Ok(()),
+    }
+}
+
+/// Records a point of time, cut to whole seconds.
+fn index_date(
+    indexer: &mut TermIndexer<'_>,
+    field: Field,
+    value: CompactDocValue<'_>,
+) -> Result<(), Fault>
+    requires { CanIndex indexer.old field date_kind }
+    ensures ok { OnOk result (Records indexer.old indexer.new (plain_steps date_kind field (value_of value.entry))) }
+    ensures err { IfErr result (Refuses indexer.old (plain_steps date_kind field (value_of value.entry))) }
+{
+    match value {
+        CompactDocValue::Date(time) => index_fast_value(indexer, field, time),
+        _ => Ok(()),
+    }
+}
+
+/// Records a byte string.
+fn index_bytes(
+    indexer: &mut TermIndexer<'_>,
+    field: Field,
+    value: CompactDocValue<'_>,
+) -> Result<(), Fault>
+    requires { CanIndex indexer.old field bytes_kind }
+    ensures ok { OnOk result (Records indexer.old indexer.new (plain_steps bytes_kind field (value_of value.entry))) }
+    ensures err { IfErr result (Refuses indexer.old (plain_steps bytes_kind field (value_of value.entry))) }
+{
+    match value {
+        CompactDocValue::Bytes(bytes) => indexer.index_term(field, Type::Bytes, bytes),
+        _ => Ok(()),
+    }
+}
+
+/// Records an address.
+fn index_ip_addr(
+    indexer: &mut TermIndexer<'_>,
+    field: Field,
+    value: CompactDocValue<'_>,
+) -> Result<(), Fault>
+    requires { CanIndex indexer.old field ip_addr_kind }
+    ensures ok { OnOk result (Records indexer.old indexer.new (plain_steps ip_addr_kind field (value_of value.entry))) }
+    ensures err { IfErr result (Refuses indexer.old (plain_steps ip_addr_kind field (value_of value.entry))) }
+{
+    match value {
+        CompactDocValue::IpAddr(bits) => {
+            indexer.index_term(field, Type::IpAddr, &bits.to_be_bytes())
+        }
+        _ => Ok(()),
+    }
+}
+
+/// Records a value of eight bytes.
+fn index_fast_value<T: FastValue>(
+    indexer: &mut TermIndexer<'_>,
+    field: Field,
+    value: T,
+) -> Result<(), Fault>
+    requires { CanIndex indexer.old field T.kind }
+    ensures ok { OnOk result (Records indexer.old indexer.new (plain_steps T.kind field (T.value value))) }
+    ensures err { IfErr result (Refuses indexer.old (plain_steps T.kind field (T.value value))) }
+{
+    indexer.index_term(field, T::to_type(), &value.to_u64().to_be_bytes())
+}

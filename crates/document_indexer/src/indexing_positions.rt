@@ -1,0 +1,67 @@
+//! Where texts begin.
+
+ghost use Rattle.std.specs.Prelude.{[], ◌≡◌, List, OnOk, Some, bytes_eq, if◌then◌else◌, ℕ};
+ghost use Rattle.std.specs.Map.{lookup};
+ghost use Rattle.document_indexer.specs.Contexts.{start_of};
+
+use std::alloc::{AllocError, Global};
+use std::collections::HashMap;
+use std::marker::Model;
+
+/// By the first bytes of a text's terms, the document that had such a text last, and where its next one begins.
+#[derive(Drop)]
+pub(crate) struct IndexingPositions {
+    starts: HashMap<Vec<u8>, (u32, u32)>,
+}
+
+impl Model for IndexingPositions {
+    ghost use Rattle.std.specs.Prelude.{map};
+    ghost use Rattle.document_indexer.specs.Contexts.{Positions};
+
+    ghost Value = { Positions };
+
+    ghost view = { λ p. map (λ e. (e.0.items, e.1)) p.starts.entries };
+}
+
+impl IndexingPositions {
+    /// No text.
+    pub(crate) fn new(alloc: Global) -> IndexingPositions
+        ensures { result ≡ [] }
+    {
+        IndexingPositions {
+            starts: HashMap::new(alloc),
+        }
+    }
+
+    /// Where the document's next text behind these bytes begins.
+    pub(crate) fn start_of(&self, doc: u32, prefix: &[u8]) -> u32
+        ensures { result ≡ start_of doc prefix.now self.now }
+    {
+        match self.starts.get(prefix) {
+            Some((last, start)) if *last == doc => *start,
+            _ => 0,
+        }
+    }
+
+    /// Keeps where the document's next text behind these bytes begins.
+    pub(crate) fn set_start(
+        &mut self,
+        alloc: Global,
+        doc: u32,
+        prefix: &[u8],
+        start: u32,
+    ) -> Result<(), AllocError>
+        ensures { OnOk result ((other : List ℕ) → lookup (bytes_eq other) self.new ≡ (if bytes_eq prefix.now other then Some (doc, start) else lookup (bytes_eq other) self.old)) }
+    {
+        match self.starts.get_mut(prefix) {
+            Some(last) => {
+                *last = (doc, start);
+                Ok(())
+            }
+            None => {
+                self.starts.insert(prefix.to_vec(alloc)?, (doc, start))?;
+                Ok(())
+            }
+        }
+    }
+}

@@ -1,0 +1,126 @@
+-- The postings of a term as a cursor tells them.
+use Rattle.std.proofs.Common.{[], Bool, List, ap, arith, cond, drop, false, length, map, min, refl, replicate, subst, sym, true, true≢false, ◌&&◌, ◌<◌, ◌≡◌, ◌∙◌, ◌∷◌, ◌^◌, ℕ}
+use Rattle.std.proofs.Math.Seq.{drop-nil, take-nil}
+use Rattle.std.proofs.lemmas.List.{length-map}
+use Rattle.std.specs.List.{AllByRecursion}
+use Rattle.definitions.specs.Postings.{Posting}
+use Rattle.definitions.specs.Schema.{IndexRecordOption, basic, has_freq, has_positions, with_freqs, with_freqs_and_positions}
+use Rattle.layouts.specs.InvertedIndexes.{IsPosting, IsTerm}
+use Rattle.layouts.specs.Positions.{ArePositions, position_numbers}
+use Rattle.cursors.specs.Entries.{Entry, highest}
+use Rattle.segment_postings.specs.Reading.{HasPostings}
+use Rattle.segment_postings.specs.TermEntries.{HasPositions, IsPlaced, entries_of, places, term_entries}
+use Rattle.inverted_index_reader.specs.OpenedTerms.{HasTerm, entry_as}
+
+abbrev docs_in : List Posting → List ℕ
+docs_in ps = map (λ (p : Posting). p.doc) ps
+
+abbrev counts_in : List Posting → List ℕ
+counts_in ps = map (λ (p : Posting). p.count) ps
+
+abbrev lists_in : List Posting → List (List ℕ)
+lists_in ps = map (λ (p : Posting). p.positions) ps
+
+pub has_postings : (option : IndexRecordOption) (n : ℕ) (postings positions : List ℕ) (ps : List Posting) → HasTerm option n postings positions ps → HasPostings (has_freq option) (has_positions option) n postings (map (λ (p : Posting). p.doc) ps) (map (λ (p : Posting). p.count) ps)
+has_postings option n postings positions ps h = record { option = option; ids = h.ids; postings = h.is.postings_are; many = length-map ps (λ (p : Posting). p.doc) ∙ h.many; counts_are = refl; positions_are = refl }
+
+-- positions
+lengths_are : (n : ℕ) (ps : List Posting) → AllByRecursion (IsPosting true n) ps → map length (lists_in ps) ≡ counts_in ps
+lengths_are n [] all = refl
+lengths_are n (p ∷ ps) all = ap (λ k. k ∷ map length (lists_in ps)) all.0.counted ∙ ap (λ ks. p.count ∷ ks) (lengths_are n ps all.1)
+
+highest_below : (ns : List ℕ) → AllByRecursion (λ k. k < 2 ^ 31) ns → highest ns < 2 ^ 31
+highest_below [] all = omega arith
+highest_below (n ∷ ns) all = (let rest = highest_below ns all.1 in let here = all.0 in omega (arith, rest, here))
+
+placed_are : (n : ℕ) (ps : List Posting) → AllByRecursion (IsPosting true n) ps → AllByRecursion IsPlaced (lists_in ps)
+placed_are n [] all = tt
+placed_are n (p ∷ ps) all = ((all.0.placed, highest_below p.positions all.0.placed_fit), placed_are n ps all.1)
+
+pub has_positions_in : (option : IndexRecordOption) (n : ℕ) (postings positions : List ℕ) (ps : List Posting) → has_positions option ≡ true → HasTerm option n postings positions ps → HasPositions (map (λ (p : Posting). p.count) ps) (map (λ (p : Posting). p.positions) ps) (position_numbers (map (λ (p : Posting). p.positions) ps)) × ArePositions (position_numbers (map (λ (p : Posting). p.positions) ps)) positions
+has_positions_in option n postings positions ps recorded h =
+    let each : AllByRecursion (IsPosting true h.num_docs) ps = subst (λ b. AllByRecursion (IsPosting b h.num_docs) ps) recorded h.is.each in
+    (record { counted = lengths_are h.num_docs ps each; placed = placed_are h.num_docs ps each; whole = refl }, subst (λ b. Rattle.layouts.specs.InvertedIndexes.HasPositions b (position_numbers (lists_in ps)) positions) recorded h.is.positions_are)
+
+-- entries
+pub whole_entries : (ps : List Posting) → term_entries (map (λ (p : Posting). p.doc) ps) (map (λ (p : Posting). p.count) ps) (map (λ (p : Posting). p.positions) ps) ≡ map (λ p. record { doc = p.doc; score = 0; count = p.count; positions = p.positions ∷ [] }) ps
+whole_entries [] = refl
+whole_entries (p ∷ ps) = ap (λ es. record { doc = p.doc; score = 0; count = p.count; positions = p.positions ∷ [] } ∷ es) (whole_entries ps)
+
+-- counts and positions that aren't read
+ones : (n : ℕ) (ps : List Posting) → length ps ≡ n → replicate {A = ℕ} n 1 ≡ map (λ (p : Posting). 1) ps
+ones n ps long = ap (λ k. replicate {A = ℕ} k 1) (sym long) ∙ go ps
+  where
+    go : (qs : List Posting) → replicate {A = ℕ} (length qs) 1 ≡ map (λ (p : Posting). 1) qs
+    go [] = refl
+    go (q ∷ qs) = ap (λ (ks : List ℕ). 1 ∷ ks) (go qs)
+
+all_ones : (ps : List Posting) → AllByRecursion (λ k. k ≡ 1) (counts_in ps) → map (λ (p : Posting). 1) ps ≡ counts_in ps
+all_ones [] all = refl
+all_ones (p ∷ ps) all = ap (λ k. k ∷ map (λ (q : Posting). 1) ps) (sym all.0) ∙ ap (λ ks. p.count ∷ ks) (all_ones ps all.1)
+
+counts_by : (a b : Bool) (n : ℕ) (ps : List Posting) → (a ≡ false → AllByRecursion (λ k. k ≡ 1) (counts_in ps)) → length ps ≡ n → cond (a && b) (counts_in ps) (replicate n 1) ≡ map (λ (p : Posting). cond b p.count 1) ps
+counts_by true true n ps alone long = refl
+counts_by true false n ps alone long = ones n ps long
+counts_by false true n ps alone long = ones n ps long ∙ all_ones ps (alone refl)
+counts_by false false n ps alone long = ones n ps long
+
+pub counts_as : (option asked : IndexRecordOption) (n : ℕ) (postings positions : List ℕ) (ps : List Posting) → HasTerm option n postings positions ps → cond (has_freq option && has_freq asked) (map (λ (p : Posting). p.count) ps) (replicate n 1) ≡ map (λ (p : Posting). cond (has_freq asked) p.count 1) ps
+counts_as option asked n postings positions ps h = counts_by (has_freq option) (has_freq asked) n ps h.is.postings_are.posted.alone h.many
+
+none_of : (ns : List ℕ) → length ns ≡ 0 → ns ≡ []
+none_of [] none = refl
+none_of (n ∷ ns) none = absurd (omega (arith, none))
+
+no_positions : (a b : Bool) (n : ℕ) (ps : List Posting) → (a && b) ≡ false → AllByRecursion (IsPosting a n) ps → AllByRecursion (λ (p : Posting). cond b p.positions [] ≡ []) ps
+no_positions a b n [] none all = tt
+no_positions true true n (p ∷ ps) none all = absurd (true≢false none)
+no_positions true false n (p ∷ ps) none all = (refl, no_positions true false n ps none all.1)
+no_positions false true n (p ∷ ps) none all = (none_of p.positions all.0.counted, no_positions false true n ps none all.1)
+no_positions false false n (p ∷ ps) none all = (refl, no_positions false false n ps none all.1)
+
+abbrev entry_by : Bool → Bool → Posting → Entry
+entry_by counts places p = record { doc = p.doc; score = 0; count = cond counts p.count 1; positions = cond places p.positions [] ∷ [] }
+
+entries_by : (b p : Bool) (ps : List Posting) → AllByRecursion (λ (x : Posting). cond p x.positions [] ≡ []) ps → entries_of (docs_in ps) (map (λ (x : Posting). cond b x.count 1) ps) [] ≡ map (entry_by b p) ps
+entries_by b p [] none = refl
+entries_by b p (x ∷ xs) none =
+    let rest = entries_by b p xs none.1 in
+    let count = cond b x.count 1 in
+    let counts = map (λ (y : Posting). cond b y.count 1) xs in
+    ap (λ ns. record { doc = x.doc; score = 0; count = count; positions = places 0 ns ∷ [] } ∷ entries_of (docs_in xs) counts (drop count [])) (take-nil count)
+    ∙ ap (λ ns. record { doc = x.doc; score = 0; count = count; positions = [] ∷ [] } ∷ entries_of (docs_in xs) counts ns) (drop-nil count)
+    ∙ ap (λ ns. record { doc = x.doc; score = 0; count = count; positions = ns ∷ [] } ∷ entries_of (docs_in xs) counts []) (sym none.0)
+    ∙ ap (λ es. entry_by b p x ∷ es) rest
+
+pub entries_as : (option asked : IndexRecordOption) (n : ℕ) (postings positions : List ℕ) (ps : List Posting) → (has_positions option && has_positions asked) ≡ false → HasTerm option n postings positions ps → entries_of (map (λ (p : Posting). p.doc) ps) (cond (has_freq option && has_freq asked) (map (λ (p : Posting). p.count) ps) (replicate n 1)) [] ≡ map (entry_as asked) ps
+entries_as option asked n postings positions ps none h =
+    ap (λ cs. entries_of (docs_in ps) cs []) (counts_as option asked n postings positions ps h)
+    ∙ entries_by (has_freq asked) (has_positions asked) ps (no_positions (has_positions option) (has_positions asked) h.num_docs ps none h.is.each)
+
+-- where positions are read, counts are
+both_read : (a : IndexRecordOption) → has_positions a ≡ true → has_freq a ≡ true
+both_read basic reads = absurd (true≢false (sym reads))
+both_read with_freqs reads = absurd (true≢false (sym reads))
+both_read with_freqs_and_positions reads = refl
+
+pub reads_all : (option asked : IndexRecordOption) → (has_positions option && has_positions asked) ≡ true → (has_freq option ≡ true) × (has_positions option ≡ true) × (has_freq asked ≡ true) × (has_positions asked ≡ true)
+reads_all option asked both = go (has_positions option) (has_positions asked) refl refl both
+  where
+    go : (a b : Bool) → has_positions option ≡ a → has_positions asked ≡ b → (a && b) ≡ true → (has_freq option ≡ true) × (has_positions option ≡ true) × (has_freq asked ≡ true) × (has_positions asked ≡ true)
+    go true true p q all = (both_read option p, p, both_read asked q, q)
+    go true false p q all = absurd (true≢false (sym all))
+    go false b p q all = absurd (true≢false (sym all))
+
+pub placed_as : (option asked : IndexRecordOption) (ps : List Posting) → (has_positions option && has_positions asked) ≡ true → term_entries (map (λ (p : Posting). p.doc) ps) (map (λ (p : Posting). p.count) ps) (map (λ (p : Posting). p.positions) ps) ≡ map (entry_as asked) ps
+placed_as option asked ps both =
+    let all = reads_all option asked both in
+    whole_entries ps ∙ ap (λ b. map (entry_by b true) ps) (sym all.2) ∙ ap (λ b. map (entry_by (has_freq asked) b) ps) (sym all.3)
+
+pub one_block : (option : IndexRecordOption) (n : ℕ) (postings positions : List ℕ) (ps : List Posting) → HasTerm option n postings positions ps → min 1 n ≡ 1
+one_block option n postings positions ps h = (let some = h.is.some in let many = h.many in omega (arith, some, many))
+
+-- what is recorded, as the code tells it
+pub told_postings : (option : IndexRecordOption) (counts positions : Bool) (n : ℕ) (bytes places : List ℕ) (ps : List Posting) → counts ≡ has_freq option → positions ≡ has_positions option → HasTerm option n bytes places ps → HasPostings counts positions n bytes (map (λ (p : Posting). p.doc) ps) (map (λ (p : Posting). p.count) ps)
+told_postings option counts positions n bytes places ps a b h =
+    subst (λ x. HasPostings x positions n bytes (map (λ (p : Posting). p.doc) ps) (map (λ (p : Posting). p.count) ps)) (sym a) (subst (λ x. HasPostings (has_freq option) x n bytes (map (λ (p : Posting). p.doc) ps) (map (λ (p : Posting). p.count) ps)) (sym b) (has_postings option n bytes places ps h))

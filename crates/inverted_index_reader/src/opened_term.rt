@@ -1,0 +1,76 @@
+//! The postings of a term, opened.
+
+ghost use Rattle.std.specs.Prelude.{◌&&◌, ◌≡◌, List, if◌then◌else◌, map, ℕ};
+ghost use Rattle.definitions.specs.Postings.{Posting};
+ghost use Rattle.definitions.specs.Schema.{has_freq, has_positions};
+ghost use Rattle.inverted_index_reader.specs.OpenedTerms.{HasTerm, entry_as};
+ghost use Rattle.options.specs.RecordOption.{record_option_of};
+ghost use Rattle.segment_postings.specs.Cursors.{blocks_decoded, counts_left, cursor_blocks_decoded, cursor_doc_freq, doc_freq_of, docs_left, entries_left};
+
+use options::IndexRecordOption;
+use positions::PositionReader;
+use segment_postings::{BlockSegmentPostings, SegmentPostings};
+use skips::Recorded;
+
+/// What an option records.
+fn recorded_of(option: IndexRecordOption) -> Recorded
+    ensures { (result.counts ≡ has_freq (record_option_of option)) × (result.positions ≡ has_positions (record_option_of option)) }
+{
+    Recorded {
+        counts: option.has_freq(),
+        positions: option.has_positions(),
+    }
+}
+
+/// Whether counts are read: where they are recorded, and asked for.
+fn reads_counts(option: IndexRecordOption, asked: IndexRecordOption) -> bool
+    ensures { result ≡ (has_freq (record_option_of option) && has_freq (record_option_of asked)) }
+{
+    option.has_freq() && asked.has_freq()
+}
+
+/// Whether positions are read: where they are recorded, and asked for.
+fn reads_positions(option: IndexRecordOption, asked: IndexRecordOption) -> bool
+    ensures { result ≡ (has_positions (record_option_of option) && has_positions (record_option_of asked)) }
+{
+    option.has_positions() && asked.has_positions()
+}
+
+/// The postings of a term, which are known to be in their layout, with as much as is asked for.
+pub(crate) fn open_term<'a>(
+    postings: &'a [u8],
+    positions: &'a [u8],
+    doc_freq: u32,
+    option: IndexRecordOption,
+    asked: IndexRecordOption,
+) -> SegmentPostings<'a>
+    requires { ∥ ((ps : List Posting) × HasTerm (record_option_of option) doc_freq postings.now positions.now ps) ∥₁ }
+    ensures entries { (ps : List Posting) → HasTerm (record_option_of option) doc_freq postings.now positions.now ps → entries_left result ≡ map (entry_as (record_option_of asked)) ps }
+    ensures decoded { cursor_blocks_decoded result ≡ 1 }
+    ensures doc_freq { cursor_doc_freq result ≡ doc_freq }
+{
+    let recorded = recorded_of(option);
+    if reads_positions(option, asked) {
+        let reader = PositionReader::new(positions);
+        return SegmentPostings::with_positions(postings, doc_freq, recorded, reader);
+    }
+    SegmentPostings::new(postings, doc_freq, recorded, reads_counts(option, asked))
+}
+
+/// The same block by block, without positions.
+pub(crate) fn open_term_blocks<'a>(
+    postings: &'a [u8],
+    doc_freq: u32,
+    option: IndexRecordOption,
+    asked: IndexRecordOption,
+) -> BlockSegmentPostings<'a>
+    requires { ∥ ((ps : List Posting) × (positions : List ℕ) × HasTerm (record_option_of option) doc_freq postings.now positions ps) ∥₁ }
+    ensures docs { (ps : List Posting) (positions : List ℕ) → HasTerm (record_option_of option) doc_freq postings.now positions ps → docs_left result ≡ map (λ p. p.doc) ps }
+    ensures counts { (ps : List Posting) (positions : List ℕ) → HasTerm (record_option_of option) doc_freq postings.now positions ps → counts_left result ≡ map (λ p. if has_freq (record_option_of asked) then p.count else 1) ps }
+    ensures decoded { blocks_decoded result ≡ 1 }
+    ensures doc_freq { doc_freq_of result ≡ doc_freq }
+{
+    let recorded = recorded_of(option);
+    let reads_counts = reads_counts(option, asked);
+    BlockSegmentPostings::new(postings, doc_freq, recorded, reads_counts, false)
+}

@@ -1,0 +1,54 @@
+//! Entries of terms, taken out of their section.
+
+ghost use Rattle.std.specs.Prelude.{◌≡◌, IfErr, IfOk, None, Some};
+ghost use Rattle.inverted_index_reader.specs.TakenTerms.{entry_at, entry_of, take_entry};
+ghost use Rattle.definitions.specs.declared.fault.Fault.TheVariants as faults;
+
+use common::{take_bytes, take_vint};
+use definitions::Fault;
+
+/// A term by its value bytes, how many documents have it, and how many bytes its postings and positions take.
+#[derive(Clone, Copy)]
+pub(crate) struct TermEntry<'a> {
+    pub(crate) key: &'a [u8],
+    pub(crate) doc_freq: u64,
+    pub(crate) postings_len: u64,
+    pub(crate) positions_len: u64,
+}
+
+/// The entry that stands first, and what follows it.
+pub(crate) fn take_entry(bytes: &[u8]) -> Result<(TermEntry<'_>, &[u8]), Fault>
+    ensures ok { IfOk result (λ p. take_entry bytes.now ≡ Some (entry_of p.0, p.1.now)) }
+    ensures err { IfErr result (λ fault. (fault ≡ faults.Damaged None) × (take_entry bytes.now ≡ None)) }
+{
+    let (key, rest) = take_bytes(bytes)?;
+    let (doc_freq, rest) = take_vint(rest)?;
+    let (postings_len, rest) = take_vint(rest)?;
+    let (positions_len, rest) = take_vint(rest)?;
+    let entry = TermEntry {
+        key,
+        doc_freq,
+        postings_len,
+        positions_len,
+    };
+    Ok((entry, rest))
+}
+
+/// The entry that begins at a place; where none does, one without bytes and documents.
+pub(crate) fn entry_at(bytes: &[u8], start: usize) -> TermEntry<'_>
+    ensures { entry_of result ≡ entry_at bytes.now start }
+{
+    let none = TermEntry {
+        key: &[],
+        doc_freq: 0,
+        postings_len: 0,
+        positions_len: 0,
+    };
+    let Some(rest) = bytes.get(start..) else {
+        return none;
+    };
+    match take_entry(rest) {
+        Ok((entry, _)) => entry,
+        Err(_) => none,
+    }
+}

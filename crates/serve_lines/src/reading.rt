@@ -1,0 +1,96 @@
+//! How a line is read, one look at the reader's buffer at a time.
+
+ghost use Rattle.std.specs.Prelude.{◌≡◌, ◌<◌, OnOk, OnErr, IfOk};
+ghost use Rattle.std.specs.Io.KnownBytes.{Keeps};
+ghost use Rattle.serve_lines.specs.Reading.{MovesChunk, TakesLine};
+
+use crate::RunFault;
+use crate::line::LineBuffer;
+use memchr::memchr;
+use std::io;
+use std::io::{BufRead, ErrorKind, Write};
+
+/// What one look at the reader took.
+#[derive(Clone, Copy, Debug, PartialEq, Eq)]
+pub(crate) enum Chunk {
+    /// A part of the line, maybe empty.
+    Part,
+    /// The rest of the line, and its newline.
+    Rest,
+    /// Nothing, because the input has ended.
+    End,
+}
+
+// Takes what the reader shows, up to the end of the line.
+fn take_chunk<R: BufRead>(reader: &mut R, line: &mut LineBuffer) -> io::Result<Chunk>
+    ensures ok { IfOk result (λ chunk.
+        MovesChunk chunk (R.remaining reader.old) (R.remaining reader.new) line.old line.new) }
+    ensures err_reader { OnErr result (Keeps (R.remaining reader.old) (R.remaining reader.new)) }
+    ensures err_line { OnErr result (line.new ≡ line.old) }
+{
+    let shown = reader.fill_buf()?;
+    if shown.is_empty() {
+        return Ok(Chunk::End);
+    }
+    match memchr(b'\n', shown) {
+        Some(end) => {
+            line.add(&shown[..end]);
+            line.may_wait = end + 1 == shown.len();
+            reader.consume(end + 1);
+            Ok(Chunk::Rest)
+        }
+        None => {
+            let len = shown.len();
+            line.add(shown);
+            line.may_wait = true;
+            reader.consume(len);
+            Ok(Chunk::Part)
+        }
+    }
+}
+
+// Takes the next chunk. What was written before is flushed first if the reader may wait. A read
+// that a signal interrupts takes an empty part.
+fn next_chunk<R: BufRead, W: Write>(
+    reader: &mut R,
+    writer: &mut W,
+    line: &mut LineBuffer,
+) -> Result<Chunk, RunFault>
+    ensures ok { IfOk result (λ chunk.
+        MovesChunk chunk (R.remaining reader.old) (R.remaining reader.new) line.old line.new) }
+    ensures writer { OnOk result (Keeps (W.contents writer.old) (W.contents writer.new)) }
+{
+    if line.may_wait && writer.flush().is_err() {
+        return Err(RunFault::WriteFault);
+    }
+    match take_chunk(reader, line) {
+        Ok(chunk) => Ok(chunk),
+        Err(error) if error.kind() == ErrorKind::Interrupted => Ok(Chunk::Part),
+        Err(_) => Err(RunFault::ReadFault),
+    }
+}
+
+/// Reads the next line, and answers whether there was one. Each look at the reader is one of the
+/// `turns`; where none is left the answer is `ReadFault`.
+pub(crate) fn read_line<R: BufRead, W: Write>(
+    reader: &mut R,
+    writer: &mut W,
+    line: &mut LineBuffer,
+    turns: &mut u64,
+) -> Result<bool, RunFault>
+    ensures ok { IfOk result (λ found.
+        TakesLine found line.new (R.remaining reader.old) (R.remaining reader.new)) }
+    ensures turns { OnOk result (turns.new < turns.old) }
+    ensures writer { OnOk result (Keeps (W.contents writer.old) (W.contents writer.new)) }
+{
+    line.clear();
+    while *turns > 0 {
+        *turns -= 1;
+        match next_chunk(reader, writer, line)? {
+            Chunk::Part => {}
+            Chunk::Rest => return Ok(true),
+            Chunk::End => return Ok(!line.is_empty()),
+        }
+    }
+    Err(RunFault::ReadFault)
+}

@@ -1,0 +1,31 @@
+//! What answers the lines.
+
+ghost use Rattle.std.specs.Prelude.{◌≡◌, ℕ, List, IsTrue, IfOk, IfErr, OnOk};
+ghost use Rattle.std.specs.Cow.{cow_str_bytes};
+ghost use Rattle.serve_lines.specs.Replies.{stops};
+
+use definitions::Fault;
+use std::borrow::CowStr;
+
+/// What answers the lines of a run, one after the other.
+pub trait Service {
+    // What the replies depend on.
+    ghost State: { Type 0 };
+
+    // The service stands for the state.
+    ghost stands: { Self → State → Type 0 };
+
+    // The reply to a text.
+    ghost answer: { State → List ℕ → List ℕ };
+
+    // The state after a text.
+    ghost after: { State → List ℕ → State };
+
+    /// Answers one line. After an error the service need not stand for any state.
+    fn reply(&mut self, line: &str) -> Result<CowStr<'static>, Fault>
+        ensures text { (s : State) → stands self.old s
+            → IfOk result (λ text. cow_str_bytes text ≡ answer s line.now) }
+        ensures state { (s : State) → stands self.old s
+            → OnOk result (stands self.new (after s line.now)) }
+        ensures err { IfErr result (λ fault. IsTrue (stops fault)) };
+}
