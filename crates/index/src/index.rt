@@ -20,8 +20,7 @@ ghost use Rattle.records.specs.Frames.{frame_bytes};
 ghost use Rattle.records.specs.Outcomes.{IsCaused};
 ghost use Rattle.serde_json.specs.View.{view};
 
-use crate::collection::{Collection, Status};
-use crate::collection_calls::check_making;
+use crate::collection::{Collection, Status, check_making};
 use crate::contents::{Contents, read_contents};
 use bodies::put_first_body;
 use common::{Analyzer, Device};

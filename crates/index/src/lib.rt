@@ -4,12 +4,10 @@
 mod answers;
 mod body_reader;
 mod collection;
-mod collection_calls;
 mod contents;
 pub mod file_laws;
 mod index;
 mod json_replies;
-mod read_documents;
 mod requests;
 mod session;
 mod stage;
