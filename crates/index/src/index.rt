@@ -50,6 +50,20 @@ pub struct Refused<D, A> {
     pub analyzer: A,
 }
 
+/// The refusal alone: device and analyzer are dropped.
+impl<D: Drop, A: Drop> From<Refused<D, A>> for Fault {
+    ghost from_gives = { λ refused fault. fault ≡ refused.fault };
+
+    fn from(refused: Refused<D, A>) -> Fault {
+        let Refused {
+            fault,
+            device: _device,
+            analyzer: _analyzer,
+        } = refused;
+        fault
+    }
+}
+
 impl<D: Device + Drop, A: Analyzer + Drop> Index<D, A> {
     /// An index without documents, as the one record of an empty device's file. Refusals come in this order:
     /// `TooManyFields` past 65536 fields, `UnknownTokenizer`, `BadSettings` where a weighted term has no JSON form,
