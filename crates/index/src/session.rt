@@ -1,6 +1,6 @@
 //! A session: lines of JSON that speak to the index of a device.
 
-ghost use Rattle.std.specs.Prelude.{◌≡◌, IfErr, IfOk, IfSome, IsTrue, List, OnOk, Some, false, option_map, ℕ};
+ghost use Rattle.std.specs.Prelude.{◌≡◌, IfErr, IfOk, IfSome, IsTrue, List, OnOk, Some, false, is_some, option_map, true, ℕ};
 ghost use Rattle.std.specs.Cow.{cow_str_bytes};
 ghost use Rattle.definitions.specs.Built.{built_request_in};
 ghost use Rattle.definitions.specs.Calls as calls;
@@ -16,9 +16,8 @@ ghost use Rattle.serde_json.specs.View.{view};
 
 use crate::answers::{answer, answer_change, refusal};
 use crate::index::Index;
-use crate::making::read_making;
-use crate::requests::{IndexRequest, Request, request_in};
-use crate::stage::{Session, Stage};
+use crate::requests::{IndexRequest, Request, read_making, request_in};
+use crate::stage::Stage;
 use common::{Analyzer, Device, RunFault};
 use definitions::Fault;
 use schema::Schema;
@@ -28,6 +27,59 @@ use settings::Settings;
 use std::alloc::{AllocError, Global};
 use std::borrow::CowStr;
 use std::io::{BufRead, Write};
+
+/// A device, with the index on it where one stands, of which requests are made line by line.
+#[derive(Drop)]
+pub struct Session<D: Device, A: Analyzer> {
+    alloc: Global,
+    /// Taken out only while an index is made or opened.
+    stage: Option<Stage<D, A>>,
+    ghost full: { is_some stage ≡ true },
+}
+
+/// Answers the lines of an input one by one, until it ends, over a device on which no index stands yet.
+pub fn run<R: BufRead, W: Write, D: Device + Drop, A: Analyzer + Drop>(
+    alloc: Global,
+    reader: &mut R,
+    writer: &mut W,
+    device: D,
+    analyzer: A,
+) -> Result<(), RunFault>
+    // Of an honest device that holds no byte, or the file of an index, the replies follow from that and from the lines.
+    ensures { (held : steps.Held) → HasHeld D.honest D.content device held
+        → OnOk result (IfSome (R.remaining reader.old) (λ input.
+        Writes steps.answer_of steps.after_line (session_on (analysis_of A.knows_name A.analyze analyzer) held) (lines_of input) (W.contents writer.old) (W.contents writer.new))) }
+{
+    let mut session = Session::new(alloc, device, analyzer);
+    run_session(reader, writer, &mut session)
+}
+
+/// Answers the lines of an input one by one, until it ends.
+pub fn run_session<R: BufRead, W: Write, D: Device + Drop, A: Analyzer + Drop>(
+    reader: &mut R,
+    writer: &mut W,
+    session: &mut Session<D, A>,
+) -> Result<(), RunFault>
+    // Where the reader's bytes are known, the replies to its lines are written.
+    ensures { (s : steps.Session) → StandsFor session.old s
+        → OnOk result (IfSome (R.remaining reader.old) (λ input.
+        Writes steps.answer_of steps.after_line s (lines_of input) (W.contents writer.old) (W.contents writer.new))) }
+{
+    serve_lines::run(session.alloc, reader, writer, session)
+}
+
+/// The reply to one line of JSON, and what the session stands for after it. `OutOfMemory`, `Limit` and `Device` are
+/// the errors: after one the session need not stand for any state.
+pub fn reply<D: Device + Drop, A: Analyzer + Drop>(
+    session: &mut Session<D, A>,
+    line: &str,
+) -> Result<CowStr<'static>, Fault>
+    ensures text { (s : steps.Session) → StandsFor session.old s → IfOk result (λ text. cow_str_bytes text ≡ steps.answer_of s line.now) }
+    ensures state { (s : steps.Session) → StandsFor session.old s → OnOk result (StandsFor session.new (steps.after_line s line.now)) }
+    ensures err { IfErr result (λ fault. IsTrue (stops fault)) }
+{
+    session.reply(line)
+}
 
 impl<D: Device + Drop, A: Analyzer + Drop> Session<D, A> {
     /// A session over a device, in which no index stands.
@@ -51,7 +103,29 @@ impl<D: Device + Drop, A: Analyzer + Drop> Session<D, A> {
             stage: Some(Stage::Standing(index)),
         }
     }
+}
 
+impl<D: Device + Drop, A: Analyzer + Drop> Service for Session<D, A> {
+    ghost use Rattle.definitions.specs.Step as steps;
+    ghost use Rattle.index.specs.Sessions.{StandsFor};
+
+    ghost State = { steps.Session };
+
+    ghost stands = { StandsFor };
+
+    ghost answer = { steps.answer_of };
+
+    ghost after = { steps.after_line };
+
+    fn reply(&mut self, line: &str) -> Result<CowStr<'static>, Fault> {
+        match parse_line(self.alloc, line)? {
+            Some(json) => self.answer_value(&json),
+            None => Ok(CowStr::Borrowed(Fault::BadRequest.reply())),
+        }
+    }
+}
+
+impl<D: Device + Drop, A: Analyzer + Drop> Session<D, A> {
     /// Does what a value asks for.
     fn answer_value(&mut self, json: &Json) -> Result<CowStr<'static>, Fault>
         ensures answered { (s : steps.Session) → StandsFor self.old s → Replies self.new result (steps.step s (built_request_in (view json.now))) }
@@ -80,7 +154,7 @@ impl<D: Device + Drop, A: Analyzer + Drop> Session<D, A> {
         ensures answered { (s : steps.Session) → StandsFor self.old s → Replies self.new result (steps.step s (Some (requests.create_index (view schema.now) (option_map (λ d. view d.now) settings.entry)))) }
         ensures err { IfErr result (λ fault. IsTrue (stops fault)) }
     {
-        if self.is_ready() {
+        if self.has_ready_index() {
             return Ok(CowStr::Borrowed(Fault::AlreadyOpen.reply()));
         }
         match read_making(self.alloc, schema, settings) {
@@ -94,7 +168,7 @@ impl<D: Device + Drop, A: Analyzer + Drop> Session<D, A> {
         ensures answered { (s : steps.Session) → StandsFor self.old s → Replies self.new result (steps.step s (Some requests.open_index)) }
         ensures err { IfErr result (λ fault. IsTrue (stops fault)) }
     {
-        if self.is_ready() {
+        if self.has_ready_index() {
             return Ok(CowStr::Borrowed(Fault::AlreadyOpen.reply()));
         }
         answer_change(self.reopen())
@@ -109,16 +183,6 @@ impl<D: Device + Drop, A: Analyzer + Drop> Session<D, A> {
             Some(Stage::Standing(index)) => answer(index, request),
             Some(Stage::Spare(_, _)) => Ok(CowStr::Borrowed(Fault::NotOpen.reply())),
             None => unreachable!(),
-        }
-    }
-
-    /// Whether an index stands that takes every call.
-    fn is_ready(&self) -> bool
-        ensures { (s : steps.Session) → StandsFor self.now s → result ≡ steps.is_ready s.stage }
-    {
-        match &self.stage {
-            Some(stage) => stage.is_ready(),
-            None => false,
         }
     }
 
@@ -147,30 +211,20 @@ impl<D: Device + Drop, A: Analyzer + Drop> Session<D, A> {
         self.stage = Some(stage);
         change
     }
-}
 
-impl<D: Device + Drop, A: Analyzer + Drop> Service for Session<D, A> {
-    ghost use Rattle.definitions.specs.Step as steps;
-    ghost use Rattle.index.specs.Sessions.{StandsFor};
-
-    ghost State = { steps.Session };
-
-    ghost stands = { StandsFor };
-
-    ghost answer = { steps.answer_of };
-
-    ghost after = { steps.after_line };
-
-    fn reply(&mut self, line: &str) -> Result<CowStr<'static>, Fault> {
-        match read_line(self.alloc, line)? {
-            Some(json) => self.answer_value(&json),
-            None => Ok(CowStr::Borrowed(Fault::BadRequest.reply())),
+    /// Whether an index stands that takes every call.
+    fn has_ready_index(&self) -> bool
+        ensures { (s : steps.Session) → StandsFor self.now s → result ≡ steps.is_ready s.stage }
+    {
+        match &self.stage {
+            Some(stage) => stage.is_ready(),
+            None => false,
         }
     }
 }
 
 /// The value in a line, if it is JSON.
-fn read_line(alloc: Global, line: &str) -> Result<Option<Json>, AllocError>
+fn parse_line(alloc: Global, line: &str) -> Result<Option<Json>, AllocError>
     ensures { IfOk result (λ found. option_map view found ≡ read line.now) }
 {
     match Json::from_str(alloc, line) {
@@ -178,48 +232,4 @@ fn read_line(alloc: Global, line: &str) -> Result<Option<Json>, AllocError>
         Err(e) if e.is_memory() => Err(AllocError),
         Err(_) => Ok(None),
     }
-}
-
-/// The reply to one line of JSON, and what the session stands for after it. `OutOfMemory`, `Limit` and `Device` are
-/// the errors: after one the session need not stand for any state.
-pub fn reply<D: Device + Drop, A: Analyzer + Drop>(
-    session: &mut Session<D, A>,
-    line: &str,
-) -> Result<CowStr<'static>, Fault>
-    ensures text { (s : steps.Session) → StandsFor session.old s → IfOk result (λ text. cow_str_bytes text ≡ steps.answer_of s line.now) }
-    ensures state { (s : steps.Session) → StandsFor session.old s → OnOk result (StandsFor session.new (steps.after_line s line.now)) }
-    ensures err { IfErr result (λ fault. IsTrue (stops fault)) }
-{
-    session.reply(line)
-}
-
-/// Answers the lines of an input one by one, until it ends.
-pub fn run_session<R: BufRead, W: Write, D: Device + Drop, A: Analyzer + Drop>(
-    reader: &mut R,
-    writer: &mut W,
-    session: &mut Session<D, A>,
-) -> Result<(), RunFault>
-    // Where the reader's bytes are known, the replies to its lines are written.
-    ensures { (s : steps.Session) → StandsFor session.old s
-        → OnOk result (IfSome (R.remaining reader.old) (λ input.
-        Writes steps.answer_of steps.after_line s (lines_of input) (W.contents writer.old) (W.contents writer.new))) }
-{
-    serve_lines::run(session.alloc, reader, writer, session)
-}
-
-/// Answers the lines of an input one by one, until it ends, over a device on which no index stands yet.
-pub fn run<R: BufRead, W: Write, D: Device + Drop, A: Analyzer + Drop>(
-    alloc: Global,
-    reader: &mut R,
-    writer: &mut W,
-    device: D,
-    analyzer: A,
-) -> Result<(), RunFault>
-    // Of an honest device that holds no byte, or the file of an index, the replies follow from that and from the lines.
-    ensures { (held : steps.Held) → HasHeld D.honest D.content device held
-        → OnOk result (IfSome (R.remaining reader.old) (λ input.
-        Writes steps.answer_of steps.after_line (session_on (analysis_of A.knows_name A.analyze analyzer) held) (lines_of input) (W.contents writer.old) (W.contents writer.new))) }
-{
-    let mut session = Session::new(alloc, device, analyzer);
-    run_session(reader, writer, &mut session)
 }
