@@ -17,7 +17,7 @@ use common::Analyzer;
 use definitions::Fault;
 use document_values::{CompactDocArrayIter, CompactDocObjectIter, CompactDocValue};
 use schema::FieldEntry;
-use terms::{FastValue, Field};
+use terms::{FastValue, Field, has_zero};
 
 /// A JSON field whose terms are recorded.
 #[derive(Drop)]
@@ -144,13 +144,6 @@ fn index_member<'a, A: Analyzer>(
     index_leaves(indexer, analyzer, json_field, keys, value)?;
     keys.pop();
     Ok(())
-}
-
-/// Whether U+0000 stands in the key.
-fn has_zero(key: &str) -> bool
-    ensures { result ≡ has_zero key.now }
-{
-    key.as_bytes().iter().any(|byte| *byte == 0)
 }
 
 /// Records the tokens of a text at these keys, but for those that are too long.
