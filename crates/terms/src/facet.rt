@@ -78,6 +78,14 @@ impl Facet {
         Ok(Facet { encoded })
     }
 
+    /// The facet whose steps a text separates by U+0000: the one of which `encoded_str` gives that text.
+    pub fn from_separated(alloc: Global, text: &str) -> Result<Facet, AllocError>
+        ensures { IfOk result (λ facet. facet ≡ steps_of text.now) }
+    {
+        let encoded = String::from_str(alloc, text)?;
+        Ok(Facet { encoded })
+    }
+
     /// The steps with U+0000 between each two.
     pub fn encoded_str(&self) -> &str
         ensures value { result.now ≡ encoded self.now }
