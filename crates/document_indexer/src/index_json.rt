@@ -11,7 +11,6 @@ ghost use Rattle.layouts.specs.DocumentReading.{to_members, to_values};
 ghost use Rattle.document_indexer.specs.Contexts.{CanIndex, Records, Refuses};
 ghost use Rattle.document_indexer.specs.Steps.{fast_steps, leaves_steps, path_step, plain_leaf_steps};
 
-use crate::index_value::tokenizer_of;
 use crate::term_indexer::TermIndexer;
 use common::Analyzer;
 use definitions::Fault;
@@ -41,7 +40,7 @@ pub(crate) fn index_json<A: Analyzer>(
 {
     let json_field = JsonField {
         field,
-        tokenizer: tokenizer_of(entry),
+        tokenizer: entry.tokenizer(),
         expand_dots: entry.is_expand_dots_enabled(),
     };
     let mut keys = Vec::new(indexer.alloc());

@@ -27,7 +27,7 @@ use definitions::Fault;
 use document::CompactDoc;
 use plain::{AnyQuery, Hit, IndexedDoc, check_query, scan, scan_count};
 use records::{finish_frame, start_frame};
-use schema::{FieldEntry, FieldType, Schema};
+use schema::{FieldEntry, Schema, Type};
 use serde_json::Value as Json;
 use settings::Settings;
 use std::alloc::{AllocError, Global};
@@ -300,19 +300,14 @@ pub(crate) fn are_analyzed<A: Analyzer>(analyzer: &A, schema: &Schema) -> bool
 fn is_analyzed<A: Analyzer>(analyzer: &A, entry: &FieldEntry) -> bool
     ensures { result ≡ is_analyzed (A.knows_name analyzer.now) entry.now }
 {
-    let indexing = match entry.field_type() {
-        FieldType::Str(options) => options.get_indexing_options(),
-        FieldType::JsonObject(options) => options.get_text_indexing_options(),
-        FieldType::U64(_)
-        | FieldType::I64(_)
-        | FieldType::Bool(_)
-        | FieldType::Date(_)
-        | FieldType::Facet(_)
-        | FieldType::Bytes(_)
-        | FieldType::IpAddr(_) => None,
-    };
-    match indexing {
-        Some(indexing) => analyzer.knows(indexing.tokenizer()),
-        None => true,
+    match entry.value_type() {
+        Type::Str | Type::Json => !entry.is_indexed() || analyzer.knows(entry.tokenizer()),
+        Type::U64
+        | Type::I64
+        | Type::Bool
+        | Type::Date
+        | Type::Facet
+        | Type::Bytes
+        | Type::IpAddr => true,
     }
 }
