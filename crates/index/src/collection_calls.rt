@@ -21,7 +21,7 @@ ghost use Rattle.serde_json.specs.View.{view};
 
 use crate::collection::{Collection, Status};
 use crate::read_documents::{put_documents, read_document, read_document_text};
-use bodies::put_docs_head;
+use bodies::{MAX_INDEX_FIELDS, put_docs_head};
 use common::Analyzer;
 use definitions::Fault;
 use document::CompactDoc;
@@ -259,9 +259,6 @@ impl<A: Analyzer + Drop> Collection<A> {
         }
     }
 }
-
-/// The most fields of an index.
-const MAX_INDEX_FIELDS: usize = 65536;
 
 /// Whether an index can be made of the analyzer, the schema and the settings.
 pub(crate) fn check_making<A: Analyzer>(
