@@ -13,7 +13,7 @@ use settings::Settings;
 use std::alloc::{AllocError, Global};
 
 /// The most fields of an index.
-const MAX_FIELDS: usize = 65536;
+pub const MAX_INDEX_FIELDS: usize = 65536;
 
 /// Appends byte 1, and the compact JSON of a schema and settings.
 #[tactic(auto, unfolding(layouts::specs::RecordBodies::first_body, layouts::specs::RecordBodies::first_in))]
@@ -91,7 +91,7 @@ fn read_made(alloc: Global, json: &Json) -> Result<Option<(Schema, Settings)>, A
     let Some(settings) = read_settings(alloc, &schema, json)? else {
         return Ok(None);
     };
-    if schema.num_fields() > MAX_FIELDS || !settings.names_weights(alloc, &schema)? {
+    if schema.num_fields() > MAX_INDEX_FIELDS || !settings.names_weights(alloc, &schema)? {
         return Ok(None);
     }
     Ok(Some((schema, settings)))

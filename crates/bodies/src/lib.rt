@@ -8,4 +8,4 @@ pub mod laws;
 
 pub use docs_put::{put_docs_head, put_document};
 pub use docs_taken::read_docs_body;
-pub use first_bodies::{put_first_body, read_first_body};
+pub use first_bodies::{MAX_INDEX_FIELDS, put_first_body, read_first_body};

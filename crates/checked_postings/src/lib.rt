@@ -12,3 +12,4 @@ mod term_positions;
 mod term_postings;
 
 pub use term::check_term;
+pub use term_postings::recorded_of;

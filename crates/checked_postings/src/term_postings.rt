@@ -15,8 +15,8 @@ use fieldnorms::FieldNormReader;
 use options::IndexRecordOption;
 use skips::{Recorded, SkipReader};
 
-/// What is recorded of a term beside its documents.
-pub(crate) fn recorded_of(option: IndexRecordOption) -> Recorded
+/// What is recorded of a term beside its documents, under the option of its field.
+pub fn recorded_of(option: IndexRecordOption) -> Recorded
     ensures counts { result.counts ≡ has_freq (record_option_of option) }
     ensures positions { result.positions ≡ has_positions (record_option_of option) }
 {

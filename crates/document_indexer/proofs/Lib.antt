@@ -1,7 +1,6 @@
 -- Lemmas behind the indexing of documents.
 pub mod KeptStarts
 pub mod Recording
-pub mod EntryKinds
 pub mod Seen
 pub mod PathTerms
 pub mod FacetSteps

@@ -11,13 +11,12 @@ ghost use Rattle.layouts.specs.DocumentReading.{to_members, to_values};
 ghost use Rattle.document_indexer.specs.Contexts.{CanIndex, Records, Refuses};
 ghost use Rattle.document_indexer.specs.Steps.{fast_steps, leaves_steps, path_step, plain_leaf_steps};
 
-use crate::index_value::tokenizer_of;
 use crate::term_indexer::TermIndexer;
 use common::Analyzer;
 use definitions::Fault;
 use document_values::{CompactDocArrayIter, CompactDocObjectIter, CompactDocValue};
 use schema::FieldEntry;
-use terms::{FastValue, Field};
+use terms::{FastValue, Field, has_zero};
 
 /// A JSON field whose terms are recorded.
 #[derive(Drop)]
@@ -41,7 +40,7 @@ pub(crate) fn index_json<A: Analyzer>(
 {
     let json_field = JsonField {
         field,
-        tokenizer: tokenizer_of(entry),
+        tokenizer: entry.tokenizer(),
         expand_dots: entry.is_expand_dots_enabled(),
     };
     let mut keys = Vec::new(indexer.alloc());
@@ -144,13 +143,6 @@ fn index_member<'a, A: Analyzer>(
     index_leaves(indexer, analyzer, json_field, keys, value)?;
     keys.pop();
     Ok(())
-}
-
-/// Whether U+0000 stands in the key.
-fn has_zero(key: &str) -> bool
-    ensures { result ≡ has_zero key.now }
-{
-    key.as_bytes().iter().any(|byte| *byte == 0)
 }
 
 /// Records the tokens of a text at these keys, but for those that are too long.

@@ -3,7 +3,6 @@
 ghost use Rattle.std.specs.Prelude.{◌≡◌, IfErr, OnOk};
 ghost use Rattle.definitions.specs.Schema.{bool_kind, bytes_kind, date_kind, i64_kind, ip_addr_kind, text_kind, u64_kind};
 ghost use Rattle.document_values.specs.Shown.{value_of};
-ghost use Rattle.terms.specs.Kinds.{kind_of};
 ghost use Rattle.document_indexer.specs.Contexts.{CanIndex, Records, Refuses};
 ghost use Rattle.document_indexer.specs.Steps.{kind_steps, plain_steps, text_steps};
 
@@ -13,7 +12,7 @@ use crate::term_indexer::TermIndexer;
 use common::Analyzer;
 use definitions::Fault;
 use document_values::CompactDocValue;
-use schema::{FieldEntry, FieldType};
+use schema::FieldEntry;
 use terms::{FastValue, Field, Type};
 
 /// Records the terms of a value of an indexed field.
@@ -28,7 +27,7 @@ pub(crate) fn index_value<A: Analyzer>(
     ensures ok { OnOk result (Records indexer.old indexer.new (kind_steps entry.now.kind (A.analyze analyzer.now) field entry.now (value_of value.entry))) }
     ensures err { IfErr result (Refuses indexer.old (kind_steps entry.now.kind (A.analyze analyzer.now) field entry.now (value_of value.entry))) }
 {
-    match type_of(entry) {
+    match entry.value_type() {
         Type::Str => index_text(indexer, analyzer, field, entry, value),
         Type::Json => index_json(indexer, analyzer, field, entry, value),
         Type::Facet => index_facet(indexer, field, value),
@@ -38,30 +37,6 @@ pub(crate) fn index_value<A: Analyzer>(
         Type::Date => index_date(indexer, field, value),
         Type::Bytes => index_bytes(indexer, field, value),
         Type::IpAddr => index_ip_addr(indexer, field, value),
-    }
-}
-
-/// The type of a field's values.
-#[tactic(auto, using(crate::proofs::EntryKinds::kind_of_type))]
-fn type_of(entry: &FieldEntry) -> Type
-    ensures { kind_of result ≡ entry.now.kind }
-{
-    entry.field_type().value_type()
-}
-
-/// The name of the field's tokenizer, and no text where it has none.
-#[tactic(auto, using(crate::proofs::EntryKinds::tokenizer_of_type))]
-pub(crate) fn tokenizer_of(entry: &FieldEntry) -> &str
-    ensures { result.now ≡ entry.now.tokenizer }
-{
-    let indexing = match entry.field_type() {
-        FieldType::Str(options) => options.get_indexing_options(),
-        FieldType::JsonObject(options) => options.get_text_indexing_options(),
-        _ => None,
-    };
-    match indexing {
-        Some(indexing) => indexing.tokenizer(),
-        None => "",
     }
 }
 
@@ -79,7 +54,7 @@ fn index_text<A: Analyzer>(
 {
     match value {
         CompactDocValue::Str(text) => {
-            let tokens = analyzer.tokens(indexer.alloc(), tokenizer_of(entry), text)?;
+            let tokens = analyzer.tokens(indexer.alloc(), entry.tokenizer(), text)?;
             indexer.index_text(field, &tokens)
         }
         CompactDocValue::PreTokStr(text) => {

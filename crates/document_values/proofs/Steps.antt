@@ -98,17 +98,8 @@ chars_steps (c ∷ cs) h =
     let are = and_parts (scalar c) (scalars cs) h in
     steps_more c (encodes cs) (char_text c are.0) (chars_steps cs are.1)
 
-pub some_steps : (text : List ℕ) → steps_in text ≢ []
+some_steps : (text : List ℕ) → steps_in text ≢ []
 some_steps text e = (let more : length (steps_in text) ≡ count_by (λ b. eqb b 0) text + 1 = length-slice_split (λ b. eqb b 0) text in let none : length (steps_in text) ≡ 0 = ap length e in omega arith)
 
 pub steps_are_facet : (text : List ℕ) → IsUtf8 text → IsFacet (steps_in text)
 steps_are_facet text utf8 = (some_steps text, subst (λ bs. AllByRecursion IsStep (steps_in bs)) utf8.1.1 (chars_steps utf8.0 utf8.1.0))
-
--- a facet that is made of steps has these
-pub made_of_steps : (steps made : List (List ℕ)) → steps ≢ [] → facet_of_steps steps ≡ Some made → made ≡ steps
-made_of_steps [] made some e = absurd (some refl)
-made_of_steps (s ∷ steps) made some e = go (list_any (list_any (◌==◌ 0)) (s ∷ steps)) e
-  where
-    go : (t : Bool) → (if t then None else Some (s ∷ steps)) ≡ Some made → made ≡ s ∷ steps
-    go true e = cc
-    go false e = cc

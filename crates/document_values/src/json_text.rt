@@ -12,10 +12,10 @@ ghost use Rattle.serde_json.specs.Written.{outline};
 
 use crate::compact_value::CompactDocValue;
 use crate::iterators::{CompactDocArrayIter, CompactDocObjectIter};
-use crate::owning::own_facet;
 use json::Writer;
 use std::alloc::{AllocError, Global};
 use std::collections::BTreeMap;
+use terms::Facet;
 use values_json::{address_text, bytes_text, date_text};
 
 /// Writes a value: dates, facets, byte strings and addresses as texts, a pre-tokenised text as its text.
@@ -99,5 +99,5 @@ fn by_key<'a>(
 fn path_text(alloc: Global, steps: &str) -> Result<String, AllocError>
     ensures { IfOk result (λ path. string_bytes path ≡ path_of (steps_in steps.now)) }
 {
-    own_facet(alloc, steps)?.to_path_string(alloc)
+    Facet::from_separated(alloc, steps)?.to_path_string(alloc)
 }

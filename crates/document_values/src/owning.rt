@@ -1,9 +1,8 @@
 //! Values copied out of a document.
 
-ghost use Rattle.std.specs.Prelude.{◌≡◌, IfOk, map};
+ghost use Rattle.std.specs.Prelude.{◌≡◌, IfOk};
 ghost use Rattle.document_values.specs.Owned.{owned_members, owned_value, owned_values};
 ghost use Rattle.document_values.specs.Shown.{value_of};
-ghost use Rattle.layouts.specs.DocumentReading.{steps_in};
 
 use crate::compact_value::CompactDocValue;
 use crate::iterators::{CompactDocArrayIter, CompactDocObjectIter};
@@ -34,7 +33,7 @@ fn own(alloc: Global, value: CompactDocValue<'_>) -> Result<OwnedValue, AllocErr
         CompactDocValue::I64(n) => Ok(OwnedValue::I64(n)),
         CompactDocValue::Bool(b) => Ok(OwnedValue::Bool(b)),
         CompactDocValue::Date(time) => Ok(OwnedValue::Date(time)),
-        CompactDocValue::Facet(steps) => Ok(OwnedValue::Facet(own_facet(alloc, steps)?)),
+        CompactDocValue::Facet(steps) => Ok(OwnedValue::Facet(Facet::from_separated(alloc, steps)?)),
         CompactDocValue::Bytes(bytes) => Ok(OwnedValue::Bytes(Vec::from_slice(alloc, bytes)?)),
         CompactDocValue::IpAddr(address) => Ok(OwnedValue::IpAddr(address)),
         CompactDocValue::Array(values) => Ok(OwnedValue::Array(own_values(alloc, values)?)),
@@ -66,23 +65,4 @@ fn own_members(
         owned.push((name, own(alloc, value)?))?;
     }
     Ok(owned)
-}
-
-/// The facet whose steps a text parts by U+0000.
-pub(crate) fn own_facet(alloc: Global, steps: &str) -> Result<Facet, AllocError>
-    ensures { IfOk result (λ facet. facet ≡ steps_in steps.now) }
-{
-    let path = path_in(alloc, steps)?;
-    // No step holds U+0000, so this is refused for want of memory alone.
-    match Facet::from_path(alloc, path.as_slice()) {
-        Ok(facet) => Ok(facet),
-        Err(_) => Err(AllocError),
-    }
-}
-
-/// The parts of a text between U+0000.
-fn path_in(alloc: Global, steps: &str) -> Result<Vec<&str>, AllocError>
-    ensures { IfOk result (λ path. map (λ step. step.now) path.items ≡ steps_in steps.now) }
-{
-    steps.split('\u{0}').collect(alloc)
 }

@@ -20,7 +20,7 @@ ghost use Rattle.plain.specs.Queries.{query_of};
 ghost use Rattle.records.specs.Frames.{frame_bytes};
 ghost use Rattle.serde_json.specs.View.{view};
 
-use bodies::{put_docs_head, put_document};
+use bodies::{MAX_INDEX_FIELDS, put_docs_head, put_document};
 use common::Analyzer;
 use definitions::Fault;
 use document::CompactDoc;
@@ -28,7 +28,7 @@ use plain::{
     AnyQuery, Hit, IndexedDoc, check_query, read_document, read_document_text, scan, scan_count,
 };
 use records::{finish_frame, start_frame};
-use schema::{FieldEntry, FieldType, Schema};
+use schema::{FieldEntry, Schema, Type};
 use serde_json::Value as Json;
 use settings::Settings;
 use std::alloc::{AllocError, Global};
@@ -284,9 +284,6 @@ impl<A: Analyzer + Drop> Collection<A> {
     }
 }
 
-/// The most fields of an index.
-const MAX_INDEX_FIELDS: usize = 65536;
-
 /// Whether an index can be made of the analyzer, the schema and the settings.
 pub(crate) fn check_making<A: Analyzer>(
     alloc: Global,
@@ -324,20 +321,15 @@ pub(crate) fn are_analyzed<A: Analyzer>(analyzer: &A, schema: &Schema) -> bool
 fn is_analyzed<A: Analyzer>(analyzer: &A, entry: &FieldEntry) -> bool
     ensures { result ≡ is_analyzed (A.knows_name analyzer.now) entry.now }
 {
-    let indexing = match entry.field_type() {
-        FieldType::Str(options) => options.get_indexing_options(),
-        FieldType::JsonObject(options) => options.get_text_indexing_options(),
-        FieldType::U64(_)
-        | FieldType::I64(_)
-        | FieldType::Bool(_)
-        | FieldType::Date(_)
-        | FieldType::Facet(_)
-        | FieldType::Bytes(_)
-        | FieldType::IpAddr(_) => None,
-    };
-    match indexing {
-        Some(indexing) => analyzer.knows(indexing.tokenizer()),
-        None => true,
+    match entry.value_type() {
+        Type::Str | Type::Json => !entry.is_indexed() || analyzer.knows(entry.tokenizer()),
+        Type::U64
+        | Type::I64
+        | Type::Bool
+        | Type::Date
+        | Type::Facet
+        | Type::Bytes
+        | Type::IpAddr => true,
     }
 }
 

@@ -7,20 +7,10 @@ ghost use Rattle.inverted_index_reader.specs.OpenedTerms.{HasTerm, entry_as};
 ghost use Rattle.options.specs.RecordOption.{record_option_of};
 ghost use Rattle.segment_postings.specs.Cursors.{blocks_decoded, counts_left, cursor_blocks_decoded, cursor_doc_freq, doc_freq_of, docs_left, entries_left};
 
+use checked_postings::recorded_of;
 use options::IndexRecordOption;
 use positions::PositionReader;
 use segment_postings::{BlockSegmentPostings, SegmentPostings};
-use skips::Recorded;
-
-/// What an option records.
-fn recorded_of(option: IndexRecordOption) -> Recorded
-    ensures { (result.counts ≡ has_freq (record_option_of option)) × (result.positions ≡ has_positions (record_option_of option)) }
-{
-    Recorded {
-        counts: option.has_freq(),
-        positions: option.has_positions(),
-    }
-}
 
 /// Whether counts are read: where they are recorded, and asked for.
 fn reads_counts(option: IndexRecordOption, asked: IndexRecordOption) -> bool

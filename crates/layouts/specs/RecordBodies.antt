@@ -5,6 +5,7 @@ use Rattle.std.specs.Option.{option_map_or}
 use Rattle.std.specs.Result.{result_ok}
 use Rattle.std.specs.Str.{is_utf8}
 use Rattle.definitions.specs.Json.{has_only, object_of, only_if, ◌>>=◌}
+use Rattle.definitions.specs.Making.{max_index_fields}
 use Rattle.definitions.specs.NumberCodes.{take_u64, take_vint, u64_bytes}
 use Rattle.definitions.specs.Schema.{Schema}
 use Rattle.definitions.specs.SchemaGrammar.{schema_data, schema_in}
@@ -19,10 +20,6 @@ use Rattle.serde_json.specs.Written.{compact_text}
 use Rattle.serde_json.specs.Data as json
 
 -- ---- what an index is made of
-
--- the most fields of an index
-abbrev pub max_index_fields : ℕ
-max_index_fields = 65536
 
 -- a schema and settings as JSON
 abbrev pub made_data : Schema → Settings → json.Data

@@ -32,18 +32,6 @@ option_of_type e (types.Bytes o) of_type = sym (ap (λ d. d.record_option) of_ty
 option_of_type e (types.JsonObject o) of_type = sym (ap (λ d. d.record_option) of_type)
 option_of_type e (types.IpAddr o) of_type = sym (ap (λ d. d.record_option) of_type)
 
--- and has its tokenizer
-tokenizer_by_type : (e : Entry) (t : FieldType) → entry_of e.name t ≡ e → e.tokenizer ≡ (entry_of [] t).tokenizer
-tokenizer_by_type e (types.Str o) of_type = sym (ap (λ d. d.tokenizer) of_type)
-tokenizer_by_type e (types.U64 o) of_type = sym (ap (λ d. d.tokenizer) of_type)
-tokenizer_by_type e (types.I64 o) of_type = sym (ap (λ d. d.tokenizer) of_type)
-tokenizer_by_type e (types.Bool o) of_type = sym (ap (λ d. d.tokenizer) of_type)
-tokenizer_by_type e (types.Date o) of_type = sym (ap (λ d. d.tokenizer) of_type)
-tokenizer_by_type e (types.Facet o) of_type = sym (ap (λ d. d.tokenizer) of_type)
-tokenizer_by_type e (types.Bytes o) of_type = sym (ap (λ d. d.tokenizer) of_type)
-tokenizer_by_type e (types.JsonObject o) of_type = sym (ap (λ d. d.tokenizer) of_type)
-tokenizer_by_type e (types.IpAddr o) of_type = sym (ap (λ d. d.tokenizer) of_type)
-
 -- and is indexed where the type says so
 indexed_by_type : (e : Entry) (t : FieldType) → entry_of e.name t ≡ e → is_indexed e ≡ is_indexed (entry_of [] t)
 indexed_by_type e (types.Str o) of_type = sym (ap (λ d. is_indexed d) of_type)
@@ -56,10 +44,7 @@ indexed_by_type e (types.Bytes o) of_type = sym (ap (λ d. is_indexed d) of_type
 indexed_by_type e (types.JsonObject o) of_type = sym (ap (λ d. is_indexed d) of_type)
 indexed_by_type e (types.IpAddr o) of_type = sym (ap (λ d. is_indexed d) of_type)
 
--- the tokenizer, from what the type says of it
-pub tokenizer_of_type : (e : Entry) (t : FieldType) (s : List ℕ) → entry_of e.name t ≡ e → s ≡ (entry_of [] t).tokenizer → s ≡ e.tokenizer
-tokenizer_of_type e t s of_type is = is ∙ sym (tokenizer_by_type e t of_type)
-
+-- a text kind is that of texts
 text_from : (kind : Kind) → is_text kind ≡ true → kind ≡ text_kind
 text_from text_kind h = refl
 text_from u64_kind h = absurd (true≢false (sym h))

@@ -13,7 +13,7 @@ ghost use Rattle.plain.specs.IndexedDocs.{leaves_terms, path_token_terms, plain_
 use common::{Analyzer, MAX_TOKEN_LEN, Token};
 use document_values::{CompactDocArrayIter, CompactDocObjectIter, CompactDocValue};
 use std::alloc::{AllocError, Global};
-use terms::{FastValue, Field, Term};
+use terms::{FastValue, Field, Term, has_zero};
 
 /// A JSON field whose terms are added.
 #[derive(Drop)]
@@ -138,13 +138,6 @@ fn push_member<'a, A: Analyzer>(
     push_leaves(alloc, analyzer, json_field, keys, value, terms)?;
     keys.pop();
     Ok(())
-}
-
-/// Whether U+0000 stands in the key.
-fn has_zero(key: &str) -> bool
-    ensures { result ≡ has_zero key.now }
-{
-    key.as_bytes().iter().any(|byte| *byte == 0)
 }
 
 /// Adds the terms of a text's tokens at these keys, but for tokens that are too long.

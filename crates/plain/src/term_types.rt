@@ -7,7 +7,6 @@ ghost use Rattle.definitions.specs.Schema.{is_text, json_kind};
 ghost use Rattle.definitions.specs.Terms.{has_kind, inner_kind, is_text_term, leaf_kinds, type_code};
 ghost use Rattle.terms.specs.Kinds.{kind_of};
 
-use crate::value_terms::type_of;
 use schema::FieldEntry;
 use terms::{Term, Type};
 
@@ -15,7 +14,7 @@ use terms::{Term, Type};
 pub(crate) fn is_of_field(entry: &FieldEntry, term: &Term) -> bool
     ensures { result ≡ has_kind entry.now.kind term.now }
 {
-    has_type(term, type_of(entry))
+    has_type(term, entry.value_type())
 }
 
 /// Whether the term is a JSON term without the code of a leaf behind its path.

@@ -7,13 +7,12 @@ ghost use Rattle.definitions.specs.Terms.{term_bytes, value_bytes};
 ghost use Rattle.common.specs.Token.{token_of};
 ghost use Rattle.document_values.specs.Shown.{value_of};
 ghost use Rattle.plain.specs.IndexedDocs.{as_list, entry_terms, kind_terms, own_terms, text_terms, token_terms};
-ghost use Rattle.terms.specs.Kinds.{kind_of};
 
 use crate::facet_terms::push_facet_terms;
 use crate::json_terms::push_json_terms;
 use common::{Analyzer, MAX_TOKEN_LEN, Token};
 use document_values::CompactDocValue;
-use schema::{FieldEntry, FieldType, Schema};
+use schema::{FieldEntry, Schema};
 use std::alloc::{AllocError, Global};
 use std::net::Ipv6Addr;
 use terms::{Field, Term, Type};
@@ -50,15 +49,15 @@ fn push_terms<A: Analyzer>(
 ) -> Result<(), AllocError>
     ensures { let e = entry.now in OnOk result (terms.new.items ≡ terms.old.items ++ kind_terms e.kind (A.analyze analyzer.now) field e.tokenizer e.expand_dots (value_of value.entry)) }
 {
-    match type_of(entry) {
-        Type::Str => push_text_terms(alloc, analyzer, field, tokenizer_of(entry), value, terms),
+    match entry.value_type() {
+        Type::Str => push_text_terms(alloc, analyzer, field, entry.tokenizer(), value, terms),
         Type::Json => {
             let dots = entry.is_expand_dots_enabled();
             push_json_terms(
                 alloc,
                 analyzer,
                 field,
-                tokenizer_of(entry),
+                entry.tokenizer(),
                 dots,
                 value,
                 terms,
@@ -71,30 +70,6 @@ fn push_terms<A: Analyzer>(
         Type::Date => push_found(date_term(alloc, field, value)?, terms),
         Type::Bytes => push_found(bytes_term(alloc, field, value)?, terms),
         Type::IpAddr => push_found(ip_addr_term(alloc, field, value)?, terms),
-    }
-}
-
-/// The type of a field's values.
-#[tactic(auto, using(crate::proofs::EntryKinds::kind_of_type))]
-pub(crate) fn type_of(entry: &FieldEntry) -> Type
-    ensures { kind_of result ≡ entry.now.kind }
-{
-    entry.field_type().value_type()
-}
-
-/// The name of the field's tokenizer, and no text where it has none.
-#[tactic(auto, using(crate::proofs::EntryKinds::tokenizer_of_type))]
-fn tokenizer_of(entry: &FieldEntry) -> &str
-    ensures { result.now ≡ entry.now.tokenizer }
-{
-    let indexing = match entry.field_type() {
-        FieldType::Str(options) => options.get_indexing_options(),
-        FieldType::JsonObject(options) => options.get_text_indexing_options(),
-        _ => None,
-    };
-    match indexing {
-        Some(indexing) => indexing.tokenizer(),
-        None => "",
     }
 }
 

@@ -73,13 +73,6 @@ fn index_record_option(entry: &FieldEntry) -> IndexRecordOption
         .unwrap_or(IndexRecordOption::Basic)
 }
 
-/// A field's type.
-fn value_type(entry: &FieldEntry) -> Type
-    ensures { kind_of result ≡ entry.now.kind }
-{
-    entry.field_type().value_type()
-}
-
 /// Writes terms of a field of a type, one after another.
 fn serialize_terms<'a>(
     alloc: Global,
@@ -130,7 +123,7 @@ impl FieldPostings {
             option,
             fieldnorm_reader,
         );
-        serialize_terms(alloc, value_type(entry), &terms, &mut field_serializer)?;
+        serialize_terms(alloc, entry.value_type(), &terms, &mut field_serializer)?;
         Ok(field_serializer.close()?)
     }
 }

@@ -179,6 +179,28 @@ impl FieldEntry {
         &self.field_type
     }
 
+    /// The type of the field's values.
+    pub fn value_type(&self) -> Type
+        ensures { kind_of result ≡ self.now.kind }
+    {
+        self.field_type.value_type()
+    }
+
+    /// The name of the tokenizer of the field's texts, and no text where they aren't indexed or there are none.
+    pub fn tokenizer(&self) -> &str
+        ensures { result.now ≡ self.now.tokenizer }
+    {
+        let indexing = match &self.field_type {
+            FieldType::Str(options) => options.get_indexing_options(),
+            FieldType::JsonObject(options) => options.get_text_indexing_options(),
+            _ => None,
+        };
+        match indexing {
+            Some(indexing) => indexing.tokenizer(),
+            None => "",
+        }
+    }
+
     /// Whether documents are found by the field's values.
     pub fn is_indexed(&self) -> bool
         ensures { result ≡ is_indexed self.now }

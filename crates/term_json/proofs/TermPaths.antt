@@ -45,20 +45,3 @@ parts_at c bs = same_parts (λ b. b == c) (◌==◌ c) (λ b. grind (arith, nat_
 pub texts_of : (keys : List (Bor (List ℕ))) → map (λ k. string k.now) keys ≡ map string (map (λ k. k.now) keys)
 texts_of [] = refl
 texts_of (k ∷ keys) = ap (λ (ds : List Data). string k.now ∷ ds) (texts_of keys)
-
--- there is a part
-some_part : (test : ℕ → Bool) (bs : List ℕ) → slice_split test bs ≢ []
-some_part test bs none = (let more : length (slice_split test bs) ≡ count_by test bs + 1 = length-slice_split test bs in let zero : length (slice_split test bs) ≡ 0 = ap length none in omega (arith, more, zero))
-
--- a facet that is made of steps has these
-made_of_steps : (steps made : List (List ℕ)) → steps ≢ [] → facet_of_steps steps ≡ Some made → made ≡ steps
-made_of_steps [] made some is = absurd (some refl)
-made_of_steps (s ∷ steps) made some is = go (list_any (list_any (◌==◌ 0)) (s ∷ steps)) is
-  where
-    go : (t : Bool) → (if t then None else Some (s ∷ steps)) ≡ Some made → made ≡ s ∷ steps
-    go true e = cc
-    go false e = cc
-
--- a facet of a text's parts has these
-pub facet_of_parts : (test : ℕ → Bool) (bs : List ℕ) (facet : List (List ℕ)) → facet_of_steps (slice_split test bs) ≡ Some facet → facet ≡ slice_split test bs
-facet_of_parts test bs facet made = made_of_steps (slice_split test bs) facet (some_part test bs) made

@@ -2,7 +2,6 @@
 
 ghost use Rattle.std.specs.Prelude.{◌++◌, ◌≡◌, IfOk, Some, map, option_map};
 ghost use Rattle.definitions.specs.Json.{each};
-ghost use Rattle.definitions.specs.JsonLeaves.{has_zero};
 ghost use Rattle.definitions.specs.TermGrammar as definitions;
 ghost use Rattle.definitions.specs.Terms.{type_code, value_bytes};
 ghost use Rattle.definitions.specs.Values.{date};
@@ -13,7 +12,7 @@ ghost use Rattle.term_json.specs.Terms.{date_term, leaf_term};
 use json_keys::{has_only, has_only_beside, text_at};
 use serde_json::{Number, Value as Json};
 use std::alloc::{AllocError, Global};
-use terms::{DateTime, FastValue, Field, Term};
+use terms::{DateTime, FastValue, Field, Term, has_zero};
 use values_json::read_date;
 
 /// The term of a JSON field: its name, the path of a value and the value, beside these further keys. With
@@ -79,13 +78,6 @@ fn read_key(json: &Json) -> Option<&str>
 {
     let key = json.as_str()?;
     if has_zero(key) { None } else { Some(key) }
-}
-
-/// Whether U+0000 stands in a key.
-fn has_zero(key: &str) -> bool
-    ensures { result ≡ has_zero key.now }
-{
-    key.as_bytes().contains(&0)
 }
 
 /// The term that begins so and ends in a value: a text, a whole number, a bool or a date.

@@ -54,20 +54,8 @@ fn facet_of_bytes(alloc: Global, bytes: &[u8]) -> Result<Option<Facet>, AllocErr
     ensures { IfOk result (λ found. found ≡ only_if (is_utf8 bytes.now) (Some (slice_split (◌==◌ 0) bytes.now))) }
 {
     match str::from_utf8(bytes) {
-        Ok(steps) => Ok(Some(facet_of_text(alloc, steps)?)),
+        Ok(steps) => Ok(Some(Facet::from_separated(alloc, steps)?)),
         Err(_) => Ok(None),
-    }
-}
-
-/// The facet whose steps a text parts by U+0000.
-fn facet_of_text(alloc: Global, text: &str) -> Result<Facet, AllocError>
-    ensures { IfOk result (λ facet. facet ≡ slice_split (◌==◌ 0) text.now) }
-{
-    let steps = parts(alloc, text, '\u{0}')?;
-    // No step holds U+0000, so this is refused for want of memory alone.
-    match Facet::from_path(alloc, steps.as_slice()) {
-        Ok(facet) => Ok(facet),
-        Err(_) => Err(AllocError),
     }
 }
 

@@ -8,6 +8,7 @@ ghost use Rattle.definitions.specs.Values.{IsFacet};
 ghost use Rattle.definitions.specs.declared.fault.Fault.TheVariants as faults;
 ghost use Rattle.terms.specs.Steps.{in_path, steps_of};
 
+use crate::json_path::has_zero;
 use definitions::Fault;
 use std::alloc::{AllocError, Global};
 use std::marker::Model;
@@ -58,7 +59,7 @@ impl Facet {
         let Some(steps) = after_slash(path) else {
             return Err(Fault::FacetParseError);
         };
-        if has_separator(steps) {
+        if has_zero(steps) {
             return Err(Fault::FacetParseError);
         }
         let encoded = encoded_steps(alloc, steps)?;
@@ -74,6 +75,14 @@ impl Facet {
             return Err(Fault::FacetParseError);
         }
         let encoded = joined_steps(alloc, path)?;
+        Ok(Facet { encoded })
+    }
+
+    /// The facet whose steps a text separates by U+0000: the one of which `encoded_str` gives that text.
+    pub fn from_separated(alloc: Global, text: &str) -> Result<Facet, AllocError>
+        ensures { IfOk result (λ facet. facet ≡ steps_of text.now) }
+    {
+        let encoded = String::from_str(alloc, text)?;
         Ok(Facet { encoded })
     }
 
@@ -119,18 +128,11 @@ fn after_slash(path: &str) -> Option<&str>
     path.strip_prefix('/')
 }
 
-/// Whether U+0000 stands in a text.
-fn has_separator(text: &str) -> bool
-    ensures { result ≡ list_any (◌==◌ 0) text.now }
-{
-    text.as_bytes().contains(&FACET_SEP_BYTE)
-}
-
 /// Whether U+0000 stands in any step.
 fn any_has_separator(path: &[&str]) -> bool
     ensures { result ≡ list_any (λ step. list_any (◌==◌ 0) step.now) path.now }
 {
-    path.iter().any(|step| has_separator(step))
+    path.iter().any(|step| has_zero(step))
 }
 
 /// The steps with U+0000 between each two.

@@ -1,6 +1,7 @@
 //! Paths of keys in terms of JSON fields.
 
 ghost use Rattle.std.specs.Prelude.{[], ◌++◌, ◌∷◌, ◌≡◌, ◌≢◌, List, OnOk, false, map, ℕ};
+ghost use Rattle.definitions.specs.JsonLeaves.{has_zero};
 ghost use Rattle.definitions.specs.Terms.{key_bytes, path_of_keys};
 ghost use Rattle.terms.specs.JsonPaths.{keys_from, keys_in};
 
@@ -8,6 +9,13 @@ use std::alloc::AllocError;
 
 /// What stands between two keys.
 const KEY_SEP: u8 = 1;
+
+/// Whether a byte 0 is in a key. In a term 0 ends the path, so that no path has such a key.
+pub fn has_zero(key: &str) -> bool
+    ensures { result ≡ has_zero key.now }
+{
+    key.as_bytes().contains(&0)
+}
 
 /// Appends the path of the keys that a text names.
 pub(crate) fn push_path(

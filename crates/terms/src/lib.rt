@@ -19,4 +19,5 @@ pub use fast_value::FastValue;
 pub use field::Field;
 pub use field_type::Type;
 pub use ip_addr::IntoIpv6Addr;
+pub use json_path::has_zero;
 pub use term::{Term, push_json_path, push_term_header};

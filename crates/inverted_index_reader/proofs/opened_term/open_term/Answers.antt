@@ -26,7 +26,7 @@ with_positions-requires-clause-known c =
       map (λ (p : Posting). p.doc) known.0,
       map (λ (p : Posting). p.count) known.0,
       map (λ (p : Posting). p.positions) known.0,
-      told_postings option c.recorded_of-recorded.result.counts c.recorded_of-recorded.result.positions c.args.doc_freq c.args.postings.now c.args.positions.now known.0 c.recorded_of-recorded.ensures.0 c.recorded_of-recorded.ensures.1 known.1,
+      told_postings option c.recorded_of-recorded.result.counts c.recorded_of-recorded.result.positions c.args.doc_freq c.args.postings.now c.args.positions.now known.0 c.recorded_of-recorded.ensures.counts c.recorded_of-recorded.ensures.positions known.1,
       subst (λ ns. HasPositions (map (λ (p : Posting). p.count) known.0) (map (λ (p : Posting). p.positions) known.0) ns) (sym (c.new-reader.ensures (position_numbers (map (λ (p : Posting). p.positions) known.0)) places.1)) places.0,
     ))
 
@@ -36,7 +36,7 @@ with_positions-requires-clause-recorded c =
     let asked = record_option_of c.args.asked in
     let both : (has_positions option && has_positions asked) ≡ true = sym c.reads_positions.ensures ∙ c.if-reads_positions.true in
     let all = reads_all option asked both in
-    (c.recorded_of-recorded.ensures.0 ∙ all.0, c.recorded_of-recorded.ensures.1 ∙ all.1)
+    (c.recorded_of-recorded.ensures.counts ∙ all.0, c.recorded_of-recorded.ensures.positions ∙ all.1)
 
 pub returns-then-reads_positions-clause-entries : goal.returns-then-reads_positions-clause-entries
 returns-then-reads_positions-clause-entries c ps known =
@@ -45,7 +45,7 @@ returns-then-reads_positions-clause-entries c ps known =
     let both : (has_positions option && has_positions asked) ≡ true = sym c.reads_positions.ensures ∙ c.if-reads_positions.true in
     let places = has_positions_in option c.args.doc_freq c.args.postings.now c.args.positions.now ps (reads_all option asked both).1 known in
     c.with_positions.ensures.entries (map (λ (p : Posting). p.doc) ps) (map (λ (p : Posting). p.count) ps) (map (λ (p : Posting). p.positions) ps)
-    (told_postings option c.recorded_of-recorded.result.counts c.recorded_of-recorded.result.positions c.args.doc_freq c.args.postings.now c.args.positions.now ps c.recorded_of-recorded.ensures.0 c.recorded_of-recorded.ensures.1 known)
+    (told_postings option c.recorded_of-recorded.result.counts c.recorded_of-recorded.result.positions c.args.doc_freq c.args.postings.now c.args.positions.now ps c.recorded_of-recorded.ensures.counts c.recorded_of-recorded.ensures.positions known)
     (subst (λ ns. HasPositions (map (λ (p : Posting). p.count) ps) (map (λ (p : Posting). p.positions) ps) ns) (sym (c.new-reader.ensures (position_numbers (map (λ (p : Posting). p.positions) ps)) places.1)) places.0)
     ∙ placed_as option asked ps both
 
@@ -55,14 +55,14 @@ returns-then-reads_positions-clause-decoded c =
 
 pub new-requires-clause-known : goal.new-requires-clause-known
 new-requires-clause-known c =
-    ∥∥₁_map c.requires (λ known. (map (λ (p : Posting). p.doc) known.0, map (λ (p : Posting). p.count) known.0, told_postings (record_option_of c.args.option) c.recorded_of-recorded.result.counts c.recorded_of-recorded.result.positions c.args.doc_freq c.args.postings.now c.args.positions.now known.0 c.recorded_of-recorded.ensures.0 c.recorded_of-recorded.ensures.1 known.1))
+    ∥∥₁_map c.requires (λ known. (map (λ (p : Posting). p.doc) known.0, map (λ (p : Posting). p.count) known.0, told_postings (record_option_of c.args.option) c.recorded_of-recorded.result.counts c.recorded_of-recorded.result.positions c.args.doc_freq c.args.postings.now c.args.positions.now known.0 c.recorded_of-recorded.ensures.counts c.recorded_of-recorded.ensures.positions known.1))
 
 pub returns-clause-entries : goal.returns-clause-entries
 returns-clause-entries c ps known =
     let option = record_option_of c.args.option in
     let asked = record_option_of c.args.asked in
     let none : (has_positions option && has_positions asked) ≡ false = sym c.reads_positions.ensures ∙ c.if-reads_positions.false in
-    c.new.ensures.entries (map (λ (p : Posting). p.doc) ps) (map (λ (p : Posting). p.count) ps) (told_postings option c.recorded_of-recorded.result.counts c.recorded_of-recorded.result.positions c.args.doc_freq c.args.postings.now c.args.positions.now ps c.recorded_of-recorded.ensures.0 c.recorded_of-recorded.ensures.1 known)
+    c.new.ensures.entries (map (λ (p : Posting). p.doc) ps) (map (λ (p : Posting). p.count) ps) (told_postings option c.recorded_of-recorded.result.counts c.recorded_of-recorded.result.positions c.args.doc_freq c.args.postings.now c.args.positions.now ps c.recorded_of-recorded.ensures.counts c.recorded_of-recorded.ensures.positions known)
     ∙ ap (λ b. entries_of (map (λ (p : Posting). p.doc) ps) (cond b (map (λ (p : Posting). p.count) ps) (replicate c.args.doc_freq 1)) []) c.reads_counts.ensures
     ∙ entries_as option asked c.args.doc_freq c.args.postings.now c.args.positions.now ps none known
 
