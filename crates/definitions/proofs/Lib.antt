@@ -22,3 +22,5 @@ pub mod CallImages
 pub mod CallRuns
 pub mod KeptCalls
 pub mod ReadDocs
+pub mod CallAnswers
+pub mod CallMoments

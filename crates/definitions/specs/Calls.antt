@@ -143,8 +143,3 @@ pub data Leaves (c : Configuration) (x : Index) (call : Call) : Result ⊤ Fault
   half_written : (fault : Fault) → IsWant fault → call_fault c x call ≡ None → (is_add call || is_commit call) ≡ true → Leaves c x call (Err fault) (record { state = x.state; status = writer_closed })
   device_failed : call_fault c x call ≡ None → (is_commit call || is_merge call) ≡ true → Leaves c x call (Err faults.Device) (record { state = x.state; status = closed })
   slot_damaged : call_fault c x call ≡ None → (is_search call || is_merge call) ≡ true → Leaves c x call (Err (faults.Damaged None)) x
-
--- calls in a row, each with its answer
-pub data Lead (c : Configuration) : Index → List (Call × Result ⊤ Fault) → Index → Type 0 where
-  no_call : (x : Index) → Lead c x [] x
-  one_more : (x y z : Index) (call : Call) (answer : Result ⊤ Fault) (calls : List (Call × Result ⊤ Fault)) → Leaves c x call answer y → Lead c y calls z → Lead c x ((call, answer) ∷ calls) z

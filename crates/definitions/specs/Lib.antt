@@ -50,3 +50,4 @@ pub mod Disk
 pub mod Moments
 pub mod Examples
 pub mod LineExamples
+pub mod MomentExamples

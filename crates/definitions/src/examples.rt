@@ -9,6 +9,7 @@ pub mod forms;
 pub mod history;
 pub mod lines;
 pub mod matching;
+pub mod moments;
 pub mod phrases;
 pub mod ranking;
 pub mod reading;

@@ -19,7 +19,8 @@ pub fn a_merge_keeps_the_list()
     ensures no_group { (from to : ℕ) (s : State) → from ≤ to → to ≤ num_segments s → documents_within from to s ≡ [] → num_segments (after_merge from to s) ≡ num_segments s - (to - from) }
 {}
 
-/// Until a commit, adds and deletes change no search.
+/// Until a commit, adds and deletes leave the list. What scans and counts then say is this once more, since they look at
+/// the list alone.
 pub fn pending_calls_leave_the_list()
     ensures add { (doc : Document) (s : State) → committed (after_add doc s) ≡ committed s }
     ensures delete { (t : List ℕ) (s : State) → committed (after_delete t s) ≡ committed s }
@@ -39,7 +40,8 @@ pub fn a_commit_deletes_and_appends()
     ensures { (schema : Schema) (analyze : Analyzer) (docs_per_segment : ℕ) (s : State) → 1 ≤ docs_per_segment → committed (after_commit schema analyze docs_per_segment s) ≡ filter (is_left schema analyze (deleted_terms s.pending)) (committed s) ++ living (marked schema analyze s.pending) }
 {}
 
-/// States with one list give the same hits and counts.
+/// States with one list give the same hits and counts: this says only that scans and counts look at the list alone, and
+/// the laws below, that other calls leave one list.
 pub fn equal_lists_answer_alike()
     ensures scans { (schema : Schema) (analyze : Analyzer) (sim : Similarity) (s t : State) (q : Query) (k : ℕ) → committed s ≡ committed t → scan schema analyze sim (committed s) q k ≡ scan schema analyze sim (committed t) q k }
     ensures counts { (schema : Schema) (analyze : Analyzer) (s t : State) (q : Query) → committed s ≡ committed t → scan_count schema analyze (committed s) q ≡ scan_count schema analyze (committed t) q }
@@ -50,7 +52,8 @@ pub fn segment_sizes_do_not_matter()
     ensures { (schema : Schema) (analyze : Analyzer) (m n : ℕ) (s t : State) → 1 ≤ m → 1 ≤ n → SameList s t → committed (after_commit schema analyze m s) ≡ committed (after_commit schema analyze n t) }
 {}
 
-/// Equal calls keep lists equal, at any sizes of segments, and a merge on either side does.
+/// Equal calls keep lists equal, at any sizes of segments, and a merge on either side does. What scans and counts say is
+/// only that they look at the list alone.
 pub fn equal_histories_answer_alike()
     ensures add { (doc : Document) (s t : State) → SameList s t → SameList (after_add doc s) (after_add doc t) }
     ensures delete { (term : List ℕ) (s t : State) → SameList s t → SameList (after_delete term s) (after_delete term t) }

@@ -1,5 +1,5 @@
 -- The bound of a full block, by its skip entry.
-use Rattle.std.proofs.Common.{[], ap, ap₂, arith, Bool, false, length, List, map, nat_le, nat_lt, None, Option, refl, Some, suc, sym, true, zip, ◌&&◌, ◌==◌, ◌≡◌, ◌∙◌, ◌∷◌, ℕ, if◌then◌else◌}
+use Rattle.std.proofs.Common.{[], ap, ap₂, arith, Bool, false, length, List, map, nat_le, nat_lt, None, Option, refl, Some, sym, true, zip, ◌&&◌, ◌==◌, ◌≡◌, ◌∙◌, ◌∷◌, ℕ, if◌then◌else◌}
 use Rattle.std.proofs.lemmas.Bool.Decides.{nat_tests}
 use Rattle.std.proofs.lemmas.List.{length-map}
 use Rattle.definitions.specs.Blocks.{bound_of, least_of}

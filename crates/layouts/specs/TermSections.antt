@@ -1,7 +1,6 @@
 -- The section of a segment that lists the terms of its fields, and where their postings and positions stand.
-use Rattle.std.specs.Prelude.{[], ⊤, ◌++◌, ◌+◌, ◌<◌, ◌∷◌, ◌≡◌, List, flat_map, length, map, sum_by, take, ℕ}
+use Rattle.std.specs.Prelude.{[], ⊤, ◌++◌, ◌∷◌, ◌≡◌, List, flat_map, length, map, sum_by, take, ℕ}
 use Rattle.std.specs.Cmp.Lexicographic.{slice_cmp}
-use Rattle.std.specs.List.{AllByRecursion}
 use Rattle.std.specs.Ordering.{nat_cmp}
 use Rattle.std.specs.declared.cmp.Ordering.TheVariants.{Less}
 use Rattle.definitions.specs.NumberCodes.{sized_bytes, u32_bytes, u64_bytes, vint_bytes}
@@ -46,12 +45,3 @@ postings_start place fields = sum_by (λ (t : TermLengths). t.postings_len) (tak
 
 abbrev pub positions_start : ℕ → List FieldTerms → ℕ
 positions_start place fields = sum_by (λ (t : TermLengths). t.positions_len) (take place (all_lengths fields))
-
--- terms of these fields, each with a document, in sections of so many bytes
-pub record AreTerms (numbers : List ℕ) (postings_len positions_len : ℕ) (bytes : List ℕ) (fields : List FieldTerms) : Type 0 where
-  pub names : map (λ (f : FieldTerms). f.field) fields ≡ numbers
-  pub ascend : AllByRecursion (λ (f : FieldTerms). TermsAscend (map (λ t. t.0) f.terms)) fields
-  pub some : AllByRecursion (λ (t : TermLengths). 0 < t.doc_freq) (all_lengths fields)
-  pub postings_end : postings_start (length (all_lengths fields)) fields ≡ postings_len
-  pub positions_end : positions_start (length (all_lengths fields)) fields ≡ positions_len
-  pub spelled : bytes ≡ terms_bytes fields

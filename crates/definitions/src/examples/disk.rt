@@ -1,7 +1,8 @@
 //! What a read gives after writes, and what a crash may leave of calls that aren't synced.
 
-ghost use Rattle.std.specs.Prelude.{◌≡◌, codes};
-ghost use Rattle.definitions.specs.Disk.{IsImage, overwritten, settled, shortened, written};
+ghost use Rattle.std.specs.Prelude.{⊤, ◌-◌, ◌^◌, ◌≡◌, Err, Ok, codes};
+ghost use Rattle.definitions.specs.Disk.{HasCause, IsImage, overwritten, settled, shortened, written};
+ghost use Rattle.definitions.specs.declared.fault.Fault.TheVariants as faults;
 
 /// A write lies over what stood there, and may go past the end.
 pub fn writes_lie_over_what_stood_there()
@@ -29,4 +30,15 @@ pub fn part_of_a_cut_may_be_left()
     ensures outside { ¬ IsImage (codes "ab") (shortened 2 (settled 4)) (codes "a?") }
     ensures shorter { ¬ IsImage (codes "ab") (shortened 2 (settled 4)) (codes "a") }
     ensures longer { ¬ IsImage (codes "ab") (shortened 2 (settled 4)) (codes "abcde") }
+{}
+
+/// `Device` is answered only where the count of failures rose, or can't rise.
+pub fn device_is_answered_where_the_failures_rose()
+    ensures rose { HasCause {T = ⊤} 3 4 (Err faults.Device) }
+    ensures stood { ¬ HasCause {T = ⊤} 3 3 (Err faults.Device) }
+    ensures one_below_the_last { ¬ HasCause {T = ⊤} (2 ^ 64 - 2) (2 ^ 64 - 2) (Err faults.Device) }
+    ensures last { HasCause {T = ⊤} (2 ^ 64 - 1) (2 ^ 64 - 1) (Err faults.Device) }
+    ensures another_fault { HasCause {T = ⊤} 3 3 (Err faults.Limit) }
+    ensures done { HasCause {T = ⊤} 3 3 (Ok tt) }
+    ensures fell { ¬ HasCause {T = ⊤} 4 3 (Ok tt) }
 {}

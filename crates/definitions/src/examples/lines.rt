@@ -85,7 +85,7 @@ pub fn queries_are_read_and_tested()
     ensures unknown_field { reply book_session "{\"op\":\"count\",\"query\":{\"q\":\"term\",\"field\":\"x\",\"value\":5}}" ≡ codes "{\"error\":\"BadQuery\"}" }
     ensures other_kind { reply book_session "{\"op\":\"count\",\"query\":{\"q\":\"term\",\"field\":\"year\",\"value\":\"5\"}}" ≡ codes "{\"error\":\"BadQuery\"}" }
     ensures not_yet { reply book_session "{\"op\":\"count\",\"query\":{\"q\":\"bool\",\"must\":[{\"q\":\"const\",\"score\":1,\"query\":{\"q\":\"all\"}}]}}" ≡ codes "{\"error\":\"BadQuery\"}" }
-    ensures every { reply book_session "{\"op\":\"count\",\"query\":{\"q\":\"bool\",\"must\":[{\"q\":\"all\"}]}}" ≡ codes "{\"count\":0}" }
+    ensures every { reply three_books_session "{\"op\":\"count\",\"query\":{\"q\":\"bool\",\"must\":[{\"q\":\"all\"}]}}" ≡ codes "{\"count\":3}" }
     ensures not_indexed { reply unindexed_session "{\"op\":\"search\",\"k\":1,\"query\":{\"q\":\"term\",\"field\":\"title\",\"value\":\"sea\"}}" ≡ codes "{\"error\":\"NotIndexed\"}" }
 {}
 

@@ -76,3 +76,11 @@ pub fn minimums_follow_the_clauses()
     ensures with_a_must_not { default_minimum (clause should all (clause must_not all no_clauses)) ≡ 0 }
     ensures no_clause { default_minimum no_clauses ≡ 0 }
 {}
+
+/// A minimum is of should clauses alone, and a bool needs a clause that counts.
+pub fn a_minimum_is_of_should_clauses()
+    ensures must_with_min { count_in three_books (boolean (clause must (word "sea") no_clauses) 1) ≡ 0 }
+    ensures not_alone_min_0 { count_in three_books (boolean (clause must_not (word "x") no_clauses) 0) ≡ 0 }
+    ensures none_min_0 { count_in three_books (boolean no_clauses 0) ≡ 0 }
+    ensures should_with_not { count_in three_books (bool_of (clause should (word "sea") (clause must_not (word "x") no_clauses))) ≡ 2 }
+{}

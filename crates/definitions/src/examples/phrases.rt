@@ -90,3 +90,26 @@ pub fn two_whole_words_and_a_begun_one()
 pub fn equal_places_count_once()
     ensures { phrase_count books raw_and_default (in_a_row ("a" ∷ "b" ∷ [])) 0 ((0, pre_tok_str [] (one_token 0 (codes "a") ∷ one_token 0 (codes "a") ∷ one_token 1 (codes "b") ∷ one_token 1 (codes "b") ∷ [])) ∷ []) ≡ 1 }
 {}
+
+/// Tokens at one place: two terms may stand there, and with a slop each place counts once.
+pub fn terms_may_share_a_place()
+    ensures same_place { phrase_count books raw_and_default ((0, title_term "a") ∷ (0, title_term "b") ∷ []) 0 ((0, pre_tok_str [] (one_token 0 (codes "a") ∷ one_token 0 (codes "b") ∷ [])) ∷ []) ≡ 1 }
+    ensures slop_one { phrase_count books raw_and_default (in_a_row ("a" ∷ "b" ∷ [])) 1 ((0, pre_tok_str [] (one_token 0 (codes "a") ∷ one_token 0 (codes "a") ∷ one_token 0 (codes "b") ∷ one_token 2 (codes "b") ∷ [])) ∷ []) ≡ 2 }
+    ensures slop_none { phrase_count books raw_and_default (in_a_row ("a" ∷ "b" ∷ [])) 0 ((0, pre_tok_str [] (one_token 0 (codes "a") ∷ one_token 0 (codes "a") ∷ one_token 0 (codes "b") ∷ one_token 2 (codes "b") ∷ [])) ∷ []) ≡ 0 }
+{}
+
+/// A slop is shared by all neighbours: what two words use up is lost for the third.
+pub fn a_slop_is_shared_by_three_words()
+    ensures one { phrase_count books raw_and_default (in_a_row ("a" ∷ "b" ∷ "c" ∷ [])) 1 (titled ("a x b x c" ∷ [])) ≡ 0 }
+    ensures two { phrase_count books raw_and_default (in_a_row ("a" ∷ "b" ∷ "c" ∷ [])) 2 (titled ("a x b x c" ∷ [])) ≡ 1 }
+    ensures thrice_one { phrase_count books raw_and_default (in_a_row ("a" ∷ "a" ∷ "a" ∷ [])) 1 (titled ("a" ∷ [])) ≡ 0 }
+    ensures thrice_two { phrase_count books raw_and_default (in_a_row ("a" ∷ "a" ∷ "a" ∷ [])) 2 (titled ("a" ∷ [])) ≡ 1 }
+{}
+
+/// A begun word may stand at the place of a whole one, and the place counts for the score whether it follows or not.
+pub fn begun_words_stand_at_their_offset()
+    ensures one_place { prefix_matches books raw_and_default ((0, title_term "sea") ∷ (0, title_term "s") ∷ []) (titled ("sea" ∷ [])) ≡ true }
+    ensures turned { prefix_matches books raw_and_default ((0, title_term "s") ∷ (0, title_term "sea") ∷ []) (titled ("sea" ∷ [])) ≡ false }
+    ensures one_term { prefix_matches books raw_and_default ((0, title_term "s") ∷ []) (titled ("sea" ∷ [])) ≡ false }
+    ensures scores_all_places { best 10 (titled ("a b c a b d" ∷ []) ∷ []) (begun ("a" ∷ "b" ∷ "c" ∷ [])) ≡ hit (titled ("a b c a b d" ∷ [])) 80 ∷ [] }
+{}

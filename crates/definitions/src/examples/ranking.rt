@@ -32,6 +32,7 @@ pub fn the_best_query_counts()
     ensures alone { best 10 three_books (best_of (word "sea" ∷ word "wind" ∷ []) 0) ≡ hit sea_wind 40 ∷ hit old_sea 30 ∷ hit wind 30 ∷ [] }
     ensures half { best 10 three_books (best_of (word "sea" ∷ word "wind" ∷ []) 500) ≡ hit sea_wind 55 ∷ hit old_sea 30 ∷ hit wind 30 ∷ [] }
     ensures whole { best 10 three_books (best_of (word "sea" ∷ word "wind" ∷ []) 1000) ≡ best 10 three_books sea_or_wind }
+    ensures three { best 1 three_books (best_of (word "sea" ∷ word "wind" ∷ all ∷ []) 333) ≡ hit sea_wind 50 ∷ [] }
     ensures rounded { best 1 three_books (best_of (word "sea" ∷ word "wind" ∷ []) 50) ≡ hit sea_wind 41 ∷ [] }
 {}
 
@@ -54,11 +55,6 @@ pub fn constants_replace_and_boosts_multiply()
 pub fn all_documents_earn_a_point()
     ensures hits { best 10 three_books sea_and_a_point ≡ hit sea_wind 71 ∷ hit old_sea 31 ∷ [] }
     ensures boosted { best 1 three_books (boost (pos 5) all) ≡ hit old_sea 5 ∷ [] }
-{}
-
-/// A clause that must not match earns nothing, also where it matches below another.
-pub fn forbidden_clauses_earn_nothing()
-    ensures { best 10 three_books (bool_of (clause must (word "sea") (clause must_not (word "wind") no_clauses))) ≡ hit old_sea 30 ∷ [] }
 {}
 
 /// The norm is that of the length in the term's own field.

@@ -1,11 +1,11 @@
 //! Which queries are refused.
 #![tactic(auto, unfolding(crate::specs::Refusing::node_fault))]
 
-ghost use Rattle.std.specs.Prelude.{[], ◌++◌, ◌+◌, ◌∷◌, ◌≡◌, codes, false, negsuc, pos};
+ghost use Rattle.std.specs.Prelude.{[], ◌++◌, ◌+◌, ◌∷◌, ◌≡◌, None, Some, codes, false, negsuc, pos, replicate};
 ghost use Rattle.definitions.specs.Examples.{bare, begun, best_of, books, bool_of, in_a_row, json_data, nested, sea_or_wind, text_entry, title_term, word, words, year_term};
-ghost use Rattle.definitions.specs.Query.{all, boost, clause, const_score, disjunction_max, must, must_not, no_clauses, no_queries, phrase, phrase_prefix, should, term};
+ghost use Rattle.definitions.specs.Query.{all, boost, clause, const_score, disjunction_max, empty, must, must_not, no_clauses, no_queries, phrase, phrase_prefix, should, term};
 ghost use Rattle.definitions.specs.Refusing.{refusal};
-ghost use Rattle.definitions.specs.Schema.{basic, facet_kind, json_kind, text_kind};
+ghost use Rattle.definitions.specs.Schema.{basic, facet_kind, json_kind, text_kind, u64_kind};
 ghost use Rattle.definitions.specs.Scoring.{max_score};
 ghost use Rattle.definitions.specs.Terms.{json_term, signed_bytes, term_bytes};
 ghost use Rattle.definitions.specs.declared.fault.Fault.TheVariants as faults;
@@ -45,7 +45,9 @@ pub fn terms_are_of_indexed_fields()
     ensures not_indexed { refusal (record (text_entry "title") { indexed = false } ∷ []) (λ t. 60) (word "sea") ≡ Some faults.NotIndexed }
     ensures facet { refusal (bare "data" facet_kind ∷ []) (λ t. 60) (term (term_bytes 0 facet_kind []) basic) ≡ None }
     ensures other_kind { refusal books (λ t. 60) (term (term_bytes 1 text_kind (codes "sea")) basic) ≡ Some faults.TypeMismatch }
-    ensures no_path { refusal json_data (λ t. 60) (term (term_bytes 0 json_kind (codes "a")) basic) ≡ Some faults.TypeMismatch }
+    ensures text_before_offset { refusal json_data (λ t. 60) (phrase ((0, json_term 0 (codes "a") (codes "i" ++ replicate 8 0)) ∷ (1073741825, json_term 0 (codes "a") (codes "sx")) ∷ []) 0) ≡ Some faults.NotText }
+    ensures no_path { refusal json_data (λ t. 60) (term (term_bytes 0 json_kind (codes "sx")) basic) ≡ Some faults.TypeMismatch }
+    ensures path_before_the_zero { refusal json_data (λ t. 60) (term (term_bytes 0 json_kind (codes "s" ++ (0 ∷ codes "b"))) basic) ≡ Some faults.TypeMismatch }
     ensures no_inner_kind { refusal json_data (λ t. 60) (term (json_term 0 (codes "a") (codes "hx")) basic) ≡ Some faults.TypeMismatch }
     ensures json { refusal json_data (λ t. 60) (term (json_term 0 (codes "a") (codes "sx")) basic) ≡ None }
 {}
@@ -75,4 +77,23 @@ pub fn refusals_have_an_order()
     ensures tests { refusal books (λ t. 60) (phrase ((0, year_term 1952) ∷ (1, term_bytes 2 text_kind []) ∷ []) 0) ≡ Some faults.UnknownField }
     ensures positions_before_offsets { refusal books (λ t. 60) (phrase ((0, year_term 1952) ∷ (1073741825, year_term 1987) ∷ []) 0) ≡ Some faults.NoPositions }
     ensures score_last { refusal books (λ t. max_score) (begun ("sea" ∷ [])) ≡ Some faults.NoWholeTerm }
+{}
+
+/// The product of boosts has the limit by itself, and a child of a constant is tested too.
+pub fn boosts_have_a_limit_together()
+    ensures product_over_nothing { refusal books (λ t. 60) (boost (pos 1000000000) (boost (pos 1000000000) empty)) ≡ Some faults.ScoreTooLarge }
+    ensures product_without_weight { refusal books (λ t. 0) (boost (pos 1000000000) (boost (pos 1000000000) (word "sea"))) ≡ Some faults.ScoreTooLarge }
+    ensures product_over_not { refusal books (λ t. 60) (bool_of (clause must_not (boost (pos 1000000000) (boost (pos 1000000000) empty)) no_clauses)) ≡ Some faults.ScoreTooLarge }
+    ensures one_whole_word { refusal books (λ t. max_score) (boost (pos 2) (begun ("sea" ∷ "w" ∷ []))) ≡ None }
+    ensures two_whole_words { refusal books (λ t. max_score) (begun ("sea" ∷ "sea" ∷ "w" ∷ [])) ≡ Some faults.ScoreTooLarge }
+    ensures const_under_boost { refusal books (λ t. 60) (boost (pos 2) (const_score (pos max_score) all)) ≡ Some faults.ScoreTooLarge }
+    ensures child_of_const { refusal books (λ t. max_score) (const_score (pos 0) (boost (pos 2) (word "sea"))) ≡ Some faults.ScoreTooLarge }
+{}
+
+/// Of the tests of one node the earlier one decides.
+pub fn tests_have_an_order()
+    ensures whole_before_limit { refusal books (λ t. 60) (phrase_prefix (in_a_row ("sea" ∷ [])) 50) ≡ Some faults.NoWholeTerm }
+    ensures offset_before_whole { refusal books (λ t. 60) (phrase_prefix ((1073741825, title_term "sea") ∷ []) 50) ≡ Some faults.OffsetTooLarge }
+    ensures tie_before_score { refusal books (λ t. max_score) (best_of (word "sea" ∷ word "wind" ∷ []) 1001) ≡ Some faults.BadTieBreaker }
+    ensures indexed_before_kind { refusal (record (text_entry "title") { indexed = false } ∷ []) (λ t. 60) (term (term_bytes 0 u64_kind (codes "sea")) basic) ≡ Some faults.NotIndexed }
 {}

@@ -1,7 +1,8 @@
 //! The section of the lengths of fields.
 #![tactic(auto, unfolding(definitions::proofs::OnLiterals::definitions_on_literals))]
 
-ghost use Rattle.std.specs.Prelude.{[], ◌∷◌, ◌≡◌, None, Some, map};
+ghost use Rattle.std.specs.Prelude.{[], ◌++◌, ◌∷◌, ◌≡◌, None, Some, map};
+ghost use Rattle.std.specs.List.{range_with_len};
 ghost use Rattle.definitions.specs.Lengths.{fieldnorm_to_id};
 ghost use Rattle.layouts.specs.FieldNorms.{ids_of, norms_bytes};
 
@@ -16,6 +17,7 @@ pub fn norms_have_bytes()
 /// The greatest id whose length isn't above a number.
 pub fn lengths_have_ids()
     ensures ids { map fieldnorm_to_id (0 ∷ 23 ∷ 40 ∷ 41 ∷ 42 ∷ 4294967295 ∷ []) ≡ 0 ∷ 23 ∷ 40 ∷ 40 ∷ 41 ∷ 255 ∷ [] }
+    ensures in_a_row { map fieldnorm_to_id (range_with_len 24 20) ≡ range_with_len 24 17 ++ (40 ∷ 41 ∷ 41 ∷ []) }
 {}
 
 /// A field that keeps no lengths has no ids.

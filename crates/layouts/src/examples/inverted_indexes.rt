@@ -6,8 +6,8 @@ ghost use Rattle.std.specs.Int.{to_be_bytes, w64};
 ghost use Rattle.definitions.specs.Analyzers.{raw_and_default};
 ghost use Rattle.definitions.specs.Examples.{books, hex, json_data, old_sea, sea_wind, wind};
 ghost use Rattle.definitions.specs.Postings.{postings};
-ghost use Rattle.definitions.specs.Schema.{basic, with_freqs_and_positions};
-ghost use Rattle.definitions.specs.Terms.{json_term};
+ghost use Rattle.definitions.specs.Schema.{basic, text_kind, with_freqs_and_positions};
+ghost use Rattle.definitions.specs.Terms.{json_term, term_bytes};
 ghost use Rattle.layouts.specs.InvertedIndexes.{all_terms, field_ids, field_terms, indexed_fields, num_tokens, option_of_term, term_of_key};
 ghost use Rattle.layouts.specs.TermExamples.{posting, titles, years};
 ghost use Rattle.layouts.specs.TermPostings.{postings_bytes};
@@ -19,7 +19,7 @@ pub fn terms_record_what_their_fields_do()
     ensures number { option_of_term books (term_of_key books 1 (to_be_bytes w64 1952)) ≡ basic }
     ensures text_in_json { option_of_term json_data (json_term 0 (codes "a") (codes "sx")) ≡ with_freqs_and_positions }
     ensures number_in_json { option_of_term json_data (json_term 0 (codes "a") (codes "i" ++ to_be_bytes w64 7)) ≡ basic }
-    ensures no_field { option_of_term [] (codes "0000s") ≡ basic }
+    ensures no_field { option_of_term books (term_bytes 2 text_kind (codes "sea")) ≡ basic }
 {}
 
 /// Each indexed field is there; its tokens are the sum of its counts.

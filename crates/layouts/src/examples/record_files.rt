@@ -1,8 +1,8 @@
 //! What files of records are, of no index and of damage.
 #![tactic(auto, unfolding(crate::specs::RecordFiles::records))]
 
-ghost use Rattle.std.specs.Prelude.{[], ◌≡◌, ◌∷◌, true, List, ℕ};
-ghost use Rattle.layouts.specs.RecordFiles.{EndsAt, IsAtRest, IsDamaged, IsFile, IsNoIndex, records};
+ghost use Rattle.std.specs.Prelude.{[], ◌≡◌, ◌∷◌, bytes_eq, true, List, ℕ};
+ghost use Rattle.layouts.specs.RecordFiles.{EndsAt, IsAtRest, IsDamaged, IsFile, IsFresh, IsNoIndex, IsOneOf, records};
 
 /// A record: its open gate, the length of its body in eight bytes, the body.
 pub fn records_have_gate_length_and_body()
@@ -30,4 +30,20 @@ pub fn short_and_closed_files_are_no_index()
 pub fn records_without_their_gate_are_damaged()
     ensures first { IsDamaged (λ before body. true) (165 ∷ 1 ∷ 0 ∷ 0 ∷ 0 ∷ 0 ∷ 0 ∷ 0 ∷ 0 ∷ 0 ∷ []) 0 }
     ensures second { IsDamaged (λ before body. true) (165 ∷ 1 ∷ 0 ∷ 0 ∷ 0 ∷ 0 ∷ 0 ∷ 0 ∷ 0 ∷ 7 ∷ 165 ∷ 1 ∷ 0 ∷ 0 ∷ 0 ∷ 0 ∷ 0 ∷ 0 ∷ 0 ∷ 0 ∷ []) 10 }
+{}
+
+/// A new file is no index, or has one body that is taken.
+pub fn new_files_have_one_body()
+    ensures nothing { IsFresh (λ body. bytes_eq body (7 ∷ [])) [] }
+    ensures one { IsFresh (λ body. bytes_eq body (7 ∷ [])) (165 ∷ 1 ∷ 0 ∷ 0 ∷ 0 ∷ 0 ∷ 0 ∷ 0 ∷ 0 ∷ 7 ∷ 0 ∷ []) }
+    ensures another_body { ¬ IsFresh (λ body. bytes_eq body (7 ∷ [])) (165 ∷ 1 ∷ 0 ∷ 0 ∷ 0 ∷ 0 ∷ 0 ∷ 0 ∷ 0 ∷ 8 ∷ 0 ∷ []) }
+    ensures two_bodies { ¬ IsFresh (λ body. bytes_eq body (7 ∷ [])) (165 ∷ 1 ∷ 0 ∷ 0 ∷ 0 ∷ 0 ∷ 0 ∷ 0 ∷ 0 ∷ 7 ∷ 165 ∷ 0 ∷ 0 ∷ 0 ∷ 0 ∷ 0 ∷ 0 ∷ 0 ∷ 0 ∷ 0 ∷ []) }
+{}
+
+/// A file of the bodies before or of those after, and of no others.
+pub fn files_are_of_one_of_two_lists()
+    ensures first { IsOneOf ((7 ∷ []) ∷ []) ((7 ∷ []) ∷ [] ∷ []) (165 ∷ 1 ∷ 0 ∷ 0 ∷ 0 ∷ 0 ∷ 0 ∷ 0 ∷ 0 ∷ 7 ∷ 0 ∷ []) }
+    ensures second { IsOneOf ((7 ∷ []) ∷ []) ((7 ∷ []) ∷ [] ∷ []) (165 ∷ 1 ∷ 0 ∷ 0 ∷ 0 ∷ 0 ∷ 0 ∷ 0 ∷ 0 ∷ 7 ∷ 165 ∷ 0 ∷ 0 ∷ 0 ∷ 0 ∷ 0 ∷ 0 ∷ 0 ∷ 0 ∷ 0 ∷ []) }
+    ensures neither { ¬ IsOneOf ((7 ∷ []) ∷ []) ((7 ∷ []) ∷ [] ∷ []) (165 ∷ 1 ∷ 0 ∷ 0 ∷ 0 ∷ 0 ∷ 0 ∷ 0 ∷ 0 ∷ 8 ∷ 0 ∷ []) }
+    ensures no_record { ¬ IsOneOf ((7 ∷ []) ∷ []) ((7 ∷ []) ∷ [] ∷ []) (0 ∷ []) }
 {}

@@ -41,3 +41,14 @@ pub fn groups_have_bytes()
     ensures empty { group_bytes [] ≡ 0x80 ∷ [] }
     ensures two { group_bytes (checkpoints 3 9 (record { count = 1; bytes = replicate 16 0 } ∷ record { count = 2; bytes = replicate 24 0 } ∷ [])) ≡ 0x82 ∷ 0x83 ∷ 0x89 ∷ 0x81 ∷ 0x90 ∷ 0x82 ∷ 0x98 ∷ [] }
 {}
+
+/// Each checkpoint of an upper layer ends where the last block of its group does: nine blocks of one byte and one document.
+pub fn upper_layers_have_bytes()
+    ensures { skip_index_bytes (checkpoints 0 0 (replicate 9 (record { count = 1; bytes = 7 ∷ [] }))) ≡ 0x82 ∷ 0x87 ∷ 0x98 ∷ 0x82 ∷ 0x80 ∷ 0x80 ∷ 0x88 ∷ 0x88 ∷ 0x81 ∷ 0x81 ∷ 0x88 ∷ 0x80 ∷ 0x80 ∷ replicate 16 0x81 ++ 0x81 ∷ 0x88 ∷ 0x88 ∷ 0x81 ∷ 0x81 ∷ [] }
+{}
+
+/// Blocks of 3, 1, 2, 2 and 2 documents stand where their sizes say.
+pub fn blocks_stand_one_after_the_other()
+    ensures { checkpoints 0 0 (record { count = 3; bytes = replicate 9 0 } ∷ record { count = 1; bytes = replicate 16 0 } ∷ record { count = 2; bytes = replicate 24 0 } ∷ record { count = 2; bytes = replicate 32 0 } ∷ record { count = 2; bytes = replicate 19 0 } ∷ [])
+        ≡ record { doc_range = record { start = 0; end = 3 }; byte_range = record { start = 0; end = 9 } } ∷ record { doc_range = record { start = 3; end = 4 }; byte_range = record { start = 9; end = 25 } } ∷ record { doc_range = record { start = 4; end = 6 }; byte_range = record { start = 25; end = 49 } } ∷ record { doc_range = record { start = 6; end = 8 }; byte_range = record { start = 49; end = 81 } } ∷ record { doc_range = record { start = 8; end = 10 }; byte_range = record { start = 81; end = 100 } } ∷ [] }
+{}
