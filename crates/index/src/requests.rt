@@ -126,9 +126,11 @@ pub(crate) fn read_making(
     schema: &Json,
     settings: Option<&Json>,
 ) -> Result<(Schema, Settings), Fault>
-    ensures ok { IfOk result (λ made. (schema_in (view schema.now) ≡ Ok made.0) × (steps.settings_sent made.0 (option_map (λ d. view d.now) settings.entry) ≡ Ok made.1)) }
+    ensures ok { IfOk result (λ made. (schema_in (view schema.now) ≡ Ok made.0)
+        × (steps.settings_sent made.0 (option_map (λ d. view d.now) settings.entry) ≡ Ok made.1)) }
     ensures err { IfErr result (λ fault. fault ≢ faults.OutOfMemory → (schema_in (view schema.now) ≡ Err fault)
-        ⊎ ((fields : Fields) × (schema_in (view schema.now) ≡ Ok fields) × (steps.settings_sent fields (option_map (λ d. view d.now) settings.entry) ≡ Err fault))) }
+        ⊎ ((fields : Fields) × (schema_in (view schema.now) ≡ Ok fields)
+        × (steps.settings_sent fields (option_map (λ d. view d.now) settings.entry) ≡ Err fault))) }
 {
     let schema = Schema::from_json_value(alloc, schema)?;
     let settings = read_settings(alloc, &schema, settings)?;
@@ -137,8 +139,10 @@ pub(crate) fn read_making(
 
 /// The settings that a request gives.
 fn read_settings(alloc: Global, schema: &Schema, settings: Option<&Json>) -> Result<Settings, Fault>
-    ensures ok { IfOk result (λ made. steps.settings_sent schema.now (option_map (λ d. view d.now) settings.entry) ≡ Ok made) }
-    ensures err { IfErr result (λ fault. fault ≢ faults.OutOfMemory → steps.settings_sent schema.now (option_map (λ d. view d.now) settings.entry) ≡ Err fault) }
+    ensures ok { IfOk result (λ made.
+        steps.settings_sent schema.now (option_map (λ d. view d.now) settings.entry) ≡ Ok made) }
+    ensures err { IfErr result (λ fault. fault ≢ faults.OutOfMemory
+        → steps.settings_sent schema.now (option_map (λ d. view d.now) settings.entry) ≡ Err fault) }
 {
     match settings {
         Some(json) => Settings::from_json_value(alloc, schema, json),

@@ -45,10 +45,11 @@ pub fn run<R: BufRead, W: Write, D: Device + Drop, A: Analyzer + Drop>(
     device: D,
     analyzer: A,
 ) -> Result<(), RunFault>
-    // Of an honest device that holds no byte, or the file of an index, the replies follow from that and from the lines.
+    // Of an honest device that holds no byte, or an index's file, the replies follow from that and from the lines.
     ensures { (held : steps.Held) → HasHeld D.honest D.content device held
         → OnOk result (IfSome (R.remaining reader.old) (λ input.
-        Writes steps.answer_of steps.after_line (session_on (analysis_of A.knows_name A.analyze analyzer) held) (lines_of input) (W.contents writer.old) (W.contents writer.new))) }
+        Writes steps.answer_of steps.after_line (session_on (analysis_of A.knows_name A.analyze analyzer) held)
+        (lines_of input) (W.contents writer.old) (W.contents writer.new))) }
 {
     let mut session = Session::new(alloc, device, analyzer);
     run_session(reader, writer, &mut session)
@@ -74,8 +75,10 @@ pub fn reply<D: Device + Drop, A: Analyzer + Drop>(
     session: &mut Session<D, A>,
     line: &str,
 ) -> Result<CowStr<'static>, Fault>
-    ensures text { (s : steps.Session) → StandsFor session.old s → IfOk result (λ text. cow_str_bytes text ≡ steps.answer_of s line.now) }
-    ensures state { (s : steps.Session) → StandsFor session.old s → OnOk result (StandsFor session.new (steps.after_line s line.now)) }
+    ensures text { (s : steps.Session) → StandsFor session.old s
+        → IfOk result (λ text. cow_str_bytes text ≡ steps.answer_of s line.now) }
+    ensures state { (s : steps.Session) → StandsFor session.old s
+        → OnOk result (StandsFor session.new (steps.after_line s line.now)) }
     ensures err { IfErr result (λ fault. IsTrue (stops fault)) }
 {
     session.reply(line)
@@ -84,7 +87,8 @@ pub fn reply<D: Device + Drop, A: Analyzer + Drop>(
 impl<D: Device + Drop, A: Analyzer + Drop> Session<D, A> {
     /// A session over a device, in which no index stands.
     pub fn new(alloc: Global, device: D, analyzer: A) -> Session<D, A>
-        ensures { (held : steps.Held) → HasHeld D.honest D.content device held → StandsFor result (session_on (analysis_of A.knows_name A.analyze analyzer) held) }
+        ensures { (held : steps.Held) → HasHeld D.honest D.content device held
+            → StandsFor result (session_on (analysis_of A.knows_name A.analyze analyzer) held) }
     {
         Session {
             alloc,
@@ -94,9 +98,13 @@ impl<D: Device + Drop, A: Analyzer + Drop> Session<D, A> {
 
     /// A session in which this index stands.
     pub fn with_index(index: Index<D, A>) -> Session<D, A>
-        ensures { (x : calls.Index) → Stands A.analyze index.collection (steps.configuration_of index.collection.schema (A.analyze index.collection.analyzer) index.collection.settings) x
+        ensures { (x : calls.Index)
+            → Stands A.analyze index.collection
+            (steps.configuration_of index.collection.schema (A.analyze index.collection.analyzer)
+            index.collection.settings) x
             → IsKnown D.honest D.content index.file.device index.collection.schema index.collection.settings x
-            → StandsFor result (session_of (analysis_of A.knows_name A.analyze index.collection.analyzer) index.collection.schema index.collection.settings x) }
+            → StandsFor result (session_of (analysis_of A.knows_name A.analyze index.collection.analyzer)
+            index.collection.schema index.collection.settings x) }
     {
         Session {
             alloc: index.collection.alloc,
@@ -128,7 +136,8 @@ impl<D: Device + Drop, A: Analyzer + Drop> Service for Session<D, A> {
 impl<D: Device + Drop, A: Analyzer + Drop> Session<D, A> {
     /// Does what a value asks for.
     fn answer_value(&mut self, json: &Json) -> Result<CowStr<'static>, Fault>
-        ensures answered { (s : steps.Session) → StandsFor self.old s → Replies self.new result (steps.step s (built_request_in (view json.now))) }
+        ensures answered { (s : steps.Session) → StandsFor self.old s
+            → Replies self.new result (steps.step s (built_request_in (view json.now))) }
         ensures err { IfErr result (λ fault. IsTrue (stops fault)) }
     {
         match request_in(json) {
@@ -139,7 +148,8 @@ impl<D: Device + Drop, A: Analyzer + Drop> Session<D, A> {
 
     /// Does what a request asks for.
     fn answer(&mut self, request: Request<'_>) -> Result<CowStr<'static>, Fault>
-        ensures answered { (s : steps.Session) → StandsFor self.old s → Replies self.new result (steps.step s (Some (request_of request.entry))) }
+        ensures answered { (s : steps.Session) → StandsFor self.old s
+            → Replies self.new result (steps.step s (Some (request_of request.entry))) }
         ensures err { IfErr result (λ fault. IsTrue (stops fault)) }
     {
         match request {
@@ -151,7 +161,9 @@ impl<D: Device + Drop, A: Analyzer + Drop> Session<D, A> {
 
     /// Makes an index, unless one is ready.
     fn create(&mut self, schema: &Json, settings: Option<&Json>) -> Result<CowStr<'static>, Fault>
-        ensures answered { (s : steps.Session) → StandsFor self.old s → Replies self.new result (steps.step s (Some (requests.create_index (view schema.now) (option_map (λ d. view d.now) settings.entry)))) }
+        ensures answered { (s : steps.Session) → StandsFor self.old s
+            → Replies self.new result (steps.step s
+            (Some (requests.create_index (view schema.now) (option_map (λ d. view d.now) settings.entry)))) }
         ensures err { IfErr result (λ fault. IsTrue (stops fault)) }
     {
         if self.has_ready_index() {
@@ -165,7 +177,8 @@ impl<D: Device + Drop, A: Analyzer + Drop> Session<D, A> {
 
     /// Opens the index of the device's file, unless one is ready.
     fn open(&mut self) -> Result<CowStr<'static>, Fault>
-        ensures answered { (s : steps.Session) → StandsFor self.old s → Replies self.new result (steps.step s (Some requests.open_index)) }
+        ensures answered { (s : steps.Session) → StandsFor self.old s
+            → Replies self.new result (steps.step s (Some requests.open_index)) }
         ensures err { IfErr result (λ fault. IsTrue (stops fault)) }
     {
         if self.has_ready_index() {
@@ -176,7 +189,8 @@ impl<D: Device + Drop, A: Analyzer + Drop> Session<D, A> {
 
     /// Does what is asked of the index that stands.
     fn ask(&mut self, request: IndexRequest<'_>) -> Result<CowStr<'static>, Fault>
-        ensures answered { (s : steps.Session) → StandsFor self.old s → Replies self.new result (steps.step s (Some (index_request_of request.entry))) }
+        ensures answered { (s : steps.Session) → StandsFor self.old s
+            → Replies self.new result (steps.step s (Some (index_request_of request.entry))) }
         ensures err { IfErr result (λ fault. IsTrue (stops fault)) }
     {
         match &mut self.stage {
@@ -189,7 +203,8 @@ impl<D: Device + Drop, A: Analyzer + Drop> Session<D, A> {
     /// Makes an index of these in place of what stands.
     fn make(&mut self, schema: Schema, settings: Settings) -> Result<(), Fault>
         ensures { (s : steps.Session) → StandsFor self.old s → steps.is_ready s.stage ≡ false
-            → LeavesStage A.knows_name A.analyze s.analysis self.new.stage result (steps.created s.analysis.knows schema settings (steps.held_by s.stage)) }
+            → LeavesStage A.knows_name A.analyze s.analysis self.new.stage result
+            (steps.created s.analysis.knows schema settings (steps.held_by s.stage)) }
     {
         let Some(stage) = self.stage.take() else {
             unreachable!();
@@ -202,7 +217,8 @@ impl<D: Device + Drop, A: Analyzer + Drop> Session<D, A> {
     /// Opens the index of the device's file in place of what stands.
     fn reopen(&mut self) -> Result<(), Fault>
         ensures { (s : steps.Session) → StandsFor self.old s → steps.is_ready s.stage ≡ false
-            → LeavesStage A.knows_name A.analyze s.analysis self.new.stage result (steps.opened s.analysis.knows (steps.held_by s.stage)) }
+            → LeavesStage A.knows_name A.analyze s.analysis self.new.stage result
+            (steps.opened s.analysis.knows (steps.held_by s.stage)) }
     {
         let Some(stage) = self.stage.take() else {
             unreachable!();

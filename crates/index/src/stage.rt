@@ -25,7 +25,8 @@ pub(crate) enum Stage<D: Device, A: Analyzer> {
 impl<D: Device + Drop, A: Analyzer + Drop> Stage<D, A> {
     /// Whether an index stands that takes every call.
     pub(crate) fn is_ready(&self) -> bool
-        ensures { (a : steps.Analysis) (s : steps.Stage) → IsStage A.knows_name A.analyze a self.now s → result ≡ steps.is_ready s }
+        ensures { (a : steps.Analysis) (s : steps.Stage) → IsStage A.knows_name A.analyze a self.now s
+            → result ≡ steps.is_ready s }
     {
         match self {
             Stage::Spare(_, _) => false,
@@ -40,8 +41,10 @@ impl<D: Device + Drop, A: Analyzer + Drop> Stage<D, A> {
         schema: Schema,
         settings: Settings,
     ) -> (Stage<D, A>, Result<(), Fault>)
-        ensures { (a : steps.Analysis) (s : steps.Stage) → IsStage A.knows_name A.analyze a self s → steps.is_ready s ≡ false
-            → LeavesStage A.knows_name A.analyze a (Some result.0) result.1 (steps.created a.knows schema settings (steps.held_by s)) }
+        ensures { (a : steps.Analysis) (s : steps.Stage) → IsStage A.knows_name A.analyze a self s
+            → steps.is_ready s ≡ false
+            → LeavesStage A.knows_name A.analyze a (Some result.0) result.1
+            (steps.created a.knows schema settings (steps.held_by s)) }
     {
         let (device, analyzer) = self.into_device();
         leave(Index::create(alloc, device, analyzer, schema, settings))
@@ -49,7 +52,8 @@ impl<D: Device + Drop, A: Analyzer + Drop> Stage<D, A> {
 
     /// Opens the index of the device's file in place of what stands.
     pub(crate) fn open(self, alloc: Global) -> (Stage<D, A>, Result<(), Fault>)
-        ensures { (a : steps.Analysis) (s : steps.Stage) → IsStage A.knows_name A.analyze a self s → steps.is_ready s ≡ false
+        ensures { (a : steps.Analysis) (s : steps.Stage) → IsStage A.knows_name A.analyze a self s
+            → steps.is_ready s ≡ false
             → LeavesStage A.knows_name A.analyze a (Some result.0) result.1 (steps.opened a.knows (steps.held_by s)) }
     {
         let (device, analyzer) = self.into_device();
@@ -58,7 +62,8 @@ impl<D: Device + Drop, A: Analyzer + Drop> Stage<D, A> {
 
     /// The device and the analyzer. An index that stands is dropped, and what waits in it is lost.
     fn into_device(self) -> (D, A)
-        ensures { (a : steps.Analysis) (s : steps.Stage) → IsStage A.knows_name A.analyze a self s → steps.is_ready s ≡ false
+        ensures { (a : steps.Analysis) (s : steps.Stage) → IsStage A.knows_name A.analyze a self s
+            → steps.is_ready s ≡ false
             → IsSpare D.honest D.content A.knows_name A.analyze a result.0 result.1 (steps.held_by s) }
     {
         match self {

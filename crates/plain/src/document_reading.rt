@@ -17,7 +17,8 @@ use std::alloc::Global;
 pub fn read_document_text(alloc: Global, schema: &Schema, text: &str) -> Result<CompactDoc, Fault>
     ensures ok { IfOk result (λ doc. document_json schema.now text.now ≡ Ok doc) }
     ensures known { IfOk result (IsOfSchema schema.now) }
-    ensures err { IfErr result (λ fault. fault ≢ faults.OutOfMemory → document_json schema.now text.now ≡ Err fault) }
+    ensures err { IfErr result (λ fault. fault ≢ faults.OutOfMemory
+        → document_json schema.now text.now ≡ Err fault) }
 {
     let json = read_json(alloc, text)?;
     read_document(alloc, schema, &json)
@@ -27,7 +28,8 @@ pub fn read_document_text(alloc: Global, schema: &Schema, text: &str) -> Result<
 pub fn read_document(alloc: Global, schema: &Schema, json: &Json) -> Result<CompactDoc, Fault>
     ensures ok { IfOk result (λ doc. document_value schema.now (view json.now) ≡ Ok doc) }
     ensures known { IfOk result (IsOfSchema schema.now) }
-    ensures err { IfErr result (λ fault. fault ≢ faults.OutOfMemory → document_value schema.now (view json.now) ≡ Err fault) }
+    ensures err { IfErr result (λ fault. fault ≢ faults.OutOfMemory
+        → document_value schema.now (view json.now) ≡ Err fault) }
 {
     let doc = CompactDoc::from_json_object(alloc, schema, json)?;
     if !doc.indexable(schema) {
@@ -39,7 +41,8 @@ pub fn read_document(alloc: Global, schema: &Schema, json: &Json) -> Result<Comp
 /// The value in a text.
 fn read_json(alloc: Global, text: &str) -> Result<Json, Fault>
     ensures ok { IfOk result (λ json. read text.now ≡ Some (view json)) }
-    ensures err { IfErr result (λ fault. fault ≢ faults.OutOfMemory → (fault ≡ faults.NotAnObject) × (read text.now ≡ None)) }
+    ensures err { IfErr result (λ fault. fault ≢ faults.OutOfMemory
+        → (fault ≡ faults.NotAnObject) × (read text.now ≡ None)) }
 {
     match Json::from_str(alloc, text) {
         Ok(json) => Ok(json),
