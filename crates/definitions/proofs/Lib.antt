@@ -24,3 +24,4 @@ pub mod KeptCalls
 pub mod ReadDocs
 pub mod CallAnswers
 pub mod CallMoments
+pub mod PrefixRanges
