@@ -25,3 +25,4 @@ pub mod ReadDocs
 pub mod CallAnswers
 pub mod CallMoments
 pub mod PrefixRanges
+pub mod DocumentBounds
