@@ -24,3 +24,5 @@ pub mod KeptCalls
 pub mod ReadDocs
 pub mod CallAnswers
 pub mod CallMoments
+pub mod PrefixRanges
+pub mod DocumentBounds

@@ -20,13 +20,21 @@ least_of [] = 0
 least_of (n ∷ []) = n
 least_of (n ∷ m ∷ ns) = min n (least_of (m ∷ ns))
 
--- the length id and the count of each document that has the term
-abbrev pub ids_and_counts : Schema → Analyzer → List ℕ → List Document → List (ℕ × ℕ)
-ids_and_counts schema analyze t docs = map (λ doc. (length_id schema analyze (field_of t) doc, count_of schema analyze t doc)) (filter (holds schema analyze t) docs)
+-- the length id and the count of a document
+abbrev pub id_and_count : Schema → Analyzer → List ℕ → Document → ℕ × ℕ
+id_and_count schema analyze t doc = (length_id schema analyze (field_of t) doc, count_of schema analyze t doc)
 
--- the documents that have a term, 128 in a block
+-- the same of each document that has the term
+abbrev pub ids_and_counts : Schema → Analyzer → List ℕ → List Document → List (ℕ × ℕ)
+ids_and_counts schema analyze t docs = map (id_and_count schema analyze t) (filter (holds schema analyze t) docs)
+
+-- the documents that have a term, 128 in a block, by length ids and counts
 abbrev pub blocks : Schema → Analyzer → List ℕ → List Document → List (List (ℕ × ℕ))
 blocks schema analyze t docs = pieces block_len (ids_and_counts schema analyze t docs)
+
+-- the same by the documents themselves
+abbrev pub document_blocks : Schema → Analyzer → List ℕ → List Document → List (List Document)
+document_blocks schema analyze t docs = pieces block_len (filter (holds schema analyze t) docs)
 
 -- of a full block the least length id and the greatest count; none of a rest, or where that count is too great
 abbrev pub bound_of : List (ℕ × ℕ) → Option (ℕ × ℕ)

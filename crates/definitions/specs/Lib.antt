@@ -46,6 +46,11 @@ pub mod NumberCodes
 pub mod Postings
 pub mod Blocks
 pub mod Sinks
+pub mod ScoredLists
+pub mod Answers
+pub mod Prefixes
+pub mod QueryTerms
+pub mod KeptLengths
 pub mod Disk
 pub mod Moments
 pub mod Examples

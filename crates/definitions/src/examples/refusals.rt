@@ -45,7 +45,6 @@ pub fn terms_are_of_indexed_fields()
     ensures not_indexed { refusal (record (text_entry "title") { indexed = false } ∷ []) (λ t. 60) (word "sea") ≡ Some faults.NotIndexed }
     ensures facet { refusal (bare "data" facet_kind ∷ []) (λ t. 60) (term (term_bytes 0 facet_kind []) basic) ≡ None }
     ensures other_kind { refusal books (λ t. 60) (term (term_bytes 1 text_kind (codes "sea")) basic) ≡ Some faults.TypeMismatch }
-    ensures text_before_offset { refusal json_data (λ t. 60) (phrase ((0, json_term 0 (codes "a") (codes "i" ++ replicate 8 0)) ∷ (1073741825, json_term 0 (codes "a") (codes "sx")) ∷ []) 0) ≡ Some faults.NotText }
     ensures no_path { refusal json_data (λ t. 60) (term (term_bytes 0 json_kind (codes "sx")) basic) ≡ Some faults.TypeMismatch }
     ensures path_before_the_zero { refusal json_data (λ t. 60) (term (term_bytes 0 json_kind (codes "s" ++ (0 ∷ codes "b"))) basic) ≡ Some faults.TypeMismatch }
     ensures no_inner_kind { refusal json_data (λ t. 60) (term (json_term 0 (codes "a") (codes "hx")) basic) ≡ Some faults.TypeMismatch }
@@ -93,6 +92,7 @@ pub fn boosts_have_a_limit_together()
 /// Of the tests of one node the earlier one decides.
 pub fn tests_have_an_order()
     ensures whole_before_limit { refusal books (λ t. 60) (phrase_prefix (in_a_row ("sea" ∷ [])) 50) ≡ Some faults.NoWholeTerm }
+    ensures text_before_offset { refusal json_data (λ t. 60) (phrase ((0, json_term 0 (codes "a") (codes "i" ++ replicate 8 0)) ∷ (1073741825, json_term 0 (codes "a") (codes "sx")) ∷ []) 0) ≡ Some faults.NotText }
     ensures offset_before_whole { refusal books (λ t. 60) (phrase_prefix ((1073741825, title_term "sea") ∷ []) 50) ≡ Some faults.OffsetTooLarge }
     ensures tie_before_score { refusal books (λ t. max_score) (best_of (word "sea" ∷ word "wind" ∷ []) 1001) ≡ Some faults.BadTieBreaker }
     ensures indexed_before_kind { refusal (record (text_entry "title") { indexed = false } ∷ []) (λ t. 60) (term (term_bytes 0 u64_kind (codes "sea")) basic) ≡ Some faults.NotIndexed }
