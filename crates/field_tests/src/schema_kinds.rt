@@ -3,27 +3,38 @@
 use definitions::Fault;
 use schema::{
     BytesOptions, COERCE, DateOptions, FAST, FacetOptions, INDEXED, IpAddrOptions,
-    JsonObjectOptions, NumericOptions, STORED, STRING, Schema, TEXT, TextFieldIndexing,
-    TextOptions,
+    JsonObjectOptions, NumericOptions, STORED, STRING, Schema, SchemaBuilder, TEXT,
+    TextFieldIndexing, TextOptions,
 };
-use std::alloc::Global;
+use std::alloc::{AllocError, Global};
 use std::test::Fail;
 
-// A field of each type, by the builder's calls and by flags.
-fn built(alloc: Global) -> Result<Schema, Fault> {
-    let mut builder = Schema::builder(alloc);
+/// Adds fields of texts and numbers, by calls and by flags.
+fn add_texts_and_numbers(builder: &mut SchemaBuilder) -> Result<(), Fault> {
     builder.add_text_field("t", TEXT | STORED | COERCE)?;
     builder.add_text_field("s", STRING.set_fast())?;
     builder.add_u64_field("n", INDEXED | FAST)?;
     builder.add_i64_field("i", NumericOptions::default().set_fieldnorm() | COERCE)?;
     builder.add_bool_field("o", STORED)?;
+    Ok(())
+}
+
+/// Adds fields of the other types.
+fn add_others(builder: &mut SchemaBuilder) -> Result<(), Fault> {
     builder.add_date_field("d", DateOptions::default().set_indexed())?;
     builder.add_facet_field("f", INDEXED | STORED)?;
     builder.add_bytes_field("b", BytesOptions::default().set_fieldnorms() | FAST)?;
-    let indexing = TextFieldIndexing::default();
-    let options = JsonObjectOptions::default().set_indexing_options(indexing);
+    let options = JsonObjectOptions::default().set_indexing_options(TextFieldIndexing::default());
     builder.add_json_field("j", options.set_expand_dots_enabled() | STORED)?;
     builder.add_ip_addr_field("p", INDEXED | STORED)?;
+    Ok(())
+}
+
+/// A schema with a field of each type.
+fn built(alloc: Global) -> Result<Schema, Fault> {
+    let mut builder = Schema::builder(alloc);
+    add_texts_and_numbers(&mut builder)?;
+    add_others(&mut builder)?;
     Ok(builder.build())
 }
 
@@ -41,35 +52,55 @@ const BUILT: [&str; 10] = [
     r#"{"name":"p","options":{"fast":false,"fieldnorms":true,"indexed":true,"stored":true},"type":"ip_addr"}"#,
 ];
 
-#[test]
-fn fields_of_all_types_are_added(rt: HostRuntime) -> Result<(), Fail> {
-    let alloc = rt.alloc();
+/// Whether that schema has its fields.
+fn are_built(alloc: Global) -> Result<bool, Fault> {
     let value = built(alloc)?.to_json_value(alloc)?;
     let fields = value.as_array().ok_or(Fault::BadSchema)?;
-    assert_eq!(rt; fields.len(), BUILT.len());
+    let mut right = fields.len() == BUILT.len();
     for (field, expected) in fields.iter().zip(BUILT) {
-        assert_eq!(rt; field.to_string(alloc)?.as_str(), expected);
+        right &= field.to_string(alloc)?.as_str() == expected;
     }
+    Ok(right)
+}
+
+#[test]
+fn fields_of_all_types_are_added(rt: HostRuntime) -> Result<(), Fail> {
+    assert!(rt; are_built(rt.alloc())?);
     Ok(())
+}
+
+/// Whether dates and facets have the flags that they are given.
+fn dates_and_facets_have_flags() -> bool {
+    let date = DateOptions::from(STORED | INDEXED | FAST);
+    date.is_stored()
+        && date.fieldnorms()
+        && date.is_fast()
+        && (STORED | DateOptions::default()).is_stored()
+        && !DateOptions::from(STORED).is_indexed()
+        && FacetOptions::from(STORED | INDEXED).is_stored()
+        && !FacetOptions::from(INDEXED).is_stored()
+        && (FacetOptions::default() | STORED).is_stored()
+}
+
+/// Whether values of the other types have.
+fn others_have_flags() -> bool {
+    (BytesOptions::default() | INDEXED).fieldnorms()
+        && (IpAddrOptions::default().set_indexed() | FAST).is_fast()
+        && JsonObjectOptions::from(STORED | FAST).is_fast()
+        && NumericOptions::from(COERCE | FAST).should_coerce()
+        && TextOptions::from(COERCE).should_coerce()
+        && (FAST | TextOptions::default()).is_fast()
+}
+
+/// Whether a copy of the options of a JSON field keeps that it is indexed.
+fn is_copy_indexed() -> Result<bool, AllocError> {
+    let json = JsonObjectOptions::default().set_indexing_options(TextFieldIndexing::default());
+    Ok(json.clone()?.is_indexed())
 }
 
 // Each generic call at the flags of its options.
 #[test]
 fn flags_of_the_other_types(rt: HostRuntime) -> Result<(), Fail> {
-    let date = DateOptions::from(STORED | INDEXED | FAST);
-    assert!(rt; date.is_stored() && date.fieldnorms() && date.is_fast());
-    assert!(rt; (STORED | DateOptions::default()).is_stored());
-    assert!(rt; !DateOptions::from(STORED).is_indexed());
-    assert!(rt; FacetOptions::from(STORED | INDEXED).is_stored());
-    assert!(rt; !FacetOptions::from(INDEXED).is_stored());
-    assert!(rt; (FacetOptions::default() | STORED).is_stored());
-    assert!(rt; (BytesOptions::default() | INDEXED).fieldnorms());
-    assert!(rt; (IpAddrOptions::default().set_indexed() | FAST).is_fast());
-    assert!(rt; JsonObjectOptions::from(STORED | FAST).is_fast());
-    assert!(rt; NumericOptions::from(COERCE | FAST).should_coerce());
-    assert!(rt; TextOptions::from(COERCE).should_coerce());
-    assert!(rt; (FAST | TextOptions::default()).is_fast());
-    let json = JsonObjectOptions::default().set_indexing_options(TextFieldIndexing::default());
-    assert!(rt; json.clone()?.is_indexed());
+    assert!(rt; dates_and_facets_have_flags() && others_have_flags() && is_copy_indexed()?);
     Ok(())
 }

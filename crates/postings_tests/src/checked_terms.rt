@@ -6,6 +6,7 @@ use checked_postings::check_term;
 use codes::FieldNormReader;
 use definitions::Fault;
 use options::IndexRecordOption;
+use std::alloc::{AllocError, Global};
 use std::test::Fail;
 
 const BASIC: IndexRecordOption = IndexRecordOption::Basic;
@@ -13,21 +14,21 @@ const BASIC: IndexRecordOption = IndexRecordOption::Basic;
 const POSITIONS: IndexRecordOption = IndexRecordOption::WithFreqsAndPositions;
 
 // The documents 0 and 1, with counts 1 and 2.
-const TWO: [u8; 4] = [0x80, 0x80, 0x80, 0x81];
+const POSTINGS_OF_TWO: [u8; 4] = [0x80, 0x80, 0x80, 0x81];
 
 const POSITIONS_OF_TWO: [u8; 4] = [0x80, 0x82, 0x80, 0x81];
 
 // 128 documents of length id 1.
-const ALL: [u8; 8] = [0x87, 0x7f, 0, 0, 0, 0, 1, 1];
+const POSTINGS_OF_ALL: [u8; 8] = [0x87, 0x7f, 0, 0, 0, 0, 1, 1];
 
 // The documents 0, 2, .. 254 of a field without lengths.
-const EVERY_SECOND: [u8; 24] = [
+const POSTINGS_OF_EVERY_SECOND: [u8; 24] = [
     0x87, 0xfe, 0, 0, 0, 1, 1, 1, 0xfe, 0xff, 0xff, 0xff, 0xff, 0xff, 0xff, 0xff, 0xff, 0xff, 0xff,
     0xff, 0xff, 0xff, 0xff, 0xff,
 ];
 
 // 128 documents of length id 1, each with count 3, and their positions: each 0.
-const COUNTED: [u8; 45] = [
+const POSTINGS_OF_COUNTED: [u8; 45] = [
     0x8c, 0x7f, 0, 0, 0, 0, 2, 0x80, 1, 0, 0, 1, 3, 0xaa, 0xaa, 0xaa, 0xaa, 0xaa, 0xaa, 0xaa, 0xaa,
     0xaa, 0xaa, 0xaa, 0xaa, 0xaa, 0xaa, 0xaa, 0xaa, 0xaa, 0xaa, 0xaa, 0xaa, 0xaa, 0xaa, 0xaa, 0xaa,
     0xaa, 0xaa, 0xaa, 0xaa, 0xaa, 0xaa, 0xaa, 0xaa,
@@ -45,117 +46,149 @@ fn reader_of(kept: bool, num_docs: u32) -> Option<FieldNormReader<'static>>
     Some(FieldNormReader::constant(num_docs, 1))
 }
 
-// The check of a term of so many documents, in a segment of at most 1000.
-fn checked(
-    postings: &[u8],
-    positions: &[u8],
+// The bytes of a term, how many documents have it, what is recorded of it, whether its field keeps lengths, and how many
+// documents there are, at most 1000.
+#[derive(Clone, Copy)]
+struct Written<'a> {
+    postings: &'a [u8],
+    positions: &'a [u8],
     doc_freq: u32,
     option: IndexRecordOption,
     kept: bool,
     num_docs: u32,
-) -> Result<u64, Fault> {
-    let num_docs = num_docs.min(1000);
-    check_term(
-        postings,
-        positions,
-        doc_freq,
-        option,
-        &reader_of(kept, num_docs),
-        num_docs,
-    )
 }
+
+const TWO: Written<'static> = Written {
+    postings: &POSTINGS_OF_TWO,
+    positions: &POSITIONS_OF_TWO,
+    doc_freq: 2,
+    option: POSITIONS,
+    kept: true,
+    num_docs: 3,
+};
+
+const ALL: Written<'static> = Written {
+    postings: &POSTINGS_OF_ALL,
+    positions: &[],
+    doc_freq: 128,
+    option: BASIC,
+    kept: true,
+    num_docs: 128,
+};
+
+const EVERY_SECOND: Written<'static> = Written {
+    postings: &POSTINGS_OF_EVERY_SECOND,
+    positions: &[],
+    doc_freq: 128,
+    option: BASIC,
+    kept: false,
+    num_docs: 255,
+};
+
+const COUNTED: Written<'static> = Written {
+    postings: &POSTINGS_OF_COUNTED,
+    positions: &POSITIONS_OF_COUNTED,
+    doc_freq: 128,
+    option: POSITIONS,
+    kept: true,
+    num_docs: 128,
+};
 
 const DAMAGED: Result<u64, Fault> = Err(Fault::Damaged(None));
 
+// Whether the check of a term answers so.
+fn answers(term: Written<'_>, answer: Result<u64, Fault>) -> bool {
+    let num_docs = term.num_docs.min(1000);
+    let ids = reader_of(term.kept, num_docs);
+    let found = check_term(
+        term.postings,
+        term.positions,
+        term.doc_freq,
+        term.option,
+        &ids,
+        num_docs,
+    );
+    found == answer
+}
+
+// Whether worked terms are accepted, each with the sum of its counts.
+fn are_accepted() -> bool {
+    answers(TWO, Ok(3))
+        && answers(ALL, Ok(128))
+        && answers(EVERY_SECOND, Ok(128))
+        && answers(COUNTED, Ok(384))
+}
+
 #[test]
 fn worked_terms_are_accepted(rt: HostRuntime) -> Result<(), Fail> {
-    assert_eq!(rt;
-        checked(&TWO, &POSITIONS_OF_TWO, 2, POSITIONS, true, 3),
-        Ok(3)
-    );
-    assert_eq!(rt; checked(&ALL, &[], 128, BASIC, true, 128), Ok(128));
-    assert_eq!(rt;
-        checked(&EVERY_SECOND, &[], 128, BASIC, false, 255),
-        Ok(128)
-    );
-    assert_eq!(rt;
-        checked(&COUNTED, &POSITIONS_OF_COUNTED, 128, POSITIONS, true, 128),
-        Ok(384)
-    );
+    assert!(rt; are_accepted());
     Ok(())
+}
+
+// Whether a term whose postings are cut at any length is damaged.
+fn cut_postings_are_damaged(term: Written<'_>) -> bool {
+    let mut right = true;
+    for len in 0..term.postings.len() {
+        let mut cut = term;
+        cut.postings = &term.postings[..len];
+        right &= answers(cut, DAMAGED);
+    }
+    right
+}
+
+// Whether a term whose positions are cut at any length is damaged.
+fn cut_positions_are_damaged(term: Written<'_>) -> bool {
+    let mut right = true;
+    for len in 0..term.positions.len() {
+        let mut cut = term;
+        cut.positions = &term.positions[..len];
+        right &= answers(cut, DAMAGED);
+    }
+    right
 }
 
 #[test]
 fn cuts_are_damaged(rt: HostRuntime) -> Result<(), Fail> {
-    for len in 0..4 {
-        assert_eq!(rt;
-            checked(&TWO[..len], &POSITIONS_OF_TWO, 2, POSITIONS, true, 3),
-            DAMAGED
-        );
-        assert_eq!(rt;
-            checked(&TWO, &POSITIONS_OF_TWO[..len], 2, POSITIONS, true, 3),
-            DAMAGED
-        );
-    }
-    for len in 0..8 {
-        assert_eq!(rt; checked(&ALL[..len], &[], 128, BASIC, true, 128), DAMAGED);
-    }
-    for len in 0..24 {
-        assert_eq!(rt;
-            checked(&EVERY_SECOND[..len], &[], 128, BASIC, false, 255),
-            DAMAGED
-        );
-    }
+    let right = cut_postings_are_damaged(TWO)
+        && cut_positions_are_damaged(TWO)
+        && cut_postings_are_damaged(ALL)
+        && cut_postings_are_damaged(EVERY_SECOND);
+    assert!(rt; right);
     Ok(())
+}
+
+// Whether a term is damaged with this byte at any place of its postings, unless the byte is there anyway.
+fn changes_are_damaged(
+    alloc: Global,
+    term: Written<'_>,
+    byte: u8,
+    answer: Result<u64, Fault>,
+) -> Result<bool, AllocError> {
+    let mut right = true;
+    for place in 0..term.postings.len() {
+        let mut bytes = term.postings.to_vec(alloc)?;
+        bytes[place] = byte;
+        let mut changed = term;
+        changed.postings = &bytes;
+        let is_same = byte == term.postings[place];
+        right &= answers(changed, if is_same { answer } else { DAMAGED });
+    }
+    Ok(right)
+}
+
+// Whether worked terms are damaged with this byte at any place.
+fn terms_are_damaged(alloc: Global, byte: u8) -> Result<bool, AllocError> {
+    let mut right = changes_are_damaged(alloc, TWO, byte, Ok(3))?;
+    right &= changes_are_damaged(alloc, ALL, byte, Ok(128))?;
+    right &= changes_are_damaged(alloc, EVERY_SECOND, byte, Ok(128))?;
+    right &= changes_are_damaged(alloc, COUNTED, byte, Ok(384))?;
+    Ok(right)
 }
 
 #[test]
 fn changed_bytes_are_damaged(rt: HostRuntime) -> Result<(), Fail> {
-    for byte in [0, 0xff] {
-        for place in 0..4 {
-            let mut bytes = TWO;
-            bytes[place] = byte;
-            assert_eq!(rt;
-                checked(&bytes, &POSITIONS_OF_TWO, 2, POSITIONS, true, 3),
-                DAMAGED
-            );
-        }
-        for place in 0..8 {
-            let mut bytes = ALL;
-            bytes[place] = byte;
-            let answer = if byte == ALL[place] { Ok(128) } else { DAMAGED };
-            assert_eq!(rt;
-                checked(&bytes, &[], 128, BASIC, true, 128),
-                answer,
-                "{place}"
-            );
-        }
-        for place in 0..24 {
-            let mut bytes = EVERY_SECOND;
-            bytes[place] = byte;
-            let answer = if byte == EVERY_SECOND[place] {
-                Ok(128)
-            } else {
-                DAMAGED
-            };
-            assert_eq!(rt;
-                checked(&bytes, &[], 128, BASIC, false, 255),
-                answer,
-                "{place}"
-            );
-        }
-        for place in 0..45 {
-            let mut bytes = COUNTED;
-            bytes[place] = byte;
-            let answer = if byte == COUNTED[place] {
-                Ok(384)
-            } else {
-                DAMAGED
-            };
-            let found = checked(&bytes, &POSITIONS_OF_COUNTED, 128, POSITIONS, true, 128);
-            assert_eq!(rt; found, answer, "{place}");
-        }
-    }
+    let right = terms_are_damaged(rt.alloc(), 0)? && terms_are_damaged(rt.alloc(), 0xff)?;
+    assert!(rt; right);
     Ok(())
 }
 
@@ -177,38 +210,53 @@ const OF_TWO: [(&[u8], Result<u64, Fault>); 6] = [
     (&[], Err(Fault::Damaged(None))),
 ];
 
+// Whether the term of two documents is answered so with each of these positions.
+fn are_positions_checked() -> bool {
+    let mut right = true;
+    for (positions, answer) in OF_TWO {
+        let mut term = TWO;
+        term.positions = positions;
+        right &= answers(term, answer);
+    }
+    let mut of_none = ALL;
+    of_none.positions = &[0x80];
+    right && answers(of_none, DAMAGED)
+}
+
 #[test]
 fn positions_are_checked(rt: HostRuntime) -> Result<(), Fail> {
-    for (positions, answer) in OF_TWO {
-        assert_eq!(rt; checked(&TWO, positions, 2, POSITIONS, true, 3), answer);
-    }
-    assert_eq!(rt; checked(&ALL, &[0x80], 128, BASIC, true, 128), DAMAGED);
+    assert!(rt; are_positions_checked());
     Ok(())
+}
+
+// Whether a term of a segment of so many documents is answered so.
+fn answers_among(term: Written<'_>, num_docs: u32, answer: Result<u64, Fault>) -> bool {
+    let mut term = term;
+    term.num_docs = num_docs;
+    answers(term, answer)
+}
+
+// Whether a document past those of the segment is damage.
+fn are_documents_limited() -> bool {
+    answers_among(TWO, 2, Ok(3))
+        && answers_among(TWO, 1, DAMAGED)
+        && answers_among(EVERY_SECOND, 254, DAMAGED)
+}
+
+// Whether a term is damaged with another number of documents, or with a byte behind it.
+fn are_documents_counted() -> bool {
+    let mut of_one = TWO;
+    of_one.doc_freq = 1;
+    let mut of_none = ALL;
+    of_none.postings = &[];
+    of_none.doc_freq = 0;
+    let mut longer = TWO;
+    longer.postings = &[0x80, 0x80, 0x80, 0x81, 0x80];
+    answers(of_one, DAMAGED) && answers(of_none, DAMAGED) && answers(longer, DAMAGED)
 }
 
 #[test]
 fn documents_are_those_of_the_segment(rt: HostRuntime) -> Result<(), Fail> {
-    assert_eq!(rt;
-        checked(&TWO, &POSITIONS_OF_TWO, 2, POSITIONS, true, 2),
-        Ok(3)
-    );
-    assert_eq!(rt;
-        checked(&TWO, &POSITIONS_OF_TWO, 2, POSITIONS, true, 1),
-        DAMAGED
-    );
-    assert_eq!(rt;
-        checked(&EVERY_SECOND, &[], 128, BASIC, false, 254),
-        DAMAGED
-    );
-    assert_eq!(rt;
-        checked(&TWO, &POSITIONS_OF_TWO, 1, POSITIONS, true, 3),
-        DAMAGED
-    );
-    assert_eq!(rt; checked(&[], &[], 0, BASIC, true, 3), DAMAGED);
-    let behind = [0x80, 0x80, 0x80, 0x81, 0x80];
-    assert_eq!(rt;
-        checked(&behind, &POSITIONS_OF_TWO, 2, POSITIONS, true, 3),
-        DAMAGED
-    );
+    assert!(rt; are_documents_limited() && are_documents_counted());
     Ok(())
 }

@@ -18,8 +18,7 @@ use postings::{
     BlockSegmentPostings, DocSet, Postings, PostingsSerializer, SeekDangerResult, SegmentPostings,
 };
 use skips::Recorded;
-use std::alloc::Global;
-use std::process::Abort;
+use std::alloc::{AllocError, Global};
 use std::test::Fail;
 
 const LENGTHS: [u16; 8] = [0, 1, 127, 128, 129, 256, 257, 1000];
@@ -154,154 +153,142 @@ fn block_opened<'a>(bytes: &'a [u8], num_docs: u32) -> BlockSegmentPostings<'a>
     BlockSegmentPostings::new(bytes, num_docs, recorded(FREQS), true, false)
 }
 
-/// Each document with its count, and what the counter says there.
-fn walks(
-    rt: &impl Abort,
-    postings: &mut SegmentPostings,
-    num_docs: u32,
-    counted: bool,
-) -> Result<(), Fail>
+/// Whether each document comes with its count, and the counter tells the blocks.
+fn walks(postings: &mut SegmentPostings, num_docs: u32, counted: bool) -> bool
     requires { num_docs ≤ 65535 }
 {
     let mut decoded = u64::from(num_docs.min(1));
+    let mut right = true;
     for place in 0..num_docs + 200 {
-        assert_eq!(rt; postings.doc(), doc_at(place, num_docs));
-        assert_eq!(rt; postings.decoded_blocks(), decoded, "{place} of {num_docs}");
+        right &= postings.doc() == doc_at(place, num_docs) && postings.decoded_blocks() == decoded;
         if postings.doc() < TERMINATED {
-            let count = if counted { count_at(place) } else { 1 };
-            assert_eq!(rt; postings.term_freq(), count);
+            right &= postings.term_freq() == if counted { count_at(place) } else { 1 };
         }
-        assert_eq!(rt; postings.advance(), doc_at(place + 1, num_docs));
+        right &= postings.advance() == doc_at(place + 1, num_docs);
         decoded = decoded.wrapping_add(u64::from(enters(place, place + 1, num_docs)));
     }
-    Ok(())
+    right
 }
 
-#[test]
-fn terms_are_walked(rt: HostRuntime) -> Result<(), Fail> {
-    for num_docs in LENGTHS {
-        let num_docs = u32::from(num_docs);
-        for option in [BASIC, FREQS, POSITIONS] {
-            let bytes = written(rt.alloc(), option, num_docs)?;
-            let mut postings = opened(&bytes, option, num_docs);
-            assert_eq!(rt; postings.doc_freq(), num_docs);
-            walks(&rt, &mut postings, num_docs, option.has_freq())?;
-            let mut postings = opened(&bytes, option, num_docs);
-            assert_eq!(rt; postings.count_including_deleted(), num_docs);
-            assert_eq!(rt; postings.doc(), TERMINATED);
-        }
-    }
-    Ok(())
+/// Whether a term of so many documents is walked, and counted to its end.
+fn is_walked(alloc: Global, option: IndexRecordOption, num_docs: u32) -> Result<bool, Fault>
+    requires { num_docs ≤ 65535 }
+{
+    let bytes = written(alloc, option, num_docs)?;
+    let mut postings = opened(&bytes, option, num_docs);
+    let walked = postings.doc_freq() == num_docs
+        && walks(&mut postings, num_docs, option.has_freq());
+    let mut postings = opened(&bytes, option, num_docs);
+    let counted = postings.count_including_deleted() == num_docs;
+    Ok(walked && counted && postings.doc() == TERMINATED)
 }
 
-/// Seeks in steps of so many documents.
-fn seeks(
-    rt: &impl Abort,
-    postings: &mut SegmentPostings,
-    num_docs: u32,
-    stride: u32,
-) -> Result<(), Fail>
+/// Whether seeks in steps of so many documents come to theirs.
+fn seeks(postings: &mut SegmentPostings, num_docs: u32, stride: u32) -> bool
     requires { num_docs ≤ 65535 }
 {
     let mut place = 0;
     let mut decoded = u64::from(num_docs.min(1));
     let mut target = 0u32;
+    let mut right = true;
     for _ in 0..3 * num_docs + 3 {
         if postings.doc() <= target && target <= TERMINATED {
             let to = below(target, num_docs);
-            assert_eq!(rt;
-                postings.seek(target),
-                doc_at(to, num_docs),
-                "{target} of {num_docs}"
-            );
-            assert_eq!(rt; postings.doc(), doc_at(to, num_docs));
+            right &= postings.seek(target) == doc_at(to, num_docs);
+            right &= postings.doc() == doc_at(to, num_docs);
             decoded = decoded.wrapping_add(u64::from(enters(place, to, num_docs)));
-            assert_eq!(rt;
-                postings.decoded_blocks(),
-                decoded,
-                "{target} of {num_docs}"
-            );
+            right &= postings.decoded_blocks() == decoded;
             place = to;
         }
         target = target.wrapping_add(stride);
     }
-    Ok(())
+    right
 }
 
-#[test]
-fn each_document_is_sought(rt: HostRuntime) -> Result<(), Fail> {
-    for num_docs in LENGTHS {
-        let num_docs = u32::from(num_docs);
-        for option in [BASIC, FREQS, POSITIONS] {
-            let bytes = written(rt.alloc(), option, num_docs)?;
-            for stride in STRIDES {
-                let mut postings = opened(&bytes, option, num_docs);
-                seeks(&rt, &mut postings, num_docs, stride)?;
-            }
-        }
+/// Whether a term of so many documents is sought in each step.
+fn is_sought(alloc: Global, option: IndexRecordOption, num_docs: u32) -> Result<bool, Fault>
+    requires { num_docs ≤ 65535 }
+{
+    let bytes = written(alloc, option, num_docs)?;
+    let mut right = true;
+    for stride in STRIDES {
+        right &= seeks(&mut opened(&bytes, option, num_docs), num_docs, stride);
     }
-    Ok(())
+    Ok(right)
 }
 
-/// Asks for each document in steps of so many, and then seeks it.
-fn asks(rt: &impl Abort, docs: &mut impl DocSet, num_docs: u32, stride: u32) -> Result<(), Fail>
+/// Whether what a cursor answers for a document agrees with the next one that it has.
+fn is_told(found: SeekDangerResult, target: u32, next: u32) -> bool {
+    match found {
+        SeekDangerResult::Found => target == next,
+        SeekDangerResult::SeekLowerBound(bound) => target < bound && bound <= next,
+    }
+}
+
+/// Whether each document is told that is asked for in steps of so many, and then sought.
+fn asks(docs: &mut impl DocSet, num_docs: u32, stride: u32) -> bool
     requires { num_docs ≤ 65535 }
 {
     let mut target = 0u32;
+    let mut right = true;
     for _ in 0..3 * num_docs + 3 {
         if target >= TERMINATED {
-            return Ok(());
+            return right;
         }
         let next = doc_at(below(target, num_docs), num_docs);
-        match docs.seek_danger(target) {
-            SeekDangerResult::Found => assert_eq!(rt; target, next),
-            SeekDangerResult::SeekLowerBound(bound) => {
-                assert!(rt; target < bound && bound <= next, "{target} of {num_docs}");
-            }
-        }
+        right &= is_told(docs.seek_danger(target), target, next);
         if docs.doc() <= target {
-            assert_eq!(rt; docs.seek(target), next);
+            right &= docs.seek(target) == next;
         }
-        assert_eq!(rt; docs.doc(), next);
+        right &= docs.doc() == next;
         target = target.wrapping_add(stride);
     }
-    Ok(())
+    right
 }
 
-#[test]
-fn each_document_is_asked_for(rt: HostRuntime) -> Result<(), Fail> {
-    for num_docs in LENGTHS {
-        let num_docs = u32::from(num_docs);
-        for option in [BASIC, FREQS, POSITIONS] {
-            let bytes = written(rt.alloc(), option, num_docs)?;
-            for stride in STRIDES {
-                asks(&rt, &mut opened(&bytes, option, num_docs), num_docs, stride)?;
-            }
-        }
-    }
-    Ok(())
-}
-
-/// Fills buffers to the end.
-fn fills(rt: &impl Abort, docs: &mut impl DocSet, num_docs: u32) -> Result<(), Fail>
+/// Whether a term of so many documents is asked for in each step.
+fn is_asked_for(alloc: Global, option: IndexRecordOption, num_docs: u32) -> Result<bool, Fault>
     requires { num_docs ≤ 65535 }
 {
+    let bytes = written(alloc, option, num_docs)?;
+    let mut right = true;
+    for stride in STRIDES {
+        right &= asks(&mut opened(&bytes, option, num_docs), num_docs, stride);
+    }
+    Ok(right)
+}
+
+/// Whether a buffer that was filled to a number has the documents from a place on.
+fn has_docs(buffer: &[u32; 64], filled: u32, first: u32, num_docs: u32) -> bool
+    requires { num_docs ≤ 65535 }
+{
+    let mut right = true;
+    for (i, doc) in buffer.into_iter().enumerate() {
+        if (i as u32) < filled {
+            right &= *doc == doc_at(first.wrapping_add(i as u32), num_docs);
+        }
+    }
+    right
+}
+
+/// Whether buffers are filled to the end.
+fn fills(docs: &mut impl DocSet, num_docs: u32) -> bool
+    requires { num_docs ≤ 65535 }
+{
+    let mut right = true;
     for turn in 0..num_docs / 64 + 2 {
+        let first = 64 * turn;
         let mut buffer = [0; 64];
         let filled = docs.fill_buffer(&mut buffer) as u32;
-        assert_eq!(rt; filled, 64.min(num_docs.saturating_sub(64 * turn)));
-        for (i, doc) in buffer.into_iter().enumerate() {
-            if (i as u32) < filled {
-                assert_eq!(rt; doc, doc_at(64 * turn + i as u32, num_docs));
-            }
-        }
-        assert_eq!(rt; docs.doc(), doc_at(64 * turn + 64, num_docs));
+        right &= filled == 64.min(num_docs.saturating_sub(first));
+        right &= has_docs(&buffer, filled, first, num_docs);
+        right &= docs.doc() == doc_at(first + 64, num_docs);
     }
-    Ok(())
+    right
 }
 
 /// Which documents are alive: those at even places.
-fn every_second(alloc: Global, num_docs: u32) -> Result<AliveBitSet, Fail>
+fn every_second(alloc: Global, num_docs: u32) -> Result<AliveBitSet, Fault>
     requires { num_docs ≤ 65535 }
     ensures { IfOk result (λ alive. length alive ≡ 3 * num_docs) }
 {
@@ -314,129 +301,185 @@ fn every_second(alloc: Global, num_docs: u32) -> Result<AliveBitSet, Fail>
     Ok(alive)
 }
 
-#[test]
-fn documents_are_counted_and_copied(rt: HostRuntime) -> Result<(), Fail> {
+/// Whether the documents of a term are copied, and those that are alive are counted.
+fn is_counted(alloc: Global, option: IndexRecordOption, num_docs: u32) -> Result<bool, Fault>
+    requires { num_docs ≤ 65535 }
+{
+    let alive = every_second(alloc, num_docs)?;
+    let bytes = written(alloc, option, num_docs)?;
+    let copied = fills(&mut opened(&bytes, option, num_docs), num_docs);
+    let mut postings = opened(&bytes, option, num_docs);
+    let counted = postings.count(&alive) == num_docs.div_ceil(2);
+    Ok(copied && counted && postings.doc() == TERMINATED)
+}
+
+/// Whether all moves over terms of each length are right.
+fn are_moves_right(alloc: Global, option: IndexRecordOption) -> Result<bool, Fault> {
+    let mut right = true;
     for num_docs in LENGTHS {
         let num_docs = u32::from(num_docs);
-        let alive = every_second(rt.alloc(), num_docs)?;
-        for option in [BASIC, FREQS, POSITIONS] {
-            let bytes = written(rt.alloc(), option, num_docs)?;
-            fills(&rt, &mut opened(&bytes, option, num_docs), num_docs)?;
-            let mut postings = opened(&bytes, option, num_docs);
-            assert_eq!(rt; postings.count(&alive), num_docs.div_ceil(2));
-            assert_eq!(rt; postings.doc(), TERMINATED);
-        }
+        right &= is_walked(alloc, option, num_docs)?;
+        right &= is_sought(alloc, option, num_docs)?;
+        right &= is_asked_for(alloc, option, num_docs)?;
+        right &= is_counted(alloc, option, num_docs)?;
     }
+    Ok(right)
+}
+
+#[test]
+fn documents_are_moved_over(rt: HostRuntime) -> Result<(), Fail> {
+    assert!(rt; are_moves_right(rt.alloc(), BASIC)?);
     Ok(())
 }
 
-/// Each document's positions, seeking in steps of so many documents.
-fn places(
-    rt: &impl Abort,
+#[test]
+fn documents_with_counts_are_moved_over(rt: HostRuntime) -> Result<(), Fail> {
+    assert!(rt; are_moves_right(rt.alloc(), FREQS)?);
+    Ok(())
+}
+
+#[test]
+fn documents_with_positions_are_moved_over(rt: HostRuntime) -> Result<(), Fail> {
+    assert!(rt; are_moves_right(rt.alloc(), POSITIONS)?);
+    Ok(())
+}
+
+/// Whether the positions of the current document are told in each form.
+fn has_places(postings: &mut impl Postings, output: &mut Vec<u32>) -> Result<bool, AllocError> {
+    let doc = postings.doc();
+    if doc >= TERMINATED {
+        return Ok(true);
+    }
+    let first = doc / 3;
+    let count = count_at(first) as usize;
+    let counted = postings.term_freq() as usize == count && count <= postings.most_positions();
+    postings.positions(output)?;
+    let own = output.as_slice() == &[first, first + 5, first + 10][..count];
+    postings.append_positions_with_offset(9, output)?;
+    let appended = output.get(count..) == Some(&[first + 9, first + 14, first + 19][..count]);
+    postings.positions_with_offset(1000, output)?;
+    let moved = output.as_slice() == &[first + 1000, first + 1005, first + 1010][..count];
+    Ok(counted && own && appended && moved)
+}
+
+/// Whether each document has its positions, seeking in steps of so many documents.
+fn has_all_places(
     alloc: Global,
     postings: &mut impl Postings,
     num_docs: u32,
     stride: u32,
-) -> Result<(), Fail> {
+) -> Result<bool, AllocError> {
     let mut output = Vec::new(alloc);
+    let mut right = true;
     for _ in 0..num_docs {
+        right &= has_places(postings, &mut output)?;
         let doc = postings.doc();
-        if doc >= TERMINATED {
-            return Ok(());
-        }
-        let first = doc / 3;
-        let count = count_at(first) as usize;
-        assert_eq!(rt; postings.term_freq() as usize, count);
-        assert!(rt; count <= postings.most_positions());
-        postings.positions(&mut output)?;
-        assert_eq!(rt; output.as_slice(), &[first, first + 5, first + 10][..count]);
-        postings.append_positions_with_offset(9, &mut output)?;
-        assert_eq!(rt;
-            output.get(count..),
-            Some(&[first + 9, first + 14, first + 19][..count])
-        );
-        postings.positions_with_offset(1000, &mut output)?;
-        assert_eq!(rt;
-            output.as_slice(),
-            &[first + 1000, first + 1005, first + 1010][..count]
-        );
-        postings.seek(doc.saturating_add(stride).min(TERMINATED));
-    }
-    Ok(())
-}
-
-#[test]
-fn positions_are_read_at_each_document(rt: HostRuntime) -> Result<(), Fail> {
-    for num_docs in LENGTHS {
-        let num_docs = u32::from(num_docs);
-        let (bytes, numbers) = written_places(rt.alloc(), num_docs)?;
-        for stride in STRIDES {
-            let mut postings = places_opened(&bytes, &numbers, num_docs);
-            places(&rt, rt.alloc(), &mut postings, num_docs, stride)?;
+        if doc < TERMINATED {
+            postings.seek(doc.saturating_add(stride).min(TERMINATED));
         }
     }
-    Ok(())
+    Ok(right)
 }
 
-/// The block that is held: documents and counts from a place on.
-fn holds(
-    rt: &impl Abort,
-    blocks: &BlockSegmentPostings,
-    place: u32,
-    num_docs: u32,
-) -> Result<(), Fail>
+/// Whether the positions of a term of so many documents are read in each step.
+fn are_places_read(alloc: Global, num_docs: u32) -> Result<bool, Fault>
+    requires { num_docs ≤ 65535 }
+{
+    let (bytes, numbers) = written_places(alloc, num_docs)?;
+    let mut right = true;
+    for stride in STRIDES {
+        let mut postings = places_opened(&bytes, &numbers, num_docs);
+        right &= has_all_places(alloc, &mut postings, num_docs, stride)?;
+    }
+    Ok(right)
+}
+
+/// Whether the block that is held has this place, the document there and its count.
+fn holds_place(blocks: &BlockSegmentPostings, i: usize, at: u32, num_docs: u32) -> bool
+    requires place { i < 128 }
+    requires few { num_docs ≤ 65535 }
+{
+    if i >= blocks.block_len() {
+        return true;
+    }
+    blocks.docs().get(i) == Some(&doc_at(at, num_docs))
+        && blocks.freqs().get(i) == Some(&count_at(at))
+        && blocks.freq(i) == count_at(at)
+}
+
+/// Whether the block that is held has the documents and the counts from a place on.
+fn holds(blocks: &BlockSegmentPostings, place: u32, num_docs: u32) -> bool
     requires few { num_docs ≤ 65535 }
     requires place { place ≤ num_docs }
 {
     let len = blocks.block_len();
-    assert_eq!(rt; len, 128.min(num_docs - place) as usize);
-    assert_eq!(rt; blocks.docs().len(), len);
-    assert_eq!(rt; blocks.freqs().len(), len);
+    let mut right = len == 128.min(num_docs - place) as usize;
+    right &= blocks.docs().len() == len && blocks.freqs().len() == len;
     for i in 0..128 {
         let at = place + i as u32;
-        assert_eq!(rt; blocks.doc(i), doc_at(at, num_docs));
-        if i < len {
-            assert_eq!(rt; blocks.docs().get(i), Some(&doc_at(at, num_docs)));
-            assert_eq!(rt; blocks.freqs().get(i), Some(&count_at(at)));
-            assert_eq!(rt; blocks.freq(i), count_at(at));
-        }
+        right &= blocks.doc(i) == doc_at(at, num_docs) && holds_place(blocks, i, at, num_docs);
     }
-    Ok(())
+    right
+}
+
+/// Whether the blocks of a term of so many documents come one after another.
+fn are_blocks_walked(alloc: Global, num_docs: u32) -> Result<bool, Fault>
+    requires { num_docs ≤ 65535 }
+{
+    let bytes = written(alloc, FREQS, num_docs)?;
+    let mut blocks = block_opened(&bytes, num_docs);
+    let mut right = blocks.doc_freq() == num_docs;
+    for block in 0..num_docs / 128 + 1 {
+        let decoded = (block + 1).min(num_docs.div_ceil(128));
+        right &= holds(&blocks, 128 * block, num_docs);
+        right &= blocks.decoded_blocks() == u64::from(decoded);
+        blocks.advance();
+    }
+    Ok(right && blocks.block_len() == 0)
+}
+
+/// Whether a seek of blocks comes to the block of its document, and to the document's place there.
+fn is_block_sought(bytes: &[u8], target: u32, num_docs: u32) -> bool
+    requires few { num_docs ≤ 65535 }
+    requires target { target ≤ 2147483647 }
+    requires known { (docs counts : List ℕ) × HasPostings true false num_docs bytes.now docs counts }
+{
+    let mut blocks = block_opened(bytes, num_docs);
+    let place = below(target, num_docs);
+    let at = (place % 128) as usize;
+    let entered = u64::from(enters(0, place, num_docs));
+    let decoded = u64::from(num_docs.min(1)).wrapping_add(entered);
+    blocks.seek(target) == at
+        && blocks.doc(at) == doc_at(place, num_docs)
+        && blocks.decoded_blocks() == decoded
+}
+
+/// Whether each seek in a term of so many documents does.
+fn are_blocks_sought(alloc: Global, num_docs: u32) -> Result<bool, Fault>
+    requires { num_docs ≤ 65535 }
+{
+    let bytes = written(alloc, FREQS, num_docs)?;
+    let mut right = true;
+    for target in 0..3 * num_docs + 2 {
+        right &= is_block_sought(&bytes, target, num_docs);
+    }
+    Ok(right)
+}
+
+/// Whether the positions and the blocks of terms of each length are right.
+fn are_parts_right(alloc: Global) -> Result<bool, Fault> {
+    let mut right = true;
+    for num_docs in LENGTHS {
+        let num_docs = u32::from(num_docs);
+        right &= are_places_read(alloc, num_docs)?;
+        right &= are_blocks_walked(alloc, num_docs)?;
+        right &= are_blocks_sought(alloc, num_docs)?;
+    }
+    Ok(right)
 }
 
 #[test]
-fn blocks_are_walked(rt: HostRuntime) -> Result<(), Fail> {
-    for num_docs in LENGTHS {
-        let num_docs = u32::from(num_docs);
-        let bytes = written(rt.alloc(), FREQS, num_docs)?;
-        let mut blocks = block_opened(&bytes, num_docs);
-        assert_eq!(rt; blocks.doc_freq(), num_docs);
-        for block in 0..num_docs / 128 + 1 {
-            holds(&rt, &blocks, 128 * block, num_docs)?;
-            let decoded = (block + 1).min(num_docs.div_ceil(128));
-            assert_eq!(rt; blocks.decoded_blocks(), u64::from(decoded));
-            blocks.advance();
-        }
-        assert_eq!(rt; blocks.block_len(), 0);
-    }
-    Ok(())
-}
-
-#[test]
-fn blocks_are_sought(rt: HostRuntime) -> Result<(), Fail> {
-    for num_docs in LENGTHS {
-        let num_docs = u32::from(num_docs);
-        let bytes = written(rt.alloc(), FREQS, num_docs)?;
-        for target in 0..3 * num_docs + 2 {
-            let mut blocks = block_opened(&bytes, num_docs);
-            let place = below(target, num_docs);
-            assert_eq!(rt; blocks.seek(target), (place % 128) as usize);
-            assert_eq!(rt; blocks.doc((place % 128) as usize), doc_at(place, num_docs));
-            let decoded = u64::from(num_docs.min(1)).wrapping_add(u64::from(enters(
-                0, place, num_docs,
-            )));
-            assert_eq!(rt; blocks.decoded_blocks(), decoded);
-        }
-    }
+fn positions_and_blocks_are_read(rt: HostRuntime) -> Result<(), Fail> {
+    assert!(rt; are_parts_right(rt.alloc())?);
     Ok(())
 }

@@ -66,34 +66,64 @@ fn written(
     Ok(output)
 }
 
+// Whether terms that are worked by hand have their bytes.
+fn have_worked_bytes(alloc: Global) -> Result<bool, Fault> {
+    let token = written(alloc, BASIC, &[1; 128], 128, 1, &[1; 128])?;
+    let sea = written(alloc, POSITIONS, &[3, 3, 1], 3, 1, &[1, 2])?;
+    Ok(
+        token.as_slice() == b"\x87\x7f\0\0\0\0\x01\x01".as_slice()
+            && sea.as_slice() == b"\x80\x80\x80\x81".as_slice(),
+    )
+}
+
+// Whether every second document of 255 has its bytes.
+fn has_every_second(alloc: Global) -> Result<bool, Fault> {
+    let bytes = written(alloc, BASIC, &[], 1000, 2, &[1; 128])?;
+    Ok(
+        bytes.starts_with(b"\x87\xfe\0\0\0\x01\x01\x01\xfe")
+            && bytes.len() == 24
+            && bytes.ends_with(&[0xff; 15]),
+    )
+}
+
 #[test]
 fn worked_terms_have_bytes(rt: HostRuntime) -> Result<(), Fail> {
-    let alloc = rt.alloc();
-    let token = written(alloc, BASIC, &[1; 128], 128, 1, &[1; 128])?;
-    assert_eq!(rt; token.as_slice(), b"\x87\x7f\0\0\0\0\x01\x01".as_slice());
-    let sea = written(alloc, POSITIONS, &[3, 3, 1], 3, 1, &[1, 2])?;
-    assert_eq!(rt; sea.as_slice(), b"\x80\x80\x80\x81".as_slice());
-    let every_second = written(alloc, BASIC, &[], 1000, 2, &[1; 128])?;
-    assert!(rt; every_second.starts_with(b"\x87\xfe\0\0\0\x01\x01\x01\xfe"));
-    assert!(rt; every_second.len() == 24 && every_second.ends_with(&[0xff; 15]));
+    assert!(rt; have_worked_bytes(rt.alloc())? && has_every_second(rt.alloc())?);
     Ok(())
+}
+
+// The postings of 128 documents with counts of 3, the last with another; the second has the least length.
+fn bounded(alloc: Global, mode: IndexRecordOption, last: u32) -> Result<Vec<u8>, Fault> {
+    let mut ids = [9; 128];
+    ids[1] = 4;
+    let mut counts = [3; 128];
+    counts[127] = last;
+    written(alloc, mode, &ids, 128, 1, &counts)
+}
+
+// Whether a block of counts of 3 tells its bound and has its bytes.
+fn is_bound_of_three(alloc: Global) -> Result<bool, Fault> {
+    let bytes = bounded(alloc, POSITIONS, 3)?;
+    Ok(
+        bytes.starts_with(b"\x8c\x7f\0\0\0\0\x02\x80\x01\0\0\x04\x03")
+            && bytes.len() == 45
+            && bytes.ends_with(&[0xaa; 32]),
+    )
+}
+
+// Whether the greatest count of a block is told as it is up to 254.
+fn are_great_bounds(alloc: Global) -> Result<bool, Fault> {
+    let whole = bounded(alloc, FREQS, 254)?;
+    let over = bounded(alloc, FREQS, 255)?;
+    Ok(
+        whole.starts_with(b"\x88\x7f\0\0\0\0\x08\x04\xfe")
+            && over.starts_with(b"\x88\x7f\0\0\0\0\x08\x04\xff"),
+    )
 }
 
 #[test]
 fn blocks_tell_their_bounds(rt: HostRuntime) -> Result<(), Fail> {
-    let alloc = rt.alloc();
-    let mut ids = [9; 128];
-    ids[1] = 4;
-    let mut counts = [3; 128];
-    let bytes = written(alloc, POSITIONS, &ids, 128, 1, &counts)?;
-    assert!(rt; bytes.starts_with(b"\x8c\x7f\0\0\0\0\x02\x80\x01\0\0\x04\x03"));
-    assert!(rt; bytes.len() == 45 && bytes.ends_with(&[0xaa; 32]));
-    counts[127] = 254;
-    let bytes = written(alloc, FREQS, &ids, 128, 1, &counts)?;
-    assert!(rt; bytes.starts_with(b"\x88\x7f\0\0\0\0\x08\x04\xfe"));
-    counts[127] = 255;
-    let bytes = written(alloc, FREQS, &ids, 128, 1, &counts)?;
-    assert!(rt; bytes.starts_with(b"\x88\x7f\0\0\0\0\x08\x04\xff"));
+    assert!(rt; is_bound_of_three(rt.alloc())? && are_great_bounds(rt.alloc())?);
     Ok(())
 }
 
@@ -109,23 +139,38 @@ const LENGTHS: [(usize, [usize; 3], [usize; 3]); 7] = [
     (257, [16, 19, 27], [48, 115, 123]),
 ];
 
-#[test]
-fn terms_have_as_many_bytes(rt: HostRuntime) -> Result<(), Fail> {
-    let alloc = rt.alloc();
-    for (docs, every, every_second) in LENGTHS {
-        for (i, mode) in [BASIC, FREQS, POSITIONS].into_iter().enumerate() {
-            let bytes = written(alloc, mode, &[], 1000, 1, &[1; 257][..docs])?;
-            assert_eq!(rt; bytes.len(), every[i], "{docs}");
-            let bytes = written(alloc, mode, &[], 1000, 2, &[3; 257][..docs])?;
-            assert_eq!(rt; bytes.len(), every_second[i], "{docs}");
-        }
+// Whether so many documents, so far apart, take as many bytes as wanted with each of what may be recorded.
+fn take_as_many(
+    alloc: Global,
+    counts: &[u32],
+    step: u32,
+    wanted: [usize; 3],
+) -> Result<bool, Fault> {
+    let mut right = true;
+    for (i, mode) in [BASIC, FREQS, POSITIONS].into_iter().enumerate() {
+        right &= written(alloc, mode, &[], 1000, step, counts)?.len() == wanted[i];
     }
-    Ok(())
+    Ok(right)
+}
+
+// Whether terms of each number of documents take as many bytes as wanted.
+fn have_their_lengths(alloc: Global) -> Result<bool, Fault> {
+    let mut right = true;
+    for (docs, every, every_second) in LENGTHS {
+        right &= take_as_many(alloc, &[1; 257][..docs], 1, every)?;
+        right &= take_as_many(alloc, &[3; 257][..docs], 2, every_second)?;
+    }
+    Ok(right)
 }
 
 #[test]
-fn terms_follow_one_another(rt: HostRuntime) -> Result<(), Fail> {
-    let alloc = rt.alloc();
+fn terms_have_as_many_bytes(rt: HostRuntime) -> Result<(), Fail> {
+    assert!(rt; have_their_lengths(rt.alloc())?);
+    Ok(())
+}
+
+// The postings of two terms, one behind the other.
+fn two_terms(alloc: Global) -> Result<Vec<u8>, Fault> {
     let mut serializer = PostingsSerializer::new(alloc, POSITIONS, None);
     let mut output = Vec::new(alloc);
     serializer.new_term(false);
@@ -135,25 +180,40 @@ fn terms_follow_one_another(rt: HostRuntime) -> Result<(), Fail> {
     serializer.write_doc(5, 2)?;
     serializer.write_doc(6, 1)?;
     serializer.close_term(2, &mut output)?;
-    assert_eq!(rt; output.as_slice(), b"\x87\x85\x80\x81\x80".as_slice());
+    Ok(output)
+}
+
+#[test]
+fn terms_follow_one_another(rt: HostRuntime) -> Result<(), Fail> {
+    let bytes = two_terms(rt.alloc())?;
+    assert!(rt; bytes.as_slice() == b"\x87\x85\x80\x81\x80".as_slice());
     Ok(())
+}
+
+// The postings of 128 documents whose counts come to 2^32, or to one less.
+fn greatest(alloc: Global, mode: IndexRecordOption, less: u32) -> Result<Vec<u8>, Fault> {
+    let mut counts = [33554432; 128];
+    counts[127] -= less.min(1);
+    written(alloc, mode, &[], 1000, 1, &counts)
+}
+
+// Whether a sum of counts is limited where it is recorded, and only there.
+fn are_sums_limited(alloc: Global) -> Result<bool, Fault> {
+    let positions = greatest(alloc, POSITIONS, 0).err();
+    let counts = greatest(alloc, FREQS, 0).err();
+    let docs = greatest(alloc, BASIC, 0)?;
+    Ok(positions == Some(Fault::Limit) && counts == Some(Fault::Limit) && docs.len() == 8)
 }
 
 #[test]
 fn sums_of_counts_have_a_limit(rt: HostRuntime) -> Result<(), Fail> {
-    let alloc = rt.alloc();
-    let mut counts = [33554432; 128];
-    assert_eq!(rt;
-        written(alloc, POSITIONS, &[], 1000, 1, &counts),
-        Err(Fault::Limit)
-    );
-    assert_eq!(rt;
-        written(alloc, FREQS, &[], 1000, 1, &counts),
-        Err(Fault::Limit)
-    );
-    assert_eq!(rt; written(alloc, BASIC, &[], 1000, 1, &counts)?.len(), 8);
-    counts[127] -= 1;
-    let bytes = written(alloc, POSITIONS, &[], 1000, 1, &counts)?;
+    assert!(rt; are_sums_limited(rt.alloc())?);
+    Ok(())
+}
+
+#[test]
+fn the_greatest_sum_is_written(rt: HostRuntime) -> Result<(), Fail> {
+    let bytes = greatest(rt.alloc(), POSITIONS, 1)?;
     assert!(rt; bytes.starts_with(b"\x8c\x7f\0\0\0\0\x19\xff\xff\xff\xff\x01\xff"));
     Ok(())
 }

@@ -61,46 +61,61 @@ fn texts(alloc: Global) -> Result<Schema, Fault> {
     Ok(builder.build())
 }
 
+/// Whether the value behind one with these tokens begins so, where the value itself begins at a place.
+fn begins(
+    alloc: Global,
+    shapes: &[Shape],
+    start: u32,
+    next: Result<u32, Fault>,
+) -> Result<bool, Fault> {
+    let schema = texts(alloc)?;
+    Ok(next_start(alloc, &schema, shapes, start) == next)
+}
+
+/// Whether a value begins a place behind the last token of the one before it.
+fn follow_one_another(alloc: Global) -> Result<bool, Fault> {
+    Ok(
+        begins(alloc, &[], 0, Ok(1))?
+            && begins(alloc, &[(0, 1, 3), (1, 1, 4)], 0, Ok(3))?
+            && begins(alloc, &[(0, 1, 3), (0, 1, 3)], 3, Ok(5))?
+            && begins(alloc, &[(5, 4, 1), (6, 1, 1)], 2, Ok(12))?,
+    )
+}
+
+/// Whether tokens that are too long leave the others' places.
+fn are_long_tokens_dropped(alloc: Global) -> Result<bool, Fault> {
+    Ok(
+        begins(alloc, &[(9, 1, 65530)], 0, Ok(11))?
+            && begins(alloc, &[(0, 1, 1), (9, 1, 65531)], 0, Ok(2))?
+            && begins(alloc, &[(usize::MAX, 1, 65531)], 7, Ok(8))?,
+    )
+}
+
 #[test]
 fn values_follow_one_another(rt: HostRuntime) -> Result<(), Fail> {
-    let alloc = rt.alloc();
-    let schema = texts(alloc)?;
-    assert_eq!(rt; next_start(alloc, &schema, &[], 0)?, 1);
-    assert_eq!(rt; next_start(alloc, &schema, &[(0, 1, 3), (1, 1, 4)], 0)?, 3);
-    assert_eq!(rt; next_start(alloc, &schema, &[(0, 1, 3), (0, 1, 3)], 3)?, 5);
-    assert_eq!(rt; next_start(alloc, &schema, &[(5, 4, 1), (6, 1, 1)], 2)?, 12);
-    assert_eq!(rt; next_start(alloc, &schema, &[(9, 1, 65530)], 0)?, 11);
-    assert_eq!(rt;
-        next_start(alloc, &schema, &[(0, 1, 1), (9, 1, 65531)], 0)?,
-        2
-    );
+    assert!(rt; follow_one_another(rt.alloc())? && are_long_tokens_dropped(rt.alloc())?);
     Ok(())
+}
+
+/// Whether the end of a token has a limit, and a value without tokens none.
+fn have_a_limit(alloc: Global) -> Result<bool, Fault> {
+    Ok(
+        begins(alloc, &[(0, 1, 1)], 2147483645, Ok(2147483647))?
+            && begins(alloc, &[(0, 1, 1)], 2147483646, Err(Fault::Limit))?
+            && begins(alloc, &[], 2147483648, Ok(2147483648))?,
+    )
+}
+
+/// Whether tokens past every number are over it.
+fn are_greatest_limited(alloc: Global) -> Result<bool, Fault> {
+    Ok(
+        begins(alloc, &[(usize::MAX, 1, 1)], 0, Err(Fault::Limit))?
+            && begins(alloc, &[(0, usize::MAX, 1)], 0, Err(Fault::Limit))?,
+    )
 }
 
 #[test]
 fn positions_have_a_limit(rt: HostRuntime) -> Result<(), Fail> {
-    let alloc = rt.alloc();
-    let schema = texts(alloc)?;
-    assert_eq!(rt;
-        next_start(alloc, &schema, &[(0, 1, 1)], 2147483645),
-        Ok(2147483647)
-    );
-    assert_eq!(rt;
-        next_start(alloc, &schema, &[(0, 1, 1)], 2147483646),
-        Err(Fault::Limit)
-    );
-    assert_eq!(rt;
-        next_start(alloc, &schema, &[(usize::MAX, 1, 1)], 0),
-        Err(Fault::Limit)
-    );
-    assert_eq!(rt;
-        next_start(alloc, &schema, &[(0, usize::MAX, 1)], 0),
-        Err(Fault::Limit)
-    );
-    assert_eq!(rt; next_start(alloc, &schema, &[], 2147483648), Ok(2147483648));
-    assert_eq!(rt;
-        next_start(alloc, &schema, &[(usize::MAX, 1, 65531)], 7),
-        Ok(8)
-    );
+    assert!(rt; have_a_limit(rt.alloc())? && are_greatest_limited(rt.alloc())?);
     Ok(())
 }

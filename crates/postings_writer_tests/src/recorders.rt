@@ -17,21 +17,27 @@ fn recorded(alloc: Global, option: IndexRecordOption) -> Result<Recorder, Fault>
     Ok(recorder)
 }
 
+/// Whether the recorder for an option is of its kind, and keeps what it was told.
+fn keeps_what_is_recorded(alloc: Global, option: IndexRecordOption) -> Result<bool, Fault> {
+    let recorder = recorded(alloc, option)?;
+    Ok(match (option, &recorder) {
+        (IndexRecordOption::Basic, Recorder::DocIds(docs)) => docs.docs() == [3, 5].as_slice(),
+        (IndexRecordOption::WithFreqs, Recorder::TermFrequencies(counts)) => {
+            counts.counts() == [(3, 3), (5, 1)].as_slice()
+        }
+        (IndexRecordOption::WithFreqsAndPositions, Recorder::TfAndPositions(places)) => {
+            places.places() == PLACES.as_slice()
+        }
+        _ => false,
+    })
+}
+
 #[test]
 fn recorders_keep_what_is_recorded(rt: HostRuntime) -> Result<(), Fail> {
-    match recorded(rt.alloc(), IndexRecordOption::Basic)? {
-        Recorder::DocIds(recorder) => assert_eq!(rt; recorder.docs(), [3, 5].as_slice()),
-        _ => assert!(rt; false),
-    }
-    match recorded(rt.alloc(), IndexRecordOption::WithFreqs)? {
-        Recorder::TermFrequencies(recorder) => {
-            assert_eq!(rt; recorder.counts(), [(3, 3), (5, 1)].as_slice());
-        }
-        _ => assert!(rt; false),
-    }
-    match recorded(rt.alloc(), IndexRecordOption::WithFreqsAndPositions)? {
-        Recorder::TfAndPositions(recorder) => assert_eq!(rt; recorder.places(), PLACES.as_slice()),
-        _ => assert!(rt; false),
-    }
+    let alloc = rt.alloc();
+    let docs = keeps_what_is_recorded(alloc, IndexRecordOption::Basic)?;
+    let counts = keeps_what_is_recorded(alloc, IndexRecordOption::WithFreqs)?;
+    let places = keeps_what_is_recorded(alloc, IndexRecordOption::WithFreqsAndPositions)?;
+    assert!(rt; docs && counts && places);
     Ok(())
 }
