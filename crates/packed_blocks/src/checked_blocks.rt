@@ -10,7 +10,7 @@ use crate::block_decoder::BlockDecoder;
 use crate::block_size::compressed_block_size;
 use crate::offset::least_after;
 use crate::packing::width_of;
-use common::Fault;
+use definitions::Fault;
 
 impl BlockDecoder {
     /// Reads a block of this width in bits where the bytes begin with one, and answers how many bytes it takes.
