@@ -4,6 +4,7 @@ ghost use Rattle.std.specs.Prelude.{IfErr, IfOk, IfSome, None, Some, ℕ, [], �
 ghost use Rattle.packed_blocks.specs.PositionBlocks.{listed};
 ghost use Rattle.checked_postings.specs.Terms.{HasTerm};
 ghost use Rattle.definitions.specs.NumberCodes.{take_bytes};
+ghost use Rattle.definitions.specs.Postings.{terminated};
 ghost use Rattle.definitions.specs.Schema.{has_freq, has_positions};
 ghost use Rattle.definitions.specs.declared.fault.Fault.TheVariants as faults;
 ghost use Rattle.options.specs.RecordOption.{record_option_of};
@@ -35,7 +36,7 @@ pub(crate) fn checked_postings(
     num_docs: u32,
 ) -> Result<u64, Fault>
     requires kept { IfSome fieldnorm_reader.now (λ ids. length ids ≡ num_docs) }
-    requires few { num_docs ≤ 2147483647 }
+    requires few { num_docs ≤ terminated }
     ensures ok { IfOk result (λ total. HasTerm (record_option_of option) (listed fieldnorm_reader.now) num_docs doc_freq bytes.now total) }
     ensures err { IfErr result (λ fault. (fault ≡ faults.Damaged None) × ((total : ℕ) → HasTerm (record_option_of option) (listed fieldnorm_reader.now) num_docs doc_freq bytes.now total → ⊥)) }
 {

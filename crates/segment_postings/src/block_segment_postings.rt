@@ -2,6 +2,7 @@
 
 ghost use Rattle.std.specs.Prelude.{[], ◌%◌, ◌*◌, ◌+◌, ◌/◌, ◌<◌, ◌≡◌, ◌≤◌, Bool, IsSome, List, Some, drop, if◌then◌else◌, length, min, nat_lt, replicate, slice_index, slice_index_or, sum, take, true, ℕ};
 ghost use Rattle.definitions.specs.NumberCodes.{take_bytes};
+ghost use Rattle.definitions.specs.Postings.{terminated};
 ghost use Rattle.layouts.specs.TermPostings.{skip_entries};
 ghost use Rattle.segment_postings.specs.CountBounds.{TellCounts};
 ghost use Rattle.segment_postings.specs.Reading.{Ascends, HasPassed, HasPostings, IsHeld, StandsIn, below, counts_at, docs_at};
@@ -137,7 +138,7 @@ impl<'a> BlockSegmentPostings<'a> {
     /// The document at a place of the block; behind its documents `TERMINATED`.
     pub fn doc(&self, place: usize) -> DocId
         requires { place < 128 }
-        ensures { result ≡ slice_index_or (docs_left self.now) place 2147483647 }
+        ensures { result ≡ slice_index_or (docs_left self.now) place terminated }
     {
         self.docs[place]
     }
@@ -213,7 +214,7 @@ impl<'a> BlockSegmentPostings<'a> {
     /// Goes on to the first block that may hold a document, which may be the one that is held, and answers the
     /// place in it of the first document that isn't below.
     pub fn seek(&mut self, target: DocId) -> usize
-        requires { target ≤ 2147483647 }
+        requires { target ≤ terminated }
         ensures docs { docs_left self.new ≡ drop (128 * (below target (docs_left self.old) / 128)) (docs_left self.old) }
         ensures counts { counts_left self.new ≡ drop (128 * (below target (docs_left self.old) / 128)) (counts_left self.old) }
         ensures place { result ≡ below target (docs_left self.old) % 128 }
@@ -251,7 +252,7 @@ fn counted(decoded: u64, len: usize) -> u64
 /// Passes blocks that end before a document; answers the last document of the block before the one at which
 /// the entries then stand, or what is given.
 fn pass_blocks(skips: &mut SkipReader, before: u32, target: DocId) -> u32
-    requires { target ≤ 2147483647 }
+    requires { target ≤ terminated }
     ensures { (reads sums : Bool) (bytes : List ℕ) → StandsIn reads sums before skips.old bytes → HasPassed reads sums target before skips.old result skips.new bytes }
 {
     let mut before = before;

@@ -1,6 +1,7 @@
 //! Blocks of documents and counts, taken out of a term's bytes.
 
 ghost use Rattle.std.specs.Prelude.{[], ◌*◌, ◌++◌, ◌+◌, ◌-◌, ◌<◌, ◌^◌, ◌≡◌, ◌≤◌, Bool, IsSome, Some, drop, length, map, min, replicate, true, slice_index, take, ℕ};
+ghost use Rattle.definitions.specs.Postings.{terminated};
 ghost use Rattle.packed_blocks.specs.Decoded.{output_list};
 ghost use Rattle.layouts.specs.VintBlocks.{take_documents, take_numbers};
 ghost use Rattle.segment_postings.specs.Reading.{IsHeld, StandsIn, block_counts, block_docs, counts_at, docs_at, found, more_1, rest_counts, rest_docs};
@@ -98,7 +99,7 @@ fn decode_rest_docs(
 ) -> usize
     requires few { num_docs ≤ 128 }
     requires some { IsSome (take_documents before num_docs bytes.now) }
-    ensures docs { docs.new ≡ rest_docs before num_docs bytes.now ++ replicate (128 - num_docs) 2147483647 }
+    ensures docs { docs.new ≡ rest_docs before num_docs bytes.now ++ replicate (128 - num_docs) terminated }
     ensures count { length (rest_docs before num_docs bytes.now) ≡ num_docs }
     ensures behind { (found (take_documents before num_docs bytes.now)).1 ≡ drop result bytes.now }
     ensures within { result ≤ length bytes.now }

@@ -3,6 +3,7 @@
 ghost use Rattle.std.specs.Prelude.{◌%◌, ◌+◌, ◌/◌, ◌≡◌, ◌<◌, ◌≤◌, ◌^◌, IfErr, IfOk, IsSome, List, None, Some, length, nat_lt, ℕ};
 ghost use Rattle.skips.specs.SkipBlocks.{Skips, are_skips, begun, blocks_before, ended, entry_of, info_of, last_doc, passed, take_byte, take_entry, take_where};
 ghost use Rattle.definitions.specs.NumberCodes.{take_u32};
+ghost use Rattle.definitions.specs.Postings.{terminated};
 ghost use Rattle.definitions.specs.declared.fault.Fault.TheVariants as faults;
 ghost use Rattle.layouts.specs.SkipEntries.{AreSkips, SkipEntry, is_entry};
 
@@ -167,7 +168,7 @@ impl<'a> SkipReader<'a> {
 
     /// Goes on to the first block that may hold a document, or into the rest; whether that is another block.
     pub fn seek(&mut self, target: u32) -> bool
-        requires { target ≤ 2147483647 }
+        requires { target ≤ terminated }
         ensures passed { self.new ≡ passed (blocks_before target self.old) self.old }
         ensures moved { result ≡ nat_lt 0 (blocks_before target self.old) }
     {
@@ -258,7 +259,7 @@ fn is_entry(recorded: Recorded, least: u64, entry: Entry) -> bool
     ensures { result ≡ is_entry recorded.counts recorded.positions least (entry_of entry) }
 {
     least + 127 <= u64::from(entry.last_doc)
-        && entry.last_doc < 2147483647
+        && entry.last_doc < TERMINATED
         && entry.doc_width <= 31
         && entry.count_width <= 32
         && entry.greatest_count > 0
