@@ -46,8 +46,8 @@ fn below_limit(n: usize) -> Result<u32, Fault>
 impl<'a> PostingsWriter<'a> {
     /// Records the tokens of a value that begins at a start, each as the term of its text behind the first bytes
     /// that the buffer holds, and answers where the next value begins, or 2147483648 where it would begin behind
-    /// that. Tokens over 65530 bytes are dropped. A token that ends past 2147483647, with the gap behind it, is
-    /// refused, so a start that was cut to 2147483648 refuses what the real one does.
+    /// that. Tokens over `MAX_TOKEN_LEN` bytes are dropped. A token that doesn't end below 2147483648, with the gap
+    /// behind it, is refused, so a start that was cut to 2147483648 refuses what the real one does.
     pub fn index_text<T: TokenStream>(
         &mut self,
         doc: u32,
