@@ -10,7 +10,8 @@ use common::{Analyzer, RawAndDefault};
 use definitions::Fault;
 use document::CompactDoc;
 use document_indexer::DocumentIndexer;
-use schema::{Field, Schema, TEXT};
+use options::TEXT;
+use schema::{Field, Schema};
 use std::alloc::Global;
 use std::io;
 

@@ -12,5 +12,6 @@ mod sweeps;
 pub use arguments::{Arguments, bytes_of_digits};
 pub use lines::answers;
 pub use operations::Operations;
+pub use outcomes::Outcomes;
 pub use refusal::Refusal;
 pub use replies::{flag, hex, number, numbers, pair, text, texts, triple};

@@ -19,20 +19,20 @@ pub(crate) fn outcome(answer: &Result<Value, Refusal>) -> &'static str {
 
 /// How often there was each outcome.
 #[derive(Drop)]
-pub(crate) struct Outcomes {
+pub struct Outcomes {
     counts: Vec<(&'static str, u64)>,
 }
 
 impl Outcomes {
     /// No outcome.
-    pub(crate) fn new(alloc: Global) -> Outcomes {
+    pub fn new(alloc: Global) -> Outcomes {
         Outcomes {
             counts: Vec::new(alloc),
         }
     }
 
     /// Counts an outcome.
-    pub(crate) fn add(&mut self, outcome: &'static str) -> Result<(), AllocError> {
+    pub fn add(&mut self, outcome: &'static str) -> Result<(), AllocError> {
         for (name, count) in self.counts.iter_mut() {
             if *name == outcome {
                 *count = count.saturating_add(1);
@@ -43,7 +43,7 @@ impl Outcomes {
     }
 
     /// The outcomes in the order of their names, and how often there was each.
-    pub(crate) fn with_counts(mut self, alloc: Global) -> Result<Value, AllocError> {
+    pub fn with_counts(mut self, alloc: Global) -> Result<Value, AllocError> {
         self.counts.sort()?;
         let mut list = Vec::new(alloc);
         for (name, count) in &self.counts {
@@ -53,7 +53,7 @@ impl Outcomes {
     }
 
     /// The outcomes in the order of their names.
-    pub(crate) fn names(mut self, alloc: Global) -> Result<Value, AllocError> {
+    pub fn names(mut self, alloc: Global) -> Result<Value, AllocError> {
         self.counts.sort()?;
         let mut list = Vec::new(alloc);
         for (name, _) in &self.counts {

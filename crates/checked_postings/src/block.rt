@@ -13,7 +13,7 @@ use crate::folds::{are_below, count_sum, greatest_count, least_id};
 use definitions::Fault;
 use fieldnorms::FieldNormReader;
 use options::IndexRecordOption;
-use packed_blocks::{BlockDecoder, compressed_block_size};
+use packed_blocks::{BlockDecoder, COMPRESSION_BLOCK_SIZE, compressed_block_size};
 
 /// The sum of the counts of the full block with which the bytes begin, where they begin with one of which the
 /// entry tells. The document before it is given, or 0 where none stands before.
@@ -114,5 +114,5 @@ fn unrecorded_counts(bytes: &[u8], entry: Entry, option: IndexRecordOption) -> R
     if entry.greatest_count != 1 {
         return Err(Fault::Damaged(None));
     }
-    Ok(128)
+    Ok(COMPRESSION_BLOCK_SIZE as u64)
 }

@@ -3,6 +3,7 @@
 ghost use Rattle.std.specs.Prelude.{IfErr, IfOk, IfSome, None, ℕ, ◌*◌, ◌+◌, ◌/◌, ◌%◌, ◌<◌, ◌≡◌, ◌≤◌, drop, length};
 ghost use Rattle.packed_blocks.specs.PositionBlocks.{listed};
 ghost use Rattle.checked_postings.specs.Blocks.{HasBlocks, entry_of};
+ghost use Rattle.definitions.specs.Blocks.{block_len};
 ghost use Rattle.definitions.specs.declared.fault.Fault.TheVariants as faults;
 ghost use Rattle.options.specs.RecordOption.{record_option_of};
 ghost use Rattle.skips.specs.SkipBlocks.{block_size};
@@ -13,7 +14,7 @@ use crate::rest::checked_rest;
 use definitions::Fault;
 use fieldnorms::FieldNormReader;
 use options::IndexRecordOption;
-use packed_blocks::compressed_block_size;
+use packed_blocks::{COMPRESSION_BLOCK_SIZE, compressed_block_size};
 use skips::SkipReader;
 
 /// The sum of the counts of so many documents, where the bytes are their blocks, of which the skip entries tell.
@@ -26,21 +27,27 @@ pub(crate) fn checked_blocks(
     num_docs: u32,
 ) -> Result<u64, Fault>
     requires kept { IfSome fieldnorm_reader.now (λ ids. length ids ≡ num_docs) }
-    requires entries { length skips.old.left ≡ doc_freq / 128 }
-    ensures ok { IfOk result (λ total. HasBlocks (record_option_of option) (listed fieldnorm_reader.now) num_docs 0 skips.old.left (doc_freq % 128) bytes.now total) }
-    ensures err { IfErr result (λ fault. (fault ≡ faults.Damaged None) × ((total : ℕ) → HasBlocks (record_option_of option) (listed fieldnorm_reader.now) num_docs 0 skips.old.left (doc_freq % 128) bytes.now total → ⊥)) }
+    requires entries { length skips.old.left ≡ doc_freq / block_len }
+    ensures ok { IfOk result (λ total. HasBlocks (record_option_of option) (listed fieldnorm_reader.now) num_docs 0 skips.old.left (doc_freq % block_len) bytes.now total) }
+    ensures err { IfErr result (λ fault. (fault ≡ faults.Damaged None) × ((total : ℕ) → HasBlocks (record_option_of option) (listed fieldnorm_reader.now) num_docs 0 skips.old.left (doc_freq % block_len) bytes.now total → ⊥)) }
 {
     let mut rest = bytes;
     let mut before = 0;
     let mut total = 0;
-    for _ in 0..doc_freq / 128 {
+    for _ in 0..doc_freq / COMPRESSION_BLOCK_SIZE as u32 {
         let entry = first_entry(skips);
         total += checked_block(rest, before, entry, option, fieldnorm_reader, num_docs)?;
         rest = behind_block(rest, entry);
         before = entry.last_doc;
         skips.advance();
     }
-    let last = checked_rest(rest, before, doc_freq as usize % 128, option, num_docs)?;
+    let last = checked_rest(
+        rest,
+        before,
+        doc_freq as usize % COMPRESSION_BLOCK_SIZE,
+        option,
+        num_docs,
+    )?;
     Ok(total + last)
 }
 

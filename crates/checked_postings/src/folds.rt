@@ -4,7 +4,7 @@ ghost use Rattle.std.specs.Prelude.{IfNone, IfSome, IsTrue, ◌+◌, ◌*◌, �
 ghost use Rattle.std.specs.List.{AllByRecursion};
 ghost use Rattle.packed_blocks.specs.PositionBlocks.{listed};
 ghost use Rattle.checked_postings.specs.Blocks.{more_1};
-ghost use Rattle.definitions.specs.Blocks.{least_of};
+ghost use Rattle.definitions.specs.Blocks.{block_len, least_of};
 ghost use Rattle.definitions.specs.Scoring.{greatest_of};
 ghost use Rattle.layouts.specs.TermPostings.{id_of};
 
@@ -49,7 +49,7 @@ fn least_kept_id(docs: &[u32], reader: &FieldNormReader) -> u8
 
 /// The sum of counts that stand less 1, where each is below 2^32.
 pub(crate) fn count_sum(counts_less_1: &[u32]) -> Option<u64>
-    requires { length counts_less_1.now ≤ 128 }
+    requires { length counts_less_1.now ≤ block_len }
     ensures some { IfSome result (λ total. AllByRecursion (λ n. n < 2 ^ 32) (more_1 counts_less_1.now) × (total ≡ sum (more_1 counts_less_1.now)) × (total ≤ 4294967295 * length counts_less_1.now)) }
     ensures none { IfNone result (AllByRecursion (λ n. n < 2 ^ 32) (more_1 counts_less_1.now) → ⊥) }
 {

@@ -2,6 +2,7 @@
 
 ghost use Rattle.std.specs.Prelude.{IfErr, IfOk, List, None, ℕ, ◌<◌, ◌≡◌, ◌≤◌, [], false, length};
 ghost use Rattle.checked_postings.specs.Blocks.{HasBlocks, HasRestCounts};
+ghost use Rattle.definitions.specs.Blocks.{block_len};
 ghost use Rattle.definitions.specs.Schema.{has_freq};
 ghost use Rattle.definitions.specs.declared.fault.Fault.TheVariants as faults;
 ghost use Rattle.layouts.specs.Deltas.{next_of};
@@ -22,7 +23,7 @@ pub(crate) fn checked_rest(
     option: IndexRecordOption,
     num_docs: u32,
 ) -> Result<u64, Fault>
-    requires { doc_count < 128 }
+    requires { doc_count < block_len }
     ensures ok { IfOk result (λ total. ((ids : List ℕ) → HasBlocks (record_option_of option) ids num_docs (next_of before) [] doc_count bytes.now total) × (total ≤ 549755813760)) }
     ensures err { IfErr result (λ fault. (fault ≡ faults.Damaged None) × ((ids : List ℕ) (total : ℕ) → HasBlocks (record_option_of option) ids num_docs (next_of before) [] doc_count bytes.now total → ⊥)) }
 {
@@ -37,7 +38,7 @@ pub(crate) fn checked_rest(
 
 /// The sum of so many counts up to the end of the bytes.
 fn rest_counts(bytes: &[u8], doc_count: usize, option: IndexRecordOption) -> Result<u64, Fault>
-    requires { doc_count < 128 }
+    requires { doc_count < block_len }
     ensures ok { IfOk result (λ total. HasRestCounts (record_option_of option) doc_count bytes.now total × (total ≤ 549755813760)) }
     ensures err { IfErr result (λ fault. (fault ≡ faults.Damaged None) × ((total : ℕ) → HasRestCounts (record_option_of option) doc_count bytes.now total → ⊥)) }
 {
@@ -57,7 +58,7 @@ fn rest_counts(bytes: &[u8], doc_count: usize, option: IndexRecordOption) -> Res
 
 /// The sum of so many counts where none is recorded: each is 1.
 fn unrecorded_rest(bytes: &[u8], doc_count: usize, option: IndexRecordOption) -> Result<u64, Fault>
-    requires few { doc_count < 128 }
+    requires few { doc_count < block_len }
     requires unrecorded { has_freq (record_option_of option) ≡ false }
     ensures ok { IfOk result (λ total. HasRestCounts (record_option_of option) doc_count bytes.now total × (total ≤ 549755813760)) }
     ensures err { IfErr result (λ fault. (fault ≡ faults.Damaged None) × ((total : ℕ) → HasRestCounts (record_option_of option) doc_count bytes.now total → ⊥)) }

@@ -3,7 +3,7 @@
 ghost use Rattle.std.specs.Prelude.{IfErr, IfOk, IfSome, List, None, ℕ, ◌≡◌, ◌≤◌, length, sum_by};
 ghost use Rattle.packed_blocks.specs.PositionBlocks.{listed};
 ghost use Rattle.checked_postings.specs.Placed.{term_of};
-ghost use Rattle.definitions.specs.Postings.{Posting};
+ghost use Rattle.definitions.specs.Postings.{Posting, terminated};
 ghost use Rattle.definitions.specs.declared.fault.Fault.TheVariants as faults;
 ghost use Rattle.layouts.specs.InvertedIndexes.{IsTerm};
 ghost use Rattle.options.specs.RecordOption.{record_option_of};
@@ -27,7 +27,7 @@ pub fn check_term(
     num_docs: u32,
 ) -> Result<u64, Fault>
     requires kept { IfSome fieldnorm_reader.now (λ ids. length ids ≡ num_docs) }
-    requires few { num_docs ≤ 2147483647 }
+    requires few { num_docs ≤ terminated }
     ensures ok { IfOk result (λ total. (ps : List Posting) × (length ps ≡ doc_freq) × IsTerm (record_option_of option) num_docs (listed fieldnorm_reader.now) (term_of ps postings.now positions.now) × (total ≡ sum_by (λ p. p.count) ps)) }
     ensures err { IfErr result (λ fault. (fault ≡ faults.Damaged None) × ((ps : List Posting) → length ps ≡ doc_freq → IsTerm (record_option_of option) num_docs (listed fieldnorm_reader.now) (term_of ps postings.now positions.now) → ⊥)) }
 {

@@ -2,11 +2,13 @@
 
 ghost use Rattle.std.specs.Prelude.{IfErr, IfNone, IfOk, IfSome, IsTrue, List, None, OnOk, ℕ, ◌+◌, ◌<◌, ◌^◌, ◌≡◌, ◌≤◌, ◌↔◌, drop, length, sum, take, true};
 ghost use Rattle.checked_postings.specs.Placed.{AreBounded, HasNumbers};
+ghost use Rattle.definitions.specs.Blocks.{block_len};
 ghost use Rattle.definitions.specs.declared.fault.Fault.TheVariants as faults;
 ghost use Rattle.segment_postings.specs.Cursors.{counts_left, docs_left};
 ghost use Rattle.segment_postings.specs.Reading.{HasPostings};
 
 use definitions::Fault;
+use packed_blocks::COMPRESSION_BLOCK_SIZE;
 use positions::PositionReader;
 use segment_postings::BlockSegmentPostings;
 use skips::Recorded;
@@ -45,7 +47,7 @@ fn are_bounded(blocks: &mut BlockSegmentPostings, reader: &mut PositionReader) -
     ensures { IsTrue result ↔ AreBounded (counts_left blocks.old) reader.old }
 {
     let mut place = 0;
-    let mut room = [0; 128];
+    let mut room = [0; COMPRESSION_BLOCK_SIZE];
     while blocks.block_len() > 0 {
         match block_end(blocks.freqs(), reader, place, &mut room) {
             Some(end) => place = end,
@@ -62,9 +64,9 @@ fn block_end(
     counts: &[u32],
     reader: &mut PositionReader,
     place: u64,
-    room: &mut [u32; 128],
+    room: &mut [u32; COMPRESSION_BLOCK_SIZE],
 ) -> Option<u64>
-    requires block { length counts.now ≤ 128 }
+    requires block { length counts.now ≤ block_len }
     requires within { place + sum counts.now ≤ length reader.old }
     requires few { place + sum counts.now < 2 ^ 64 }
     ensures some { IfSome result (λ end. AreBounded counts.now (drop place reader.old) × (end ≡ place + sum counts.now)) }
@@ -83,7 +85,7 @@ fn bounded_end(
     counts: &[u32],
     reader: &mut PositionReader,
     place: u64,
-    room: &mut [u32; 128],
+    room: &mut [u32; COMPRESSION_BLOCK_SIZE],
 ) -> Option<u64>
     requires within { place + sum counts.now ≤ length reader.old }
     requires few { place + sum counts.now < 2 ^ 64 }
@@ -102,7 +104,12 @@ fn bounded_end(
 }
 
 /// Whether the sum of so many numbers from a place on is below 2^31.
-fn is_bounded(reader: &mut PositionReader, place: u64, count: u64, room: &mut [u32; 128]) -> bool
+fn is_bounded(
+    reader: &mut PositionReader,
+    place: u64,
+    count: u64,
+    room: &mut [u32; COMPRESSION_BLOCK_SIZE],
+) -> bool
     requires within { place + count ≤ length reader.old }
     requires few { place + count < 2 ^ 64 }
     ensures value { IsTrue result ↔ (sum (take count (drop place reader.old)) < 2 ^ 31) }
@@ -111,7 +118,7 @@ fn is_bounded(reader: &mut PositionReader, place: u64, count: u64, room: &mut [u
     let mut done: u64 = 0;
     let mut total: u64 = 0;
     while done < count {
-        let len = (count - done).min(128);
+        let len = (count - done).min(COMPRESSION_BLOCK_SIZE as u64);
         total += sum_at(reader, place + done, len as usize, room);
         if total >= 1 << 31 {
             return false;
@@ -122,8 +129,13 @@ fn is_bounded(reader: &mut PositionReader, place: u64, count: u64, room: &mut [u
 }
 
 /// The sum of so many numbers from a place on.
-fn sum_at(reader: &mut PositionReader, place: u64, len: usize, room: &mut [u32; 128]) -> u64
-    requires few { len ≤ 128 }
+fn sum_at(
+    reader: &mut PositionReader,
+    place: u64,
+    len: usize,
+    room: &mut [u32; COMPRESSION_BLOCK_SIZE],
+) -> u64
+    requires few { len ≤ block_len }
     requires within { place + len ≤ length reader.old }
     ensures value { result ≡ sum (take len (drop place reader.old)) }
     ensures small { result ≤ 549755813760 }
@@ -135,7 +147,7 @@ fn sum_at(reader: &mut PositionReader, place: u64, len: usize, room: &mut [u32; 
 
 /// The sum of at most 128 numbers.
 fn sum_of(numbers: &[u32]) -> u64
-    requires { length numbers.now ≤ 128 }
+    requires { length numbers.now ≤ block_len }
     ensures value { result ≡ sum numbers.now }
     ensures small { result ≤ 549755813760 }
 {

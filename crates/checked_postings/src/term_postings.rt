@@ -3,7 +3,9 @@
 ghost use Rattle.std.specs.Prelude.{IfErr, IfOk, IfSome, None, Some, ℕ, [], ◌<◌, ◌≡◌, ◌≤◌, length};
 ghost use Rattle.packed_blocks.specs.PositionBlocks.{listed};
 ghost use Rattle.checked_postings.specs.Terms.{HasTerm};
+ghost use Rattle.definitions.specs.Blocks.{block_len};
 ghost use Rattle.definitions.specs.NumberCodes.{take_bytes};
+ghost use Rattle.definitions.specs.Postings.{terminated};
 ghost use Rattle.definitions.specs.Schema.{has_freq, has_positions};
 ghost use Rattle.definitions.specs.declared.fault.Fault.TheVariants as faults;
 ghost use Rattle.options.specs.RecordOption.{record_option_of};
@@ -13,6 +15,7 @@ use common::take_bytes;
 use definitions::Fault;
 use fieldnorms::FieldNormReader;
 use options::IndexRecordOption;
+use packed_blocks::COMPRESSION_BLOCK_SIZE;
 use skips::{Recorded, SkipReader};
 
 /// What is recorded of a term beside its documents, under the option of its field.
@@ -35,7 +38,7 @@ pub(crate) fn checked_postings(
     num_docs: u32,
 ) -> Result<u64, Fault>
     requires kept { IfSome fieldnorm_reader.now (λ ids. length ids ≡ num_docs) }
-    requires few { num_docs ≤ 2147483647 }
+    requires few { num_docs ≤ terminated }
     ensures ok { IfOk result (λ total. HasTerm (record_option_of option) (listed fieldnorm_reader.now) num_docs doc_freq bytes.now total) }
     ensures err { IfErr result (λ fault. (fault ≡ faults.Damaged None) × ((total : ℕ) → HasTerm (record_option_of option) (listed fieldnorm_reader.now) num_docs doc_freq bytes.now total → ⊥)) }
 {
@@ -54,11 +57,11 @@ pub(crate) fn checked_postings(
 
 /// The skip entries of so many documents, and the blocks behind them.
 fn split_entries(bytes: &[u8], doc_freq: u32) -> Result<(&[u8], &[u8]), Fault>
-    ensures few { IfOk result (λ p. doc_freq < 128 → (p.0.now ≡ []) × (p.1.now ≡ bytes.now)) }
-    ensures many { IfOk result (λ p. 128 ≤ doc_freq → take_bytes bytes.now ≡ Some (p.0.now, p.1.now)) }
-    ensures err { IfErr result (λ fault. (fault ≡ faults.Damaged None) × (128 ≤ doc_freq) × (take_bytes bytes.now ≡ None)) }
+    ensures few { IfOk result (λ p. doc_freq < block_len → (p.0.now ≡ []) × (p.1.now ≡ bytes.now)) }
+    ensures many { IfOk result (λ p. block_len ≤ doc_freq → take_bytes bytes.now ≡ Some (p.0.now, p.1.now)) }
+    ensures err { IfErr result (λ fault. (fault ≡ faults.Damaged None) × (block_len ≤ doc_freq) × (take_bytes bytes.now ≡ None)) }
 {
-    if doc_freq < 128 {
+    if doc_freq < COMPRESSION_BLOCK_SIZE as u32 {
         return Ok((&bytes[..0], bytes));
     }
     let parts = take_bytes(bytes)?;

@@ -1,6 +1,7 @@
 //! Alive sets, and their bytes.
 
-use common::{AliveBitSet, Fault};
+use common::AliveBitSet;
+use definitions::Fault;
 use std::alloc::Global;
 use std::test::Fail;
 

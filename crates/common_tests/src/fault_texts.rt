@@ -1,6 +1,7 @@
 //! How refusals print, which no clause says.
 
-use common::{Fault, RunFault};
+use common::RunFault;
+use definitions::Fault;
 use std::alloc::{AllocError, Global};
 
 /// Whether a refusal prints its name, and the end of a run what failed.

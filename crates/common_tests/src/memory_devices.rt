@@ -1,6 +1,7 @@
 //! What no clause says: that the calls of a device in memory go through.
 
-use common::{Device, Fault, MemoryDevice, cut_synced, write_synced};
+use common::{Device, MemoryDevice, cut_synced, write_synced};
+use definitions::Fault;
 use std::alloc::Global;
 use std::test::Fail;
 

@@ -2,7 +2,7 @@
 
 ghost use Rattle.std.specs.Prelude.{◌≡◌, ◌==◌, ◌%◌, ◌+◌, ℕ, ◌++◌, codes, if◌then◌else◌};
 
-use common::Fault;
+use definitions::Fault;
 use serve_lines::{RunFault, Service, run, run_within};
 use std::alloc::Global;
 use std::borrow::CowStr;

@@ -1,9 +1,9 @@
 //! Tokens that are read one after another, and what has a length.
 
 use common::{
-    Analyzer, Fault, HasLen, PreTokenizedStream, PreTokenizedString, RawAndDefault, Token,
-    TokenStream,
+    Analyzer, HasLen, PreTokenizedStream, PreTokenizedString, RawAndDefault, Token, TokenStream,
 };
+use definitions::Fault;
 use std::alloc::{AllocError, Global};
 use std::test::Fail;
 

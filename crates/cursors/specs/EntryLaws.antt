@@ -3,6 +3,7 @@ use Rattle.std.proofs.Common.{[], ◌+◌, ◌-◌, ◌<◌, ◌≤◌, ◌≡�
 use Rattle.std.specs.Coded.{Unit-prop}
 use Rattle.std.proofs.lemmas.Bool.{lt-leb}
 use Rattle.std.proofs.Props.{props}
+use Rattle.definitions.specs.Postings.{terminated}
 use Rattle.definitions.specs.Scoring.{DontFall}
 use Rattle.cursors.specs.Entries.{AreSingle, Entry, IsRest, Rising, first, from, most_positions, single}
 
@@ -53,7 +54,7 @@ Rising-from t low (e ∷ es) r = elim (nat_le t e.doc) as (λ b. Rising low (if 
 ]
 
 -- no document of what comes from one on is below it
-pub first-from : (t : ℕ) (es : List Entry) → t ≤ 2147483647 → t ≤ first (from t es)
+pub first-from : (t : ℕ) (es : List Entry) → t ≤ terminated → t ≤ first (from t es)
 first-from t [] l = l
 first-from t (e ∷ es) l = by_place t e.doc (t ≤ first (from t (e ∷ es)))
     (λ i. rw (from-in t e es i) i)
@@ -77,22 +78,22 @@ from-step t [] l = refl
 from-step t (e ∷ es) l = sym (from-out t e es l)
 
 -- a cursor that isn't at its end has an entry
-pub some_left : (es : List Entry) → first es < 2147483647 → 0 < length es
+pub some_left : (es : List Entry) → first es < terminated → 0 < length es
 some_left [] l = absurd (omega (arith, l))
 some_left (e ∷ es) l = omega arith
 
 -- a cursor that is at its end has none
-pub none_left : (low : ℕ) (es : List Entry) → Rising low es → 2147483647 ≤ first es → es ≡ []
+pub none_left : (low : ℕ) (es : List Entry) → Rising low es → terminated ≤ first es → es ≡ []
 none_left low [] r l = refl
 none_left low (e ∷ es) r l = absurd (omega (arith, l, r.1))
 
 -- no entry is at the end or behind it
-pub first_at_most : (low : ℕ) (es : List Entry) → Rising low es → first es ≤ 2147483647
+pub first_at_most : (low : ℕ) (es : List Entry) → Rising low es → first es ≤ terminated
 first_at_most low [] r = omega arith
 first_at_most low (e ∷ es) r = omega (arith, r.1)
 
 -- each document takes a number below the end
-pub few : (low : ℕ) (es : List Entry) → Rising low es → length es ≤ 2147483647 - low
+pub few : (low : ℕ) (es : List Entry) → Rising low es → length es ≤ terminated - low
 few low [] r = omega arith
 few low (e ∷ es) r = let ih = few (e.doc + 1) es r.3 in omega (arith, ih, r.0, r.1)
 

@@ -12,7 +12,8 @@ ghost use Rattle.layouts.specs.DocumentReading.{deepest, read_document, to_membe
 ghost use Rattle.definitions.specs.declared.fault.Fault.TheVariants as faults;
 ghost use Rattle.std.specs.List.{AllByRecursion, find};
 
-use common::{Fault, PreTokenizedString, take_vint};
+use common::{PreTokenizedString, take_vint};
+use definitions::Fault;
 use document_values::{
     CompactDocValue, FieldValueIterRef, OwnedValue, ValuesOfField, address_pair, append,
     object_pair, owned_pair, sized_head, skip_pairs, tokens_pair, value_head,

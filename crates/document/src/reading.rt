@@ -12,7 +12,7 @@ ghost use Rattle.serde_json.specs.Written.{has_float};
 ghost use Rattle.values_json.specs.Leaves.{value_of};
 
 use crate::compact_doc::CompactDoc;
-use common::Fault;
+use definitions::Fault;
 use document_values::json_object_pair;
 use schema::{FieldEntry, FieldType, Schema};
 use serde_json::{Map, Value as Json};

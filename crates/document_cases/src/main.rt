@@ -2,7 +2,6 @@
 //! case, an operation and its arguments, and the line of standard output with the same number is its answer.
 #![tactic(auto)]
 
-mod added_values;
 mod checkpoints;
 mod documents;
 mod mixed_stores;

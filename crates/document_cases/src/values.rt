@@ -5,6 +5,7 @@ ghost use Rattle.definitions.specs.Schema.{json_kind};
 ghost use Rattle.terms.specs.Kinds.{kind_of};
 
 use case_lines::{Arguments, Refusal, flag, hex, number, text};
+use document_lines::bits_of;
 use schema::{DateTime, Type};
 use serde_json::{Number, Value};
 use std::alloc::Global;
@@ -73,15 +74,6 @@ fn argument_number(arguments: &Arguments) -> Result<&Number, Refusal> {
 fn text_of_date(alloc: Global, arguments: &Arguments) -> Result<Value, Refusal> {
     let date = DateTime::from_timestamp_nanos(arguments.signed_number(0)?);
     Ok(Value::String(date_text(alloc, date)?))
-}
-
-/// The number of an address, by its bytes, the highest first.
-pub(crate) fn bits_of(bytes: &[u8]) -> u128 {
-    let mut bits = 0u128;
-    for byte in bytes {
-        bits = bits.wrapping_mul(256).wrapping_add(u128::from(*byte));
-    }
-    bits
 }
 
 /// The value that JSON stands for in a field of a type, printed as JSON.

@@ -3,6 +3,7 @@ use Rattle.std.specs.Prelude.{◌++◌, ◌+◌, ◌<◌, ◌==◌, ◌^◌, ◌
 use Rattle.std.specs.Map.{lookup}
 use Rattle.std.specs.Option.{option_map_or}
 use Rattle.definitions.specs.Indexing.{Placed}
+use Rattle.definitions.specs.Postings.{terminated}
 use Rattle.definitions.specs.Schema.{Entry, Kind, Schema, is_indexed}
 use Rattle.definitions.specs.declared.fault.Fault.{Fault}
 use Rattle.definitions.specs.declared.fault.Fault.TheVariants as faults
@@ -49,7 +50,7 @@ pub record IsIndexedField (schema : Schema) (field : ℕ) (kind : Kind) : Type 0
 -- the document may have more terms
 pub record IsReady (c : Context) : Type 0 where
   pub next : c.writer.num_docs ≤ c.doc + 1
-  pub fits : c.doc < 2147483647
+  pub fits : c.doc < terminated
 
 -- it may have more terms of a field
 abbrev pub CanIndex : Context → ℕ → Kind → Type 0

@@ -2,6 +2,7 @@
 use Rattle.std.specs.Prelude.{[], ◌++◌, ◌<◌, ◌^◌, ◌∷◌, ◌≡◌, ◌≤◌, ◌⊎◌, List, flat_map, length, map, ℕ}
 use Rattle.std.specs.List.{AllByRecursion, enumerate_from}
 use Rattle.definitions.specs.Analyzers.{Analyzer}
+use Rattle.definitions.specs.Postings.{terminated}
 use Rattle.definitions.specs.Recorded.{occurrences}
 use Rattle.definitions.specs.Schema.{Schema}
 use Rattle.definitions.specs.Values.{Document}
@@ -45,7 +46,7 @@ AreCounted schema analyze docs = (t : List ℕ) → AllByRecursion (λ doc. leng
 
 -- a limit that one document more would pass: the number of documents, the greatest position, or a count
 abbrev pub PassesLimit : Schema → Analyzer → List Document → Document → Type 0
-PassesLimit schema analyze docs doc = (2147483647 ≤ length docs) ⊎ (AreStepsWithin no_starts (steps_of schema analyze doc) → ⊥) ⊎ (AreCounted schema analyze (docs ++ doc ∷ []) → ⊥)
+PassesLimit schema analyze docs doc = (terminated ≤ length docs) ⊎ (AreStepsWithin no_starts (steps_of schema analyze doc) → ⊥) ⊎ (AreCounted schema analyze (docs ++ doc ∷ []) → ⊥)
 
 -- memory was wanting, or a limit would be passed
 abbrev pub IsAddRefusal : Fault → Schema → Analyzer → List Document → Document → Type 0

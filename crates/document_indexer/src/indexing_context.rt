@@ -3,6 +3,7 @@
 ghost use Rattle.std.specs.Prelude.{[], ◌++◌, ◌+◌, ◌<◌, ◌^◌, ◌∷◌, ◌≡◌, IfErr, IfOk, List, OnOk, map, ℕ};
 ghost use Rattle.common.specs.Token.{token_of};
 ghost use Rattle.definitions.specs.Analyzers.{kept};
+ghost use Rattle.definitions.specs.Postings.{terminated};
 ghost use Rattle.postings_writer.specs.Writers.{IsIndexedTerm, Stands};
 ghost use Rattle.document_indexer.specs.Contexts.{IsReady, Records, Refuses};
 ghost use Rattle.document_indexer.specs.Steps.{term_step, text_step};
@@ -68,7 +69,7 @@ impl<'a> IndexingContext<'a> {
 
     /// The next document follows.
     pub(crate) fn end_document(&mut self)
-        requires { self.old.doc < 2147483647 }
+        requires { self.old.doc < terminated }
         ensures { self.new ≡ record self.old { doc = self.old.doc + 1 } }
     {
         self.doc += 1;

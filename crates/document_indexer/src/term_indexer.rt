@@ -3,6 +3,7 @@
 ghost use Rattle.std.specs.Prelude.{[], ◌++◌, ◌+◌, ◌<◌, ◌∷◌, ◌≡◌, IfErr, IfOk, OnOk, map};
 ghost use Rattle.common.specs.Token.{token_of};
 ghost use Rattle.definitions.specs.Analyzers.{kept};
+ghost use Rattle.definitions.specs.Postings.{terminated};
 ghost use Rattle.definitions.specs.Schema.{json_kind, text_kind};
 ghost use Rattle.definitions.specs.Terms.{json_term, path_of_keys, term_bytes, type_code};
 ghost use Rattle.postings_writer.specs.Writers.{Stands};
@@ -78,7 +79,7 @@ impl<'a> TermIndexer<'a> {
 
     /// The next document follows.
     pub(crate) fn end_document(&mut self)
-        requires { self.old.doc < 2147483647 }
+        requires { self.old.doc < terminated }
         ensures { self.new ≡ record self.old { doc = self.old.doc + 1 } }
     {
         self.context.end_document();

@@ -5,7 +5,8 @@ ghost use Rattle.common.specs.Token.{token_of};
 ghost use Rattle.document_values.specs.Docs.{AreTokensAt};
 ghost use Rattle.layouts.specs.DocumentReading.{take_token, tokens_at};
 
-use common::{Fault, PreTokenizedString, Token, take_text, take_vint};
+use common::{PreTokenizedString, Token, take_text, take_vint};
+use definitions::Fault;
 use std::alloc::{AllocError, Global};
 use std::marker::Model;
 

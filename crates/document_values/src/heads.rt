@@ -11,7 +11,8 @@ ghost use Rattle.layouts.specs.DocumentReading.{skip_tokens, skip_tokens_from, t
 
 use crate::compact_tokens::CompactDocTokens;
 use crate::compact_value::CompactDocValue;
-use common::{Fault, take_bytes, take_text, take_u64, take_vint};
+use common::{take_bytes, take_text, take_u64, take_vint};
+use definitions::Fault;
 use terms::DateTime;
 
 /// A value that holds no others, or how many it holds.

@@ -33,7 +33,9 @@ fn own(alloc: Global, value: CompactDocValue<'_>) -> Result<OwnedValue, AllocErr
         CompactDocValue::I64(n) => Ok(OwnedValue::I64(n)),
         CompactDocValue::Bool(b) => Ok(OwnedValue::Bool(b)),
         CompactDocValue::Date(time) => Ok(OwnedValue::Date(time)),
-        CompactDocValue::Facet(steps) => Ok(OwnedValue::Facet(Facet::from_separated(alloc, steps)?)),
+        CompactDocValue::Facet(steps) => Ok(OwnedValue::Facet(Facet::from_separated(
+            alloc, steps,
+        )?)),
         CompactDocValue::Bytes(bytes) => Ok(OwnedValue::Bytes(Vec::from_slice(alloc, bytes)?)),
         CompactDocValue::IpAddr(address) => Ok(OwnedValue::IpAddr(address)),
         CompactDocValue::Array(values) => Ok(OwnedValue::Array(own_values(alloc, values)?)),

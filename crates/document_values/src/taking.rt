@@ -8,7 +8,8 @@ ghost use Rattle.layouts.specs.DocumentReading.{skip_many, take_any, take_held, 
 use crate::compact_value::CompactDocValue;
 use crate::heads::{Head, take_head};
 use crate::iterators::{CompactDocArrayIter, CompactDocObjectIter};
-use common::{Fault, take_text, take_u32};
+use common::{take_text, take_u32};
+use definitions::Fault;
 
 /// Deeper than any value in memory.
 const DEEPEST: usize = 18446744073709551615;

@@ -1,11 +1,11 @@
 //! Schemas of fields of all types, added by calls and by flags.
 
 use definitions::Fault;
-use schema::{
+use options::{
     BytesOptions, COERCE, DateOptions, FAST, FacetOptions, INDEXED, IpAddrOptions,
-    JsonObjectOptions, NumericOptions, STORED, STRING, Schema, SchemaBuilder, TEXT,
-    TextFieldIndexing, TextOptions,
+    JsonObjectOptions, NumericOptions, STORED, STRING, TEXT, TextFieldIndexing, TextOptions,
 };
+use schema::{Schema, SchemaBuilder};
 use std::alloc::{AllocError, Global};
 use std::test::Fail;
 

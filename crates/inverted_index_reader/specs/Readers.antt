@@ -1,7 +1,7 @@
 -- What a reader of an inverted index stands for.
 use Rattle.std.specs.Prelude.{[], ◌<◌, ◌==◌, ◌^◌, ◌≡◌, ◌≤◌, List, Option, Some, bytes_eq, find, flat_map, length, map, option_map, ℕ}
 use Rattle.std.specs.Option.{option_map_or}
-use Rattle.definitions.specs.Postings.{Posting}
+use Rattle.definitions.specs.Postings.{Posting, terminated}
 use Rattle.definitions.specs.Schema.{Kind, Schema, max_fields}
 use Rattle.layouts.specs.InvertedIndexes.{AreSections, IndexedField, IndexedTerm, field_terms, num_tokens, term_of_key}
 use Rattle.terms.specs.Kinds.{kind_of}
@@ -22,7 +22,7 @@ pub record Reader : Type 0 where
 -- the reader is of the sections of these fields, in a segment of so many documents with these lengths
 pub record IsReader (schema : Schema) (num_docs : ℕ) (norms : List (ℕ × List ℕ)) (fields : List IndexedField) (r : Reader) : Type 0 where
   pub few : length schema ≤ max_fields
-  pub docs_few : num_docs ≤ 2147483647
+  pub docs_few : num_docs ≤ terminated
   pub terms_short : length r.sections.terms < 2 ^ 63
   pub postings_short : length r.sections.postings < 2 ^ 63
   pub positions_short : length r.sections.positions < 2 ^ 63

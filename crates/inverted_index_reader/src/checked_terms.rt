@@ -3,6 +3,7 @@
 ghost use Rattle.std.specs.Prelude.{IfErr, IfOk, IfSome, List, None, OnOk, ◌≡◌, ◌≤◌, length, sum_by};
 ghost use Rattle.std.specs.List.{AllByRecursion};
 ghost use Rattle.packed_blocks.specs.PositionBlocks.{listed};
+ghost use Rattle.definitions.specs.Postings.{terminated};
 ghost use Rattle.definitions.specs.declared.fault.Fault.TheVariants as faults;
 ghost use Rattle.inverted_index_reader.specs.CheckedTerms.{AreCheckedFields, IsCheckedField, IsTermAt, IsWithin, bytes_of};
 ghost use Rattle.inverted_index_reader.specs.FieldKinds.{option_in};
@@ -26,7 +27,7 @@ fn check_term_at(
     num_docs: u32,
 ) -> Result<u64, Fault>
     requires kept { IfSome fieldnorm_reader.now (λ ids. length ids ≡ num_docs) }
-    requires few { num_docs ≤ 2147483647 }
+    requires few { num_docs ≤ terminated }
     requires within { IsWithin (bytes_of sections) start }
     ensures ok { IfOk result (λ total. (x : IndexedTerm) × IsTermAt (bytes_of sections.entry) start x × IsTerm (option_in kind x.key) num_docs (listed fieldnorm_reader.now) x × (total ≡ sum_by (λ p. p.count) x.postings)) }
     ensures err { IfErr result (λ fault. (fault ≡ faults.Damaged None) × ((x : IndexedTerm) → IsTermAt (bytes_of sections.entry) start x → IsTerm (option_in kind x.key) num_docs (listed fieldnorm_reader.now) x → ⊥)) }
@@ -52,7 +53,7 @@ pub(crate) fn check_field(
     num_docs: u32,
 ) -> Result<(), Fault>
     requires kept { IfSome fieldnorm_reader.now (λ ids. length ids ≡ num_docs) }
-    requires few { num_docs ≤ 2147483647 }
+    requires few { num_docs ≤ terminated }
     requires within { AllByRecursion (IsWithin (bytes_of sections)) index.now.starts.items }
     ensures ok { OnOk result ((xs : List IndexedTerm) × IsCheckedField (bytes_of sections.entry) num_docs (listed fieldnorm_reader.now) index.now xs) }
     ensures err { IfErr result (λ fault. (fault ≡ faults.Damaged None) × ((xs : List IndexedTerm) → IsCheckedField (bytes_of sections.entry) num_docs (listed fieldnorm_reader.now) index.now xs → ⊥)) }
@@ -79,7 +80,7 @@ pub(crate) fn check_fields(
     num_docs: u32,
 ) -> Result<(), Fault>
     requires kept { AllByRecursion (λ p. length p.1 ≡ num_docs) fieldnorm_readers.now }
-    requires few { num_docs ≤ 2147483647 }
+    requires few { num_docs ≤ terminated }
     requires within { AllByRecursion (λ i. AllByRecursion (IsWithin (bytes_of sections)) i.starts.items) indexes.now }
     ensures ok { OnOk result ((xss : List (List IndexedTerm)) × AreCheckedFields (bytes_of sections.entry) num_docs fieldnorm_readers.now indexes.now xss) }
     ensures err { IfErr result (λ fault. (fault ≡ faults.Damaged None) × ((xss : List (List IndexedTerm)) → AreCheckedFields (bytes_of sections.entry) num_docs fieldnorm_readers.now indexes.now xss → ⊥)) }

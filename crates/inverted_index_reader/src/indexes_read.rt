@@ -2,6 +2,7 @@
 
 ghost use Rattle.std.specs.Prelude.{◌≡◌, ◌≢◌, ◌≤◌, IfErr, IfOk, List, None, length};
 ghost use Rattle.std.specs.List.{AllByRecursion};
+ghost use Rattle.definitions.specs.Postings.{terminated};
 ghost use Rattle.definitions.specs.declared.fault.Fault.TheVariants as faults;
 ghost use Rattle.inverted_index_reader.specs.Readers.{IsReader};
 ghost use Rattle.layouts.specs.InvertedIndexes.{AreSections, IndexedField};
@@ -29,7 +30,7 @@ pub(crate) fn read_indexes(
     positions: &[u8],
 ) -> Result<Vec<FieldIndex>, Fault>
     requires kept { AllByRecursion (λ p. length p.1 ≡ num_docs) fieldnorm_readers.now }
-    requires few { num_docs ≤ 2147483647 }
+    requires few { num_docs ≤ terminated }
     ensures exact { IfOk result (λ indexes. (fields : List IndexedField) × IsReader schema.now num_docs fieldnorm_readers.now fields (record { sections = record { terms = terms.now; postings = postings.now; positions = positions.now }; indexes = indexes.items })) }
     ensures ok { IfOk result (λ indexes. (fields : List IndexedField) → AreSections schema.now num_docs fieldnorm_readers.now fields terms.now postings.now positions.now → IsReader schema.now num_docs fieldnorm_readers.now fields (record { sections = record { terms = terms.now; postings = postings.now; positions = positions.now }; indexes = indexes.items })) }
     ensures err { IfErr result (λ fault. fault ≢ faults.OutOfMemory → (fault ≡ faults.Damaged None) × ((fields : List IndexedField) → AreSections schema.now num_docs fieldnorm_readers.now fields terms.now postings.now positions.now → ⊥)) }

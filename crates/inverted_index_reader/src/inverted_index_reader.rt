@@ -2,6 +2,7 @@
 
 ghost use Rattle.std.specs.Prelude.{[], ◌↔◌, ◌∷◌, ◌≡◌, ◌≢◌, ◌≤◌, IfErr, IfNone, IfOk, IfSome, IsTrue, List, None, Some, if◌then◌else◌, length, map, option_map, slice_range};
 ghost use Rattle.std.specs.List.{AllByRecursion};
+ghost use Rattle.definitions.specs.Postings.{terminated};
 ghost use Rattle.definitions.specs.Schema.{has_freq};
 ghost use Rattle.definitions.specs.Terms.{field_of, payload_of};
 ghost use Rattle.definitions.specs.declared.fault.Fault.TheVariants as faults;
@@ -79,7 +80,7 @@ impl InvertedIndexReader {
         positions: Bytes,
     ) -> Result<InvertedIndexReader, Fault>
         requires kept { AllByRecursion (λ p. length p.1 ≡ num_docs) fieldnorm_readers.now }
-        requires few { num_docs ≤ 2147483647 }
+        requires few { num_docs ≤ terminated }
         ensures sections { IfOk result (λ r. r.sections ≡ record { terms = terms; postings = postings; positions = positions }) }
         ensures exact { IfOk result (λ r. (fields : List IndexedField) × IsReader schema.now num_docs fieldnorm_readers.now fields r) }
         ensures ok { IfOk result (λ r. (fields : List IndexedField) → AreSections schema.now num_docs fieldnorm_readers.now fields terms postings positions → IsReader schema.now num_docs fieldnorm_readers.now fields r) }

@@ -1,6 +1,7 @@
 -- Skip entries: what the full blocks of a term's postings have, one entry for each.
 use Rattle.std.specs.Prelude.{[], ◌&&◌, ◌++◌, ◌+◌, ◌^◌, ◌∷◌, ◌≡◌, Bool, IsTrue, List, flat_map, if◌then◌else◌, length, nat_eq, nat_le, nat_lt, true, ℕ}
 use Rattle.definitions.specs.NumberCodes.{u32_bytes}
+use Rattle.definitions.specs.Postings.{terminated}
 
 -- the last document of a block, the widths of its documents and counts, the sum of its counts, and its bound:
 -- the least length id and the greatest count
@@ -26,7 +27,7 @@ skip_bytes counts positions entries = flat_map (entry_bytes counts positions) en
 
 -- an entry of 128 documents from a least one on, in its ranges; what isn't recorded is 0, and each count 1
 abbrev pub is_entry : Bool → Bool → ℕ → SkipEntry → Bool
-is_entry counts positions least e = nat_le (least + 127) e.last_doc && nat_lt e.last_doc 2147483647 && nat_le e.doc_width 31 && nat_le e.count_width 32 && nat_lt 0 e.greatest_count && (if counts then true else nat_eq e.count_width 0 && nat_eq e.greatest_count 1) && (if positions then nat_lt e.count_sum (2 ^ 32) else nat_eq e.count_sum 0)
+is_entry counts positions least e = nat_le (least + 127) e.last_doc && nat_lt e.last_doc terminated && nat_le e.doc_width 31 && nat_le e.count_width 32 && nat_lt 0 e.greatest_count && (if counts then true else nat_eq e.count_width 0 && nat_eq e.greatest_count 1) && (if positions then nat_lt e.count_sum (2 ^ 32) else nat_eq e.count_sum 0)
 
 -- each block comes after the one before
 abbrev pub are_entries : Bool → Bool → ℕ → List SkipEntry → Bool

@@ -1,10 +1,11 @@
 //! Blocks of 128 numbers, and of 128 ascending documents, read from their bytes.
 
 ghost use Rattle.std.specs.Prelude.{[], ◌*◌, ◌<◌, ◌^◌, ◌≡◌, ◌≤◌, length, replicate, slice_index, take, List, ℕ};
+ghost use Rattle.definitions.specs.Blocks.{block_len};
 ghost use Rattle.layouts.specs.Deltas.{IsAscendingFrom, deltas, next_of};
 ghost use Rattle.layouts.specs.PackedBlocks.{IsPacked};
 
-use crate::block_size::compressed_block_size;
+use crate::block_size::{COMPRESSION_BLOCK_SIZE, compressed_block_size};
 use crate::offset::wrapped_after;
 use crate::summing::documents;
 use crate::unpacking::unpack;
@@ -12,9 +13,9 @@ use crate::unpacking::unpack;
 /// Room for the numbers of a block, and those that were read last.
 #[derive(Drop)]
 pub struct BlockDecoder {
-    pub(crate) output: [u32; 128],
+    pub(crate) output: [u32; COMPRESSION_BLOCK_SIZE],
     pub(crate) output_len: usize,
-    ghost within: { output_len ≤ 128 },
+    ghost within: { output_len ≤ block_len },
 }
 
 impl BlockDecoder {
@@ -23,10 +24,10 @@ impl BlockDecoder {
     /// A decoder that has read nothing yet, with the same number at each of its 128 places.
     pub fn with_val(val: u32) -> BlockDecoder
         ensures nothing { output_list result ≡ [] }
-        ensures places { result.output ≡ replicate 128 val }
+        ensures places { result.output ≡ replicate block_len val }
     {
         BlockDecoder {
-            output: [val; 128],
+            output: [val; COMPRESSION_BLOCK_SIZE],
             output_len: 0,
         }
     }
@@ -39,7 +40,7 @@ impl BlockDecoder {
         ensures consumed { result ≡ 16 * num_bits }
     {
         unpack(bytes, num_bits as u32, &mut self.output);
-        self.output_len = 128;
+        self.output_len = COMPRESSION_BLOCK_SIZE;
         compressed_block_size(num_bits)
     }
 
@@ -51,7 +52,7 @@ impl BlockDecoder {
         requires width { num_bits ≤ 32 }
         requires room { 16 * num_bits ≤ length bytes.now }
         ensures documents { (docs : List ℕ) → IsAscendingFrom (next_of offset) docs → ((i : ℕ) → slice_index docs i < 2 ^ 32) → IsPacked num_bits (deltas (next_of offset) docs) (take (16 * num_bits) bytes.now) → output_list self.new ≡ docs }
-        ensures length { length (output_list self.new) ≡ 128 }
+        ensures length { length (output_list self.new) ≡ block_len }
         ensures consumed { result ≡ 16 * num_bits }
     {
         documents(
@@ -60,7 +61,7 @@ impl BlockDecoder {
             wrapped_after(offset),
             &mut self.output,
         );
-        self.output_len = 128;
+        self.output_len = COMPRESSION_BLOCK_SIZE;
         compressed_block_size(num_bits)
     }
 
@@ -73,7 +74,7 @@ impl BlockDecoder {
 
     /// The number at one of the 128 places, the numbers read last first.
     pub fn output(&self, place: usize) -> u32
-        requires { place < 128 }
+        requires { place < block_len }
         ensures { result ≡ slice_index self.now.output place }
     {
         self.output[place]

@@ -1,10 +1,11 @@
 //! Blocks of 128 numbers, and of 128 ascending documents, written as bytes.
 
 ghost use Rattle.std.specs.Prelude.{◌*◌, ◌+◌, ◌<◌, ◌^◌, ◌≡◌, ◌≤◌, length, slice_index, take, ℕ};
+ghost use Rattle.definitions.specs.Blocks.{block_len};
 ghost use Rattle.layouts.specs.Deltas.{IsAscendingFrom, deltas, next_of};
 ghost use Rattle.layouts.specs.PackedBlocks.{IsBlock, IsSortedBlock};
 
-use crate::block_size::compressed_block_size;
+use crate::block_size::{COMPRESSION_BLOCK_SIZE, compressed_block_size};
 use crate::offset::least_after;
 use crate::packing::{pack, width_of};
 
@@ -22,7 +23,7 @@ impl BlockEncoder {
 
     /// The width in bits, and the bytes, of 128 numbers.
     pub fn compress_block_unsorted(&mut self, numbers: &[u32]) -> (u8, &[u8])
-        requires { length numbers.now ≡ 128 }
+        requires { length numbers.now ≡ block_len }
         ensures { IsBlock result.0 numbers.now result.1.now }
     {
         let width = width_of(numbers);
@@ -34,7 +35,7 @@ impl BlockEncoder {
     /// The width in bits, and the bytes, of 128 ascending documents by their strict deltas.
     /// The offset is the document before them, or 0 where none stands before.
     pub fn compress_block_sorted(&mut self, docs: &[u32], offset: u32) -> (u8, &[u8])
-        requires count { length docs.now ≡ 128 }
+        requires count { length docs.now ≡ block_len }
         requires ascending { IsAscendingFrom (next_of offset) docs.now }
         ensures { IsSortedBlock offset result.0 docs.now result.1.now }
     {
@@ -44,12 +45,12 @@ impl BlockEncoder {
 }
 
 /// The strict deltas of 128 documents after an offset.
-fn deltas_of(docs: &[u32], offset: u32) -> [u32; 128]
-    requires count { length docs.now ≡ 128 }
+fn deltas_of(docs: &[u32], offset: u32) -> [u32; COMPRESSION_BLOCK_SIZE]
+    requires count { length docs.now ≡ block_len }
     requires ascending { IsAscendingFrom (next_of offset) docs.now }
     ensures { result ≡ deltas (next_of offset) docs.now }
 {
-    let mut deltas = [0; 128];
+    let mut deltas = [0; COMPRESSION_BLOCK_SIZE];
     let mut next = least_after(offset);
     for (i, doc) in docs.iter().enumerate() {
         deltas[i] = (*doc as u64 - next) as u32;

@@ -4,13 +4,15 @@ ghost use Rattle.std.specs.Prelude.{◌%◌, ◌*◌, ◌+◌, ◌/◌, ◌<◌,
 ghost use lib.Lanes.{number_l};
 ghost use Rattle.layouts.specs.PackedBlocks.{IsPacked};
 
+use crate::block_size::COMPRESSION_BLOCK_SIZE;
+
 /// The numbers of a block of this width in bits.
-pub fn numbers_by_bits(bytes: &[u8], num_bits: u8, out: &mut [u32; 128])
+pub fn numbers_by_bits(bytes: &[u8], num_bits: u8, out: &mut [u32; COMPRESSION_BLOCK_SIZE])
     requires width { num_bits ≤ 32 }
     requires room { 16 * num_bits ≤ length bytes.now }
     ensures { IsPacked num_bits out.new (take (16 * num_bits) bytes.now) }
 {
-    for i in 0..128 {
+    for i in 0..COMPRESSION_BLOCK_SIZE {
         out[i] = number_at(bytes, i * num_bits as usize, num_bits);
     }
 }

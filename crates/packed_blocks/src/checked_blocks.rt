@@ -3,14 +3,15 @@
 ghost use Rattle.std.specs.Prelude.{[], ◌*◌, ◌+◌, ◌<◌, ◌^◌, ◌≡◌, ◌≤◌, IfErr, IfNone, IfOk, IfSome, List, None, OnErr, OnOk, length, slice_index, take, ℕ};
 ghost use Rattle.packed_blocks.specs.Decoded.{output_list};
 ghost use Rattle.layouts.specs.Deltas.{documents, next_of};
+ghost use Rattle.definitions.specs.Blocks.{block_len};
 ghost use Rattle.definitions.specs.declared.fault.Fault.TheVariants as faults;
 ghost use Rattle.layouts.specs.PackedBlocks.{IsBlock, IsSortedBlock};
 
 use crate::block_decoder::BlockDecoder;
-use crate::block_size::compressed_block_size;
+use crate::block_size::{COMPRESSION_BLOCK_SIZE, compressed_block_size};
 use crate::offset::least_after;
 use crate::packing::width_of;
-use common::Fault;
+use definitions::Fault;
 
 impl BlockDecoder {
     /// Reads a block of this width in bits where the bytes begin with one, and answers how many bytes it takes.
@@ -41,7 +42,7 @@ impl BlockDecoder {
     ) -> Result<usize, Fault>
         ensures ok { IfOk result (λ consumed. (consumed ≡ 16 * num_bits) × IsSortedBlock offset num_bits (output_list self.new) (take (16 * num_bits) bytes.now)) }
         ensures err { IfErr result (λ fault. (fault ≡ faults.Damaged None) × ((docs : List ℕ) → ¬ IsSortedBlock offset num_bits docs (take (16 * num_bits) bytes.now))) }
-        ensures count { OnOk result (length (output_list self.new) ≡ 128) }
+        ensures count { OnOk result (length (output_list self.new) ≡ block_len) }
         ensures nothing { OnErr result (output_list self.new ≡ []) }
     {
         let consumed = self.checked_block_unsorted(bytes, num_bits)?;
@@ -55,12 +56,12 @@ impl BlockDecoder {
 }
 
 /// The documents that have these strict deltas after an offset, where all are below 2^32.
-fn documents_of(deltas: &[u32], offset: u32) -> Option<[u32; 128]>
-    requires { length deltas.now ≡ 128 }
+fn documents_of(deltas: &[u32], offset: u32) -> Option<[u32; COMPRESSION_BLOCK_SIZE]>
+    requires { length deltas.now ≡ block_len }
     ensures some { IfSome result (λ docs. (docs ≡ documents (next_of offset) deltas.now) × ((i : ℕ) → slice_index docs i < 2 ^ 32)) }
     ensures none { IfNone result ((i : ℕ) × (2 ^ 32 ≤ slice_index (documents (next_of offset) deltas.now) i)) }
 {
-    let mut docs = [0; 128];
+    let mut docs = [0; COMPRESSION_BLOCK_SIZE];
     let mut next = least_after(offset);
     for (i, delta) in deltas.iter().enumerate() {
         let doc = next + *delta as u64;

@@ -2,6 +2,7 @@
 
 ghost use Rattle.std.specs.Prelude.{◌%◌, ◌*◌, ◌+◌, ◌/◌, ◌<◌, ◌^◌, ◌≡◌, ◌≤◌, ◌++◌, length, slice_index, take, ℕ};
 ghost use Rattle.std.specs.Int.{to_le_bytes, w32};
+ghost use Rattle.definitions.specs.Blocks.{block_len};
 ghost use Rattle.layouts.specs.PackedBlocks.{IsLeastWidth};
 ghost use lib.Lanes.{number_l};
 
@@ -23,7 +24,7 @@ pub fn width_of(numbers: &[u32]) -> u32
 
 /// Writes the block of these numbers at this width.
 pub(crate) fn pack(numbers: &[u32], width: u32, out: &mut [u8; 640])
-    requires count { length numbers.now ≡ 128 }
+    requires count { length numbers.now ≡ block_len }
     requires width { width ≤ 32 }
     requires holds { (i : ℕ) → slice_index numbers.now i < 2 ^ width }
     ensures number { number_l 256 (take (16 * width) out.new) ≡ number_l (2 ^ width) numbers.now }

@@ -1,17 +1,24 @@
 //! The documents of a packed block of strict deltas, summed as the values are taken out.
 
 ghost use Rattle.std.specs.Prelude.{◌%◌, ◌*◌, ◌+◌, ◌/◌, ◌<◌, ◌^◌, ◌≡◌, ◌≤◌, length, slice_index, take, ℕ};
+ghost use Rattle.definitions.specs.Blocks.{block_len};
 ghost use Rattle.packed_blocks.specs.Fields.{document, field};
 ghost use lib.Lanes.{number_l};
 
+use crate::block_size::COMPRESSION_BLOCK_SIZE;
 use crate::unpacking::{field_at, padded};
 
 /// The documents whose strict deltas are the numbers of the block, each as far as 32 bits hold it.
-pub(crate) fn documents(bytes: &[u8], width: u32, next: u32, out: &mut [u32; 128])
+pub(crate) fn documents(
+    bytes: &[u8],
+    width: u32,
+    next: u32,
+    out: &mut [u32; COMPRESSION_BLOCK_SIZE],
+)
     requires width { width ≤ 32 }
     requires room { 16 * width ≤ length bytes.now }
-    ensures documents { (i : ℕ) → i < 128 → slice_index out.new i ≡ document next (field width (number_l 256 (take (16 * width) bytes.now))) i }
-    ensures count { length out.new ≡ 128 }
+    ensures documents { (i : ℕ) → i < block_len → slice_index out.new i ≡ document next (field width (number_l 256 (take (16 * width) bytes.now))) i }
+    ensures count { length out.new ≡ block_len }
 {
     let len = 16 * width as usize;
     if bytes.len() >= len + 8 {
@@ -23,10 +30,10 @@ pub(crate) fn documents(bytes: &[u8], width: u32, next: u32, out: &mut [u32; 128
 }
 
 /// The same, where eight bytes or more follow the block.
-fn documents_wide(bytes: &[u8], width: u32, next: u32, out: &mut [u32; 128])
+fn documents_wide(bytes: &[u8], width: u32, next: u32, out: &mut [u32; COMPRESSION_BLOCK_SIZE])
     requires width { width ≤ 32 }
     requires room { 16 * width + 8 ≤ length bytes.now }
-    ensures { (i : ℕ) → i < 128 → slice_index out.new i ≡ document next (field width (number_l 256 bytes.now)) i }
+    ensures { (i : ℕ) → i < block_len → slice_index out.new i ≡ document next (field width (number_l 256 bytes.now)) i }
 {
     match width {
         0 => documents_at::<0>(bytes, next, out),
@@ -67,10 +74,10 @@ fn documents_wide(bytes: &[u8], width: u32, next: u32, out: &mut [u32; 128])
 }
 
 /// The same at a width that is known.
-fn documents_at<const W: usize>(bytes: &[u8], next: u32, out: &mut [u32; 128])
+fn documents_at<const W: usize>(bytes: &[u8], next: u32, out: &mut [u32; COMPRESSION_BLOCK_SIZE])
     requires width { W ≤ 32 }
     requires room { 16 * W + 8 ≤ length bytes.now }
-    ensures { (i : ℕ) → i < 128 → slice_index out.new i ≡ document next (field W (number_l 256 bytes.now)) i }
+    ensures { (i : ℕ) → i < block_len → slice_index out.new i ≡ document next (field W (number_l 256 bytes.now)) i }
 {
     let mut least = next;
     for group in 0..16 {

@@ -1,18 +1,21 @@
 //! The numbers of a packed block: eight values a turn, at widths that are known to the compiler.
 
 ghost use Rattle.std.specs.Prelude.{◌%◌, ◌*◌, ◌+◌, ◌/◌, ◌<◌, ◌^◌, ◌≡◌, ◌≤◌, length, slice_index, take, ℕ};
+ghost use Rattle.definitions.specs.Blocks.{block_len};
 ghost use Rattle.packed_blocks.specs.Fields.{field};
 ghost use lib.Lanes.{number_l};
+
+use crate::block_size::COMPRESSION_BLOCK_SIZE;
 
 /// The longest block, and room for a whole word from its last byte on.
 const PADDED_LEN: usize = 520;
 
 /// The numbers of the block of this width that the bytes begin with.
-pub(crate) fn unpack(bytes: &[u8], width: u32, out: &mut [u32; 128])
+pub(crate) fn unpack(bytes: &[u8], width: u32, out: &mut [u32; COMPRESSION_BLOCK_SIZE])
     requires width { width ≤ 32 }
     requires room { 16 * width ≤ length bytes.now }
-    ensures fields { (i : ℕ) → i < 128 → slice_index out.new i ≡ field width (number_l 256 (take (16 * width) bytes.now)) i }
-    ensures count { length out.new ≡ 128 }
+    ensures fields { (i : ℕ) → i < block_len → slice_index out.new i ≡ field width (number_l 256 (take (16 * width) bytes.now)) i }
+    ensures count { length out.new ≡ block_len }
 {
     let len = 16 * width as usize;
     if bytes.len() >= len + 8 {
@@ -35,10 +38,10 @@ pub(crate) fn padded(block: &[u8]) -> [u8; PADDED_LEN]
 }
 
 /// The same, where eight bytes or more follow the block.
-fn unpack_wide(bytes: &[u8], width: u32, out: &mut [u32; 128])
+fn unpack_wide(bytes: &[u8], width: u32, out: &mut [u32; COMPRESSION_BLOCK_SIZE])
     requires width { width ≤ 32 }
     requires room { 16 * width + 8 ≤ length bytes.now }
-    ensures { (i : ℕ) → i < 128 → slice_index out.new i ≡ field width (number_l 256 bytes.now) i }
+    ensures { (i : ℕ) → i < block_len → slice_index out.new i ≡ field width (number_l 256 bytes.now) i }
 {
     match width {
         0 => unpack_at::<0>(bytes, out),
@@ -79,10 +82,10 @@ fn unpack_wide(bytes: &[u8], width: u32, out: &mut [u32; 128])
 }
 
 /// The same at a width that is known.
-fn unpack_at<const W: usize>(bytes: &[u8], out: &mut [u32; 128])
+fn unpack_at<const W: usize>(bytes: &[u8], out: &mut [u32; COMPRESSION_BLOCK_SIZE])
     requires width { W ≤ 32 }
     requires room { 16 * W + 8 ≤ length bytes.now }
-    ensures { (i : ℕ) → i < 128 → slice_index out.new i ≡ field W (number_l 256 bytes.now) i }
+    ensures { (i : ℕ) → i < block_len → slice_index out.new i ≡ field W (number_l 256 bytes.now) i }
 {
     for group in 0..16 {
         for place in 0..8 {

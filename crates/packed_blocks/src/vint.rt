@@ -2,6 +2,7 @@
 
 ghost use Rattle.std.specs.Prelude.{drop, length, nat_lt, replicate, take, ◌++◌, ◌-◌, ◌<◌, ◌≡◌, ◌≤◌, ◌^◌, Bool, IfErr, IfOk, IsSome, IsTrue, List, None, OnErr, OnOk, Some, ℕ};
 ghost use Rattle.std.specs.List.{list_all};
+ghost use Rattle.definitions.specs.Blocks.{block_len};
 ghost use Rattle.definitions.specs.declared.fault.Fault.TheVariants as faults;
 ghost use Rattle.layouts.specs.Deltas.{IsAscendingFrom, deltas, documents, next_of};
 ghost use Rattle.layouts.specs.VintBlocks.{documents_bytes, is_u32, numbers_bytes, take_all_numbers, take_documents, take_number, take_numbers};
@@ -52,27 +53,27 @@ pub trait VIntDecoder {
         num_els: usize,
         padding: u32,
     ) -> usize
-        requires room { num_els ≤ 128 }
+        requires room { num_els ≤ block_len }
         requires layout { IsSome (take_documents offset num_els bytes.now) }
         ensures documents { take_documents offset num_els bytes.now ≡ Some (take num_els (places self.new), drop result bytes.now) }
-        ensures padded { drop num_els (places self.new) ≡ replicate (128 - num_els) padding }
+        ensures padded { drop num_els (places self.new) ≡ replicate (block_len - num_els) padding }
         ensures filled { filled self.new ≡ num_els }
         ensures within { result ≤ length bytes.now };
 
     /// Reads numbers as they are.
     fn uncompress_vint_unsorted(&mut self, bytes: &[u8], num_els: usize, padding: u32) -> usize
-        requires room { num_els ≤ 128 }
+        requires room { num_els ≤ block_len }
         requires layout { IsSome (take_numbers num_els bytes.now) }
         ensures numbers { take_numbers num_els bytes.now ≡ Some (take num_els (places self.new), drop result bytes.now) }
-        ensures padded { drop num_els (places self.new) ≡ replicate (128 - num_els) padding }
+        ensures padded { drop num_els (places self.new) ≡ replicate (block_len - num_els) padding }
         ensures filled { filled self.new ≡ num_els }
         ensures within { result ≤ length bytes.now };
 
     /// Reads all numbers up to the end of the bytes.
     fn uncompress_vint_unsorted_until_end(&mut self, bytes: &[u8])
-        requires layout { IsSome (take_all_numbers 128 bytes.now) }
-        ensures numbers { take_all_numbers 128 bytes.now ≡ Some (take (filled self.new) (places self.new)) }
-        ensures room { filled self.new ≤ 128 };
+        requires layout { IsSome (take_all_numbers block_len bytes.now) }
+        ensures numbers { take_all_numbers block_len bytes.now ≡ Some (take (filled self.new) (places self.new)) }
+        ensures room { filled self.new ≤ block_len };
 
     /// Reads documents behind an offset from bytes that may be damaged.
     fn try_uncompress_vint_sorted(
@@ -82,9 +83,9 @@ pub trait VIntDecoder {
         num_els: usize,
         padding: u32,
     ) -> Result<usize, Fault>
-        requires room { num_els ≤ 128 }
+        requires room { num_els ≤ block_len }
         ensures ok { IfOk result (λ consumed. (consumed ≤ length bytes.now) × (take_documents offset num_els bytes.now ≡ Some (take num_els (places self.new), drop consumed bytes.now))) }
-        ensures padded { OnOk result (drop num_els (places self.new) ≡ replicate (128 - num_els) padding) }
+        ensures padded { OnOk result (drop num_els (places self.new) ≡ replicate (block_len - num_els) padding) }
         ensures filled { OnOk result (filled self.new ≡ num_els) }
         ensures err { IfErr result (λ fault. (fault ≡ faults.Damaged None) × (take_documents offset num_els bytes.now ≡ None)) }
         ensures none { OnErr result (filled self.new ≡ 0) };
@@ -96,18 +97,18 @@ pub trait VIntDecoder {
         num_els: usize,
         padding: u32,
     ) -> Result<usize, Fault>
-        requires room { num_els ≤ 128 }
+        requires room { num_els ≤ block_len }
         ensures ok { IfOk result (λ consumed. (consumed ≤ length bytes.now) × (take_numbers num_els bytes.now ≡ Some (take num_els (places self.new), drop consumed bytes.now))) }
-        ensures padded { OnOk result (drop num_els (places self.new) ≡ replicate (128 - num_els) padding) }
+        ensures padded { OnOk result (drop num_els (places self.new) ≡ replicate (block_len - num_els) padding) }
         ensures filled { OnOk result (filled self.new ≡ num_els) }
         ensures err { IfErr result (λ fault. (fault ≡ faults.Damaged None) × (take_numbers num_els bytes.now ≡ None)) }
         ensures none { OnErr result (filled self.new ≡ 0) };
 
     /// Reads all numbers up to the end of bytes that may be damaged.
     fn try_uncompress_vint_unsorted_until_end(&mut self, bytes: &[u8]) -> Result<(), Fault>
-        ensures ok { OnOk result (take_all_numbers 128 bytes.now ≡ Some (take (filled self.new) (places self.new))) }
-        ensures room { filled self.new ≤ 128 }
-        ensures err { IfErr result (λ fault. (fault ≡ faults.Damaged None) × (take_all_numbers 128 bytes.now ≡ None)) }
+        ensures ok { OnOk result (take_all_numbers block_len bytes.now ≡ Some (take (filled self.new) (places self.new))) }
+        ensures room { filled self.new ≤ block_len }
+        ensures err { IfErr result (λ fault. (fault ≡ faults.Damaged None) × (take_all_numbers block_len bytes.now ≡ None)) }
         ensures none { OnErr result (filled self.new ≡ 0) };
 }
 
@@ -198,17 +199,17 @@ impl VIntDecoder for BlockDecoder {
 }
 
 /// Fills the places behind the first ones.
-fn pad(output: &mut [u32; 128], count: usize, padding: u32)
-    requires { count ≤ 128 }
+fn pad(output: &mut [u32; COMPRESSION_BLOCK_SIZE], count: usize, padding: u32)
+    requires { count ≤ block_len }
     ensures first { take count output.new ≡ take count output.old }
-    ensures padded { drop count output.new ≡ replicate (128 - count) padding }
+    ensures padded { drop count output.new ≡ replicate (block_len - count) padding }
 {
     output[count..].fill(padding);
 }
 
 /// Makes the first deltas into documents, unless one isn't below 2^32.
-fn add_deltas(output: &mut [u32; 128], count: usize, next: u64) -> bool
-    requires room { count ≤ 128 }
+fn add_deltas(output: &mut [u32; COMPRESSION_BLOCK_SIZE], count: usize, next: u64) -> bool
+    requires room { count ≤ block_len }
     requires few { next ≤ 2 ^ 32 }
     ensures value { result ≡ list_all is_u32 (documents next (take count output.old)) }
     ensures documents { IsTrue result → take count output.new ≡ documents next (take count output.old) }
@@ -227,8 +228,8 @@ fn add_deltas(output: &mut [u32; 128], count: usize, next: u64) -> bool
 }
 
 /// Makes the first deltas into documents, which are known to be below 2^32.
-fn sum_deltas(output: &mut [u32; 128], count: usize, next: u64)
-    requires room { count ≤ 128 }
+fn sum_deltas(output: &mut [u32; COMPRESSION_BLOCK_SIZE], count: usize, next: u64)
+    requires room { count ≤ block_len }
     requires few { next ≤ 2 ^ 32 }
     requires small { IsTrue (list_all is_u32 (documents next (take count output.old))) }
     ensures documents { take count output.new ≡ documents next (take count output.old) }
@@ -271,8 +272,8 @@ fn try_first_number(bytes: &[u8]) -> Result<(u32, &[u8]), Fault>
 }
 
 /// Reads so many numbers, and answers how many bytes they are.
-fn read_numbers(bytes: &[u8], count: usize, output: &mut [u32; 128]) -> usize
-    requires room { count ≤ 128 }
+fn read_numbers(bytes: &[u8], count: usize, output: &mut [u32; COMPRESSION_BLOCK_SIZE]) -> usize
+    requires room { count ≤ block_len }
     requires layout { IsSome (take_numbers count bytes.now) }
     ensures numbers { take_numbers count bytes.now ≡ Some (take count output.new, drop result bytes.now) }
     ensures within { result ≤ length bytes.now }
@@ -287,10 +288,10 @@ fn read_numbers(bytes: &[u8], count: usize, output: &mut [u32; 128]) -> usize
 }
 
 /// Reads all numbers up to the end, and answers how many there are.
-fn read_all_numbers(bytes: &[u8], output: &mut [u32; 128]) -> usize
-    requires { IsSome (take_all_numbers 128 bytes.now) }
-    ensures numbers { take_all_numbers 128 bytes.now ≡ Some (take result output.new) }
-    ensures room { result ≤ 128 }
+fn read_all_numbers(bytes: &[u8], output: &mut [u32; COMPRESSION_BLOCK_SIZE]) -> usize
+    requires { IsSome (take_all_numbers block_len bytes.now) }
+    ensures numbers { take_all_numbers block_len bytes.now ≡ Some (take result output.new) }
+    ensures room { result ≤ block_len }
 {
     let mut rest = bytes;
     let mut count: usize = 0;
@@ -304,8 +305,12 @@ fn read_all_numbers(bytes: &[u8], output: &mut [u32; 128]) -> usize
 }
 
 /// Reads so many numbers, where they stand there, and answers how many bytes they are.
-fn try_read_numbers(bytes: &[u8], count: usize, output: &mut [u32; 128]) -> Result<usize, Fault>
-    requires room { count ≤ 128 }
+fn try_read_numbers(
+    bytes: &[u8],
+    count: usize,
+    output: &mut [u32; COMPRESSION_BLOCK_SIZE],
+) -> Result<usize, Fault>
+    requires room { count ≤ block_len }
     ensures ok { IfOk result (λ consumed. (consumed ≤ length bytes.now) × (take_numbers count bytes.now ≡ Some (take count output.new, drop consumed bytes.now))) }
     ensures err { IfErr result (λ fault. (fault ≡ faults.Damaged None) × (take_numbers count bytes.now ≡ None)) }
 {
@@ -319,9 +324,12 @@ fn try_read_numbers(bytes: &[u8], count: usize, output: &mut [u32; 128]) -> Resu
 }
 
 /// Reads all numbers up to the end, where there are at most 128, and answers how many.
-fn try_read_all_numbers(bytes: &[u8], output: &mut [u32; 128]) -> Result<usize, Fault>
-    ensures ok { IfOk result (λ count. (count ≤ 128) × (take_all_numbers 128 bytes.now ≡ Some (take count output.new))) }
-    ensures err { IfErr result (λ fault. (fault ≡ faults.Damaged None) × (take_all_numbers 128 bytes.now ≡ None)) }
+fn try_read_all_numbers(
+    bytes: &[u8],
+    output: &mut [u32; COMPRESSION_BLOCK_SIZE],
+) -> Result<usize, Fault>
+    ensures ok { IfOk result (λ count. (count ≤ block_len) × (take_all_numbers block_len bytes.now ≡ Some (take count output.new))) }
+    ensures err { IfErr result (λ fault. (fault ≡ faults.Damaged None) × (take_all_numbers block_len bytes.now ≡ None)) }
 {
     let mut rest = bytes;
     let mut count: usize = 0;

@@ -5,6 +5,7 @@ ghost use Rattle.packed_blocks.specs.Decoded.{output_list};
 ghost use Rattle.packed_blocks.specs.PositionBlocks.{AreSmall, HasAll, HasBlocks, Holds, numbers_in, packed_len};
 ghost use Rattle.layouts.specs.Positions.{AreBlocks, ArePositions};
 ghost use Rattle.layouts.specs.VintBlocks.{take_all_numbers};
+ghost use Rattle.definitions.specs.Blocks.{block_len};
 ghost use Rattle.definitions.specs.declared.fault.Fault.TheVariants as faults;
 
 use common::take_bytes;
@@ -90,7 +91,8 @@ impl<'a> PositionReader<'a> {
             &mut self.at,
             self.widths.len(),
         );
-        self.widths.len() as u128 * 128 + self.decoder.output_array().len() as u128
+        self.widths.len() as u128 * COMPRESSION_BLOCK_SIZE as u128
+            + self.decoder.output_array().len() as u128
     }
 
     /// Reads as many numbers as the output has, from a place on.
@@ -101,23 +103,28 @@ impl<'a> PositionReader<'a> {
     {
         let mut filled = 0;
         while filled < output.len() {
-            let ahead = (offset % 128) as usize + filled;
+            let ahead = (offset % COMPRESSION_BLOCK_SIZE as u64) as usize + filled;
             load(
                 self.widths,
                 self.packed,
                 &mut self.decoder,
                 &mut self.block,
                 &mut self.at,
-                (offset / 128) as usize + ahead / 128,
+                (offset / COMPRESSION_BLOCK_SIZE as u64) as usize + ahead / COMPRESSION_BLOCK_SIZE,
             );
-            filled = copy_from(self.decoder.output_array(), ahead % 128, output, filled);
+            filled = copy_from(
+                self.decoder.output_array(),
+                ahead % COMPRESSION_BLOCK_SIZE,
+                output,
+                filled,
+            );
         }
     }
 }
 
 /// Reads fewer than 128 numbers below 2^31 up to the end.
 fn checked_rest(bytes: &[u8], decoder: &mut BlockDecoder) -> Result<(), Fault>
-    ensures ok { OnOk result (AreBlocks [] (output_list decoder.new) bytes.now × AreSmall (output_list decoder.new) × (take_all_numbers 128 bytes.now ≡ Some (output_list decoder.new))) }
+    ensures ok { OnOk result (AreBlocks [] (output_list decoder.new) bytes.now × AreSmall (output_list decoder.new) × (take_all_numbers block_len bytes.now ≡ Some (output_list decoder.new))) }
     ensures err { IfErr result (λ fault. (fault ≡ faults.Damaged None) × ((numbers : List ℕ) → AreBlocks [] numbers bytes.now → AreSmall numbers → ⊥)) }
 {
     decoder.try_uncompress_vint_unsorted_until_end(bytes)?;
@@ -129,7 +136,7 @@ fn checked_rest(bytes: &[u8], decoder: &mut BlockDecoder) -> Result<(), Fault>
 
 /// Whether there are fewer than 128 numbers, each below 2^31.
 fn is_rest(numbers: &[u32]) -> bool
-    ensures { IsTrue result ↔ ((length numbers.now < 128) × AreSmall numbers.now) }
+    ensures { IsTrue result ↔ ((length numbers.now < block_len) × AreSmall numbers.now) }
 {
     numbers.len() < COMPRESSION_BLOCK_SIZE && are_small(numbers)
 }
@@ -188,7 +195,7 @@ fn decode(widths: &[u8], packed: &[u8], block: usize, at: usize, decoder: &mut B
     requires within { block ≤ length widths.now }
     requires place { at ≡ packed_len (take block widths.now) }
     requires begins { at ≤ length packed.now }
-    ensures { output_list decoder.new ≡ take 128 (drop (128 * block) (numbers_in widths.now packed.now)) }
+    ensures { output_list decoder.new ≡ take block_len (drop (block_len * block) (numbers_in widths.now packed.now)) }
 {
     let bytes = &packed[at..];
     if block < widths.len() {

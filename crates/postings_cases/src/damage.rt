@@ -2,9 +2,8 @@
 
 use crate::asked_terms::asked_term;
 use crate::held::Held;
-use crate::outcomes::Outcomes;
 use crate::sections::{Sections, opened, postings_of};
-use case_lines::{Arguments, Refusal};
+use case_lines::{Arguments, Outcomes, Refusal};
 use definitions::Fault;
 use inverted_index_reader::InvertedIndexReader;
 use schema::Term;
@@ -97,35 +96,22 @@ fn terms_in(alloc: Global, arguments: &Arguments) -> Result<Vec<Term>, Refusal> 
     Ok(terms)
 }
 
+/// What becomes of the bytes of a section at a place.
+#[derive(Clone, Copy)]
+enum Damage {
+    /// They end there.
+    Cut,
+    /// The byte that stands there is this one.
+    Change(u8),
+}
+
 /// The outcomes of each cut of each section.
 pub(crate) fn each_cut(
     alloc: Global,
     held: &Held,
     arguments: &Arguments,
 ) -> Result<Value, Refusal> {
-    let terms = terms_in(alloc, arguments)?;
-    let mut outcomes = Outcomes::new(alloc);
-    for section in SECTIONS {
-        add_cuts(alloc, held, &terms, section, &mut outcomes)?;
-    }
-    Ok(outcomes.names(alloc)?)
-}
-
-/// Adds the outcomes of each cut of a section.
-fn add_cuts(
-    alloc: Global,
-    held: &Held,
-    terms: &[Term],
-    section: Section,
-    outcomes: &mut Outcomes,
-) -> Result<(), Fault> {
-    let whole = bytes_of(&held.sections, section);
-    for length in 0..whole.len() {
-        let mut bytes = copy_of(alloc, whole)?;
-        bytes.truncate(length);
-        outcomes.add(outcome(alloc, held, terms, section, bytes)?)?;
-    }
-    Ok(())
+    outcomes_of(alloc, held, arguments, &[Damage::Cut])
 }
 
 /// The outcomes of each change of a byte of a section to 0 and to 255.
@@ -134,31 +120,57 @@ pub(crate) fn each_change(
     held: &Held,
     arguments: &Arguments,
 ) -> Result<Value, Refusal> {
+    outcomes_of(
+        alloc,
+        held,
+        arguments,
+        &[Damage::Change(0), Damage::Change(u8::MAX)],
+    )
+}
+
+/// The outcomes of damage at each place of each section.
+fn outcomes_of(
+    alloc: Global,
+    held: &Held,
+    arguments: &Arguments,
+    damages: &[Damage],
+) -> Result<Value, Refusal> {
     let terms = terms_in(alloc, arguments)?;
     let mut outcomes = Outcomes::new(alloc);
     for section in SECTIONS {
-        add_changes(alloc, held, &terms, section, 0, &mut outcomes)?;
-        add_changes(alloc, held, &terms, section, u8::MAX, &mut outcomes)?;
+        for damage in damages {
+            add_outcomes(alloc, held, &terms, section, *damage, &mut outcomes)?;
+        }
     }
     Ok(outcomes.names(alloc)?)
 }
 
-/// Adds the outcomes of each change of a byte of a section to that one.
-fn add_changes(
+/// Adds the outcomes of damage at each place of a section.
+fn add_outcomes(
     alloc: Global,
     held: &Held,
     terms: &[Term],
     section: Section,
-    byte: u8,
+    damage: Damage,
     outcomes: &mut Outcomes,
 ) -> Result<(), Fault> {
     let whole = bytes_of(&held.sections, section);
     for place in 0..whole.len() {
         let mut bytes = copy_of(alloc, whole)?;
-        if let Some(old) = bytes.get_mut(place) {
-            *old = byte;
-        }
+        do_damage(&mut bytes, damage, place);
         outcomes.add(outcome(alloc, held, terms, section, bytes)?)?;
     }
     Ok(())
+}
+
+/// Does damage to bytes at a place.
+fn do_damage(bytes: &mut Vec<u8>, damage: Damage, place: usize) {
+    match damage {
+        Damage::Cut => bytes.truncate(place),
+        Damage::Change(byte) => {
+            if let Some(old) = bytes.get_mut(place) {
+                *old = byte;
+            }
+        }
+    }
 }

@@ -1,9 +1,9 @@
 //! Indexes, made of a schema and documents.
 
-use crate::added_values::document_of_values;
 use crate::held::Held;
 use crate::sections::{opened, sections_of};
 use case_lines::{Arguments, Refusal, flag, hex, number, triple};
+use document_lines::document_of_values;
 use serde_json::Value;
 use std::alloc::Global;
 

@@ -1,9 +1,9 @@
 //! Terms looked up in an index.
 
-use crate::added_values::field_in;
 use crate::asked_terms::asked_term;
 use crate::sections::postings_of;
 use case_lines::{Arguments, Refusal, hex, number, numbers, pair, triple};
+use document_lines::field_in;
 use inverted_index_reader::InvertedIndexReader;
 use options::IndexRecordOption;
 use postings::DocSet;

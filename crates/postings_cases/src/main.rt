@@ -2,14 +2,12 @@
 //! and its arguments, and the line of standard output with the same number is its answer.
 #![tactic(auto)]
 
-mod added_values;
 mod asked_terms;
 mod damage;
 mod held;
 mod indexes;
 mod lookups;
 mod operations;
-mod outcomes;
 mod sections;
 
 use case_lines::answers;

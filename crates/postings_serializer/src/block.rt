@@ -1,6 +1,7 @@
 //! The documents of a term that no full block holds yet.
 
 ghost use Rattle.std.specs.Prelude.{nat_eq, ◌<◌, ◌≡◌, length, sum};
+ghost use Rattle.definitions.specs.Blocks.{block_len};
 ghost use Rattle.definitions.specs.Scoring.{greatest_of};
 ghost use Rattle.layouts.specs.TermPostings.{less_1};
 ghost use Rattle.postings_serializer.specs.TermWriting.{joined, nothing_waits};
@@ -11,9 +12,9 @@ use std::marker::Model;
 /// At most 128 documents with their counts, and what their bound is made of.
 #[derive(Drop)]
 pub(crate) struct Block {
-    docs: [u32; 128],
+    docs: [u32; COMPRESSION_BLOCK_SIZE],
     // Each count less 1, as it is stored.
-    counts_less_1: [u32; 128],
+    counts_less_1: [u32; COMPRESSION_BLOCK_SIZE],
     len: usize,
     least_id: u8,
     greatest_count: u32,
@@ -29,7 +30,7 @@ impl Model for Block {
 
     ghost view = { λ b. record { docs = take b.len b.docs; counts = map (λ n. n + 1) (take b.len b.counts_less_1); least_id = b.least_id } };
 
-    ghost invariant = { λ b. (b.len ≤ 128) × (b.greatest_count ≡ greatest_of (map (λ n. n + 1) (take b.len b.counts_less_1))) × (b.count_sum ≡ sum (map (λ n. n + 1) (take b.len b.counts_less_1))) × (b.count_sum ≤ 4294967295 * b.len) };
+    ghost invariant = { λ b. (b.len ≤ block_len) × (b.greatest_count ≡ greatest_of (map (λ n. n + 1) (take b.len b.counts_less_1))) × (b.count_sum ≡ sum (map (λ n. n + 1) (take b.len b.counts_less_1))) × (b.count_sum ≤ 4294967295 * b.len) };
 }
 
 impl Block {
@@ -38,8 +39,8 @@ impl Block {
         ensures { result ≡ nothing_waits }
     {
         Block {
-            docs: [0; 128],
-            counts_less_1: [0; 128],
+            docs: [0; COMPRESSION_BLOCK_SIZE],
+            counts_less_1: [0; COMPRESSION_BLOCK_SIZE],
             len: 0,
             least_id: 0,
             greatest_count: 0,
@@ -49,7 +50,7 @@ impl Block {
 
     /// Adds a document with its count and its length id.
     pub(crate) fn append_doc(&mut self, doc: u32, term_freq: u32, fieldnorm_id: u8)
-        requires room { length self.old.docs < 128 }
+        requires room { length self.old.docs < block_len }
         requires some { 0 < term_freq }
         ensures { self.new ≡ joined self.old doc term_freq fieldnorm_id }
     {
@@ -67,7 +68,7 @@ impl Block {
 
     /// Whether it has 128 documents.
     pub(crate) fn is_full(&self) -> bool
-        ensures { result ≡ nat_eq (length self.now.docs) 128 }
+        ensures { result ≡ nat_eq (length self.now.docs) block_len }
     {
         self.len == COMPRESSION_BLOCK_SIZE
     }

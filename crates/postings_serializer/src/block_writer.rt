@@ -1,6 +1,7 @@
 //! The blocks of a term, written as bytes.
 
 ghost use Rattle.std.specs.Prelude.{[], ◌++◌, ◌<◌, ◌≡◌, ◌^◌, ◌∷◌, IfErr, List, OnOk, if◌then◌else◌, length, nat_le, slice_index, sum, ℕ};
+ghost use Rattle.definitions.specs.Blocks.{block_len};
 ghost use Rattle.definitions.specs.NumberCodes.{u32_bytes};
 ghost use Rattle.definitions.specs.Schema.{has_freq, has_positions};
 ghost use Rattle.layouts.specs.Deltas.{IsAscendingFrom, deltas, next_of};
@@ -61,8 +62,8 @@ impl BlockWriter {
         offset: u32,
         block: &Block,
     ) -> Result<(), Fault>
-        requires docs { length block.now.docs ≡ 128 }
-        requires counts { length block.now.counts ≡ 128 }
+        requires docs { length block.now.docs ≡ block_len }
+        requires counts { length block.now.counts ≡ block_len }
         requires ascending { IsAscendingFrom (next_of offset) block.now.docs }
         ensures ok { OnOk result (self.new ≡ block_added (record_option_of option) offset block.now self.old) }
         ensures within { OnOk result (sum block.now.counts < 2 ^ 32) }
@@ -81,7 +82,7 @@ impl BlockWriter {
 
     /// The documents of a full block; begins its skip entry.
     fn write_docs(&mut self, offset: u32, docs: &[u32]) -> Result<(), AllocError>
-        requires count { length docs.now ≡ 128 }
+        requires count { length docs.now ≡ block_len }
         requires ascending { IsAscendingFrom (next_of offset) docs.now }
         ensures { OnOk result (self.new ≡ record { skips = self.old.skips ++ u32_bytes (slice_index docs.now 127) ++ width_of (deltas (next_of offset) docs.now) ∷ []; blocks = self.old.blocks ++ packed_bytes (deltas (next_of offset) docs.now) }) }
     {
@@ -97,7 +98,7 @@ impl BlockWriter {
         option: IndexRecordOption,
         counts_less_1: &[u32],
     ) -> Result<(), AllocError>
-        requires { length counts_less_1.now ≡ 128 }
+        requires { length counts_less_1.now ≡ block_len }
         ensures { OnOk result (self.new ≡ record { skips = self.old.skips ++ (if has_freq (record_option_of option) then width_of counts_less_1.now ∷ [] else []); blocks = self.old.blocks ++ (if has_freq (record_option_of option) then packed_bytes counts_less_1.now else []) }) }
     {
         if !option.has_freq() {

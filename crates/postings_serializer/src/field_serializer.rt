@@ -1,6 +1,7 @@
 //! The terms of a field, written with their postings and positions.
 
 ghost use Rattle.std.specs.Prelude.{[], ◌+◌, ◌++◌, ◌<◌, ◌≡◌, ◌≤◌, ◌^◌, ◌∷◌, IfErr, IfOk, IfSome, IsTrue, List, OnOk, if◌then◌else◌, length, slice_index, ℕ};
+ghost use Rattle.definitions.specs.Postings.{terminated};
 ghost use Rattle.definitions.specs.Schema.{basic, has_freq, has_positions};
 ghost use Rattle.layouts.specs.InvertedIndexes.{HasPositions};
 ghost use Rattle.postings_serializer.specs.FieldWriting.{IsCloseRefusal, IsClosed, IsOpen, field_closed};
@@ -74,7 +75,7 @@ impl<'a> FieldSerializer<'a> {
         position_deltas: &[u32],
     ) -> Result<(), Fault>
         requires next { self.old.writing.next ≤ doc }
-        requires fits { doc < 2147483647 }
+        requires fits { doc < terminated }
         requires kept { IfSome self.old.writing.norms (λ ids. doc < length ids) }
         requires some { IsTrue (has_freq self.old.writing.option) → 0 < term_freq }
         requires positions { (i : ℕ) → slice_index position_deltas.now i < 2 ^ 31 }

@@ -2,6 +2,7 @@
 
 ghost use Rattle.std.specs.Prelude.{[], ◌++◌, ◌+◌, ◌<◌, ◌≡◌, ◌≤◌, ◌^◌, ◌∷◌, IfErr, IfSome, IsTrue, List, OnOk, false, if◌then◌else◌, length, nat_le, ℕ};
 ghost use Rattle.packed_blocks.specs.PositionBlocks.{listed};
+ghost use Rattle.definitions.specs.Postings.{terminated};
 ghost use Rattle.definitions.specs.Schema.{basic, has_freq, has_positions};
 ghost use Rattle.layouts.specs.TermPostings.{ArePosted, id_of, postings_bytes};
 ghost use Rattle.options.specs.RecordOption.{record_option_of};
@@ -119,7 +120,7 @@ impl<'a> PostingsSerializer<'a> {
     /// left aside. A block of 128 documents is refused where the sum of its counts is past 32 bits.
     pub fn write_doc(&mut self, doc: u32, term_freq: u32) -> Result<(), Fault>
         requires next { self.old.next ≤ doc }
-        requires fits { doc < 2147483647 }
+        requires fits { doc < terminated }
         requires kept { IfSome self.old.norms (λ ids. doc < length ids) }
         requires some { IsTrue (has_freq self.old.option) → 0 < term_freq }
         ensures written { (docs counts : List ℕ) → AreWritten self.old docs counts → OnOk result (AreWritten self.new (docs ++ doc ∷ []) (counts ++ recorded_count self.old.option term_freq ∷ [])) }

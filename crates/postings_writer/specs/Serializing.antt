@@ -1,7 +1,7 @@
 -- The postings that recorders stand for, as a serializer takes them.
 use Rattle.std.specs.Prelude.{[], ◌++◌, ◌<◌, ◌^◌, ◌≡◌, ◌∷◌, IfSome, List, Option, drop, length, map, sum_by, ℕ}
 use Rattle.std.specs.List.{AllByRecursion}
-use Rattle.definitions.specs.Postings.{Posting}
+use Rattle.definitions.specs.Postings.{Posting, terminated}
 use Rattle.packed_blocks.specs.PositionBlocks.{listed}
 use Rattle.definitions.specs.Schema.{IndexRecordOption, has_positions, with_freqs_and_positions}
 use Rattle.layouts.specs.Deltas.{IsAscendingFrom}
@@ -48,7 +48,7 @@ pub record StandsAt (r : Recorder) (at doc count next : ℕ) (deltas : List ℕ)
 -- postings that may be written to a term whose next document isn't below a least one, in a field of these lengths
 pub record CanWrite (next : ℕ) (norms : Option (List ℕ)) (ps : List Posting) : Type 0 where
   pub ascending : IsAscendingFrom next (map (λ (p : Posting). p.doc) ps)
-  pub fits : AllByRecursion (λ (p : Posting). p.doc < 2147483647) ps
+  pub fits : AllByRecursion (λ (p : Posting). p.doc < terminated) ps
   pub kept : IfSome norms (λ ids. AllByRecursion (λ (p : Posting). p.doc < length ids) ps)
   pub counted : AllByRecursion (λ (p : Posting). 0 < p.count) ps
   pub placed : AllByRecursion (λ (p : Posting). AllByRecursion (λ n. n < 2 ^ 31) p.positions) ps

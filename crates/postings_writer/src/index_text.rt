@@ -4,6 +4,7 @@ ghost use Rattle.std.specs.Prelude.{[], ◌++◌, ◌+◌, ◌<◌, ◌^◌, ◌
 ghost use Rattle.common.specs.Token.{token_of};
 ghost use Rattle.definitions.specs.Analyzers.{kept};
 ghost use Rattle.definitions.specs.Places.{ends, greatest_from, next_start};
+ghost use Rattle.definitions.specs.Postings.{terminated};
 ghost use Rattle.definitions.specs.declared.fault.Fault.TheVariants as faults;
 ghost use Rattle.postings_writer.specs.Occurrences.{Occurrence};
 ghost use Rattle.postings_writer.specs.Texts.{AreWithin, EndsPast, IsTextRefusal, end_of, text_occurrences};
@@ -45,8 +46,8 @@ fn below_limit(n: usize) -> Result<u32, Fault>
 impl<'a> PostingsWriter<'a> {
     /// Records the tokens of a value that begins at a start, each as the term of its text behind the first bytes
     /// that the buffer holds, and answers where the next value begins, or 2147483648 where it would begin behind
-    /// that. Tokens over 65530 bytes are dropped. A token that ends past 2147483647, with the gap behind it, is
-    /// refused, so a start that was cut to 2147483648 refuses what the real one does.
+    /// that. Tokens over `MAX_TOKEN_LEN` bytes are dropped. A token that doesn't end below 2147483648, with the gap
+    /// behind it, is refused, so a start that was cut to 2147483648 refuses what the real one does.
     pub fn index_text<T: TokenStream>(
         &mut self,
         doc: u32,
@@ -57,7 +58,7 @@ impl<'a> PostingsWriter<'a> {
     ) -> Result<u32, Fault>
         requires known { (text : List ℕ) → IsIndexedTerm self.old.schema (term_buffer.old.items ++ text) }
         requires next { self.old.num_docs ≤ doc + 1 }
-        requires fits { doc < 2147483647 }
+        requires fits { doc < terminated }
         requires small { gap < 2 ^ 31 }
         ensures ok { (os : List Occurrence) (real : ℕ) → Stands self.old os → start ≡ min (2 ^ 31) real → OnOk result (Stands self.new (os ++ text_occurrences doc term_buffer.old.items real (kept (T.rest stream.old)))) }
         ensures next { (real : ℕ) → start ≡ min (2 ^ 31) real → IfOk result (λ next. next ≡ min (2 ^ 31) (next_start gap real (kept (T.rest stream.old)))) }
@@ -80,7 +81,7 @@ impl<'a> PostingsWriter<'a> {
     ) -> Result<u32, Fault>
         requires known { (text : List ℕ) → IsIndexedTerm self.old.schema (term_buffer.old.items ++ text) }
         requires next { self.old.num_docs ≤ doc + 1 }
-        requires fits { doc < 2147483647 }
+        requires fits { doc < terminated }
         ensures ok { (os : List Occurrence) → Stands self.old os → OnOk result (Stands self.new (os ++ text_occurrences doc term_buffer.old.items start (kept (T.rest stream.old)))) }
         ensures end { IfOk result (λ end. end ≡ greatest_from start (ends start (kept (T.rest stream.old)))) }
         ensures within { OnOk result (AreWithin gap start (kept (T.rest stream.old))) }
@@ -106,7 +107,7 @@ impl<'a> PostingsWriter<'a> {
     ) -> Result<u32, Fault>
         requires known { (text : List ℕ) → IsIndexedTerm self.old.schema (term_buffer.old.items ++ text) }
         requires next { self.old.num_docs ≤ doc + 1 }
-        requires fits { doc < 2147483647 }
+        requires fits { doc < terminated }
         ensures ok { (os : List Occurrence) → Stands self.old os → OnOk result (Stands self.new (os ++ text_occurrences doc term_buffer.old.items start (kept (token_of token.now ∷ [])))) }
         ensures end { IfOk result (λ end. end ≡ greatest_from start (ends start (kept (token_of token.now ∷ [])))) }
         ensures within { OnOk result (AreWithin gap start (kept (token_of token.now ∷ []))) }

@@ -1,6 +1,7 @@
 //! Records the terms of documents, field by field.
 
 ghost use Rattle.std.specs.Prelude.{[], ◌++◌, ◌+◌, ◌<◌, ◌^◌, ◌≡◌, ◌≤◌, ◌∷◌, IfErr, IfOk, List, OnOk, length, replicate};
+ghost use Rattle.definitions.specs.Postings.{terminated};
 ghost use Rattle.definitions.specs.Terms.{field_of, payload_of};
 ghost use Rattle.postings_writer.specs.Occurrences.{Occurrence, places_of};
 ghost use Rattle.postings_writer.specs.Recorders.{IsCountRefusal};
@@ -51,7 +52,7 @@ impl<'a> Model for PostingsWriter<'a> {
 
     ghost view = { λ w. record { schema = w.schema.now; fields = w.fields.items; num_docs = w.num_docs } };
 
-    ghost invariant = { λ w. (length w.fields.items ≡ length w.schema.now) × (w.num_docs ≤ 2147483647) };
+    ghost invariant = { λ w. (length w.fields.items ≡ length w.schema.now) × (w.num_docs ≤ terminated) };
 }
 
 impl<'a> PostingsWriter<'a> {
@@ -78,7 +79,7 @@ impl<'a> PostingsWriter<'a> {
     pub fn subscribe(&mut self, doc: u32, term: &[u8], position: u32) -> Result<(), Fault>
         requires known { IsIndexedTerm self.old.schema term.now }
         requires next { self.old.num_docs ≤ doc + 1 }
-        requires fits { doc < 2147483647 }
+        requires fits { doc < terminated }
         requires placed { position < 2 ^ 31 }
         ensures ok { (os : List Occurrence) → Stands self.old os → OnOk result (Stands self.new (os ++ record { doc = doc; term = term.now; position = position } ∷ [])) }
         ensures same { OnOk result ((self.new.schema ≡ self.old.schema) × (self.new.num_docs ≡ doc + 1)) }

@@ -9,7 +9,8 @@ ghost use Rattle.records.specs.Kept.{IsKept};
 ghost use Rattle.records.specs.Outcomes.{IsRefusal};
 
 use crate::bodies::Bodies;
-use common::{Device, Fault, take_u64};
+use common::{Device, take_u64};
+use definitions::Fault;
 use std::alloc::Global;
 
 /// The byte of an open gate.

@@ -10,7 +10,8 @@ ghost use Rattle.records.specs.Kept.{IsKept};
 ghost use Rattle.records.specs.Outcomes.{IsCaused};
 
 use crate::steps::{append_record, create_file, settle_file};
-use common::{Device, Fault};
+use common::Device;
+use definitions::Fault;
 use std::alloc::Global;
 
 /// The most bytes that a file may have.

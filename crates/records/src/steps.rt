@@ -9,7 +9,8 @@ ghost use Rattle.records.specs.Frames.{frame_bytes};
 ghost use Rattle.records.specs.Kept.{IsKept};
 
 use crate::read::OPEN;
-use common::{Device, Fault, cut_synced, write_synced};
+use common::{Device, cut_synced, write_synced};
+use definitions::Fault;
 use std::alloc::Global;
 
 /// Puts a file on the disk, with nothing after its closed gate.

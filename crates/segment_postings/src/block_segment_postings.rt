@@ -1,7 +1,9 @@
 //! One term's postings, block by block.
 
 ghost use Rattle.std.specs.Prelude.{[], ◌%◌, ◌*◌, ◌+◌, ◌/◌, ◌<◌, ◌≡◌, ◌≤◌, Bool, IsSome, List, Some, drop, if◌then◌else◌, length, min, nat_lt, replicate, slice_index, slice_index_or, sum, take, true, ℕ};
+ghost use Rattle.definitions.specs.Blocks.{block_len};
 ghost use Rattle.definitions.specs.NumberCodes.{take_bytes};
+ghost use Rattle.definitions.specs.Postings.{terminated};
 ghost use Rattle.layouts.specs.TermPostings.{skip_entries};
 ghost use Rattle.segment_postings.specs.CountBounds.{TellCounts};
 ghost use Rattle.segment_postings.specs.Reading.{Ascends, HasPassed, HasPostings, IsHeld, StandsIn, below, counts_at, docs_at};
@@ -10,7 +12,7 @@ ghost use Rattle.segment_postings.specs.ReadingLaws.{Ascends-prop, StandsIn-prop
 use crate::decoding::decode_block;
 use crate::greatest_count::greatest_count;
 use common::{DocId, take_bytes};
-use packed_blocks::BlockDecoder;
+use packed_blocks::{BlockDecoder, COMPRESSION_BLOCK_SIZE};
 use skips::{Recorded, SkipReader};
 
 /// The postings of a term, 128 documents at a time, lent from their bytes: the cursor holds a block, and its
@@ -24,8 +26,8 @@ pub struct BlockSegmentPostings<'a> {
     reads_positions: bool,
     doc_freq: u32,
     decoder: BlockDecoder,
-    docs: [u32; 128],
-    counts: [u32; 128],
+    docs: [u32; COMPRESSION_BLOCK_SIZE],
+    counts: [u32; COMPRESSION_BLOCK_SIZE],
     len: usize,
     decoded: u64,
     ghost stands: { StandsIn reads_counts reads_positions before skips bytes.now } by { StandsIn-prop reads_counts reads_positions before skips bytes.now },
@@ -69,7 +71,7 @@ impl<'a> BlockSegmentPostings<'a> {
         ensures doc_freq { doc_freq_of result ≡ doc_freq }
         ensures offset { positions_passed result ≡ 0 }
         ensures reads { (counts_are_read result ≡ reads_counts) × (positions_are_read result ≡ reads_positions) }
-        ensures entries { (docs counts : List ℕ) (known : HasPostings recorded.counts recorded.positions doc_freq bytes.now docs counts) → skips_left result ≡ skip_entries known.option known.ids (length docs / 128) 0 docs counts }
+        ensures entries { (docs counts : List ℕ) (known : HasPostings recorded.counts recorded.positions doc_freq bytes.now docs counts) → skips_left result ≡ skip_entries known.option known.ids (length docs / block_len) 0 docs counts }
     {
         let (entries, blocks) = split_entries(bytes, doc_freq);
         let skips = SkipReader::new(entries, doc_freq, recorded);
@@ -94,8 +96,8 @@ impl<'a> BlockSegmentPostings<'a> {
         ensures entries { result.skips.left ≡ skips.entry.left }
     {
         let mut decoder = BlockDecoder::with_val(0);
-        let mut docs = [0; 128];
-        let mut counts = [0; 128];
+        let mut docs = [0; COMPRESSION_BLOCK_SIZE];
+        let mut counts = [0; COMPRESSION_BLOCK_SIZE];
         let len = decode_block(
             bytes,
             &skips,
@@ -129,29 +131,29 @@ impl<'a> BlockSegmentPostings<'a> {
 
     /// The documents of the block; none behind the last.
     pub fn docs(&self) -> &[DocId]
-        ensures { result.now ≡ take 128 (docs_left self.now) }
+        ensures { result.now ≡ take block_len (docs_left self.now) }
     {
         &self.docs[..self.len]
     }
 
     /// The document at a place of the block; behind its documents `TERMINATED`.
     pub fn doc(&self, place: usize) -> DocId
-        requires { place < 128 }
-        ensures { result ≡ slice_index_or (docs_left self.now) place 2147483647 }
+        requires { place < block_len }
+        ensures { result ≡ slice_index_or (docs_left self.now) place terminated }
     {
         self.docs[place]
     }
 
     /// How often the term stands in each document of the block; 1 where counts aren't read.
     pub fn freqs(&self) -> &[u32]
-        ensures { result.now ≡ take 128 (counts_left self.now) }
+        ensures { result.now ≡ take block_len (counts_left self.now) }
     {
         &self.counts[..self.len]
     }
 
     /// The count at a place of the block.
     pub fn freq(&self, place: usize) -> u32
-        requires block { place < 128 }
+        requires block { place < block_len }
         requires within { place < length (docs_left self.now) }
         ensures { result ≡ slice_index (counts_left self.now) place }
     {
@@ -160,14 +162,14 @@ impl<'a> BlockSegmentPostings<'a> {
 
     /// How many documents the block has.
     pub fn block_len(&self) -> usize
-        ensures { result ≡ min 128 (length (docs_left self.now)) }
+        ensures { result ≡ min block_len (length (docs_left self.now)) }
     {
         self.docs().len()
     }
 
     /// How many positions stand before those of a document of the block, in all blocks.
     pub(crate) fn positions_before(&self, place: usize) -> u64
-        requires { place ≤ min 128 (length (docs_left self.now)) }
+        requires { place ≤ min block_len (length (docs_left self.now)) }
         ensures { result ≡ self.now.skips.position_offset + sum (take place (counts_left self.now)) }
     {
         self.skips.position_offset() + sum_of(&self.counts[..place])
@@ -189,11 +191,11 @@ impl<'a> BlockSegmentPostings<'a> {
 
     /// Goes on to the next block.
     pub fn advance(&mut self)
-        ensures docs { docs_left self.new ≡ drop 128 (docs_left self.old) }
-        ensures counts { counts_left self.new ≡ drop 128 (counts_left self.old) }
+        ensures docs { docs_left self.new ≡ drop block_len (docs_left self.old) }
+        ensures counts { counts_left self.new ≡ drop block_len (counts_left self.old) }
         ensures decoded { blocks_decoded self.new ≡ blocks_decoded self.old + min 1 (length (docs_left self.new)) }
         ensures room { positions_are_read self.old ≡ true → positions_passed self.new + sum (counts_left self.new) ≤ positions_passed self.old + sum (counts_left self.old) }
-        ensures offset { positions_are_read self.old ≡ true → 0 < length (docs_left self.new) → positions_passed self.new ≡ positions_passed self.old + sum (take 128 (counts_left self.old)) }
+        ensures offset { positions_are_read self.old ≡ true → 0 < length (docs_left self.new) → positions_passed self.new ≡ positions_passed self.old + sum (take block_len (counts_left self.old)) }
         ensures kept { (doc_freq_of self.new ≡ doc_freq_of self.old) × (counts_are_read self.new ≡ counts_are_read self.old) × (positions_are_read self.new ≡ positions_are_read self.old) }
     {
         self.before = self.skips.last_doc_in_block();
@@ -213,13 +215,13 @@ impl<'a> BlockSegmentPostings<'a> {
     /// Goes on to the first block that may hold a document, which may be the one that is held, and answers the
     /// place in it of the first document that isn't below.
     pub fn seek(&mut self, target: DocId) -> usize
-        requires { target ≤ 2147483647 }
-        ensures docs { docs_left self.new ≡ drop (128 * (below target (docs_left self.old) / 128)) (docs_left self.old) }
-        ensures counts { counts_left self.new ≡ drop (128 * (below target (docs_left self.old) / 128)) (counts_left self.old) }
-        ensures place { result ≡ below target (docs_left self.old) % 128 }
-        ensures decoded { blocks_decoded self.new ≡ blocks_decoded self.old + (if nat_lt (below target (docs_left self.old)) 128 then 0 else min 1 (length (docs_left self.new))) }
+        requires { target ≤ terminated }
+        ensures docs { docs_left self.new ≡ drop (block_len * (below target (docs_left self.old) / block_len)) (docs_left self.old) }
+        ensures counts { counts_left self.new ≡ drop (block_len * (below target (docs_left self.old) / block_len)) (counts_left self.old) }
+        ensures place { result ≡ below target (docs_left self.old) % block_len }
+        ensures decoded { blocks_decoded self.new ≡ blocks_decoded self.old + (if nat_lt (below target (docs_left self.old)) block_len then 0 else min 1 (length (docs_left self.new))) }
         ensures room { positions_are_read self.old ≡ true → positions_passed self.new + sum (counts_left self.new) ≤ positions_passed self.old + sum (counts_left self.old) }
-        ensures offset { positions_are_read self.old ≡ true → positions_passed self.new ≡ positions_passed self.old + sum (take (128 * (below target (docs_left self.old) / 128)) (counts_left self.old)) }
+        ensures offset { positions_are_read self.old ≡ true → positions_passed self.new ≡ positions_passed self.old + sum (take (block_len * (below target (docs_left self.old) / block_len)) (counts_left self.old)) }
         ensures kept { (doc_freq_of self.new ≡ doc_freq_of self.old) × (counts_are_read self.new ≡ counts_are_read self.old) × (positions_are_read self.new ≡ positions_are_read self.old) }
     {
         if target <= self.skips.last_doc_in_block() {
@@ -251,7 +253,7 @@ fn counted(decoded: u64, len: usize) -> u64
 /// Passes blocks that end before a document; answers the last document of the block before the one at which
 /// the entries then stand, or what is given.
 fn pass_blocks(skips: &mut SkipReader, before: u32, target: DocId) -> u32
-    requires { target ≤ 2147483647 }
+    requires { target ≤ terminated }
     ensures { (reads sums : Bool) (bytes : List ℕ) → StandsIn reads sums before skips.old bytes → HasPassed reads sums target before skips.old result skips.new bytes }
 {
     let mut before = before;
@@ -265,13 +267,13 @@ fn pass_blocks(skips: &mut SkipReader, before: u32, target: DocId) -> u32
 }
 
 /// The place of the first document of a block that isn't below another.
-fn first_from(docs: &[u32; 128], target: DocId) -> usize
-    requires within { below target docs.now < 128 }
-    requires order { (place : ℕ) → place < 128 → slice_index docs.now place < target → place < below target docs.now }
+fn first_from(docs: &[u32; COMPRESSION_BLOCK_SIZE], target: DocId) -> usize
+    requires within { below target docs.now < block_len }
+    requires order { (place : ℕ) → place < block_len → slice_index docs.now place < target → place < below target docs.now }
     ensures { result ≡ below target docs.now }
 {
     let mut place = 0;
-    let mut len = 128;
+    let mut len = COMPRESSION_BLOCK_SIZE;
     while len > 1 {
         let half = len / 2;
         if docs[place + half - 1] < target {
@@ -284,11 +286,11 @@ fn first_from(docs: &[u32; 128], target: DocId) -> usize
 
 /// The skip entries of so many documents and the blocks behind them, where they are known to stand there.
 fn split_entries(bytes: &[u8], doc_freq: u32) -> (&[u8], &[u8])
-    requires { 128 ≤ doc_freq → IsSome (take_bytes bytes.now) }
-    ensures few { doc_freq < 128 → (result.0.now ≡ []) × (result.1.now ≡ bytes.now) }
-    ensures many { 128 ≤ doc_freq → take_bytes bytes.now ≡ Some (result.0.now, result.1.now) }
+    requires { block_len ≤ doc_freq → IsSome (take_bytes bytes.now) }
+    ensures few { doc_freq < block_len → (result.0.now ≡ []) × (result.1.now ≡ bytes.now) }
+    ensures many { block_len ≤ doc_freq → take_bytes bytes.now ≡ Some (result.0.now, result.1.now) }
 {
-    if doc_freq < 128 {
+    if doc_freq < COMPRESSION_BLOCK_SIZE as u32 {
         return (&bytes[..0], bytes);
     }
     match take_bytes(bytes) {
@@ -299,7 +301,7 @@ fn split_entries(bytes: &[u8], doc_freq: u32) -> (&[u8], &[u8])
 
 /// The sum of a block's counts.
 fn sum_of(counts: &[u32]) -> u64
-    requires { length counts.now ≤ 128 }
+    requires { length counts.now ≤ block_len }
     ensures value { result ≡ sum counts.now }
     ensures few { result ≤ 549755813888 }
 {

@@ -1,12 +1,14 @@
 //! Blocks of documents and counts, taken out of a term's bytes.
 
 ghost use Rattle.std.specs.Prelude.{[], ◌*◌, ◌++◌, ◌+◌, ◌-◌, ◌<◌, ◌^◌, ◌≡◌, ◌≤◌, Bool, IsSome, Some, drop, length, map, min, replicate, true, slice_index, take, ℕ};
+ghost use Rattle.definitions.specs.Blocks.{block_len};
+ghost use Rattle.definitions.specs.Postings.{terminated};
 ghost use Rattle.packed_blocks.specs.Decoded.{output_list};
 ghost use Rattle.layouts.specs.VintBlocks.{take_documents, take_numbers};
 ghost use Rattle.segment_postings.specs.Reading.{IsHeld, StandsIn, block_counts, block_docs, counts_at, docs_at, found, more_1, rest_counts, rest_docs};
 
 use common::TERMINATED;
-use packed_blocks::{BlockDecoder, VIntDecoder};
+use packed_blocks::{BlockDecoder, COMPRESSION_BLOCK_SIZE, VIntDecoder};
 use skips::{BlockInfo, SkipReader};
 
 /// Decodes the block at which the skip entries stand, and answers how many documents it has.
@@ -16,8 +18,8 @@ pub(crate) fn decode_block(
     before: u32,
     reads_counts: bool,
     decoder: &mut BlockDecoder,
-    docs: &mut [u32; 128],
-    counts: &mut [u32; 128],
+    docs: &mut [u32; COMPRESSION_BLOCK_SIZE],
+    counts: &mut [u32; COMPRESSION_BLOCK_SIZE],
 ) -> usize
     requires { (sums : Bool) × StandsIn reads_counts sums before skips.now bytes.now }
     ensures { IsHeld docs.new counts.new result (docs_at before skips.now bytes.now) (counts_at reads_counts before skips.now bytes.now) }
@@ -37,7 +39,7 @@ pub(crate) fn decode_block(
                 decoder,
                 counts,
             );
-            128
+            COMPRESSION_BLOCK_SIZE
         }
         BlockInfo::VInt { num_docs } => {
             let num_docs = num_docs as usize;
@@ -54,7 +56,7 @@ fn decode_docs(
     before: u32,
     width: u8,
     decoder: &mut BlockDecoder,
-    docs: &mut [u32; 128],
+    docs: &mut [u32; COMPRESSION_BLOCK_SIZE],
 ) -> usize
     requires width { width ≤ 32 }
     requires room { 16 * width ≤ length bytes.now }
@@ -73,7 +75,7 @@ fn decode_counts(
     width: u8,
     reads_counts: bool,
     decoder: &mut BlockDecoder,
-    counts: &mut [u32; 128],
+    counts: &mut [u32; COMPRESSION_BLOCK_SIZE],
 )
     requires width { width ≤ 32 }
     requires room { 16 * width ≤ length bytes.now }
@@ -94,11 +96,11 @@ fn decode_rest_docs(
     before: u32,
     num_docs: usize,
     decoder: &mut BlockDecoder,
-    docs: &mut [u32; 128],
+    docs: &mut [u32; COMPRESSION_BLOCK_SIZE],
 ) -> usize
-    requires few { num_docs ≤ 128 }
+    requires few { num_docs ≤ block_len }
     requires some { IsSome (take_documents before num_docs bytes.now) }
-    ensures docs { docs.new ≡ rest_docs before num_docs bytes.now ++ replicate (128 - num_docs) 2147483647 }
+    ensures docs { docs.new ≡ rest_docs before num_docs bytes.now ++ replicate (block_len - num_docs) terminated }
     ensures count { length (rest_docs before num_docs bytes.now) ≡ num_docs }
     ensures behind { (found (take_documents before num_docs bytes.now)).1 ≡ drop result bytes.now }
     ensures within { result ≤ length bytes.now }
@@ -115,9 +117,9 @@ fn decode_rest_counts(
     num_docs: usize,
     reads_counts: bool,
     decoder: &mut BlockDecoder,
-    counts: &mut [u32; 128],
+    counts: &mut [u32; COMPRESSION_BLOCK_SIZE],
 )
-    requires few { num_docs ≤ 128 }
+    requires few { num_docs ≤ block_len }
     requires some { reads_counts ≡ true → IsSome (take_numbers num_docs bytes.now) }
     requires fit { (i : ℕ) → slice_index (rest_counts reads_counts num_docs bytes.now) i < 2 ^ 32 }
     ensures { take num_docs counts.new ≡ rest_counts reads_counts num_docs bytes.now }
@@ -131,15 +133,15 @@ fn decode_rest_counts(
 }
 
 /// The same number at each place.
-fn fill(places: &mut [u32; 128], number: u32)
-    ensures { places.new ≡ replicate 128 number }
+fn fill(places: &mut [u32; COMPRESSION_BLOCK_SIZE], number: u32)
+    ensures { places.new ≡ replicate block_len number }
 {
     places.fill(number);
 }
 
 /// Puts numbers into the first places, each plus 1.
-fn add_1(numbers: &[u32], counts: &mut [u32; 128])
-    requires few { length numbers.now ≤ 128 }
+fn add_1(numbers: &[u32], counts: &mut [u32; COMPRESSION_BLOCK_SIZE])
+    requires few { length numbers.now ≤ block_len }
     requires fit { (i : ℕ) → slice_index (more_1 numbers.now) i < 2 ^ 32 }
     ensures { take (length numbers.now) counts.new ≡ more_1 numbers.now }
 {

@@ -1,6 +1,7 @@
 //! One term's postings, document by document.
 
 ghost use Rattle.std.specs.Prelude.{[], ◌<◌, ◌≡◌, ◌≤◌, ◌+◌, IsSome, List, if◌then◌else◌, length, min, replicate, sum, true, ℕ};
+ghost use Rattle.definitions.specs.Blocks.{block_len};
 ghost use Rattle.cursors.specs.Entries.{AreSingle, most_positions};
 ghost use Rattle.cursors.specs.EntryLaws.{AreSingle-prop};
 ghost use Rattle.segment_postings.specs.Reading.{HasPostings, counts_at, docs_at};
@@ -21,7 +22,7 @@ pub struct SegmentPostings<'a> {
     cur: usize,
     positions: Option<PositionReader<'a>>,
     most: usize,
-    ghost inside: { cur < 128 },
+    ghost inside: { cur < block_len },
     ghost placed: { IsSome positions → blocks.reads_positions ≡ true },
     ghost counted: { IsSome positions → blocks.skips.position_offset + sum (counts_at blocks.reads_counts blocks.before blocks.skips blocks.bytes.now) ≤ length (numbers_of positions) },
     ghost of_one_term: { AreSingle (entries_from cur blocks.skips.position_offset (docs_at blocks.before blocks.skips blocks.bytes.now) (counts_at blocks.reads_counts blocks.before blocks.skips blocks.bytes.now) (numbers_of positions)) } by { AreSingle-prop (entries_from cur blocks.skips.position_offset (docs_at blocks.before blocks.skips blocks.bytes.now) (counts_at blocks.reads_counts blocks.before blocks.skips blocks.bytes.now) (numbers_of positions)) },

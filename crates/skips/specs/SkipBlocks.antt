@@ -7,6 +7,7 @@ use Rattle.skips.specs.declared.skip_reader.BlockInfo.{BlockInfo}
 use Rattle.skips.specs.declared.skip_reader.BlockInfo.TheVariants.{BitPacked, VInt}
 use Rattle.definitions.specs.Json.{◌>>=◌}
 use Rattle.definitions.specs.NumberCodes.{take_u32}
+use Rattle.definitions.specs.Postings.{terminated}
 use Rattle.layouts.specs.SkipEntries.{SkipEntry, are_entries}
 
 -- ---- taking
@@ -105,7 +106,7 @@ blocks_before target s = prefix_len (λ (e : SkipEntry). nat_lt e.last_doc targe
 
 -- the last document of the block; of the rest none is known
 abbrev pub last_doc : List SkipEntry → ℕ
-last_doc [] = 2147483647
+last_doc [] = terminated
 last_doc (e ∷ es) = e.last_doc
 
 -- what the block has, and of the rest how many documents

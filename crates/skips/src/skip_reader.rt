@@ -2,13 +2,15 @@
 
 ghost use Rattle.std.specs.Prelude.{◌%◌, ◌+◌, ◌/◌, ◌≡◌, ◌<◌, ◌≤◌, ◌^◌, IfErr, IfOk, IsSome, List, None, Some, length, nat_lt, ℕ};
 ghost use Rattle.skips.specs.SkipBlocks.{Skips, are_skips, begun, blocks_before, ended, entry_of, info_of, last_doc, passed, take_byte, take_entry, take_where};
+ghost use Rattle.definitions.specs.Blocks.{block_len};
 ghost use Rattle.definitions.specs.NumberCodes.{take_u32};
+ghost use Rattle.definitions.specs.Postings.{terminated};
 ghost use Rattle.definitions.specs.declared.fault.Fault.TheVariants as faults;
 ghost use Rattle.layouts.specs.SkipEntries.{AreSkips, SkipEntry, is_entry};
 
 use common::{TERMINATED, take_u32};
 use definitions::Fault;
-use packed_blocks::compressed_block_size;
+use packed_blocks::{COMPRESSION_BLOCK_SIZE, compressed_block_size};
 use std::marker::Model;
 
 /// What a term's postings record beside the documents.
@@ -73,14 +75,14 @@ impl<'a> Model for SkipReader<'a> {
 impl<'a> SkipReader<'a> {
     /// Stands at the first block of entries that are known to be in their layout.
     pub fn new(bytes: &'a [u8], doc_freq: u32, recorded: Recorded) -> SkipReader<'a>
-        requires { ∥ ((entries : List SkipEntry) × AreSkips recorded.counts recorded.positions (doc_freq / 128) bytes.now entries) ∥₁ }
-        ensures { (entries : List SkipEntry) → AreSkips recorded.counts recorded.positions (doc_freq / 128) bytes.now entries → result ≡ begun recorded.counts recorded.positions doc_freq entries }
+        requires { ∥ ((entries : List SkipEntry) × AreSkips recorded.counts recorded.positions (doc_freq / block_len) bytes.now entries) ∥₁ }
+        ensures { (entries : List SkipEntry) → AreSkips recorded.counts recorded.positions (doc_freq / block_len) bytes.now entries → result ≡ begun recorded.counts recorded.positions doc_freq entries }
     {
         SkipReader {
             bytes,
             recorded,
-            blocks: doc_freq / 128,
-            rest: doc_freq % 128,
+            blocks: doc_freq / COMPRESSION_BLOCK_SIZE as u32,
+            rest: doc_freq % COMPRESSION_BLOCK_SIZE as u32,
             byte_offset: 0,
             position_offset: 0,
         }
@@ -88,11 +90,11 @@ impl<'a> SkipReader<'a> {
 
     /// Stands at the first block where the bytes are the entries of so many documents; other bytes are `Damaged`.
     pub fn open(bytes: &'a [u8], doc_freq: u32, recorded: Recorded) -> Result<SkipReader<'a>, Fault>
-        ensures ok { IfOk result (λ reader. AreSkips recorded.counts recorded.positions (doc_freq / 128) bytes.now reader.left × (reader ≡ begun recorded.counts recorded.positions doc_freq reader.left)) }
-        ensures one { IfOk result (λ reader. (entries : List SkipEntry) → AreSkips recorded.counts recorded.positions (doc_freq / 128) bytes.now entries → entries ≡ reader.left) }
-        ensures err { IfErr result (λ fault. (fault ≡ faults.Damaged None) × ((entries : List SkipEntry) → AreSkips recorded.counts recorded.positions (doc_freq / 128) bytes.now entries → ⊥)) }
+        ensures ok { IfOk result (λ reader. AreSkips recorded.counts recorded.positions (doc_freq / block_len) bytes.now reader.left × (reader ≡ begun recorded.counts recorded.positions doc_freq reader.left)) }
+        ensures one { IfOk result (λ reader. (entries : List SkipEntry) → AreSkips recorded.counts recorded.positions (doc_freq / block_len) bytes.now entries → entries ≡ reader.left) }
+        ensures err { IfErr result (λ fault. (fault ≡ faults.Damaged None) × ((entries : List SkipEntry) → AreSkips recorded.counts recorded.positions (doc_freq / block_len) bytes.now entries → ⊥)) }
     {
-        if !are_skips(recorded, bytes, doc_freq / 128) {
+        if !are_skips(recorded, bytes, doc_freq / COMPRESSION_BLOCK_SIZE as u32) {
             return Err(Fault::Damaged(None));
         }
         Ok(SkipReader::new(bytes, doc_freq, recorded))
@@ -114,8 +116,8 @@ impl<'a> SkipReader<'a> {
 
     /// Stands at the first block of another term with the same recorded.
     pub fn reset(&mut self, bytes: &'a [u8], doc_freq: u32)
-        requires { ∥ ((entries : List SkipEntry) × AreSkips self.old.counts self.old.positions (doc_freq / 128) bytes.now entries) ∥₁ }
-        ensures { (entries : List SkipEntry) → AreSkips self.old.counts self.old.positions (doc_freq / 128) bytes.now entries → self.new ≡ begun self.old.counts self.old.positions doc_freq entries }
+        requires { ∥ ((entries : List SkipEntry) × AreSkips self.old.counts self.old.positions (doc_freq / block_len) bytes.now entries) ∥₁ }
+        ensures { (entries : List SkipEntry) → AreSkips self.old.counts self.old.positions (doc_freq / block_len) bytes.now entries → self.new ≡ begun self.old.counts self.old.positions doc_freq entries }
     {
         *self = SkipReader::new(bytes, doc_freq, self.recorded);
     }
@@ -167,7 +169,7 @@ impl<'a> SkipReader<'a> {
 
     /// Goes on to the first block that may hold a document, or into the rest; whether that is another block.
     pub fn seek(&mut self, target: u32) -> bool
-        requires { target ≤ 2147483647 }
+        requires { target ≤ terminated }
         ensures passed { self.new ≡ passed (blocks_before target self.old) self.old }
         ensures moved { result ≡ nat_lt 0 (blocks_before target self.old) }
     {
@@ -258,7 +260,7 @@ fn is_entry(recorded: Recorded, least: u64, entry: Entry) -> bool
     ensures { result ≡ is_entry recorded.counts recorded.positions least (entry_of entry) }
 {
     least + 127 <= u64::from(entry.last_doc)
-        && entry.last_doc < 2147483647
+        && entry.last_doc < TERMINATED
         && entry.doc_width <= 31
         && entry.count_width <= 32
         && entry.greatest_count > 0

@@ -1,6 +1,5 @@
 //! Documents whose values are added one by one: `[FIELD, KIND, VALUE]` each.
 
-use crate::values::bits_of;
 use case_lines::{Refusal, bytes_of_digits};
 use common::{PreTokenizedString, Token};
 use document::{CompactDoc, OwnedValue};
@@ -9,7 +8,7 @@ use serde_json::Value;
 use std::alloc::Global;
 
 /// The document of the values that are added to an empty one.
-pub(crate) fn document_of_values(alloc: Global, values: &[Value]) -> Result<CompactDoc, Refusal> {
+pub fn document_of_values(alloc: Global, values: &[Value]) -> Result<CompactDoc, Refusal> {
     let mut doc = CompactDoc::new(alloc);
     for value in values {
         let kind = text_in(part(value, 1)?)?;
@@ -25,27 +24,27 @@ pub(crate) fn document_of_values(alloc: Global, values: &[Value]) -> Result<Comp
 }
 
 /// The item at a place of a list.
-fn part(list: &Value, place: usize) -> Result<&Value, Refusal> {
+pub fn part(list: &Value, place: usize) -> Result<&Value, Refusal> {
     list.get(place).ok_or(Refusal::NotAsked)
 }
 
 /// The text that a value is.
-fn text_in(value: &Value) -> Result<&str, Refusal> {
+pub fn text_in(value: &Value) -> Result<&str, Refusal> {
     value.as_str().ok_or(Refusal::NotAsked)
 }
 
 /// The number that a value is.
-fn number_in(value: &Value) -> Result<u64, Refusal> {
+pub fn number_in(value: &Value) -> Result<u64, Refusal> {
     value.as_u64().ok_or(Refusal::NotAsked)
 }
 
 /// The number, negative or not, that a value is.
-fn signed_in(value: &Value) -> Result<i64, Refusal> {
+pub fn signed_in(value: &Value) -> Result<i64, Refusal> {
     value.as_i64().ok_or(Refusal::NotAsked)
 }
 
 /// The field with the number that a value is.
-fn field_in(value: &Value) -> Result<Field, Refusal> {
+pub fn field_in(value: &Value) -> Result<Field, Refusal> {
     match u32::try_from(number_in(value)?) {
         Ok(id) => Ok(Field::from_field_id(id)),
         Err(_) => Err(Refusal::NotAsked),
@@ -111,6 +110,7 @@ fn owned(alloc: Global, kind: &str, value: &Value) -> Result<OwnedValue, Refusal
         "owned-i64" => Ok(OwnedValue::I64(signed_in(value)?)),
         "bool" => Ok(OwnedValue::Bool(value.as_bool().ok_or(Refusal::NotAsked)?)),
         "ip_addr" => Ok(OwnedValue::IpAddr(bits_of(&bytes_of_digits(alloc, value)?))),
+        "text" => Ok(OwnedValue::Str(String::from_str(alloc, text_in(value)?)?)),
         "arrays" => nested(alloc, number_in(value)?),
         _ => Err(Refusal::NotAsked),
     }
@@ -139,4 +139,13 @@ fn tokens_in(alloc: Global, value: &Value) -> Result<PreTokenizedString, Refusal
     }
     let text = String::from_str(alloc, text_in(part(value, 0)?)?)?;
     Ok(PreTokenizedString::new(text, tokens)?)
+}
+
+/// The number of an address, by its bytes, the highest first.
+pub fn bits_of(bytes: &[u8]) -> u128 {
+    let mut bits = 0u128;
+    for byte in bytes {
+        bits = bits.wrapping_mul(256).wrapping_add(u128::from(*byte));
+    }
+    bits
 }
