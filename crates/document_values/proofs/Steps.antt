@@ -1,10 +1,10 @@
 -- The steps of a facet are the parts of its text between zeros.
-use Rattle.std.proofs.Common.{[], ◌++◌, ◌∷◌, ◌≡◌, ◌≢◌, ◌≤◌, ◌∙◌, ◌&&◌, ◌+◌, ◌==◌, Bool, IsUtf8, List, None, Some, ap, append-nil, arith, cond, eqb, eqb-true, false, if◌then◌else◌, inl, inr, length, ltb, refl, rules, subst, sym, true, ℕ}
-use Rattle.std.specs.List.{AllByRecursion, count_by, list_any, onto_first}
+use Rattle.std.proofs.Common.{[], ◌++◌, ◌∷◌, ◌≡◌, ◌≢◌, ◌≤◌, ◌∙◌, ◌&&◌, ◌+◌, Bool, IsUtf8, List, ap, append-nil, arith, cond, eqb, eqb-true, false, inl, inr, length, ltb, refl, rules, subst, sym, true, ℕ}
+use Rattle.std.specs.List.{AllByRecursion, count_by, onto_first}
 use Rattle.std.proofs.lemmas.Bool.{and_parts, cases_lt, cond_both}
 use Rattle.std.proofs.lemmas.List.Splits.{join_with_byte-slice_split, length-slice_split}
 use Rattle.std.proofs.lemmas.Str.{IsUtf8-append, IsUtf8-from_ascii, IsUtf8-nil, encode_ascii}
-use Rattle.definitions.specs.Facets.{encoded, facet_of_steps}
+use Rattle.definitions.specs.Facets.{encoded}
 use Rattle.definitions.specs.Values.{IsFacet, IsStep}
 use Rattle.definitions.proofs.Runs.{onto_front, onto_front_none, onto_front_part}
 use Rattle.layouts.specs.DocumentReading.{steps_in}

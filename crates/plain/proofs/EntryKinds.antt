@@ -1,5 +1,5 @@
 -- What a field's entry says, from its type.
-use Rattle.std.proofs.Common.{[], Bool, List, None, Option, Some, ap, false, if◌then◌else◌, length, refl, sym, true, true≢false, ◌&&◌, ◌∙◌, ◌≡◌, ℕ}
+use Rattle.std.proofs.Common.{[], Bool, List, None, Some, ap, false, if◌then◌else◌, length, refl, sym, true, true≢false, ◌&&◌, ◌∙◌, ◌≡◌, ℕ}
 use Rattle.definitions.specs.Analyzers.{Analyzer}
 use Rattle.definitions.specs.Lengths.{kind_len}
 use Rattle.definitions.specs.Schema.{Entry, IndexRecordOption, Kind, bool_kind, bytes_kind, date_kind, facet_kind, has_freq, has_lengths, i64_kind, ip_addr_kind, is_indexed, is_text, json_kind, keeps_length, text_kind, u64_kind}

@@ -1,13 +1,11 @@
 -- The path of a term of a JSON field, and the parts of texts.
-use Rattle.std.proofs.Common.{[], ◌+◌, ◌-◌, ◌==◌, ◌∙◌, ◌∷◌, ◌≡◌, ◌≢◌, ◌≤◌, Bool, Bor, List, None, Some, ap, ap₂, arith, cond, drop, false, if◌then◌else◌, length, map, nat_lt, refl, sym, take, true, ℕ}
-use Rattle.std.specs.List.{after_first, before_first, count_by, list_any, onto_first, position, position_or_len, slice_split}
+use Rattle.std.proofs.Common.{[], ◌+◌, ◌-◌, ◌==◌, ◌∙◌, ◌∷◌, ◌≡◌, ◌≤◌, Bool, Bor, List, None, Some, ap, ap₂, arith, cond, drop, false, length, map, nat_lt, refl, sym, take, true, ℕ}
+use Rattle.std.specs.List.{after_first, before_first, onto_first, position, position_or_len, slice_split}
 use Rattle.std.proofs.Math.Seq.{take-length}
 use Rattle.std.proofs.lemmas.Bool.{ltb-false}
 use Rattle.std.proofs.lemmas.Bool.Decides.{nat_tests}
 use Rattle.std.proofs.lemmas.List.{drop_all, length-drop, take_all}
-use Rattle.std.proofs.lemmas.List.Splits.{length-slice_split}
 use Rattle.std.proofs.lemmas.Option.{cond_some}
-use Rattle.definitions.specs.Facets.{facet_of_steps}
 use Rattle.serde_json.specs.Data.{Data, string}
 
 -- ---- the first element that passes
