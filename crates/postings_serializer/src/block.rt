@@ -23,6 +23,7 @@ pub(crate) struct Block {
 
 impl Model for Block {
     ghost use Rattle.std.specs.Prelude.{◌*◌, ◌+◌, ◌≡◌, ◌≤◌, map, sum, take};
+    ghost use Rattle.definitions.specs.Blocks.{block_len};
     ghost use Rattle.definitions.specs.Scoring.{greatest_of};
     ghost use Rattle.postings_serializer.specs.TermWriting.{Waiting};
 

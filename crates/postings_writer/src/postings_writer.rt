@@ -46,6 +46,7 @@ pub struct PostingsWriter<'a> {
 
 impl<'a> Model for PostingsWriter<'a> {
     ghost use Rattle.std.specs.Prelude.{◌≡◌, ◌≤◌, length};
+    ghost use Rattle.definitions.specs.Postings.{terminated};
     ghost use Rattle.postings_writer.specs.Writers.{Writer};
 
     ghost Value = { Writer };
