@@ -10,12 +10,19 @@ fn is_dead(doc: u32) -> bool {
     doc % 3 == 1 || doc == 64
 }
 
+/// Kills a document of the set.
+fn kill(alive: &mut AliveBitSet, doc: u32) {
+    if (doc as usize) < alive.len() {
+        alive.kill(doc);
+    }
+}
+
 /// A set of so many documents, of which the dead ones are killed.
 fn set_of(alloc: Global, max_doc: u32) -> Result<AliveBitSet, Fault> {
     let mut alive = AliveBitSet::for_max_doc(alloc, max_doc)?;
     for doc in 0..max_doc {
-        if is_dead(doc) && (doc as usize) < alive.len() {
-            alive.kill(doc);
+        if is_dead(doc) {
+            kill(&mut alive, doc);
         }
     }
     Ok(alive)
@@ -72,20 +79,22 @@ fn flags_of_documents(rt: HostRuntime) -> Result<(), Fail> {
     Ok(())
 }
 
+/// Whether document 69 of 70 is dead, and counted once.
+fn is_last_dead(alive: &AliveBitSet) -> bool {
+    alive.len() == 70
+        && alive.num_alive() == 69
+        && alive.first_alive_from(68) == Some(68)
+        && alive.first_alive_from(69).is_none()
+}
+
 /// Whether a document that is killed twice is dead, and counted once.
 fn one_document_dies(alloc: Global) -> Result<bool, Fault> {
     let mut alive = AliveBitSet::for_max_doc(alloc, 70)?;
-    let mut right = alive.num_alive() == 70;
-    for _ in 0..2 {
-        if 69 < alive.len() {
-            alive.kill(69);
-        }
-        right &= alive.len() == 70
-            && alive.num_alive() == 69
-            && alive.first_alive_from(68) == Some(68)
-            && alive.first_alive_from(69).is_none();
-    }
-    Ok(right)
+    let all = alive.num_alive() == 70;
+    kill(&mut alive, 69);
+    let once = is_last_dead(&alive);
+    kill(&mut alive, 69);
+    Ok(all && once && is_last_dead(&alive))
 }
 
 #[test]

@@ -4,17 +4,23 @@ use common::RunFault;
 use definitions::Fault;
 use std::alloc::{AllocError, Global};
 
-/// Whether a refusal prints its name, and the end of a run what failed.
+/// Whether a refusal prints its name.
+fn is_printed(alloc: Global, fault: Fault, text: &str) -> Result<bool, AllocError> {
+    Ok(format!(in alloc; "{}", fault)?.as_str() == text)
+}
+
+/// Whether the end of a run prints what failed.
+fn is_end_printed(alloc: Global, fault: RunFault, text: &str) -> Result<bool, AllocError> {
+    Ok(format!(in alloc; "{}", fault)?.as_str() == text)
+}
+
+/// Whether refusals and ends of runs print so.
 fn faults_print(alloc: Global) -> Result<bool, AllocError> {
-    let refusal = format!(in alloc; "{}", Fault::LineTooLong)?;
-    let damage = format!(in alloc; "{}", Fault::Damaged(Some(7)))?;
-    let read = format!(in alloc; "{}", RunFault::ReadFault)?;
-    let write = format!(in alloc; "{}", RunFault::WriteFault)?;
     Ok(
-        refusal.as_str() == "LineTooLong"
-            && damage.as_str() == "Damaged"
-            && read.as_str() == "read fault"
-            && write.as_str() == "write fault",
+        is_printed(alloc, Fault::LineTooLong, "LineTooLong")?
+            && is_printed(alloc, Fault::Damaged(Some(7)), "Damaged")?
+            && is_end_printed(alloc, RunFault::ReadFault, "read fault")?
+            && is_end_printed(alloc, RunFault::WriteFault, "write fault")?,
     )
 }
 

@@ -5,23 +5,30 @@ use definitions::Fault;
 use std::alloc::Global;
 use std::test::Fail;
 
-/// Whether bytes are read after they were written at the end, inside, over the end, and not at all.
-fn writes_are_held(alloc: Global) -> Result<bool, Fault> {
+/// Whether bytes are read after they were written at the end and inside.
+fn writes_inside_are_held(alloc: Global) -> Result<bool, Fault> {
     let mut device = MemoryDevice::new(alloc);
     let new = device.read(alloc)?;
     device.write_at(0, b"abcdef")?;
     let at_the_end = device.read(alloc)?;
     device.write_at(2, b"XY")?;
-    let inside = device.read(alloc)?;
+    Ok(
+        new.is_empty()
+            && at_the_end.as_slice() == b"abcdef".as_slice()
+            && device.read(alloc)?.as_slice() == b"abXYef".as_slice(),
+    )
+}
+
+/// Whether they are after they were written over the end, and not at all.
+fn writes_over_the_end_are_held(alloc: Global) -> Result<bool, Fault> {
+    let mut device = MemoryDevice::new(alloc);
+    device.write_at(0, b"abXYef")?;
     device.write_at(4, b"1234")?;
     let over_the_end = device.read(alloc)?;
     device.write_at(3, b"")?;
     device.sync()?;
     Ok(
-        new.is_empty()
-            && at_the_end.as_slice() == b"abcdef".as_slice()
-            && inside.as_slice() == b"abXYef".as_slice()
-            && over_the_end.as_slice() == b"abXY1234".as_slice()
+        over_the_end.as_slice() == b"abXY1234".as_slice()
             && device.read(alloc)?.as_slice() == over_the_end.as_slice()
             && device.failures() == 0,
     )
@@ -29,34 +36,38 @@ fn writes_are_held(alloc: Global) -> Result<bool, Fault> {
 
 #[test]
 fn writes_are_read(rt: HostRuntime) -> Result<(), Fail> {
-    assert!(rt; writes_are_held(rt.alloc())?);
+    assert!(rt; writes_inside_are_held(rt.alloc())? && writes_over_the_end_are_held(rt.alloc())?);
     Ok(())
 }
 
-/// Whether what was cut is gone: nothing, a part, all; and what is written then is there.
-fn cuts_are_held(alloc: Global) -> Result<bool, Fault> {
+/// Whether nothing is gone after a cut at the length, and all after one at 0.
+fn whole_cuts_are_held(alloc: Global) -> Result<bool, Fault> {
     let mut device = MemoryDevice::new(alloc);
     device.write_at(0, b"abcdef")?;
     device.cut(6)?;
     let at_the_length = device.read(alloc)?;
+    device.cut(0)?;
+    Ok(at_the_length.as_slice() == b"abcdef".as_slice() && device.read(alloc)?.is_empty())
+}
+
+/// Whether what was cut is gone, and what is written then is there.
+fn cuts_inside_are_held(alloc: Global) -> Result<bool, Fault> {
+    let mut device = MemoryDevice::new(alloc);
+    device.write_at(0, b"abcdef")?;
     device.cut(2)?;
     device.sync()?;
     let inside = device.read(alloc)?;
     device.write_at(2, b"z")?;
-    let written_again = device.read(alloc)?;
-    device.cut(0)?;
     Ok(
-        at_the_length.as_slice() == b"abcdef".as_slice()
-            && inside.as_slice() == b"ab".as_slice()
-            && written_again.as_slice() == b"abz".as_slice()
-            && device.read(alloc)?.is_empty()
+        inside.as_slice() == b"ab".as_slice()
+            && device.read(alloc)?.as_slice() == b"abz".as_slice()
             && device.failures() == 0,
     )
 }
 
 #[test]
 fn cuts_are_read(rt: HostRuntime) -> Result<(), Fail> {
-    assert!(rt; cuts_are_held(rt.alloc())?);
+    assert!(rt; whole_cuts_are_held(rt.alloc())? && cuts_inside_are_held(rt.alloc())?);
     Ok(())
 }
 
