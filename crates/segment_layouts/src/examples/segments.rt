@@ -34,6 +34,7 @@ pub fn books_are_a_segment()
 
 /// One document without a value, in a schema without a field.
 pub fn the_least_segment()
+    ensures bytes { hex (segment_bytes 1 bare_sections) ≡ codes "010000000100000000000000000000000000000000000000000000000000000000000000002c0000" ++ codes "00000000008000000000010000008185818080818902000000090000000000000000000000000000" ++ codes "000000000000000000" }
     ensures of_documents { IsSegmentOf [] raw_and_default ([] ∷ []) (segment_bytes 1 bare_sections) }
     ensures alone { IsSegment [] 1 (segment_bytes 1 bare_sections) }
     ensures another_number { ¬ IsSegment [] 2 (segment_bytes 1 bare_sections) }
