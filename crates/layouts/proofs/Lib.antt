@@ -2,3 +2,4 @@
 pub mod PackedTests
 pub mod FilesOfRecords
 pub mod EntryBounds
+pub mod DocumentEntries

@@ -1,0 +1,4 @@
+-- Lemmas on segments and the bodies that list them.
+pub mod SegmentParts
+pub mod SegmentDocs
+pub mod LeastSegment

@@ -1,0 +1,5 @@
+//! Worked examples, each computed over the definitions.
+
+pub mod segment_bodies;
+pub mod segment_files;
+pub mod segments;
