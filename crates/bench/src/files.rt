@@ -3,7 +3,7 @@
 use crate::times::{nanos_since, now};
 use common::{Device, MemoryDevice, RawAndDefault};
 use definitions::Fault;
-use index::{Index, Refused, Settings};
+use index::{Index, Settings};
 use options::{INDEXED, STORED, TEXT};
 use schema::Schema;
 use std::alloc::{AllocError, Global};
@@ -51,7 +51,7 @@ fn measure(rt: &HostRuntime, docs: u32) -> Result<Row, Fault> {
     let (mut device, analyzer) = index.into_device();
     let bytes = device.read(alloc)?.len();
     let begun = now(rt)?;
-    let _opened = made(Index::open(alloc, device, analyzer))?;
+    let _opened = Index::open(alloc, device, analyzer)?;
     let open = nanos_since(rt, begun)?;
     Ok(Row {
         docs,
@@ -68,7 +68,7 @@ fn filled(alloc: Global, docs: u32) -> Result<MemoryIndex, Fault> {
     fields.add_u64_field("year", INDEXED | STORED)?;
     let settings = Settings::default(alloc)?;
     let device = MemoryDevice::new(alloc);
-    let mut index = made(Index::create(alloc, device, RawAndDefault, fields.build(), settings))?;
+    let mut index = Index::create(alloc, device, RawAndDefault, fields.build(), settings)?;
     let mut state = 7u32;
     for _ in 0..docs {
         let doc = document(alloc, &mut state)?;
@@ -87,20 +87,4 @@ fn document(alloc: Global, state: &mut u32) -> Result<String, AllocError> {
     }
     doc.push_str("\",\"year\":1952}")?;
     Ok(doc)
-}
-
-/// The index, or why there is none.
-fn made(
-    outcome: Result<MemoryIndex, Refused<MemoryDevice, RawAndDefault>>,
-) -> Result<MemoryIndex, Fault> {
-    match outcome {
-        Ok(index) => Ok(index),
-        Err(
-            Refused {
-                fault,
-                device: _device,
-                analyzer: _analyzer,
-            },
-        ) => Err(fault),
-    }
 }

@@ -1,20 +1,13 @@
 -- Documents that are held in memory, and what of them a record keeps.
-use Rattle.std.proofs.Common.{[], Bool, Err, Global, IfOk, IfSome, List, None, Ok, Option, Result, Some, Vec, ap, arith, false, if◌then◌else◌, length, nat_le, refl, sym, true, true≢false, ◌&&◌, ◌<◌, ◌∙◌, ◌∷◌, ◌≡◌, ◌≤◌, ℕ}
+use Rattle.std.proofs.Common.{[], Err, Global, IfOk, IfSome, List, None, Ok, Option, Result, Some, Vec, false, length, refl, true, ◌<◌, ◌∷◌, ℕ}
 use Rattle.std.specs.List.{AllByRecursion}
-use Rattle.std.proofs.lemmas.Bool.Decides.{nat_tests}
 use Rattle.bodies.specs.Fitting.{FitsDocument}
-use Rattle.definitions.specs.Indexable.{is_indexable, is_indexable_value, max_nesting}
-use Rattle.definitions.specs.Reading.{read_data}
 use Rattle.definitions.specs.Schema.{Schema}
-use Rattle.definitions.specs.Stored.{plain}
-use Rattle.definitions.specs.Values.{Document, Value, nesting}
-use Rattle.document_values.specs.Docs.{IsGood, IsGoodPair}
-use Rattle.index.specs.Contents.{IsOfSchema}
+use Rattle.definitions.specs.Values.{Document}
+use Rattle.document_values.specs.Docs.{IsGoodPair}
 use Rattle.index.specs.Files.{IsHeld}
 use Rattle.layouts.specs.DocumentReading.{deepest}
-use Rattle.plain.specs.IndexedDocs.{IsRecordable}
-use Rattle.definitions.proofs.ReadDocs.{all_plain, data_read, fields_known}
-use Rattle.serde_json.specs.Data as json
+use Rattle.plain.specs.IndexedDocs.{IsOfSchema, IsRecordable}
 
 -- ---- what is put can be read back
 
@@ -29,29 +22,11 @@ pub held_fit : (docs : List Document) → AllByRecursion IsHeld docs → AllByRe
 held_fit [] held kept = tt
 held_fit (doc ∷ docs) held kept = ((held.0.0, pairs_fit doc held.0.1 kept.0), held_fit docs held.1 kept.1)
 
--- ---- what is read can be put
+-- ---- documents of a file
 
 pub recordable : (doc : Document) → AllByRecursion (IsGoodPair false 128) doc → AllByRecursion (λ p. IsRecordable p.1) doc
 recordable [] good = tt
 recordable (p ∷ doc) good = ((good.0.value.shallow, good.0.value.kept refl), recordable doc good.1)
-
-first : (a b : Bool) → (a && b) ≡ true → a ≡ true
-first true b h = refl
-first false b h = absurd (true≢false (sym h))
-
-second : (a b : Bool) → (a && b) ≡ true → b ≡ true
-second true b h = h
-second false b h = absurd (true≢false (sym h))
-
--- what can be indexed doesn't nest too deep
-pub indexable_recordable : (schema : Schema) (doc : Document) → is_indexable schema doc ≡ true → AllByRecursion (λ p. plain p.1 ≡ p.1) doc → AllByRecursion (λ p. IsRecordable p.1) doc
-indexable_recordable schema [] h is_plain = tt
-indexable_recordable schema (p ∷ doc) h is_plain =
-    let this : nat_le (nesting p.1) max_nesting ≡ true = first (nat_le (nesting p.1) max_nesting) _ (first (is_indexable_value schema p) (is_indexable schema doc) h) in
-    let shallow : nesting p.1 ≤ max_nesting = grind (arith, nat_tests) in
-    ((shallow, is_plain.0), indexable_recordable schema doc (second (is_indexable_value schema p) (is_indexable schema doc) h) is_plain.1)
-
--- ---- documents of a file
 
 one_of_schema : (schema : Schema) (doc : Document) → AllByRecursion (λ p. p.0 < length schema) doc → AllByRecursion (IsGoodPair false 128) doc → IsOfSchema schema doc
 one_of_schema schema doc fields good = (fields, recordable doc good)
@@ -65,9 +40,3 @@ pub found_of_schema : {E : Type 0} (schema : Schema) (r : Result (Option (Vec Do
 found_of_schema schema (Ok (Some docs)) fields good = all_of_schema schema docs.items fields good
 found_of_schema schema (Ok None) fields good = tt
 found_of_schema schema (Err e) fields good = tt
-
--- a document that was read and can be indexed
-pub read_of_schema : (schema : Schema) (d : json.Data) (doc : Document) → read_data schema d ≡ Ok doc → is_indexable schema doc ≡ true → IsOfSchema schema doc
-read_of_schema schema d doc read indexable =
-    let each = data_read schema d doc read in
-    (fields_known schema doc each, indexable_recordable schema doc indexable (all_plain schema doc each))

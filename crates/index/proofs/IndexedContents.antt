@@ -6,10 +6,9 @@ use Rattle.definitions.specs.Analyzers.{Analyzer}
 use Rattle.definitions.specs.Schema.{Schema, max_fields}
 use Rattle.definitions.specs.Settings.{Settings}
 use Rattle.definitions.specs.Values.{Document}
-use Rattle.index.specs.Contents.{IsOfSchema}
 use Rattle.index.specs.declared.body_reader.Found.{Found}
 use Rattle.plain.specs.Hits.{Describe, documents_of}
-use Rattle.plain.specs.IndexedDocs.{Describes, IsIndexed}
+use Rattle.plain.specs.IndexedDocs.{Describes, IsIndexed, IsOfSchema}
 use Rattle.plain.specs.declared.indexed_doc.IndexedDoc.{IndexedDoc}
 use Rattle.plain.proofs.ScanSteps.{all_push}
 

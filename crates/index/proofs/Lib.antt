@@ -12,5 +12,6 @@ pub mod Openings
 pub mod RequestForms
 pub mod ReplyForms
 pub mod Answering
+pub mod FileSayings
 pub mod Stages
 pub mod SessionSteps

@@ -29,7 +29,7 @@ use Rattle.index.specs.Standing.{Stands}
 use Rattle.index.specs.declared.index.Index.{Index}
 use Rattle.index.specs.declared.requests.IndexRequest.{IndexRequest}
 use Rattle.index.specs.declared.requests.IndexRequest.TheVariants.{Add, Commit, Count, Search}
-use Rattle.index.specs.declared.stage.Session.{Session}
+use Rattle.index.specs.declared.session.Session.{Session}
 use Rattle.index.specs.declared.stage.Stage.TheVariants.{Spare, Standing}
 use Rattle.index.proofs.Stages.{held_kept}
 use Rattle.serde_json.specs.Read.{read}

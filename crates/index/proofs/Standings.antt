@@ -18,11 +18,10 @@ use Rattle.definitions.specs.declared.fault.Fault.TheVariants as faults
 use Rattle.definitions.proofs.Histories.{committed-commit}
 use Rattle.index.specs.Accepting.{Accepts, IsMadeAlike, Stops, Waits}
 use Rattle.plain.specs.Hits.{Describe, documents_of}
-use Rattle.plain.specs.IndexedDocs.{Describes}
+use Rattle.plain.specs.IndexedDocs.{Describes, IsOfSchema}
 use Rattle.index.specs.Standing.{Stands, status_of}
 use Rattle.index.specs.declared.collection.Collection.{Collection}
 use Rattle.plain.specs.declared.indexed_doc.IndexedDoc.{IndexedDoc}
-use Rattle.index.specs.Contents.{IsOfSchema}
 use Rattle.index.proofs.Faults.{memory_or_other}
 use Rattle.plain.proofs.ScanSteps.{all_push}
 

@@ -1,14 +1,8 @@
 -- What the bodies of a file say, as they are read.
-use Rattle.std.specs.Prelude.{[], ◌<◌, ◌∷◌, List, Option, Some, length, ℕ}
-use Rattle.std.specs.List.{AllByRecursion}
+use Rattle.std.specs.Prelude.{[], ◌∷◌, List, Option, Some, ℕ}
 use Rattle.definitions.specs.Schema.{Schema}
 use Rattle.definitions.specs.Values.{Document}
 use Rattle.layouts.specs.RecordBodies.{docs_in}
-use Rattle.plain.specs.IndexedDocs.{IsRecordable}
-
--- a document of the schema's fields, as records keep them
-abbrev pub IsOfSchema : Schema → Document → Type 0
-IsOfSchema schema doc = AllByRecursion (λ p. p.0 < length schema) doc × AllByRecursion (λ p. IsRecordable p.1) doc
 
 -- the documents of the last of these bodies behind the first
 abbrev pub last_docs : Schema → List (List ℕ) → Option (List Document)

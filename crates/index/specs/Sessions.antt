@@ -17,7 +17,7 @@ use Rattle.index.specs.Replying.{GoesOn, change_text}
 use Rattle.index.specs.Standing.{Stands}
 use Rattle.index.specs.declared.index.Index.{Index}
 use Rattle.index.specs.declared.index.Refused.{Refused}
-use Rattle.index.specs.declared.stage.Session.{Session}
+use Rattle.index.specs.declared.session.Session.{Session}
 use Rattle.index.specs.declared.stage.Stage.{Stage}
 use Rattle.index.specs.declared.stage.Stage.TheVariants.{Spare, Standing}
 use Rattle.serde_json.specs.Data as json

@@ -3,11 +3,12 @@
 ghost use Rattle.std.specs.Prelude.{[], ◌++◌, ◌<◌, ◌∷◌, ◌≡◌, IfOk, IfSome, cond, is_none, is_some, length, map, option_map, true};
 ghost use Rattle.std.specs.List.{AllByRecursion};
 ghost use Rattle.std.specs.Option.{ForNone};
-ghost use Rattle.index.specs.Contents.{IsOfSchema, last_docs};
+ghost use Rattle.index.specs.Contents.{last_docs};
 ghost use Rattle.index.specs.FirstBodies.{made_of};
 ghost use Rattle.index.specs.Files.{last_in};
 ghost use Rattle.layouts.specs.RecordBodies.{docs_in, takes_body};
 ghost use Rattle.layouts.specs.RecordFiles.{AreTaken};
+ghost use Rattle.plain.specs.IndexedDocs.{IsOfSchema};
 
 use bodies::{read_docs_body, read_first_body};
 use document::CompactDoc;

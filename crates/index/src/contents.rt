@@ -6,13 +6,13 @@ ghost use Rattle.definitions.specs.Disk.{HasCause};
 ghost use Rattle.definitions.specs.Making.{are_analyzed};
 ghost use Rattle.definitions.specs.Schema.{max_fields};
 ghost use Rattle.definitions.specs.declared.fault.Fault.TheVariants as faults;
-ghost use Rattle.index.specs.Contents.{IsOfSchema};
 ghost use Rattle.index.specs.Files.{Holds, IsOpenRefusal};
 ghost use Rattle.plain.specs.Hits.{Describe, documents_of};
+ghost use Rattle.plain.specs.IndexedDocs.{IsOfSchema};
 ghost use Rattle.records.specs.Kept.{IsKept};
 
 use crate::body_reader::{BodyReader, Found};
-use crate::collection_calls::are_analyzed;
+use crate::collection::are_analyzed;
 use common::{Analyzer, Device};
 use definitions::Fault;
 use document::CompactDoc;

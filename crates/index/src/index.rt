@@ -20,8 +20,7 @@ ghost use Rattle.records.specs.Frames.{frame_bytes};
 ghost use Rattle.records.specs.Outcomes.{IsCaused};
 ghost use Rattle.serde_json.specs.View.{view};
 
-use crate::collection::{Collection, Status};
-use crate::collection_calls::check_making;
+use crate::collection::{Collection, Status, check_making};
 use crate::contents::{Contents, read_contents};
 use bodies::put_first_body;
 use common::{Analyzer, Device};
@@ -49,6 +48,20 @@ pub struct Refused<D, A> {
     pub device: D,
     /// The analyzer.
     pub analyzer: A,
+}
+
+/// The refusal alone: device and analyzer are dropped.
+impl<D: Drop, A: Drop> From<Refused<D, A>> for Fault {
+    ghost from_gives = { λ refused fault. fault ≡ refused.fault };
+
+    fn from(refused: Refused<D, A>) -> Fault {
+        let Refused {
+            fault,
+            device: _device,
+            analyzer: _analyzer,
+        } = refused;
+        fault
+    }
 }
 
 impl<D: Device + Drop, A: Analyzer + Drop> Index<D, A> {

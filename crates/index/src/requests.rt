@@ -1,13 +1,21 @@
-//! Requests read from JSON.
+//! Requests read from JSON, and what an index is to be made of.
 
-ghost use Rattle.std.specs.Prelude.{◌≡◌, option_map};
+ghost use Rattle.std.specs.Prelude.{◌≡◌, ◌≢◌, ◌⊎◌, Err, IfErr, IfOk, Ok, option_map};
 ghost use Rattle.definitions.specs.Built.{built_request_in};
 ghost use Rattle.definitions.specs.Requests as definitions;
+ghost use Rattle.definitions.specs.Schema.{Schema as Fields};
+ghost use Rattle.definitions.specs.SchemaGrammar.{schema_in};
+ghost use Rattle.definitions.specs.Step as steps;
+ghost use Rattle.definitions.specs.declared.fault.Fault.TheVariants as faults;
 ghost use Rattle.index.specs.AskedRequests.{request_of};
 ghost use Rattle.serde_json.specs.View.{view};
 
+use definitions::Fault;
 use json_keys::{has_only, number_at, text_at};
+use schema::Schema;
 use serde_json::Value as Json;
+use settings::Settings;
+use std::alloc::Global;
 
 /// What a request asks for, with what it is about as it was sent.
 #[derive(Clone, Copy)]
@@ -110,4 +118,34 @@ fn count_in(value: &Json) -> Option<Request<'_>>
         return None;
     }
     Some(Request::Index(IndexRequest::Count(value.get("query")?)))
+}
+
+/// The schema and the settings that a request gives. Without settings the defaults stand.
+pub(crate) fn read_making(
+    alloc: Global,
+    schema: &Json,
+    settings: Option<&Json>,
+) -> Result<(Schema, Settings), Fault>
+    ensures ok { IfOk result (λ made. (schema_in (view schema.now) ≡ Ok made.0)
+        × (steps.settings_sent made.0 (option_map (λ d. view d.now) settings.entry) ≡ Ok made.1)) }
+    ensures err { IfErr result (λ fault. fault ≢ faults.OutOfMemory → (schema_in (view schema.now) ≡ Err fault)
+        ⊎ ((fields : Fields) × (schema_in (view schema.now) ≡ Ok fields)
+        × (steps.settings_sent fields (option_map (λ d. view d.now) settings.entry) ≡ Err fault))) }
+{
+    let schema = Schema::from_json_value(alloc, schema)?;
+    let settings = read_settings(alloc, &schema, settings)?;
+    Ok((schema, settings))
+}
+
+/// The settings that a request gives.
+fn read_settings(alloc: Global, schema: &Schema, settings: Option<&Json>) -> Result<Settings, Fault>
+    ensures ok { IfOk result (λ made.
+        steps.settings_sent schema.now (option_map (λ d. view d.now) settings.entry) ≡ Ok made) }
+    ensures err { IfErr result (λ fault. fault ≢ faults.OutOfMemory
+        → steps.settings_sent schema.now (option_map (λ d. view d.now) settings.entry) ≡ Err fault) }
+{
+    match settings {
+        Some(json) => Settings::from_json_value(alloc, schema, json),
+        None => Ok(Settings::default(alloc)?),
+    }
 }

@@ -1,6 +1,6 @@
 //! A session: lines of JSON that speak to the index of a device.
 
-ghost use Rattle.std.specs.Prelude.{◌≡◌, IfErr, IfOk, IfSome, IsTrue, List, OnOk, Some, false, option_map, ℕ};
+ghost use Rattle.std.specs.Prelude.{◌≡◌, IfErr, IfOk, IfSome, IsTrue, List, OnOk, Some, false, is_some, option_map, true, ℕ};
 ghost use Rattle.std.specs.Cow.{cow_str_bytes};
 ghost use Rattle.definitions.specs.Built.{built_request_in};
 ghost use Rattle.definitions.specs.Calls as calls;
@@ -16,9 +16,8 @@ ghost use Rattle.serde_json.specs.View.{view};
 
 use crate::answers::{answer, answer_change, refusal};
 use crate::index::Index;
-use crate::making::read_making;
-use crate::requests::{IndexRequest, Request, request_in};
-use crate::stage::{Session, Stage};
+use crate::requests::{IndexRequest, Request, read_making, request_in};
+use crate::stage::Stage;
 use common::{Analyzer, Device, RunFault};
 use definitions::Fault;
 use schema::Schema;
@@ -29,168 +28,31 @@ use std::alloc::{AllocError, Global};
 use std::borrow::CowStr;
 use std::io::{BufRead, Write};
 
-impl<D: Device + Drop, A: Analyzer + Drop> Session<D, A> {
-    /// A session over a device, in which no index stands.
-    pub fn new(alloc: Global, device: D, analyzer: A) -> Session<D, A>
-        ensures { (held : steps.Held) → HasHeld D.honest D.content device held → StandsFor result (session_on (analysis_of A.knows_name A.analyze analyzer) held) }
-    {
-        Session {
-            alloc,
-            stage: Some(Stage::Spare(device, analyzer)),
-        }
-    }
-
-    /// A session in which this index stands.
-    pub fn with_index(index: Index<D, A>) -> Session<D, A>
-        ensures { (x : calls.Index) → Stands A.analyze index.collection (steps.configuration_of index.collection.schema (A.analyze index.collection.analyzer) index.collection.settings) x
-            → IsKnown D.honest D.content index.file.device index.collection.schema index.collection.settings x
-            → StandsFor result (session_of (analysis_of A.knows_name A.analyze index.collection.analyzer) index.collection.schema index.collection.settings x) }
-    {
-        Session {
-            alloc: index.collection.alloc,
-            stage: Some(Stage::Standing(index)),
-        }
-    }
-
-    /// Does what a value asks for.
-    fn answer_value(&mut self, json: &Json) -> Result<CowStr<'static>, Fault>
-        ensures answered { (s : steps.Session) → StandsFor self.old s → Replies self.new result (steps.step s (built_request_in (view json.now))) }
-        ensures err { IfErr result (λ fault. IsTrue (stops fault)) }
-    {
-        match request_in(json) {
-            Some(request) => self.answer(request),
-            None => Ok(CowStr::Borrowed(Fault::BadRequest.reply())),
-        }
-    }
-
-    /// Does what a request asks for.
-    fn answer(&mut self, request: Request<'_>) -> Result<CowStr<'static>, Fault>
-        ensures answered { (s : steps.Session) → StandsFor self.old s → Replies self.new result (steps.step s (Some (request_of request.entry))) }
-        ensures err { IfErr result (λ fault. IsTrue (stops fault)) }
-    {
-        match request {
-            Request::Create(schema, settings) => self.create(schema, settings),
-            Request::Open => self.open(),
-            Request::Index(request) => self.ask(request),
-        }
-    }
-
-    /// Makes an index, unless one is ready.
-    fn create(&mut self, schema: &Json, settings: Option<&Json>) -> Result<CowStr<'static>, Fault>
-        ensures answered { (s : steps.Session) → StandsFor self.old s → Replies self.new result (steps.step s (Some (requests.create_index (view schema.now) (option_map (λ d. view d.now) settings.entry)))) }
-        ensures err { IfErr result (λ fault. IsTrue (stops fault)) }
-    {
-        if self.is_ready() {
-            return Ok(CowStr::Borrowed(Fault::AlreadyOpen.reply()));
-        }
-        match read_making(self.alloc, schema, settings) {
-            Ok((schema, settings)) => answer_change(self.make(schema, settings)),
-            Err(fault) => refusal(fault),
-        }
-    }
-
-    /// Opens the index of the device's file, unless one is ready.
-    fn open(&mut self) -> Result<CowStr<'static>, Fault>
-        ensures answered { (s : steps.Session) → StandsFor self.old s → Replies self.new result (steps.step s (Some requests.open_index)) }
-        ensures err { IfErr result (λ fault. IsTrue (stops fault)) }
-    {
-        if self.is_ready() {
-            return Ok(CowStr::Borrowed(Fault::AlreadyOpen.reply()));
-        }
-        answer_change(self.reopen())
-    }
-
-    /// Does what is asked of the index that stands.
-    fn ask(&mut self, request: IndexRequest<'_>) -> Result<CowStr<'static>, Fault>
-        ensures answered { (s : steps.Session) → StandsFor self.old s → Replies self.new result (steps.step s (Some (index_request_of request.entry))) }
-        ensures err { IfErr result (λ fault. IsTrue (stops fault)) }
-    {
-        match &mut self.stage {
-            Some(Stage::Standing(index)) => answer(index, request),
-            Some(Stage::Spare(_, _)) => Ok(CowStr::Borrowed(Fault::NotOpen.reply())),
-            None => unreachable!(),
-        }
-    }
-
-    /// Whether an index stands that takes every call.
-    fn is_ready(&self) -> bool
-        ensures { (s : steps.Session) → StandsFor self.now s → result ≡ steps.is_ready s.stage }
-    {
-        match &self.stage {
-            Some(stage) => stage.is_ready(),
-            None => false,
-        }
-    }
-
-    /// Makes an index of these in place of what stands.
-    fn make(&mut self, schema: Schema, settings: Settings) -> Result<(), Fault>
-        ensures { (s : steps.Session) → StandsFor self.old s → steps.is_ready s.stage ≡ false
-            → LeavesStage A.knows_name A.analyze s.analysis self.new.stage result (steps.created s.analysis.knows schema settings (steps.held_by s.stage)) }
-    {
-        let Some(stage) = self.stage.take() else {
-            unreachable!();
-        };
-        let (stage, change) = stage.create(self.alloc, schema, settings);
-        self.stage = Some(stage);
-        change
-    }
-
-    /// Opens the index of the device's file in place of what stands.
-    fn reopen(&mut self) -> Result<(), Fault>
-        ensures { (s : steps.Session) → StandsFor self.old s → steps.is_ready s.stage ≡ false
-            → LeavesStage A.knows_name A.analyze s.analysis self.new.stage result (steps.opened s.analysis.knows (steps.held_by s.stage)) }
-    {
-        let Some(stage) = self.stage.take() else {
-            unreachable!();
-        };
-        let (stage, change) = stage.open(self.alloc);
-        self.stage = Some(stage);
-        change
-    }
+/// A device, with the index on it where one stands, of which requests are made line by line.
+#[derive(Drop)]
+pub struct Session<D: Device, A: Analyzer> {
+    alloc: Global,
+    /// Taken out only while an index is made or opened.
+    stage: Option<Stage<D, A>>,
+    ghost full: { is_some stage ≡ true },
 }
 
-impl<D: Device + Drop, A: Analyzer + Drop> Service for Session<D, A> {
-    ghost use Rattle.definitions.specs.Step as steps;
-    ghost use Rattle.index.specs.Sessions.{StandsFor};
-
-    ghost State = { steps.Session };
-
-    ghost stands = { StandsFor };
-
-    ghost answer = { steps.answer_of };
-
-    ghost after = { steps.after_line };
-
-    fn reply(&mut self, line: &str) -> Result<CowStr<'static>, Fault> {
-        match read_line(self.alloc, line)? {
-            Some(json) => self.answer_value(&json),
-            None => Ok(CowStr::Borrowed(Fault::BadRequest.reply())),
-        }
-    }
-}
-
-/// The value in a line, if it is JSON.
-fn read_line(alloc: Global, line: &str) -> Result<Option<Json>, AllocError>
-    ensures { IfOk result (λ found. option_map view found ≡ read line.now) }
+/// Answers the lines of an input one by one, until it ends, over a device on which no index stands yet.
+pub fn run<R: BufRead, W: Write, D: Device + Drop, A: Analyzer + Drop>(
+    alloc: Global,
+    reader: &mut R,
+    writer: &mut W,
+    device: D,
+    analyzer: A,
+) -> Result<(), RunFault>
+    // Of an honest device that holds no byte, or an index's file, the replies follow from that and from the lines.
+    ensures { (held : steps.Held) → HasHeld D.honest D.content device held
+        → OnOk result (IfSome (R.remaining reader.old) (λ input.
+        Writes steps.answer_of steps.after_line (session_on (analysis_of A.knows_name A.analyze analyzer) held)
+        (lines_of input) (W.contents writer.old) (W.contents writer.new))) }
 {
-    match Json::from_str(alloc, line) {
-        Ok(json) => Ok(Some(json)),
-        Err(e) if e.is_memory() => Err(AllocError),
-        Err(_) => Ok(None),
-    }
-}
-
-/// The reply to one line of JSON, and what the session stands for after it. `OutOfMemory`, `Limit` and `Device` are
-/// the errors: after one the session need not stand for any state.
-pub fn reply<D: Device + Drop, A: Analyzer + Drop>(
-    session: &mut Session<D, A>,
-    line: &str,
-) -> Result<CowStr<'static>, Fault>
-    ensures text { (s : steps.Session) → StandsFor session.old s → IfOk result (λ text. cow_str_bytes text ≡ steps.answer_of s line.now) }
-    ensures state { (s : steps.Session) → StandsFor session.old s → OnOk result (StandsFor session.new (steps.after_line s line.now)) }
-    ensures err { IfErr result (λ fault. IsTrue (stops fault)) }
-{
-    session.reply(line)
+    let mut session = Session::new(alloc, device, analyzer);
+    run_session(reader, writer, &mut session)
 }
 
 /// Answers the lines of an input one by one, until it ends.
@@ -207,19 +69,183 @@ pub fn run_session<R: BufRead, W: Write, D: Device + Drop, A: Analyzer + Drop>(
     serve_lines::run(session.alloc, reader, writer, session)
 }
 
-/// Answers the lines of an input one by one, until it ends, over a device on which no index stands yet.
-pub fn run<R: BufRead, W: Write, D: Device + Drop, A: Analyzer + Drop>(
-    alloc: Global,
-    reader: &mut R,
-    writer: &mut W,
-    device: D,
-    analyzer: A,
-) -> Result<(), RunFault>
-    // Of an honest device that holds no byte, or the file of an index, the replies follow from that and from the lines.
-    ensures { (held : steps.Held) → HasHeld D.honest D.content device held
-        → OnOk result (IfSome (R.remaining reader.old) (λ input.
-        Writes steps.answer_of steps.after_line (session_on (analysis_of A.knows_name A.analyze analyzer) held) (lines_of input) (W.contents writer.old) (W.contents writer.new))) }
+/// The reply to one line of JSON, and what the session stands for after it. `OutOfMemory`, `Limit` and `Device` are
+/// the errors: after one the session need not stand for any state.
+pub fn reply<D: Device + Drop, A: Analyzer + Drop>(
+    session: &mut Session<D, A>,
+    line: &str,
+) -> Result<CowStr<'static>, Fault>
+    ensures text { (s : steps.Session) → StandsFor session.old s
+        → IfOk result (λ text. cow_str_bytes text ≡ steps.answer_of s line.now) }
+    ensures state { (s : steps.Session) → StandsFor session.old s
+        → OnOk result (StandsFor session.new (steps.after_line s line.now)) }
+    ensures err { IfErr result (λ fault. IsTrue (stops fault)) }
 {
-    let mut session = Session::new(alloc, device, analyzer);
-    run_session(reader, writer, &mut session)
+    session.reply(line)
+}
+
+impl<D: Device + Drop, A: Analyzer + Drop> Session<D, A> {
+    /// A session over a device, in which no index stands.
+    pub fn new(alloc: Global, device: D, analyzer: A) -> Session<D, A>
+        ensures { (held : steps.Held) → HasHeld D.honest D.content device held
+            → StandsFor result (session_on (analysis_of A.knows_name A.analyze analyzer) held) }
+    {
+        Session {
+            alloc,
+            stage: Some(Stage::Spare(device, analyzer)),
+        }
+    }
+
+    /// A session in which this index stands.
+    pub fn with_index(index: Index<D, A>) -> Session<D, A>
+        ensures { (x : calls.Index)
+            → Stands A.analyze index.collection
+            (steps.configuration_of index.collection.schema (A.analyze index.collection.analyzer)
+            index.collection.settings) x
+            → IsKnown D.honest D.content index.file.device index.collection.schema index.collection.settings x
+            → StandsFor result (session_of (analysis_of A.knows_name A.analyze index.collection.analyzer)
+            index.collection.schema index.collection.settings x) }
+    {
+        Session {
+            alloc: index.collection.alloc,
+            stage: Some(Stage::Standing(index)),
+        }
+    }
+}
+
+impl<D: Device + Drop, A: Analyzer + Drop> Service for Session<D, A> {
+    ghost use Rattle.definitions.specs.Step as steps;
+    ghost use Rattle.index.specs.Sessions.{StandsFor};
+
+    ghost State = { steps.Session };
+
+    ghost stands = { StandsFor };
+
+    ghost answer = { steps.answer_of };
+
+    ghost after = { steps.after_line };
+
+    fn reply(&mut self, line: &str) -> Result<CowStr<'static>, Fault> {
+        match parse_line(self.alloc, line)? {
+            Some(json) => self.answer_value(&json),
+            None => Ok(CowStr::Borrowed(Fault::BadRequest.reply())),
+        }
+    }
+}
+
+impl<D: Device + Drop, A: Analyzer + Drop> Session<D, A> {
+    /// Does what a value asks for.
+    fn answer_value(&mut self, json: &Json) -> Result<CowStr<'static>, Fault>
+        ensures answered { (s : steps.Session) → StandsFor self.old s
+            → Replies self.new result (steps.step s (built_request_in (view json.now))) }
+        ensures err { IfErr result (λ fault. IsTrue (stops fault)) }
+    {
+        match request_in(json) {
+            Some(request) => self.answer(request),
+            None => Ok(CowStr::Borrowed(Fault::BadRequest.reply())),
+        }
+    }
+
+    /// Does what a request asks for.
+    fn answer(&mut self, request: Request<'_>) -> Result<CowStr<'static>, Fault>
+        ensures answered { (s : steps.Session) → StandsFor self.old s
+            → Replies self.new result (steps.step s (Some (request_of request.entry))) }
+        ensures err { IfErr result (λ fault. IsTrue (stops fault)) }
+    {
+        match request {
+            Request::Create(schema, settings) => self.create(schema, settings),
+            Request::Open => self.open(),
+            Request::Index(request) => self.ask(request),
+        }
+    }
+
+    /// Makes an index, unless one is ready.
+    fn create(&mut self, schema: &Json, settings: Option<&Json>) -> Result<CowStr<'static>, Fault>
+        ensures answered { (s : steps.Session) → StandsFor self.old s
+            → Replies self.new result (steps.step s
+            (Some (requests.create_index (view schema.now) (option_map (λ d. view d.now) settings.entry)))) }
+        ensures err { IfErr result (λ fault. IsTrue (stops fault)) }
+    {
+        if self.has_ready_index() {
+            return Ok(CowStr::Borrowed(Fault::AlreadyOpen.reply()));
+        }
+        match read_making(self.alloc, schema, settings) {
+            Ok((schema, settings)) => answer_change(self.make(schema, settings)),
+            Err(fault) => refusal(fault),
+        }
+    }
+
+    /// Opens the index of the device's file, unless one is ready.
+    fn open(&mut self) -> Result<CowStr<'static>, Fault>
+        ensures answered { (s : steps.Session) → StandsFor self.old s
+            → Replies self.new result (steps.step s (Some requests.open_index)) }
+        ensures err { IfErr result (λ fault. IsTrue (stops fault)) }
+    {
+        if self.has_ready_index() {
+            return Ok(CowStr::Borrowed(Fault::AlreadyOpen.reply()));
+        }
+        answer_change(self.reopen())
+    }
+
+    /// Does what is asked of the index that stands.
+    fn ask(&mut self, request: IndexRequest<'_>) -> Result<CowStr<'static>, Fault>
+        ensures answered { (s : steps.Session) → StandsFor self.old s
+            → Replies self.new result (steps.step s (Some (index_request_of request.entry))) }
+        ensures err { IfErr result (λ fault. IsTrue (stops fault)) }
+    {
+        match &mut self.stage {
+            Some(Stage::Standing(index)) => answer(index, request),
+            Some(Stage::Spare(_, _)) => Ok(CowStr::Borrowed(Fault::NotOpen.reply())),
+            None => unreachable!(),
+        }
+    }
+
+    /// Makes an index of these in place of what stands.
+    fn make(&mut self, schema: Schema, settings: Settings) -> Result<(), Fault>
+        ensures { (s : steps.Session) → StandsFor self.old s → steps.is_ready s.stage ≡ false
+            → LeavesStage A.knows_name A.analyze s.analysis self.new.stage result
+            (steps.created s.analysis.knows schema settings (steps.held_by s.stage)) }
+    {
+        let Some(stage) = self.stage.take() else {
+            unreachable!();
+        };
+        let (stage, change) = stage.create(self.alloc, schema, settings);
+        self.stage = Some(stage);
+        change
+    }
+
+    /// Opens the index of the device's file in place of what stands.
+    fn reopen(&mut self) -> Result<(), Fault>
+        ensures { (s : steps.Session) → StandsFor self.old s → steps.is_ready s.stage ≡ false
+            → LeavesStage A.knows_name A.analyze s.analysis self.new.stage result
+            (steps.opened s.analysis.knows (steps.held_by s.stage)) }
+    {
+        let Some(stage) = self.stage.take() else {
+            unreachable!();
+        };
+        let (stage, change) = stage.open(self.alloc);
+        self.stage = Some(stage);
+        change
+    }
+
+    /// Whether an index stands that takes every call.
+    fn has_ready_index(&self) -> bool
+        ensures { (s : steps.Session) → StandsFor self.now s → result ≡ steps.is_ready s.stage }
+    {
+        match &self.stage {
+            Some(stage) => stage.is_ready(),
+            None => false,
+        }
+    }
+}
+
+/// The value in a line, if it is JSON.
+fn parse_line(alloc: Global, line: &str) -> Result<Option<Json>, AllocError>
+    ensures { IfOk result (λ found. option_map view found ≡ read line.now) }
+{
+    match Json::from_str(alloc, line) {
+        Ok(json) => Ok(Some(json)),
+        Err(e) if e.is_memory() => Err(AllocError),
+        Err(_) => Ok(None),
+    }
 }

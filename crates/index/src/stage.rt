@@ -1,9 +1,16 @@
-//! What a session has.
+//! What stands on a device: no index, or one. An index is made or opened in place of what stands.
 
-ghost use Rattle.std.specs.Prelude.{◌≡◌, is_some, true};
+ghost use Rattle.std.specs.Prelude.{◌≡◌, Some, false};
+ghost use Rattle.definitions.specs.Step as steps;
+ghost use Rattle.index.specs.Standing.{status_of};
+ghost use Rattle.index.specs.Sessions.{IsSpare, IsStage, LeavesStage, left_by};
 
-use crate::index::Index;
+use crate::collection::Status;
+use crate::index::{Index, Refused};
 use common::{Analyzer, Device};
+use definitions::Fault;
+use schema::Schema;
+use settings::Settings;
 use std::alloc::Global;
 
 /// What stands on a device.
@@ -15,11 +22,82 @@ pub(crate) enum Stage<D: Device, A: Analyzer> {
     Standing(Index<D, A>),
 }
 
-/// A device, with the index on it where one stands, of which requests are made line by line.
-#[derive(Drop)]
-pub struct Session<D: Device, A: Analyzer> {
-    pub(crate) alloc: Global,
-    /// Taken out only while an index is made or opened.
-    pub(crate) stage: Option<Stage<D, A>>,
-    ghost full: { is_some stage ≡ true },
+impl<D: Device + Drop, A: Analyzer + Drop> Stage<D, A> {
+    /// Whether an index stands that takes every call.
+    pub(crate) fn is_ready(&self) -> bool
+        ensures { (a : steps.Analysis) (s : steps.Stage) → IsStage A.knows_name A.analyze a self.now s
+            → result ≡ steps.is_ready s }
+    {
+        match self {
+            Stage::Spare(_, _) => false,
+            Stage::Standing(index) => takes_calls(index.state()),
+        }
+    }
+
+    /// Makes an index of these in place of what stands.
+    pub(crate) fn create(
+        self,
+        alloc: Global,
+        schema: Schema,
+        settings: Settings,
+    ) -> (Stage<D, A>, Result<(), Fault>)
+        ensures { (a : steps.Analysis) (s : steps.Stage) → IsStage A.knows_name A.analyze a self s
+            → steps.is_ready s ≡ false
+            → LeavesStage A.knows_name A.analyze a (Some result.0) result.1
+            (steps.created a.knows schema settings (steps.held_by s)) }
+    {
+        let (device, analyzer) = self.into_device();
+        leave(Index::create(alloc, device, analyzer, schema, settings))
+    }
+
+    /// Opens the index of the device's file in place of what stands.
+    pub(crate) fn open(self, alloc: Global) -> (Stage<D, A>, Result<(), Fault>)
+        ensures { (a : steps.Analysis) (s : steps.Stage) → IsStage A.knows_name A.analyze a self s
+            → steps.is_ready s ≡ false
+            → LeavesStage A.knows_name A.analyze a (Some result.0) result.1 (steps.opened a.knows (steps.held_by s)) }
+    {
+        let (device, analyzer) = self.into_device();
+        leave(Index::open(alloc, device, analyzer))
+    }
+
+    /// The device and the analyzer. An index that stands is dropped, and what waits in it is lost.
+    fn into_device(self) -> (D, A)
+        ensures { (a : steps.Analysis) (s : steps.Stage) → IsStage A.knows_name A.analyze a self s
+            → steps.is_ready s ≡ false
+            → IsSpare D.honest D.content A.knows_name A.analyze a result.0 result.1 (steps.held_by s) }
+    {
+        match self {
+            Stage::Spare(device, analyzer) => (device, analyzer),
+            Stage::Standing(index) => index.into_device(),
+        }
+    }
+}
+
+/// Whether every call is taken.
+fn takes_calls(status: Status) -> bool
+    ensures { result ≡ steps.takes_calls (status_of status) }
+{
+    match status {
+        Status::Ready => true,
+        Status::WriterClosed | Status::Closed => false,
+    }
+}
+
+/// What stands after an index was to be made or opened, and whether it was.
+fn leave<D: Device + Drop, A: Analyzer + Drop>(
+    outcome: Result<Index<D, A>, Refused<D, A>>,
+) -> (Stage<D, A>, Result<(), Fault>)
+    ensures { result ≡ left_by outcome }
+{
+    match outcome {
+        Ok(index) => (Stage::Standing(index), Ok(())),
+        Err(refused) => {
+            let Refused {
+                fault,
+                device,
+                analyzer,
+            } = refused;
+            (Stage::Spare(device, analyzer), Err(fault))
+        }
+    }
 }

@@ -3,9 +3,9 @@
 
 use crate::answers::{json_in, ok};
 use crate::cases::{Cases, MemoryIndex};
-use common::{Device, MemoryDevice, RawAndDefault};
+use common::{Device, RawAndDefault};
 use definitions::Fault;
-use index::{Index, Refused, Settings, Status};
+use index::{Index, Settings, Status};
 use schema::Schema;
 use serde_json::Value as Json;
 use std::alloc::Global;
@@ -51,13 +51,7 @@ impl Cases {
         self.index = None;
         let (schema, settings) = making_in(self.alloc, text)?;
         let device = self.device()?;
-        self.index = Some(made(Index::create(
-            self.alloc,
-            device,
-            RawAndDefault,
-            schema,
-            settings,
-        ))?);
+        self.index = Some(Index::create(self.alloc, device, RawAndDefault, schema, settings)?);
         Ok(())
     }
 
@@ -65,7 +59,7 @@ impl Cases {
     fn open(&mut self) -> Result<(), Fault> {
         self.index = None;
         let device = self.device()?;
-        self.index = Some(made(Index::open(self.alloc, device, RawAndDefault))?);
+        self.index = Some(Index::open(self.alloc, device, RawAndDefault)?);
         Ok(())
     }
 
@@ -112,21 +106,5 @@ fn settings_in(alloc: Global, schema: &Schema, json: &Json) -> Result<Settings, 
     match json.get("settings") {
         Some(settings) => Settings::from_json_value(alloc, schema, settings),
         None => Ok(Settings::default(alloc)?),
-    }
-}
-
-/// The index, or why there is none.
-fn made(
-    outcome: Result<MemoryIndex, Refused<MemoryDevice, RawAndDefault>>,
-) -> Result<MemoryIndex, Fault> {
-    match outcome {
-        Ok(index) => Ok(index),
-        Err(
-            Refused {
-                fault,
-                device: _device,
-                analyzer: _analyzer,
-            },
-        ) => Err(fault),
     }
 }

@@ -1,6 +1,6 @@
 //! Files that are cut or changed: what is opened of them, and what is damage.
 
-use crate::indexes::{DOCS, MemoryIndex, builder, made, new_index};
+use crate::indexes::{DOCS, MemoryIndex, builder, new_index};
 use common::{Device, MemoryDevice, RawAndDefault};
 use definitions::Fault;
 use index::Index;
@@ -20,7 +20,7 @@ fn opened(alloc: Global, bytes: &[u8]) -> Result<MemoryIndex, Fault> {
     let mut device = MemoryDevice::new(alloc);
     device.write_at(0, bytes)?;
     device.sync()?;
-    made(Index::open(alloc, device, RawAndDefault))
+    Ok(Index::open(alloc, device, RawAndDefault)?)
 }
 
 // The bytes of an index's file.

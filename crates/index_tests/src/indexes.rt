@@ -2,7 +2,7 @@
 
 use common::{MemoryDevice, RawAndDefault};
 use definitions::Fault;
-use index::{AnyQuery, Index, Refused, Settings, TermQuery};
+use index::{AnyQuery, Index, Settings, TermQuery};
 use options::{INDEXED, IndexRecordOption, STORED, TEXT};
 use schema::{Field, Schema, SchemaBuilder, Term};
 use std::alloc::{AllocError, Global};
@@ -25,27 +25,11 @@ pub(crate) fn builder(alloc: Global) -> Result<SchemaBuilder, Fault> {
     Ok(builder)
 }
 
-// The index, or why there is none.
-pub(crate) fn made(
-    outcome: Result<MemoryIndex, Refused<MemoryDevice, RawAndDefault>>,
-) -> Result<MemoryIndex, Fault> {
-    match outcome {
-        Ok(index) => Ok(index),
-        Err(
-            Refused {
-                fault,
-                device: _device,
-                analyzer: _analyzer,
-            },
-        ) => Err(fault),
-    }
-}
-
 // An index of a new file.
 pub(crate) fn new_index(alloc: Global, schema: Schema) -> Result<MemoryIndex, Fault> {
     let device = MemoryDevice::new(alloc);
     let settings = Settings::default(alloc)?;
-    made(Index::create(alloc, device, RawAndDefault, schema, settings))
+    Ok(Index::create(alloc, device, RawAndDefault, schema, settings)?)
 }
 
 // An index of these documents, all committed.

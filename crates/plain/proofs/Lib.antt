@@ -5,6 +5,7 @@ pub mod TermCounts
 pub mod FacetPrefixes
 pub mod PathTerms
 pub mod DocFacts
+pub mod ReadDocuments
 pub mod FieldLengths
 pub mod EntryKinds
 pub mod ScoreFacts

@@ -9,7 +9,7 @@ use Rattle.definitions.specs.JsonLeaves.{leaf_text, leaves}
 use Rattle.definitions.specs.Schema.{Entry, Kind, Schema, facet_kind, is_indexed, json_kind, max_fields, text_kind}
 use Rattle.definitions.specs.Terms.{json_term, term_bytes, type_code, value_bytes}
 use Rattle.definitions.specs.Stored.{plain}
-use Rattle.definitions.specs.Values.{Token, Value, nesting}
+use Rattle.definitions.specs.Values.{Document, Token, Value, nesting}
 use Rattle.plain.specs.declared.indexed_doc.IndexedDoc.{IndexedDoc}
 
 -- the terms of tokens of a text field
@@ -66,6 +66,10 @@ IsIndexed schema analyze doc = doc.terms.items ≡ flat_map (own_terms schema an
 -- a value that a record keeps as it is: it has no tokens, and doesn't nest too deep
 abbrev pub IsRecordable : Value → Type 0
 IsRecordable v = (nesting v ≤ max_nesting) × (plain v ≡ v)
+
+-- a document of the schema's fields, as records keep them
+abbrev pub IsOfSchema : Schema → Document → Type 0
+IsOfSchema schema doc = AllByRecursion (λ p. p.0 < length schema) doc × AllByRecursion (λ p. IsRecordable p.1) doc
 
 -- the document is one of the schema's, with its terms
 pub record Describes (schema : Schema) (analyze : Analyzer) (doc : IndexedDoc) : Type 0 where

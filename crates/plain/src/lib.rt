@@ -3,6 +3,7 @@
 
 mod any_query;
 mod checks;
+mod document_reading;
 mod facet_terms;
 mod indexed_doc;
 mod json_terms;
@@ -15,5 +16,6 @@ mod value_terms;
 
 pub use any_query::{AnyQuery, BooleanQuery, Occur, TermQuery};
 pub use checks::check_query;
+pub use document_reading::{read_document, read_document_text};
 pub use indexed_doc::IndexedDoc;
 pub use scanning::{Hit, scan, scan_count};

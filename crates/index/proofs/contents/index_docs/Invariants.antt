@@ -1,7 +1,7 @@
 use Rattle.std.proofs.Common.{◌++◌, ◌≡◌}
 use Rattle.std.specs.List.{AllByRecursion}
 use Rattle.plain.specs.Hits.{Describe, documents_of}
-use Rattle.index.specs.Contents.{IsOfSchema}
+use Rattle.plain.specs.IndexedDocs.{IsOfSchema}
 use Rattle.index.proofs.contents.index_docs.Given as goal
 
 -- the documents that were indexed and those that are left make all

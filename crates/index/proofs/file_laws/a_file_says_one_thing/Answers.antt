@@ -1,5 +1,5 @@
 use Rattle.std.proofs.Common.{ap, ◌≡◌}
-use Rattle.index.proofs.Stages.{found, one_saying}
+use Rattle.index.proofs.FileSayings.{found, one_saying}
 use Rattle.index.proofs.file_laws.a_file_says_one_thing.Goals as goal
 
 pub returns : goal.returns

@@ -7,7 +7,6 @@ use Rattle.plain.proofs.ClauseSteps.{next_of}
 use Rattle.plain.proofs.Refusals.{err_told}
 use Rattle.plain.proofs.checks.+check_tree.Goals as goal
 
--- src/plain/check_query.rt:88:9
 pub check_clauses-returns-in_err-check_tree : goal.check_clauses-returns-in_err-check_tree
 check_clauses-returns-in_err-check_tree t c =
     let schema = c.args.schema.now in
@@ -21,7 +20,6 @@ check_clauses-returns-in_err-check_tree t c =
     ∙ ap (λ cs. clauses_fault schema weight 1 (clauses_of cs)) (sym next)
     ∙ c.loop-occur.invariant
 
--- src/plain/check_query.rt:87:5
 pub check_clauses-loop-occur-preserved : goal.check_clauses-loop-occur-preserved
 check_clauses-loop-occur-preserved t c =
     let schema = c.args.schema.now in

@@ -8,7 +8,6 @@ use Rattle.plain.proofs.Ranges.{told_above}
 use Rattle.plain.proofs.Refusals.{err_told, node_by}
 use Rattle.plain.proofs.checks.check_node.Goals as goal
 
--- src/plain/check_query.rt:97:5
 pub returns-in_err-check_terms : goal.returns-in_err-check_terms
 returns-in_err-check_terms c =
     let query = c.args.query.now in
@@ -17,7 +16,6 @@ returns-in_err-check_terms c =
     err_told c.from_residual.result fault c.from_residual.ensures.1
     ∙ sym (node_by c.args.schema.now weight query (Some fault) (nat_lt max_score (bound weight 1 (query_of query))) (ap result_err (sym c.in_err-check_terms.was) ∙ c.check_terms.ensures) refl)
 
--- src/plain/check_query.rt:99:9
 pub returns-then-is_none : goal.returns-then-is_none
 returns-then-is_none c =
     let query = c.args.query.now in
@@ -25,7 +23,6 @@ returns-then-is_none c =
     let large : nat_lt max_score (bound weight 1 (query_of query)) ≡ true = told_above (bound weight 1 (query_of query)) c.bound.result true c.bound.ensures (c.is_none.ensures ∙ ap not c.if-is_none.true) in
     sym (node_by c.args.schema.now weight query None true (ap result_err (sym c.in_ok-check_terms.was) ∙ c.check_terms.ensures) large)
 
--- src/plain/check_query.rt:94:1
 pub returns : goal.returns
 returns c =
     let query = c.args.query.now in

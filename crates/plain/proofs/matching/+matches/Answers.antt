@@ -8,13 +8,11 @@ use Rattle.plain.proofs.ClauseSteps.{next_of}
 use Rattle.plain.proofs.DocFacts.{holds_kept}
 use Rattle.plain.proofs.matching.+matches.Goals as goal
 
--- src/plain/matching.rt:43:5
 pub clauses_match-loop-occur-init : goal.clauses_match-loop-occur-init
 clauses_match-loop-occur-init t c analyze d =
     let all = answers_of c.args.schema.now analyze c.args.doc.now.doc (clauses_of c.args.clauses.now) in
     ap₂ (λ missing some. left_matches missing some all) c.new-tally.ensures.missing c.new-tally.ensures.some
 
--- src/plain/matching.rt:45:13
 pub clauses_match-returns-in_default : goal.clauses_match-returns-in_default
 clauses_match-returns-in_default t c analyze d =
     let schema = c.args.schema.now in
@@ -28,7 +26,6 @@ clauses_match-returns-in_default t c analyze d =
     ∙ ap (λ cs. left_matches tally.missing tally.some (answers_of schema analyze doc (clauses_of cs))) (sym (next_of c.args.clauses.now i item c.loop-occur-test.true c.loop-occur-item.is))
     ∙ c.loop-occur.invariant analyze d
 
--- src/plain/matching.rt:43:5
 pub clauses_match-loop-occur-preserved : goal.clauses_match-loop-occur-preserved
 clauses_match-loop-occur-preserved t c analyze d =
     let schema = c.args.schema.now in
@@ -42,7 +39,6 @@ clauses_match-loop-occur-preserved t c analyze d =
     ∙ ap (λ cs. left_matches tally.missing tally.some (answers_of schema analyze doc (clauses_of cs))) (sym (next_of c.args.clauses.now i item c.loop-occur-test.true c.loop-occur-item.is))
     ∙ c.loop-occur.invariant analyze d
 
--- src/plain/matching.rt:32:1
 pub clauses_match-returns : goal.clauses_match-returns
 clauses_match-returns t c analyze d =
     let schema = c.args.schema.now in
@@ -52,7 +48,6 @@ clauses_match-returns t c analyze d =
     ∙ ap (λ cs. left_matches tally.missing tally.some (answers_of schema analyze doc (clauses_of cs))) (sym (drop_all c.loop-occur.occur-index c.args.clauses.now c.loop-occur-test.false))
     ∙ c.loop-occur.invariant analyze d
 
--- src/plain/matching.rt:15:1
 pub matches-returns-in-Term : goal.matches-returns-in-Term
 matches-returns-in-Term t c analyze d =
     let schema = c.args.schema.now in

@@ -11,7 +11,6 @@ use Rattle.plain.proofs.ScanSteps.{all_push, described_next, found_more, found_p
 use Rattle.plain.proofs.scanning.found.Goals as goal
 use Rattle.plain.proofs.scanning.found.Goals.{in-Some+in_ok-push, in_default}
 
--- src/plain/scan.rt:77:5
 pub loop-doc-preserved : goal.loop-doc-preserved
 loop-doc-preserved c =
     let schema = c.args.schema.now in

@@ -4,7 +4,6 @@ use Rattle.definitions.proofs.StableSorts.{sorted_is_ranked}
 use Rattle.plain.specs.declared.indexed_doc.IndexedDoc.{IndexedDoc}
 use Rattle.plain.proofs.scanning.keep_best.Goals as goal
 
--- src/plain/scan.rt:86:1
 pub returns : goal.returns
 returns c =
     let key : ℕ × Bor IndexedDoc → ℕ = λ m. m.0 in

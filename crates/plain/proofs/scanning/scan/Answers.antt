@@ -10,7 +10,6 @@ use Rattle.plain.specs.Queries.{query_of}
 use Rattle.plain.specs.declared.indexed_doc.IndexedDoc.{IndexedDoc}
 use Rattle.plain.proofs.scanning.scan.Goals as goal
 
--- src/plain/scan.rt:46:5
 pub hits-requires : goal.hits-requires
 hits-requires c =
     let Found = ℕ × Bor IndexedDoc in
@@ -18,7 +17,6 @@ hits-requires c =
     let found = c.in_ok-best.best.items in
     subst (AllByRecursion within) (sym (c.deref.ensures.value ∙ c.in_ok-keep_best.ensures)) (All_take within c.args.k (ranked (λ m. m.0) found) (All-ranked within (λ m. m.0) found c.in_ok-best.ensures.within))
 
--- src/plain/scan.rt:32:1
 pub returns : goal.returns
 returns c analyze d =
     let Found = ℕ × Bor IndexedDoc in

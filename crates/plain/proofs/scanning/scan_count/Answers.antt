@@ -9,7 +9,6 @@ use Rattle.plain.proofs.ScanSteps.{counted_documents, described_next}
 use Rattle.plain.proofs.scanning.scan_count.Goals as goal
 use Rattle.plain.proofs.scanning.scan_count.Goals.{else-matches, then-matches}
 
--- src/plain/scan.rt:55:5
 pub loop-doc-preserved : goal.loop-doc-preserved
 loop-doc-preserved c =
     let schema = c.args.schema.now in
@@ -33,7 +32,6 @@ loop-doc-preserved c =
       }
     ]
 
--- src/plain/scan.rt:50:1
 pub returns : goal.returns
 returns c analyze d =
     let docs = c.args.docs.now in

@@ -15,7 +15,6 @@ use Rattle.plain.proofs.ClauseSteps.{clause_depth, next_of}
 use Rattle.plain.proofs.DocFacts.{holds_where, occurrences_kept}
 use Rattle.plain.proofs.scoring.+score.Goals as goal
 
--- src/plain/scoring.rt:75:5
 pub clauses_score-loop-occur-init : goal.clauses_score-loop-occur-init
 clauses_score-loop-occur-init t c = record {
   accepted = c.requires.accepted;
@@ -28,7 +27,6 @@ clauses_score-loop-occur-init t c = record {
       ∙ scored_all c.args.schema.now analyze sim doc c.args.minimum cs;
 }
 
--- src/plain/scoring.rt:76:21
 pub clauses_score-score-score-requires : goal.clauses_score-score-score-requires
 clauses_score-score-score-requires t c =
     let schema = c.args.schema.now in
@@ -41,7 +39,6 @@ clauses_score-score-score-requires t c =
     let below = clause_depth c.args.clauses.now i item c.loop-occur-test.true c.loop-occur-item.is in
     (omega (arith, below, c.decreases), accepted_first_clause schema weight 1 (occur_of item.0) (query_of item.1) rest accepted)
 
--- src/plain/scoring.rt:78:13
 pub clauses_score-returns-in_default-clause-value : goal.clauses_score-returns-in_default-clause-value
 clauses_score-returns-in_default-clause-value t c analyze d =
     let schema = c.args.schema.now in
@@ -58,7 +55,6 @@ clauses_score-returns-in_default-clause-value t c analyze d =
     ∙ ap (λ cs. scored_left schema analyze sim doc tally.missing tally.some c.loop-occur.sum (clauses_of cs)) (sym next)
     ∙ c.loop-occur.invariant.value analyze d
 
--- src/plain/scoring.rt:81:9
 pub clauses_score-overflow_add-sum : goal.clauses_score-overflow_add-sum
 clauses_score-overflow_add-sum t c =
     let weight = weight_of c.args.settings.now in
@@ -70,7 +66,6 @@ clauses_score-overflow_add-sum t c =
     let left = ap (λ cs. clauses_bound weight 1 (clauses_of cs)) next in
     omega (arith, c.unwrap_or-sum.ensures, earned, left, c.loop-occur.invariant.within, c.requires.bounded)
 
--- src/plain/scoring.rt:75:5
 pub clauses_score-loop-occur-preserved : goal.clauses_score-loop-occur-preserved
 clauses_score-loop-occur-preserved t c =
     let schema = c.args.schema.now in
@@ -99,7 +94,6 @@ clauses_score-loop-occur-preserved t c =
           ∙ c.loop-occur.invariant.value analyze d;
     }
 
--- src/plain/scoring.rt:83:23
 pub clauses_score-returns-then-is_met-clause-value : goal.clauses_score-returns-then-is_met-clause-value
 clauses_score-returns-then-is_met-clause-value t c analyze d =
     let schema = c.args.schema.now in
@@ -114,11 +108,9 @@ clauses_score-returns-then-is_met-clause-value t c analyze d =
     ∙ ap (λ cs. scored_left schema analyze sim doc tally.missing tally.some sum (clauses_of cs)) (sym none)
     ∙ c.loop-occur.invariant.value analyze d
 
--- src/plain/scoring.rt:83:23
 pub clauses_score-returns-then-is_met-clause-within : goal.clauses_score-returns-then-is_met-clause-within
 clauses_score-returns-then-is_met-clause-within t c = omega (arith, c.loop-occur.invariant.within)
 
--- src/plain/scoring.rt:83:41
 pub clauses_score-returns-else-is_met-clause-value : goal.clauses_score-returns-else-is_met-clause-value
 clauses_score-returns-else-is_met-clause-value t c analyze d =
     let schema = c.args.schema.now in
@@ -131,7 +123,6 @@ clauses_score-returns-else-is_met-clause-value t c analyze d =
     ∙ ap (λ cs. scored_left schema analyze sim doc tally.missing tally.some sum (clauses_of cs)) (sym none)
     ∙ c.loop-occur.invariant.value analyze d
 
--- src/plain/scoring.rt:43:17
 pub score-returns-then-occurrences-eq0-clause-value : goal.score-returns-then-occurrences-eq0-clause-value
 score-returns-then-occurrences-eq0-clause-value t c analyze d =
     let schema = c.args.schema.now in
@@ -144,13 +135,11 @@ score-returns-then-occurrences-eq0-clause-value t c analyze d =
     let score : ℕ = scoring.score schema analyze (similarity_of c.args.settings.now) doc 1 (term t c.in-Term.query.1) in
     subst (λ q. None ≡ (if matches schema analyze doc (query_of q) then Some (scoring.score schema analyze (similarity_of c.args.settings.now) doc 1 (query_of q)) else None)) (sym c.in-Term.is) (ap (λ b. if b then Some score else None) absent)
 
--- src/plain/scoring.rt:45:18
 pub score-term_score-requires-clause-accepted : goal.score-term_score-requires-clause-accepted
 score-term_score-requires-clause-accepted t c =
     let weight = weight_of c.args.settings.now in
     accepted_passes c.args.schema.now weight 1 (term c.in-Term.query.0 c.in-Term.query.1) (subst (λ q. tree_fault c.args.schema.now weight 1 (query_of q) ≡ None) c.in-Term.is c.requires)
 
--- src/plain/scoring.rt:27:1
 pub score-returns-else-occurrences-eq0-clause-value : goal.score-returns-else-occurrences-eq0-clause-value
 score-returns-else-occurrences-eq0-clause-value t c analyze d =
     let schema = c.args.schema.now in
@@ -164,7 +153,6 @@ score-returns-else-occurrences-eq0-clause-value t c analyze d =
     let scored : c.term_score.result ≡ 1 * term_score = c.term_score.ensures.value analyze d (counted ∙ occurrences_kept schema analyze c.args.doc.now d t) ∙ omega arith in
     subst (λ q. Some c.term_score.result ≡ (if matches schema analyze doc (query_of q) then Some (scoring.score schema analyze (similarity_of c.args.settings.now) doc 1 (query_of q)) else None)) (sym c.in-Term.is) (ap Some scored ∙ ap (λ b. if b then Some (1 * term_score) else None) present)
 
--- src/plain/scoring.rt:51:13
 pub score-clauses_score-requires : goal.score-clauses_score-requires
 score-clauses_score-requires t c =
     let schema = c.args.schema.now in

@@ -3,7 +3,6 @@ use Rattle.definitions.specs.Lengths.{fieldnorm_to_id}
 use Rattle.plain.proofs.ScoreFacts.{length_id_kept}
 use Rattle.plain.proofs.scoring.length_id.Goals as goal
 
--- src/plain/scoring.rt:83:1
 pub returns : goal.returns
 returns c schema analyze d at =
     let entry = c.args.entry.now in

@@ -5,7 +5,6 @@ use Rattle.definitions.specs.Terms.{field_of}
 use Rattle.plain.proofs.ScoreFacts.{accepted_term, term_score_from}
 use Rattle.plain.proofs.scoring.term_score.Goals as goal
 
--- src/plain/scoring.rt:51:1
 pub returns-clause-value : goal.returns-clause-value
 returns-clause-value c analyze d occurring =
     let schema = c.args.schema.now in

@@ -2,7 +2,7 @@ use Rattle.std.proofs.Common.{ap, map, ◌∙◌}
 use Rattle.std.specs.List.{list_all}
 use Rattle.definitions.specs.Making.{is_analyzed}
 use Rattle.index.proofs.FieldLists.{numbered}
-use Rattle.index.proofs.collection_calls.are_analyzed.Goals as goal
+use Rattle.index.proofs.collection.are_analyzed.Goals as goal
 
 pub loop-field-init : goal.loop-field-init
 loop-field-init g c =

@@ -3,7 +3,7 @@ use Rattle.definitions.specs.Step as steps
 use Rattle.index.specs.AskedRequests.{request_of}
 use Rattle.index.specs.Sessions.{Replies}
 use Rattle.index.proofs.SessionSteps.{unasked_reply}
-use Rattle.index.proofs.stage.Session.answer_value.Goals as goal
+use Rattle.index.proofs.session.Session.answer_value.Goals as goal
 
 pub returns-in-Some-clause-answered : goal.returns-in-Some-clause-answered
 returns-in-Some-clause-answered g c s h =

@@ -3,7 +3,7 @@ use Rattle.definitions.specs.declared.fault.Fault.TheVariants as faults
 use Rattle.index.specs.AskedRequests.{index_request_of}
 use Rattle.index.specs.Sessions.{HasStage}
 use Rattle.index.proofs.SessionSteps.{index_left, none_asked, refused_reply}
-use Rattle.index.proofs.stage.Session.ask.Goals as goal
+use Rattle.index.proofs.session.Session.ask.Goals as goal
 
 pub returns-in-Some-Standing-clause-answered : goal.returns-in-Some-Standing-clause-answered
 returns-in-Some-Standing-clause-answered g c s h =

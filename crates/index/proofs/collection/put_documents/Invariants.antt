@@ -3,7 +3,7 @@ use Rattle.std.specs.List.{AllByRecursion}
 use Rattle.index.specs.Files.{IsHeld}
 use Rattle.layouts.specs.DocumentBytes.{document_bytes}
 use Rattle.plain.specs.Hits.{documents_of}
-use Rattle.index.proofs.read_documents.put_documents.Given as goal
+use Rattle.index.proofs.collection.put_documents.Given as goal
 
 -- what is put so far, with the documents that are left
 abbrev pub invariant-loop-indexed : goal.invariant-loop-indexed

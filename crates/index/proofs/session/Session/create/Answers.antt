@@ -6,13 +6,13 @@ use Rattle.serve_lines.specs.Replies.{stops}
 use Rattle.index.proofs.Answering.{going_on}
 use Rattle.index.proofs.SessionSteps.{already_made, on_map, refused_reply, unread_step}
 use Rattle.serde_json.specs.View.{view}
-use Rattle.index.proofs.stage.Session.create.Goals as goal
+use Rattle.index.proofs.session.Session.create.Goals as goal
 
-pub returns-then-is_ready-clause-answered : goal.returns-then-is_ready-clause-answered
-returns-then-is_ready-clause-answered g c s h =
+pub returns-then-has_ready_index-clause-answered : goal.returns-then-has_ready_index-clause-answered
+returns-then-has_ready_index-clause-answered g c s h =
     let d = view c.args.schema.now in
     let more = option_map (λ x. view x.now) c.args.settings in
-    let ready : steps.is_ready s.stage ≡ true = sym (c.if-is_ready.ensures s h) in
+    let ready : steps.is_ready s.stage ≡ true = sym (c.if-has_ready_index.ensures s h) in
     refused_reply s c.args.self.now faults.AlreadyOpen _ (requests.create_index d more) h (already_made s d more ready) c.reply.ensures
 
 pub returns-in-Err-clause-answered : goal.returns-in-Err-clause-answered
@@ -20,7 +20,7 @@ returns-in-Err-clause-answered g c s h =
     let d = view c.args.schema.now in
     let more = option_map (λ x. view x.now) c.args.settings in
     let fault = c.in-Err.fault in
-    let not_ready : steps.is_ready s.stage ≡ false = sym (c.if-is_ready.ensures s h) in
+    let not_ready : steps.is_ready s.stage ≡ false = sym (c.if-has_ready_index.ensures s h) in
     refused_reply s c.args.self.now fault c.refusal.result (requests.create_index d more) h
     (on_map c.refusal.result (stops fault ≡ false) (steps.stage_step s.analysis s.stage (requests.create_index d more) ≡ steps.refusing fault s.stage)
     (λ on. unread_step s d more fault not_ready (c.in-Err.ensures.err (going_on fault faults.OutOfMemory on refl))) c.refusal.ensures.on)
