@@ -3,7 +3,7 @@ use Rattle.std.proofs.Common.{[], Err, Global, IfOk, IfSome, List, None, Ok, Opt
 use Rattle.std.specs.List.{AllByRecursion}
 use Rattle.bodies.specs.Fitting.{FitsDocument}
 use Rattle.definitions.specs.Schema.{Schema}
-use Rattle.definitions.specs.Values.{Document}
+use Rattle.definitions.specs.Values.{Document, Value}
 use Rattle.document_values.specs.Docs.{IsGoodPair}
 use Rattle.index.specs.Files.{IsHeld}
 use Rattle.layouts.specs.DocumentReading.{deepest}
