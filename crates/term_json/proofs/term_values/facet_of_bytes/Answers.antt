@@ -7,7 +7,7 @@ use Rattle.term_json.proofs.TermPaths.{parts_at}
 use Rattle.term_json.proofs.term_values.facet_of_bytes.Goals as goal
 
 pub returns-in_ok-from_separated-in-Ok : goal.returns-in_ok-from_separated-in-Ok
-returns-in_ok-from_separated-in-Ok c = rw (is_utf8-from_IsUtf8 c.args.bytes.now c.in-Ok.ensures.cases.1) (ap Some (c.in_ok-from_separated-in-Ok.ensures ∙ parts_at 0 _ ∙ ap (slice_split (◌==◌ 0)) c.in-Ok.ensures.cases.0))
+returns-in_ok-from_separated-in-Ok c = rw (is_utf8-from_IsUtf8 c.args.bytes.now c.in-Ok.ensures.cases.1) (ap Some (c.in_ok-from_separated-in-Ok.ensures ∙ parts_at 0 c.in-Ok.steps.now ∙ ap (slice_split (◌==◌ 0)) c.in-Ok.ensures.cases.0))
 
 pub returns-in-Err : goal.returns-in-Err
 returns-in-Err c = rw (false_from_ne_true _ (λ e. c.in-Err.ensures.cases.0 (IsUtf8-from_is_utf8 c.args.bytes.now e))) refl
