@@ -15,7 +15,7 @@ use Rattle.postings_writer.specs.Recorders.{IsCountRefusal}
 use Rattle.postings_writer.specs.Texts.{IsTextRefusal, text_occurrences}
 use Rattle.postings_writer.specs.Writers.{IsIndexedTerm, Stands, Writer}
 use Rattle.postings_writer.proofs.Standing.{places_of-push}
-use Rattle.document_indexer.specs.Contexts.{AreBefore, CanIndex, Context, HasStarts, Holds, IsIndexedField, IsReady, IsRefusal, Positions, Records, Refuses, start_of}
+use Rattle.document_indexer.specs.Contexts.{AreBefore, CanIndex, Context, HasStarts, Holds, IsIndexedField, IsReady, IsRefusal, Positions, Records, Refuses, context, start_of}
 use Rattle.document_indexer.specs.Runs.{AreStepsWithin, Starts, occurrence_at, occurrences_at, next_starts, run_terms, starts_after, step_terms}
 use Rattle.document_indexer.specs.Steps.{Step, term_step, text_step}
 
@@ -136,9 +136,6 @@ refused_next a b xs ys fault r refused os starts h =
     )
 
 -- ---- a term
-
-abbrev context : Writer → Positions → ℕ → Context
-context w positions doc = record { writer = w; positions = positions; doc = doc }
 
 pub term_recorded : {A E : Type 0} (result : Result A E) (w new : Writer) (positions : Positions) (doc : ℕ) (t : List ℕ) → ((os : List Occurrence) → Stands w os → OnOk result (Stands new (os ++ record { doc = doc; term = t; position = 0 } ∷ []))) → OnOk result ((new.schema ≡ w.schema) × (new.num_docs ≡ doc + 1)) → OnOk result (Records (context w positions doc) (context new positions doc) (term_step t ∷ []))
 term_recorded (Ok x) w new positions doc t ok same = record {

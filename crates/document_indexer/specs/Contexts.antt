@@ -34,6 +34,10 @@ pub record Context : Type 0 where
   pub positions : Positions
   pub doc : ℕ
 
+-- of these
+abbrev pub context : Writer → Positions → ℕ → Context
+context writer positions doc = record { writer = writer; positions = positions; doc = doc }
+
 -- these occurrences are recorded, and texts of the document begin there
 pub record Holds (c : Context) (os : List Occurrence) (starts : Starts) : Type 0 where
   pub stands : Stands c.writer os

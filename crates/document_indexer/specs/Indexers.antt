@@ -17,8 +17,8 @@ analyzer_of indexer = indexer.analyzer.now
 
 -- what it recorded
 abbrev pub writer_of : {A : Type 0} → DocumentIndexer A → Writer
-writer_of indexer = indexer.terms.writer
+writer_of indexer = indexer.context.writer
 
 -- these documents are indexed
 abbrev pub HasIndexed : {A : Type 0} → (A → Analyzer) → DocumentIndexer A → List Document → Type 0
-HasIndexed analyze indexer docs = HasRecorded (schema_of indexer) (analyze (analyzer_of indexer)) indexer.terms docs
+HasIndexed analyze indexer docs = HasRecorded (schema_of indexer) (analyze (analyzer_of indexer)) indexer.context docs

@@ -10,7 +10,7 @@ ghost use Rattle.document_indexer.specs.Indexed.{IsAddRefusal};
 ghost use Rattle.document_indexer.specs.Indexers.{HasIndexed, analyzer_of, schema_of, writer_of};
 
 use crate::index_document::index_document;
-use crate::term_indexer::TermIndexer;
+use crate::indexing_context::IndexingContext;
 use common::{Analyzer, TERMINATED};
 use definitions::Fault;
 use document::CompactDoc;
@@ -26,7 +26,7 @@ use std::alloc::{AllocError, Global};
 pub struct DocumentIndexer<'a, A: Analyzer> {
     schema: &'a Schema,
     analyzer: &'a A,
-    terms: TermIndexer<'a>,
+    context: IndexingContext<'a>,
 }
 
 impl<'a, A: Analyzer> DocumentIndexer<'a, A> {
@@ -39,11 +39,11 @@ impl<'a, A: Analyzer> DocumentIndexer<'a, A> {
         ensures nothing { IfOk result (λ indexer. HasIndexed A.analyze indexer []) }
         ensures given { IfOk result (λ indexer. (schema_of indexer ≡ schema.now) × (analyzer_of indexer ≡ analyzer.now)) }
     {
-        let terms = TermIndexer::for_schema(alloc, schema)?;
+        let context = IndexingContext::for_schema(alloc, schema)?;
         Ok(DocumentIndexer {
             schema,
             analyzer,
-            terms,
+            context,
         })
     }
 
@@ -54,11 +54,11 @@ impl<'a, A: Analyzer> DocumentIndexer<'a, A> {
         ensures same { OnOk result ((schema_of self.new ≡ schema_of self.old) × (analyzer_of self.new ≡ analyzer_of self.old)) }
         ensures err { (docs : List Document) → HasIndexed A.analyze self.old docs → IfErr result (λ fault. IsAddRefusal fault (schema_of self.old) (A.analyze (analyzer_of self.old)) docs doc.now) }
     {
-        if self.terms.doc() >= TERMINATED {
+        if self.context.doc() >= TERMINATED {
             return Err(Fault::Limit);
         }
-        index_document(&mut self.terms, self.analyzer, self.schema, doc)?;
-        self.terms.end_document();
+        index_document(&mut self.context, self.analyzer, self.schema, doc)?;
+        self.context.end_document();
         Ok(())
     }
 
@@ -66,14 +66,14 @@ impl<'a, A: Analyzer> DocumentIndexer<'a, A> {
     pub fn num_docs(&self) -> u32
         ensures { (docs : List Document) → HasIndexed A.analyze self.now docs → result ≡ length docs }
     {
-        self.terms.doc()
+        self.context.doc()
     }
 
     /// What is recorded.
     pub fn postings_writer(&self) -> &PostingsWriter<'a>
         ensures { result.now ≡ writer_of self.now }
     {
-        self.terms.postings_writer()
+        self.context.postings_writer()
     }
 
     /// The sections of terms, postings and positions of the documents. A field that keeps lengths has one for

@@ -6,7 +6,7 @@ ghost use Rattle.document_indexer.specs.Contexts.{IsReady, Records, Refuses};
 ghost use Rattle.document_indexer.specs.Steps.{steps_of, value_steps};
 
 use crate::index_value::index_value;
-use crate::term_indexer::TermIndexer;
+use crate::indexing_context::IndexingContext;
 use common::Analyzer;
 use definitions::Fault;
 use document::CompactDoc;
@@ -16,7 +16,7 @@ use terms::Field;
 
 /// Records the terms of a document, value after value.
 pub(crate) fn index_document<A: Analyzer>(
-    indexer: &mut TermIndexer<'_>,
+    indexer: &mut IndexingContext<'_>,
     analyzer: &A,
     schema: &Schema,
     doc: &CompactDoc,
@@ -34,7 +34,7 @@ pub(crate) fn index_document<A: Analyzer>(
 
 /// Records the terms of a value, if the schema has its field and that is indexed.
 fn index_field_value<A: Analyzer>(
-    indexer: &mut TermIndexer<'_>,
+    indexer: &mut IndexingContext<'_>,
     analyzer: &A,
     schema: &Schema,
     field: Field,

@@ -8,14 +8,14 @@ ghost use Rattle.layouts.specs.DocumentReading.{steps_in};
 ghost use Rattle.document_indexer.specs.Contexts.{CanIndex, Records, Refuses};
 ghost use Rattle.document_indexer.specs.Steps.{facet_steps};
 
-use crate::term_indexer::TermIndexer;
+use crate::indexing_context::IndexingContext;
 use definitions::Fault;
 use document_values::CompactDocValue;
 use terms::{FACET_SEP_BYTE, Field, Type};
 
 /// Records the terms of all prefixes of a facet's steps, the empty one included.
 pub(crate) fn index_facet(
-    indexer: &mut TermIndexer<'_>,
+    indexer: &mut IndexingContext<'_>,
     field: Field,
     value: CompactDocValue<'_>,
 ) -> Result<(), Fault>
@@ -30,7 +30,7 @@ pub(crate) fn index_facet(
 }
 
 /// Records what stands before each separator of a facet's text, after the empty prefix and before the whole text.
-fn index_prefixes(indexer: &mut TermIndexer<'_>, field: Field, text: &str) -> Result<(), Fault>
+fn index_prefixes(indexer: &mut IndexingContext<'_>, field: Field, text: &str) -> Result<(), Fault>
     requires { CanIndex indexer.old field facet_kind }
     ensures ok { OnOk result (Records indexer.old indexer.new (facet_steps field (facet (steps_in text.now)))) }
     ensures err { IfErr result (Refuses indexer.old (facet_steps field (facet (steps_in text.now)))) }

@@ -11,7 +11,7 @@ ghost use Rattle.layouts.specs.DocumentReading.{to_members, to_values};
 ghost use Rattle.document_indexer.specs.Contexts.{CanIndex, Records, Refuses};
 ghost use Rattle.document_indexer.specs.Steps.{fast_steps, leaves_steps, path_step, plain_leaf_steps};
 
-use crate::term_indexer::TermIndexer;
+use crate::indexing_context::IndexingContext;
 use common::Analyzer;
 use definitions::Fault;
 use document_values::{CompactDocArrayIter, CompactDocObjectIter, CompactDocValue};
@@ -28,7 +28,7 @@ struct JsonField<'a> {
 
 /// Records the terms of a value of a JSON field: of each leaf those on its path.
 pub(crate) fn index_json<A: Analyzer>(
-    indexer: &mut TermIndexer<'_>,
+    indexer: &mut IndexingContext<'_>,
     analyzer: &A,
     field: Field,
     entry: &FieldEntry,
@@ -50,7 +50,7 @@ pub(crate) fn index_json<A: Analyzer>(
 /// Records the terms of a value at these keys.
 #[cycle(leaves)]
 fn index_leaves<'a, A: Analyzer>(
-    indexer: &mut TermIndexer<'_>,
+    indexer: &mut IndexingContext<'_>,
     analyzer: &A,
     json_field: &JsonField<'_>,
     keys: &mut Vec<&'a str>,
@@ -84,7 +84,7 @@ fn index_leaves<'a, A: Analyzer>(
 /// Records the terms of values that share their keys.
 #[cycle(leaves)]
 fn index_values<'a, A: Analyzer>(
-    indexer: &mut TermIndexer<'_>,
+    indexer: &mut IndexingContext<'_>,
     analyzer: &A,
     json_field: &JsonField<'_>,
     keys: &mut Vec<&'a str>,
@@ -104,7 +104,7 @@ fn index_values<'a, A: Analyzer>(
 /// Records the terms of members, each at its own key behind these.
 #[cycle(leaves)]
 fn index_members<'a, A: Analyzer>(
-    indexer: &mut TermIndexer<'_>,
+    indexer: &mut IndexingContext<'_>,
     analyzer: &A,
     json_field: &JsonField<'_>,
     keys: &mut Vec<&'a str>,
@@ -124,7 +124,7 @@ fn index_members<'a, A: Analyzer>(
 /// Records the terms of a member. There is none under a key with U+0000.
 #[cycle(leaves)]
 fn index_member<'a, A: Analyzer>(
-    indexer: &mut TermIndexer<'_>,
+    indexer: &mut IndexingContext<'_>,
     analyzer: &A,
     json_field: &JsonField<'_>,
     keys: &mut Vec<&'a str>,
@@ -147,7 +147,7 @@ fn index_member<'a, A: Analyzer>(
 
 /// Records the tokens of a text at these keys, but for those that are too long.
 fn index_path_text<A: Analyzer>(
-    indexer: &mut TermIndexer<'_>,
+    indexer: &mut IndexingContext<'_>,
     analyzer: &A,
     json_field: &JsonField<'_>,
     keys: &[&str],
@@ -163,7 +163,7 @@ fn index_path_text<A: Analyzer>(
 
 /// Records a number at these keys, which is an i64 where it fits.
 fn index_whole_number(
-    indexer: &mut TermIndexer<'_>,
+    indexer: &mut IndexingContext<'_>,
     json_field: &JsonField<'_>,
     keys: &[&str],
     n: u64,
@@ -181,7 +181,7 @@ fn index_whole_number(
 
 /// Records a value of eight bytes at these keys.
 fn index_fast_value<T: FastValue>(
-    indexer: &mut TermIndexer<'_>,
+    indexer: &mut IndexingContext<'_>,
     json_field: &JsonField<'_>,
     keys: &[&str],
     value: T,

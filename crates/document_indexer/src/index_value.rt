@@ -1,6 +1,6 @@
 //! The terms of values, by the types of their fields.
 
-ghost use Rattle.std.specs.Prelude.{◌≡◌, IfErr, OnOk};
+ghost use Rattle.std.specs.Prelude.{IfErr, OnOk};
 ghost use Rattle.definitions.specs.Schema.{bool_kind, bytes_kind, date_kind, i64_kind, ip_addr_kind, text_kind, u64_kind};
 ghost use Rattle.document_values.specs.Shown.{value_of};
 ghost use Rattle.document_indexer.specs.Contexts.{CanIndex, Records, Refuses};
@@ -8,7 +8,7 @@ ghost use Rattle.document_indexer.specs.Steps.{kind_steps, plain_steps, text_ste
 
 use crate::index_facet::index_facet;
 use crate::index_json::index_json;
-use crate::term_indexer::TermIndexer;
+use crate::indexing_context::IndexingContext;
 use common::Analyzer;
 use definitions::Fault;
 use document_values::CompactDocValue;
@@ -17,7 +17,7 @@ use terms::{FastValue, Field, Type};
 
 /// Records the terms of a value of an indexed field.
 pub(crate) fn index_value<A: Analyzer>(
-    indexer: &mut TermIndexer<'_>,
+    indexer: &mut IndexingContext<'_>,
     analyzer: &A,
     field: Field,
     entry: &FieldEntry,
@@ -42,7 +42,7 @@ pub(crate) fn index_value<A: Analyzer>(
 
 /// Records the tokens of a text. A pre-tokenised text has its own.
 fn index_text<A: Analyzer>(
-    indexer: &mut TermIndexer<'_>,
+    indexer: &mut IndexingContext<'_>,
     analyzer: &A,
     field: Field,
     entry: &FieldEntry,
@@ -67,7 +67,7 @@ fn index_text<A: Analyzer>(
 
 /// Records a number from 0 below 2^64.
 fn index_u64(
-    indexer: &mut TermIndexer<'_>,
+    indexer: &mut IndexingContext<'_>,
     field: Field,
     value: CompactDocValue<'_>,
 ) -> Result<(), Fault>
@@ -83,7 +83,7 @@ fn index_u64(
 
 /// Records a number from -2^63 below 2^63.
 fn index_i64(
-    indexer: &mut TermIndexer<'_>,
+    indexer: &mut IndexingContext<'_>,
     field: Field,
     value: CompactDocValue<'_>,
 ) -> Result<(), Fault>
@@ -99,7 +99,7 @@ fn index_i64(
 
 /// Records true or false.
 fn index_bool(
-    indexer: &mut TermIndexer<'_>,
+    indexer: &mut IndexingContext<'_>,
     field: Field,
     value: CompactDocValue<'_>,
 ) -> Result<(), Fault>
@@ -115,7 +115,7 @@ fn index_bool(
 
 /// Records a point of time, cut to whole seconds.
 fn index_date(
-    indexer: &mut TermIndexer<'_>,
+    indexer: &mut IndexingContext<'_>,
     field: Field,
     value: CompactDocValue<'_>,
 ) -> Result<(), Fault>
@@ -131,7 +131,7 @@ fn index_date(
 
 /// Records a byte string.
 fn index_bytes(
-    indexer: &mut TermIndexer<'_>,
+    indexer: &mut IndexingContext<'_>,
     field: Field,
     value: CompactDocValue<'_>,
 ) -> Result<(), Fault>
@@ -147,7 +147,7 @@ fn index_bytes(
 
 /// Records an address.
 fn index_ip_addr(
-    indexer: &mut TermIndexer<'_>,
+    indexer: &mut IndexingContext<'_>,
     field: Field,
     value: CompactDocValue<'_>,
 ) -> Result<(), Fault>
@@ -165,7 +165,7 @@ fn index_ip_addr(
 
 /// Records a value of eight bytes.
 fn index_fast_value<T: FastValue>(
-    indexer: &mut TermIndexer<'_>,
+    indexer: &mut IndexingContext<'_>,
     field: Field,
     value: T,
 ) -> Result<(), Fault>

@@ -9,6 +9,5 @@ mod index_value;
 mod indexing_context;
 pub mod indexing_laws;
 mod indexing_positions;
-mod term_indexer;
 
 pub use document_indexer::DocumentIndexer;

@@ -8,11 +8,11 @@ use Rattle.document_indexer.proofs.document_indexer.DocumentIndexer.add.Goals as
 pub returns-in_err-index_document-clause-err : goal.returns-in_err-index_document-clause-err
 returns-in_err-index_document-clause-err g c docs h =
     let p = err_from_is_err_and c.from_residual.result c.from_residual.ensures.1 in
-    rw (p.1, p.2) (document_refused c.args.self.now.schema.now (g.A.Analyzer.analyze c.args.self.now.analyzer.now) c.args.self.now.terms c.args.self.now.terms docs c.args.doc.now h c.in_err-index_document.field-0.0 c.in_err-index_document.ensures.err)
+    rw (p.1, p.2) (document_refused c.args.self.now.schema.now (g.A.Analyzer.analyze c.args.self.now.analyzer.now) c.args.self.now.context c.args.self.now.context docs c.args.doc.now h c.in_err-index_document.field-0.0 c.in_err-index_document.ensures.err)
 
 pub returns-clause-ok : goal.returns-clause-ok
 returns-clause-ok g c docs h =
     let schema = c.args.self.now.schema.now in
     let analyze = g.A.Analyzer.analyze c.args.self.now.analyzer.now in
     let P : Context → Type 0 = λ x. HasRecorded schema analyze x (docs ++ c.args.doc.now ∷ []) in
-    subst P (sym c.end_document.ensures) (document_more schema analyze c.args.self.now.terms c.index_document.new.indexer docs c.args.doc.now h c.in_ok-index_document.ensures.ok)
+    subst P (sym c.end_document.ensures) (document_more schema analyze c.args.self.now.context c.index_document.new.indexer docs c.args.doc.now h c.in_ok-index_document.ensures.ok)

@@ -1,47 +1,38 @@
-use Rattle.std.proofs.Common.{[], ◌∙◌, ◌++◌, ◌^◌, ◌≡◌, ◌∷◌, List, Some, ap, bytes_eq, cond, map, min, subst, ℕ}
-use Rattle.std.proofs.lemmas.Result.{err_from_is_err_and}
-use Rattle.std.specs.Map.{lookup}
+use Rattle.std.proofs.Common.{[], ◌∷◌, ◌≡◌, IfErr, List, OnOk, map, rules, subst, sym, ℕ}
 use Rattle.common.specs.Token.{token_of}
 use Rattle.definitions.specs.Analyzers.{kept}
-use Rattle.definitions.specs.Places.{next_start}
-use Rattle.definitions.specs.Values.{Token}
-use Rattle.postings_writer.specs.Occurrences.{Occurrence}
-use Rattle.postings_writer.specs.Texts.{IsTextRefusal, text_occurrences}
-use Rattle.postings_writer.specs.Writers.{Stands}
-use Rattle.document_indexer.specs.Contexts.{Context, Records, Refuses, start_of}
+use Rattle.definitions.specs.Schema.{text_kind}
+use Rattle.definitions.specs.Terms.{term_bytes}
+use Rattle.document_indexer.specs.Contexts.{CanIndex, Context, Records, Refuses, context}
 use Rattle.document_indexer.specs.Steps.{text_step}
-use Rattle.document_indexer.proofs.Recording.{text_recorded, text_refused}
+use Rattle.document_indexer.proofs.PathTerms.{known_token}
 use Rattle.document_indexer.proofs.indexing_context.IndexingContext.index_text.Goals as goal
 
-pub returns-in_err-next-clause-err : goal.returns-in_err-next-clause-err
-returns-in_err-next-clause-err c =
-    let ts : List Token = kept (map token_of c.args.tokens.now) in
-    let prefix : List ℕ = c.args.term_buffer.now.items in
-    let doc : ℕ = c.self.inside.doc in
-    let fault = c.in_err-next.field-0.0 in
-    let start = c.start_of-start.result in
-    let P : Context → Type 0 = λ x. Refuses x (text_step prefix c.args.gap ts ∷ []) fault in
-    let p = err_from_is_err_and c.from_residual.result c.from_residual.ensures.1 in
-    let stream : kept (c.new-stream.result.1) ≡ ts = ap (λ (s : _). kept s.1) c.new-stream.ensures in
-    let Q : List Token → Type 0 = λ xs. (os : List Occurrence) (real : ℕ) → Stands c.self.inside.postings_writer os → start ≡ min (2 ^ 31) real → IsTextRefusal fault os doc prefix c.args.gap real xs in
-    rw (p.1, p.2) (subst P c.self.view_is (text_refused fault c.self.inside.postings_writer c.self.inside.positions doc prefix c.args.gap start ts (c.start_of-start.ensures ∙ ap (λ bs. start_of doc bs c.self.inside.positions) c.deref.ensures.value) (subst Q stream c.in_err-next.ensures.err)))
+pub record_text-requires-clause-ready : goal.record_text-requires-clause-ready
+record_text-requires-clause-ready c = (let P : Context → Type 0 = λ x. CanIndex x c.args.field text_kind in (subst P (sym c.self.view_is) c.requires).0)
+
+pub record_text-requires-clause-known : goal.record_text-requires-clause-known
+record_text-requires-clause-known c =
+    let was : Context = context c.self.inside.postings_writer c.self.inside.positions c.self.inside.doc in
+    let buffer : c.push_term_header.new.bytes.items ≡ term_bytes c.args.field text_kind [] = search rules in
+    let P : Context → Type 0 = λ x. CanIndex x c.args.field text_kind in
+    known_token was c.args.field c.push_term_header.new.bytes.items (subst P (sym c.self.view_is) c.requires) buffer
 
 pub returns-clause-ok : goal.returns-clause-ok
 returns-clause-ok c =
-    let ts : List Token = kept (map token_of c.args.tokens.now) in
-    let prefix : List ℕ = c.args.term_buffer.now.items in
-    let doc : ℕ = c.self.inside.doc in
-    let start = c.start_of-start.result in
-    let next = c.in_ok-next.next in
-    let now : Context = record { writer = c.index_text.new.self; positions = c.set_start.new.self; doc = doc } in
-    let P : Context → Type 0 = λ x. Records x now (text_step prefix c.args.gap ts ∷ []) in
-    let stream : kept (c.new-stream.result.1) ≡ ts = ap (λ (s : _). kept s.1) c.new-stream.ensures in
-    let Q : List Token → Type 0 = λ xs. (os : List Occurrence) (real : ℕ) → Stands c.self.inside.postings_writer os → start ≡ min (2 ^ 31) real → Stands c.index_text.new.self (os ++ text_occurrences doc prefix real xs) in
-    let R : List Token → Type 0 = λ xs. (real : ℕ) → start ≡ min (2 ^ 31) real → next ≡ min (2 ^ 31) (next_start c.args.gap real xs) in
-    let same = c.in_ok-next.ensures.same in
-    let S : List ℕ → Type 0 = λ bs. (other : List ℕ) → lookup (bytes_eq other) c.set_start.new.self ≡ cond (bytes_eq bs other) (Some (doc, next)) (lookup (bytes_eq other) c.self.inside.positions) in
-    subst P c.self.view_is (text_recorded c.self.inside.postings_writer c.index_text.new.self c.self.inside.positions c.set_start.new.self doc prefix c.args.gap start next ts
-    (c.start_of-start.ensures ∙ ap (λ bs. start_of doc bs c.self.inside.positions) c.deref.ensures.value)
-    (subst Q stream c.in_ok-next.ensures.ok)
-    (subst R stream c.in_ok-next.ensures.next)
-    same.0 same.1 (subst S (c.deref-2.ensures.value ∙ same.2) c.in_ok-set_start.ensures))
+    let ts = kept (map token_of c.args.tokens.now) in
+    let was : Context = context c.self.inside.postings_writer c.self.inside.positions c.self.inside.doc in
+    let now : Context = context c.record_text.new.postings_writer c.record_text.new.positions c.self.inside.doc in
+    let buffer : c.push_term_header.new.bytes.items ≡ term_bytes c.args.field text_kind [] = search rules in
+    let P : Context → Type 0 = λ x. OnOk c.record_text.result (Records x now (text_step (term_bytes c.args.field text_kind []) 1 ts ∷ [])) in
+    let Q : List ℕ → Type 0 = λ bs. OnOk c.record_text.result (Records was now (text_step bs 1 ts ∷ [])) in
+    subst P c.self.view_is (subst Q buffer c.record_text.ensures.ok)
+
+pub returns-clause-err : goal.returns-clause-err
+returns-clause-err c =
+    let ts = kept (map token_of c.args.tokens.now) in
+    let was : Context = context c.self.inside.postings_writer c.self.inside.positions c.self.inside.doc in
+    let buffer : c.push_term_header.new.bytes.items ≡ term_bytes c.args.field text_kind [] = search rules in
+    let P : Context → Type 0 = λ x. IfErr c.record_text.result (Refuses x (text_step (term_bytes c.args.field text_kind []) 1 ts ∷ [])) in
+    let Q : List ℕ → Type 0 = λ bs. IfErr c.record_text.result (Refuses was (text_step bs 1 ts ∷ [])) in
+    subst P c.self.view_is (subst Q buffer c.record_text.ensures.err)
