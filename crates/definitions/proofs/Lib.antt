@@ -26,3 +26,4 @@ pub mod CallAnswers
 pub mod CallMoments
 pub mod PrefixRanges
 pub mod DocumentBounds
+pub mod MergedRows

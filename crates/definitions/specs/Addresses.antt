@@ -5,6 +5,7 @@ use Rattle.std.specs.Int.{to_be_bytes, w32}
 use Rattle.std.specs.Char.{digit_value, is_ascii_digit, is_ascii_hexdigit}
 use Rattle.std.specs.Fmt.{digits}
 
+-- the parts round a byte
 abbrev pub parts_at : ℕ → List ℕ → List (List ℕ)
 parts_at c s = slice_split (◌==◌ c) s
 
@@ -65,6 +66,7 @@ address_in s = elim (quad_in s) [ Some n ↦ Some (mapped n) | None ↦ option_m
 
 -- ---- writing
 
+-- four numbers with dots between them
 abbrev pub quad_text : ℕ → List ℕ
 quad_text n = join_with_byte 46 (map decimal (to_be_bytes w32 n))
 

@@ -8,6 +8,7 @@ use Rattle.definitions.specs.Values.{AreTokens, Token, Value, pre_tok_str, str}
 abbrev pub Analyzer : Type 0
 Analyzer = List ℕ → List ℕ → List Token
 
+-- a token of one place
 abbrev pub one_token : ℕ → List ℕ → Token
 one_token place s = record { position = place; position_length = 1; text = s }
 
@@ -35,6 +36,7 @@ run_token r = if nat_le (length r.1) max_run_len then Some (one_token r.0 (map t
 abbrev pub default_tokens : List ℕ → List Token
 default_tokens s = filter_map run_token (enumerate_from 0 (runs s))
 
+-- whether it is a name that the analyzer below knows
 abbrev pub is_raw_or_default : List ℕ → Bool
 is_raw_or_default name = bytes_eq name (codes "raw") || bytes_eq name (codes "default")
 

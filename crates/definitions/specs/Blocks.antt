@@ -8,6 +8,7 @@ use Rattle.definitions.specs.State.{pieces}
 use Rattle.definitions.specs.Terms.{field_of}
 use Rattle.definitions.specs.Values.{Document}
 
+-- how many documents a full block has
 abbrev pub block_len : ℕ
 block_len = 128
 
@@ -15,6 +16,7 @@ block_len = 128
 abbrev pub max_bound_count : ℕ
 max_bound_count = 254
 
+-- the least number, and 0 of none
 abbrev pub least_of : List ℕ → ℕ
 least_of [] = 0
 least_of (n ∷ []) = n

@@ -22,15 +22,18 @@ pub record Configuration : Type 0 where
   pub similarity : Similarity
   pub docs_per_segment : ℕ
 
+-- which calls an index takes: all, those that only read, or none
 pub data Status : Type 0 where
   ready : Status
   writer_closed : Status
   closed : Status
 
+-- what an index has, and which calls it takes
 pub record Index : Type 0 where
   pub state : State
   pub status : Status
 
+-- the calls that change an index or ask it
 pub data Call : Type 0 where
   add_json : List ℕ → Call
   add_value : json.Data → Call
@@ -41,24 +44,29 @@ pub data Call : Type 0 where
   search_best : Query → ℕ → Call
   count_all : Query → Call
 
+-- whether a call adds a document
 abbrev pub is_add : Call → Bool
 is_add (add_json s) = true
 is_add (add_value d) = true
 is_add (add_document doc) = true
 is_add _ = false
 
+-- whether it commits
 abbrev pub is_commit : Call → Bool
 is_commit commit_pending = true
 is_commit _ = false
 
+-- whether it merges
 abbrev pub is_merge : Call → Bool
 is_merge (merge_range from to) = true
 is_merge _ = false
 
+-- whether it searches
 abbrev pub is_search : Call → Bool
 is_search (search_best q k) = true
 is_search _ = false
 
+-- whether it changes nothing
 abbrev pub only_reads : Call → Bool
 only_reads (search_best q k) = true
 only_reads (count_all q) = true
@@ -79,12 +87,15 @@ has_unknown_field schema doc = list_any (λ p. nat_le (length schema) p.0) doc
 abbrev pub document_json : Schema → List ℕ → Result Document Fault
 document_json schema s = if_indexable schema (read_json schema s)
 
+-- the same of a JSON value
 abbrev pub document_value : Schema → json.Data → Result Document Fault
 document_value schema d = if_indexable schema (read_data schema d)
 
+-- the same of a document, where a field that the schema lacks comes first
 abbrev pub document_given : Schema → Document → Result Document Fault
 document_given schema doc = if has_unknown_field schema doc then Err faults.UnknownField else if_indexable schema (Ok doc)
 
+-- why no term is deleted: its field is unknown, or not indexed
 abbrev pub delete_fault : Schema → List ℕ → Option Fault
 delete_fault schema t = first_fault ((is_unknown schema t, faults.UnknownField) ∷ (is_not_indexed schema t, faults.NotIndexed) ∷ [])
 
@@ -105,11 +116,13 @@ status_fault ready call = None
 status_fault writer_closed call = if only_reads call then None else Some faults.WriterClosed
 status_fault closed call = Some faults.Closed
 
+-- what a call is refused by: the status first, then its own tests
 abbrev pub call_fault : Configuration → Index → Call → Option Fault
 call_fault c x call = option_or (status_fault x.status call) (own_fault c x.state call)
 
 -- ---- what stands after a call
 
+-- the state after an add, where a document was read
 abbrev pub after_document : Result Document Fault → State → State
 after_document (Ok doc) s = after_add doc s
 after_document (Err fault) s = s

@@ -9,6 +9,7 @@ date_in s = result_ok (parse_timestamp s)
 
 -- ---- the calendar
 
+-- whether a year has 366 days
 abbrev pub is_leap : ℕ → Bool
 is_leap year = (year % 4 == 0) && (not (year % 100 == 0) || (year % 400 == 0))
 
@@ -25,6 +26,7 @@ abbrev pub year_of : ℕ → ℕ → ℕ
 year_of zero day = 0
 year_of (suc year) day = if nat_le (days_before (suc year)) day then suc year else year_of year day
 
+-- the days of each month of a year
 abbrev pub month_lengths : ℕ → List ℕ
 month_lengths year = 31 ∷ (if is_leap year then 29 else 28) ∷ 31 ∷ 30 ∷ 31 ∷ 30 ∷ 31 ∷ 31 ∷ 30 ∷ 31 ∷ 30 ∷ 31 ∷ []
 
@@ -48,6 +50,7 @@ without_last_zeros (d ∷ ds) = let rest = without_last_zeros ds in if (d == 48)
 abbrev pub fraction_text : ℕ → List ℕ
 fraction_text nanos = if nanos == 0 then [] else 46 ∷ without_last_zeros (padded 9 nanos)
 
+-- a month and a day, in two digits each
 abbrev pub month_text : ℕ × ℕ → List ℕ
 month_text p = padded 2 p.0 ++ (codes "-" ++ padded 2 p.1)
 

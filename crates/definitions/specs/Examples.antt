@@ -56,6 +56,7 @@ json_data = record (indexed_entry "data" json_kind) { record_option = with_freqs
 abbrev pub book : String → ℕ → Document
 book title year = (0, str (codes title)) ∷ (1, u64 year) ∷ []
 
+-- three books
 abbrev pub old_sea : Document
 old_sea = book "the old sea" 1952
 
@@ -65,6 +66,7 @@ sea_wind = book "sea sea wind" 1987
 abbrev pub wind : Document
 wind = book "wind" 1952
 
+-- and all of them
 abbrev pub three_books : List Document
 three_books = old_sea ∷ sea_wind ∷ wind ∷ []
 

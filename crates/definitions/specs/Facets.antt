@@ -6,6 +6,7 @@ use Rattle.std.specs.List.{join_with_byte, list_any, onto_first, starts_with}
 abbrev pub backslash : ℕ
 backslash = 92
 
+-- what stands before each step
 abbrev pub slash : ℕ
 slash = 47
 
@@ -13,6 +14,7 @@ slash = 47
 abbrev pub root : List (List ℕ)
 root = [] ∷ []
 
+-- whether a facet is one empty step
 abbrev pub is_root : List (List ℕ) → Bool
 is_root ([] ∷ []) = true
 is_root _ = false

@@ -30,6 +30,7 @@ abbrev mutual
   members_have_foreign_leaf no_members = false
   members_have_foreign_leaf (member k v ms) = has_foreign_leaf v || members_have_foreign_leaf ms
 
+-- whether the kind is JSON
 abbrev pub is_json : Kind → Bool
 is_json json_kind = true
 is_json _ = false
@@ -42,6 +43,7 @@ takes e v = is_of_kind e.kind v && not (is_json e.kind && has_foreign_leaf v)
 abbrev pub max_nesting : ℕ
 max_nesting = 128
 
+-- whether a value of a field can be indexed
 abbrev pub is_indexable_value : Schema → ℕ × Value → Bool
 is_indexable_value schema (field, v) = nat_le (nesting v) max_nesting && not (field_has (λ e. is_indexed e && not (takes e v)) schema field)
 

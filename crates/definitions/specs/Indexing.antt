@@ -25,9 +25,11 @@ path_terms analyze field e ls path = map (λ p. (json_term field path (type_code
 abbrev pub leaf_term : ℕ → List ℕ × Value → Option Placed
 leaf_term field l = if is_text_leaf l.1 then None else option_map (λ leaf. (json_term field l.0 leaf, 0)) (leaf_bytes l.1)
 
+-- the terms of leaves: texts path by path, and then the others
 abbrev pub leaves_terms : Analyzer → ℕ → Entry → List (List ℕ × Value) → List Placed
 leaves_terms analyze field e ls = flat_map (path_terms analyze field e ls) (text_paths ls) ++ filter_map (leaf_term field) ls
 
+-- the terms of the values of a JSON field
 abbrev pub json_terms : Analyzer → ℕ → Entry → List Value → List Placed
 json_terms analyze field e values = leaves_terms analyze field e (flat_map (leaves e.expand_dots []) values)
 
@@ -40,6 +42,7 @@ facet_terms field _ = []
 abbrev pub value_terms : ℕ → Kind → List Value → List Placed
 value_terms field kind values = map (λ payload. (term_bytes field kind payload, 0)) (filter_map (value_bytes kind) values)
 
+-- the terms of values of a kind
 abbrev pub kind_terms : Kind → Analyzer → ℕ → Entry → List Value → List Placed
 kind_terms text_kind analyze field e values = text_terms analyze field e values
 kind_terms json_kind analyze field e values = json_terms analyze field e values

@@ -4,6 +4,7 @@ use Rattle.std.specs.List.{list_any}
 use Rattle.definitions.specs.Terms.{path_of_keys}
 use Rattle.definitions.specs.Values.{Members, Value, Values, array, member, no_members, no_values, object, str, value}
 
+-- whether a key holds U+0000
 abbrev pub has_zero : List ℕ → Bool
 has_zero key = list_any (◌==◌ 0) key
 
@@ -32,6 +33,7 @@ abbrev pub leaf_text : Value → Option (List ℕ)
 leaf_text (str s) = Some s
 leaf_text _ = None
 
+-- whether a leaf is a text
 abbrev pub is_text_leaf : Value → Bool
 is_text_leaf v = is_some (leaf_text v)
 

@@ -5,6 +5,7 @@ use Rattle.definitions.specs.Analyzers.{Analyzer, tokens_of}
 use Rattle.definitions.specs.Schema.{Kind, Schema, text_kind}
 use Rattle.definitions.specs.Values.{Document, Value, values_of}
 
+-- the length of values of a kind: of text its tokens, else how many there are
 abbrev pub kind_len : Kind → Analyzer → List ℕ → List Value → ℕ
 kind_len text_kind analyze tokenizer values = sum_by length (filter_map (tokens_of analyze tokenizer) values)
 kind_len _ analyze tokenizer values = length values

@@ -51,6 +51,7 @@ pub mod Answers
 pub mod Prefixes
 pub mod QueryTerms
 pub mod KeptLengths
+pub mod Merging
 pub mod Disk
 pub mod Moments
 pub mod Examples

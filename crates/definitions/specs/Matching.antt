@@ -14,6 +14,7 @@ agrees (must, m) = m
 agrees (should, m) = true
 agrees (must_not, m) = not m
 
+-- whether a clause is a should clause that matches
 abbrev pub is_met_should : Occur × Bool → Bool
 is_met_should (should, m) = m
 is_met_should (must, m) = false

@@ -76,5 +76,6 @@ prefix_stands terms prefix place = list_any (λ p. starts_with nat_eq p.0 prefix
 abbrev pub prefix_follows : Schema → Analyzer → Document → Terms → ℕ × List ℕ → Bool
 prefix_follows schema analyze doc whole (offset, prefix) = list_any (λ place. prefix_stands (terms_of schema analyze doc) prefix (place + (offset - last_offset whole))) (phrase_places (λ t. positions_of schema analyze t doc) whole 0)
 
+-- whether a phrase prefix matches: the last term in the order of offsets follows the others
 abbrev pub prefix_matches : Schema → Analyzer → Terms → Document → Bool
 prefix_matches schema analyze terms doc = elim (last_and_rest (by_offset terms)) [ None ↦ false | Some p ↦ prefix_follows schema analyze doc p.1 p.0 ]

@@ -16,6 +16,7 @@ pub record Posting : Type 0 where
   pub count : ℕ
   pub positions : List ℕ
 
+-- the posting of a document at a place, if it has the term
 abbrev pub posting_of : Schema → Analyzer → List ℕ → ℕ × Document → Option Posting
 posting_of schema analyze t (place, doc) = if holds schema analyze t doc then Some (record { doc = place; count = count_of schema analyze t doc; positions = positions_of schema analyze t doc }) else None
 

@@ -10,6 +10,7 @@ use Rattle.base64.specs.GeneralPurpose.{encode_of}
 use Rattle.base64.specs.Engines.{standard}
 use Rattle.serde_json.specs.Data as json
 
+-- a whole number as JSON
 abbrev pub int_json : ℤ → json.Num
 int_json (pos n) = json.unsigned n
 int_json (negsuc n) = json.negative (negsuc n)

@@ -6,6 +6,7 @@ use Rattle.definitions.specs.Schema.{IndexRecordOption}
 abbrev pub Terms : Type 0
 Terms = List (ℕ × List ℕ)
 
+-- what a clause asks of its query
 pub data Occur : Type 0 where
   must : Occur
   should : Occur

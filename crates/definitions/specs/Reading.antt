@@ -35,12 +35,15 @@ below limit n = if nat_lt n limit then Some n else None
 abbrev pub after_sign : List ℕ → List ℕ → List ℕ
 after_sign sign s = if starts_with nat_eq s sign then drop 1 s else s
 
+-- decimal text of a u64; a `+` may stand before
 abbrev pub u64_text : List ℕ → Option Value
 u64_text s = option_map u64 (option_and_then (below (2 ^ 64)) (decimal_in (after_sign (codes "+") s)))
 
+-- decimal text of an i64; a `+` or a `-` may stand before
 abbrev pub i64_text : List ℕ → Option Value
 i64_text s = if starts_with nat_eq s (codes "-") then option_map (λ n. i64 (neg_ℤ (pos n))) (option_and_then (below (2 ^ 63 + 1)) (decimal_in (drop 1 s))) else option_map (λ n. i64 (pos n)) (option_and_then (below (2 ^ 63)) (decimal_in (after_sign (codes "+") s)))
 
+-- the text of a bool
 abbrev pub bool_text : List ℕ → Option Value
 bool_text s = if bytes_eq s (codes "true") then Some (bool true) else (if bytes_eq s (codes "false") then Some (bool false) else None)
 
@@ -52,6 +55,7 @@ i64_number (json.unsigned n) = if nat_lt n (2 ^ 63) then Ok (i64 (pos n)) else E
 i64_number (json.negative z) = Ok (i64 z)
 i64_number (json.float x) = Err FloatValue
 
+-- a whole number that fits a u64
 abbrev pub u64_number : json.Num → Result Value Fault
 u64_number (json.unsigned n) = Ok (u64 n)
 u64_number (json.negative z) = Err OverflowError
@@ -88,6 +92,7 @@ abbrev mutual
 abbrev pub if_coerced : Bool → Result Value Fault → Result Value Fault
 if_coerced coerce r = if coerce then r else Err TypeError
 
+-- a bool as JSON text
 abbrev pub bool_json : Bool → List ℕ
 bool_json b = if b then codes "true" else codes "false"
 
@@ -95,6 +100,7 @@ bool_json b = if b then codes "true" else codes "false"
 abbrev pub date_value : List ℕ → Result Value Fault
 date_value s = elim (date_in s) [ None ↦ Err ParseError | Some nanos ↦ if int_le (neg_ℤ (pos (2 ^ 63))) nanos && int_lt nanos (pos (2 ^ 63)) then Ok (date nanos) else Err OverflowError ]
 
+-- a value of a kind from JSON, and why it is none
 abbrev pub read_kind : Kind → Bool → json.Data → Result Value Fault
 read_kind text_kind coerce (json.string s) = Ok (str s)
 read_kind text_kind coerce (json.number n) = if_coerced coerce (Ok (str (number_text n)))

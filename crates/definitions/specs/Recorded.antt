@@ -28,6 +28,7 @@ abbrev pub insert_ascending : ℕ → List ℕ → List ℕ
 insert_ascending n [] = n ∷ []
 insert_ascending n (m ∷ ms) = let rest = insert_ascending n ms in if nat_le n m then n ∷ m ∷ ms else m ∷ rest
 
+-- numbers in ascending order, repeats kept
 abbrev pub ascending : List ℕ → List ℕ
 ascending [] = []
 ascending (n ∷ ns) = insert_ascending n (ascending ns)

@@ -34,9 +34,11 @@ abbrev mutual
 
 -- ---- the tests of a term
 
+-- whether the schema lacks the field of a term
 abbrev pub is_unknown : Schema → List ℕ → Bool
 is_unknown schema t = nat_le (length schema) (field_of t)
 
+-- whether the field of a term is not indexed
 abbrev pub is_not_indexed : Schema → List ℕ → Bool
 is_not_indexed schema t = not (field_has is_indexed schema (field_of t))
 
@@ -44,6 +46,7 @@ is_not_indexed schema t = not (field_has is_indexed schema (field_of t))
 abbrev pub is_mismatched : Schema → List ℕ → Bool
 is_mismatched schema t = not (field_has (λ e. has_kind e.kind t) schema (field_of t)) || (has_kind json_kind t && is_none (inner_kind t))
 
+-- whether the field of a term records no positions
 abbrev pub has_no_positions : Schema → List ℕ → Bool
 has_no_positions schema t = not (field_has (λ e. has_positions e.record_option) schema (field_of t))
 
@@ -53,6 +56,7 @@ has_no_positions schema t = not (field_has (λ e. has_positions e.record_option)
 abbrev pub Test : Type 0
 Test = Bool × Fault
 
+-- the tests of a node's terms
 abbrev pub term_tests : Schema → List (List ℕ) → List Test
 term_tests schema ts = (list_any (is_unknown schema) ts, faults.UnknownField) ∷ (list_any (is_not_indexed schema) ts, faults.NotIndexed) ∷ (list_any (is_mismatched schema) ts, faults.TypeMismatch) ∷ []
 
@@ -60,6 +64,7 @@ term_tests schema ts = (list_any (is_unknown schema) ts, faults.UnknownField) �
 abbrev pub max_offset : ℕ
 max_offset = 2 ^ 30
 
+-- the tests of a phrase's terms, beside those of all terms
 abbrev pub phrase_tests : Schema → Terms → List Test
 phrase_tests schema terms = (list_any (λ t. has_no_positions schema t.1) terms, faults.NoPositions) ∷ (list_any (λ t. not (is_text_term t.1)) terms, faults.NotText) ∷ (list_any (λ t. nat_lt max_offset t.0) terms, faults.OffsetTooLarge) ∷ []
 
@@ -67,6 +72,7 @@ phrase_tests schema terms = (list_any (λ t. has_no_positions schema t.1) terms,
 abbrev pub all_expansions : ℕ
 all_expansions = 4294967295
 
+-- whether a number is below 0 or above the greatest
 abbrev pub is_outside : ℕ → ℤ → Bool
 is_outside greatest z = int_lt z (pos 0) || int_lt (pos greatest) z
 
@@ -89,9 +95,11 @@ is_bad_factor (boost factor q) = is_outside max_score factor
 is_bad_factor (const_score constant q) = is_outside max_score constant
 is_bad_factor _ = false
 
+-- whether a factor, the product of boosts or the bound of a node is too large
 abbrev pub is_score_too_large : (List ℕ → ℕ) → ℕ → Query → Bool
 is_score_too_large weight b q = is_bad_factor q || nat_lt max_score (product b q) || nat_lt max_score (bound weight b q)
 
+-- the fault of the first test that fails
 abbrev pub first_fault : List Test → Option Fault
 first_fault [] = None
 first_fault (t ∷ ts) = if t.0 then Some t.1 else first_fault ts

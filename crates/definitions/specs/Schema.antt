@@ -5,6 +5,7 @@ use Rattle.std.specs.Option.{option_map_or}
 use Rattle.definitions.specs.declared.fault.Fault.{Fault}
 use Rattle.definitions.specs.declared.fault.Fault.TheVariants.{BadName, DuplicateName, TooManyFields}
 
+-- the types of values that a field may take
 pub data Kind : Type 0 where
   text_kind : Kind
   u64_kind : Kind
@@ -38,11 +39,13 @@ pub data IndexRecordOption : Type 0 where
   with_freqs : IndexRecordOption
   with_freqs_and_positions : IndexRecordOption
 
+-- whether counts are recorded
 abbrev pub has_freq : IndexRecordOption → Bool
 has_freq basic = false
 has_freq with_freqs = true
 has_freq with_freqs_and_positions = true
 
+-- whether positions are recorded
 abbrev pub has_positions : IndexRecordOption → Bool
 has_positions basic = false
 has_positions with_freqs = false
@@ -76,9 +79,11 @@ has_lengths facet_kind = false
 has_lengths json_kind = false
 has_lengths _ = true
 
+-- whether the field keeps lengths
 abbrev pub keeps_length : Entry → Bool
 keeps_length e = has_lengths e.kind && (is_indexed e && e.fieldnorms)
 
+-- whether the kind is text
 abbrev pub is_text : Kind → Bool
 is_text text_kind = true
 is_text _ = false
@@ -129,6 +134,7 @@ cleaned_as facet_kind e = record (without_indexing e) { indexed = true; fieldnor
 cleaned_as json_kind e = record (indexing_cleaned e) { coerce = false }
 cleaned_as _ e = record (without_indexing e) { coerce = false; expand_dots = false }
 
+-- an entry of a schema: its name is good, its texts are texts, and it has the options of its kind alone
 pub record IsEntry (e : Entry) : Type 0 where
   pub good_name : IsTrue (is_valid_field_name e.name)
   pub text_name : IsUtf8 e.name
@@ -140,6 +146,7 @@ abbrev pub AreDistinct : Schema → Type 0
 AreDistinct [] = ⊤
 AreDistinct (e ∷ es) = AllByRecursion (λ f. f.name ≢ e.name) es × AreDistinct es
 
+-- entries of distinct names, and no more than a schema has
 pub record IsSchema (schema : Schema) : Type 0 where
   pub entries : AllByRecursion IsEntry schema
   pub distinct : AreDistinct schema

@@ -11,6 +11,7 @@ use Rattle.definitions.specs.Schema.{IndexRecordOption, Schema, field_has, has_f
 use Rattle.definitions.specs.Terms.{field_of}
 use Rattle.definitions.specs.Values.{Document}
 
+-- the greatest score
 abbrev pub max_score : ℕ
 max_score = 1_000_000_000_000_000
 
@@ -25,6 +26,7 @@ DontFall [] = ⊤
 DontFall (n ∷ []) = ⊤
 DontFall (n ∷ m ∷ ns) = (n ≤ m) × DontFall (m ∷ ns)
 
+-- weights up to the greatest score, and 256 norms of 32 bits that don't fall
 pub record IsSimilarity (s : Similarity) : Type 0 where
   pub weights : (t : List ℕ) → s.weight t ≤ max_score
   pub norm_for_each : length s.norms ≡ 256
@@ -52,6 +54,7 @@ query_count schema analyze t option doc = if has_freq option then count_of schem
 abbrev pub part_of : Schema → Analyzer → Similarity → Document → ℕ → ℕ → ℕ → ℕ
 part_of schema analyze sim doc field weight count = part weight count (slice_index sim.norms (length_id schema analyze field doc))
 
+-- the part that a term earns
 abbrev pub term_score : Schema → Analyzer → Similarity → Document → List ℕ → IndexRecordOption → ℕ
 term_score schema analyze sim doc t option = part_of schema analyze sim doc (field_of t) (sim.weight t) (query_count schema analyze t option doc)
 
@@ -64,6 +67,7 @@ phrase_field (t ∷ ts) = field_of t.1
 abbrev pub weight_sum : (List ℕ → ℕ) → Terms → ℕ
 weight_sum weight terms = sum_by (λ t. weight t.1) terms
 
+-- the part that a phrase earns
 abbrev pub phrase_score : Schema → Analyzer → Similarity → Document → Terms → ℕ → ℕ
 phrase_score schema analyze sim doc terms slop = part_of schema analyze sim doc (phrase_field terms) (weight_sum sim.weight terms) (phrase_count schema analyze terms slop doc)
 
@@ -71,6 +75,7 @@ phrase_score schema analyze sim doc terms slop = part_of schema analyze sim doc 
 abbrev pub prefix_score : Schema → Analyzer → Similarity → Document → Terms → ℕ
 prefix_score schema analyze sim doc whole = if length whole == 1 then 1 else phrase_score schema analyze sim doc whole 0
 
+-- the greatest number, and 0 of none
 abbrev pub greatest_of : List ℕ → ℕ
 greatest_of [] = 0
 greatest_of (n ∷ ns) = max n (greatest_of ns)

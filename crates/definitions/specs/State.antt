@@ -7,14 +7,17 @@ use Rattle.definitions.specs.Recorded.{holds}
 use Rattle.definitions.specs.Schema.{Schema}
 use Rattle.definitions.specs.Values.{Document}
 
+-- a call that waits for a commit
 pub data Pending : Type 0 where
   added : Document → Pending
   deleted : List ℕ → Pending
 
+-- the committed documents in groups, and the calls that wait
 pub record State : Type 0 where
   pub groups : List (List Document)
   pub pending : List Pending
 
+-- before any call
 abbrev pub nothing_yet : State
 nothing_yet = record { groups = []; pending = [] }
 
@@ -22,17 +25,21 @@ nothing_yet = record { groups = []; pending = [] }
 abbrev pub committed : State → List Document
 committed s = flat_map (λ group. group) s.groups
 
+-- how many groups there are
 abbrev pub num_segments : State → ℕ
 num_segments s = length s.groups
 
+-- how many committed documents there are
 abbrev pub num_docs : State → ℕ
 num_docs s = length (committed s)
 
 -- ---- add and delete: the call waits
 
+-- the document waits behind the calls before it
 abbrev pub after_add : Document → State → State
 after_add doc s = record s { pending = s.pending ++ (added doc ∷ []) }
 
+-- the term waits behind the calls before it
 abbrev pub after_delete : List ℕ → State → State
 after_delete t s = record s { pending = s.pending ++ (deleted t ∷ []) }
 
@@ -83,6 +90,7 @@ as_group (doc ∷ docs) = (doc ∷ docs) ∷ []
 abbrev pub merged : ℕ → ℕ → List (List Document) → List (List Document)
 merged from to groups = take from groups ++ (as_group (flat_map (λ group. group) (take (to - from) (drop from groups))) ++ drop to groups)
 
+-- the state after a merge of groups; the calls that wait stay
 abbrev pub after_merge : ℕ → ℕ → State → State
 after_merge from to s = record s { groups = merged from to s.groups }
 

@@ -38,6 +38,7 @@ pub data Stage : Type 0 where
   no_index : Held → Stage
   index_of : Schema → Settings → Index → Stage
 
+-- how texts are cut, and what stands on the device
 pub record Session : Type 0 where
   pub analysis : Analysis
   pub stage : Stage

@@ -7,6 +7,7 @@ use Rattle.definitions.specs.Facets.{encoded}
 use Rattle.definitions.specs.Schema.{Kind, all_kinds, bool_kind, bytes_kind, date_kind, facet_kind, i64_kind, ip_addr_kind, is_text, json_kind, text_kind, u64_kind}
 use Rattle.definitions.specs.Values.{Value, bool, bytes, date, facet, i64, ip_addr, str, u64}
 
+-- the byte that stands for a kind
 abbrev pub type_code : Kind → List ℕ
 type_code text_kind = codes "s"
 type_code u64_kind = codes "u"
@@ -71,9 +72,11 @@ json_term field path leaf = term_bytes field json_kind (path ++ (0 ∷ leaf))
 
 -- ---- what a term says
 
+-- the number of a term's field
 abbrev pub field_of : List ℕ → ℕ
 field_of t = from_be_bytes w32 (take 4 t)
 
+-- whether a term has the code of a kind
 abbrev pub has_kind : Kind → List ℕ → Bool
 has_kind kind t = bytes_eq (take 1 (drop 4 t)) (type_code kind)
 

@@ -64,6 +64,7 @@ abbrev pub AreTokensFrom : ℕ → List Token → Type 0
 AreTokensFrom least [] = ⊤
 AreTokensFrom least (t ∷ ts) = (least ≤ t.position) × IsUtf8 t.text × AreTokensFrom t.position ts
 
+-- the same from place 0 on
 abbrev pub AreTokens : List Token → Type 0
 AreTokens ts = AreTokensFrom 0 ts
 
@@ -99,5 +100,6 @@ abbrev mutual
   AreMembers no_members = ⊤
   AreMembers (member k v ms) = IsUtf8 k × IsValue v × AreMembers ms
 
+-- field numbers of 32 bits, and values that are values
 abbrev pub IsDocument : Document → Type 0
 IsDocument doc = AllByRecursion (λ p. (p.0 < 2 ^ 32) × IsValue p.1) doc

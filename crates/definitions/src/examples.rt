@@ -10,6 +10,7 @@ pub mod forms;
 pub mod history;
 pub mod lines;
 pub mod matching;
+pub mod merging;
 pub mod moments;
 pub mod phrases;
 pub mod prefixes;

@@ -7,6 +7,7 @@ pub mod examples;
 mod fault;
 pub mod grammar_laws;
 pub mod history_laws;
+pub mod merge_laws;
 pub mod prefix_laws;
 pub mod scan_laws;
 pub mod score_laws;

@@ -11,6 +11,7 @@ abbrev pub IsAscendingFrom : ℕ → List ℕ → Type 0
 IsAscendingFrom next [] = Unit {0}
 IsAscendingFrom next (doc ∷ docs) = (next ≤ doc) × IsAscendingFrom (doc + 1) docs
 
+-- each document less the least that may come
 abbrev pub deltas : ℕ → List ℕ → List ℕ
 deltas next [] = []
 deltas next (doc ∷ docs) = (doc - next) ∷ deltas (doc + 1) docs

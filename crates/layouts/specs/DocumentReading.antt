@@ -27,12 +27,14 @@ take_token least bs = do
   t ← take_text l.1
   only_if (nat_le least p.0) (Some (record { position = p.0; position_length = l.0; text = t.0 }, t.1))
 
+-- so many tokens that don't stand before a place
 abbrev pub take_tokens_from : ℕ → ℕ → List ℕ → Option (List Token × List ℕ)
 take_tokens_from least zero bs = Some ([], bs)
 take_tokens_from least (suc n) bs = do
   p ← take_token least bs
   taken_map (λ ts. p.0 ∷ ts) (take_tokens_from p.0.position n p.1)
 
+-- how many tokens there are, and these
 abbrev pub take_tokens : List ℕ → Option (List Token × List ℕ)
 take_tokens bs = do
   p ← take_vint bs
@@ -50,24 +52,30 @@ pub data Head : Type 0 where
 abbrev pub steps_in : List ℕ → List (List ℕ)
 steps_in text = slice_split (λ b. eqb b 0) text
 
+-- a text, made a value
 abbrev pub take_text_leaf : (List ℕ → Value) → List ℕ → Option (Head × List ℕ)
 take_text_leaf f bs = taken_map (λ s. leaf (f s)) (take_text bs)
 
+-- eight bytes, made a value
 abbrev pub take_u64_leaf : (ℕ → Value) → List ℕ → Option (Head × List ℕ)
 take_u64_leaf f bs = taken_map (λ n. leaf (f n)) (take_u64 bs)
 
+-- a byte string
 abbrev pub take_bytes_leaf : List ℕ → Option (Head × List ℕ)
 take_bytes_leaf bs = taken_map (λ b. leaf (bytes b)) (take_bytes bs)
 
+-- a byte that is 0 or 1
 abbrev pub take_bool_leaf : List ℕ → Option (Head × List ℕ)
 take_bool_leaf [] = None
 take_bool_leaf (b ∷ bs) = only_if (nat_lt b 2) (Some (leaf (bool (eqb b 1)), bs))
 
+-- sixteen bytes, the lowest first
 abbrev pub take_address_leaf : List ℕ → Option (Head × List ℕ)
 take_address_leaf bs = do
   l ← take_u64 bs
   taken_map (λ h. leaf (ip_addr (l.0 + 2 ^ 64 * h))) (take_u64 l.1)
 
+-- a text and its tokens
 abbrev pub take_pre_tokenized_leaf : List ℕ → Option (Head × List ℕ)
 take_pre_tokenized_leaf bs = do
   s ← take_text bs
@@ -89,16 +97,19 @@ take_coded tokens c bs =
     (if eqb c 12 then taken_map array_head (take_vint bs) else
     (if eqb c 13 then taken_map object_head (take_vint bs) else None)))))))))))
 
+-- a code, and what follows it
 abbrev pub take_head : Bool → List ℕ → Option (Head × List ℕ)
 take_head tokens [] = None
 take_head tokens (c ∷ bs) = take_coded tokens c bs
 
 -- ---- values
 
+-- values in a list, as an array holds them
 abbrev pub to_values : List Value → Values
 to_values [] = no_values
 to_values (v ∷ vs) = value v (to_values vs)
 
+-- members in a list, as an object holds them
 abbrev pub to_members : List (List ℕ × Value) → Members
 to_members [] = no_members
 to_members ((k, v) ∷ ms) = member k v (to_members ms)
@@ -167,8 +178,10 @@ abbrev pub skip_tokens_from : ℕ → ℕ → List ℕ → Option (List ℕ)
 skip_tokens_from least zero bs = Some bs
 skip_tokens_from least (suc n) bs = take_token least bs >>= (λ p. skip_tokens_from p.0.position n p.1)
 
+-- what stands behind how many tokens there are, and these
 abbrev pub skip_tokens : List ℕ → Option (List ℕ)
 skip_tokens bs = take_vint bs >>= (λ p. skip_tokens_from 0 p.0 p.1)
 
+-- the tokens that bytes begin with, and none where they begin with none
 abbrev pub tokens_at : List ℕ → List Token
 tokens_at bs = elim (take_tokens bs) [ None ↦ [] | Some p ↦ p.0 ]

@@ -37,6 +37,7 @@ makes_index schema settings = nat_le (length schema) max_index_fields && weighs_
 abbrev pub schema_at : json.Data → Option Schema
 schema_at d = get (codes "schema") d >>= (λ s. result_ok (schema_in s))
 
+-- the settings at their key
 abbrev pub settings_at : Schema → json.Data → Option Settings
 settings_at schema d = get (codes "settings") d >>= settings_in schema
 

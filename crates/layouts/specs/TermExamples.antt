@@ -28,5 +28,6 @@ titles = record {
       ∷ [];
 }
 
+-- their years
 abbrev pub years : IndexedField
 years = record { field = 1; terms = year_term 1952 (0 ∷ 2 ∷ []) (0x80 ∷ 0x81 ∷ []) ∷ year_term 1987 (1 ∷ []) (0x81 ∷ []) ∷ [] }
