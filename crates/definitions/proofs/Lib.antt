@@ -27,3 +27,4 @@ pub mod CallMoments
 pub mod PrefixRanges
 pub mod DocumentBounds
 pub mod MergedRows
+pub mod ScannedAnswers

@@ -1,6 +1,7 @@
 //! What the index promises, as definitions over plain lists, numbers and data types.
 #![tactic(auto)]
 
+pub mod answer_laws;
 pub mod call_laws;
 pub mod disk_laws;
 pub mod examples;

@@ -2,6 +2,7 @@
 
 ghost use Rattle.std.specs.Prelude.{[], ◌*◌, ◌+◌, ◌++◌, ◌-◌, ◌^◌, ◌∷◌, ◌≡◌, drop, length, map, replicate, sum};
 ghost use Rattle.std.specs.List.{range_with_len};
+ghost use Rattle.definitions.specs.Examples.{head_or};
 ghost use Rattle.definitions.specs.ScoredLists.{AreScoredFrom, at_least, boosted, documents_of, each_scoring, first_document, from_document, meeting_of, no_score, rescored, union_of, with_optional, without_all};
 ghost use Rattle.definitions.specs.Scoring.{best_and_tie, max_score};
 ghost use Rattle.definitions.specs.State.{pieces};
@@ -62,6 +63,7 @@ pub fn unions_combine_scores()
     ensures added { union_of sum (((1, 40) ∷ (3, 30) ∷ []) ∷ ((1, 30) ∷ (2, 30) ∷ []) ∷ []) ≡ (1, 70) ∷ (2, 30) ∷ (3, 30) ∷ [] }
     ensures best { union_of (best_and_tie 500) (((1, 40) ∷ (3, 30) ∷ []) ∷ ((1, 30) ∷ (2, 30) ∷ []) ∷ []) ≡ (1, 55) ∷ (2, 30) ∷ (3, 30) ∷ [] }
     ensures without { union_of no_score (((1, 40) ∷ (3, 30) ∷ []) ∷ ((1, 30) ∷ (2, 30) ∷ []) ∷ []) ≡ (1, 1) ∷ (2, 1) ∷ (3, 1) ∷ [] }
+    ensures in_order { union_of (head_or 0) (((1, 40) ∷ []) ∷ ((1, 30) ∷ []) ∷ []) ≡ (1, 40) ∷ [] }
     ensures score_of_zero { union_of sum (((1, 0) ∷ []) ∷ []) ≡ (1, 0) ∷ [] }
 {}
 
