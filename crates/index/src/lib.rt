@@ -9,6 +9,7 @@ pub mod file_laws;
 mod index;
 mod json_replies;
 mod requests;
+mod running;
 mod session;
 mod stage;
 
@@ -18,6 +19,7 @@ pub use document_values::OwnedValue;
 pub use index::{Index, Refused};
 pub use plain::{AnyQuery, BooleanQuery, Hit, Occur, TermQuery};
 pub use query_json::read_query;
-pub use session::{Session, reply, run, run_session};
+pub use running::{reply, run, run_session};
+pub use session::Session;
 pub use settings::Settings;
 pub use term_json::read_term;

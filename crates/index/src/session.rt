@@ -1,16 +1,13 @@
 //! A session: lines of JSON that speak to the index of a device.
 
-ghost use Rattle.std.specs.Prelude.{◌≡◌, IfErr, IfOk, IfSome, IsTrue, List, OnOk, Some, false, is_some, option_map, true, ℕ};
-ghost use Rattle.std.specs.Cow.{cow_str_bytes};
+ghost use Rattle.std.specs.Prelude.{◌≡◌, IfErr, IfOk, IsTrue, Some, false, is_some, option_map, true};
 ghost use Rattle.definitions.specs.Built.{built_request_in};
 ghost use Rattle.definitions.specs.Calls as calls;
-ghost use Rattle.definitions.specs.Lines.{lines_of};
 ghost use Rattle.definitions.specs.Requests as requests;
 ghost use Rattle.definitions.specs.Step as steps;
 ghost use Rattle.index.specs.AskedRequests.{index_request_of, request_of};
-ghost use Rattle.index.specs.Sessions.{HasHeld, IsKnown, LeavesStage, Replies, StandsFor, analysis_of, session_of, session_on};
 ghost use Rattle.index.specs.Standing.{Stands};
-ghost use Rattle.serve_lines.specs.Replies.{Writes, stops};
+ghost use Rattle.serve_lines.specs.Replies.{stops};
 ghost use Rattle.serde_json.specs.Read.{read};
 ghost use Rattle.serde_json.specs.View.{view};
 
@@ -18,7 +15,7 @@ use crate::answers::{answer, answer_change, refusal};
 use crate::index::Index;
 use crate::requests::{IndexRequest, Request, read_making, request_in};
 use crate::stage::Stage;
-use common::{Analyzer, Device, RunFault};
+use common::{Analyzer, Device};
 use definitions::Fault;
 use schema::Schema;
 use serde_json::Value as Json;
@@ -26,65 +23,19 @@ use serve_lines::Service;
 use settings::Settings;
 use std::alloc::{AllocError, Global};
 use std::borrow::CowStr;
-use std::io::{BufRead, Write};
 
 /// A device, with the index on it where one stands, of which requests are made line by line.
 #[derive(Drop)]
 pub struct Session<D: Device, A: Analyzer> {
-    alloc: Global,
+    pub(crate) alloc: Global,
     /// Taken out only while an index is made or opened.
     stage: Option<Stage<D, A>>,
     ghost full: { is_some stage ≡ true },
 }
 
-/// Answers the lines of an input one by one, until it ends, over a device on which no index stands yet.
-pub fn run<R: BufRead, W: Write, D: Device + Drop, A: Analyzer + Drop>(
-    alloc: Global,
-    reader: &mut R,
-    writer: &mut W,
-    device: D,
-    analyzer: A,
-) -> Result<(), RunFault>
-    // Of an honest device that holds no byte, or an index's file, the replies follow from that and from the lines.
-    ensures { (held : steps.Held) → HasHeld D.honest D.content device held
-        → OnOk result (IfSome (R.remaining reader.old) (λ input.
-        Writes steps.answer_of steps.after_line (session_on (analysis_of A.knows_name A.analyze analyzer) held)
-        (lines_of input) (W.contents writer.old) (W.contents writer.new))) }
-{
-    let mut session = Session::new(alloc, device, analyzer);
-    run_session(reader, writer, &mut session)
-}
-
-/// Answers the lines of an input one by one, until it ends.
-pub fn run_session<R: BufRead, W: Write, D: Device + Drop, A: Analyzer + Drop>(
-    reader: &mut R,
-    writer: &mut W,
-    session: &mut Session<D, A>,
-) -> Result<(), RunFault>
-    // Where the reader's bytes are known, the replies to its lines are written.
-    ensures { (s : steps.Session) → StandsFor session.old s
-        → OnOk result (IfSome (R.remaining reader.old) (λ input.
-        Writes steps.answer_of steps.after_line s (lines_of input) (W.contents writer.old) (W.contents writer.new))) }
-{
-    serve_lines::run(session.alloc, reader, writer, session)
-}
-
-/// The reply to one line of JSON, and what the session stands for after it. `OutOfMemory`, `Limit` and `Device` are
-/// the errors: after one the session need not stand for any state.
-pub fn reply<D: Device + Drop, A: Analyzer + Drop>(
-    session: &mut Session<D, A>,
-    line: &str,
-) -> Result<CowStr<'static>, Fault>
-    ensures text { (s : steps.Session) → StandsFor session.old s
-        → IfOk result (λ text. cow_str_bytes text ≡ steps.answer_of s line.now) }
-    ensures state { (s : steps.Session) → StandsFor session.old s
-        → OnOk result (StandsFor session.new (steps.after_line s line.now)) }
-    ensures err { IfErr result (λ fault. IsTrue (stops fault)) }
-{
-    session.reply(line)
-}
-
 impl<D: Device + Drop, A: Analyzer + Drop> Session<D, A> {
+    ghost use Rattle.index.specs.Sessions.{HasHeld, IsKnown, StandsFor, analysis_of, session_of, session_on};
+
     /// A session over a device, in which no index stands.
     pub fn new(alloc: Global, device: D, analyzer: A) -> Session<D, A>
         ensures { (held : steps.Held) → HasHeld D.honest D.content device held
@@ -134,6 +85,8 @@ impl<D: Device + Drop, A: Analyzer + Drop> Service for Session<D, A> {
 }
 
 impl<D: Device + Drop, A: Analyzer + Drop> Session<D, A> {
+    ghost use Rattle.index.specs.Sessions.{LeavesStage, Replies, StandsFor};
+
     /// Does what a value asks for.
     fn answer_value(&mut self, json: &Json) -> Result<CowStr<'static>, Fault>
         ensures answered { (s : steps.Session) → StandsFor self.old s

@@ -1,0 +1,64 @@
+//! A run: the lines of an input, each answered by a session. Its functions stand beside no struct with a ghost field,
+//! since what their contracts cite names the session.
+
+ghost use Rattle.std.specs.Prelude.{◌≡◌, IfErr, IfOk, IfSome, IsTrue, List, OnOk, ℕ};
+ghost use Rattle.std.specs.Cow.{cow_str_bytes};
+ghost use Rattle.definitions.specs.Lines.{lines_of};
+ghost use Rattle.definitions.specs.Step as steps;
+ghost use Rattle.index.specs.Sessions.{HasHeld, StandsFor, analysis_of, session_on};
+ghost use Rattle.serve_lines.specs.Replies.{Writes, stops};
+
+use crate::session::Session;
+use common::{Analyzer, Device, RunFault};
+use definitions::Fault;
+use serve_lines::Service;
+use std::alloc::Global;
+use std::borrow::CowStr;
+use std::io::{BufRead, Write};
+
+/// Answers the lines of an input one by one, until it ends, over a device on which no index stands yet.
+pub fn run<R: BufRead, W: Write, D: Device + Drop, A: Analyzer + Drop>(
+    alloc: Global,
+    reader: &mut R,
+    writer: &mut W,
+    device: D,
+    analyzer: A,
+) -> Result<(), RunFault>
+    // Of an honest device that holds no byte, or an index's file, the replies follow from that and from the lines.
+    ensures { (held : steps.Held) → HasHeld D.honest D.content device held
+        → OnOk result (IfSome (R.remaining reader.old) (λ input.
+        Writes steps.answer_of steps.after_line (session_on (analysis_of A.knows_name A.analyze analyzer) held)
+        (lines_of input) (W.contents writer.old) (W.contents writer.new))) }
+{
+    let mut session = Session::new(alloc, device, analyzer);
+    run_session(reader, writer, &mut session)
+}
+
+/// Answers the lines of an input one by one, until it ends.
+pub fn run_session<R: BufRead, W: Write, D: Device + Drop, A: Analyzer + Drop>(
+    reader: &mut R,
+    writer: &mut W,
+    session: &mut Session<D, A>,
+) -> Result<(), RunFault>
+    // Where the reader's bytes are known, the replies to its lines are written.
+    ensures { (s : steps.Session) → StandsFor session.old s
+        → OnOk result (IfSome (R.remaining reader.old) (λ input.
+        Writes steps.answer_of steps.after_line s (lines_of input) (W.contents writer.old) (W.contents writer.new))) }
+{
+    serve_lines::run(session.alloc, reader, writer, session)
+}
+
+/// The reply to one line of JSON, and what the session stands for after it. `OutOfMemory`, `Limit` and `Device` are
+/// the errors: after one the session need not stand for any state.
+pub fn reply<D: Device + Drop, A: Analyzer + Drop>(
+    session: &mut Session<D, A>,
+    line: &str,
+) -> Result<CowStr<'static>, Fault>
+    ensures text { (s : steps.Session) → StandsFor session.old s
+        → IfOk result (λ text. cow_str_bytes text ≡ steps.answer_of s line.now) }
+    ensures state { (s : steps.Session) → StandsFor session.old s
+        → OnOk result (StandsFor session.new (steps.after_line s line.now)) }
+    ensures err { IfErr result (λ fault. IsTrue (stops fault)) }
+{
+    session.reply(line)
+}
