@@ -6,8 +6,8 @@ ghost use Rattle.definitions.specs.declared.fault.Fault.{Fault};
 ghost use Rattle.definitions.specs.declared.fault.Fault.TheVariants as faults;
 
 /// An answer says what its call left. A call that answers Ok isn't refused, and leaves what comes after it. A fault that
-/// no want, limit or device has is the call's own refusal and changes nothing. `Device` comes in a commit or a merge
-/// alone, and closes the index.
+/// no want, limit or device has is the call's own refusal and changes nothing. `Device` that isn't the call's own
+/// refusal comes in a commit or a merge alone, and closes the index.
 pub fn what_a_call_leaves()
     ensures answered { (c : Configuration) (x y : Index) (call : Call) → Leaves c x call (Ok tt) y → (call_fault c x call ≡ None) × (y ≡ record { state = after c x.state call; status = x.status }) }
     ensures refused { (c : Configuration) (x y : Index) (call : Call) (fault : Fault) → Leaves c x call (Err fault) y → fault ≢ faults.OutOfMemory → fault ≢ faults.Limit → fault ≢ faults.Device → fault ≢ faults.Damaged None → (call_fault c x call ≡ Some fault) × (y ≡ x) }

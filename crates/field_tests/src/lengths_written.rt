@@ -24,7 +24,7 @@ fn a_section_of_lengths(rt: HostRuntime) -> Result<(), Fail> {
     Ok(())
 }
 
-// Of two fields and three documents: length 41 of document 1 in field 1, and of document 0 in a field that keeps none.
+// Of two fields and three documents: length 41 of document 1 in field 1; field 2, where document 0 has 9, keeps none.
 const TWO_FIELDS: &[u8] = b"\x01\x00\x00\x00\x00\x28\x00\x02\x01\x00\x00\x00\x00\x00";
 
 /// The section of two fields.
