@@ -96,12 +96,12 @@ const COUNTED: Written<'static> = Written {
 
 const DAMAGED: Result<u64, Fault> = Err(Fault::Damaged(None));
 
-// Whether the check of a term answers so.
-fn answers(term: Written<'_>, answer: Result<u64, Fault>) -> bool {
+// Whether the check of a term with these bytes as its postings answers so.
+fn answers_with(term: Written<'_>, postings: &[u8], answer: Result<u64, Fault>) -> bool {
     let num_docs = term.num_docs.min(1000);
     let ids = reader_of(term.kept, num_docs);
     let found = check_term(
-        term.postings,
+        postings,
         term.positions,
         term.doc_freq,
         term.option,
@@ -109,6 +109,11 @@ fn answers(term: Written<'_>, answer: Result<u64, Fault>) -> bool {
         num_docs,
     );
     found == answer
+}
+
+// Whether the check of a term answers so.
+fn answers(term: Written<'_>, answer: Result<u64, Fault>) -> bool {
+    answers_with(term, term.postings, answer)
 }
 
 // Whether worked terms are accepted, each with the sum of its counts.
@@ -129,9 +134,7 @@ fn worked_terms_are_accepted(rt: HostRuntime) -> Result<(), Fail> {
 fn cut_postings_are_damaged(term: Written<'_>) -> bool {
     let mut right = true;
     for len in 0..term.postings.len() {
-        let mut cut = term;
-        cut.postings = &term.postings[..len];
-        right &= answers(cut, DAMAGED);
+        right &= answers_with(term, &term.postings[..len], DAMAGED);
     }
     right
 }
@@ -168,10 +171,8 @@ fn changes_are_damaged(
     for place in 0..term.postings.len() {
         let mut bytes = term.postings.to_vec(alloc)?;
         bytes[place] = byte;
-        let mut changed = term;
-        changed.postings = &bytes;
         let is_same = byte == term.postings[place];
-        right &= answers(changed, if is_same { answer } else { DAMAGED });
+        right &= answers_with(term, &bytes, if is_same { answer } else { DAMAGED });
     }
     Ok(right)
 }
