@@ -4,7 +4,8 @@ use Rattle.definitions.specs.Analyzers.{Analyzer}
 use Rattle.definitions.specs.Matching.{is_counted, matches}
 use Rattle.definitions.specs.Phrases.{phrase_count, whole_terms}
 use Rattle.definitions.specs.Query.{Clauses, Occur, Queries, Query, Terms, all, boolean, boost, clause, const_score, depth, disjunction_max, empty, no_clauses, no_queries, phrase, phrase_prefix, query, term}
-use Rattle.definitions.specs.Refusing.{Test, bound, clauses_bound, clauses_fault, first_fault, is_bad_factor, is_outside, is_score_too_large, max_depth, node_fault, option_or, own_tests, product, queries_bound, queries_fault, refusal, tree_fault}
+use Rattle.definitions.specs.Refusing.{Test, bound, clauses_bound, clauses_fault, first_fault, is_bad_factor, is_outside, is_score_too_large, max_depth, node_fault, own_tests, product, queries_bound, queries_fault, refusal, tree_fault}
+use Rattle.std.specs.Option.{option_or}
 use Rattle.definitions.specs.Schema.{Schema}
 use Rattle.definitions.specs.Scoring.{Similarity, best_and_tie, clause_scores, greatest_of, max_score, natural, part, phrase_score, prefix_score, query_count, query_scores, score, weight_sum}
 use Rattle.definitions.specs.Values.{Document}

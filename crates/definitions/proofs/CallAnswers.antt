@@ -145,8 +145,8 @@ closed_fault c x call e = ap (λ status. call_fault c (record { state = x.state;
 closed_made : (c : Configuration) (x : Index) (call : Call) → x.status ≡ closed → call_fault c x call ≡ None → ⊥
 closed_made c x call e is = let f = closed_fault c x call e in cc
 
-closed_open : (status : Status) (call : Call) → status ≡ closed → status_fault status call ≡ None → ⊥
-closed_open status call e is = let f : status_fault status call ≡ Some faults.Closed = ap (λ s. status_fault s call) e in cc
+closed_open : (status : Status) (call : Call) → status ≡ closed → status_fault status (only_reads call) ≡ None → ⊥
+closed_open status call e is = let f : status_fault status (only_reads call) ≡ Some faults.Closed = ap (λ s. status_fault s (only_reads call)) e in cc
 
 pub left_closed : (c : Configuration) (x : Index) (call : Call) {r : Answer} {y : Index} → Leaves c x call r y → x.status ≡ closed → (r ≡ failed faults.Closed) × (y ≡ x)
 left_closed c x call (Leaves.refused own is) e = let f = closed_fault c x call e in (cc, refl)

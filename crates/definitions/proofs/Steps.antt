@@ -3,7 +3,7 @@ use Rattle.std.proofs.Common.{List, ℕ, ◌∙◌, ◌≡◌, Bool, Err, None, 
 use Rattle.std.specs.Prelude.{⊤}
 use Rattle.definitions.specs.Built.{built_query_in}
 use Rattle.definitions.specs.Calls.{Call, Configuration, Index, Status, call_fault, closed, count_all, delete_term, only_reads, own_fault, ready, search_best, status_fault, writer_closed}
-use Rattle.definitions.specs.Refusing.{option_or}
+use Rattle.std.specs.Option.{option_or}
 use Rattle.definitions.specs.Requests.{Request, add_doc, commit_all, count_docs, create_index, delete_docs, merge_groups, open_index, search_docs}
 use Rattle.definitions.specs.Scanning.{scan}
 use Rattle.definitions.specs.Schema.{Schema}
@@ -13,7 +13,7 @@ use Rattle.definitions.specs.Making.{are_analyzed, making_fault}
 use Rattle.definitions.specs.Replies.{ok_reply}
 use Rattle.definitions.specs.SchemaGrammar.{schema_in}
 use Rattle.definitions.specs.Settings.{Settings}
-use Rattle.definitions.specs.Step.{Analysis, Held, Session, Stage, answer_reply, answering, call_in, call_step, configuration_of, created, file_of, fresh_index, held_by, if_empty, in_index, index_of, index_step, is_ready, no_file, no_index, opened, refused_or, refusing, reopened, settings_sent, stage_step, stand_in, step, unless_ready, with_schema, with_settings}
+use Rattle.definitions.specs.Step.{Analysis, Held, Session, Stage, answer_reply, answering, call_in, call_step, configuration_of, created, file_of, fresh_index, held_by, if_empty, in_index, index_of, index_step, is_ready, no_file, no_index, only_asks, opened, refused_or, refusing, reopened, settings_sent, stage_step, step, unless_ready, with_schema, with_settings}
 use Rattle.definitions.specs.TermGrammar.{term_in}
 use Rattle.definitions.proofs.ReplyTexts.{hits_float}
 use Rattle.definitions.specs.declared.fault.Fault.{Fault}
@@ -21,13 +21,13 @@ use Rattle.serde_json.specs.Written.{has_float}
 use Rattle.serde_json.specs.Data as json
 use Rattle.definitions.specs.declared.fault.Fault.TheVariants as faults
 
--- whether what is read of a request writes as its stand-in does
+-- what is read of a request reads as this says
 abbrev ReadsAs : Bool → Result Call Fault → Type 0
 ReadsAs reads (Ok call) = reads ≡ only_reads call
 ReadsAs reads (Err fault) = ⊤
 
--- a request's call reads where its stand-in does
-reads_alike : (schema : Schema) (r : Request) → ReadsAs (only_reads (stand_in r)) (call_in schema r)
+-- a request's call reads where the request only asks
+reads_alike : (schema : Schema) (r : Request) → ReadsAs (only_asks r) (call_in schema r)
 reads_alike schema (add_doc d) = refl
 reads_alike schema (delete_docs d) = elim (term_in schema d) as (λ o. ReadsAs false (ok_or (option_map delete_term o) faults.BadTerm)) [ Some t ↦ refl | None ↦ tt ]
 reads_alike schema (merge_groups from to) = refl
@@ -37,15 +37,9 @@ reads_alike schema (count_docs d) = elim (built_query_in schema d) as (λ o. Rea
 reads_alike schema (create_index s t) = tt
 reads_alike schema open_index = tt
 
--- calls that read alike are refused alike by a status
-status_alike : (status : Status) (a b : Call) → only_reads a ≡ only_reads b → status_fault status a ≡ status_fault status b
-status_alike ready a b h = refl
-status_alike writer_closed a b h = ap (λ reads. cond reads None (Some faults.WriterClosed)) h
-status_alike closed a b h = refl
-
--- a request's status refuses it as it refuses its call
-pub stand_in_alike : (schema : Schema) (status : Status) (r : Request) (call : Call) → call_in schema r ≡ Ok call → status_fault status (stand_in r) ≡ status_fault status call
-stand_in_alike schema status r call h = status_alike status (stand_in r) call (subst (ReadsAs (only_reads (stand_in r))) h (reads_alike schema r))
+-- a status refuses a request as it refuses its call
+pub refused_alike : (schema : Schema) (status : Status) (r : Request) (call : Call) → call_in schema r ≡ Ok call → status_fault status (only_asks r) ≡ status_fault status (only_reads call)
+refused_alike schema status r call h = ap (status_fault status) (subst (ReadsAs (only_asks r)) h (reads_alike schema r))
 
 -- the first refusal of two is what is replied
 refused_by : (c : Configuration) (x : Index) (call : Call) (status own : Option Fault) (fault : Fault) → option_or status own ≡ Some fault → refused_or status x (refused_or own x (answering c x call)) ≡ refusing fault x
@@ -58,19 +52,19 @@ answered_by c x call (Some first) own h = absurd (true≢false (ap is_some h))
 answered_by c x call None own h = ap (λ o. refused_or o x (answering c x call)) h
 
 -- a request is its call, with the status that this one meets
-read_step : (c : Configuration) (x : Index) (r : Request) (call : Call) → call_in c.schema r ≡ Ok call → index_step c x r ≡ refused_or (status_fault x.status call) x (call_step c x (Ok call))
-read_step c x r call h = ap₂ (λ o read. refused_or o x (call_step c x read)) (stand_in_alike c.schema x.status r call h) h
+read_step : (c : Configuration) (x : Index) (r : Request) (call : Call) → call_in c.schema r ≡ Ok call → index_step c x r ≡ refused_or (status_fault x.status (only_reads call)) x (call_step c x (Ok call))
+read_step c x r call h = ap₂ (λ o read. refused_or o x (call_step c x read)) (refused_alike c.schema x.status r call h) h
 
 -- a request that is read is refused as its call is
 pub refused_call : (c : Configuration) (x : Index) (r : Request) (call : Call) (fault : Fault) → call_in c.schema r ≡ Ok call → call_fault c x call ≡ Some fault → index_step c x r ≡ refusing fault x
-refused_call c x r call fault h e = read_step c x r call h ∙ refused_by c x call (status_fault x.status call) (own_fault c x.state call) fault e
+refused_call c x r call fault h e = read_step c x r call h ∙ refused_by c x call (status_fault x.status (only_reads call)) (own_fault c x.state call) fault e
 
 -- a request that is read and not refused is answered as its call
 pub answered_call : (c : Configuration) (x : Index) (r : Request) (call : Call) → call_in c.schema r ≡ Ok call → call_fault c x call ≡ None → index_step c x r ≡ answering c x call
-answered_call c x r call h e = read_step c x r call h ∙ answered_by c x call (status_fault x.status call) (own_fault c x.state call) e
+answered_call c x r call h e = read_step c x r call h ∙ answered_by c x call (status_fault x.status (only_reads call)) (own_fault c x.state call) e
 
 -- a request that can't be read is refused by that, unless the status refuses it
-pub unread_call : (c : Configuration) (x : Index) (r : Request) (fault : Fault) → call_in c.schema r ≡ Err fault → status_fault x.status (stand_in r) ≡ None → index_step c x r ≡ refusing fault x
+pub unread_call : (c : Configuration) (x : Index) (r : Request) (fault : Fault) → call_in c.schema r ≡ Err fault → status_fault x.status (only_asks r) ≡ None → index_step c x r ≡ refusing fault x
 unread_call c x r fault h e = ap₂ (λ o read. refused_or o x (call_step c x read)) e h
 
 -- ---- no reply has a float
@@ -90,7 +84,7 @@ call_step_float c x (Err fault) = refl
 call_step_float c x (Ok call) = refused_or_float (own_fault c x.state call) x (answering c x call) (answer_float c x.state call)
 
 index_step_float : (c : Configuration) (x : Index) (r : Request) → has_float ((index_step c x r).0) ≡ false
-index_step_float c x r = refused_or_float (status_fault x.status (stand_in r)) x (call_step c x (call_in c.schema r)) (call_step_float c x (call_in c.schema r))
+index_step_float c x r = refused_or_float (status_fault x.status (only_asks r)) x (call_step c x (call_in c.schema r)) (call_step_float c x (call_in c.schema r))
 
 in_index_float : (analyze : Analyzer) (stage : Stage) (r : Request) → has_float ((in_index analyze stage r).0) ≡ false
 in_index_float analyze (no_index held) r = refl
@@ -106,7 +100,7 @@ either_float false one other h k = k
 
 opened_float : (knows : List ℕ → Bool) (held : Held) → has_float ((opened knows held).0) ≡ false
 opened_float knows no_file = refl
-opened_float knows (file_of schema settings docs) = either_float (are_analyzed knows schema) (ok_reply, index_of schema settings (reopened docs)) (refusing faults.UnknownTokenizer (no_index (file_of schema settings docs))) refl refl
+opened_float knows (file_of schema settings groups) = either_float (are_analyzed knows schema) (ok_reply, index_of schema settings (reopened groups)) (refusing faults.UnknownTokenizer (no_index (file_of schema settings groups))) refl refl
 
 with_settings_float : (knows : List ℕ → Bool) (stage : Stage) (schema : Schema) (settings : Result Settings Fault) → has_float ((with_settings knows stage schema settings).0) ≡ false
 with_settings_float knows stage schema (Ok settings) = created_float knows schema settings (held_by stage)

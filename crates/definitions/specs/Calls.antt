@@ -6,7 +6,8 @@ use Rattle.definitions.specs.Analyzers.{Analyzer}
 use Rattle.definitions.specs.Indexable.{is_indexable}
 use Rattle.definitions.specs.Query.{Query}
 use Rattle.definitions.specs.Reading.{read_data, read_json}
-use Rattle.definitions.specs.Refusing.{first_fault, is_not_indexed, is_unknown, option_or, refusal}
+use Rattle.definitions.specs.Refusing.{first_fault, is_not_indexed, is_unknown, refusal}
+use Rattle.std.specs.Option.{option_or}
 use Rattle.definitions.specs.Schema.{Schema}
 use Rattle.definitions.specs.Scoring.{Similarity}
 use Rattle.definitions.specs.State.{State, after_add, after_commit, after_delete, after_merge, is_bad_range}
@@ -111,14 +112,14 @@ own_fault c s (search_best q k) = refusal c.schema c.similarity.weight q
 own_fault c s (count_all q) = refusal c.schema c.similarity.weight q
 
 -- a closed index refuses every call, and a closed writer every call that writes
-abbrev pub status_fault : Status → Call → Option Fault
-status_fault ready call = None
-status_fault writer_closed call = if only_reads call then None else Some faults.WriterClosed
-status_fault closed call = Some faults.Closed
+abbrev pub status_fault : Status → Bool → Option Fault
+status_fault ready reads = None
+status_fault writer_closed reads = if reads then None else Some faults.WriterClosed
+status_fault closed reads = Some faults.Closed
 
 -- what a call is refused by: the status first, then its own tests
 abbrev pub call_fault : Configuration → Index → Call → Option Fault
-call_fault c x call = option_or (status_fault x.status call) (own_fault c x.state call)
+call_fault c x call = option_or (status_fault x.status (only_reads call)) (own_fault c x.state call)
 
 -- ---- what stands after a call
 
@@ -149,7 +150,7 @@ pub data Leaves (c : Configuration) (x : Index) (call : Call) : Result ⊤ Fault
   refused : (fault : Fault) → call_fault c x call ≡ Some fault → Leaves c x call (Err fault) x
   answered : call_fault c x call ≡ None → Leaves c x call (Ok tt) (record { state = after c x.state call; status = x.status })
   -- want of memory before anything changed; a commit has no such moment
-  memory_refused : status_fault x.status call ≡ None → is_commit call ≡ false → Leaves c x call (Err faults.OutOfMemory) x
+  memory_refused : status_fault x.status (only_reads call) ≡ None → is_commit call ≡ false → Leaves c x call (Err faults.OutOfMemory) x
   -- a limit that an add or a merge would pass, before anything changed
   limit_refused : call_fault c x call ≡ None → (is_add call || is_merge call) ≡ true → Leaves c x call (Err faults.Limit) x
   -- want of memory or a limit while an add or a commit is written

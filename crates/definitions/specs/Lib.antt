@@ -41,6 +41,7 @@ pub mod Making
 pub mod Lines
 pub mod Built
 pub mod Step
+pub mod Replying
 pub mod Alive
 pub mod NumberCodes
 pub mod Postings

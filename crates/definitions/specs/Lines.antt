@@ -1,14 +1,10 @@
 -- The lines of an input.
 use Rattle.std.specs.Prelude.{ℕ, ◌==◌, if◌then◌else◌, List, [], ◌∷◌}
+use Rattle.std.specs.List.{onto_first}
 
 -- the most bytes that a line may have, its newline aside
 abbrev pub max_line_len : ℕ
 max_line_len = 16777216
-
--- the lines with a byte put before the first of them
-abbrev pub onto_first : ℕ → List (List ℕ) → List (List ℕ)
-onto_first byte [] = (byte ∷ []) ∷ []
-onto_first byte (line ∷ lines) = (byte ∷ line) ∷ lines
 
 -- the lines without their newlines; a last line without a newline counts where it isn't empty
 abbrev pub lines_of : List ℕ → List (List ℕ)

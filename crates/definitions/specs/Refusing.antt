@@ -1,6 +1,7 @@
 -- Which queries are refused, and by what.
 use Rattle.std.specs.Prelude.{[], ◌&&◌, ◌*◌, ◌++◌, ◌+◌, ◌==◌, ◌^◌, ◌||◌, ◌∷◌, Bool, List, None, Option, Some, false, if◌then◌else◌, int_lt, is_none, length, map, nat_le, nat_lt, not, pos, ℕ, ℤ}
 use Rattle.std.specs.List.{list_any}
+use Rattle.std.specs.Option.{option_or}
 use Rattle.definitions.specs.Matching.{is_counted}
 use Rattle.definitions.specs.Phrases.{whole_terms}
 use Rattle.definitions.specs.Query.{Clauses, Queries, Query, Terms, all, boolean, boost, clause, const_score, depth, disjunction_max, empty, no_clauses, no_queries, phrase, phrase_prefix, query, term}
@@ -107,11 +108,6 @@ first_fault (t ∷ ts) = if t.0 then Some t.1 else first_fault ts
 -- what a node by itself is refused by, under the product of the boosts above
 unfoldable pub node_fault : Schema → (List ℕ → ℕ) → ℕ → Query → Option Fault
 node_fault schema weight b q = first_fault (own_tests schema q ++ ((is_score_too_large weight b q, faults.ScoreTooLarge) ∷ []))
-
--- the first, or else the second
-abbrev pub option_or : Option Fault → Option Fault → Option Fault
-option_or (Some fault) o = Some fault
-option_or None o = o
 
 -- a node is tested before its children, and a child with all below it before the next
 abbrev mutual

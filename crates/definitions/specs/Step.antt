@@ -1,13 +1,11 @@
 -- A line in, a line out: what the program replies, and what stands after it.
 use Rattle.std.specs.Prelude.{[], ◌∷◌, Bool, Err, List, None, Ok, Option, Result, Some, false, if◌then◌else◌, ok_or, option_map, true, ℕ}
-use Rattle.std.specs.Str.{is_utf8}
 use Rattle.definitions.specs.Analyzers.{Analyzer}
 use Rattle.definitions.specs.Built.{built_query_in, built_request_in}
 use Rattle.definitions.specs.Calls.{Call, Configuration, Index, Status, add_value, after, closed, commit_pending, count_all, delete_term, merge_range, own_fault, ready, search_best, status_fault, writer_closed}
-use Rattle.definitions.specs.Json.{only_if, ◌>>=◌}
+use Rattle.definitions.specs.Json.{◌>>=◌}
 use Rattle.definitions.specs.Making.{are_analyzed, making_fault}
-use Rattle.definitions.specs.Query.{empty}
-use Rattle.definitions.specs.Refusing.{option_or}
+use Rattle.std.specs.Option.{option_or}
 use Rattle.definitions.specs.Replies.{count_reply, error_reply, hits_reply, ok_reply, reply_of}
 use Rattle.definitions.specs.Requests.{Request, add_doc, commit_all, count_docs, create_index, delete_docs, merge_groups, open_index, search_docs}
 use Rattle.definitions.specs.Scanning.{scan, scan_count}
@@ -28,10 +26,10 @@ pub record Analysis : Type 0 where
   pub knows : List ℕ → Bool
   pub analyze : Analyzer
 
--- what a device holds: no byte, or the file of an index with the documents that were committed last
+-- what a device holds: no byte, or the file of an index with the groups that its last record leaves
 pub data Held : Type 0 where
   no_file : Held
-  file_of : Schema → Settings → List Document → Held
+  file_of : Schema → Settings → List (List Document) → Held
 
 -- what stands on the device: no index, or one that is made of a schema and settings
 pub data Stage : Type 0 where
@@ -51,17 +49,17 @@ configuration_of schema analyze settings = record { schema = schema; analyze = a
 abbrev pub fresh_index : Index
 fresh_index = record { state = nothing_yet; status = ready }
 
--- an index in which these documents are committed
-abbrev pub reopened : List Document → Index
-reopened docs = record { state = record { groups = docs ∷ []; pending = [] }; status = ready }
+-- an index in which these groups are committed
+abbrev pub reopened : List (List Document) → Index
+reopened groups = record { state = record { groups = groups; pending = [] }; status = ready }
 
 -- ---- what a request asks of the index that stands
 
--- a call that a status refuses where it refuses the request's, before anything in the request is read
-abbrev pub stand_in : Request → Call
-stand_in (search_docs d k) = search_best empty k
-stand_in (count_docs d) = count_all empty
-stand_in _ = commit_pending
+-- whether a request asks for what changes nothing
+abbrev pub only_asks : Request → Bool
+only_asks (search_docs d k) = true
+only_asks (count_docs d) = true
+only_asks _ = false
 
 -- the call of a request, or why none can be read
 abbrev pub call_in : Schema → Request → Result Call Fault
@@ -101,19 +99,19 @@ call_step c x (Ok call) = refused_or (own_fault c x.state call) x (answering c x
 
 -- the index's status comes before anything in the request is read
 abbrev pub index_step : Configuration → Index → Request → json.Data × Index
-index_step c x r = refused_or (status_fault x.status (stand_in r)) x (call_step c x (call_in c.schema r))
+index_step c x r = refused_or (status_fault x.status (only_asks r)) x (call_step c x (call_in c.schema r))
 
 -- ---- an index is made, or opened
 
 -- what the device holds when what stands is dropped: what waits is lost
 abbrev pub held_by : Stage → Held
 held_by (no_index held) = held
-held_by (index_of schema settings x) = file_of schema settings (committed x.state)
+held_by (index_of schema settings x) = file_of schema settings x.state.groups
 
 -- an index is made on a device without a byte
 abbrev pub if_empty : Held → Option Fault
 if_empty no_file = None
-if_empty (file_of schema settings docs) = Some faults.NotEmpty
+if_empty (file_of schema settings groups) = Some faults.NotEmpty
 
 -- an index without documents
 abbrev pub created : (List ℕ → Bool) → Schema → Settings → Held → json.Data × Stage
@@ -122,7 +120,7 @@ created knows schema settings held = refused_or (option_or (making_fault knows s
 -- the index of the file
 abbrev pub opened : (List ℕ → Bool) → Held → json.Data × Stage
 opened knows no_file = refusing faults.NoIndex (no_index no_file)
-opened knows (file_of schema settings docs) = if are_analyzed knows schema then (ok_reply, index_of schema settings (reopened docs)) else refusing faults.UnknownTokenizer (no_index (file_of schema settings docs))
+opened knows (file_of schema settings groups) = if are_analyzed knows schema then (ok_reply, index_of schema settings (reopened groups)) else refusing faults.UnknownTokenizer (no_index (file_of schema settings groups))
 
 -- the settings that are sent, or where none are the defaults
 abbrev pub settings_sent : Schema → Option json.Data → Result Settings Fault
@@ -174,19 +172,14 @@ step session (Some r) = let p = stage_step session.analysis session.stage r in (
 
 -- ---- lines
 
--- what a line says: JSON, in UTF-8, of a request
+-- what a text says: JSON of a request
 abbrev pub line_request : List ℕ → Option Request
-line_request line = only_if (is_utf8 line) (read line) >>= built_request_in
+line_request line = read line >>= built_request_in
 
--- the reply to a line, without its newline
+-- the reply to a line that is a text, without its newline
 abbrev pub answer_of : Session → List ℕ → List ℕ
 answer_of session line = reply_of ((step session (line_request line)).0)
 
 -- the session after a line
 abbrev pub after_line : Session → List ℕ → Session
 after_line session line = (step session (line_request line)).1
-
--- the replies to lines in a row
-abbrev pub answers_to : Session → List (List ℕ) → List (List ℕ)
-answers_to session [] = []
-answers_to session (line ∷ lines) = answer_of session line ∷ answers_to (after_line session line) lines

@@ -11,7 +11,7 @@ ghost use Rattle.definitions.specs.Schema.{Entry, IsSchema, Schema, text_kind, u
 ghost use Rattle.definitions.specs.Scoring.{IsSimilarity};
 ghost use Rattle.definitions.specs.Settings.{Settings, default_settings, is_settings, similarity_of};
 ghost use Rattle.definitions.specs.SettingsGrammar.{settings_data, settings_in, weighs_named};
-ghost use Rattle.definitions.specs.Step.{Session, answering, call_in, index_step, refusing, stand_in, step};
+ghost use Rattle.definitions.specs.Step.{Session, answering, call_in, index_step, only_asks, refusing, step};
 ghost use Rattle.definitions.specs.TermData.{reads_back};
 ghost use Rattle.definitions.specs.Terms.{term_bytes};
 ghost use Rattle.definitions.specs.declared.fault.Fault.{Fault};
@@ -38,7 +38,7 @@ pub fn replies_have_a_text()
 pub fn a_request_is_its_call()
     ensures refused { (c : Configuration) (x : Index) (r : Request) (call : Call) (fault : Fault) → call_in c.schema r ≡ Ok call → call_fault c x call ≡ Some fault → index_step c x r ≡ refusing fault x }
     ensures answered { (c : Configuration) (x : Index) (r : Request) (call : Call) → call_in c.schema r ≡ Ok call → call_fault c x call ≡ None → index_step c x r ≡ answering c x call }
-    ensures unread { (c : Configuration) (x : Index) (r : Request) (fault : Fault) → call_in c.schema r ≡ Err fault → status_fault x.status (stand_in r) ≡ None → index_step c x r ≡ refusing fault x }
+    ensures unread { (c : Configuration) (x : Index) (r : Request) (fault : Fault) → call_in c.schema r ≡ Err fault → status_fault x.status (only_asks r) ≡ None → index_step c x r ≡ refusing fault x }
 {}
 
 /// The settings that stand where none are given are in range.

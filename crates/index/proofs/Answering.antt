@@ -4,7 +4,7 @@ use Rattle.std.specs.Bool.{⊤}
 use Rattle.definitions.specs.Analyzers.{Analyzer}
 use Rattle.definitions.specs.Calls as calls
 use Rattle.definitions.specs.FaultNames.{reply_text}
-use Rattle.definitions.specs.Refusing.{option_or}
+use Rattle.std.specs.Option.{option_or}
 use Rattle.definitions.specs.Replies.{ok_reply, reply_of}
 use Rattle.definitions.specs.Requests as requests
 use Rattle.definitions.specs.Step as steps
@@ -24,7 +24,7 @@ use Rattle.serde_json.specs.Read.{read}
 use Rattle.index.specs.Replying.{Answers, GoesOn, change_text}
 use Rattle.index.specs.Standing.{Stands}
 use Rattle.index.specs.declared.collection.Collection.{Collection}
-use Rattle.serve_lines.specs.Replies.{stops}
+use Rattle.definitions.specs.Replying.{stops}
 
 none≢some : {X : Type 0} {x : X} → None ≡ Some x → ⊥
 none≢some h = cc

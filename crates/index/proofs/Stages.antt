@@ -4,7 +4,7 @@ use Rattle.common.specs.declared.device.Device as devices
 use Rattle.definitions.specs.Analyzers.{Analyzer}
 use Rattle.definitions.specs.Calls as calls
 use Rattle.definitions.specs.Making.{are_analyzed, making_fault}
-use Rattle.definitions.specs.Refusing.{option_or}
+use Rattle.std.specs.Option.{option_or}
 use Rattle.definitions.specs.Replies.{ok_reply, reply_of}
 use Rattle.definitions.specs.Schema.{Schema}
 use Rattle.definitions.specs.Settings.{Settings}

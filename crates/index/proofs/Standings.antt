@@ -7,7 +7,7 @@ use Rattle.std.specs.declared.alloc.Global.{Global}
 use Rattle.std.proofs.lemmas.List.{map-append}
 use Rattle.definitions.specs.Analyzers.{Analyzer}
 use Rattle.definitions.specs.Calls as calls
-use Rattle.definitions.specs.Refusing.{option_or}
+use Rattle.std.specs.Option.{option_or}
 use Rattle.definitions.specs.Schema.{Schema, max_fields}
 use Rattle.definitions.specs.Settings.{Settings}
 use Rattle.definitions.specs.State as states

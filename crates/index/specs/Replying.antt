@@ -11,7 +11,7 @@ use Rattle.definitions.specs.Step as steps
 use Rattle.definitions.specs.declared.fault.Fault.{Fault}
 use Rattle.index.specs.Standing.{Stands}
 use Rattle.index.specs.declared.collection.Collection.{Collection}
-use Rattle.serve_lines.specs.Replies.{stops}
+use Rattle.definitions.specs.Replying.{stops}
 
 -- the reply to a change
 abbrev pub change_text : Result ⊤ Fault → List ℕ

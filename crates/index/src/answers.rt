@@ -14,7 +14,7 @@ ghost use Rattle.index.specs.AskedRequests.{index_request_of};
 ghost use Rattle.index.specs.Replying.{Answers, GoesOn, change_text};
 ghost use Rattle.index.specs.Standing.{Stands};
 ghost use Rattle.plain.specs.Hits.{hit_of, scored};
-ghost use Rattle.serve_lines.specs.Replies.{stops};
+ghost use Rattle.definitions.specs.Replying.{stops};
 ghost use Rattle.serde_json.specs.View.{view};
 
 use crate::collection::Collection;

@@ -6,7 +6,7 @@ ghost use Rattle.std.specs.Cow.{cow_str_bytes};
 ghost use Rattle.definitions.specs.Lines.{lines_of};
 ghost use Rattle.definitions.specs.Step as steps;
 ghost use Rattle.index.specs.Sessions.{HasHeld, StandsFor, analysis_of, session_on};
-ghost use Rattle.serve_lines.specs.Replies.{Writes, stops};
+ghost use Rattle.definitions.specs.Replying.{Writes, stops};
 
 use crate::session::Session;
 use common::{Analyzer, Device, RunFault};

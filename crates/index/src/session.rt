@@ -7,7 +7,7 @@ ghost use Rattle.definitions.specs.Requests as requests;
 ghost use Rattle.definitions.specs.Step as steps;
 ghost use Rattle.index.specs.AskedRequests.{index_request_of, request_of};
 ghost use Rattle.index.specs.Standing.{Stands};
-ghost use Rattle.serve_lines.specs.Replies.{stops};
+ghost use Rattle.definitions.specs.Replying.{stops};
 ghost use Rattle.serde_json.specs.Read.{read};
 ghost use Rattle.serde_json.specs.View.{view};
 

@@ -78,7 +78,7 @@ first_of_more [] byte rest = (byte, rest, refl)
 first_of_more (body ∷ bodies) byte rest = (165, sized_body body ++ (records bodies ++ byte ∷ rest), ap (λ (l : List ℕ). 165 ∷ l) (append_assoc (sized_body body) (records bodies) (byte ∷ rest)))
 
 -- after an open gate with a body that is taken there is a record
-has_record : (takes : List (List ℕ) → List ℕ → Bool) (before : List (List ℕ)) (x : List ℕ) (a : List (List ℕ)) (byte : ℕ) (more rest : List ℕ) → length x < 2 ^ 64 → IsTrue (takes before x)
+has_record : (takes : List (List ℕ) → List ℕ → Type 0) (before : List (List ℕ)) (x : List ℕ) (a : List (List ℕ)) (byte : ℕ) (more rest : List ℕ) → length x < 2 ^ 64 → takes before x
     → records (x ∷ a) ++ byte ∷ more ≡ 165 ∷ rest → HasRecord takes before rest
 has_record takes before x a byte more rest short taken same =
     let next = first_of_more a byte more in
@@ -92,7 +92,7 @@ has_record takes before x a byte more rest short taken same =
     }
 
 -- no file of bodies that are all taken is damaged
-no_damage : (takes : List (List ℕ) → List ℕ → Bool) (before all : List (List ℕ)) (a b : List (List ℕ)) (gate : ℕ) (more rest : List ℕ) → gate ≢ 165 → AreShort a → AreShort b → AreTaken takes before a
+no_damage : (takes : List (List ℕ) → List ℕ → Type 0) (before all : List (List ℕ)) (a b : List (List ℕ)) (gate : ℕ) (more rest : List ℕ) → gate ≢ 165 → AreShort a → AreShort b → AreTaken takes before a
     → before ++ b ≡ all → ¬ HasRecord takes all rest → records a ++ gate ∷ more ≡ records b ++ 165 ∷ rest → ⊥
 no_damage takes before all [] [] gate more rest closed short_a short_b taken is broken same = closed (head_of gate 165 _ _ same)
 no_damage takes before all [] (y ∷ b) gate more rest closed short_a short_b taken is broken same = closed (head_of gate 165 _ _ same)
@@ -103,13 +103,13 @@ no_damage takes before all (x ∷ a) (y ∷ b) gate more rest closed short_a sho
     no_damage takes (before ++ x ∷ []) all a b gate more rest closed short_a.1 short_b.1 taken.1
     (append_assoc before (x ∷ []) b ∙ ap (λ (z : List ℕ). before ++ z ∷ b) e.0 ∙ is) broken e.1
 
-pub files_are_whole : (takes : List (List ℕ) → List ℕ → Bool) (bodies : List (List ℕ)) (bytes : List ℕ) (place : ℕ) → IsFile bodies bytes → AreTaken takes [] bodies → ¬ IsDamaged takes bytes place
+pub files_are_whole : (takes : List (List ℕ) → List ℕ → Type 0) (bodies : List (List ℕ)) (bytes : List ℕ) (place : ℕ) → IsFile bodies bytes → AreTaken takes [] bodies → ¬ IsDamaged takes bytes place
 files_are_whole takes bodies bytes place file taken damaged =
     let f = flat file in
     no_damage takes [] damaged.bodies bodies damaged.bodies f.gate f.rest damaged.rest f.closed f.short damaged.short taken refl damaged.broken (sym f.whole ∙ damaged.whole)
 
 -- damage stands at one place
-one_place : (takes : List (List ℕ) → List ℕ → Bool) (before all others : List (List ℕ)) (a b : List (List ℕ)) (r s : List ℕ) → AreShort a → AreShort b → AreTaken takes before a → AreTaken takes before b
+one_place : (takes : List (List ℕ) → List ℕ → Type 0) (before all others : List (List ℕ)) (a b : List (List ℕ)) (r s : List ℕ) → AreShort a → AreShort b → AreTaken takes before a → AreTaken takes before b
     → before ++ a ≡ all → before ++ b ≡ others → ¬ HasRecord takes all r → ¬ HasRecord takes others s → records a ++ 165 ∷ r ≡ records b ++ 165 ∷ s → a ≡ b
 one_place takes before all others [] [] r s short_a short_b taken_a taken_b is_a is_b broken_a broken_b same = refl
 one_place takes before all others [] (y ∷ b) r s short_a short_b taken_a taken_b is_a is_b broken_a broken_b same =
@@ -123,7 +123,7 @@ one_place takes before all others (x ∷ a) (y ∷ b) r s short_a short_b taken_
     (one_place takes (before ++ x ∷ []) all others a b r s short_a.1 short_b.1 taken_a.1 taken
     (append_assoc before (x ∷ []) a ∙ is_a) (append_assoc before (x ∷ []) b ∙ ap (λ (z : List ℕ). before ++ z ∷ b) e.0 ∙ is_b) broken_a broken_b e.1)
 
-pub one_damage : (takes : List (List ℕ) → List ℕ → Bool) (bytes : List ℕ) (p q : ℕ) → IsDamaged takes bytes p → IsDamaged takes bytes q → p ≡ q
+pub one_damage : (takes : List (List ℕ) → List ℕ → Type 0) (bytes : List ℕ) (p q : ℕ) → IsDamaged takes bytes p → IsDamaged takes bytes q → p ≡ q
 one_damage takes bytes p q d e =
     let same = one_place takes [] d.bodies e.bodies d.bodies e.bodies d.rest e.rest d.short e.short d.taken e.taken refl refl d.broken e.broken (sym d.whole ∙ e.whole) in
     d.stands ∙ ap (λ (l : List (List ℕ)). length (records l)) same ∙ sym e.stands
@@ -194,13 +194,13 @@ pub short_more : (bodies : List (List ℕ)) (body : List ℕ) → AreShort bodie
 short_more [] body short last = (last, tt)
 short_more (first ∷ bodies) body short last = (short.0, short_more bodies body short.1 last)
 
-pub taken_more : (takes : List (List ℕ) → List ℕ → Bool) (before bodies : List (List ℕ)) (body : List ℕ) → AreTaken takes before bodies → IsTrue (takes (before ++ bodies) body) → AreTaken takes before (bodies ++ body ∷ [])
-taken_more takes before [] body taken last = (subst (λ (l : List (List ℕ)). IsTrue (takes l body)) (append-nil before) last, tt)
+pub taken_more : (takes : List (List ℕ) → List ℕ → Type 0) (before bodies : List (List ℕ)) (body : List ℕ) → AreTaken takes before bodies → takes (before ++ bodies) body → AreTaken takes before (bodies ++ body ∷ [])
+taken_more takes before [] body taken last = (subst (λ (l : List (List ℕ)). takes l body) (append-nil before) last, tt)
 taken_more takes before (first ∷ bodies) body taken last =
-    (taken.0, taken_more takes (before ++ first ∷ []) bodies body taken.1 (subst (λ (l : List (List ℕ)). IsTrue (takes l body)) (sym (append_assoc before (first ∷ []) bodies)) last))
+    (taken.0, taken_more takes (before ++ first ∷ []) bodies body taken.1 (subst (λ (l : List (List ℕ)). takes l body) (sym (append_assoc before (first ∷ []) bodies)) last))
 
 -- a record has the bytes that its length says, and a gate
-pub too_few : (takes : List (List ℕ) → List ℕ → Bool) (before : List (List ℕ)) (bytes : List ℕ) (n : ℕ) → from_le_bytes w64 (take 8 bytes) ≡ n → length bytes < 9 + n → ¬ HasRecord takes before bytes
+pub too_few : (takes : List (List ℕ) → List ℕ → Type 0) (before : List (List ℕ)) (bytes : List ℕ) (n : ℕ) → from_le_bytes w64 (take 8 bytes) ≡ n → length bytes < 9 + n → ¬ HasRecord takes before bytes
 too_few takes before bytes n is few has =
     let long : length has.body ≡ n = sym (from_le_bytes-to_le_bytes_8 (length has.body) has.short) ∙ sym (ap (λ (l : List ℕ). from_le_bytes w64 (take 8 l)) has.whole) ∙ is in
     omega (arith, ap length has.whole, length-append has.body (has.gate ∷ has.rest))

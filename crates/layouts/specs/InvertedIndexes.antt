@@ -11,7 +11,7 @@ use Rattle.definitions.specs.Values.{Document}
 use Rattle.layouts.specs.FieldNorms.{ids_of}
 use Rattle.layouts.specs.Positions.{ArePositions, position_numbers}
 use Rattle.layouts.specs.TermPostings.{AreTermPostings}
-use Rattle.layouts.specs.TermSections.{FieldTerms, TermLengths, TermsAscend, terms_bytes}
+use Rattle.layouts.specs.TermSections.{AreSpelled, FieldTerms, TermLengths, TermsAscend}
 
 -- a term of a field by its value bytes, its postings, and the bytes of these and of their positions
 pub record IndexedTerm : Type 0 where
@@ -88,7 +88,7 @@ pub record IsField (schema : Schema) (num_docs : ℕ) (norms : List (ℕ × List
 pub record AreSections (schema : Schema) (num_docs : ℕ) (norms : List (ℕ × List ℕ)) (fields : List IndexedField) (terms postings_bytes positions_bytes : List ℕ) : Type 0 where
   pub names : map (λ (f : IndexedField). f.field) fields ≡ indexed_fields schema
   pub each : AllByRecursion (IsField schema num_docs norms) fields
-  pub terms_are : terms ≡ terms_bytes (map field_terms fields)
+  pub terms_are : AreSpelled (map field_terms fields) terms
   pub postings_are : postings_bytes ≡ flat_map (λ (f : IndexedField). flat_map (λ t. t.postings_bytes) f.terms) fields
   pub positions_are : positions_bytes ≡ flat_map (λ (f : IndexedField). flat_map (λ t. t.positions_bytes) f.terms) fields
 

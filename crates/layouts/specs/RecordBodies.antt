@@ -1,6 +1,6 @@
 -- The bodies of the records of an index's file. The first says what the index is made of; each later one
 -- has the documents that are committed.
-use Rattle.std.specs.Prelude.{[], ◌&&◌, ◌++◌, ◌==◌, ◌∷◌, Bool, List, None, Option, Some, codes, false, flat_map, is_some, length, nat_le, nat_lt, option_map, ℕ}
+use Rattle.std.specs.Prelude.{[], ◌&&◌, ◌++◌, ◌==◌, ◌∷◌, Bool, IsTrue, List, None, Option, Some, codes, false, flat_map, is_some, length, nat_le, nat_lt, option_map, ℕ}
 use Rattle.std.specs.Option.{option_map_or}
 use Rattle.std.specs.Result.{result_ok}
 use Rattle.std.specs.Str.{is_utf8}
@@ -108,3 +108,7 @@ bodies_in (first ∷ bodies) = first_in first >>= (λ made. option_map (λ lists
 abbrev pub takes_body : List (List ℕ) → List ℕ → Bool
 takes_body [] body = is_some (first_in body)
 takes_body (first ∷ bodies) body = option_map_or (λ made. is_some (docs_in made.0 body)) (first_in first) false
+
+-- a body may follow these
+abbrev pub TakesBody : List (List ℕ) → List ℕ → Type 0
+TakesBody before body = IsTrue (takes_body before body)

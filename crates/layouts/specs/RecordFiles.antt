@@ -31,10 +31,10 @@ pub record IsAtRest (content : List ℕ) (gate : ℕ) (bodies : List (List ℕ))
 abbrev pub IsNoIndex : List ℕ → Type 0
 IsNoIndex bytes = (length bytes < 10) ⊎ (slice_index bytes 0 ≢ 165)
 
--- each body is in the grammar after those before it
-abbrev pub AreTaken : (List (List ℕ) → List ℕ → Bool) → List (List ℕ) → List (List ℕ) → Type 0
+-- each body is in the grammar after those before it; a grammar is a relation, since what a body means may be hidden in it
+abbrev pub AreTaken : (List (List ℕ) → List ℕ → Type 0) → List (List ℕ) → List (List ℕ) → Type 0
 AreTaken takes before [] = Unit {0}
-AreTaken takes before (body ∷ bodies) = IsTrue (takes before body) × AreTaken takes (before ++ body ∷ []) bodies
+AreTaken takes before (body ∷ bodies) = takes before body × AreTaken takes (before ++ body ∷ []) bodies
 
 -- each length is written in eight bytes
 abbrev pub AreShort : List (List ℕ) → Type 0
@@ -42,16 +42,16 @@ AreShort [] = Unit {0}
 AreShort (body ∷ bodies) = (length body < 2 ^ 64) × AreShort bodies
 
 -- after a gate there is a whole record with the gate of the next, and its body is in the grammar
-pub record HasRecord (takes : List (List ℕ) → List ℕ → Bool) (before : List (List ℕ)) (bytes : List ℕ) : Type 0 where
+pub record HasRecord (takes : List (List ℕ) → List ℕ → Type 0) (before : List (List ℕ)) (bytes : List ℕ) : Type 0 where
   pub body : List ℕ
   pub gate : ℕ
   pub rest : List ℕ
   pub short : length body < 2 ^ 64
   pub whole : bytes ≡ sized_body body ++ gate ∷ rest
-  pub taken : IsTrue (takes before body)
+  pub taken : takes before body
 
 -- damaged from the open gate at a place on: after records with bodies in the grammar there is no other
-pub record IsDamaged (takes : List (List ℕ) → List ℕ → Bool) (bytes : List ℕ) (place : ℕ) : Type 0 where
+pub record IsDamaged (takes : List (List ℕ) → List ℕ → Type 0) (bytes : List ℕ) (place : ℕ) : Type 0 where
   pub bodies : List (List ℕ)
   pub rest : List ℕ
   pub begins : ¬ IsNoIndex bytes

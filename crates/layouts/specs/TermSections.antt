@@ -25,9 +25,13 @@ entry_of_term t = sized_bytes t.0 ++ vint_bytes t.1.doc_freq ++ vint_bytes t.1.p
 abbrev pub field_terms_bytes : FieldTerms → List ℕ
 field_terms_bytes f = u32_bytes f.field ++ u64_bytes f.num_tokens ++ vint_bytes (length f.terms) ++ flat_map entry_of_term f.terms
 
--- the section: its kind, and the fields one after another
+-- the section of kind 0: its kind, and the fields one after another
 abbrev pub terms_bytes : List FieldTerms → List ℕ
 terms_bytes fields = 0 ∷ flat_map field_terms_bytes fields
+
+-- the section spells these fields, in one of the kinds that there are
+abbrev pub AreSpelled : List FieldTerms → List ℕ → Type 0
+AreSpelled fields bytes = bytes ≡ terms_bytes fields
 
 -- each is below the one after it in the order of bytes
 abbrev pub TermsAscend : List (List ℕ) → Type 0

@@ -1,6 +1,6 @@
 //! Laws of files of records.
 
-ghost use Rattle.std.specs.Prelude.{[], ◌++◌, ◌+◌, ◌∷◌, ◌≡◌, Bool, List, take, ℕ};
+ghost use Rattle.std.specs.Prelude.{[], ◌++◌, ◌+◌, ◌∷◌, ◌≡◌, Bool, IsTrue, List, take, ℕ};
 ghost use Rattle.layouts.specs.RecordFiles.{AreTaken, EndsAt, IsAtRest, IsDamaged, IsFile, IsNoIndex};
 
 /// A file has one list of bodies.
@@ -11,9 +11,9 @@ pub fn a_file_has_one_list_of_bodies()
 /// Bytes are no index, or damaged from one place on, or a file of bodies that are taken, and never two of these.
 pub fn no_file_has_two_outcomes()
     ensures no_index { (body : List ℕ) (bodies : List (List ℕ)) (bytes : List ℕ) → IsFile (body ∷ bodies) bytes → ¬ IsNoIndex bytes }
-    ensures damaged { (takes : List (List ℕ) → List ℕ → Bool) (bodies : List (List ℕ)) (bytes : List ℕ) (place : ℕ) → IsFile bodies bytes → AreTaken takes [] bodies → ¬ IsDamaged takes bytes place }
-    ensures neither { (takes : List (List ℕ) → List ℕ → Bool) (bytes : List ℕ) (place : ℕ) → IsDamaged takes bytes place → ¬ IsNoIndex bytes }
-    ensures one_place { (takes : List (List ℕ) → List ℕ → Bool) (bytes : List ℕ) (first second : ℕ) → IsDamaged takes bytes first → IsDamaged takes bytes second → first ≡ second }
+    ensures damaged { (takes : List (List ℕ) → List ℕ → Bool) (bodies : List (List ℕ)) (bytes : List ℕ) (place : ℕ) → IsFile bodies bytes → AreTaken (λ before body. IsTrue (takes before body)) [] bodies → ¬ IsDamaged (λ before body. IsTrue (takes before body)) bytes place }
+    ensures neither { (takes : List (List ℕ) → List ℕ → Bool) (bytes : List ℕ) (place : ℕ) → IsDamaged (λ before body. IsTrue (takes before body)) bytes place → ¬ IsNoIndex bytes }
+    ensures one_place { (takes : List (List ℕ) → List ℕ → Bool) (bytes : List ℕ) (first second : ℕ) → IsDamaged (λ before body. IsTrue (takes before body)) bytes first → IsDamaged (λ before body. IsTrue (takes before body)) bytes second → first ≡ second }
 {}
 
 /// Bytes after the closed gate that follows the last opened record change nothing, and neither does their cut.

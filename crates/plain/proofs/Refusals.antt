@@ -3,7 +3,8 @@ use Rattle.std.proofs.Common.{[], Bool, Err, Ok, Result, List, None, Option, Som
 use Rattle.std.proofs.lemmas.Bool.Decides.{leb_tells}
 use Rattle.std.specs.Bool.{⊤}
 use Rattle.std.specs.Result.{IsErrAnd, result_err}
-use Rattle.definitions.specs.Refusing.{Test, bound, clauses_fault, first_fault, node_fault, option_or, own_tests, tree_fault}
+use Rattle.definitions.specs.Refusing.{Test, bound, clauses_fault, first_fault, node_fault, own_tests, tree_fault}
+use Rattle.std.specs.Option.{option_or}
 use Rattle.definitions.specs.Query.{all, clauses_depth, depth, empty, term}
 use Rattle.definitions.specs.Schema.{Schema}
 use Rattle.definitions.specs.Scoring.{max_score}

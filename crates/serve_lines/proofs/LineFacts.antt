@@ -6,11 +6,12 @@ use Rattle.std.specs.Str.{IsUtf8, is_utf8}
 use Rattle.std.proofs.lemmas.Str.{is_utf8-from_IsUtf8, IsUtf8-from_is_utf8}
 use Rattle.std.specs.Io.KnownBytes.{Consumes, IsAtEnd, Keeps}
 use Rattle.std.proofs.KnownBytes.{Consumes-trans}
-use Rattle.definitions.specs.Lines.{max_line_len, lines_of, onto_first}
+use Rattle.definitions.specs.Lines.{max_line_len, lines_of}
+use Rattle.std.specs.List.{onto_first}
 use Rattle.definitions.specs.declared.fault.Fault.TheVariants as faults
 use Rattle.serve_lines.specs.declared.line.LineBuffer.{LineBuffer}
 use Rattle.serve_lines.specs.Reading.{HasNoNewline, Holds, TakesLine}
-use Rattle.serve_lines.specs.Replies.{line_refusal}
+use Rattle.definitions.specs.Replying.{line_refusal}
 
 -- the test `a < b` fails where b is no greater
 nat_lt_false : (a b : ℕ) → b ≤ a → nat_lt a b ≡ false

@@ -3,7 +3,7 @@ use Rattle.std.proofs.Common.{◌≡◌, ℕ, true, false, ◌⊎◌, inl, inr, 
 use Rattle.std.specs.Io.KnownBytes.{Appends, Keeps}
 use Rattle.std.proofs.KnownBytes.{Appends-trans, Appends-kept}
 use Rattle.definitions.specs.Lines.{lines_of}
-use Rattle.serve_lines.specs.Replies.{AreReplies, Writes, state_after}
+use Rattle.definitions.specs.Replying.{AreReplies, Writes, state_after}
 use Rattle.serve_lines.specs.Serving.{Grows, ServesLine}
 
 module _ {State : Type 0} (answer : State → List ℕ → List ℕ) (after : State → List ℕ → State) where

@@ -1,4 +1,3 @@
 -- What a run over the lines of an input writes.
-pub mod Replies
 pub mod Reading
 pub mod Serving

@@ -4,7 +4,7 @@ use Rattle.std.specs.Io.KnownBytes.{Appends, Keeps}
 use Rattle.definitions.specs.FaultNames.{reply_text}
 use Rattle.definitions.specs.Lines.{lines_of}
 use Rattle.definitions.specs.declared.fault.Fault.{Fault}
-use Rattle.serve_lines.specs.Replies.{stops, output_line, reply_to, state_after}
+use Rattle.definitions.specs.Replying.{stops, output_line, reply_to, state_after}
 
 -- the writer's bytes grow by some bytes
 abbrev pub Grows : Option (List ℕ) → Option (List ℕ) → Type 0

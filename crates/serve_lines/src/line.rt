@@ -32,7 +32,7 @@ pub(crate) struct LineBuffer {
 
 impl LineBuffer {
     ghost use Rattle.serve_lines.specs.Reading.{Adds, Holds};
-    ghost use Rattle.serve_lines.specs.Replies.{line_refusal};
+    ghost use Rattle.definitions.specs.Replying.{line_refusal};
     ghost use Rattle.definitions.specs.declared.fault.Fault.TheVariants.{OutOfMemory};
 
     pub(crate) fn new(alloc: Global) -> Self {

@@ -2,7 +2,7 @@
 
 ghost use Rattle.std.specs.Prelude.{◌≡◌, ℕ, List, IsTrue, IfOk, IfErr, OnOk};
 ghost use Rattle.std.specs.Cow.{cow_str_bytes};
-ghost use Rattle.serve_lines.specs.Replies.{stops};
+ghost use Rattle.definitions.specs.Replying.{stops};
 
 use definitions::Fault;
 use std::borrow::CowStr;

@@ -4,7 +4,7 @@ ghost use Rattle.std.specs.Prelude.{◌≡◌, ℕ, ◌<◌, List, OnOk, IfOk, I
 ghost use Rattle.std.specs.Io.KnownBytes.{Appends};
 ghost use Rattle.definitions.specs.Lines.{lines_of};
 ghost use Rattle.serve_lines.specs.Reading.{Holds};
-ghost use Rattle.serve_lines.specs.Replies.{output_line, Writes};
+ghost use Rattle.definitions.specs.Replying.{output_line, Writes};
 ghost use Rattle.serve_lines.specs.Serving.{Grows, ServesLine, WritesAnswer};
 
 use crate::line::LineBuffer;

@@ -4,7 +4,7 @@
 ghost use Rattle.std.specs.Prelude.{[], ◌++◌, ◌∷◌, ◌≡◌, codes, map};
 ghost use Rattle.definitions.specs.Calls.{closed, writer_closed};
 ghost use Rattle.definitions.specs.LineExamples.{after_lines, book_session, empty_session, opened_session, reply, session_with, three_book_lines, three_books_session, title_line, unindexed_session};
-ghost use Rattle.definitions.specs.Step.{answer_of, answers_to};
+ghost use Rattle.definitions.specs.Replying.{answers_to};
 
 /// Three books are added and committed, then searched and counted.
 pub fn a_session_answers_line_by_line()
@@ -39,8 +39,8 @@ pub fn other_lines_are_refused()
     ensures another_key { reply book_session "{\"op\":\"commit\",\"all\":true}" ≡ codes "{\"error\":\"BadRequest\"}" }
     ensures missing_key { reply book_session "{\"op\":\"search\",\"query\":{\"q\":\"all\"}}" ≡ codes "{\"error\":\"BadRequest\"}" }
     ensures wrong_key { reply book_session "{\"op\":\"add\",\"document\":{}}" ≡ codes "{\"error\":\"BadRequest\"}" }
-    ensures not_utf8 { answer_of book_session (codes "{\"op\":\"add\",\"doc\":{\"title\":\"" ++ (255 ∷ codes "\"}}")) ≡ codes "{\"error\":\"BadRequest\"}" }
-    ensures not_yet { map (answer_of book_session) (codes "{\"op\":\"delete\",\"term\":{\"field\":\"year\",\"value\":1}}" ∷ codes "{\"op\":\"merge\",\"from\":0,\"to\":1}" ∷ []) ≡ codes "{\"error\":\"BadRequest\"}" ∷ codes "{\"error\":\"BadRequest\"}" ∷ [] }
+    ensures not_utf8 { answers_to book_session ((codes "{\"op\":\"add\",\"doc\":{\"title\":\"" ++ (255 ∷ codes "\"}}")) ∷ []) ≡ codes "{\"error\":\"BadRequest\"}" ∷ [] }
+    ensures not_yet { answers_to book_session (codes "{\"op\":\"delete\",\"term\":{\"field\":\"year\",\"value\":1}}" ∷ codes "{\"op\":\"merge\",\"from\":0,\"to\":1}" ∷ []) ≡ codes "{\"error\":\"BadRequest\"}" ∷ codes "{\"error\":\"BadRequest\"}" ∷ [] }
 {}
 
 /// Numbers are whole, from 0 to 2 to the 63rd less 1.

@@ -1,7 +1,7 @@
 //! What files of records are, of no index and of damage.
 #![tactic(auto, unfolding(crate::specs::RecordFiles::records))]
 
-ghost use Rattle.std.specs.Prelude.{[], ◌≡◌, ◌∷◌, bytes_eq, true, List, ℕ};
+ghost use Rattle.std.specs.Prelude.{[], ⊤, ◌≡◌, ◌∷◌, bytes_eq, List, ℕ};
 ghost use Rattle.layouts.specs.RecordFiles.{EndsAt, IsAtRest, IsDamaged, IsFile, IsFresh, IsNoIndex, IsOneOf, records};
 
 /// A record: its open gate, the length of its body in eight bytes, the body.
@@ -28,8 +28,8 @@ pub fn short_and_closed_files_are_no_index()
 
 /// A record without its next gate is none, and neither is one with a shorter body than its length says.
 pub fn records_without_their_gate_are_damaged()
-    ensures first { IsDamaged (λ before body. true) (165 ∷ 1 ∷ 0 ∷ 0 ∷ 0 ∷ 0 ∷ 0 ∷ 0 ∷ 0 ∷ 0 ∷ []) 0 }
-    ensures second { IsDamaged (λ before body. true) (165 ∷ 1 ∷ 0 ∷ 0 ∷ 0 ∷ 0 ∷ 0 ∷ 0 ∷ 0 ∷ 7 ∷ 165 ∷ 1 ∷ 0 ∷ 0 ∷ 0 ∷ 0 ∷ 0 ∷ 0 ∷ 0 ∷ 0 ∷ []) 10 }
+    ensures first { IsDamaged (λ before body. ⊤) (165 ∷ 1 ∷ 0 ∷ 0 ∷ 0 ∷ 0 ∷ 0 ∷ 0 ∷ 0 ∷ 0 ∷ []) 0 }
+    ensures second { IsDamaged (λ before body. ⊤) (165 ∷ 1 ∷ 0 ∷ 0 ∷ 0 ∷ 0 ∷ 0 ∷ 0 ∷ 0 ∷ 7 ∷ 165 ∷ 1 ∷ 0 ∷ 0 ∷ 0 ∷ 0 ∷ 0 ∷ 0 ∷ 0 ∷ 0 ∷ []) 10 }
 {}
 
 /// A new file is no index, or has one body that is taken.

@@ -1,6 +1,7 @@
 use Rattle.std.proofs.Common.{ap, drop, sym, ◌+◌, ◌∙◌}
 use Rattle.std.specs.Result.{result_err}
-use Rattle.definitions.specs.Refusing.{clauses_fault, option_or}
+use Rattle.definitions.specs.Refusing.{clauses_fault}
+use Rattle.std.specs.Option.{option_or}
 use Rattle.definitions.specs.Settings.{weight_of}
 use Rattle.plain.specs.Queries.{clauses_of}
 use Rattle.plain.proofs.ClauseSteps.{next_of}

@@ -2,7 +2,7 @@ use Rattle.std.proofs.Common.{false, option_map, refl, sym, true, ◌≡◌}
 use Rattle.definitions.specs.Requests as requests
 use Rattle.definitions.specs.Step as steps
 use Rattle.definitions.specs.declared.fault.Fault.TheVariants as faults
-use Rattle.serve_lines.specs.Replies.{stops}
+use Rattle.definitions.specs.Replying.{stops}
 use Rattle.index.proofs.Answering.{going_on}
 use Rattle.index.proofs.SessionSteps.{already_made, on_map, refused_reply, unread_step}
 use Rattle.serde_json.specs.View.{view}

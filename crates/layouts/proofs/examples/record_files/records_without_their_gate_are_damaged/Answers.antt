@@ -28,6 +28,6 @@ returns-clause-second c = record {
   whole = refl;
   stands = refl;
   short = (omega arith, tt);
-  taken = (refl, tt);
+  taken = (tt, tt);
   broken = too_few _ _ _ 1 refl (omega arith);
 }

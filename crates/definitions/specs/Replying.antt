@@ -1,10 +1,11 @@
--- The replies to the lines of an input.
+-- The lines of an input, and the replies to them.
 use Rattle.std.specs.Prelude.{◌≡◌, ℕ, Bool, true, false, IsTrue, nat_lt, is_none, if◌then◌else◌, ◌⊎◌, Option, None, Some, List, [], ◌∷◌, ◌++◌, length}
 use Rattle.std.specs.Option.{option_map_or}
 use Rattle.std.specs.Str.{is_utf8}
 use Rattle.std.specs.Io.KnownBytes.{Appends}
 use Rattle.definitions.specs.FaultNames.{reply_text}
 use Rattle.definitions.specs.Lines.{max_line_len}
+use Rattle.definitions.specs.Step.{Session, after_line, answer_of}
 use Rattle.definitions.specs.declared.fault.Fault.{Fault}
 use Rattle.definitions.specs.declared.fault.Fault.TheVariants as faults
 
@@ -45,3 +46,8 @@ module _ {State : Type 0} (answer : State → List ℕ → List ℕ) (after : St
   -- the writer's bytes grow by such replies
   abbrev pub Writes : State → List (List ℕ) → Option (List ℕ) → Option (List ℕ) → Type 0
   Writes s lines old new = (out : List ℕ) × Appends old new out × AreReplies s lines out
+
+-- the replies of a session to lines in a row, where no fault stops
+abbrev pub answers_to : Session → List (List ℕ) → List (List ℕ)
+answers_to session [] = []
+answers_to session (line ∷ lines) = reply_to answer_of after_line session line ∷ answers_to (state_after answer_of after_line session line) lines
