@@ -28,3 +28,4 @@ pub mod PrefixRanges
 pub mod DocumentBounds
 pub mod MergedRows
 pub mod ScannedAnswers
+pub mod ApartLists

@@ -42,7 +42,7 @@ pub fn enough_lists_have_a_document()
     ensures all { documents_of (at_least 3 sum (map (each_scoring 1) ((1 ∷ 3333 ∷ 100000000 ∷ []) ∷ (1 ∷ 2 ∷ 100000000 ∷ []) ∷ (1 ∷ 2 ∷ 100000000 ∷ []) ∷ []))) ≡ 1 ∷ 100000000 ∷ [] }
     ensures apart { at_least 2 sum (map (each_scoring 1) ((8 ∷ []) ∷ (3 ∷ 4 ∷ 12648430 ∷ []) ∷ (1 ∷ 2 ∷ 100000000 ∷ []) ∷ [])) ≡ [] }
     ensures alike { at_least (2 ^ 64 - 1) sum (replicate 10000 (each_scoring 1 (12648430 ∷ []))) ≡ [] }
-    ensures one_each { at_least 2 sum (map (λ doc. each_scoring 1 (doc ∷ [])) (range_with_len 1 99)) ≡ [] }
+    ensures one_each { at_least 2 sum (map (λ doc. each_scoring 1 (doc ∷ [])) (range_with_len 1 9999)) ≡ [] }
     ensures no_list { at_least 2 sum [] ≡ [] }
 {}
 
