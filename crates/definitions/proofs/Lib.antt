@@ -22,6 +22,7 @@ pub mod CallImages
 pub mod CallRuns
 pub mod KeptCalls
 pub mod ReadDocs
+pub mod OwnFaults
 pub mod CallAnswers
 pub mod CallMoments
 pub mod PrefixRanges
