@@ -1,7 +1,9 @@
 -- What an answer says of what its call left.
-use Rattle.std.proofs.Common.{Err, None, Ok, Result, Some, ap, inl, inr, refl, sym, true, ◌||◌, ◌∙◌, ◌≡◌, ◌≢◌, ◌⊎◌}
+use Rattle.std.proofs.Common.{Err, None, Ok, Result, Some, ap, inl, inr, refl, sym, true, true≢false, false, if◌then◌else◌, ◌||◌, ◌∙◌, ◌≡◌, ◌≢◌, ◌⊎◌}
 use Rattle.std.specs.Prelude.{⊤}
-use Rattle.definitions.specs.Calls.{Call, Configuration, Index, IsWant, Leaves, Status, add_document, add_json, add_value, after, call_fault, closed, commit_pending, count_all, delete_term, is_add, is_commit, is_merge, is_search, merge_range, only_reads, ready, search_best, status_fault, writer_closed}
+use Rattle.definitions.specs.Calls.{Call, Configuration, Index, IsWant, Leaves, Status, add_document, add_json, add_value, after, call_fault, closed, commit_pending, count_all, delete_term, is_add, is_commit, is_merge, is_search, merge_range, only_reads, own_fault, ready, search_best, status_fault, writer_closed}
+use Rattle.definitions.specs.Refusing.{option_or}
+use Rattle.definitions.proofs.OwnFaults.{is_failure, refused_by_closed_writer, refused_by_no_failure}
 use Rattle.definitions.specs.declared.fault.Fault.{Fault}
 use Rattle.definitions.specs.declared.fault.Fault.TheVariants as faults
 
@@ -34,6 +36,10 @@ want_is _ IsWant.limit_met = inr refl
 -- ---- what each answer says
 
 module _ (c : Configuration) (x : Index) (call : Call) where
+  -- no failure is a call's own refusal
+  never : (fault : Fault) → is_failure fault ≡ true → call_fault c x call ≡ Some fault → ⊥
+  never fault fails is = true≢false (sym fails ∙ refused_by_no_failure c x call fault is)
+
   pub left_answered : {r : Answer} {y : Index} → Leaves c x call r y → r ≡ done → (call_fault c x call ≡ None) × (y ≡ record { state = after c x.state call; status = x.status })
   left_answered (Leaves.refused fault is) e = absurd (no_done fault e)
   left_answered (Leaves.answered is) e = (is, refl)
@@ -52,32 +58,72 @@ module _ (c : Configuration) (x : Index) (call : Call) where
   left_refused fault (Leaves.device_failed is writes) e memory limit device damaged = absurd (device (sym (same_fault _ fault e)))
   left_refused fault (Leaves.slot_damaged is reads) e memory limit device damaged = absurd (damaged (sym (same_fault _ fault e)))
 
-  pub left_device : {r : Answer} {y : Index} → Leaves c x call r y → r ≡ failed faults.Device → call_fault c x call ≢ Some faults.Device → ((is_commit call || is_merge call) ≡ true) × (y ≡ record { state = x.state; status = closed })
-  left_device (Leaves.refused own is) e other = absurd (other (is ∙ ap Some (same_fault own _ e)))
-  left_device (Leaves.answered is) e other = absurd (done_no _ e)
-  left_device (Leaves.memory_refused open_ adds) e other = let f = same_fault faults.OutOfMemory faults.Device e in absurd (cc)
-  left_device (Leaves.limit_refused is writes) e other = let f = same_fault faults.Limit faults.Device e in absurd (cc)
-  left_device (Leaves.half_written own want is writes) e other = let f = same_fault own faults.Device e in absurd (elim (want_is own want) [ inl w ↦ cc | inr w ↦ cc ])
-  left_device (Leaves.device_failed is writes) e other = (writes, refl)
-  left_device (Leaves.slot_damaged is reads) e other = let f = same_fault (faults.Damaged None) faults.Device e in absurd (cc)
+  pub left_device : {r : Answer} {y : Index} → Leaves c x call r y → r ≡ failed faults.Device → ((is_commit call || is_merge call) ≡ true) × (y ≡ record { state = x.state; status = closed })
+  left_device (Leaves.refused own is) e = absurd (never faults.Device refl (is ∙ ap Some (same_fault own faults.Device e)))
+  left_device (Leaves.answered is) e = absurd (done_no _ e)
+  left_device (Leaves.memory_refused open_ adds) e = let f = same_fault faults.OutOfMemory faults.Device e in absurd (cc)
+  left_device (Leaves.limit_refused is writes) e = let f = same_fault faults.Limit faults.Device e in absurd (cc)
+  left_device (Leaves.half_written own want is writes) e = let f = same_fault own faults.Device e in absurd (elim (want_is own want) [ inl w ↦ cc | inr w ↦ cc ])
+  left_device (Leaves.device_failed is writes) e = (writes, refl)
+  left_device (Leaves.slot_damaged is reads) e = let f = same_fault (faults.Damaged None) faults.Device e in absurd (cc)
 
-  pub left_damaged : {r : Answer} {y : Index} → Leaves c x call r y → r ≡ failed (faults.Damaged None) → call_fault c x call ≢ Some (faults.Damaged None) → ((is_search call || is_merge call) ≡ true) × (y ≡ x)
-  left_damaged (Leaves.refused own is) e other = absurd (other (is ∙ ap Some (same_fault own _ e)))
-  left_damaged (Leaves.answered is) e other = absurd (done_no _ e)
-  left_damaged (Leaves.memory_refused open_ adds) e other = let f = same_fault faults.OutOfMemory (faults.Damaged None) e in absurd (cc)
-  left_damaged (Leaves.limit_refused is writes) e other = let f = same_fault faults.Limit (faults.Damaged None) e in absurd (cc)
-  left_damaged (Leaves.half_written own want is writes) e other = let f = same_fault own (faults.Damaged None) e in absurd (elim (want_is own want) [ inl w ↦ cc | inr w ↦ cc ])
-  left_damaged (Leaves.device_failed is writes) e other = let f = same_fault faults.Device (faults.Damaged None) e in absurd (cc)
-  left_damaged (Leaves.slot_damaged is reads) e other = (reads, refl)
+  pub left_damaged : {r : Answer} {y : Index} → Leaves c x call r y → r ≡ failed (faults.Damaged None) → ((is_search call || is_merge call) ≡ true) × (y ≡ x)
+  left_damaged (Leaves.refused own is) e = absurd (never (faults.Damaged None) refl (is ∙ ap Some (same_fault own (faults.Damaged None) e)))
+  left_damaged (Leaves.answered is) e = absurd (done_no _ e)
+  left_damaged (Leaves.memory_refused open_ adds) e = let f = same_fault faults.OutOfMemory (faults.Damaged None) e in absurd (cc)
+  left_damaged (Leaves.limit_refused is writes) e = let f = same_fault faults.Limit (faults.Damaged None) e in absurd (cc)
+  left_damaged (Leaves.half_written own want is writes) e = let f = same_fault own (faults.Damaged None) e in absurd (elim (want_is own want) [ inl w ↦ cc | inr w ↦ cc ])
+  left_damaged (Leaves.device_failed is writes) e = let f = same_fault faults.Device (faults.Damaged None) e in absurd (cc)
+  left_damaged (Leaves.slot_damaged is reads) e = (reads, refl)
 
-  pub left_limit : {r : Answer} {y : Index} → Leaves c x call r y → r ≡ failed faults.Limit → call_fault c x call ≢ Some faults.Limit → (((is_add call || is_merge call) ≡ true) × (y ≡ x)) ⊎ (((is_add call || is_commit call) ≡ true) × (y ≡ record { state = x.state; status = writer_closed }))
-  left_limit (Leaves.refused own is) e other = absurd (other (is ∙ ap Some (same_fault own _ e)))
-  left_limit (Leaves.answered is) e other = absurd (done_no _ e)
-  left_limit (Leaves.memory_refused open_ adds) e other = let f = same_fault faults.OutOfMemory faults.Limit e in absurd (cc)
-  left_limit (Leaves.limit_refused is writes) e other = inl (writes, refl)
-  left_limit (Leaves.half_written own want is writes) e other = inr (writes, refl)
-  left_limit (Leaves.device_failed is writes) e other = let f = same_fault faults.Device faults.Limit e in absurd (cc)
-  left_limit (Leaves.slot_damaged is reads) e other = let f = same_fault (faults.Damaged None) faults.Limit e in absurd (cc)
+  pub left_limit : {r : Answer} {y : Index} → Leaves c x call r y → r ≡ failed faults.Limit → (((is_add call || is_merge call) ≡ true) × (y ≡ x)) ⊎ (((is_add call || is_commit call) ≡ true) × (y ≡ record { state = x.state; status = writer_closed }))
+  left_limit (Leaves.refused own is) e = absurd (never faults.Limit refl (is ∙ ap Some (same_fault own faults.Limit e)))
+  left_limit (Leaves.answered is) e = absurd (done_no _ e)
+  left_limit (Leaves.memory_refused open_ adds) e = let f = same_fault faults.OutOfMemory faults.Limit e in absurd (cc)
+  left_limit (Leaves.limit_refused is writes) e = inl (writes, refl)
+  left_limit (Leaves.half_written own want is writes) e = inr (writes, refl)
+  left_limit (Leaves.device_failed is writes) e = let f = same_fault faults.Device faults.Limit e in absurd (cc)
+  left_limit (Leaves.slot_damaged is reads) e = let f = same_fault (faults.Damaged None) faults.Limit e in absurd (cc)
+
+  pub left_without_room : {r : Answer} {y : Index} → Leaves c x call r y → r ≡ failed faults.OutOfMemory → ((status_fault x.status call ≡ None) × (is_commit call ≡ false) × (y ≡ x)) ⊎ ((call_fault c x call ≡ None) × ((is_add call || is_commit call) ≡ true) × (y ≡ record { state = x.state; status = writer_closed }))
+  left_without_room (Leaves.refused own is) e = absurd (never faults.OutOfMemory refl (is ∙ ap Some (same_fault own faults.OutOfMemory e)))
+  left_without_room (Leaves.answered is) e = absurd (done_no _ e)
+  left_without_room (Leaves.memory_refused open_ other) e = inl (open_, other, refl)
+  left_without_room (Leaves.limit_refused is writes) e = let f = same_fault faults.Limit faults.OutOfMemory e in absurd (cc)
+  left_without_room (Leaves.half_written own want is writes) e = inr (is, writes, refl)
+  left_without_room (Leaves.device_failed is writes) e = let f = same_fault faults.Device faults.OutOfMemory e in absurd (cc)
+  left_without_room (Leaves.slot_damaged is reads) e = let f = same_fault (faults.Damaged None) faults.OutOfMemory e in absurd (cc)
+
+  pub left_writer_closed : {r : Answer} {y : Index} → Leaves c x call r y → r ≡ failed faults.WriterClosed → (x.status ≡ writer_closed) × (only_reads call ≡ false) × (y ≡ x)
+  left_writer_closed (Leaves.refused own is) e = let by = refused_by_closed_writer c x call (is ∙ ap Some (same_fault own faults.WriterClosed e)) in (by.0, by.1, refl)
+  left_writer_closed (Leaves.answered is) e = absurd (done_no _ e)
+  left_writer_closed (Leaves.memory_refused open_ other) e = let f = same_fault faults.OutOfMemory faults.WriterClosed e in absurd (cc)
+  left_writer_closed (Leaves.limit_refused is writes) e = let f = same_fault faults.Limit faults.WriterClosed e in absurd (cc)
+  left_writer_closed (Leaves.half_written own want is writes) e = let f = same_fault own faults.WriterClosed e in absurd (elim (want_is own want) [ inl w ↦ cc | inr w ↦ cc ])
+  left_writer_closed (Leaves.device_failed is writes) e = let f = same_fault faults.Device faults.WriterClosed e in absurd (cc)
+  left_writer_closed (Leaves.slot_damaged is reads) e = let f = same_fault (faults.Damaged None) faults.WriterClosed e in absurd (cc)
+
+  -- a closed writer refuses what writes
+  writes_refused : x.status ≡ writer_closed → only_reads call ≡ false → (status_fault x.status call ≡ Some faults.WriterClosed) × (call_fault c x call ≡ Some faults.WriterClosed)
+  writes_refused stands writes = (ap (λ s. status_fault s call) stands ∙ ap (λ reads. if reads then None else Some faults.WriterClosed) writes, ap (λ s. option_or (status_fault s call) (own_fault c x.state call)) stands ∙ ap (λ reads. option_or (if reads then None else Some faults.WriterClosed) (own_fault c x.state call)) writes)
+
+  pub left_by_closed_writer : {r : Answer} {y : Index} → Leaves c x call r y → x.status ≡ writer_closed → only_reads call ≡ false → (r ≡ failed faults.WriterClosed) × (y ≡ x)
+  left_by_closed_writer (Leaves.refused own is) stands writes = let f = (writes_refused stands writes).1 in (cc, refl)
+  left_by_closed_writer (Leaves.answered is) stands writes = let f = (writes_refused stands writes).1 in absurd (cc)
+  left_by_closed_writer (Leaves.memory_refused open_ other) stands writes = let f = (writes_refused stands writes).0 in absurd (cc)
+  left_by_closed_writer (Leaves.limit_refused is adds) stands writes = let f = (writes_refused stands writes).1 in absurd (cc)
+  left_by_closed_writer (Leaves.half_written own want is adds) stands writes = let f = (writes_refused stands writes).1 in absurd (cc)
+  left_by_closed_writer (Leaves.device_failed is commits) stands writes = let f = (writes_refused stands writes).1 in absurd (cc)
+  left_by_closed_writer (Leaves.slot_damaged is reads) stands writes = let f = (writes_refused stands writes).1 in absurd (cc)
+
+  pub left_closing_writer : {r : Answer} {y : Index} → Leaves c x call r y → y.status ≡ writer_closed → (x.status ≡ writer_closed) ⊎ (((is_add call || is_commit call) ≡ true) × ((r ≡ failed faults.OutOfMemory) ⊎ (r ≡ failed faults.Limit)))
+  left_closing_writer (Leaves.refused own is) e = inl e
+  left_closing_writer (Leaves.answered is) e = inl e
+  left_closing_writer (Leaves.memory_refused open_ other) e = inl e
+  left_closing_writer (Leaves.limit_refused is writes) e = inl e
+  left_closing_writer (Leaves.half_written own want is writes) e = inr (writes, elim (want_is own want) [ inl w ↦ inl (ap failed w) | inr w ↦ inr (ap failed w) ])
+  left_closing_writer (Leaves.device_failed is writes) e = absurd (cc)
+  left_closing_writer (Leaves.slot_damaged is reads) e = inl e
 
   pub left_state : {r : Answer} {y : Index} → (fault : Fault) → Leaves c x call r y → r ≡ failed fault → y.state ≡ x.state
   left_state fault (Leaves.refused own is) e = refl

@@ -22,9 +22,11 @@ pub mod CallImages
 pub mod CallRuns
 pub mod KeptCalls
 pub mod ReadDocs
+pub mod OwnFaults
 pub mod CallAnswers
 pub mod CallMoments
 pub mod PrefixRanges
 pub mod DocumentBounds
 pub mod MergedRows
 pub mod ScannedAnswers
+pub mod ApartLists

@@ -78,7 +78,7 @@ without_all others ps = filter (λ p. not (list_any (has_document p.0) others)) 
 
 -- the documents of the required list, with the optional score where there is one
 abbrev pub with_optional : (List ℕ → ℕ) → ScoredList → ScoredList → ScoredList
-with_optional combine optional required = map (λ p. (p.0, combine (p.1 ∷ scores_in p.0 optional))) required
+with_optional combine required optional = map (λ p. (p.0, combine (p.1 ∷ scores_in p.0 optional))) required
 
 -- ---- combiners, beside `sum` and `best_and_tie`
 

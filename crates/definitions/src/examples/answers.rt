@@ -3,11 +3,11 @@
 ghost use Rattle.std.specs.Prelude.{[], ◌∷◌, ◌≡◌, false, map, pos, true};
 ghost use Rattle.definitions.specs.Analyzers.{raw_and_default};
 ghost use Rattle.definitions.specs.Answers.{answers, living_answers, living_count};
-ghost use Rattle.definitions.specs.Examples.{bare, begun, best_of, books, bool_of, data_of, json_data, letters, of_year, old_sea, sea_or_wind, sea_wind, shoulds, text_entry, three_books, title_term, weighing, wind, word, words, year_term};
+ghost use Rattle.definitions.specs.Examples.{bare, begun, best_of, books, bool_of, data_of, indexed_entry, json_data, letters, of_year, old_sea, sea_or_wind, sea_wind, shoulds, text_entry, three_books, title_term, weighing, wind, word, words, year_term};
 ghost use Rattle.definitions.specs.KeptLengths.{length_fields, norms_of};
 ghost use Rattle.definitions.specs.Query.{all, boolean, boost, clause, const_score, empty, must, must_not, no_clauses, phrase};
 ghost use Rattle.definitions.specs.QueryTerms.{query_terms};
-ghost use Rattle.definitions.specs.Schema.{facet_kind, text_kind};
+ghost use Rattle.definitions.specs.Schema.{facet_kind, text_kind, u64_kind};
 ghost use Rattle.definitions.specs.ScoredLists.{documents_of};
 
 /// The places of the documents that match, with their scores.
@@ -54,6 +54,7 @@ pub fn segments_keep_lengths()
     ensures facets { length_fields (data_of facet_kind) ≡ [] }
     ensures json { length_fields json_data ≡ [] }
     ensures not_indexed { length_fields (bare "a" text_kind ∷ text_entry "title" ∷ []) ≡ 1 ∷ [] }
+    ensures set_but_not_indexed { length_fields (record (bare "year" u64_kind) { fieldnorms = true } ∷ indexed_entry "day" u64_kind ∷ []) ≡ 1 ∷ [] }
     ensures unset { length_fields (record (text_entry "title") { fieldnorms = false } ∷ []) ≡ [] }
     ensures norms { norms_of books raw_and_default three_books ≡ (0, 3 ∷ 3 ∷ 1 ∷ []) ∷ (1, 1 ∷ 1 ∷ 1 ∷ []) ∷ [] }
     ensures no_documents { norms_of books raw_and_default [] ≡ (0, []) ∷ (1, []) ∷ [] }

@@ -34,5 +34,7 @@ pub fn begun_words_are_counted()
     ensures third { map (prefix_count books raw_and_default (map title_term ("dc" ∷ "dd" ∷ [])) (in_a_row ("aa" ∷ "cc" ∷ "d" ∷ []))) (titled ("aa dd cc" ∷ []) ∷ titled ("aa aa bb c dd aa bb cc aa dc" ∷ []) ∷ titled ("aa bb cd" ∷ []) ∷ []) ≡ 0 ∷ 0 ∷ 0 ∷ [] }
     ensures left_out { prefix_count books raw_and_default (map title_term ("c" ∷ [])) (in_a_row ("aa" ∷ "bb" ∷ "c" ∷ [])) (titled ("aa aa bb c dd aa bb cc aa bb dc" ∷ [])) ≡ 1 }
     ensures at_one_place { prefix_count books raw_and_default (map title_term ("sea" ∷ "see" ∷ [])) (in_a_row ("a" ∷ "se" ∷ [])) ((0, pre_tok_str [] (one_token 0 (codes "a") ∷ one_token 1 (codes "sea") ∷ one_token 1 (codes "see") ∷ [])) ∷ []) ≡ 2 }
+    ensures a_place_once { prefix_count books raw_and_default (map title_term ("sea" ∷ [])) (in_a_row ("a" ∷ "se" ∷ [])) ((0, pre_tok_str [] (one_token 0 (codes "a") ∷ one_token 1 (codes "sea") ∷ one_token 1 (codes "sea") ∷ [])) ∷ []) ≡ 1 }
+    ensures a_whole_place_once { prefix_count books raw_and_default (map title_term ("sea" ∷ [])) (in_a_row ("a" ∷ "se" ∷ [])) ((0, pre_tok_str [] (one_token 0 (codes "a") ∷ one_token 0 (codes "a") ∷ one_token 1 (codes "sea") ∷ [])) ∷ []) ≡ 1 }
     ensures at_its_offset { prefix_count books raw_and_default (map title_term ("sea" ∷ [])) ((0, title_term "the") ∷ (1, title_term "old") ∷ (3, title_term "s") ∷ []) (titled ("the old big sea" ∷ [])) ≡ 1 }
 {}

@@ -33,6 +33,7 @@ pub fn the_best_query_counts()
     ensures half { best 10 three_books (best_of (word "sea" ∷ word "wind" ∷ []) 500) ≡ hit sea_wind 55 ∷ hit old_sea 30 ∷ hit wind 30 ∷ [] }
     ensures whole { best 10 three_books (best_of (word "sea" ∷ word "wind" ∷ []) 1000) ≡ best 10 three_books sea_or_wind }
     ensures three { best 1 three_books (best_of (word "sea" ∷ word "wind" ∷ all ∷ []) 333) ≡ hit sea_wind 50 ∷ [] }
+    ensures boosted { best 1 three_books (boost (pos 3) (best_of (word "sea" ∷ word "wind" ∷ []) 333)) ≡ hit sea_wind 149 ∷ [] }
     ensures rounded { best 1 three_books (best_of (word "sea" ∷ word "wind" ∷ []) 50) ≡ hit sea_wind 41 ∷ [] }
 {}
 
@@ -49,6 +50,7 @@ pub fn constants_replace_and_boosts_multiply()
     ensures both { best 1 three_books (boost (pos 3) (const_score (pos 7) (word "sea"))) ≡ hit old_sea 21 ∷ [] }
     ensures twice { best 1 three_books (boost (pos 3) (boost (pos 2) (word "sea"))) ≡ hit sea_wind 240 ∷ [] }
     ensures negative { best 1 three_books (boost (negsuc 2) (word "sea")) ≡ hit old_sea 0 ∷ [] }
+    ensures of_a_whole_part { scan books raw_and_default (weighing 61) three_books (boost (pos 2) (word "sea")) 10 ≡ hit sea_wind 80 ∷ hit old_sea 60 ∷ [] }
 {}
 
 /// The query for all documents earns a point times the boosts above it.

@@ -41,8 +41,8 @@ pub fn enough_lists_have_a_document()
     ensures far { documents_of (at_least 2 sum (map (each_scoring 1) ((1 ∷ 3333 ∷ 100000000 ∷ []) ∷ (1 ∷ 2 ∷ 100000000 ∷ []) ∷ (1 ∷ 2 ∷ 100000000 ∷ []) ∷ []))) ≡ 1 ∷ 2 ∷ 100000000 ∷ [] }
     ensures all { documents_of (at_least 3 sum (map (each_scoring 1) ((1 ∷ 3333 ∷ 100000000 ∷ []) ∷ (1 ∷ 2 ∷ 100000000 ∷ []) ∷ (1 ∷ 2 ∷ 100000000 ∷ []) ∷ []))) ≡ 1 ∷ 100000000 ∷ [] }
     ensures apart { at_least 2 sum (map (each_scoring 1) ((8 ∷ []) ∷ (3 ∷ 4 ∷ 12648430 ∷ []) ∷ (1 ∷ 2 ∷ 100000000 ∷ []) ∷ [])) ≡ [] }
-    ensures alike { at_least (2 ^ 64 - 1) sum (replicate 100 (each_scoring 1 (12648430 ∷ []))) ≡ [] }
-    ensures one_each { at_least 2 sum (map (λ doc. each_scoring 1 (doc ∷ [])) (range_with_len 1 99)) ≡ [] }
+    ensures alike { at_least (2 ^ 64 - 1) sum (replicate 10000 (each_scoring 1 (12648430 ∷ []))) ≡ [] }
+    ensures one_each { at_least 2 sum (map (λ doc. each_scoring 1 (doc ∷ [])) (range_with_len 1 9999)) ≡ [] }
     ensures no_list { at_least 2 sum [] ≡ [] }
 {}
 
@@ -69,9 +69,10 @@ pub fn unions_combine_scores()
 
 /// An optional list adds scores, and no document.
 pub fn optional_lists_only_score()
-    ensures scores { map (λ p. p.1) (with_optional sum (each_scoring 1 (1 ∷ 2 ∷ 7 ∷ 11 ∷ 12 ∷ 15 ∷ [])) (each_scoring 1 (1 ∷ 3 ∷ 7 ∷ 8 ∷ 9 ∷ 10 ∷ 13 ∷ 15 ∷ []))) ≡ 2 ∷ 1 ∷ 2 ∷ 1 ∷ 1 ∷ 1 ∷ 1 ∷ 2 ∷ [] }
-    ensures from_seven { from_document 7 (with_optional sum (each_scoring 1 (2 ∷ 7 ∷ 11 ∷ 12 ∷ 15 ∷ [])) (each_scoring 1 (1 ∷ 3 ∷ 7 ∷ []))) ≡ (7, 2) ∷ [] }
-    ensures from_twelve { from_document 12 (with_optional sum (each_scoring 1 (2 ∷ 7 ∷ 11 ∷ 12 ∷ 15 ∷ [])) (each_scoring 1 (1 ∷ 3 ∷ 7 ∷ 8 ∷ 9 ∷ 10 ∷ 13 ∷ 15 ∷ []))) ≡ (13, 1) ∷ (15, 2) ∷ [] }
+    ensures scores { map (λ p. p.1) (with_optional sum (each_scoring 1 (1 ∷ 3 ∷ 7 ∷ 8 ∷ 9 ∷ 10 ∷ 13 ∷ 15 ∷ [])) (each_scoring 1 (1 ∷ 2 ∷ 7 ∷ 11 ∷ 12 ∷ 15 ∷ []))) ≡ 2 ∷ 1 ∷ 2 ∷ 1 ∷ 1 ∷ 1 ∷ 1 ∷ 2 ∷ [] }
+    ensures from_seven { from_document 7 (with_optional sum (each_scoring 1 (1 ∷ 3 ∷ 7 ∷ [])) (each_scoring 1 (2 ∷ 7 ∷ 11 ∷ 12 ∷ 15 ∷ []))) ≡ (7, 2) ∷ [] }
+    ensures from_twelve { from_document 12 (with_optional sum (each_scoring 1 (1 ∷ 3 ∷ 7 ∷ 8 ∷ 9 ∷ 10 ∷ 13 ∷ 15 ∷ [])) (each_scoring 1 (2 ∷ 7 ∷ 11 ∷ 12 ∷ 15 ∷ []))) ≡ (13, 1) ∷ (15, 2) ∷ [] }
+    ensures required_first { with_optional (head_or 0) ((1, 40) ∷ (2, 30) ∷ []) ((1, 7) ∷ (3, 9) ∷ []) ≡ (1, 40) ∷ (2, 30) ∷ [] }
 {}
 
 /// A boost multiplies scores, and a constant stands in their place.

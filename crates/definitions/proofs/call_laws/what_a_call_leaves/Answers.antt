@@ -1,5 +1,5 @@
 use Rattle.std.proofs.Common.{refl}
-use Rattle.definitions.proofs.CallAnswers.{left_answered, left_by_reading, left_closed, left_damaged, left_device, left_limit, left_refused, left_state, left_without_memory}
+use Rattle.definitions.proofs.CallAnswers.{left_answered, left_by_closed_writer, left_by_reading, left_closed, left_closing_writer, left_damaged, left_device, left_limit, left_refused, left_state, left_without_memory, left_without_room, left_writer_closed}
 use Rattle.definitions.proofs.call_laws.what_a_call_leaves.Goals as goal
 
 pub returns-clause-answered : goal.returns-clause-answered
@@ -28,3 +28,15 @@ returns-clause-reads g c x y call answer left = left_by_reading c x call left
 
 pub returns-clause-closed : goal.returns-clause-closed
 returns-clause-closed g c x y call answer left = left_closed c x call left
+
+pub returns-clause-no_room : goal.returns-clause-no_room
+returns-clause-no_room g c x y call left = left_without_room c x call left refl
+
+pub returns-clause-writer_closed : goal.returns-clause-writer_closed
+returns-clause-writer_closed g c x y call left = left_writer_closed c x call left refl
+
+pub returns-clause-by_a_closed_writer : goal.returns-clause-by_a_closed_writer
+returns-clause-by_a_closed_writer g c x y call answer left = left_by_closed_writer c x call left
+
+pub returns-clause-closing_the_writer : goal.returns-clause-closing_the_writer
+returns-clause-closing_the_writer g c x y call answer left = left_closing_writer c x call left
