@@ -2,7 +2,7 @@
 use Rattle.std.proofs.Common.{Err, None, Ok, Result, Some, ap, inl, inr, refl, sym, true, true≢false, false, if◌then◌else◌, ◌||◌, ◌∙◌, ◌≡◌, ◌≢◌, ◌⊎◌}
 use Rattle.std.specs.Prelude.{⊤}
 use Rattle.definitions.specs.Calls.{Call, Configuration, Index, IsWant, Leaves, Status, add_document, add_json, add_value, after, call_fault, closed, commit_pending, count_all, delete_term, is_add, is_commit, is_merge, is_search, merge_range, only_reads, own_fault, ready, search_best, status_fault, writer_closed}
-use Rattle.definitions.specs.Refusing.{option_or}
+use Rattle.std.specs.Option.{option_or}
 use Rattle.definitions.proofs.OwnFaults.{is_failure, refused_by_closed_writer, refused_by_no_failure}
 use Rattle.definitions.specs.declared.fault.Fault.{Fault}
 use Rattle.definitions.specs.declared.fault.Fault.TheVariants as faults
@@ -85,7 +85,7 @@ module _ (c : Configuration) (x : Index) (call : Call) where
   left_limit (Leaves.device_failed is writes) e = let f = same_fault faults.Device faults.Limit e in absurd (cc)
   left_limit (Leaves.slot_damaged is reads) e = let f = same_fault (faults.Damaged None) faults.Limit e in absurd (cc)
 
-  pub left_without_room : {r : Answer} {y : Index} → Leaves c x call r y → r ≡ failed faults.OutOfMemory → ((status_fault x.status call ≡ None) × (is_commit call ≡ false) × (y ≡ x)) ⊎ ((call_fault c x call ≡ None) × ((is_add call || is_commit call) ≡ true) × (y ≡ record { state = x.state; status = writer_closed }))
+  pub left_without_room : {r : Answer} {y : Index} → Leaves c x call r y → r ≡ failed faults.OutOfMemory → ((status_fault x.status (only_reads call) ≡ None) × (is_commit call ≡ false) × (y ≡ x)) ⊎ ((call_fault c x call ≡ None) × ((is_add call || is_commit call) ≡ true) × (y ≡ record { state = x.state; status = writer_closed }))
   left_without_room (Leaves.refused own is) e = absurd (never faults.OutOfMemory refl (is ∙ ap Some (same_fault own faults.OutOfMemory e)))
   left_without_room (Leaves.answered is) e = absurd (done_no _ e)
   left_without_room (Leaves.memory_refused open_ other) e = inl (open_, other, refl)
@@ -104,8 +104,8 @@ module _ (c : Configuration) (x : Index) (call : Call) where
   left_writer_closed (Leaves.slot_damaged is reads) e = let f = same_fault (faults.Damaged None) faults.WriterClosed e in absurd (cc)
 
   -- a closed writer refuses what writes
-  writes_refused : x.status ≡ writer_closed → only_reads call ≡ false → (status_fault x.status call ≡ Some faults.WriterClosed) × (call_fault c x call ≡ Some faults.WriterClosed)
-  writes_refused stands writes = (ap (λ s. status_fault s call) stands ∙ ap (λ reads. if reads then None else Some faults.WriterClosed) writes, ap (λ s. option_or (status_fault s call) (own_fault c x.state call)) stands ∙ ap (λ reads. option_or (if reads then None else Some faults.WriterClosed) (own_fault c x.state call)) writes)
+  writes_refused : x.status ≡ writer_closed → only_reads call ≡ false → (status_fault x.status (only_reads call) ≡ Some faults.WriterClosed) × (call_fault c x call ≡ Some faults.WriterClosed)
+  writes_refused stands writes = (ap (λ s. status_fault s (only_reads call)) stands ∙ ap (λ reads. if reads then None else Some faults.WriterClosed) writes, ap (λ s. option_or (status_fault s (only_reads call)) (own_fault c x.state call)) stands ∙ ap (λ reads. option_or (if reads then None else Some faults.WriterClosed) (own_fault c x.state call)) writes)
 
   pub left_by_closed_writer : {r : Answer} {y : Index} → Leaves c x call r y → x.status ≡ writer_closed → only_reads call ≡ false → (r ≡ failed faults.WriterClosed) × (y ≡ x)
   left_by_closed_writer (Leaves.refused own is) stands writes = let f = (writes_refused stands writes).1 in (cc, refl)

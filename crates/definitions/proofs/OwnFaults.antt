@@ -2,7 +2,7 @@
 use Rattle.std.proofs.Common.{[], Bool, Err, List, None, Ok, Option, Result, Some, ap, codes, false, if◌then◌else◌, int_le, int_lt, nat_lt, neg_ℤ, not, ok_or, option_map, pos, refl, slice_get, subst, sym, true, true≢false, ◌&&◌, ◌*◌, ◌++◌, ◌^◌, ◌∷◌, ◌≡◌, ◌||◌, ℕ, ℤ}
 use Rattle.std.specs.Prelude.{⊤}
 use Rattle.std.specs.List.{AllByRecursion}
-use Rattle.std.specs.Option.{option_map_or}
+use Rattle.std.specs.Option.{option_map_or, option_or}
 use Rattle.std.specs.Result.{result_err}
 use Rattle.base64.specs.Engines.{standard}
 use Rattle.base64.specs.GeneralPurpose.{decoded_of}
@@ -13,7 +13,7 @@ use Rattle.definitions.specs.Facets.{facet_of_path}
 use Rattle.definitions.specs.Indexable.{is_indexable}
 use Rattle.definitions.specs.Query.{Clauses, Queries, Query, all, boolean, boost, clause, const_score, depth, disjunction_max, empty, no_clauses, no_queries, phrase, phrase_prefix, query, term}
 use Rattle.definitions.specs.Reading.{bool_json, bool_text, date_value, i64_number, i64_text, if_coerced, or_parse_error, read_data, read_field, read_items, read_json, read_kind, read_member, read_members, read_value, then_read, u64_number, u64_text}
-use Rattle.definitions.specs.Refusing.{Test, clauses_fault, first_fault, is_not_indexed, is_score_too_large, is_unknown, max_depth, node_fault, option_or, own_tests, queries_fault, refusal, tree_fault}
+use Rattle.definitions.specs.Refusing.{Test, clauses_fault, first_fault, is_not_indexed, is_score_too_large, is_unknown, max_depth, node_fault, own_tests, queries_fault, refusal, tree_fault}
 use Rattle.definitions.specs.Schema.{Entry, Kind, Schema, bool_kind, bytes_kind, date_kind, facet_kind, field_named, i64_kind, ip_addr_kind, json_kind, text_kind, u64_kind}
 use Rattle.definitions.specs.Scoring.{natural}
 use Rattle.definitions.specs.State.{State, is_bad_range}
@@ -322,7 +322,7 @@ refused_by_no_failure c x call fault is = at x.status is
     writes true is = own is
     writes false is = ap is_failure (sym (some_same faults.WriterClosed fault is))
 
-    at : (status : Status) → option_or (status_fault status call) (own_fault c x.state call) ≡ Some fault → is_failure fault ≡ false
+    at : (status : Status) → option_or (status_fault status (only_reads call)) (own_fault c x.state call) ≡ Some fault → is_failure fault ≡ false
     at ready is = own is
     at writer_closed is = writes (only_reads call) is
     at closed is = ap is_failure (sym (some_same faults.Closed fault is))
@@ -338,7 +338,7 @@ refused_by_closed_writer c x call is = at x.status refl is
     writes true is = absurd (own is)
     writes false is = refl
 
-    at : (status : Status) → x.status ≡ status → option_or (status_fault status call) (own_fault c x.state call) ≡ Some faults.WriterClosed → (x.status ≡ writer_closed) × (only_reads call ≡ false)
+    at : (status : Status) → x.status ≡ status → option_or (status_fault status (only_reads call)) (own_fault c x.state call) ≡ Some faults.WriterClosed → (x.status ≡ writer_closed) × (only_reads call ≡ false)
     at ready stands is = absurd (own is)
     at writer_closed stands is = (stands, writes (only_reads call) is)
     at closed stands is = absurd (let same = is in cc)

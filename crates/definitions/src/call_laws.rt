@@ -25,7 +25,7 @@ pub fn what_a_call_leaves()
     ensures damaged { (c : Configuration) (x y : Index) (call : Call) → Leaves c x call (Err (faults.Damaged None)) y → ((is_search call || is_merge call) ≡ true) × (y ≡ x) }
     ensures limit { (c : Configuration) (x y : Index) (call : Call) → Leaves c x call (Err faults.Limit) y → (((is_add call || is_merge call) ≡ true) × (y ≡ x)) ⊎ (((is_add call || is_commit call) ≡ true) × (y ≡ record { state = x.state; status = writer_closed })) }
     ensures no_room { (c : Configuration) (x y : Index) (call : Call) → Leaves c x call (Err faults.OutOfMemory) y
-        → ((status_fault x.status call ≡ None) × (is_commit call ≡ false) × (y ≡ x))
+        → ((status_fault x.status (only_reads call) ≡ None) × (is_commit call ≡ false) × (y ≡ x))
         ⊎ ((call_fault c x call ≡ None) × ((is_add call || is_commit call) ≡ true) × (y ≡ record { state = x.state; status = writer_closed })) }
     ensures memory_in_a_commit { (c : Configuration) (x y : Index) → Leaves c x commit_pending (Err faults.OutOfMemory) y → y ≡ record { state = x.state; status = writer_closed } }
     ensures state { (c : Configuration) (x y : Index) (call : Call) (fault : Fault) → Leaves c x call (Err fault) y → y.state ≡ x.state }
