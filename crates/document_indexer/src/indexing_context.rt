@@ -192,8 +192,11 @@ fn record_text(
 ) -> Result<(), Fault>
     requires ready { IsReady (context postings_writer.old positions.old doc) }
     requires known { (text : List ℕ) → IsIndexedTerm postings_writer.old.schema (term_buffer.old.items ++ text) }
-    ensures ok { OnOk result (Records (context postings_writer.old positions.old doc) (context postings_writer.new positions.new doc) (text_step term_buffer.old.items 1 (kept (map token_of tokens.now)) ∷ [])) }
-    ensures err { IfErr result (Refuses (context postings_writer.old positions.old doc) (text_step term_buffer.old.items 1 (kept (map token_of tokens.now)) ∷ [])) }
+    ensures ok { OnOk result (Records (context postings_writer.old positions.old doc)
+        (context postings_writer.new positions.new doc)
+        (text_step term_buffer.old.items 1 (kept (map token_of tokens.now)) ∷ [])) }
+    ensures err { IfErr result (Refuses (context postings_writer.old positions.old doc)
+        (text_step term_buffer.old.items 1 (kept (map token_of tokens.now)) ∷ [])) }
 {
     let start = positions.start_of(doc, term_buffer);
     let mut stream = PreTokenizedStream::new(tokens);

@@ -22,8 +22,8 @@ use Rattle.std.specs.Cow.{cow_str_bytes}
 use Rattle.std.specs.declared.borrow.CowStr.{CowStr}
 use Rattle.serde_json.specs.Read.{read}
 use Rattle.index.specs.Replying.{Answers, GoesOn, change_text}
-use Rattle.index.specs.Standing.{Stands}
-use Rattle.index.specs.declared.collection.Collection.{Collection}
+use Rattle.engine.specs.Standing.{Stands}
+use Rattle.engine.specs.declared.collection.Collection.{Collection}
 use Rattle.definitions.specs.Replying.{stops}
 
 none≢some : {X : Type 0} {x : X} → None ≡ Some x → ⊥

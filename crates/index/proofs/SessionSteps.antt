@@ -21,12 +21,12 @@ use Rattle.definitions.specs.Step as steps
 use Rattle.definitions.specs.declared.fault.Fault.{Fault}
 use Rattle.definitions.specs.declared.fault.Fault.TheVariants as faults
 use Rattle.definitions.proofs.ReplyTexts.{error_text}
-use Rattle.index.specs.Accepting.{IsMadeAlike}
+use Rattle.engine.specs.Accepting.{IsMadeAlike}
 use Rattle.index.specs.AskedRequests.{index_request_of}
 use Rattle.index.specs.Replying.{Answers, GoesOn, change_text}
 use Rattle.index.specs.Sessions.{HasHeld, HasStage, IsIndex, IsKnown, LeavesStage, Replies, StandsFor, analysis_of}
-use Rattle.index.specs.Standing.{Stands}
-use Rattle.index.specs.declared.index.Index.{Index}
+use Rattle.engine.specs.Standing.{Stands}
+use Rattle.engine.specs.declared.index.Index.{Index}
 use Rattle.index.specs.declared.requests.IndexRequest.{IndexRequest}
 use Rattle.index.specs.declared.requests.IndexRequest.TheVariants.{Add, Commit, Count, Search}
 use Rattle.index.specs.declared.session.Session.{Session}

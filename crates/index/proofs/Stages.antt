@@ -13,15 +13,15 @@ use Rattle.definitions.specs.Values.{Document}
 use Rattle.definitions.specs.declared.fault.Fault.{Fault}
 use Rattle.definitions.specs.declared.fault.Fault.TheVariants as faults
 use Rattle.definitions.proofs.ReplyTexts.{error_text, ok_text}
-use Rattle.index.specs.Files.{IsCreateRefusal, IsFileOf, IsOpenRefusal, IsOpened}
+use Rattle.engine.specs.Files.{IsCreateRefusal, IsFileOf, IsOpenRefusal, IsOpened}
 use Rattle.index.specs.Replying.{change_text}
 use Rattle.index.specs.Sessions.{HasHeld, HasStage, IsIndex, IsSpare, LeavesStage, analysis_of, left_by}
-use Rattle.index.specs.Standing.{Stands}
-use Rattle.index.specs.declared.index.Index.{Index}
-use Rattle.index.specs.declared.index.Refused.{Refused}
+use Rattle.engine.specs.Standing.{Stands}
+use Rattle.engine.specs.declared.index.Index.{Index}
+use Rattle.engine.specs.declared.index.Refused.{Refused}
 use Rattle.index.specs.declared.stage.Stage.TheVariants.{Spare, Standing}
 use Rattle.index.proofs.Answering.{going_on}
-use Rattle.index.proofs.FileSayings.{Found, file_is_index, file_is_whole, found, no_bytes, no_index_yet, one_saying}
+use Rattle.engine.proofs.FileSayings.{Found, file_is_index, file_is_whole, found, no_bytes, no_index_yet, one_saying}
 use Rattle.layouts.specs.RecordFiles.{IsNoIndex}
 use Rattle.serde_json.specs.Data as json
 

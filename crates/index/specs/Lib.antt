@@ -1,9 +1,4 @@
--- What the index keeps, as the definitions have it.
-pub mod Standing
-pub mod Accepting
-pub mod Files
-pub mod Contents
-pub mod FirstBodies
+-- What requests of an index ask for, what is replied, and what a session stands for.
 pub mod AskedRequests
 pub mod Replying
 pub mod Sessions

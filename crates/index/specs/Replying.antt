@@ -9,8 +9,8 @@ use Rattle.definitions.specs.Replies.{reply_of}
 use Rattle.definitions.specs.Requests as requests
 use Rattle.definitions.specs.Step as steps
 use Rattle.definitions.specs.declared.fault.Fault.{Fault}
-use Rattle.index.specs.Standing.{Stands}
-use Rattle.index.specs.declared.collection.Collection.{Collection}
+use Rattle.engine.specs.Standing.{Stands}
+use Rattle.engine.specs.declared.collection.Collection.{Collection}
 use Rattle.definitions.specs.Replying.{stops}
 
 -- the reply to a change

@@ -12,11 +12,11 @@ use Rattle.definitions.specs.Settings.{Settings}
 use Rattle.definitions.specs.State.{committed}
 use Rattle.definitions.specs.Step as steps
 use Rattle.definitions.specs.declared.fault.Fault.{Fault}
-use Rattle.index.specs.Files.{IsFileOf}
+use Rattle.engine.specs.Files.{IsFileOf}
 use Rattle.index.specs.Replying.{GoesOn, change_text}
-use Rattle.index.specs.Standing.{Stands}
-use Rattle.index.specs.declared.index.Index.{Index}
-use Rattle.index.specs.declared.index.Refused.{Refused}
+use Rattle.engine.specs.Standing.{Stands}
+use Rattle.engine.specs.declared.index.Index.{Index}
+use Rattle.engine.specs.declared.index.Refused.{Refused}
 use Rattle.index.specs.declared.session.Session.{Session}
 use Rattle.index.specs.declared.stage.Stage.{Stage}
 use Rattle.index.specs.declared.stage.Stage.TheVariants.{Spare, Standing}

@@ -9,20 +9,19 @@ ghost use Rattle.definitions.specs.Requests as requests;
 ghost use Rattle.definitions.specs.Scanning as scanning;
 ghost use Rattle.definitions.specs.Step as steps;
 ghost use Rattle.definitions.specs.declared.fault.Fault.TheVariants as faults;
-ghost use Rattle.index.specs.Accepting.{IsMadeAlike};
+ghost use Rattle.engine.specs.Accepting.{IsMadeAlike};
 ghost use Rattle.index.specs.AskedRequests.{index_request_of};
 ghost use Rattle.index.specs.Replying.{Answers, GoesOn, change_text};
-ghost use Rattle.index.specs.Standing.{Stands};
+ghost use Rattle.engine.specs.Standing.{Stands};
 ghost use Rattle.plain.specs.Hits.{hit_of, scored};
 ghost use Rattle.definitions.specs.Replying.{stops};
 ghost use Rattle.serde_json.specs.View.{view};
 
-use crate::collection::Collection;
-use crate::index::Index;
 use crate::json_replies::{count_text, hits_text};
 use crate::requests::IndexRequest;
 use common::{Analyzer, Device};
 use definitions::Fault;
+use engine::Index;
 use plain::Hit;
 use query_json::read_query;
 use serde_json::Value as Json;
@@ -44,66 +43,69 @@ pub(crate) fn answer<D: Device + Drop, A: Analyzer + Drop>(
     match request {
         IndexRequest::Add(doc) => answer_change(index.add_value(doc)),
         IndexRequest::Commit => answer_change(index.commit()),
-        IndexRequest::Search(query, k) => search(&index.collection, query, k),
-        IndexRequest::Count(query) => count(&index.collection, query),
+        IndexRequest::Search(query, k) => search(index, query, k),
+        IndexRequest::Count(query) => count(index, query),
     }
 }
 
 /// The reply to a search.
-fn search<A: Analyzer + Drop>(
-    collection: &Collection<A>,
+fn search<D: Device + Drop, A: Analyzer + Drop>(
+    index: &Index<D, A>,
     query: &Json,
     k: u64,
 ) -> Result<CowStr<'static>, Fault>
-    ensures answered { (c : calls.Configuration) (x : calls.Index) → Stands A.analyze collection.now c x → Answers A.analyze collection.now c x (requests.search_docs (view query.now) k) result }
+    ensures answered { (c : calls.Configuration) (x : calls.Index) → Stands A.analyze index.now.collection c x → Answers A.analyze index.now.collection c x (requests.search_docs (view query.now) k) result }
     ensures err { IfErr result (λ fault. IsTrue (stops fault)) }
 {
-    match find(collection, query, k) {
-        Ok(hits) => Ok(CowStr::Owned(hits_text(collection.alloc, &hits)?)),
+    match find(index, query, k) {
+        Ok(hits) => Ok(CowStr::Owned(hits_text(index.alloc(), &hits)?)),
         Err(fault) => refusal(fault),
     }
 }
 
 /// The reply to a count.
-fn count<A: Analyzer + Drop>(
-    collection: &Collection<A>,
+fn count<D: Device + Drop, A: Analyzer + Drop>(
+    index: &Index<D, A>,
     query: &Json,
 ) -> Result<CowStr<'static>, Fault>
-    ensures answered { (c : calls.Configuration) (x : calls.Index) → Stands A.analyze collection.now c x → Answers A.analyze collection.now c x (requests.count_docs (view query.now)) result }
+    ensures answered { (c : calls.Configuration) (x : calls.Index) → Stands A.analyze index.now.collection c x → Answers A.analyze index.now.collection c x (requests.count_docs (view query.now)) result }
     ensures err { IfErr result (λ fault. IsTrue (stops fault)) }
 {
-    match find_count(collection, query) {
-        Ok(count) => Ok(CowStr::Owned(count_text(collection.alloc, count)?)),
+    match find_count(index, query) {
+        Ok(count) => Ok(CowStr::Owned(count_text(index.alloc(), count)?)),
         Err(fault) => refusal(fault),
     }
 }
 
 /// The hits of a query that is read from JSON.
-fn find<A: Analyzer + Drop>(
-    collection: &Collection<A>,
+fn find<D: Device + Drop, A: Analyzer + Drop>(
+    index: &Index<D, A>,
     query: &Json,
     k: u64,
 ) -> Result<Vec<Hit>, Fault>
-    ensures ok { (c : calls.Configuration) (x : calls.Index) → Stands A.analyze collection.now c x → IfOk result (λ hits.
+    ensures ok { (c : calls.Configuration) (x : calls.Index) → Stands A.analyze index.now.collection c x → IfOk result (λ hits.
         (hs : List scanning.Hit) × (map hit_of hits.items ≡ map scored hs) × (steps.index_step c x (requests.search_docs (view query.now) k) ≡ (hits_reply hs, x))) }
-    ensures err { (c : calls.Configuration) (x : calls.Index) → Stands A.analyze collection.now c x → IfErr result (λ fault.
+    ensures err { (c : calls.Configuration) (x : calls.Index) → Stands A.analyze index.now.collection c x → IfErr result (λ fault.
         fault ≢ faults.OutOfMemory → steps.index_step c x (requests.search_docs (view query.now) k) ≡ steps.refusing fault x) }
 {
-    collection.check_open()?;
-    let query = read_query(collection.alloc, &collection.schema, query)?;
-    collection.search(&query, k as usize)
+    index.check_open()?;
+    let query = read_query(index.alloc(), index.schema(), query)?;
+    index.search(&query, k as usize)
 }
 
 /// How many documents match a query that is read from JSON.
-fn find_count<A: Analyzer + Drop>(collection: &Collection<A>, query: &Json) -> Result<u64, Fault>
-    ensures ok { (c : calls.Configuration) (x : calls.Index) → Stands A.analyze collection.now c x → IfOk result (λ count.
+fn find_count<D: Device + Drop, A: Analyzer + Drop>(
+    index: &Index<D, A>,
+    query: &Json,
+) -> Result<u64, Fault>
+    ensures ok { (c : calls.Configuration) (x : calls.Index) → Stands A.analyze index.now.collection c x → IfOk result (λ count.
         steps.index_step c x (requests.count_docs (view query.now)) ≡ (count_reply count, x)) }
-    ensures err { (c : calls.Configuration) (x : calls.Index) → Stands A.analyze collection.now c x → IfErr result (λ fault.
+    ensures err { (c : calls.Configuration) (x : calls.Index) → Stands A.analyze index.now.collection c x → IfErr result (λ fault.
         fault ≢ faults.OutOfMemory → steps.index_step c x (requests.count_docs (view query.now)) ≡ steps.refusing fault x) }
 {
-    collection.check_open()?;
-    let query = read_query(collection.alloc, &collection.schema, query)?;
-    collection.count(&query)
+    index.check_open()?;
+    let query = read_query(index.alloc(), index.schema(), query)?;
+    index.count(&query)
 }
 
 /// The reply to a call that changes something.

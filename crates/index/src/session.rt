@@ -6,17 +6,17 @@ ghost use Rattle.definitions.specs.Calls as calls;
 ghost use Rattle.definitions.specs.Requests as requests;
 ghost use Rattle.definitions.specs.Step as steps;
 ghost use Rattle.index.specs.AskedRequests.{index_request_of, request_of};
-ghost use Rattle.index.specs.Standing.{Stands};
+ghost use Rattle.engine.specs.Standing.{Stands};
 ghost use Rattle.definitions.specs.Replying.{stops};
 ghost use Rattle.serde_json.specs.Read.{read};
 ghost use Rattle.serde_json.specs.View.{view};
 
 use crate::answers::{answer, answer_change, refusal};
-use crate::index::Index;
 use crate::requests::{IndexRequest, Request, read_making, request_in};
 use crate::stage::Stage;
 use common::{Analyzer, Device};
 use definitions::Fault;
+use engine::Index;
 use schema::Schema;
 use serde_json::Value as Json;
 use serve_lines::Service;
@@ -58,7 +58,7 @@ impl<D: Device + Drop, A: Analyzer + Drop> Session<D, A> {
             index.collection.schema index.collection.settings x) }
     {
         Session {
-            alloc: index.collection.alloc,
+            alloc: index.alloc(),
             stage: Some(Stage::Standing(index)),
         }
     }

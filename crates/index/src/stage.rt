@@ -2,13 +2,12 @@
 
 ghost use Rattle.std.specs.Prelude.{◌≡◌, Some, false};
 ghost use Rattle.definitions.specs.Step as steps;
-ghost use Rattle.index.specs.Standing.{status_of};
+ghost use Rattle.engine.specs.Standing.{status_of};
 ghost use Rattle.index.specs.Sessions.{IsSpare, IsStage, LeavesStage, left_by};
 
-use crate::collection::Status;
-use crate::index::{Index, Refused};
 use common::{Analyzer, Device};
 use definitions::Fault;
+use engine::{Index, Refused, Status};
 use schema::Schema;
 use settings::Settings;
 use std::alloc::Global;

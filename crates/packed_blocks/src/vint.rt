@@ -106,9 +106,11 @@ pub trait VIntDecoder {
 
     /// Reads all numbers up to the end of bytes that may be damaged.
     fn try_uncompress_vint_unsorted_until_end(&mut self, bytes: &[u8]) -> Result<(), Fault>
-        ensures ok { OnOk result (take_all_numbers block_len bytes.now ≡ Some (take (filled self.new) (places self.new))) }
+        ensures ok { OnOk result (take_all_numbers block_len bytes.now
+            ≡ Some (take (filled self.new) (places self.new))) }
         ensures room { filled self.new ≤ block_len }
-        ensures err { IfErr result (λ fault. (fault ≡ faults.Damaged None) × (take_all_numbers block_len bytes.now ≡ None)) }
+        ensures err { IfErr result (λ fault. (fault ≡ faults.Damaged None)
+            × (take_all_numbers block_len bytes.now ≡ None)) }
         ensures none { OnErr result (filled self.new ≡ 0) };
 }
 
@@ -328,7 +330,8 @@ fn try_read_all_numbers(
     bytes: &[u8],
     output: &mut [u32; COMPRESSION_BLOCK_SIZE],
 ) -> Result<usize, Fault>
-    ensures ok { IfOk result (λ count. (count ≤ block_len) × (take_all_numbers block_len bytes.now ≡ Some (take count output.new))) }
+    ensures ok { IfOk result (λ count. (count ≤ block_len)
+        × (take_all_numbers block_len bytes.now ≡ Some (take count output.new))) }
     ensures err { IfErr result (λ fault. (fault ≡ faults.Damaged None) × (take_all_numbers block_len bytes.now ≡ None)) }
 {
     let mut rest = bytes;

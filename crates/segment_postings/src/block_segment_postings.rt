@@ -269,7 +269,8 @@ fn pass_blocks(skips: &mut SkipReader, before: u32, target: DocId) -> u32
 /// The place of the first document of a block that isn't below another.
 fn first_from(docs: &[u32; COMPRESSION_BLOCK_SIZE], target: DocId) -> usize
     requires within { below target docs.now < block_len }
-    requires order { (place : ℕ) → place < block_len → slice_index docs.now place < target → place < below target docs.now }
+    requires order { (place : ℕ) → place < block_len → slice_index docs.now place < target
+        → place < below target docs.now }
     ensures { result ≡ below target docs.now }
 {
     let mut place = 0;

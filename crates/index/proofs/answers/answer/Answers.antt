@@ -3,7 +3,7 @@ use Rattle.definitions.specs.Calls as calls
 use Rattle.definitions.specs.Requests as requests
 use Rattle.index.specs.AskedRequests.{index_request_of}
 use Rattle.index.specs.Replying.{Answers}
-use Rattle.index.specs.Standing.{Stands}
+use Rattle.engine.specs.Standing.{Stands}
 use Rattle.index.proofs.Answering.{add_refused, change_answers, commit_kept, commit_refused}
 use Rattle.serde_json.specs.View.{view}
 use Rattle.index.proofs.answers.answer.Goals as goal

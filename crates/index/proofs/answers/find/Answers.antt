@@ -18,7 +18,7 @@ pub returns-clause-ok : goal.returns-clause-ok
 returns-clause-ok g c k x s =
     let d = view c.args.query.now in
     let q = query_of c.in_ok-query.query in
-    let read = subst (λ m. built_query_in m.schema d ≡ Some q) (sym s.made) c.in_ok-query.ensures.ok in
+    let read = subst (λ m. built_query_in m.schema d ≡ Some q) (sym s.made) (subst (λ fields. built_query_in fields d ≡ Some q) c.schema.ensures c.in_ok-query.ensures.ok) in
     let hs = scanning.scan k.schema k.analyze k.similarity (committed x.state) q c.args.k in
     ok_weaker c.search.result
     (λ hits. (calls.call_fault k x (calls.search_best q c.args.k) ≡ None) × (map hit_of hits.items ≡ map scored hs))
@@ -31,7 +31,7 @@ returns-clause-err g c k x s =
     let d = view c.args.query.now in
     let q = query_of c.in_ok-query.query in
     let call = calls.search_best q c.args.k in
-    let read = subst (λ m. built_query_in m.schema d ≡ Some q) (sym s.made) c.in_ok-query.ensures.ok in
+    let read = subst (λ m. built_query_in m.schema d ≡ Some q) (sym s.made) (subst (λ fields. built_query_in fields d ≡ Some q) c.schema.ensures c.in_ok-query.ensures.ok) in
     err_weaker c.search.result
     (λ fault. fault ≢ faults.OutOfMemory → calls.call_fault k x call ≡ Some fault)
     (λ fault. fault ≢ faults.OutOfMemory → steps.index_step k x (requests.search_docs d c.args.k) ≡ steps.refusing fault x)

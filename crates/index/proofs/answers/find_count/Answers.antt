@@ -18,7 +18,7 @@ pub returns-clause-ok : goal.returns-clause-ok
 returns-clause-ok g c k x s =
     let d = view c.args.query.now in
     let q = query_of c.in_ok-query.query in
-    let read = subst (λ m. built_query_in m.schema d ≡ Some q) (sym s.made) c.in_ok-query.ensures.ok in
+    let read = subst (λ m. built_query_in m.schema d ≡ Some q) (sym s.made) (subst (λ fields. built_query_in fields d ≡ Some q) c.schema.ensures c.in_ok-query.ensures.ok) in
     ok_weaker c.count.result
     (λ count. (calls.call_fault k x (calls.count_all q) ≡ None) × (count ≡ scanning.scan_count k.schema k.analyze (committed x.state) q))
     (λ count. steps.index_step k x (requests.count_docs d) ≡ (count_reply count, x))
@@ -29,7 +29,7 @@ pub returns-clause-err : goal.returns-clause-err
 returns-clause-err g c k x s =
     let d = view c.args.query.now in
     let q = query_of c.in_ok-query.query in
-    let read = subst (λ m. built_query_in m.schema d ≡ Some q) (sym s.made) c.in_ok-query.ensures.ok in
+    let read = subst (λ m. built_query_in m.schema d ≡ Some q) (sym s.made) (subst (λ fields. built_query_in fields d ≡ Some q) c.schema.ensures c.in_ok-query.ensures.ok) in
     err_weaker c.count.result
     (λ fault. calls.call_fault k x (calls.count_all q) ≡ Some fault)
     (λ fault. fault ≢ faults.OutOfMemory → steps.index_step k x (requests.count_docs d) ≡ steps.refusing fault x)

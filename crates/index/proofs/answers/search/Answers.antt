@@ -9,7 +9,7 @@ use Rattle.index.proofs.answers.search.Goals as goal
 pub returns-in_ok-hits_text-in-Ok-clause-answered : goal.returns-in_ok-hits_text-in-Ok-clause-answered
 returns-in_ok-hits_text-in-Ok-clause-answered g c k x s =
     let (hs, same, step) = c.in-Ok.ensures.ok k x s in
-    text_answered g.A.Analyzer.analyze c.args.collection.now k x (requests.search_docs (view c.args.query.now) c.args.k) (hits_reply hs) _ s step (c.in_ok-hits_text-in-Ok.ensures hs (ap (map hit_of) c.deref.ensures.value ∙ same))
+    text_answered g.A.Analyzer.analyze c.args.index.now.collection k x (requests.search_docs (view c.args.query.now) c.args.k) (hits_reply hs) _ s step (c.in_ok-hits_text-in-Ok.ensures hs (ap (map hit_of) c.deref.ensures.value ∙ same))
 
 pub returns-in-Err-clause-answered : goal.returns-in-Err-clause-answered
-returns-in-Err-clause-answered g c k x s = refusal_answered g.A.Analyzer.analyze c.args.collection.now k x (requests.search_docs (view c.args.query.now) c.args.k) c.in-Err.fault c.refusal.result s (c.in-Err.ensures.err k x s) c.refusal.ensures.text c.refusal.ensures.on
+returns-in-Err-clause-answered g c k x s = refusal_answered g.A.Analyzer.analyze c.args.index.now.collection k x (requests.search_docs (view c.args.query.now) c.args.k) c.in-Err.fault c.refusal.result s (c.in-Err.ensures.err k x s) c.refusal.ensures.text c.refusal.ensures.on

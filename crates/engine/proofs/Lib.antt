@@ -1,0 +1,12 @@
+-- Lemmas behind the index and its file.
+pub mod Faults
+pub mod ErrorsKept
+pub mod FieldLists
+pub mod HeldDocs
+pub mod Standings
+pub mod LastBodies
+pub mod IndexedContents
+pub mod CommitBodies
+pub mod Commits
+pub mod Openings
+pub mod FileSayings

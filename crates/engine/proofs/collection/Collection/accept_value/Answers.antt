@@ -1,0 +1,17 @@
+use Rattle.std.proofs.Common.{ap, refl, subst, sym, ◌∙◌}
+use Rattle.std.specs.Result.{result_err}
+use Rattle.definitions.specs.Calls as calls
+use Rattle.definitions.specs.Step.{configuration_of}
+use Rattle.engine.specs.Accepting.{Accepts}
+use Rattle.engine.proofs.Standings.{accepts_read}
+use Rattle.serde_json.specs.View.{view}
+use Rattle.engine.proofs.collection.Collection.accept_value.Goals as goal
+
+pub returns-clause-taken : goal.returns-clause-taken
+returns-clause-taken g c k x s =
+    let index = c.args.self.now in
+    let d = view c.args.value.now in
+    let call = calls.add_value d in
+    let ready = ap (λ status. calls.status_fault status call) s.status ∙ sym (c.check_writer.ensures.value call refl) ∙ ap result_err c.in_ok-check_writer.was in
+    subst (λ made. Accepts made x call c.read_document.result) (sym s.made)
+    (accepts_read (configuration_of index.schema (g.A.Analyzer.analyze index.analyzer) index.settings) x call (calls.document_value index.schema d) c.read_document.result ready refl refl c.read_document.ensures.ok c.read_document.ensures.err)

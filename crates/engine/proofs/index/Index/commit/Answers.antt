@@ -1,0 +1,120 @@
+use Rattle.std.proofs.Common.{[], Err, ap, inl, inr, refl, subst, sym, ◌++◌, ◌∙◌, ◌∷◌, ◌≡◌, List, length, ◌<◌, ◌+◌, ◌^◌}
+use Rattle.std.specs.Result.{result_err}
+use Rattle.definitions.specs.Calls as calls
+use Rattle.definitions.specs.Values.{Document}
+use Rattle.definitions.specs.declared.fault.Fault.{Fault}
+use Rattle.definitions.specs.declared.fault.Fault.TheVariants as faults
+use Rattle.definitions.specs.Moments.{LeavesOnly}
+use Rattle.engine.specs.Standing.{Stands, status_of}
+use Rattle.layouts.specs.RecordFiles.{IsOneOf}
+use Rattle.layouts.specs.RecordBodies.{docs_body}
+use Rattle.plain.specs.Hits.{documents_of}
+use Rattle.records.proofs.CallByCall.{resting}
+use Rattle.records.specs.Frames.{frame_bytes}
+use Rattle.engine.proofs.Commits.{commit_says, committed_all, stands_kept}
+use Rattle.engine.proofs.ErrorsKept.{no_limit, writer_caused}
+use Rattle.engine.proofs.Faults.{device_failed, memory_or_other, status_left}
+use Rattle.engine.proofs.Standings.{err_same, own_refuses, status_refuses}
+use Rattle.engine.proofs.index.Index.commit.Goals as goal
+
+pub returns-in_err-check_writer-clause-left : goal.returns-in_err-check_writer-clause-left
+returns-in_err-check_writer-clause-left g c k x s =
+    let call = calls.commit_pending in
+    let fault = c.in_err-check_writer.field-0.0 in
+    let refuses = ap (λ status. calls.status_fault status call) s.status ∙ sym (c.check_writer.ensures.value call refl) ∙ ap result_err c.in_err-check_writer.was in
+    subst (λ r. (y : calls.Index) × calls.Leaves k x call r y × Stands g.A.Analyzer.analyze c.args.self.now.collection k y) (err_same c.from_residual.result fault c.from_residual.ensures.1)
+    (x, calls.refused fault (status_refuses k x call fault refuses), s)
+
+pub returns-in_err-check_writer-clause-cause : goal.returns-in_err-check_writer-clause-cause
+returns-in_err-check_writer-clause-cause g c = writer_caused (g.D.Device.failed c.args.self.now.file.device) c.from_residual.result c.in_err-check_writer.field-0.0 c.from_residual.ensures.1 c.in_err-check_writer.ensures.fault
+
+pub returns-in_err-check_writer-clause-limit : goal.returns-in_err-check_writer-clause-limit
+returns-in_err-check_writer-clause-limit g c k x s limit = absurd (no_limit c.from_residual.result c.in_err-check_writer.field-0.0 c.from_residual.ensures.1 c.in_err-check_writer.ensures.fault limit)
+
+pub returns-in_err-check_writer-clause-any_moment : goal.returns-in_err-check_writer-clause-any_moment
+returns-in_err-check_writer-clause-any_moment g c k x s h rests =
+    let d = g.D.Device in
+    let old = c.args.self.now in
+    record {
+      first = rests.bodies;
+      second = rests.bodies;
+      says_one = rests.says;
+      says_other = inl rests.says;
+      images = resting d.moment d.left_since d.content d.unsynced old.file.device old.file.gate rests.bodies rests.bodies rests.at_rest rests.synced (λ image left. g.met.D.Device.only_now old.file.device image h left);
+    }
+
+pub returns-in-Ok-clause-left : goal.returns-in-Ok-clause-left
+returns-in-Ok-clause-left g c k x s =
+    let call = calls.commit_pending in
+    let ready = ap (λ status. calls.status_fault status call) s.status ∙ sym (c.check_writer.ensures.value call refl) ∙ ap result_err c.in_ok-check_writer.was in
+    let kept = stands_kept g.A.Analyzer.analyze c.args.self.now.collection c.write_commit.new.self.collection c.write_commit.ensures.documents k x s in
+    (record { state = calls.after k x.state call; status = x.status }, calls.answered (own_refuses k x call ready), c.install_commit.ensures.left k x kept)
+
+pub returns-in-Ok-clause-rests : goal.returns-in-Ok-clause-rests
+returns-in-Ok-clause-rests g c k x s h rests =
+    let old = c.args.self.now in
+    let body = docs_body (documents_of old.collection.docs.items ++ documents_of old.collection.pending.items) in
+    record {
+      bodies = rests.bodies ++ body ∷ [];
+      at_rest = c.in-Ok.ensures.written rests.bodies h rests.at_rest;
+      says = commit_says g.A.Analyzer.analyze old.collection k x old.collection.settings rests.bodies s c.in-Ok.ensures.fits rests.says;
+      synced = c.in-Ok.ensures.synced h;
+    }
+
+pub returns-in-Ok-clause-any_moment : goal.returns-in-Ok-clause-any_moment
+returns-in-Ok-clause-any_moment g c k x s h rests =
+    let old = c.args.self.now in
+    let body = docs_body (documents_of old.collection.docs.items ++ documents_of old.collection.pending.items) in
+    record {
+      first = rests.bodies;
+      second = rests.bodies ++ body ∷ [];
+      says_one = rests.says;
+      says_other = inr (commit_says g.A.Analyzer.analyze old.collection k x old.collection.settings rests.bodies s c.in-Ok.ensures.fits rests.says);
+      images = c.write_commit.ensures.any_moment rests.bodies h rests.at_rest rests.synced;
+    }
+
+pub returns-in-Err-clause-left : goal.returns-in-Err-clause-left
+returns-in-Err-clause-left g c k x s =
+    let call = calls.commit_pending in
+    let analyze = g.A.Analyzer.analyze in
+    let ready = ap (λ status. calls.status_fault status call) s.status ∙ sym (c.check_writer.ensures.value call refl) ∙ ap result_err c.in_ok-check_writer.was in
+    let kept = stands_kept analyze c.args.self.now.collection c.write_commit.new.self.collection c.write_commit.ensures.documents k x s in
+    let stopped = c.stop.ensures.left k x kept in
+    let fault = c.in-Err.fault in
+    let left : (status : calls.Status) → (f : Fault) → calls.Leaves k x call (Err f) (record { state = x.state; status = status }) → fault ≡ f → status_of c.status_after.result ≡ status → (y : calls.Index) × calls.Leaves k x call (Err fault) y × Stands analyze c.stop.new.self k y =
+    λ status f leaves is same. (record { state = x.state; status = status }, subst (λ e. calls.Leaves k x call (Err e) (record { state = x.state; status = status })) (sym is) leaves, subst (λ t. Stands analyze c.stop.new.self k (record { state = x.state; status = t })) same stopped) in
+    let after : (f : Fault) → fault ≡ f → status_of c.status_after.result ≡ status_left f = λ f is. c.status_after.ensures ∙ ap status_left is in
+    elim c.in-Err.ensures.fault [
+      | inl memory ↦ left calls.writer_closed faults.OutOfMemory (calls.half_written faults.OutOfMemory calls.no_memory (own_refuses k x call ready) refl) memory (after faults.OutOfMemory memory)
+      | inr (inl device) ↦ left calls.closed faults.Device (calls.device_failed (own_refuses k x call ready) refl) device (after faults.Device device)
+      | inr (inr limit) ↦ left calls.writer_closed faults.Limit (calls.half_written faults.Limit calls.limit_met (own_refuses k x call ready) refl) limit (after faults.Limit limit)
+    ]
+
+pub returns-in-Err-clause-limit : goal.returns-in-Err-clause-limit
+returns-in-Err-clause-limit g c k x s limit =
+    let old = c.args.self.now in
+    subst (λ (docs : List Document). 2 ^ 63 < old.file.gate + 1 + length (frame_bytes (docs_body docs))) (sym (committed_all g.A.Analyzer.analyze old.collection k x s)) (c.write_commit.ensures.limit (c.in-Err.is ∙ limit))
+
+pub returns-in-Err-clause-any_moment : goal.returns-in-Err-clause-any_moment
+returns-in-Err-clause-any_moment g c k x s h rests =
+    let d = g.D.Device in
+    let old = c.args.self.now in
+    let analyze = g.A.Analyzer.analyze in
+    let body = docs_body (documents_of old.collection.docs.items ++ documents_of old.collection.pending.items) in
+    elim (memory_or_other c.in-Err.fault) [
+      | inl memory ↦ record {
+        first = rests.bodies;
+        second = rests.bodies;
+        says_one = rests.says;
+        says_other = inl rests.says;
+        images = subst (λ new. LeavesOnly d.moment d.left_since old.file.device new (IsOneOf rests.bodies rests.bodies)) (sym (c.in-Err.ensures.kept (λ device. device_failed (sym device ∙ memory))).0)
+            (resting d.moment d.left_since d.content d.unsynced old.file.device old.file.gate rests.bodies rests.bodies rests.at_rest rests.synced (λ image left. g.met.D.Device.only_now old.file.device image h left));
+      }
+      | inr other ↦ record {
+        first = rests.bodies;
+        second = rests.bodies ++ body ∷ [];
+        says_one = rests.says;
+        says_other = inr (commit_says analyze old.collection k x old.collection.settings rests.bodies s (c.in-Err.ensures.fits_err other) rests.says);
+        images = c.write_commit.ensures.any_moment rests.bodies h rests.at_rest rests.synced;
+      }
+    ]

@@ -1,0 +1,381 @@
+//! The index: its documents, and the file that keeps each commit.
+
+ghost use Rattle.std.specs.Prelude.{[], ◌++◌, ◌+◌, ◌<◌, ◌^◌, ◌∷◌, ◌≡◌, ◌≢◌, ◌≤◌, ◌⊎◌, IfErr, IfOk, IsErrOf, IsTrue, List, None, OnOk, Some, length, map, true, vec_capacity, vec_len, ℕ};
+ghost use Rattle.std.specs.Result.{result_err};
+ghost use Rattle.definitions.specs.Calls as calls;
+ghost use Rattle.definitions.specs.Disk.{HasCause, IsImage, settled};
+ghost use Rattle.definitions.specs.Making.{are_analyzed, making_fault};
+ghost use Rattle.definitions.specs.Moments.{LeavesOnly};
+ghost use Rattle.definitions.specs.Scanning as scanning;
+ghost use Rattle.definitions.specs.State.{committed};
+ghost use Rattle.definitions.specs.Step.{configuration_of, fresh_index, reopened};
+ghost use Rattle.definitions.specs.declared.fault.Fault.TheVariants as faults;
+ghost use Rattle.engine.specs.Accepting.{IsKept, IsMadeAlike};
+ghost use Rattle.engine.specs.Files.{HeldBody, IsCreateRefusal, IsOpenRefusal, IsOpened, LeavesEither, Rests, is_first};
+ghost use Rattle.engine.specs.Standing.{Stands, status_of};
+ghost use Rattle.layouts.specs.RecordBodies.{docs_body, first_body, first_in};
+ghost use Rattle.layouts.specs.RecordFiles.{EndsAt, IsAtRest, IsFresh, IsOneOf};
+ghost use Rattle.plain.specs.Hits.{Describe, documents_of, hit_of, scored};
+ghost use Rattle.plain.specs.Queries.{query_of};
+ghost use Rattle.records.specs.Frames.{frame_bytes};
+ghost use Rattle.records.specs.Outcomes.{IsCaused};
+ghost use Rattle.serde_json.specs.View.{view};
+
+use crate::collection::{Collection, Status, check_making};
+use crate::contents::{Contents, read_contents};
+use bodies::put_first_body;
+use common::{Analyzer, Device};
+use definitions::Fault;
+use plain::{AnyQuery, Hit};
+use records::{RecordFile, finish_frame, start_frame};
+use schema::Schema;
+use serde_json::Value as Json;
+use settings::Settings;
+use std::alloc::Global;
+
+/// An index: it takes documents, keeps each commit as a record of its device's file, and finds the documents that are
+/// committed.
+#[derive(Drop)]
+pub struct Index<D: Device, A: Analyzer> {
+    pub(crate) collection: Collection<A>,
+    pub(crate) file: RecordFile<D>,
+}
+
+/// Why an index isn't made or opened, and what was handed in.
+pub struct Refused<D, A> {
+    /// The refusal.
+    pub fault: Fault,
+    /// The device; after `Device` a part of the file may stand on it.
+    pub device: D,
+    /// The analyzer.
+    pub analyzer: A,
+}
+
+/// The refusal alone: device and analyzer are dropped.
+impl<D: Drop, A: Drop> From<Refused<D, A>> for Fault {
+    ghost from_gives = { λ refused fault. fault ≡ refused.fault };
+
+    fn from(refused: Refused<D, A>) -> Fault {
+        let Refused {
+            fault,
+            device: _device,
+            analyzer: _analyzer,
+        } = refused;
+        fault
+    }
+}
+
+impl<D: Device + Drop, A: Analyzer + Drop> Index<D, A> {
+    /// An index without documents, as the one record of an empty device's file. Refusals come in this order:
+    /// `TooManyFields` past 65536 fields, `UnknownTokenizer`, `BadSettings` where a weighted term has no JSON form,
+    /// `Device`, and `NotEmpty` where the device holds a byte.
+    pub fn create(
+        alloc: Global,
+        device: D,
+        analyzer: A,
+        schema: Schema,
+        settings: Settings,
+    ) -> Result<Index<D, A>, Refused<D, A>>
+        ensures ok { IfOk result (λ index. Stands A.analyze index.collection (configuration_of schema (A.analyze analyzer) settings) fresh_index) }
+        ensures made { OnOk result (making_fault (A.knows_name analyzer) schema settings ≡ None) }
+        ensures of { IfOk result (λ index. (index.collection.schema ≡ schema) × (index.collection.settings ≡ settings) × (index.collection.analyzer ≡ analyzer)) }
+        ensures exact { IfErr result (λ r. (r.fault ≡ faults.OutOfMemory) ⊎ (making_fault (A.knows_name analyzer) schema settings ≡ Some r.fault)
+            ⊎ ((making_fault (A.knows_name analyzer) schema settings ≡ None) × IsCreateRefusal r.fault)) }
+        ensures returned { IfErr result (λ r. r.analyzer ≡ analyzer) }
+        ensures honest { IfOk result (λ index. D.honest index.file.device ≡ D.honest device) }
+        ensures honest_err { IfErr result (λ r. D.honest r.device ≡ D.honest device) }
+        ensures cause { IfErr result (λ r. IsCaused (D.failed device) (D.failed r.device) r.fault) }
+        ensures empty { IsTrue (D.honest device) → OnOk result (D.content device ≡ []) }
+        ensures not_empty { IsTrue (D.honest device) → IfErr result (λ r. r.fault ≡ faults.NotEmpty → D.content device ≢ []) }
+        ensures rests { IsTrue (D.honest device) → IfOk result (λ index. Rests schema settings [] (D.content index.file.device) (D.unsynced index.file.device) index.file.gate) }
+        ensures kept { IsTrue (D.honest device) → IfErr result (λ r. r.fault ≢ faults.Device → D.content r.device ≡ D.content device) }
+        // A crash at any moment leaves no index, or one without documents, if before it could leave nothing else.
+        ensures any_moment { IsTrue (D.honest device) → ((image : List ℕ) → IsImage (D.content device) (D.unsynced device) image → IsFresh is_first image)
+            → IfOk result (λ index. LeavesOnly D.moment D.left_since device index.file.device (IsFresh is_first)) }
+        ensures any_moment_err { IsTrue (D.honest device) → ((image : List ℕ) → IsImage (D.content device) (D.unsynced device) image → IsFresh is_first image)
+            → IfErr result (λ r. LeavesOnly D.moment D.left_since device r.device (IsFresh is_first)) }
+    {
+        let frame = match first_frame(alloc, &analyzer, &schema, &settings) {
+            Ok(frame) => frame,
+            Err(fault) => {
+                return Err(Refused {
+                    fault,
+                    device,
+                    analyzer,
+                });
+            }
+        };
+        match RecordFile::create(alloc, device, &frame) {
+            Ok(file) => {
+                let collection = Collection::new(alloc, analyzer, schema, settings);
+                Ok(Index { collection, file })
+            }
+            Err((fault, device)) => Err(Refused {
+                fault,
+                device,
+                analyzer,
+            }),
+        }
+    }
+
+    /// The index of a device's file, with the documents that were committed last. Refusals come in this order: `Device`,
+    /// `NoIndex`, `Damaged` with the place of a gate, `UnknownTokenizer`.
+    pub fn open(alloc: Global, device: D, analyzer: A) -> Result<Index<D, A>, Refused<D, A>>
+        ensures opened { IsTrue (D.honest device) → IfOk result (λ index. IsOpened A.analyze (A.analyze analyzer) index.collection (D.content device)) }
+        ensures known { IfOk result (λ index. are_analyzed (A.knows_name analyzer) index.collection.schema ≡ true) }
+        ensures same_analyzer { IfOk result (λ index. index.collection.analyzer ≡ analyzer) }
+        ensures refused { IsTrue (D.honest device) → IfErr result (λ r. (r.fault ≡ faults.Device) ⊎ (r.fault ≡ faults.OutOfMemory) ⊎ IsOpenRefusal (A.knows_name analyzer) (D.content device) r.fault) }
+        ensures returned { IfErr result (λ r. r.analyzer ≡ analyzer) }
+        ensures honest { IfOk result (λ index. D.honest index.file.device ≡ D.honest device) }
+        ensures honest_err { IfErr result (λ r. D.honest r.device ≡ D.honest device) }
+        ensures cause { IfErr result (λ r. IsCaused (D.failed device) (D.failed r.device) r.fault) }
+        ensures rests { IsTrue (D.honest device) → IfOk result (λ index. Rests index.collection.schema index.collection.settings (documents_of index.collection.docs.items) (D.content index.file.device) (D.unsynced index.file.device) index.file.gate) }
+        ensures kept { IsTrue (D.honest device) → IfErr result (λ r. r.fault ≢ faults.Device → D.content r.device ≡ D.content device) }
+        // What a crash may leave is of one of two files, or fresh, at every moment, if it was so before.
+        ensures any_moment { (a b : List (List ℕ)) → IsTrue (D.honest device) → ((image : List ℕ) → IsImage (D.content device) (D.unsynced device) image → IsOneOf a b image)
+            → IfOk result (λ index. LeavesOnly D.moment D.left_since device index.file.device (IsOneOf a b)) }
+        ensures any_moment_err { (a b : List (List ℕ)) → IsTrue (D.honest device) → ((image : List ℕ) → IsImage (D.content device) (D.unsynced device) image → IsOneOf a b image)
+            → IfErr result (λ r. LeavesOnly D.moment D.left_since device r.device (IsOneOf a b)) }
+        ensures fresh { IsTrue (D.honest device) → ((image : List ℕ) → IsImage (D.content device) (D.unsynced device) image → IsFresh is_first image)
+            → IfOk result (λ index. LeavesOnly D.moment D.left_since device index.file.device (IsFresh is_first)) }
+        ensures fresh_err { IsTrue (D.honest device) → ((image : List ℕ) → IsImage (D.content device) (D.unsynced device) image → IsFresh is_first image)
+            → IfErr result (λ r. LeavesOnly D.moment D.left_since device r.device (IsFresh is_first)) }
+    {
+        let mut device = device;
+        match read_contents(alloc, &mut device, &analyzer) {
+            Ok(contents) => open_file(alloc, device, analyzer, contents),
+            Err(fault) => Err(Refused {
+                fault,
+                device,
+                analyzer,
+            }),
+        }
+    }
+
+    /// The device and the analyzer, whatever the state; what waits is dropped.
+    pub fn into_device(self) -> (D, A)
+        ensures { (result.0 ≡ self.file.device) × (result.1 ≡ self.collection.analyzer) }
+    {
+        let Index { collection, file } = self;
+        (file.into_device(), collection.into_analyzer())
+    }
+
+    /// What the index may still do.
+    pub fn state(&self) -> Status
+        ensures { (c : calls.Configuration) (x : calls.Index) → Stands A.analyze self.now.collection c x → x.status ≡ status_of result }
+    {
+        self.collection.state()
+    }
+
+    /// The fields.
+    pub fn schema(&self) -> &Schema
+        ensures { result.now ≡ self.now.collection.schema }
+    {
+        &self.collection.schema
+    }
+
+    /// The settings.
+    pub fn settings(&self) -> &Settings
+        ensures { result.now ≡ self.now.collection.settings }
+    {
+        &self.collection.settings
+    }
+
+    /// The allocator that the index was made with.
+    pub fn alloc(&self) -> Global
+        ensures { result ≡ self.now.collection.alloc }
+    {
+        self.collection.alloc
+    }
+
+    /// Whether searches are answered.
+    pub fn check_open(&self) -> Result<(), Fault>
+        ensures { (c : calls.Configuration) (x : calls.Index) → Stands A.analyze self.now.collection c x
+            → (call : calls.Call) → calls.only_reads call ≡ true → result_err result ≡ calls.status_fault x.status call }
+    {
+        self.collection.check_open()
+    }
+
+    /// Adds the document that a JSON text holds; a search sees it after the next commit. A text that holds
+    /// no JSON object is `NotAnObject`; a value that its field doesn't take is refused as its type says.
+    pub fn add_json(&mut self, text: &str) -> Result<(), Fault>
+        ensures left { (c : calls.Configuration) (x : calls.Index) → Stands A.analyze self.old.collection c x
+            → (y : calls.Index) × calls.Leaves c x (calls.add_json text.now) result y × Stands A.analyze self.new.collection c y }
+        ensures exact { (c : calls.Configuration) (x : calls.Index) → Stands A.analyze self.old.collection c x
+            → IfErr result (λ fault. fault ≢ faults.OutOfMemory → calls.call_fault c x (calls.add_json text.now) ≡ Some fault) }
+        ensures made { IsMadeAlike self.old.collection self.new.collection }
+        ensures file { self.new.file ≡ self.old.file }
+    {
+        self.collection.add_json(text)
+    }
+
+    /// Adds the document in a JSON value, as `add_json` does.
+    pub fn add_value(&mut self, value: &Json) -> Result<(), Fault>
+        ensures left { (c : calls.Configuration) (x : calls.Index) → Stands A.analyze self.old.collection c x
+            → (y : calls.Index) × calls.Leaves c x (calls.add_value (view value.now)) result y × Stands A.analyze self.new.collection c y }
+        ensures exact { (c : calls.Configuration) (x : calls.Index) → Stands A.analyze self.old.collection c x
+            → IfErr result (λ fault. fault ≢ faults.OutOfMemory → calls.call_fault c x (calls.add_value (view value.now)) ≡ Some fault) }
+        ensures made { IsMadeAlike self.old.collection self.new.collection }
+        ensures file { self.new.file ≡ self.old.file }
+    {
+        self.collection.add_value(value)
+    }
+
+    /// Writes a record of all documents, those that wait too, and makes searches see them. `Limit` past 2^63 bytes of file,
+    /// as want of memory, closes the writer; after `Device` the index is closed, and the file may have either list.
+    pub fn commit(&mut self) -> Result<(), Fault>
+        ensures left { (c : calls.Configuration) (x : calls.Index) → Stands A.analyze self.old.collection c x
+            → (y : calls.Index) × calls.Leaves c x calls.commit_pending result y × Stands A.analyze self.new.collection c y }
+        ensures exact { (c : calls.Configuration) (x : calls.Index) → Stands A.analyze self.old.collection c x
+            → IfErr result (λ fault. fault ≢ faults.OutOfMemory → fault ≢ faults.Device → fault ≢ faults.Limit → calls.call_fault c x calls.commit_pending ≡ Some fault) }
+        ensures made { IsMadeAlike self.old.collection self.new.collection }
+        ensures honest { D.honest self.new.file.device ≡ D.honest self.old.file.device }
+        ensures cause { HasCause (D.failed self.old.file.device) (D.failed self.new.file.device) result }
+        ensures limit { (c : calls.Configuration) (x : calls.Index) → Stands A.analyze self.old.collection c x
+            → IsErrOf result faults.Limit → 2 ^ 63 < self.old.file.gate + 1 + length (frame_bytes (docs_body (committed (calls.after c x.state calls.commit_pending)))) }
+        ensures kept { IfErr result (λ fault. fault ≢ faults.Device → (self.new.file.device ≡ self.old.file.device) × (self.new.file.gate ≡ self.old.file.gate)) }
+        ensures rests { (c : calls.Configuration) (x : calls.Index) → Stands A.analyze self.old.collection c x → IsTrue (D.honest self.old.file.device)
+            → Rests c.schema self.old.collection.settings (committed x.state) (D.content self.old.file.device) (D.unsynced self.old.file.device) self.old.file.gate
+            → OnOk result (Rests c.schema self.old.collection.settings (committed (calls.after c x.state calls.commit_pending)) (D.content self.new.file.device) (D.unsynced self.new.file.device) self.new.file.gate) }
+        // A crash at any moment of the call leaves a file of the documents before it or after it.
+        ensures any_moment { (c : calls.Configuration) (x : calls.Index) → Stands A.analyze self.old.collection c x → IsTrue (D.honest self.old.file.device)
+            → Rests c.schema self.old.collection.settings (committed x.state) (D.content self.old.file.device) (D.unsynced self.old.file.device) self.old.file.gate
+            → LeavesEither D.moment D.left_since self.old.file.device self.new.file.device c.schema self.old.collection.settings (committed x.state) (committed (calls.after c x.state calls.commit_pending)) }
+    {
+        self.collection.check_writer()?;
+        match self.write_commit() {
+            Ok(()) => {
+                self.collection.install_commit();
+                Ok(())
+            }
+            Err(fault) => {
+                self.collection.stop(status_after(fault));
+                Err(fault)
+            }
+        }
+    }
+
+    /// Writes the record of a commit, for which all memory is found before.
+    fn write_commit(&mut self) -> Result<(), Fault>
+        ensures documents { IsKept self.old.collection self.new.collection }
+        ensures room { OnOk result (vec_len self.new.collection.docs + vec_len self.new.collection.pending ≤ vec_capacity self.new.collection.docs) }
+        ensures fault { IfErr result (λ fault. (fault ≡ faults.OutOfMemory) ⊎ (fault ≡ faults.Device) ⊎ (fault ≡ faults.Limit)) }
+        ensures fits { OnOk result (HeldBody (documents_of self.old.collection.docs.items ++ documents_of self.old.collection.pending.items)) }
+        ensures fits_err { IfErr result (λ fault. fault ≢ faults.OutOfMemory → HeldBody (documents_of self.old.collection.docs.items ++ documents_of self.old.collection.pending.items)) }
+        ensures honest { D.honest self.new.file.device ≡ D.honest self.old.file.device }
+        ensures cause { HasCause (D.failed self.old.file.device) (D.failed self.new.file.device) result }
+        ensures limit { IsErrOf result faults.Limit → 2 ^ 63 < self.old.file.gate + 1 + length (frame_bytes (docs_body (documents_of self.old.collection.docs.items ++ documents_of self.old.collection.pending.items))) }
+        ensures kept { IfErr result (λ fault. fault ≢ faults.Device → (self.new.file.device ≡ self.old.file.device) × (self.new.file.gate ≡ self.old.file.gate)) }
+        ensures written { (bodies : List (List ℕ)) → IsTrue (D.honest self.old.file.device)
+            → IsAtRest (D.content self.old.file.device) self.old.file.gate bodies
+            → OnOk result (IsAtRest (D.content self.new.file.device) self.new.file.gate (bodies ++ docs_body (documents_of self.old.collection.docs.items ++ documents_of self.old.collection.pending.items) ∷ [])) }
+        ensures synced { IsTrue (D.honest self.old.file.device) → OnOk result (D.unsynced self.new.file.device ≡ settled (length (D.content self.new.file.device))) }
+        ensures any_moment { (bodies : List (List ℕ)) → IsTrue (D.honest self.old.file.device)
+            → IsAtRest (D.content self.old.file.device) self.old.file.gate bodies
+            → D.unsynced self.old.file.device ≡ settled (length (D.content self.old.file.device))
+            → LeavesOnly D.moment D.left_since self.old.file.device self.new.file.device (IsOneOf bodies (bodies ++ docs_body (documents_of self.old.collection.docs.items ++ documents_of self.old.collection.pending.items) ∷ [])) }
+    {
+        self.collection.reserve_commit()?;
+        let frame = self.collection.commit_frame()?;
+        self.file.append(&frame)
+    }
+
+    /// The best k of the committed documents that match, by score, and then by addition.
+    pub fn search(&self, query: &AnyQuery, k: usize) -> Result<Vec<Hit>, Fault>
+        ensures ok { (c : calls.Configuration) (x : calls.Index) → Stands A.analyze self.now.collection c x → IfOk result (λ hits.
+            (calls.call_fault c x (calls.search_best (query_of query.now) k) ≡ None)
+            × (map hit_of hits.items ≡ map scored (scanning.scan c.schema c.analyze c.similarity (committed x.state) (query_of query.now) k))) }
+        ensures err { (c : calls.Configuration) (x : calls.Index) → Stands A.analyze self.now.collection c x → IfErr result (λ fault.
+            fault ≢ faults.OutOfMemory → calls.call_fault c x (calls.search_best (query_of query.now) k) ≡ Some fault) }
+    {
+        self.collection.search(query, k)
+    }
+
+    /// How many of the committed documents match.
+    pub fn count(&self, query: &AnyQuery) -> Result<u64, Fault>
+        ensures ok { (c : calls.Configuration) (x : calls.Index) → Stands A.analyze self.now.collection c x → IfOk result (λ count.
+            (calls.call_fault c x (calls.count_all (query_of query.now)) ≡ None)
+            × (count ≡ scanning.scan_count c.schema c.analyze (committed x.state) (query_of query.now))) }
+        ensures err { (c : calls.Configuration) (x : calls.Index) → Stands A.analyze self.now.collection c x → IfErr result (λ fault.
+            calls.call_fault c x (calls.count_all (query_of query.now)) ≡ Some fault) }
+    {
+        self.collection.count(query)
+    }
+}
+
+/// What may still be done after a commit that failed so.
+fn status_after(fault: Fault) -> Status
+    ensures { status_of result ≡ (elim fault [ faults.Device ↦ calls.closed | _ ↦ calls.writer_closed ]) }
+{
+    match fault {
+        Fault::Device => Status::Closed,
+        _ => Status::WriterClosed,
+    }
+}
+
+/// The frame of a first record, if an index can be made of these.
+fn first_frame<A: Analyzer>(
+    alloc: Global,
+    analyzer: &A,
+    schema: &Schema,
+    settings: &Settings,
+) -> Result<Vec<u8>, Fault>
+    ensures ok { IfOk result (λ frame. frame.items ≡ frame_bytes (first_body schema.now settings.now)) }
+    ensures made { OnOk result (making_fault (A.knows_name analyzer.now) schema.now settings.now ≡ None) }
+    ensures read_back { OnOk result (first_in (first_body schema.now settings.now) ≡ Some (schema.now, settings.now)) }
+    ensures err { IfErr result (λ fault. fault ≢ faults.OutOfMemory → making_fault (A.knows_name analyzer.now) schema.now settings.now ≡ Some fault) }
+{
+    check_making(alloc, analyzer, schema, settings)?;
+    let mut frame = start_frame(alloc)?;
+    put_first_body(alloc, &mut frame, schema, settings)?;
+    finish_frame(&mut frame)?;
+    Ok(frame)
+}
+
+/// The index of what was read of a device's file.
+fn open_file<D: Device + Drop, A: Analyzer + Drop>(
+    alloc: Global,
+    device: D,
+    analyzer: A,
+    contents: Contents,
+) -> Result<Index<D, A>, Refused<D, A>>
+    requires inside { IsTrue (D.honest device) → contents.gate < length (D.content device) }
+    requires short { contents.gate < 2 ^ 63 }
+    requires described { Describe contents.schema (A.analyze analyzer) contents.docs.items }
+    ensures stands { IfOk result (λ index. Stands A.analyze index.collection (configuration_of contents.schema (A.analyze analyzer) contents.settings) (reopened (documents_of contents.docs.items))) }
+    ensures made { IfOk result (λ index. (index.collection.schema ≡ contents.schema) × (index.collection.settings ≡ contents.settings) × (index.collection.docs ≡ contents.docs)) }
+    ensures same_analyzer { IfOk result (λ index. index.collection.analyzer ≡ analyzer) }
+    ensures refused { IfErr result (λ r. r.fault ≡ faults.Device) }
+    ensures returned { IfErr result (λ r. r.analyzer ≡ analyzer) }
+    ensures honest { IfOk result (λ index. D.honest index.file.device ≡ D.honest device) }
+    ensures honest_err { IfErr result (λ r. D.honest r.device ≡ D.honest device) }
+    ensures cause { IfErr result (λ r. IsCaused (D.failed device) (D.failed r.device) r.fault) }
+    ensures at_rest { (bodies : List (List ℕ)) → IsTrue (D.honest device) → EndsAt (D.content device) contents.gate bodies → IfOk result (λ index. IsAtRest (D.content index.file.device) index.file.gate bodies) }
+    ensures unsynced { IsTrue (D.honest device) → IfOk result (λ index. D.unsynced index.file.device ≡ settled (length (D.content index.file.device))) }
+    ensures any_moment { (bodies a b : List (List ℕ)) → IsTrue (D.honest device) → EndsAt (D.content device) contents.gate bodies → ((image : List ℕ) → IsImage (D.content device) (D.unsynced device) image → IsOneOf a b image)
+        → IfOk result (λ index. LeavesOnly D.moment D.left_since device index.file.device (IsOneOf a b)) }
+    ensures any_moment_err { (bodies a b : List (List ℕ)) → IsTrue (D.honest device) → EndsAt (D.content device) contents.gate bodies → ((image : List ℕ) → IsImage (D.content device) (D.unsynced device) image → IsOneOf a b image)
+        → IfErr result (λ r. LeavesOnly D.moment D.left_since device r.device (IsOneOf a b)) }
+    ensures fresh { (bodies : List (List ℕ)) → IsTrue (D.honest device) → EndsAt (D.content device) contents.gate bodies → ((image : List ℕ) → IsImage (D.content device) (D.unsynced device) image → IsFresh is_first image)
+        → IfOk result (λ index. LeavesOnly D.moment D.left_since device index.file.device (IsFresh is_first)) }
+    ensures fresh_err { (bodies : List (List ℕ)) → IsTrue (D.honest device) → EndsAt (D.content device) contents.gate bodies → ((image : List ℕ) → IsImage (D.content device) (D.unsynced device) image → IsFresh is_first image)
+        → IfErr result (λ r. LeavesOnly D.moment D.left_since device r.device (IsFresh is_first)) }
+{
+    let Contents {
+        gate,
+        schema,
+        settings,
+        docs,
+    } = contents;
+    match RecordFile::settle(device, gate) {
+        Ok(file) => {
+            let collection = Collection::of_docs(alloc, analyzer, schema, settings, docs);
+            Ok(Index { collection, file })
+        }
+        Err((fault, device)) => Err(Refused {
+            fault,
+            device,
+            analyzer,
+        }),
+    }
+}
