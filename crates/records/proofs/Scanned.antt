@@ -1,9 +1,9 @@
 -- What a reader of records knows between two of them.
-use Rattle.std.proofs.Common.{[], ◌++◌, ◌-◌, ◌<◌, ◌^◌, ◌∙◌, ◌∷◌, ◌≡◌, ◌≢◌, ◌≤◌, Bool, IsTrue, List, ap, append_assoc, arith, cond, drop, get_or, inl, inr, length, length-append, refl, subst, sym, true, false, ℕ}
+use Rattle.std.proofs.Common.{[], ◌++◌, ◌-◌, ◌<◌, ◌^◌, ◌↔◌, ◌∙◌, ◌∷◌, ◌≡◌, ◌≢◌, ◌≤◌, Bool, IsTrue, List, ap, append_assoc, arith, cond, drop, get_or, inl, inr, length, length-append, refl, subst, sym, true, false, ℕ}
 use Rattle.layouts.specs.RecordFiles.{AreShort, AreTaken, EndsAt, HasRecord, IsDamaged, IsFile, IsNoIndex, records, sized_body}
 use Rattle.layouts.proofs.FilesOfRecords.{file_of, one_frame, records_more, short_more, taken_more}
 
-pub record IsScanned (takes : List (List ℕ) → List ℕ → Bool) (bytes : List ℕ) (bodies : List (List ℕ)) (rest : List ℕ) : Type 0 where
+pub record IsScanned (takes : List (List ℕ) → List ℕ → Type 0) (bytes : List ℕ) (bodies : List (List ℕ)) (rest : List ℕ) : Type 0 where
   pub whole : bytes ≡ records bodies ++ rest
   pub short : AreShort bodies
   pub taken : AreTaken takes [] bodies
@@ -15,7 +15,7 @@ parted : (rest : List ℕ) → 0 < length rest → rest ≡ get_or rest 0 0 ∷ 
 parted [] some = absurd (omega arith)
 parted (byte ∷ rest) some = refl
 
-pub scan_starts : (takes : List (List ℕ) → List ℕ → Bool) (bytes : List ℕ) (bodies : List (List ℕ)) → bodies ≡ [] → 10 ≤ length bytes → get_or bytes 0 0 ≡ 165 → IsScanned takes bytes bodies bytes
+pub scan_starts : (takes : List (List ℕ) → List ℕ → Type 0) (bytes : List ℕ) (bodies : List (List ℕ)) → bodies ≡ [] → 10 ≤ length bytes → get_or bytes 0 0 ≡ 165 → IsScanned takes bytes bodies bytes
 scan_starts takes bytes bodies none long first = record {
   whole = ap (λ (l : List (List ℕ)). records l ++ bytes) (sym none);
   short = subst AreShort (sym none) tt;
@@ -29,14 +29,14 @@ scan_starts takes bytes bodies none long first = record {
     index (inr closed) = closed first
 
 -- one record more
-pub scan_goes_on : (takes : List (List ℕ) → List ℕ → Bool) (bytes : List ℕ) (old new : List (List ℕ)) (rest body after : List ℕ) (took : Bool) → IsScanned takes bytes old rest → get_or rest 0 0 ≡ 165
-    → length body < 2 ^ 64 → drop 1 rest ≡ sized_body body ++ after → 0 < length after → took ≡ takes old body → new ≡ cond took (old ++ body ∷ []) old → took ≡ true → IsScanned takes bytes new after
+pub scan_goes_on : (takes : List (List ℕ) → List ℕ → Type 0) (bytes : List ℕ) (old new : List (List ℕ)) (rest body after : List ℕ) (took : Bool) → IsScanned takes bytes old rest → get_or rest 0 0 ≡ 165
+    → length body < 2 ^ 64 → drop 1 rest ≡ sized_body body ++ after → 0 < length after → IsTrue took ↔ takes old body → new ≡ cond took (old ++ body ∷ []) old → took ≡ true → IsScanned takes bytes new after
 scan_goes_on takes bytes old new rest body after took scanned open_gate few is more answer appended good =
     let same : new ≡ old ++ body ∷ [] = appended ∙ ap (λ (b : Bool). cond b (old ++ body ∷ []) old) good in
     let begin : rest ≡ 165 ∷ (sized_body body ++ after) = parted rest scanned.next ∙ ap (λ (b : ℕ). b ∷ drop 1 rest) open_gate ∙ ap (λ (l : List ℕ). 165 ∷ l) is in
     let whole : bytes ≡ records (old ++ body ∷ []) ++ after =
     scanned.whole ∙ ap (λ (l : List ℕ). records old ++ l) begin ∙ sym (append_assoc (records old) (165 ∷ sized_body body) after) ∙ ap (λ (l : List ℕ). l ++ after) (sym (records_more old body)) in
-    let taken : IsTrue (takes old body) = sym answer ∙ good in
+    let taken : takes old body = answer.0 good in
     record {
       whole = whole ∙ ap (λ (l : List (List ℕ)). records l ++ after) (sym same);
       short = subst AreShort (sym same) (short_more old body scanned.short few);
@@ -46,14 +46,14 @@ scan_goes_on takes bytes old new rest body after took scanned open_gate few is m
     }
 
 -- at a closed gate the file ends
-pub scan_ends : (takes : List (List ℕ) → List ℕ → Bool) (bytes : List ℕ) (bodies : List (List ℕ)) (rest : List ℕ) → IsScanned takes bytes bodies rest → get_or rest 0 0 ≢ 165 → EndsAt bytes (length bytes - length rest) bodies
+pub scan_ends : (takes : List (List ℕ) → List ℕ → Type 0) (bytes : List ℕ) (bodies : List (List ℕ)) (rest : List ℕ) → IsScanned takes bytes bodies rest → get_or rest 0 0 ≢ 165 → EndsAt bytes (length bytes - length rest) bodies
 scan_ends takes bytes bodies rest scanned closed = record {
   file = subst (λ (l : List ℕ). IsFile bodies l) (sym (scanned.whole ∙ ap (λ (l : List ℕ). records bodies ++ l) (parted rest scanned.next))) (file_of bodies (get_or rest 0 0) (drop 1 rest) closed scanned.short);
   place = omega (arith, ap length scanned.whole, length-append (records bodies) rest);
 }
 
 -- and without a record it is damaged there
-pub scan_breaks : (takes : List (List ℕ) → List ℕ → Bool) (bytes : List ℕ) (bodies : List (List ℕ)) (rest : List ℕ) → IsScanned takes bytes bodies rest → get_or rest 0 0 ≡ 165 → ¬ HasRecord takes bodies (drop 1 rest) → IsDamaged takes bytes (length bytes - length rest)
+pub scan_breaks : (takes : List (List ℕ) → List ℕ → Type 0) (bytes : List ℕ) (bodies : List (List ℕ)) (rest : List ℕ) → IsScanned takes bytes bodies rest → get_or rest 0 0 ≡ 165 → ¬ HasRecord takes bodies (drop 1 rest) → IsDamaged takes bytes (length bytes - length rest)
 scan_breaks takes bytes bodies rest scanned open_gate broken = record {
   bodies = bodies;
   rest = drop 1 rest;
@@ -66,8 +66,8 @@ scan_breaks takes bytes bodies rest scanned open_gate broken = record {
 }
 
 -- a body that isn't taken
-pub scan_refuses : (takes : List (List ℕ) → List ℕ → Bool) (bytes : List ℕ) (old : List (List ℕ)) (rest body after : List ℕ) (took : Bool) → IsScanned takes bytes old rest → get_or rest 0 0 ≡ 165
-    → length body < 2 ^ 64 → drop 1 rest ≡ sized_body body ++ after → took ≡ takes old body → took ≡ false → IsDamaged takes bytes (length bytes - length rest)
+pub scan_refuses : (takes : List (List ℕ) → List ℕ → Type 0) (bytes : List ℕ) (old : List (List ℕ)) (rest body after : List ℕ) (took : Bool) → IsScanned takes bytes old rest → get_or rest 0 0 ≡ 165
+    → length body < 2 ^ 64 → drop 1 rest ≡ sized_body body ++ after → IsTrue took ↔ takes old body → took ≡ false → IsDamaged takes bytes (length bytes - length rest)
 scan_refuses takes bytes old rest body after took scanned open_gate few is answer bad =
     scan_breaks takes bytes old rest scanned open_gate broken
   where
@@ -77,4 +77,5 @@ scan_refuses takes bytes old rest body after took scanned open_gate few is answe
     broken : ¬ HasRecord takes old (drop 1 rest)
     broken has =
         let same : (has.body ≡ body) × (has.gate ∷ has.rest ≡ after) = one_frame has.body body (has.gate ∷ has.rest) after has.short few (sym has.whole ∙ is) in
-        other (sym has.taken ∙ ap (λ (l : List ℕ). takes old l) same.0 ∙ sym answer ∙ bad)
+        let taken : takes old body = subst (λ (l : List ℕ). takes old l) same.0 has.taken in
+        other (sym (answer.1 taken) ∙ bad)
