@@ -6,7 +6,7 @@ use Rattle.definitions.specs.Schema.{Schema}
 use Rattle.definitions.specs.Settings.{Settings}
 use Rattle.definitions.specs.Values.{Document}
 use Rattle.engine.specs.Files.{IsFileOf, last_in, last_of}
-use Rattle.layouts.specs.RecordBodies.{docs_in, first_in, lists_in, takes_body}
+use Rattle.layouts.specs.RecordBodies.{docs_in, first_in, lists_in, TakesBody}
 use Rattle.layouts.specs.RecordFiles.{AreTaken, IsDamaged, IsFile, IsNoIndex}
 use Rattle.layouts.proofs.FilesOfRecords.{files_are_indexes, files_are_whole, one_reading}
 
@@ -30,7 +30,7 @@ both_there None p lists h = cc
 both_there (Some docs) None lists h = cc
 both_there (Some docs) (Some rest) lists h = (refl, (rest, refl))
 
-later_taken : (first : List ℕ) (made : Schema × Settings) → first_in first ≡ Some made → (before bodies : List (List ℕ)) (lists : Lists) → lists_in made.0 bodies ≡ Some lists → AreTaken takes_body (first ∷ before) bodies
+later_taken : (first : List ℕ) (made : Schema × Settings) → first_in first ≡ Some made → (before bodies : List (List ℕ)) (lists : Lists) → lists_in made.0 bodies ≡ Some lists → AreTaken TakesBody (first ∷ before) bodies
 later_taken first made is before [] lists h = tt
 later_taken first made is before (body ∷ bodies) lists h =
     let (there, rest) = both_there (docs_in made.0 body) (lists_in made.0 bodies) lists h in
@@ -46,7 +46,7 @@ first_there first bodies (Some made) found is h = (made, is, lists_there (lists_
     lists_there (Some lists) some = (lists, refl)
 
 -- bodies that say something are taken
-pub saying_taken : (bodies : List (List ℕ)) (found : Found) → last_in bodies ≡ Some found → AreTaken takes_body [] bodies
+pub saying_taken : (bodies : List (List ℕ)) (found : Found) → last_in bodies ≡ Some found → AreTaken TakesBody [] bodies
 saying_taken [] found h = cc
 saying_taken (first ∷ bodies) found h =
     let (made, is, lists) = first_there first bodies (first_in first) found refl h in
@@ -68,8 +68,8 @@ file_is_index s u d bytes (bodies, file, says) none =
     files_are_indexes body more bytes (subst (λ (l : List (List ℕ)). IsFile l bytes) is file) none
 
 -- and is not damaged
-pub file_is_whole : (s : Schema) (u : Settings) (d : List Document) (bytes : List ℕ) (place : ℕ) → IsFileOf s u d bytes → ¬ IsDamaged takes_body bytes place
-file_is_whole s u d bytes place (bodies, file, says) = files_are_whole takes_body bodies bytes place file (saying_taken bodies ((s, u), d) says)
+pub file_is_whole : (s : Schema) (u : Settings) (d : List Document) (bytes : List ℕ) (place : ℕ) → IsFileOf s u d bytes → ¬ IsDamaged TakesBody bytes place
+file_is_whole s u d bytes place (bodies, file, says) = files_are_whole TakesBody bodies bytes place file (saying_taken bodies ((s, u), d) says)
 
 pub no_index_yet : IsNoIndex []
 no_index_yet = inl (omega arith)

@@ -9,7 +9,7 @@ use Rattle.definitions.specs.Values.{Document}
 use Rattle.engine.specs.Contents.{last_docs}
 use Rattle.engine.specs.Files.{last_in, last_of}
 use Rattle.engine.specs.FirstBodies.{made_of}
-use Rattle.layouts.specs.RecordBodies.{docs_in, first_in, lists_in, takes_body}
+use Rattle.layouts.specs.RecordBodies.{docs_in, first_in, lists_in, TakesBody}
 use Rattle.layouts.specs.RecordFiles.{AreTaken}
 
 -- what is there
@@ -27,7 +27,7 @@ one_list before None = refl
 one_list before (Some docs) = refl
 
 -- the last list is that of the last body
-last_listed : (first : List ℕ) (made : Schema × Settings) → first_in first ≡ Some made → (before : List (List ℕ)) (docs : List Document) (previous body : List ℕ) (bodies : List (List ℕ)) → AreTaken takes_body (first ∷ before) (body ∷ bodies)
+last_listed : (first : List ℕ) (made : Schema × Settings) → first_in first ≡ Some made → (before : List (List ℕ)) (docs : List Document) (previous body : List ℕ) (bodies : List (List ℕ)) → AreTaken TakesBody (first ∷ before) (body ∷ bodies)
     → option_map (λ (lists : List (List Document)). last_of (docs ∷ lists)) (lists_in made.0 (body ∷ bodies)) ≡ last_docs made.0 (previous ∷ body ∷ bodies)
 last_listed first made is before docs previous body [] taken = one_list docs (docs_in made.0 body)
 last_listed first made is before docs previous body (more ∷ bodies) taken =
@@ -62,7 +62,7 @@ told made None = refl
 told made (Some lists) = refl
 
 -- bodies that were taken say what the first one does, with the documents of the last one
-pub says_last : (bodies : List (List ℕ)) (made : Schema × Settings) → AreTaken takes_body [] bodies → made_of bodies ≡ Some made → last_in bodies ≡ option_map (with_docs made) (last_docs made.0 bodies)
+pub says_last : (bodies : List (List ℕ)) (made : Schema × Settings) → AreTaken TakesBody [] bodies → made_of bodies ≡ Some made → last_in bodies ≡ option_map (with_docs made) (last_docs made.0 bodies)
 says_last [] made taken is = cc
 says_last (first ∷ []) made taken is = ap (λ (o : Option (Schema × Settings)). option_map last_found (o >>= all_lists [])) is
 says_last (first ∷ body ∷ bodies) made taken is =
@@ -100,18 +100,18 @@ pub first_made : (old : List (Vec ℕ Global)) (new : Vec ℕ Global) (body : Li
 first_made old new body made none same is = ap (λ (l : List (Vec ℕ Global)). made_of (map (λ b. b.items) (l ++ new ∷ []))) none ∙ ap first_in same ∙ sym is
 
 -- the last of bodies that were taken has documents
-last_there : (first : List ℕ) (made : Schema × Settings) → first_in first ≡ Some made → (before : List (List ℕ)) (previous body : List ℕ) (bodies : List (List ℕ)) → AreTaken takes_body (first ∷ before) (body ∷ bodies) → (docs : List Document) × (last_docs made.0 (previous ∷ body ∷ bodies) ≡ Some docs)
+last_there : (first : List ℕ) (made : Schema × Settings) → first_in first ≡ Some made → (before : List (List ℕ)) (previous body : List ℕ) (bodies : List (List ℕ)) → AreTaken TakesBody (first ∷ before) (body ∷ bodies) → (docs : List Document) × (last_docs made.0 (previous ∷ body ∷ bodies) ≡ Some docs)
 last_there first made is before previous body [] taken = some_of (docs_in made.0 body) (subst (λ (o : Option (Schema × Settings)). IsTrue (option_map_or (λ m. is_some (docs_in m.0 body)) o false)) is taken.0)
 last_there first made is before previous body (more ∷ bodies) taken = last_there first made is (before ++ body ∷ []) body more bodies taken.1
 
 -- bodies that were taken and say nothing are none
-pub nothing_said : (bodies : List (List ℕ)) → AreTaken takes_body [] bodies → last_in bodies ≡ None → bodies ≡ []
+pub nothing_said : (bodies : List (List ℕ)) → AreTaken TakesBody [] bodies → last_in bodies ≡ None → bodies ≡ []
 nothing_said [] taken none = refl
 nothing_said (first ∷ bodies) taken none =
     let made = some_of (first_in first) taken.0 in
     let last = there bodies made.0 made.1 taken.1 in
     absurd (true≢false (sym (ap is_some (sym none ∙ says_last (first ∷ bodies) made.0 taken made.1 ∙ ap (option_map (with_docs made.0)) last.1))))
   where
-    there : (more : List (List ℕ)) (made : Schema × Settings) → first_in first ≡ Some made → AreTaken takes_body (first ∷ []) more → (docs : List Document) × (last_docs made.0 (first ∷ more) ≡ Some docs)
+    there : (more : List (List ℕ)) (made : Schema × Settings) → first_in first ≡ Some made → AreTaken TakesBody (first ∷ []) more → (docs : List Document) × (last_docs made.0 (first ∷ more) ≡ Some docs)
     there [] made is more_taken = ([], refl)
     there (body ∷ more) made is more_taken = last_there first made is [] first body more more_taken

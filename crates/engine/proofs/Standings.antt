@@ -133,17 +133,17 @@ err_same (Ok u) fault h = absurd h
 err_same (Err e) fault h = ap Err (sym h)
 
 -- what a status refuses is refused
-pub status_refuses : (c : calls.Configuration) (x : calls.Index) (call : calls.Call) (fault : Fault) → calls.status_fault x.status call ≡ Some fault → calls.call_fault c x call ≡ Some fault
+pub status_refuses : (c : calls.Configuration) (x : calls.Index) (call : calls.Call) (fault : Fault) → calls.status_fault x.status (calls.only_reads call) ≡ Some fault → calls.call_fault c x call ≡ Some fault
 status_refuses c x call fault h = ap (λ o. option_or o (calls.own_fault c x.state call)) h
 
 -- what no status refuses is refused by its own tests
-pub own_refuses : (c : calls.Configuration) (x : calls.Index) (call : calls.Call) → calls.status_fault x.status call ≡ None → calls.call_fault c x call ≡ calls.own_fault c x.state call
+pub own_refuses : (c : calls.Configuration) (x : calls.Index) (call : calls.Call) → calls.status_fault x.status (calls.only_reads call) ≡ None → calls.call_fault c x call ≡ calls.own_fault c x.state call
 own_refuses c x call h = ap (λ o. option_or o (calls.own_fault c x.state call)) h
 
 -- a refused add leaves what stood
 pub refused_add : (c : calls.Configuration) (x : calls.Index) (call : calls.Call) (r : Result Document Fault) (fault : Fault) → r ≡ Err fault → Accepts c x call r → calls.is_commit call ≡ false → calls.Leaves c x call (Err fault) x
 refused_add c x call r fault is a adds = ⊎_elim
-    (λ (memory : fault ≡ faults.OutOfMemory). subst (λ f. calls.Leaves c x call (Err f) x) (sym memory) (calls.memory_refused ((subst (λ e. IfErr e (λ f. f ≡ faults.OutOfMemory → calls.status_fault x.status call ≡ None)) is a.unrefused) memory) adds))
+    (λ (memory : fault ≡ faults.OutOfMemory). subst (λ f. calls.Leaves c x call (Err f) x) (sym memory) (calls.memory_refused ((subst (λ e. IfErr e (λ f. f ≡ faults.OutOfMemory → calls.status_fault x.status (calls.only_reads call) ≡ None)) is a.unrefused) memory) adds))
     (λ (other : fault ≢ faults.OutOfMemory). calls.refused fault ((subst (λ e. IfErr e (λ f. f ≢ faults.OutOfMemory → calls.call_fault c x call ≡ Some f)) is a.refused) other))
     (memory_or_other fault)
 
@@ -160,7 +160,7 @@ added_or_stopped analyze old new c x call values (Err fault) s alike docs adds a
 -- ---- what an add is taken by
 
 -- where a document is read and can be indexed, or else why not
-pub accepts_read : (c : calls.Configuration) (x : calls.Index) (call : calls.Call) (found result : Result Document Fault) → calls.status_fault x.status call ≡ None → calls.own_fault c x.state call ≡ result_err found → calls.after c x.state call ≡ calls.after_document found x.state → IfOk result (λ doc. found ≡ Ok doc) → IfErr result (λ fault. fault ≢ faults.OutOfMemory → found ≡ Err fault) → Accepts c x call result
+pub accepts_read : (c : calls.Configuration) (x : calls.Index) (call : calls.Call) (found result : Result Document Fault) → calls.status_fault x.status (calls.only_reads call) ≡ None → calls.own_fault c x.state call ≡ result_err found → calls.after c x.state call ≡ calls.after_document found x.state → IfOk result (λ doc. found ≡ Ok doc) → IfErr result (λ fault. fault ≢ faults.OutOfMemory → found ≡ Err fault) → Accepts c x call result
 accepts_read c x call found (Ok doc) ready own after ok err = record {
   accepted = own_refuses c x call ready ∙ own ∙ ap result_err ok;
   added = after ∙ ap (λ r. calls.after_document r x.state) ok;

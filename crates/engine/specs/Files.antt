@@ -7,15 +7,15 @@ use Rattle.definitions.specs.Making.{are_analyzed}
 use Rattle.definitions.specs.Moments.{LeavesOnly}
 use Rattle.definitions.specs.Schema.{Schema}
 use Rattle.definitions.specs.Settings.{Settings}
-use Rattle.definitions.specs.Step.{configuration_of, reopened}
+use Rattle.definitions.specs.Step.{configuration_of}
 use Rattle.definitions.specs.Values.{Document}
 use Rattle.definitions.specs.declared.fault.Fault.{Fault}
 use Rattle.definitions.specs.declared.fault.Fault.TheVariants as faults
-use Rattle.engine.specs.Standing.{Stands}
+use Rattle.engine.specs.Standing.{StandsReopened}
 use Rattle.engine.specs.declared.collection.Collection.{Collection}
 use Rattle.document_values.specs.Docs.{IsGoodPair}
 use Rattle.layouts.specs.DocumentReading.{deepest}
-use Rattle.layouts.specs.RecordBodies.{bodies_in, first_in, takes_body}
+use Rattle.layouts.specs.RecordBodies.{bodies_in, first_in, TakesBody}
 use Rattle.layouts.specs.RecordFiles.{EndsAt, IsAtRest, IsFile, IsOneOf}
 use Rattle.records.specs.Outcomes.{IsRefusal}
 
@@ -46,7 +46,7 @@ Holds schema settings docs bytes gate = (bodies : List (List ℕ)) × EndsAt byt
 
 -- why the file of a device isn't opened: no index or damage, or else a tokenizer that isn't known
 abbrev pub IsOpenRefusal : (List ℕ → Bool) → List ℕ → Fault → Type 0
-IsOpenRefusal knows bytes fault = IsRefusal takes_body bytes fault ⊎ ((fault ≡ faults.UnknownTokenizer) × (schema : Schema) × (settings : Settings) × (docs : List Document) × IsFileOf schema settings docs bytes × (are_analyzed knows schema ≡ false))
+IsOpenRefusal knows bytes fault = IsRefusal TakesBody bytes fault ⊎ ((fault ≡ faults.UnknownTokenizer) × (schema : Schema) × (settings : Settings) × (docs : List Document) × IsFileOf schema settings docs bytes × (are_analyzed knows schema ≡ false))
 
 -- a crash at any moment from the old device to the new one leaves a file of the one or the other documents
 pub record LeavesEither {D : Type 0} (moment : D → ℕ) (left_since : D → ℕ → List ℕ → Type 0) (old new : D) (schema : Schema) (settings : Settings) (one other : List Document) : Type 0 where
@@ -77,4 +77,4 @@ IsCreateRefusal fault = (fault ≡ faults.Device) ⊎ (fault ≡ faults.NotEmpty
 pub record IsOpened {A : Type 0} (analyze : A → Analyzer) (analyzer : Analyzer) (collection : Collection A) (bytes : List ℕ) : Type 0 where
   pub docs : List Document
   pub file : IsFileOf collection.schema collection.settings docs bytes
-  pub stands : Stands analyze collection (configuration_of collection.schema analyzer collection.settings) (reopened docs)
+  pub stands : StandsReopened analyze collection (configuration_of collection.schema analyzer collection.settings) docs

@@ -1,10 +1,11 @@
 -- What an index that is kept in memory stands for.
-use Rattle.std.specs.Prelude.{◌≡◌, ◌≤◌, length, map}
+use Rattle.std.specs.Prelude.{◌≡◌, ◌≤◌, List, flat_map, length, map}
 use Rattle.definitions.specs.Analyzers.{Analyzer}
 use Rattle.definitions.specs.Calls as calls
 use Rattle.definitions.specs.Schema.{max_fields}
 use Rattle.definitions.specs.State as states
-use Rattle.definitions.specs.Step.{configuration_of}
+use Rattle.definitions.specs.Step.{configuration_of, reopened}
+use Rattle.definitions.specs.Values.{Document}
 use Rattle.plain.specs.Hits.{Describe, documents_of}
 use Rattle.engine.specs.declared.collection.Collection.{Collection}
 use Rattle.engine.specs.declared.collection.Status.{Status}
@@ -25,3 +26,7 @@ pub record Stands {A : Type 0} (analyze : A → Analyzer) (index : Collection A)
   pub pending : Describe index.schema (analyze index.analyzer) index.pending.items
   pub few : length index.schema ≤ max_fields
   pub sized : 1 ≤ index.settings.docs_per_segment
+
+-- these documents are committed, in whatever groups a file's last record has them, and none waits
+abbrev pub StandsReopened : {A : Type 0} → (A → Analyzer) → Collection A → calls.Configuration → List Document → Type 0
+StandsReopened analyze index c docs = (groups : List (List Document)) → flat_map (λ group. group) groups ≡ docs → Stands analyze index c (reopened groups)

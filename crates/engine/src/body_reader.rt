@@ -6,7 +6,7 @@ ghost use Rattle.std.specs.Option.{ForNone};
 ghost use Rattle.engine.specs.Contents.{last_docs};
 ghost use Rattle.engine.specs.FirstBodies.{made_of};
 ghost use Rattle.engine.specs.Files.{last_in};
-ghost use Rattle.layouts.specs.RecordBodies.{docs_in, takes_body};
+ghost use Rattle.layouts.specs.RecordBodies.{TakesBody, docs_in};
 ghost use Rattle.layouts.specs.RecordFiles.{AreTaken};
 ghost use Rattle.plain.specs.IndexedDocs.{IsOfSchema};
 
@@ -49,7 +49,7 @@ impl BodyReader {
 
     /// What the bodies say, of which there may be none.
     pub(crate) fn found(self) -> Result<Option<Found>, AllocError>
-        requires { AreTaken takes_body [] (map (λ body. body.items) self.bodies.items) }
+        requires { AreTaken TakesBody [] (map (λ body. body.items) self.bodies.items) }
         ensures says { IfOk result (λ found. option_map (λ f. ((f.schema, f.settings), f.docs.items)) found ≡ last_in (map (λ body. body.items) self.bodies.items)) }
         ensures fields { IfOk result (λ found. IfSome found (λ f. AllByRecursion (IsOfSchema f.schema) f.docs.items)) }
     {
@@ -74,7 +74,7 @@ impl BodyReader {
     /// Takes the first body.
     fn take_first(&mut self, body: &[u8]) -> Result<bool, AllocError>
         requires { is_none self.old.made ≡ true }
-        ensures answer { IfOk result (λ took. took ≡ takes_body (map (λ b. b.items) self.old.bodies.items) body.now) }
+        ensures answer { IfOk result (λ took. IsTrue took ↔ TakesBody (map (λ b. b.items) self.old.bodies.items) body.now) }
         ensures appended { IfOk result (λ took. map (λ b. b.items) self.new.bodies.items ≡ cond took (map (λ b. b.items) self.old.bodies.items ++ body.now ∷ []) (map (λ b. b.items) self.old.bodies.items)) }
     {
         let made = read_first_body(self.alloc, body)?;
@@ -89,7 +89,7 @@ impl BodyReader {
     /// Takes a body of documents.
     fn take_docs(&mut self, body: &[u8]) -> Result<bool, AllocError>
         requires { is_some self.old.made ≡ true }
-        ensures answer { IfOk result (λ took. took ≡ takes_body (map (λ b. b.items) self.old.bodies.items) body.now) }
+        ensures answer { IfOk result (λ took. IsTrue took ↔ TakesBody (map (λ b. b.items) self.old.bodies.items) body.now) }
         ensures appended { IfOk result (λ took. map (λ b. b.items) self.new.bodies.items ≡ cond took (map (λ b. b.items) self.old.bodies.items ++ body.now ∷ []) (map (λ b. b.items) self.old.bodies.items)) }
     {
         if !self.reads_docs(body)? {
@@ -112,11 +112,11 @@ impl BodyReader {
 
 impl Bodies for BodyReader {
     ghost use Rattle.std.specs.Prelude.{map};
-    ghost use Rattle.layouts.specs.RecordBodies.{takes_body};
+    ghost use Rattle.layouts.specs.RecordBodies.{TakesBody};
 
     ghost taken = { λ reader. map (λ body. body.items) reader.bodies.items };
 
-    ghost takes = { takes_body };
+    ghost takes = { TakesBody };
 
     fn take(&mut self, body: &[u8]) -> Result<bool, AllocError> {
         if self.made.is_none() {

@@ -7,7 +7,7 @@ ghost use Rattle.definitions.specs.Calls as calls;
 ghost use Rattle.definitions.specs.Making.{are_analyzed, is_analyzed, making_fault};
 ghost use Rattle.definitions.specs.Scanning as scanning;
 ghost use Rattle.definitions.specs.State.{committed};
-ghost use Rattle.definitions.specs.Step.{configuration_of, fresh_index, reopened};
+ghost use Rattle.definitions.specs.Step.{configuration_of, fresh_index};
 ghost use Rattle.definitions.specs.declared.fault.Fault.TheVariants as faults;
 ghost use Rattle.engine.specs.Accepting.{Accepts, IsKept, IsMadeAlike, Stops, Waits};
 ghost use Rattle.engine.specs.Files.{HeldBody, IsHeld};
@@ -82,7 +82,7 @@ impl<A: Analyzer + Drop> Collection<A> {
         docs: Vec<IndexedDoc>,
     ) -> Collection<A>
         requires { Describe schema (A.analyze analyzer) docs.items }
-        ensures stands { Stands A.analyze result (configuration_of schema (A.analyze analyzer) settings) (reopened (documents_of docs.items)) }
+        ensures stands { StandsReopened A.analyze result (configuration_of schema (A.analyze analyzer) settings) (documents_of docs.items) }
         ensures made { (result.schema ≡ schema) × (result.settings ≡ settings) × (result.analyzer ≡ analyzer) × (result.docs ≡ docs) }
     {
         Collection {
@@ -263,7 +263,7 @@ impl<A: Analyzer + Drop> Collection<A> {
 
     /// Whether searches are answered.
     pub(crate) fn check_open(&self) -> Result<(), Fault>
-        ensures { (call : calls.Call) → calls.only_reads call ≡ true → result_err result ≡ calls.status_fault (status_of self.now.status) call }
+        ensures { result_err result ≡ calls.status_fault (status_of self.now.status) true }
     {
         match self.status {
             Status::Ready | Status::WriterClosed => Ok(()),
@@ -274,7 +274,7 @@ impl<A: Analyzer + Drop> Collection<A> {
     /// Whether changes are taken.
     pub(crate) fn check_writer(&self) -> Result<(), Fault>
         ensures fault { IfErr result (λ fault. (fault ≡ faults.WriterClosed) ⊎ (fault ≡ faults.Closed)) }
-        ensures value { (call : calls.Call) → calls.only_reads call ≡ false → result_err result ≡ calls.status_fault (status_of self.now.status) call }
+        ensures value { result_err result ≡ calls.status_fault (status_of self.now.status) false }
     {
         match self.status {
             Status::Ready => Ok(()),

@@ -8,7 +8,7 @@ ghost use Rattle.definitions.specs.Making.{are_analyzed, making_fault};
 ghost use Rattle.definitions.specs.Moments.{LeavesOnly};
 ghost use Rattle.definitions.specs.Scanning as scanning;
 ghost use Rattle.definitions.specs.State.{committed};
-ghost use Rattle.definitions.specs.Step.{configuration_of, fresh_index, reopened};
+ghost use Rattle.definitions.specs.Step.{configuration_of, fresh_index};
 ghost use Rattle.definitions.specs.declared.fault.Fault.TheVariants as faults;
 ghost use Rattle.engine.specs.Accepting.{IsKept, IsMadeAlike};
 ghost use Rattle.engine.specs.Files.{HeldBody, IsCreateRefusal, IsOpenRefusal, IsOpened, LeavesEither, Rests, is_first};
@@ -191,7 +191,7 @@ impl<D: Device + Drop, A: Analyzer + Drop> Index<D, A> {
     /// Whether searches are answered.
     pub fn check_open(&self) -> Result<(), Fault>
         ensures { (c : calls.Configuration) (x : calls.Index) → Stands A.analyze self.now.collection c x
-            → (call : calls.Call) → calls.only_reads call ≡ true → result_err result ≡ calls.status_fault x.status call }
+            → result_err result ≡ calls.status_fault x.status true }
     {
         self.collection.check_open()
     }
@@ -342,7 +342,7 @@ fn open_file<D: Device + Drop, A: Analyzer + Drop>(
     requires inside { IsTrue (D.honest device) → contents.gate < length (D.content device) }
     requires short { contents.gate < 2 ^ 63 }
     requires described { Describe contents.schema (A.analyze analyzer) contents.docs.items }
-    ensures stands { IfOk result (λ index. Stands A.analyze index.collection (configuration_of contents.schema (A.analyze analyzer) contents.settings) (reopened (documents_of contents.docs.items))) }
+    ensures stands { IfOk result (λ index. StandsReopened A.analyze index.collection (configuration_of contents.schema (A.analyze analyzer) contents.settings) (documents_of contents.docs.items)) }
     ensures made { IfOk result (λ index. (index.collection.schema ≡ contents.schema) × (index.collection.settings ≡ contents.settings) × (index.collection.docs ≡ contents.docs)) }
     ensures same_analyzer { IfOk result (λ index. index.collection.analyzer ≡ analyzer) }
     ensures refused { IfErr result (λ r. r.fault ≡ faults.Device) }

@@ -61,10 +61,10 @@ change_answered analyze new c x r call (Err fault) read ok (y, left, stands) exa
 -- ---- searches and counts
 
 -- a query that isn't read is refused so
-pub unread_search : (c : calls.Configuration) (x : calls.Index) (d : json.Data) (k : ℕ) → calls.status_fault x.status (calls.search_best empty k) ≡ None → built_query_in c.schema d ≡ None → steps.index_step c x (requests.search_docs d k) ≡ steps.refusing faults.BadQuery x
+pub unread_search : (c : calls.Configuration) (x : calls.Index) (d : json.Data) (k : ℕ) → calls.status_fault x.status true ≡ None → built_query_in c.schema d ≡ None → steps.index_step c x (requests.search_docs d k) ≡ steps.refusing faults.BadQuery x
 unread_search c x d k ready unread = unread_call c x (requests.search_docs d k) faults.BadQuery (ap (λ o. ok_or (option_map (λ q. calls.search_best q k) o) faults.BadQuery) unread) ready
 
-pub unread_count : (c : calls.Configuration) (x : calls.Index) (d : json.Data) → calls.status_fault x.status (calls.count_all empty) ≡ None → built_query_in c.schema d ≡ None → steps.index_step c x (requests.count_docs d) ≡ steps.refusing faults.BadQuery x
+pub unread_count : (c : calls.Configuration) (x : calls.Index) (d : json.Data) → calls.status_fault x.status true ≡ None → built_query_in c.schema d ≡ None → steps.index_step c x (requests.count_docs d) ≡ steps.refusing faults.BadQuery x
 unread_count c x d ready unread = unread_call c x (requests.count_docs d) faults.BadQuery (ap (λ o. ok_or (option_map calls.count_all o) faults.BadQuery) unread) ready
 
 -- one that is read is searched for
@@ -117,7 +117,7 @@ change_answers analyze new c x r call change (Ok text) read ok left exact told o
 change_answers analyze new c x r call change (Err e) read ok left exact told other = record { text = tt; state = tt }
 
 -- a commit that isn't refused was ready
-ready_then : (status : calls.Status) (own : Option Fault) → option_or (calls.status_fault status calls.commit_pending) own ≡ None → status ≡ calls.ready
+ready_then : (status : calls.Status) (own : Option Fault) → option_or (calls.status_fault status false) own ≡ None → status ≡ calls.ready
 ready_then calls.ready own h = refl
 ready_then calls.writer_closed own h = absurd (none≢some (sym h))
 ready_then calls.closed own h = absurd (none≢some (sym h))

@@ -3,7 +3,6 @@ use Rattle.std.proofs.Common.{Bool, Err, IfOk, IsUtf8, None, Ok, OnOk, Option, R
 use Rattle.std.specs.Bool.{⊤}
 use Rattle.std.specs.Cow.{cow_str_bytes}
 use Rattle.std.specs.declared.borrow.CowStr.{CowStr}
-use Rattle.std.proofs.lemmas.Str.{is_utf8-from_IsUtf8}
 use Rattle.common.specs.declared.analyzer.Analyzer as analyzers
 use Rattle.common.specs.declared.device.Device as devices
 use Rattle.definitions.specs.Built.{built_query_in, built_request_in}
@@ -16,7 +15,7 @@ use Rattle.definitions.specs.Requests as requests
 use Rattle.definitions.specs.Schema.{Schema}
 use Rattle.definitions.specs.SchemaGrammar.{schema_in}
 use Rattle.definitions.specs.Settings.{Settings}
-use Rattle.definitions.specs.State.{State, committed}
+use Rattle.definitions.specs.State.{State}
 use Rattle.definitions.specs.Step as steps
 use Rattle.definitions.specs.declared.fault.Fault.{Fault}
 use Rattle.definitions.specs.declared.fault.Fault.TheVariants as faults
@@ -84,7 +83,7 @@ call_status c x (Ok call) = refused_or_status (calls.own_fault c x.state call) x
 
 -- no request changes a status
 step_status : (c : calls.Configuration) (x : calls.Index) (r : requests.Request) → (steps.index_step c x r).1.status ≡ x.status
-step_status c x r = refused_or_status (calls.status_fault x.status (steps.stand_in r)) x (steps.call_step c x (steps.call_in c.schema r)) (call_status c x (steps.call_in c.schema r))
+step_status c x r = refused_or_status (calls.status_fault x.status (steps.only_asks r)) x (steps.call_step c x (steps.call_in c.schema r)) (call_status c x (steps.call_in c.schema r))
 
 refused_or_same : (o : Option Fault) (x : calls.Index) (p : json.Data × calls.Index) → p.1 ≡ x → (steps.refused_or o x p).1 ≡ x
 refused_or_same None x p is = is
@@ -114,7 +113,7 @@ known_after honest content old new c s u x r (inl ready) known = inl (step_statu
 known_after honest content old new c s u x r (inr same) (inl ready) = inl (step_status c x (index_request_of r) ∙ ready)
 known_after honest content old new c s u x r (inr same) (inr held) = elim (unmoved c x.state x.status r) [
   | inl ready ↦ inl (step_status c x (index_request_of r) ∙ ready)
-  | inr stays ↦ inr (subst (λ (y : calls.Index). HasHeld honest content new (steps.file_of s u (committed y.state))) (sym stays) (held_kept honest content old new (steps.file_of s u (committed x.state)) held (ap honest same) (ap content same)))
+  | inr stays ↦ inr (subst (λ (y : calls.Index). HasHeld honest content new (steps.file_of s u y.state.groups)) (sym stays) (held_kept honest content old new (steps.file_of s u x.state.groups) held (ap honest same) (ap content same)))
 ]
 
 -- ---- replies
@@ -180,8 +179,8 @@ none_asked d knows analyze a (steps.index_of fields numbers x) device analyzer r
 -- ---- a line
 
 -- a line of a text asks for what its value does
-pub line_asks : (line : List ℕ) (found : Option json.Data) → IsUtf8 line → found ≡ read line → steps.line_request line ≡ option_and_then built_request_in found
-line_asks line found utf8 is = ap (λ b. option_and_then built_request_in (cond b (read line) None)) (is_utf8-from_IsUtf8 line utf8) ∙ ap (λ o. option_and_then built_request_in o) (sym is)
+pub line_asks : (line : List ℕ) (found : Option json.Data) → found ≡ read line → steps.line_request line ≡ option_and_then built_request_in found
+line_asks line found is = ap (λ o. option_and_then built_request_in o) (sym is)
 
 -- the reply where nothing is asked for
 pub unasked_text : (s : steps.Session) (o : Option requests.Request) → None ≡ o → reply_text faults.BadRequest ≡ reply_of ((steps.step s o).0)

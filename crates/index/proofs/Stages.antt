@@ -15,8 +15,8 @@ use Rattle.definitions.specs.declared.fault.Fault.TheVariants as faults
 use Rattle.definitions.proofs.ReplyTexts.{error_text, ok_text}
 use Rattle.engine.specs.Files.{IsCreateRefusal, IsFileOf, IsOpenRefusal, IsOpened}
 use Rattle.index.specs.Replying.{change_text}
-use Rattle.index.specs.Sessions.{HasHeld, HasStage, IsIndex, IsSpare, LeavesStage, analysis_of, left_by}
-use Rattle.engine.specs.Standing.{Stands}
+use Rattle.index.specs.Sessions.{HasHeld, HasStage, IsIndex, IsSpare, LeavesStage, all_of, analysis_of, left_by}
+use Rattle.engine.specs.Standing.{Stands, StandsReopened}
 use Rattle.engine.specs.declared.index.Index.{Index}
 use Rattle.engine.specs.declared.index.Refused.{Refused}
 use Rattle.index.specs.declared.stage.Stage.TheVariants.{Spare, Standing}
@@ -35,7 +35,7 @@ module _ {D : Type 0} (honest : D → Bool) (content : D → List ℕ) where
   -- a device that is as it was holds what it held
   pub held_kept : (old new : D) (held : steps.Held) → HasHeld honest content old held → honest new ≡ honest old → content new ≡ content old → HasHeld honest content new held
   held_kept old new steps.no_file h same is = (subst (λ (b : Bool). IsTrue b) (sym same) h.0, is ∙ h.1)
-  held_kept old new (steps.file_of s u d) h same is = (subst (λ (b : Bool). IsTrue b) (sym same) h.0, subst (λ (l : List ℕ). IsFileOf s u d l) (sym is) h.1)
+  held_kept old new (steps.file_of s u d) h same is = (subst (λ (b : Bool). IsTrue b) (sym same) h.0, subst (λ (l : List ℕ). IsFileOf s u (all_of d) l) (sym is) h.1)
 
 -- ---- an index is made or opened
 
@@ -108,11 +108,11 @@ module _ {D A : Type 0} (d : devices.Ghosts D) (knows : A → List ℕ → Bool)
   opened_stage a device analyzer steps.no_file index spare opened known by = let o = opened spare.1.0 in absurd (no_bytes o.file.0 (d.content device) o.file.1 spare.1.1)
   opened_stage a device analyzer (steps.file_of s u e) index spare opened known by =
       let o = opened spare.1.0 in
-      let is : found index.collection.schema index.collection.settings o.docs ≡ found s u e = one_saying index.collection.schema s index.collection.settings u o.docs e (d.content device) o.file spare.1.1 in
+      let is : found index.collection.schema index.collection.settings o.docs ≡ found s u (all_of e) = one_saying index.collection.schema s index.collection.settings u o.docs (all_of e) (d.content device) o.file spare.1.1 in
       let schema : index.collection.schema ≡ s = ap (λ (f : Found). f.0.0) is in
       let knows_all : are_analyzed a.knows s ≡ true = subst (λ (b : steps.Analysis). are_analyzed b.knows s ≡ true) (sym spare.0) (subst (λ (t : Schema). are_analyzed (knows analyzer) t ≡ true) schema known) in
       let step : steps.opened a.knows (steps.file_of s u e) ≡ (ok_reply, steps.index_of s u (steps.reopened e)) = ap (λ (b : Bool). cond b (ok_reply, steps.index_of s u (steps.reopened e)) (steps.refusing faults.UnknownTokenizer (steps.no_index (steps.file_of s u e)))) knows_all in
-      let stands : Stands analyze index.collection (steps.configuration_of s (analyze analyzer) u) (steps.reopened e) = subst (λ (f : Found). Stands analyze index.collection (steps.configuration_of f.0.0 (analyze analyzer) f.0.1) (steps.reopened f.1)) is o.stands in
+      let stands : Stands analyze index.collection (steps.configuration_of s (analyze analyzer) u) (steps.reopened e) = subst (λ (f : Found). StandsReopened analyze index.collection (steps.configuration_of f.0.0 (analyze analyzer) f.0.1) f.1) is o.stands e refl in
       answered_stage a index s u (steps.reopened e) (steps.opened a.knows (steps.file_of s u e)) step
       (record {
         analysis = spare.0 ∙ ap (analysis_of knows analyze) (sym by);
@@ -133,9 +133,9 @@ module _ {D A : Type 0} (d : devices.Ghosts D) (knows : A → List ℕ → Bool)
       let stays = spare_kept a device r.device analyzer r.analyzer held spare returned honest same in
       refused_stage a r.device r.analyzer r.fault held (steps.opened a.knows held) (step held spare.1 (refused is_honest)) stays on
     where
-      unknown : (s t : Schema) (u v : Settings) (e f : List Document) → IsFileOf s u e (d.content device) → IsFileOf t v f (d.content device) → are_analyzed (knows analyzer) t ≡ false → r.fault ≡ faults.UnknownTokenizer → steps.opened a.knows (steps.file_of s u e) ≡ steps.refusing r.fault (steps.no_index (steps.file_of s u e))
+      unknown : (s t : Schema) (u v : Settings) (e : List (List Document)) (f : List Document) → IsFileOf s u (all_of e) (d.content device) → IsFileOf t v f (d.content device) → are_analyzed (knows analyzer) t ≡ false → r.fault ≡ faults.UnknownTokenizer → steps.opened a.knows (steps.file_of s u e) ≡ steps.refusing r.fault (steps.no_index (steps.file_of s u e))
       unknown s t u v e f file other is fault =
-          let same : t ≡ s = ap (λ (g : Found). g.0.0) (one_saying t s v u f e (d.content device) other file) in
+          let same : t ≡ s = ap (λ (g : Found). g.0.0) (one_saying t s v u f (all_of e) (d.content device) other file) in
           let lacks : are_analyzed a.knows s ≡ false = subst (λ (b : steps.Analysis). are_analyzed b.knows s ≡ false) (sym spare.0) (subst (λ (g : Schema). are_analyzed (knows analyzer) g ≡ false) same is) in
           ap (λ (b : Bool). cond b (ok_reply, steps.index_of s u (steps.reopened e)) (steps.refusing faults.UnknownTokenizer (steps.no_index (steps.file_of s u e)))) lacks
           ∙ ap (λ (g : Fault). steps.refusing g (steps.no_index (steps.file_of s u e))) (sym fault)
@@ -146,8 +146,8 @@ module _ {D A : Type 0} (d : devices.Ghosts D) (knows : A → List ℕ → Bool)
       step steps.no_file has (inr (inr (inl (inl (is, none))))) = ap (λ (g : Fault). steps.refusing g (steps.no_index steps.no_file)) (sym is)
       step steps.no_file has (inr (inr (inl (inr (place, is, damaged))))) = absurd (damaged.begins (subst (λ (l : List ℕ). IsNoIndex l) (sym has.1) no_index_yet))
       step steps.no_file has (inr (inr (inr (is, s, u, e, file, lacks)))) = absurd (no_bytes file.0 (d.content device) file.1 has.1)
-      step (steps.file_of s u e) has (inr (inr (inl (inl (is, none))))) = absurd (file_is_index s u e (d.content device) has.1 none)
-      step (steps.file_of s u e) has (inr (inr (inl (inr (place, is, damaged))))) = absurd (file_is_whole s u e (d.content device) place has.1 damaged)
+      step (steps.file_of s u e) has (inr (inr (inl (inl (is, none))))) = absurd (file_is_index s u (all_of e) (d.content device) has.1 none)
+      step (steps.file_of s u e) has (inr (inr (inl (inr (place, is, damaged))))) = absurd (file_is_whole s u (all_of e) (d.content device) place has.1 damaged)
       step (steps.file_of s u e) has (inr (inr (inr (is, t, v, f, file, lacks)))) = unknown s t u v e f has.1 file lacks is
 
   -- what a call that makes an index leaves

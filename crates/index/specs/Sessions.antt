@@ -1,5 +1,5 @@
 -- What a session stands for, and what it answers.
-use Rattle.std.specs.Prelude.{[], ⊤, ◌≡◌, ◌⊎◌, Bool, Err, IfOk, IsTrue, List, None, Ok, OnOk, Option, Result, Some, ℕ}
+use Rattle.std.specs.Prelude.{[], ⊤, ◌≡◌, ◌⊎◌, Bool, Err, IfOk, IsTrue, List, None, Ok, OnOk, Option, Result, Some, flat_map, ℕ}
 use Rattle.std.specs.Cow.{cow_str_bytes}
 use Rattle.std.specs.declared.borrow.CowStr.{CowStr}
 use Rattle.common.specs.declared.analyzer.Analyzer as analyzers
@@ -9,8 +9,8 @@ use Rattle.definitions.specs.Calls as calls
 use Rattle.definitions.specs.Replies.{reply_of}
 use Rattle.definitions.specs.Schema.{Schema}
 use Rattle.definitions.specs.Settings.{Settings}
-use Rattle.definitions.specs.State.{committed}
 use Rattle.definitions.specs.Step as steps
+use Rattle.definitions.specs.Values.{Document}
 use Rattle.definitions.specs.declared.fault.Fault.{Fault}
 use Rattle.engine.specs.Files.{IsFileOf}
 use Rattle.index.specs.Replying.{GoesOn, change_text}
@@ -22,10 +22,14 @@ use Rattle.index.specs.declared.stage.Stage.{Stage}
 use Rattle.index.specs.declared.stage.Stage.TheVariants.{Spare, Standing}
 use Rattle.serde_json.specs.Data as json
 
--- an honest device that holds this
+-- the documents of all groups
+abbrev pub all_of : List (List Document) → List Document
+all_of groups = flat_map (λ group. group) groups
+
+-- an honest device that holds this: its file tells the documents, in whatever groups they are
 abbrev pub HasHeld : {D : Type 0} → (D → Bool) → (D → List ℕ) → D → steps.Held → Type 0
 HasHeld honest content device steps.no_file = IsTrue (honest device) × (content device ≡ [])
-HasHeld honest content device (steps.file_of schema settings docs) = IsTrue (honest device) × IsFileOf schema settings docs (content device)
+HasHeld honest content device (steps.file_of schema settings groups) = IsTrue (honest device) × IsFileOf schema settings (all_of groups) (content device)
 
 -- what an analyzer knows, and how it cuts a text
 abbrev pub analysis_of : {A : Type 0} → (A → List ℕ → Bool) → (A → Analyzer) → A → steps.Analysis
@@ -41,7 +45,7 @@ session_of a schema settings x = record { analysis = a; stage = steps.index_of s
 
 -- an index is ready, or else it is known by the file of its device, which says what is committed
 abbrev pub IsKnown : {D : Type 0} → (D → Bool) → (D → List ℕ) → D → Schema → Settings → calls.Index → Type 0
-IsKnown honest content device schema settings x = (x.status ≡ calls.ready) ⊎ HasHeld honest content device (steps.file_of schema settings (committed x.state))
+IsKnown honest content device schema settings x = (x.status ≡ calls.ready) ⊎ HasHeld honest content device (steps.file_of schema settings x.state.groups)
 
 -- the device holds this, and the analyzer is the session's
 abbrev pub IsSpare : {D A : Type 0} → (D → Bool) → (D → List ℕ) → (A → List ℕ → Bool) → (A → Analyzer) → steps.Analysis → D → A → steps.Held → Type 0

@@ -11,6 +11,6 @@ returns-clause-taken g c k x s =
     let index = c.args.self.now in
     let d = c.args.text.now in
     let call = calls.add_json d in
-    let ready = ap (λ status. calls.status_fault status call) s.status ∙ sym (c.check_writer.ensures.value call refl) ∙ ap result_err c.in_ok-check_writer.was in
+    let ready = ap (λ status. calls.status_fault status false) s.status ∙ sym (c.check_writer.ensures.value) ∙ ap result_err c.in_ok-check_writer.was in
     subst (λ made. Accepts made x call c.read_document_text.result) (sym s.made)
     (accepts_read (configuration_of index.schema (g.A.Analyzer.analyze index.analyzer) index.settings) x call (calls.document_json index.schema d) c.read_document_text.result ready refl refl c.read_document_text.ensures.ok c.read_document_text.ensures.err)

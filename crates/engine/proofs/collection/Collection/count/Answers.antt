@@ -15,7 +15,7 @@ returns-clause-ok g c k x s =
     let analyze = g.A.Analyzer.analyze index.analyzer in
     let q = query_of c.args.query.now in
     let call = calls.count_all q in
-    let ready = ap (λ status. calls.status_fault status call) s.status ∙ sym (c.check_open.ensures call refl) ∙ ap result_err c.in_ok-check_open.was in (
+    let ready = ap (λ status. calls.status_fault status true) s.status ∙ sym c.check_open.ensures ∙ ap result_err c.in_ok-check_open.was in (
       own_refuses k x call ready ∙ subst (λ m. refusal m.schema m.similarity.weight q ≡ None) (sym s.made) (sym c.check_query.ensures ∙ ap result_err c.in_ok-check_query.was),
       subst (λ m. c.scan_count.result ≡ scan_count m.schema m.analyze (committed x.state) q) (sym s.made)
           (c.scan_count.ensures analyze (subst (Describe index.schema analyze) (sym c.deref.ensures.value) s.docs)

@@ -21,7 +21,7 @@ pub returns-in_err-check_writer-clause-left : goal.returns-in_err-check_writer-c
 returns-in_err-check_writer-clause-left g c k x s =
     let call = calls.commit_pending in
     let fault = c.in_err-check_writer.field-0.0 in
-    let refuses = ap (λ status. calls.status_fault status call) s.status ∙ sym (c.check_writer.ensures.value call refl) ∙ ap result_err c.in_err-check_writer.was in
+    let refuses = ap (λ status. calls.status_fault status false) s.status ∙ sym (c.check_writer.ensures.value) ∙ ap result_err c.in_err-check_writer.was in
     subst (λ r. (y : calls.Index) × calls.Leaves k x call r y × Stands g.A.Analyzer.analyze c.args.self.now.collection k y) (err_same c.from_residual.result fault c.from_residual.ensures.1)
     (x, calls.refused fault (status_refuses k x call fault refuses), s)
 
@@ -46,7 +46,7 @@ returns-in_err-check_writer-clause-any_moment g c k x s h rests =
 pub returns-in-Ok-clause-left : goal.returns-in-Ok-clause-left
 returns-in-Ok-clause-left g c k x s =
     let call = calls.commit_pending in
-    let ready = ap (λ status. calls.status_fault status call) s.status ∙ sym (c.check_writer.ensures.value call refl) ∙ ap result_err c.in_ok-check_writer.was in
+    let ready = ap (λ status. calls.status_fault status false) s.status ∙ sym (c.check_writer.ensures.value) ∙ ap result_err c.in_ok-check_writer.was in
     let kept = stands_kept g.A.Analyzer.analyze c.args.self.now.collection c.write_commit.new.self.collection c.write_commit.ensures.documents k x s in
     (record { state = calls.after k x.state call; status = x.status }, calls.answered (own_refuses k x call ready), c.install_commit.ensures.left k x kept)
 
@@ -77,7 +77,7 @@ pub returns-in-Err-clause-left : goal.returns-in-Err-clause-left
 returns-in-Err-clause-left g c k x s =
     let call = calls.commit_pending in
     let analyze = g.A.Analyzer.analyze in
-    let ready = ap (λ status. calls.status_fault status call) s.status ∙ sym (c.check_writer.ensures.value call refl) ∙ ap result_err c.in_ok-check_writer.was in
+    let ready = ap (λ status. calls.status_fault status false) s.status ∙ sym (c.check_writer.ensures.value) ∙ ap result_err c.in_ok-check_writer.was in
     let kept = stands_kept analyze c.args.self.now.collection c.write_commit.new.self.collection c.write_commit.ensures.documents k x s in
     let stopped = c.stop.ensures.left k x kept in
     let fault = c.in-Err.fault in
