@@ -6,7 +6,7 @@ use Rattle.std.proofs.lemmas.List.Sums.{sum_by-append, sum_by-take-drop}
 use Rattle.std.specs.List.{AllByRecursion}
 use Rattle.checked_postings.proofs.BlockChecks.{counts_long, docs_long}
 use Rattle.checked_postings.specs.Blocks.{BeginsWithBlock, HasBlocks, IsCountBlock, IsDocBlock}
-use Rattle.packed_blocks.proofs.PositionBlocks.{drop_drop}
+use Rattle.packed_blocks.proofs.UnpackedBlocks.{drop_drop}
 use Rattle.definitions.specs.Schema.{IndexRecordOption, has_freq}
 use Rattle.layouts.specs.Deltas.{IsAscendingFrom, deltas}
 use Rattle.layouts.specs.PackedBytes.{packed_bytes}

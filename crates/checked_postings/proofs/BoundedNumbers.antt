@@ -5,7 +5,7 @@ use Rattle.std.proofs.lemmas.List.{drop_more}
 use Rattle.std.proofs.lemmas.List.Sums.{sum_by-append, sum_by-cons, sum_by-take-drop}
 use Rattle.checked_postings.proofs.NumberFolds.{nothing_left}
 use Rattle.checked_postings.specs.Placed.{AreBounded}
-use Rattle.packed_blocks.proofs.PositionBlocks.{drop_drop}
+use Rattle.packed_blocks.proofs.UnpackedBlocks.{drop_drop}
 
 -- the documents up to one are bounded, and what is left decides
 pub record Bounds (counts whole numbers : List ℕ) (i place : ℕ) : Type 0 where

@@ -1,7 +1,7 @@
 //! One full block, checked.
 
 ghost use Rattle.std.specs.Prelude.{IfErr, IfOk, IfSome, List, None, ℕ, ◌*◌, ◌≡◌, ◌≤◌, false, if◌then◌else◌, length, sum};
-ghost use Rattle.packed_blocks.specs.PositionBlocks.{listed};
+ghost use Rattle.packed_blocks.specs.UnpackedBlocks.{listed};
 ghost use Rattle.checked_postings.specs.Blocks.{BeginsWithBlock, IsCountBlock, IsDocBlock, entry_of};
 ghost use Rattle.definitions.specs.Schema.{has_freq, has_positions};
 ghost use Rattle.definitions.specs.declared.fault.Fault.TheVariants as faults;

@@ -2,7 +2,7 @@
 
 ghost use Rattle.std.specs.Prelude.{IfNone, IfSome, IsTrue, ◌+◌, ◌*◌, ◌<◌, ◌^◌, ◌≡◌, ◌≤◌, ◌↔◌, length, map, sum};
 ghost use Rattle.std.specs.List.{AllByRecursion};
-ghost use Rattle.packed_blocks.specs.PositionBlocks.{listed};
+ghost use Rattle.packed_blocks.specs.UnpackedBlocks.{listed};
 ghost use Rattle.checked_postings.specs.Blocks.{more_1};
 ghost use Rattle.definitions.specs.Blocks.{block_len, least_of};
 ghost use Rattle.definitions.specs.Scoring.{greatest_of};

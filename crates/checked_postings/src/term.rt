@@ -1,7 +1,7 @@
 //! A term, checked: its postings, and its positions where they are recorded.
 
 ghost use Rattle.std.specs.Prelude.{IfErr, IfOk, IfSome, List, None, ℕ, ◌≡◌, ◌≤◌, length, sum_by};
-ghost use Rattle.packed_blocks.specs.PositionBlocks.{listed};
+ghost use Rattle.packed_blocks.specs.UnpackedBlocks.{listed};
 ghost use Rattle.checked_postings.specs.Placed.{term_of};
 ghost use Rattle.definitions.specs.Postings.{Posting, terminated};
 ghost use Rattle.definitions.specs.declared.fault.Fault.TheVariants as faults;

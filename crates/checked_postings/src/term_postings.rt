@@ -1,7 +1,7 @@
 //! The postings of a term, checked.
 
 ghost use Rattle.std.specs.Prelude.{IfErr, IfOk, IfSome, None, Some, ℕ, [], ◌<◌, ◌≡◌, ◌≤◌, length};
-ghost use Rattle.packed_blocks.specs.PositionBlocks.{listed};
+ghost use Rattle.packed_blocks.specs.UnpackedBlocks.{listed};
 ghost use Rattle.checked_postings.specs.Terms.{HasTerm};
 ghost use Rattle.definitions.specs.Blocks.{block_len};
 ghost use Rattle.definitions.specs.NumberCodes.{take_bytes};

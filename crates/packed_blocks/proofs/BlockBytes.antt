@@ -4,8 +4,8 @@ use Rattle.std.proofs.Math.Nat.{div-lt_iff_lt-mul, mod-lt, one-le-pow, pow-zero}
 use Rattle.std.proofs.lemmas.Bool.Decides.{nat_tests}
 use Rattle.std.specs.List.{list_all}
 use Rattle.packed_blocks.proofs.Packings.{digits_are_packed}
-use Rattle.packed_blocks.proofs.PositionBlocks.{count_of_digits, packed_is}
-use Rattle.packed_blocks.specs.PositionBlocks.{unpacked}
+use Rattle.packed_blocks.proofs.UnpackedBlocks.{count_of_digits, packed_is}
+use Rattle.packed_blocks.specs.UnpackedBlocks.{unpacked}
 use Rattle.common.proofs.DigitNumbers.{AreDigits, number-below, number-same, power_of}
 use Rattle.layouts.proofs.PackedTests.{all_below}
 use Rattle.layouts.specs.PackedBlocks.{IsBlock, IsLeastWidth, IsPacked}

@@ -9,5 +9,5 @@ pub mod Bits
 pub mod VintLists
 pub mod SumsOfDeltas
 pub mod ListLaws
-pub mod PositionBlocks
+pub mod UnpackedBlocks
 pub mod BlockBytes

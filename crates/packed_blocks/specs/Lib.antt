@@ -1,3 +1,3 @@
 pub mod Fields
 pub mod Decoded
-pub mod PositionBlocks
+pub mod UnpackedBlocks

@@ -6,8 +6,10 @@ use Rattle.std.proofs.lemmas.Bool.Decides.{nat_tests}
 use Rattle.std.proofs.lemmas.List.{get_or-drop, get_or_past, take_rest}
 use Rattle.common.proofs.DigitNumbers.{AreDigits}
 use Rattle.packed_blocks.proofs.Packings.{digits-take}
-use Rattle.packed_blocks.proofs.PositionBlocks.{drop_drop, next_place, packed_is, unpacked_count}
-use Rattle.packed_blocks.specs.PositionBlocks.{AreSmall, HasAll, numbers_in, packed_len, unpacked}
+use Rattle.packed_blocks.proofs.UnpackedBlocks.{drop_drop, packed_is, unpacked_count}
+use Rattle.positions.proofs.PositionBlocks.{next_place}
+use Rattle.packed_blocks.specs.UnpackedBlocks.{unpacked}
+use Rattle.positions.specs.PositionBlocks.{AreSmall, HasAll, numbers_in, packed_len}
 use Rattle.layouts.specs.PackedBlocks.{IsBlock}
 use Rattle.layouts.specs.Positions.{AreBlocks}
 

@@ -8,9 +8,10 @@ use Rattle.common.proofs.DigitNumbers.{AreDigits}
 use Rattle.common.proofs.TakenBack.{bytes_put}
 use Rattle.positions.proofs.CheckedBlocks.{small_drop}
 use Rattle.packed_blocks.proofs.Packings.{digits-take}
-use Rattle.packed_blocks.proofs.PositionBlocks.{drop_drop, packed_is}
+use Rattle.packed_blocks.proofs.UnpackedBlocks.{drop_drop, packed_is}
 use Rattle.positions.proofs.PositionsOpened.{blocks_of, no_widths, rest_taken}
-use Rattle.packed_blocks.specs.PositionBlocks.{AreSmall, HasBlocks, Holds, listed, numbers_in, packed_len, unpacked}
+use Rattle.packed_blocks.specs.UnpackedBlocks.{listed, unpacked}
+use Rattle.positions.specs.PositionBlocks.{AreSmall, HasBlocks, Holds, numbers_in, packed_len}
 use Rattle.definitions.specs.NumberCodes.{AreBytes, sized_bytes, take_bytes}
 use Rattle.layouts.specs.Positions.{AreBlocks, ArePositions}
 use Rattle.layouts.specs.VintBlocks.{take_all_numbers}

@@ -1,3 +1,4 @@
+pub mod PositionBlocks
 pub mod CheckedBlocks
 pub mod PositionsOpened
 pub mod PositionNumbers

@@ -6,8 +6,10 @@ use Rattle.common.proofs.TakenBack.{bytes_back, bytes_put}
 use Rattle.positions.proofs.CheckedBlocks.{small_drop}
 use Rattle.packed_blocks.proofs.ListLaws.{Small, all_back, all_stood}
 use Rattle.packed_blocks.proofs.Packings.{one_reading}
-use Rattle.packed_blocks.proofs.PositionBlocks.{drop_drop, rest_numbers, unpacked_count}
-use Rattle.packed_blocks.specs.PositionBlocks.{AreSmall, HasAll, Holds, listed, numbers_in, packed_len, unpacked}
+use Rattle.packed_blocks.proofs.UnpackedBlocks.{drop_drop, unpacked_count}
+use Rattle.positions.proofs.PositionBlocks.{rest_numbers}
+use Rattle.packed_blocks.specs.UnpackedBlocks.{listed, unpacked}
+use Rattle.positions.specs.PositionBlocks.{AreSmall, HasAll, Holds, numbers_in, packed_len}
 use Rattle.definitions.specs.Json.{◌>>=◌}
 use Rattle.definitions.specs.NumberCodes.{AreBytes, sized_bytes, take_bytes, vint_bytes}
 use Rattle.layouts.specs.Positions.{AreBlocks, ArePositions}

@@ -1,7 +1,7 @@
 -- Positions that are put, block by block.
 use Rattle.std.proofs.Common.{[], List, ap, ap₂, append_assoc, drop, length, refl, subst, sym, take, ◌*◌, ◌++◌, ◌<◌, ◌≡◌, ◌∙◌, ◌∷◌, ℕ}
 use Rattle.std.proofs.Math.Seq.{drop-append_seam, take-append_seam}
-use Rattle.packed_blocks.specs.PositionBlocks.{AreSmall}
+use Rattle.positions.specs.PositionBlocks.{AreSmall}
 use Rattle.definitions.specs.NumberCodes.{sized_bytes}
 use Rattle.layouts.specs.PackedBlocks.{IsBlock}
 use Rattle.layouts.specs.Positions.{AreBlocks, ArePositions}

@@ -2,7 +2,7 @@
 
 ghost use Rattle.std.specs.Prelude.{◌*◌, ◌+◌, ◌<◌, ◌^◌, ◌≡◌, ◌≤◌, ◌++◌, ◌-◌, ◌↔◌, [], IfErr, IfOk, IsTrue, List, None, OnOk, Some, drop, length, take, ℕ};
 ghost use Rattle.packed_blocks.specs.Decoded.{output_list};
-ghost use Rattle.packed_blocks.specs.PositionBlocks.{AreSmall, HasAll, HasBlocks, Holds, numbers_in, packed_len};
+ghost use Rattle.positions.specs.PositionBlocks.{AreSmall, HasAll, HasBlocks, Holds, numbers_in, packed_len};
 ghost use Rattle.layouts.specs.Positions.{AreBlocks, ArePositions};
 ghost use Rattle.layouts.specs.VintBlocks.{take_all_numbers};
 ghost use Rattle.definitions.specs.Blocks.{block_len};
@@ -30,7 +30,7 @@ pub struct PositionReader<'a> {
 impl<'a> Model for PositionReader<'a> {
     ghost use Rattle.std.specs.Prelude.{List, ℕ};
     ghost use Rattle.packed_blocks.specs.Decoded.{output_list};
-    ghost use Rattle.packed_blocks.specs.PositionBlocks.{Holds, numbers_in};
+    ghost use Rattle.positions.specs.PositionBlocks.{Holds, numbers_in};
 
     ghost Value = { List ℕ };
 

@@ -21,7 +21,7 @@ pub struct PositionSerializer {
 
 impl Model for PositionSerializer {
     ghost use Rattle.std.specs.Prelude.{List, ℕ};
-    ghost use Rattle.packed_blocks.specs.PositionBlocks.{AreSmall};
+    ghost use Rattle.positions.specs.PositionBlocks.{AreSmall};
 
     ghost Value = { List ℕ × List ℕ };
 

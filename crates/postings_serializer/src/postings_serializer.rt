@@ -1,7 +1,7 @@
 //! The postings of terms, written as bytes.
 
 ghost use Rattle.std.specs.Prelude.{[], ◌++◌, ◌+◌, ◌<◌, ◌≡◌, ◌≤◌, ◌^◌, ◌∷◌, IfErr, IfSome, IsTrue, List, OnOk, false, if◌then◌else◌, length, nat_le, ℕ};
-ghost use Rattle.packed_blocks.specs.PositionBlocks.{listed};
+ghost use Rattle.packed_blocks.specs.UnpackedBlocks.{listed};
 ghost use Rattle.definitions.specs.Postings.{terminated};
 ghost use Rattle.definitions.specs.Schema.{basic, has_freq, has_positions};
 ghost use Rattle.layouts.specs.TermPostings.{ArePosted, id_of, postings_bytes};

@@ -2,7 +2,7 @@
 use Rattle.std.specs.Prelude.{[], ◌++◌, ◌<◌, ◌^◌, ◌≡◌, ◌∷◌, IfSome, List, Option, drop, length, map, sum_by, ℕ}
 use Rattle.std.specs.List.{AllByRecursion}
 use Rattle.definitions.specs.Postings.{Posting, terminated}
-use Rattle.packed_blocks.specs.PositionBlocks.{listed}
+use Rattle.packed_blocks.specs.UnpackedBlocks.{listed}
 use Rattle.definitions.specs.Schema.{IndexRecordOption, has_positions, with_freqs_and_positions}
 use Rattle.layouts.specs.Deltas.{IsAscendingFrom}
 use Rattle.layouts.specs.InvertedIndexes.{HasPositions}

@@ -3,7 +3,7 @@
 ghost use Rattle.std.specs.Prelude.{[], ◌^◌, ◌≡◌, ◌≤◌, ◌⊎◌, ◌∷◌, IfErr, IfOk, List, MatchOption, OnOk, bytes_eq, map, sum_by, true, ℕ};
 ghost use Rattle.std.specs.List.{AllByRecursion};
 ghost use Rattle.std.specs.Map.{lookup};
-ghost use Rattle.packed_blocks.specs.PositionBlocks.{listed};
+ghost use Rattle.packed_blocks.specs.UnpackedBlocks.{listed};
 ghost use Rattle.definitions.specs.Schema.{is_indexed};
 ghost use Rattle.definitions.specs.declared.fault.Fault.TheVariants as faults;
 ghost use Rattle.layouts.specs.InvertedIndexes.{IndexedField, IndexedTerm};

@@ -5,7 +5,7 @@ use Rattle.std.proofs.lemmas.Bool.{cases_lt}
 use Rattle.std.proofs.lemmas.List.{get_or-append_right, get_or-replicate, get_or-take, get_or_append_left, get_or_default, get_or_past}
 use Rattle.fieldnorms.proofs.Ascending.{ascends_apart}
 use Rattle.packed_blocks.proofs.Sums.{ascending-documents}
-use Rattle.packed_blocks.specs.PositionBlocks.{unpacked}
+use Rattle.packed_blocks.specs.UnpackedBlocks.{unpacked}
 use Rattle.definitions.specs.Postings.{terminated}
 use Rattle.layouts.specs.Deltas.{IsAscendingFrom, next_of}
 use Rattle.layouts.specs.SkipEntries.{SkipEntry}

@@ -8,7 +8,7 @@ use Rattle.definitions.specs.Json.{only_if, ◌>>=◌}
 use Rattle.definitions.specs.Postings.{terminated}
 use Rattle.fieldnorms.proofs.Ascending.{ascends_least}
 use Rattle.packed_blocks.proofs.Sums.{ascending-documents}
-use Rattle.packed_blocks.specs.PositionBlocks.{unpacked}
+use Rattle.packed_blocks.specs.UnpackedBlocks.{unpacked}
 use Rattle.layouts.specs.Deltas.{IsAscendingFrom, documents, next_of}
 use Rattle.layouts.specs.SkipEntries.{SkipEntry}
 use Rattle.layouts.specs.VintBlocks.{is_u32, take_documents, take_number, take_numbers}

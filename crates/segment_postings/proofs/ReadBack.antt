@@ -8,9 +8,9 @@ use Rattle.std.proofs.lemmas.List.{get_or-drop, get_or-take, get_or_past, length
 use Rattle.std.specs.List.{AllByRecursion, list_all}
 use Rattle.packed_blocks.proofs.BlockBytes.{packed_stands}
 use Rattle.packed_blocks.proofs.ListLaws.{documents_back, numbers_back}
-use Rattle.packed_blocks.proofs.PositionBlocks.{packed_is}
+use Rattle.packed_blocks.proofs.UnpackedBlocks.{packed_is}
 use Rattle.packed_blocks.proofs.Sums.{documents-deltas}
-use Rattle.packed_blocks.specs.PositionBlocks.{unpacked}
+use Rattle.packed_blocks.specs.UnpackedBlocks.{unpacked}
 use Rattle.common.proofs.DigitNumbers.{AreDigits}
 use Rattle.definitions.specs.Postings.{terminated}
 use Rattle.definitions.specs.Schema.{IndexRecordOption, has_freq, has_positions}

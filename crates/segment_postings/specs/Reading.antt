@@ -1,7 +1,7 @@
 -- The documents and counts that stand in a term's bytes.
 use Rattle.std.specs.Prelude.{[], ⊤, ◌*◌, ◌++◌, ◌+◌, ◌-◌, ◌/◌, ◌%◌, ◌<◌, ◌^◌, ◌≡◌, ◌≤◌, ◌∷◌, Bool, IsSome, List, None, Option, Some, drop, if◌then◌else◌, length, map, min, nat_lt, replicate, slice_index, sum, take, true, ℕ}
 use Rattle.std.specs.List.{prefix_len}
-use Rattle.packed_blocks.specs.PositionBlocks.{unpacked}
+use Rattle.packed_blocks.specs.UnpackedBlocks.{unpacked}
 use Rattle.definitions.specs.Postings.{terminated}
 use Rattle.definitions.specs.Schema.{IndexRecordOption, has_freq, has_positions}
 use Rattle.layouts.specs.Deltas.{documents, next_of}

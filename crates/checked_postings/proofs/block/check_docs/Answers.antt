@@ -3,7 +3,7 @@ use Rattle.std.proofs.lemmas.Result.{err_from_is_err_and}
 use Rattle.std.specs.List.{AllByRecursion}
 use Rattle.checked_postings.proofs.BlockChecks.{decoded_docs, doc_block, doc_block_sorted, kept_all}
 use Rattle.checked_postings.specs.Blocks.{IsDocBlock, entry_of}
-use Rattle.packed_blocks.specs.PositionBlocks.{listed}
+use Rattle.packed_blocks.specs.UnpackedBlocks.{listed}
 use Rattle.layouts.specs.Deltas.{next_of}
 use Rattle.layouts.specs.PackedBlocks.{IsSortedBlock}
 use Rattle.checked_postings.proofs.block.check_docs.Goals.{After-output_array-docs}

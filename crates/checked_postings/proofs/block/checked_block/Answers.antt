@@ -1,7 +1,7 @@
 use Rattle.std.proofs.Common.{arith, drop, length, length-drop, refl, rules, ◌*◌, ◌<◌, ◌≤◌, ◌^◌}
 use Rattle.checked_postings.proofs.BlockChecks.{block_room}
 use Rattle.checked_postings.specs.Blocks.{entry_of}
-use Rattle.packed_blocks.specs.PositionBlocks.{listed}
+use Rattle.packed_blocks.specs.UnpackedBlocks.{listed}
 use Rattle.layouts.specs.Deltas.{next_of}
 use Rattle.options.specs.RecordOption.{record_option_of}
 use Rattle.checked_postings.proofs.block.checked_block.Goals as goal

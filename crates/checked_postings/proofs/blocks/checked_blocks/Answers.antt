@@ -3,7 +3,7 @@ use Rattle.std.proofs.lemmas.Result.{err_from_is_err_and}
 use Rattle.checked_postings.proofs.BlockChecks.{block_room}
 use Rattle.checked_postings.proofs.PassedBlocks.{Passed, block_passed, block_refused, rest_refused}
 use Rattle.checked_postings.specs.Blocks.{entry_of}
-use Rattle.packed_blocks.specs.PositionBlocks.{listed}
+use Rattle.packed_blocks.specs.UnpackedBlocks.{listed}
 use Rattle.layouts.specs.Deltas.{next_of}
 use Rattle.layouts.specs.SkipEntries.{SkipEntry}
 use Rattle.options.specs.RecordOption.{record_option_of}

@@ -1,5 +1,5 @@
 use Rattle.std.proofs.Common.{length, ◌%◌, ◌*◌, ◌+◌, ◌/◌, ◌≡◌, ◌≤◌}
-use Rattle.packed_blocks.specs.PositionBlocks.{listed}
+use Rattle.packed_blocks.specs.UnpackedBlocks.{listed}
 use Rattle.checked_postings.proofs.PassedBlocks.{Passed}
 use Rattle.options.specs.RecordOption.{record_option_of}
 use Rattle.checked_postings.proofs.blocks.checked_blocks.Given as goal

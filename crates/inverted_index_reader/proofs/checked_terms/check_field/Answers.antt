@@ -1,6 +1,6 @@
 use Rattle.std.proofs.Common.{ap, arith, length, refl, subst, sym, ◌+◌}
 use Rattle.std.proofs.lemmas.Result.{err_from_is_err_and}
-use Rattle.packed_blocks.specs.PositionBlocks.{listed}
+use Rattle.packed_blocks.specs.UnpackedBlocks.{listed}
 use Rattle.inverted_index_reader.proofs.CheckedOnce.{AreReal, all_checked, next_checked, none_there, nothing_checked, other_sum, too_many}
 use Rattle.inverted_index_reader.specs.CheckedTerms.{AreTermsAt, bytes_of}
 use Rattle.inverted_index_reader.proofs.checked_terms.check_field.Goals as goal

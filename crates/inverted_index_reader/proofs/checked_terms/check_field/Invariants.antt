@@ -1,5 +1,5 @@
 use Rattle.std.proofs.Common.{◌+◌, ◌≡◌, ℕ}
-use Rattle.packed_blocks.specs.PositionBlocks.{listed}
+use Rattle.packed_blocks.specs.UnpackedBlocks.{listed}
 use Rattle.inverted_index_reader.proofs.CheckedOnce.{Checking}
 use Rattle.inverted_index_reader.specs.CheckedTerms.{bytes_of}
 use Rattle.inverted_index_reader.proofs.checked_terms.check_field.Given as goal

@@ -1,7 +1,7 @@
 use Rattle.std.proofs.Common.{List, arith, length, refl, rules, subst, ◌<◌, ℕ}
 use Rattle.std.proofs.lemmas.Result.{err_from_is_err_and}
 use Rattle.positions.proofs.PositionsOpened.{rest_is, rest_other, rest_untaken}
-use Rattle.packed_blocks.specs.PositionBlocks.{AreSmall}
+use Rattle.positions.specs.PositionBlocks.{AreSmall}
 use Rattle.positions.proofs.position_reader.checked_rest.Goals as goal
 
 pub returns-in_err-try_uncompress_vint_unsorted_until_end-clause-err : goal.returns-in_err-try_uncompress_vint_unsorted_until_end-clause-err

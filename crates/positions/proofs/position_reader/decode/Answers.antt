@@ -1,6 +1,6 @@
 use Rattle.std.proofs.Common.{arith, drop, length, length-drop, take, ◌-◌, ◌≡◌}
 use Rattle.std.proofs.lemmas.List.{take_rest}
-use Rattle.packed_blocks.proofs.PositionBlocks.{block_decoded, place_within, rest_decoded, rest_listed}
+use Rattle.positions.proofs.PositionBlocks.{block_decoded, place_within, rest_decoded, rest_listed}
 use Rattle.positions.proofs.position_reader.decode.Goals as goal
 
 pub uncompress_block_unsorted-requires-clause-room : goal.uncompress_block_unsorted-requires-clause-room

@@ -1,5 +1,5 @@
 use Rattle.std.proofs.Common.{arith}
-use Rattle.packed_blocks.proofs.PositionBlocks.{place_at_most}
+use Rattle.positions.proofs.PositionBlocks.{place_at_most}
 use Rattle.positions.proofs.position_reader.load.Goals as goal
 use Rattle.positions.proofs.position_reader.load.Goals.{then-wanted-block-2, else-wanted-block-2}
 

@@ -1,5 +1,5 @@
 use Rattle.std.proofs.Common.{arith, length, rules, ◌+◌, ◌<◌, ◌^◌}
-use Rattle.packed_blocks.proofs.PositionBlocks.{next_place, place_within}
+use Rattle.positions.proofs.PositionBlocks.{next_place, place_within}
 use Rattle.positions.proofs.position_reader.place_of.Goals as goal
 
 pub loop-passed-preserved : goal.loop-passed-preserved

@@ -1,5 +1,5 @@
 use Rattle.std.proofs.Common.{take, ◌≡◌}
-use Rattle.packed_blocks.specs.PositionBlocks.{packed_len}
+use Rattle.positions.specs.PositionBlocks.{packed_len}
 use Rattle.positions.proofs.position_reader.place_of.Given as goal
 
 -- the blocks so far are passed

@@ -1,6 +1,6 @@
 use Rattle.std.proofs.Common.{ap, arith, drop, length, refl, take, ◌%◌, ◌+◌, ◌≡◌, ◌∙◌, ◌*◌}
 use Rattle.positions.proofs.PositionsOpened.{block_within, copied_on, held_goes_on}
-use Rattle.packed_blocks.specs.PositionBlocks.{numbers_in}
+use Rattle.positions.specs.PositionBlocks.{numbers_in}
 use Rattle.positions.proofs.position_reader.PositionReader.read.Goals as goal
 
 pub load-requires-clause-within : goal.load-requires-clause-within

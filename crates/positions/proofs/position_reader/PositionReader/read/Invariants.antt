@@ -1,6 +1,6 @@
 use Rattle.std.proofs.Common.{drop, length, take, ◌-◌, ◌≡◌, ◌≤◌}
 use Rattle.packed_blocks.specs.Decoded.{output_list}
-use Rattle.packed_blocks.specs.PositionBlocks.{Holds, numbers_in}
+use Rattle.positions.specs.PositionBlocks.{Holds, numbers_in}
 use Rattle.positions.proofs.position_reader.PositionReader.read.Given as goal
 
 -- the numbers so far fill the output

@@ -1,6 +1,6 @@
 use Rattle.std.proofs.Common.{ap, arith, length, ◌++◌, length-append, sym, ◌<◌, ◌≡◌, ◌∙◌, ◌∷◌, []}
 use Rattle.std.proofs.lemmas.Bool.Decides.{nat_tests}
-use Rattle.packed_blocks.specs.PositionBlocks.{listed}
+use Rattle.packed_blocks.specs.UnpackedBlocks.{listed}
 use Rattle.layouts.specs.TermPostings.{id_of}
 use Rattle.postings_serializer.proofs.WrittenPostings.{docs_more, may_come, on_err, on_ok_both, sum_refused, writing_more, writing_none, written_full, written_open}
 use Rattle.postings_serializer.specs.TermWriting.{IsSumRefusal, Waiting, Writing, recorded_count}

@@ -1,5 +1,5 @@
 use Rattle.std.proofs.Common.{[], IfErr, IfOk, IfSome, List, Option, ap, arith, length, subst, sym, ◌≡◌, ◌≤◌, ◌∙◌, ◌∷◌, ℕ}
-use Rattle.packed_blocks.specs.PositionBlocks.{listed}
+use Rattle.packed_blocks.specs.UnpackedBlocks.{listed}
 use Rattle.layouts.specs.FieldNorms.{ids_of}
 use Rattle.layouts.specs.InvertedIndexes.{IndexedField, field_ids}
 use Rattle.postings_writer.specs.Fields.{option_of_key}

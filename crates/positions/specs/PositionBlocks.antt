@@ -1,17 +1,8 @@
 -- What the blocks of positions stand for, and how a reader stands in them.
-use Rattle.std.specs.Prelude.{[], ◌*◌, ◌++◌, ◌+◌, ◌^◌, ◌∷◌, ◌≡◌, ◌≤◌, IsSome, List, None, Option, Some, drop, length, ◌<◌, slice_index, take, ℕ}
+use Rattle.std.specs.Prelude.{[], ◌*◌, ◌++◌, ◌+◌, ◌<◌, ◌^◌, ◌∷◌, ◌≡◌, ◌≤◌, IsSome, List, drop, length, slice_index, take, ℕ}
 use Rattle.layouts.specs.Positions.{AreBlocks}
 use Rattle.layouts.specs.VintBlocks.{take_all_numbers}
-use lib.Lanes.{digits_l, number_l}
-
--- the numbers of a packed block: its bytes as one number, in digits of the width
-unfoldable pub unpacked : ℕ → List ℕ → List ℕ
-unpacked w bytes = digits_l (2 ^ w) 128 (number_l 256 bytes)
-
--- a list that may be none
-abbrev pub listed : Option (List ℕ) → List ℕ
-listed None = []
-listed (Some numbers) = numbers
+use Rattle.packed_blocks.specs.UnpackedBlocks.{listed, unpacked}
 
 -- the numbers of blocks of these widths, and of the rest
 abbrev pub numbers_in : List ℕ → List ℕ → List ℕ

@@ -1,0 +1,2 @@
+-- What the bytes of positions stand for.
+pub mod PositionBlocks
