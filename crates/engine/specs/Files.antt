@@ -71,7 +71,7 @@ is_first body = is_some (first_in body)
 
 -- what the file of a device refuses of an index that could be made
 abbrev pub IsCreateRefusal : Fault → Type 0
-IsCreateRefusal fault = (fault ≡ faults.Device) ⊎ (fault ≡ faults.NotEmpty) ⊎ (fault ≡ faults.Limit)
+IsCreateRefusal fault = (fault ≡ faults.Device) ⊎ (fault ≡ faults.NotEmpty)
 
 -- the collection stands for the index of a file: the documents of its last record are committed, and none waits
 pub record IsOpened {A : Type 0} (analyze : A → Analyzer) (analyzer : Analyzer) (collection : Collection A) (bytes : List ℕ) : Type 0 where

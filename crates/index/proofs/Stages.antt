@@ -98,8 +98,7 @@ module _ {D A : Type 0} (d : devices.Ghosts D) (knows : A → List ℕ → Bool)
       step h has (inl memory) = absurd (going_on r.fault faults.OutOfMemory on refl memory)
       step h has (inr (inl refused)) = ap (λ (o : Option Fault). steps.refused_or (option_or o (steps.if_empty h)) (steps.no_index h) (ok_reply, steps.index_of s u steps.fresh_index)) (from_analysis (Some r.fault) refused)
       step h has (inr (inr (none, inl is_device))) = absurd (going_on r.fault faults.Device on refl is_device)
-      step h has (inr (inr (none, inr (inl is)))) = not_empty h has (from_analysis None none) is
-      step h has (inr (inr (none, inr (inr limit)))) = absurd (going_on r.fault faults.Limit on refl limit)
+      step h has (inr (inr (none, inr is))) = not_empty h has (from_analysis None none) is
 
   -- an index was opened
   pub opened_stage : (a : steps.Analysis) (device : D) (analyzer : A) (held : steps.Held) (index : Index D A d) → IsSpare d.honest d.content knows analyze a device analyzer held
