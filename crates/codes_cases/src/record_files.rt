@@ -1,6 +1,6 @@
 //! Files of records on a device in memory.
 
-ghost use Rattle.std.specs.Prelude.{[], ◌≡◌, List, map, true, ℕ};
+ghost use Rattle.std.specs.Prelude.{[], ⊤, ◌≡◌, List, map, ℕ};
 
 use case_lines::{Arguments, Refusal, bytes_of_digits, hex, number, pair, text};
 use common::{Device, MemoryDevice};
@@ -34,7 +34,7 @@ struct Kept {
 impl Bodies for Kept {
     ghost taken = { λ kept. map (λ body. body.items) kept.bodies.items };
 
-    ghost takes = { λ bodies body. true };
+    ghost takes = { λ bodies body. ⊤ };
 
     fn take(&mut self, body: &[u8]) -> Result<bool, AllocError> {
         let body = body.to_vec(self.alloc)?;
