@@ -20,9 +20,9 @@ impl Cases {
         match operation {
             "create" => self.create(arguments)?,
             "open" => self.open()?,
-            "add" => self.standing_mut()?.add_json(arguments)?,
+            "add" => self.add(arguments)?,
             "add-value" => self.add_value(arguments)?,
-            "commit" => self.standing_mut()?.commit()?,
+            "commit" => self.commit()?,
             "state" => return Ok(Some(self.state()?)),
             "close" => self.close()?,
             _ => return Ok(None),
@@ -61,6 +61,16 @@ impl Cases {
         let device = self.device()?;
         self.index = Some(Index::open(self.alloc, device, RawAndDefault)?);
         Ok(())
+    }
+
+    /// Adds a document as a text.
+    fn add(&mut self, text: &str) -> Result<(), Fault> {
+        self.standing_mut()?.add_json(text)
+    }
+
+    /// Commits what waits.
+    fn commit(&mut self) -> Result<(), Fault> {
+        self.standing_mut()?.commit()
     }
 
     /// Adds a document as a value that was read.
