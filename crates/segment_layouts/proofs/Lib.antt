@@ -2,3 +2,6 @@
 pub mod SegmentParts
 pub mod SegmentDocs
 pub mod LeastSegment
+pub mod AliveFlags
+pub mod OneList
+pub mod BareFile
