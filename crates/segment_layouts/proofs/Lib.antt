@@ -5,3 +5,4 @@ pub mod LeastSegment
 pub mod AliveFlags
 pub mod OneList
 pub mod BareFile
+pub mod BookSegment
