@@ -6,3 +6,4 @@ pub mod AliveFlags
 pub mod OneList
 pub mod BareFile
 pub mod BookSegment
+pub mod UnstoredSegment

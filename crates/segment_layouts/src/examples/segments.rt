@@ -53,6 +53,7 @@ pub fn the_least_segment()
     ensures another_number { ¬ IsSegment [] 2 (segment_bytes 1 bare_sections) }
     ensures no_document { ¬ IsSegment [] 0 (segment_bytes 0 bare_sections) }
     ensures nothing_stored { ¬ IsSegment [] 0 (segment_bytes 0 (record bare_sections { store = store_bytes [] })) }
+    ensures nothing_stored_of_two { ¬ IsSegment [] 2 (segment_bytes 2 (record bare_sections { store = store_bytes [] })) }
     ensures two_documents { ¬ IsSegmentOf [] raw_and_default ([] ∷ [] ∷ []) (segment_bytes 1 bare_sections) }
     ensures too_many { ¬ IsSegment [] 2147483648 (segment_bytes 2147483648 bare_sections) }
     ensures nothing { ¬ IsSegment [] 1 [] }

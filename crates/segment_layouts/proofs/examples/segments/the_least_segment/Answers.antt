@@ -4,6 +4,7 @@ use Rattle.segment_layouts.specs.SegmentExamples.{bare_sections}
 use Rattle.segment_layouts.specs.Segments.{segment_bytes}
 use Rattle.segment_layouts.proofs.LeastSegment.{least_segment}
 use Rattle.segment_layouts.proofs.SegmentParts.{one_u32}
+use Rattle.segment_layouts.proofs.UnstoredSegment.{nothing_stored_of_two}
 use Rattle.segment_layouts.proofs.SegmentDocs.{segment_alone}
 use Rattle.segment_layouts.proofs.examples.segments.the_least_segment.Goals as goal
 
@@ -18,3 +19,6 @@ returns-clause-nothing_stored c s = omega (arith, s.written.some)
 
 pub returns-clause-two_documents : goal.returns-clause-two_documents
 returns-clause-two_documents c s = let is = (one_u32 1 2 _ _ (omega arith) (omega arith) s.written.whole).0 in omega (arith, is)
+
+pub returns-clause-nothing_stored_of_two : goal.returns-clause-nothing_stored_of_two
+returns-clause-nothing_stored_of_two c = nothing_stored_of_two
