@@ -22,6 +22,7 @@ unfolding vint_bytes
 least_segment = record {
   sections = bare_sections;
   fields = [];
+  taken = ((tt, refl), tt);
   written = record { some = omega arith; few = omega arith; short = omega arith; whole = refl };
   terms_are = record { names = refl; each = tt; terms_are = refl; postings_are = refl; positions_are = refl };
   indexed = record { each = tt; all = λ t some. absurd (omega (arith, some)) };

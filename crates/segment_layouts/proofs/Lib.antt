@@ -2,3 +2,8 @@
 pub mod SegmentParts
 pub mod SegmentDocs
 pub mod LeastSegment
+pub mod AliveFlags
+pub mod OneList
+pub mod BareFile
+pub mod BookSegment
+pub mod UnstoredSegment

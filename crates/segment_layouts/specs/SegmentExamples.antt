@@ -1,8 +1,9 @@
 -- Segments and lists of segments that examples share.
 use Rattle.std.specs.Prelude.{[], ◌∷◌, ◌≡◌, List, codes, false, flat_map, length, map, replicate, true, ℕ}
 use Rattle.definitions.specs.Analyzers.{raw_and_default}
-use Rattle.definitions.specs.Examples.{books, three_books}
+use Rattle.definitions.specs.Examples.{bare, books, three_books}
 use Rattle.definitions.specs.KeptLengths.{norms_of}
+use Rattle.definitions.specs.Schema.{Schema, u64_kind}
 use Rattle.layouts.specs.FieldNorms.{norms_bytes}
 use Rattle.layouts.specs.InvertedIndexes.{IndexedField, field_terms}
 use Rattle.layouts.specs.Stores.{Block, block_bytes, store_bytes}
@@ -57,3 +58,15 @@ bare_body = 1 ∷ codes "{\"schema\":[],\"settings\":{}}"
 -- then the least segment is added, and then its document dies
 abbrev pub bare_bodies : List (List ℕ)
 bare_bodies = segments_body (fresh bare_segment ∷ []) ((true ∷ []) ∷ []) ∷ segments_body (kept 0 ∷ []) ((false ∷ []) ∷ []) ∷ []
+
+-- a year that is stored, and not indexed
+abbrev pub stored_years : Schema
+stored_years = record (bare "year" u64_kind) { stored = true } ∷ []
+
+-- bodies of two new segments, each of one document, and of the segment at place 0, which is the second of these
+abbrev pub replacing_bodies : List (List ℕ)
+replacing_bodies = map (λ part. segments_body (part ∷ []) ((true ∷ []) ∷ [])) (fresh (10 ∷ []) ∷ fresh (11 ∷ []) ∷ kept 0 ∷ [])
+
+-- the list of one segment that is this byte, and its document
+abbrev pub one_byte : ℕ → List Member
+one_byte b = (b ∷ [], true ∷ []) ∷ []

@@ -1,5 +1,5 @@
 -- The file of an index over segments: what each of its records leaves, in groups, one for each segment.
-use Rattle.std.specs.Prelude.{[], ⊤, ◌∷◌, ◌≡◌, List, None, Some, length, ℕ}
+use Rattle.std.specs.Prelude.{[], ⊤, ◌++◌, ◌∷◌, ◌≡◌, List, None, Some, length, ℕ}
 use Rattle.std.specs.List.{AllZip, items_where_true, last_or}
 use Rattle.definitions.specs.Analyzers.{Analyzer}
 use Rattle.definitions.specs.Schema.{Schema}
@@ -16,6 +16,15 @@ AreMade is_segment before [] [] = ⊤
 AreMade is_segment before [] (after ∷ lists) = ⊥
 AreMade is_segment before (body ∷ bodies) [] = ⊥
 AreMade is_segment before (body ∷ bodies) (after ∷ lists) = Makes is_segment before after body × AreMade is_segment after bodies lists
+
+-- bodies of one index: the first says what it is made of, and each later one makes a list of segments of the one before
+abbrev pub AreBodies : List (List ℕ) → Type 0
+AreBodies [] = ⊥
+AreBodies (first ∷ bodies) = (schema : Schema) × (settings : Settings) × (lists : List (List Member)) × (first_in first ≡ Some (schema, settings)) × AreMade (IsSegment schema) [] bodies lists
+
+-- a body may follow these
+abbrev pub TakesSegments : List (List ℕ) → List ℕ → Type 0
+TakesSegments before body = AreBodies (before ++ body ∷ [])
 
 -- a member is a segment of documents, of which the living are the group
 pub record IsGroup (schema : Schema) (analyze : Analyzer) (m : Member) (group : List Document) : Type 0 where

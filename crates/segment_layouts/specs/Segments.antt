@@ -1,10 +1,12 @@
 -- Segments: how many documents there are, and five sections.
-use Rattle.std.specs.Prelude.{◌++◌, ◌<◌, ◌^◌, ◌≡◌, ◌≤◌, List, length, sum_by, ℕ}
+use Rattle.std.specs.Prelude.{◌++◌, ◌<◌, ◌^◌, ◌≡◌, ◌≤◌, List, Ok, length, sum_by, ℕ}
+use Rattle.std.specs.List.{AllByRecursion}
 use Rattle.definitions.specs.Analyzers.{Analyzer}
+use Rattle.definitions.specs.Calls.{document_given}
 use Rattle.definitions.specs.KeptLengths.{length_fields, norms_of}
 use Rattle.definitions.specs.NumberCodes.{u32_bytes, u64_bytes}
 use Rattle.definitions.specs.Schema.{Schema}
-use Rattle.definitions.specs.Values.{Document}
+use Rattle.definitions.specs.Values.{Document, IsDocument}
 use Rattle.layouts.specs.FieldNorms.{IsNorms}
 use Rattle.layouts.specs.InvertedIndexes.{AreIndexed, AreSections, IndexedField}
 use Rattle.layouts.specs.Stores.{AreBlocks, Block, IsStore, max_docs, store_bytes}
@@ -47,11 +49,16 @@ pub record IsSegment (schema : Schema) (num_docs : ℕ) (bytes : List ℕ) : Typ
   pub blocks_are : AreBlocks blocks
   pub counted : sum_by (λ (b : Block). b.count) blocks ≡ num_docs
 
--- The bytes are a segment of these documents: the terms are those that they hold, with their postings, the lengths are
--- theirs, and the store has their slots.
+-- a document that an add takes: its values are of their types, and no test of an add refuses it
+abbrev pub IsTaken : Schema → Document → Type 0
+IsTaken schema doc = IsDocument doc × (document_given schema doc ≡ Ok doc)
+
+-- The bytes are a segment of these documents, which an add takes: the terms are those that they hold, with their postings,
+-- the lengths are theirs, and the store has their slots.
 pub record IsSegmentOf (schema : Schema) (analyze : Analyzer) (docs : List Document) (bytes : List ℕ) : Type 0 where
   pub sections : Sections
   pub fields : List IndexedField
+  pub taken : AllByRecursion (IsTaken schema) docs
   pub written : AreWritten (length docs) sections bytes
   pub terms_are : AreSections schema (length docs) (norms_of schema analyze docs) fields sections.terms sections.postings sections.positions
   pub indexed : AreIndexed schema analyze docs fields

@@ -1,0 +1,8 @@
+use Rattle.segment_layouts.proofs.OneList.{bodies_taken, undamaged}
+use Rattle.segment_layouts.proofs.segment_laws.a_file_of_segments_is_not_damaged.Goals as goal
+
+pub returns-clause-taken : goal.returns-clause-taken
+returns-clause-taken c = bodies_taken
+
+pub returns-clause-undamaged : goal.returns-clause-undamaged
+returns-clause-undamaged c = undamaged
