@@ -1,20 +1,24 @@
 //! Laws of requests, replies, queries and settings.
 
-ghost use Rattle.std.specs.Prelude.{◌<◌, ◌^◌, ◌≡◌, Err, IsUtf8, List, None, Ok, Option, Some, codes, false, slice_get, true, ℕ};
+ghost use Rattle.std.specs.Prelude.{◌<◌, ◌^◌, ◌≡◌, ◌≤◌, Err, IsUtf8, List, None, Ok, Option, Some, codes, false, length, slice_get, true, ℕ};
 ghost use Rattle.std.specs.Int.{to_be_bytes, w64};
+ghost use Rattle.std.specs.Str.{is_utf8};
 ghost use Rattle.definitions.specs.Calls.{Call, Configuration, Index, call_fault, status_fault};
 ghost use Rattle.definitions.specs.FaultNames.{reply_text};
+ghost use Rattle.definitions.specs.Lines.{max_line_len};
 ghost use Rattle.definitions.specs.QueryGrammar.{many_at, one_at, query_in, query_of};
+ghost use Rattle.definitions.specs.Replying.{reply_to, state_after};
 ghost use Rattle.definitions.specs.Replies.{error_reply, ok_reply, reply_of};
 ghost use Rattle.definitions.specs.Requests.{Request};
 ghost use Rattle.definitions.specs.Schema.{Entry, IsSchema, Schema, text_kind, u64_kind};
 ghost use Rattle.definitions.specs.Scoring.{IsSimilarity};
 ghost use Rattle.definitions.specs.Settings.{Settings, default_settings, is_settings, similarity_of};
 ghost use Rattle.definitions.specs.SettingsGrammar.{settings_data, settings_in, weighs_named};
-ghost use Rattle.definitions.specs.Step.{Session, answering, call_in, index_step, only_asks, refusing, step};
+ghost use Rattle.definitions.specs.Step.{Session, after_line, answer_of, answering, call_in, index_step, only_asks, refusing, step};
 ghost use Rattle.definitions.specs.TermData.{reads_back};
 ghost use Rattle.definitions.specs.Terms.{term_bytes};
 ghost use Rattle.definitions.specs.declared.fault.Fault.{Fault};
+ghost use Rattle.definitions.specs.declared.fault.Fault.TheVariants.{BadRequest, LineTooLong};
 ghost use Rattle.serde_json.specs.Data.{Data};
 ghost use Rattle.serde_json.specs.Written.{has_float};
 
@@ -32,6 +36,17 @@ pub fn replies_are_compact_json()
 /// No reply has a float, so each has a text.
 pub fn replies_have_a_text()
     ensures { (session : Session) (r : Option Request) → has_float ((step session r).0) ≡ false }
+{}
+
+/// A line that is too long is refused so, and one that is no UTF-8 is no request: neither is read, and the session
+/// stays as it was. Every other line is a text, and is answered.
+pub fn some_lines_are_refused_unread()
+    ensures long { (session : Session) (line : List ℕ) → max_line_len < length line
+        → (reply_to answer_of after_line session line ≡ reply_text LineTooLong) × (state_after answer_of after_line session line ≡ session) }
+    ensures no_text { (session : Session) (line : List ℕ) → length line ≤ max_line_len → is_utf8 line ≡ false
+        → (reply_to answer_of after_line session line ≡ reply_text BadRequest) × (state_after answer_of after_line session line ≡ session) }
+    ensures text { (session : Session) (line : List ℕ) → length line ≤ max_line_len → is_utf8 line ≡ true
+        → (reply_to answer_of after_line session line ≡ answer_of session line) × (state_after answer_of after_line session line ≡ after_line session line) }
 {}
 
 /// A request of which a call is read does what that call does, and replies so.
