@@ -41,10 +41,11 @@ fn bytes_of_pair(alloc: Global, arguments: &Arguments) -> Result<Value, Refusal>
     let third = small(arguments.small_number(2)?);
     serializer.write_positions_delta(&[first])?;
     serializer.write_positions_delta(&[second, third])?;
-    let before = number(serializer.written_bytes());
+    let before = serializer.written_bytes();
     serializer.close_term()?;
-    let written = number(serializer.written_bytes());
-    Ok(triple(alloc, before, written, hex(alloc, &serializer.close())?)?)
+    let written = serializer.written_bytes();
+    let bytes = hex(alloc, &serializer.close())?;
+    Ok(triple(alloc, number(before), number(written), bytes)?)
 }
 
 /// How many numbers there are; of more than a u64 the greatest one.

@@ -2,7 +2,7 @@
 
 ghost use Rattle.std.specs.Prelude.{◌≤◌};
 
-use case_lines::{Arguments, Refusal, flag, hex, number};
+use case_lines::{Arguments, Refusal, flag, hex, number, triple};
 use serde_json::Value;
 use skips::{BlockInfo, Recorded, SkipReader, SkipSerializer};
 use std::alloc::{AllocError, Global};
@@ -95,15 +95,24 @@ fn place(alloc: Global, reader: &SkipReader<'_>) -> Result<Value, AllocError> {
     ]?))
 }
 
+/// Adds to a list where a reader stands.
+fn push_place(
+    alloc: Global,
+    list: &mut Vec<Value>,
+    reader: &SkipReader<'_>,
+) -> Result<(), AllocError> {
+    Ok(list.push(place(alloc, reader)?)?)
+}
+
 /// Where a reader of entries, for so many documents, stands at first and after each of so many steps.
 fn walk(alloc: Global, arguments: &Arguments) -> Result<Value, Refusal> {
     let bytes = arguments.bytes(alloc, 0)?;
     let mut reader = SkipReader::open(&bytes, arguments.small_number(1)?, POSITIONS)?;
     let mut list = Vec::new(alloc);
-    list.push(place(alloc, &reader)?)?;
+    push_place(alloc, &mut list, &reader)?;
     for _ in 0..arguments.small_number(2)? {
         reader.advance();
-        list.push(place(alloc, &reader)?)?;
+        push_place(alloc, &mut list, &reader)?;
     }
     Ok(Value::Array(list))
 }
@@ -118,11 +127,11 @@ fn again(alloc: Global, arguments: &Arguments) -> Result<Value, Refusal> {
     reader.seek(target);
     reader.advance();
     let mut list = Vec::new(alloc);
-    list.push(place(alloc, &reader)?)?;
+    push_place(alloc, &mut list, &reader)?;
     reader.reset(&bytes, docs);
-    list.push(place(alloc, &reader)?)?;
+    push_place(alloc, &mut list, &reader)?;
     reader.seek(target);
-    list.push(place(alloc, &reader)?)?;
+    push_place(alloc, &mut list, &reader)?;
     Ok(Value::Array(list))
 }
 
@@ -151,12 +160,21 @@ fn sought(alloc: Global, arguments: &Arguments) -> Result<Value, Refusal> {
         );
         if last != Some(stand) {
             last = Some(stand);
-            let first = number(u64::from(doc));
-            let at = place(alloc, &reader)?;
-            runs.push(Value::Array(vec![in alloc; first, flag(passed), at]?))?;
+            runs.push(run(alloc, doc, passed, &reader)?)?;
         }
     }
     Ok(Value::Array(runs))
+}
+
+/// A run of one answer: its first document, whether blocks were passed, and where the reader stands then.
+fn run(
+    alloc: Global,
+    doc: u32,
+    passed: bool,
+    reader: &SkipReader<'_>,
+) -> Result<Value, AllocError> {
+    let at = place(alloc, reader)?;
+    triple(alloc, number(u64::from(doc)), flag(passed), at)
 }
 
 /// Whether the first block of entries, for so many documents, ends at document 127 or later.

@@ -12,43 +12,52 @@ pub(crate) fn answer(
     arguments: &Arguments,
 ) -> Result<Value, Refusal> {
     match operation {
-        "text" => facet_of_text(alloc, arguments.text(0)?),
-        "of-steps" => facet_of_steps(alloc, &arguments.texts(alloc, 0)?),
-        "steps" => steps(alloc, arguments.text(0)?),
-        "below" => is_below(alloc, arguments.text(0)?, arguments.text(1)?),
+        "text" => facet_of_text(alloc, arguments),
+        "of-steps" => facet_of_steps(alloc, arguments),
+        "steps" => steps(alloc, &facet(alloc, arguments, 0)?),
+        "below" => is_below(alloc, arguments),
         "root" => Ok(text(alloc, Facet::root(alloc).encoded_str())?),
         "separator" => separator(alloc),
         _ => Err(Refusal::NotAsked),
     }
 }
 
+/// The facet of the path that is the argument at a place.
+fn facet(alloc: Global, arguments: &Arguments, place: usize) -> Result<Facet, Refusal> {
+    Ok(Facet::from_text(alloc, arguments.text(place)?)?)
+}
+
 /// The facet of a path: its steps with U+0000 between them, its path, and whether it is the root.
-fn facet_of_text(alloc: Global, path: &str) -> Result<Value, Refusal> {
-    let facet = Facet::from_text(alloc, path)?;
+fn facet_of_text(alloc: Global, arguments: &Arguments) -> Result<Value, Refusal> {
+    let facet = facet(alloc, arguments, 0)?;
+    let path = path(alloc, &facet)?;
     let encoded = text(alloc, facet.encoded_str())?;
-    let path = text(alloc, &facet.to_path_string(alloc)?)?;
     Ok(triple(alloc, encoded, path, flag(facet.is_root()))?)
 }
 
 /// The facet of steps: its path, its steps, and whether it is the root.
-fn facet_of_steps(alloc: Global, steps: &[&str]) -> Result<Value, Refusal> {
-    let facet = Facet::from_path(alloc, steps)?;
-    let path = text(alloc, &facet.to_path_string(alloc)?)?;
-    let steps = texts(alloc, &facet.to_path(alloc)?)?;
+fn facet_of_steps(alloc: Global, arguments: &Arguments) -> Result<Value, Refusal> {
+    let facet = Facet::from_path(alloc, &arguments.texts(alloc, 0)?)?;
+    let path = path(alloc, &facet)?;
+    let steps = steps(alloc, &facet)?;
     Ok(triple(alloc, path, steps, flag(facet.is_root()))?)
 }
 
-/// The steps of the facet of a path.
-fn steps(alloc: Global, path: &str) -> Result<Value, Refusal> {
-    let facet = Facet::from_text(alloc, path)?;
+/// The path of a facet.
+fn path(alloc: Global, facet: &Facet) -> Result<Value, Refusal> {
+    Ok(text(alloc, &facet.to_path_string(alloc)?)?)
+}
+
+/// The steps of a facet.
+fn steps(alloc: Global, facet: &Facet) -> Result<Value, Refusal> {
     Ok(texts(alloc, &facet.to_path(alloc)?)?)
 }
 
 /// Whether the second path's facet is below that of the first one.
-fn is_below(alloc: Global, path: &str, other: &str) -> Result<Value, Refusal> {
-    let facet = Facet::from_text(alloc, path)?;
-    let other = Facet::from_text(alloc, other)?;
-    Ok(flag(facet.is_prefix_of(&other)))
+fn is_below(alloc: Global, arguments: &Arguments) -> Result<Value, Refusal> {
+    let path = facet(alloc, arguments, 0)?;
+    let other = facet(alloc, arguments, 1)?;
+    Ok(flag(path.is_prefix_of(&other)))
 }
 
 /// What stands between the steps, as a byte and as a character.

@@ -30,17 +30,18 @@ pub(crate) fn field(arguments: &Arguments) -> Result<Field, Refusal> {
 /// The term of a field's value: the field is the first argument, and the value the second one.
 fn of_value(alloc: Global, kind: &str, arguments: &Arguments) -> Result<Term, Refusal> {
     let field = field(arguments)?;
-    match kind {
-        "text" => Ok(Term::from_field_text(alloc, field, arguments.text(1)?)?),
-        "u64" => Ok(Term::from_field_u64(alloc, field, arguments.number(1)?)?),
-        "i64" => Ok(Term::from_field_i64(alloc, field, arguments.signed_number(1)?)?),
-        "bool" => Ok(Term::from_field_bool(alloc, field, arguments.flag(1)?)?),
-        "date" => Ok(Term::from_field_date(alloc, field, instant(arguments)?)?),
-        "bytes" => Ok(Term::from_field_bytes(alloc, field, &arguments.bytes(alloc, 1)?)?),
-        "address" => of_address(alloc, arguments),
-        "facet" => of_facet(alloc, arguments),
-        _ => Err(Refusal::NotAsked),
-    }
+    let term = match kind {
+        "text" => Term::from_field_text(alloc, field, arguments.text(1)?),
+        "u64" => Term::from_field_u64(alloc, field, arguments.number(1)?),
+        "i64" => Term::from_field_i64(alloc, field, arguments.signed_number(1)?),
+        "bool" => Term::from_field_bool(alloc, field, arguments.flag(1)?),
+        "date" => Term::from_field_date(alloc, field, instant(arguments)?),
+        "bytes" => Term::from_field_bytes(alloc, field, &arguments.bytes(alloc, 1)?),
+        "address" => return of_address(alloc, arguments),
+        "facet" => return of_facet(alloc, arguments),
+        _ => return Err(Refusal::NotAsked),
+    };
+    Ok(term?)
 }
 
 /// The second argument, nanoseconds since 1970, as an instant that tells the same nanoseconds.

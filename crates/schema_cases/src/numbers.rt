@@ -23,25 +23,26 @@ pub(crate) fn answer(
 fn put(alloc: Global, code: &str, arguments: &Arguments) -> Result<Value, Refusal> {
     let mut out = Vec::new(alloc);
     match code {
-        "seven-bits" => put_vint(&mut out, arguments.number(0)?)?,
-        "four-bytes" => put_u32(&mut out, arguments.small_number(0)?)?,
-        "eight-bytes" => put_u64(&mut out, arguments.number(0)?)?,
-        "bytes" => put_bytes(&mut out, &arguments.bytes(alloc, 0)?)?,
+        "seven-bits" => put_vint(&mut out, arguments.number(0)?),
+        "four-bytes" => put_u32(&mut out, arguments.small_number(0)?),
+        "eight-bytes" => put_u64(&mut out, arguments.number(0)?),
+        "bytes" => put_bytes(&mut out, &arguments.bytes(alloc, 0)?),
         _ => return Err(Refusal::NotAsked),
-    }
+    }?;
     Ok(hex(alloc, &out)?)
 }
 
 /// What a code at the front of bytes stands for, and the bytes behind it.
 fn taken(alloc: Global, code: &str, bytes: &[u8]) -> Result<Value, Refusal> {
-    match code {
-        "seven-bits" => number_and_rest(alloc, take_vint(bytes)?),
-        "four-bytes" => four_bytes_and_rest(alloc, bytes),
-        "eight-bytes" => number_and_rest(alloc, take_u64(bytes)?),
-        "bytes" => bytes_and_rest(alloc, take_bytes(bytes)?),
-        "text" => text_and_rest(alloc, take_text(bytes)?),
-        _ => Err(Refusal::NotAsked),
-    }
+    let taken = match code {
+        "seven-bits" => take_vint(bytes),
+        "eight-bytes" => take_u64(bytes),
+        "four-bytes" => return four_bytes_and_rest(alloc, bytes),
+        "bytes" => return bytes_and_rest(alloc, bytes),
+        "text" => return text_and_rest(alloc, bytes),
+        _ => return Err(Refusal::NotAsked),
+    };
+    number_and_rest(alloc, taken?)
 }
 
 /// The number of four bytes, and the bytes behind it.
@@ -56,11 +57,13 @@ fn number_and_rest(alloc: Global, taken: (u64, &[u8])) -> Result<Value, Refusal>
 }
 
 /// Bytes, and the bytes behind them.
-fn bytes_and_rest(alloc: Global, taken: (&[u8], &[u8])) -> Result<Value, Refusal> {
-    Ok(pair(alloc, hex(alloc, taken.0)?, hex(alloc, taken.1)?)?)
+fn bytes_and_rest(alloc: Global, bytes: &[u8]) -> Result<Value, Refusal> {
+    let (taken, rest) = take_bytes(bytes)?;
+    Ok(pair(alloc, hex(alloc, taken)?, hex(alloc, rest)?)?)
 }
 
 /// A text, and the bytes behind it.
-fn text_and_rest(alloc: Global, taken: (&str, &[u8])) -> Result<Value, Refusal> {
-    Ok(pair(alloc, text(alloc, taken.0)?, hex(alloc, taken.1)?)?)
+fn text_and_rest(alloc: Global, bytes: &[u8]) -> Result<Value, Refusal> {
+    let (taken, rest) = take_text(bytes)?;
+    Ok(pair(alloc, text(alloc, taken)?, hex(alloc, rest)?)?)
 }

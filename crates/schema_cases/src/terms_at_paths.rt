@@ -35,16 +35,24 @@ fn keys(alloc: Global, arguments: &Arguments) -> Result<Term, Refusal> {
 /// The term of a value at a field's path, whose dots stand in keys.
 fn value(alloc: Global, kind: &str, arguments: &Arguments) -> Result<Term, Refusal> {
     let mut term = path(alloc, arguments, false)?;
-    match kind {
-        "path-text" => term.append_type_and_str(arguments.text(2)?)?,
-        "path-u64" => term.append_type_and_fast_value(arguments.number(2)?)?,
-        "path-i64" => term.append_type_and_fast_value(arguments.signed_number(2)?)?,
-        "path-bool" => term.append_type_and_fast_value(arguments.flag(2)?)?,
-        "path-date" => {
-            let date = DateTime::from_timestamp_nanos(arguments.signed_number(2)?);
-            term.append_type_and_fast_value(date)?
-        }
-        _ => return Err(Refusal::NotAsked),
-    }
+    append(&mut term, kind, arguments)?;
     Ok(term)
+}
+
+/// Appends the third argument, a value of that kind.
+fn append(term: &mut Term, kind: &str, arguments: &Arguments) -> Result<(), Refusal> {
+    let appended = match kind {
+        "path-text" => term.append_type_and_str(arguments.text(2)?),
+        "path-u64" => term.append_type_and_fast_value(arguments.number(2)?),
+        "path-i64" => term.append_type_and_fast_value(arguments.signed_number(2)?),
+        "path-bool" => term.append_type_and_fast_value(arguments.flag(2)?),
+        "path-date" => term.append_type_and_fast_value(date(arguments)?),
+        _ => return Err(Refusal::NotAsked),
+    };
+    Ok(appended?)
+}
+
+/// The third argument, nanoseconds since 1970.
+fn date(arguments: &Arguments) -> Result<DateTime, Refusal> {
+    Ok(DateTime::from_timestamp_nanos(arguments.signed_number(2)?))
 }
