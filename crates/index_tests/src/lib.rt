@@ -1,5 +1,5 @@
-//! Tests of the index of what no line of text says: queries and hits as values, indexes of very many fields, and files cut
-//! at each length or changed at each byte. All other expected values are the lines of `index_cases`.
+//! Tests of the index of what no line of text says: queries and hits as values, indexes of very many fields, files cut at
+//! each length or changed at each byte, and the library as README shows it. All other expected values are the lines of `index_cases`.
 #![tactic(auto)]
 
 #[cfg(test)]
@@ -8,6 +8,8 @@ mod files;
 mod hits;
 #[cfg(test)]
 mod indexes;
+#[cfg(test)]
+mod library;
 #[cfg(test)]
 mod making;
 #[cfg(test)]
