@@ -10,6 +10,11 @@ pub ok_map : {T E : Type 0} (r : Result T E) (P Q : T → Type 0) → IfOk r P �
 ok_map (Ok x) P Q p f = f x p
 ok_map (Err e) P Q p f = tt
 
+-- from two
+pub ok_two : {T E : Type 0} (r : Result T E) (P Q R : T → Type 0) → IfOk r P → IfOk r Q → ((x : T) → P x → Q x → R x) → IfOk r R
+ok_two (Ok x) P Q R p q f = f x p q
+ok_two (Err e) P Q R p q f = tt
+
 -- from three
 pub ok_three : {T E : Type 0} (r : Result T E) (P Q R S : T → Type 0) → IfOk r P → IfOk r Q → IfOk r R → ((x : T) → P x → Q x → R x → S x) → IfOk r S
 ok_three (Ok x) P Q R S p q s f = f x p q s

@@ -1,6 +1,6 @@
 //! The bodies of an index's file, as they are read.
 
-ghost use Rattle.std.specs.Prelude.{[], ◌++◌, ◌<◌, ◌∷◌, ◌≡◌, IfOk, IfSome, cond, is_none, is_some, length, map, option_map, true};
+ghost use Rattle.std.specs.Prelude.{[], ◌++◌, ◌<◌, ◌↔◌, ◌∷◌, ◌≡◌, IfOk, IfSome, IsTrue, cond, is_none, is_some, length, map, option_map, true};
 ghost use Rattle.std.specs.List.{AllByRecursion};
 ghost use Rattle.std.specs.Option.{ForNone};
 ghost use Rattle.engine.specs.Contents.{last_docs};

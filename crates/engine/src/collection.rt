@@ -11,7 +11,7 @@ ghost use Rattle.definitions.specs.Step.{configuration_of, fresh_index};
 ghost use Rattle.definitions.specs.declared.fault.Fault.TheVariants as faults;
 ghost use Rattle.engine.specs.Accepting.{Accepts, IsKept, IsMadeAlike, Stops, Waits};
 ghost use Rattle.engine.specs.Files.{HeldBody, IsHeld};
-ghost use Rattle.engine.specs.Standing.{Stands, status_of};
+ghost use Rattle.engine.specs.Standing.{Stands, StandsReopened, status_of};
 ghost use Rattle.layouts.specs.DocumentBytes.{document_bytes};
 ghost use Rattle.layouts.specs.RecordBodies.{docs_body};
 ghost use Rattle.plain.specs.Hits.{Describe, documents_of, hit_of, scored};

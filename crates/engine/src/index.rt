@@ -12,7 +12,7 @@ ghost use Rattle.definitions.specs.Step.{configuration_of, fresh_index};
 ghost use Rattle.definitions.specs.declared.fault.Fault.TheVariants as faults;
 ghost use Rattle.engine.specs.Accepting.{IsKept, IsMadeAlike};
 ghost use Rattle.engine.specs.Files.{HeldBody, IsCreateRefusal, IsOpenRefusal, IsOpened, LeavesEither, Rests, is_first};
-ghost use Rattle.engine.specs.Standing.{Stands, status_of};
+ghost use Rattle.engine.specs.Standing.{Stands, StandsReopened, status_of};
 ghost use Rattle.layouts.specs.RecordBodies.{docs_body, first_body, first_in};
 ghost use Rattle.layouts.specs.RecordFiles.{EndsAt, IsAtRest, IsFresh, IsOneOf};
 ghost use Rattle.plain.specs.Hits.{Describe, documents_of, hit_of, scored};

@@ -1,4 +1,4 @@
-use Rattle.std.proofs.Common.{[], Err, ap, inl, inr, refl, subst, sym, ◌++◌, ◌∙◌, ◌∷◌, ◌≡◌, List, length, ◌<◌, ◌+◌, ◌^◌}
+use Rattle.std.proofs.Common.{false, [], Err, ap, inl, inr, refl, subst, sym, ◌++◌, ◌∙◌, ◌∷◌, ◌≡◌, List, length, ◌<◌, ◌+◌, ◌^◌}
 use Rattle.std.specs.Result.{result_err}
 use Rattle.definitions.specs.Calls as calls
 use Rattle.definitions.specs.Values.{Document}

@@ -1,13 +1,36 @@
-use Rattle.std.proofs.Common.{List, ap, length, subst, ◌∙◌, ◌≡◌, ◌⊎◌, ℕ}
+use Rattle.std.proofs.Common.{List, ap, length, refl, subst, sym, ◌∙◌, ◌≡◌, ◌⊎◌, ℕ}
 use Rattle.definitions.proofs.CallRuns.{joined, weaker}
 use Rattle.definitions.specs.Disk.{IsImage, Unsynced, settled}
 use Rattle.definitions.specs.Moments.{LeavesOnly}
+use Rattle.definitions.specs.Step.{configuration_of}
 use Rattle.definitions.specs.declared.fault.Fault.TheVariants as faults
-use Rattle.engine.specs.Files.{IsOpenRefusal, Rests, is_first}
-use Rattle.layouts.specs.RecordFiles.{IsAtRest, IsFresh, IsOneOf}
+use Rattle.engine.specs.Files.{IsOpenRefusal, IsOpened, Rests, is_first}
+use Rattle.engine.specs.Standing.{StandsReopened}
+use Rattle.layouts.specs.RecordFiles.{IsAtRest, IsFile, IsFresh, IsOneOf}
 use Rattle.plain.specs.Hits.{documents_of}
-use Rattle.engine.proofs.Openings.{err_map, ok_map, ok_three, same_saying}
+use Rattle.engine.proofs.Openings.{err_map, ok_map, ok_three, ok_two, same_saying}
 use Rattle.engine.proofs.index.Index.open.Goals as goal
+
+pub returns-in-Ok-clause-opened : goal.returns-in-Ok-clause-opened
+returns-in-Ok-clause-opened g c h =
+    let d = g.D.Device in
+    let analyze = g.A.Analyzer.analyze in
+    let analyzer = analyze c.args.analyzer in
+    let contents = c.in-Ok.contents in
+    let docs = documents_of contents.docs.items in
+    let holds = c.in-Ok.ensures.file h in
+    let file : IsFile holds.0 (d.content c.args.device) = subst (λ (l : List ℕ). IsFile holds.0 l) (c.read_contents.ensures.kept h).content_kept holds.1.file in
+    ok_two c.open_file.result
+    (λ index. (index.collection.schema ≡ contents.schema) × (index.collection.settings ≡ contents.settings) × (index.collection.docs ≡ contents.docs))
+    (λ index. StandsReopened analyze index.collection (configuration_of contents.schema analyzer contents.settings) docs)
+    (λ index. IsOpened analyze analyzer index.collection (d.content c.args.device))
+    c.open_file.ensures.made c.open_file.ensures.stands
+    (λ index made stands. record {
+      docs = docs;
+      file = (holds.0, file, holds.2 ∙ same_saying contents.schema index.collection.schema contents.settings index.collection.settings docs docs made.0 made.1 refl);
+      stands = subst (λ s. StandsReopened analyze index.collection (configuration_of s analyzer index.collection.settings) docs) (sym made.0)
+          (subst (λ u. StandsReopened analyze index.collection (configuration_of contents.schema analyzer u) docs) (sym made.1) stands);
+    })
 
 pub returns-in-Ok-clause-rests : goal.returns-in-Ok-clause-rests
 returns-in-Ok-clause-rests g c h =
