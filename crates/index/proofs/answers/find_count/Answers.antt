@@ -1,4 +1,5 @@
-use Rattle.std.proofs.Common.{None, Some, subst, sym, ◌≡◌, ◌≢◌}
+use Rattle.std.proofs.Common.{None, Some, true, subst, sym, ◌≡◌, ◌≢◌}
+use Rattle.std.specs.Result.{result_err}
 use Rattle.definitions.specs.Built.{built_query_in}
 use Rattle.definitions.specs.Calls as calls
 use Rattle.definitions.specs.Replies.{count_reply}
@@ -9,6 +10,7 @@ use Rattle.definitions.specs.Step as steps
 use Rattle.definitions.specs.declared.fault.Fault.TheVariants as faults
 use Rattle.definitions.proofs.Steps.{refused_call}
 use Rattle.plain.specs.Queries.{query_of}
+use Rattle.engine.proofs.ErrorsKept.{err_has}
 use Rattle.index.proofs.Answering.{count_answered, err_weaker, ok_weaker, read_count}
 use Rattle.serde_json.specs.View.{view}
 use Rattle.std.proofs.Common.{ap, ◌∙◌}
@@ -35,3 +37,12 @@ returns-clause-err g c k x s =
     (λ fault. fault ≢ faults.OutOfMemory → steps.index_step k x (requests.count_docs d) ≡ steps.refusing fault x)
     (λ fault refused other. refused_call k x (requests.count_docs d) (calls.count_all q) fault (read_count k d q read) refused)
     (c.count.ensures.err k x s)
+
+-- a closed index refuses before the query is read
+pub returns-in_err-check_open-clause-err : goal.returns-in_err-check_open-clause-err
+returns-in_err-check_open-clause-err g c k x s =
+    let request = requests.count_docs (view c.args.query.now) in
+    let fault = c.in_err-check_open.field-0.0 in
+    let closed : calls.status_fault x.status true ≡ Some fault = sym (c.check_open.ensures k x s) ∙ ap result_err c.in_err-check_open.was in
+    err_has c.from_residual.result fault (λ e. e ≢ faults.OutOfMemory → steps.index_step k x request ≡ steps.refusing e x) c.from_residual.ensures.1
+    (λ other. ap (λ o. steps.refused_or o x (steps.call_step k x (steps.call_in k.schema request))) closed)
