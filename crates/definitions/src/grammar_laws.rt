@@ -1,13 +1,13 @@
 //! Laws of requests, replies, queries and settings.
 
-ghost use Rattle.std.specs.Prelude.{◌<◌, ◌^◌, ◌≡◌, ◌≤◌, Err, IsUtf8, List, None, Ok, Option, Some, codes, false, length, slice_get, true, ℕ};
+ghost use Rattle.std.specs.Prelude.{◌<◌, ◌^◌, ◌≡◌, ◌≤◌, Err, IsUtf8, List, None, Ok, Option, Some, codes, false, flat_map, length, slice_get, true, ℕ};
 ghost use Rattle.std.specs.Int.{to_be_bytes, w64};
 ghost use Rattle.std.specs.Str.{is_utf8};
 ghost use Rattle.definitions.specs.Calls.{Call, Configuration, Index, call_fault, status_fault};
 ghost use Rattle.definitions.specs.FaultNames.{reply_text};
 ghost use Rattle.definitions.specs.Lines.{max_line_len};
 ghost use Rattle.definitions.specs.QueryGrammar.{many_at, one_at, query_in, query_of};
-ghost use Rattle.definitions.specs.Replying.{reply_to, state_after};
+ghost use Rattle.definitions.specs.Replying.{AreReplies, answers_to, output_line, reply_to, state_after};
 ghost use Rattle.definitions.specs.Replies.{error_reply, ok_reply, reply_of};
 ghost use Rattle.definitions.specs.Requests.{Request};
 ghost use Rattle.definitions.specs.Schema.{Entry, IsSchema, Schema, text_kind, u64_kind};
@@ -47,6 +47,11 @@ pub fn some_lines_are_refused_unread()
         → (reply_to answer_of after_line session line ≡ reply_text BadRequest) × (state_after answer_of after_line session line ≡ session) }
     ensures text { (session : Session) (line : List ℕ) → length line ≤ max_line_len → is_utf8 line ≡ true
         → (reply_to answer_of after_line session line ≡ answer_of session line) × (state_after answer_of after_line session line ≡ after_line session line) }
+{}
+
+/// The answers to lines are replies to them, as the relation of all replies has them.
+pub fn answers_are_replies()
+    ensures { (session : Session) (lines : List (List ℕ)) → AreReplies answer_of after_line session lines (flat_map output_line (answers_to session lines)) }
 {}
 
 /// A request of which a call is read does what that call does, and replies so.

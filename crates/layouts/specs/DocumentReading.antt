@@ -1,7 +1,7 @@
 -- Documents read from bytes: in the binary form, and as they are held in memory, where texts may have tokens.
 use Rattle.std.specs.Prelude.{[], ◌*◌, ◌+◌, ◌^◌, ◌∷◌, Bool, List, None, Option, Some, eqb, false, if◌then◌else◌, nat_le, nat_lt, option_map, suc, true, zero, ℕ}
 use Rattle.std.specs.Int.{cast_signed, w64}
-use Rattle.std.specs.List.{list_all, slice_split}
+use Rattle.std.specs.List.{slice_split}
 use Rattle.definitions.specs.Json.{only_if, ◌>>=◌}
 use Rattle.definitions.specs.NumberCodes.{take_bytes, take_text, take_u32, take_u64, take_vint}
 use Rattle.definitions.specs.Values.{Document, Members, Token, Value, Values, array, bool, bytes, date, facet, i64, ip_addr, member, no_members, no_values, null, object, pre_tok_str, str, u64, value}
@@ -160,12 +160,6 @@ read_document bs = do
   n ← take_vint bs
   p ← take_many (take_pair take_value) n.0 n.1
   elim p.1 [ [] ↦ Some p.0 | _ ∷ _ ↦ None ]
-
--- the document of a slot: its fields are among the first
-abbrev pub slot_document : ℕ → List ℕ → Option Document
-slot_document fields bs = do
-  doc ← read_document bs
-  only_if (list_all (λ p. nat_lt p.0 fields) doc) (Some doc)
 
 -- ---- what is lent, read step by step
 

@@ -1,5 +1,5 @@
 -- The file of the least segment: its groups, and that it leaves no others.
-use Rattle.std.proofs.Common.{[], List, None, Some, arith, inl, inr, false, length, refl, subst, sym, true, ◌++◌, ◌<◌, ◌^◌, ◌∷◌, ◌≡◌}
+use Rattle.std.proofs.Common.{[], List, None, Some, arith, inl, inr, false, length, refl, replicate, subst, sym, true, ◌++◌, ◌<◌, ◌^◌, ◌∷◌, ◌≡◌}
 use Rattle.std.specs.List.{AllZip, items_where_true, last_or}
 use Rattle.definitions.specs.Analyzers.{raw_and_default}
 use Rattle.definitions.specs.NumberCodes.{vint_bytes}
@@ -115,22 +115,22 @@ first_alone : AreBodies (bare_body ∷ [])
 first_alone = ([], default_settings, [], made, tt)
 
 -- no body of byte 3 follows
-no_byte_3 : ¬ TakesSegments (bare_body ∷ []) (3 ∷ [])
+no_byte_3 : ¬ TakesSegments (bare_body ∷ []) (3 ∷ replicate 8 0)
 unfolding segments_body
 no_byte_3 (schema, settings, [], made, are) = elim are [ ]
 no_byte_3 (schema, settings, after ∷ lists, made, are) = let is = are.0.whole in cc
 
-pub byte_3_damaged : IsDamaged TakesSegments (records (bare_body ∷ []) ++ 165 ∷ (sized_body (3 ∷ []) ++ 0 ∷ [])) 37
+pub byte_3_damaged : IsDamaged TakesSegments (records (bare_body ∷ []) ++ 165 ∷ (sized_body (3 ∷ replicate 8 0) ++ 0 ∷ [])) 37
 unfolding definitions_on_literals
 byte_3_damaged = record {
   bodies = bare_body ∷ [];
-  rest = sized_body (3 ∷ []) ++ 0 ∷ [];
+  rest = sized_body (3 ∷ replicate 8 0) ++ 0 ∷ [];
   begins = λ no_index. elim no_index [ inl few ↦ omega (arith, few) | inr closed ↦ closed refl ];
   whole = refl;
   stands = refl;
   short = short_body;
   taken = bodies_taken bare_body [] first_alone;
-  broken = λ (has : HasRecord TakesSegments (bare_body ∷ []) (sized_body (3 ∷ []) ++ 0 ∷ [])). no_byte_3 (subst (TakesSegments (bare_body ∷ [])) (sym (one_frame (3 ∷ []) has.body (0 ∷ []) (has.gate ∷ has.rest) (omega arith) has.short has.whole).0) has.taken);
+  broken = λ (has : HasRecord TakesSegments (bare_body ∷ []) (sized_body (3 ∷ replicate 8 0) ++ 0 ∷ [])). no_byte_3 (subst (TakesSegments (bare_body ∷ [])) (sym (one_frame (3 ∷ replicate 8 0) has.body (0 ∷ []) (has.gate ∷ has.rest) (omega arith) has.short has.whole).0) has.taken);
 }
 
 pub cut_damaged : IsDamaged TakesSegments (records (bare_body ∷ []) ++ 165 ∷ []) 37

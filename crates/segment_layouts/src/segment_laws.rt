@@ -30,10 +30,12 @@ pub fn a_body_makes_one_list()
     ensures bodies { (schema : Schema) (before : List Member) (bodies : List (List ℕ)) (lists others : List (List Member)) → AreMade (IsSegment schema) before bodies lists → AreMade (IsSegment schema) before bodies others → lists ≡ others }
 {}
 
-/// Each body of an index's file is taken after those before it, so that such a file isn't damaged.
+/// Each body of an index's file is taken after those before it, so that such a file isn't damaged; and
+/// damage is at one gate.
 pub fn a_file_of_segments_is_not_damaged()
     ensures taken { (first : List ℕ) (bodies : List (List ℕ)) → AreBodies (first ∷ bodies) → AreTaken TakesSegments [] (first ∷ bodies) }
     ensures undamaged { (schema : Schema) (settings : Settings) (analyze : Analyzer) (bytes : List ℕ) (lists : List (List (List Document))) (place : ℕ) → IsRecordFile schema settings analyze bytes lists → ¬ IsDamaged TakesSegments bytes place }
+    ensures one_place { (bytes : List ℕ) (first second : ℕ) → IsDamaged TakesSegments bytes first → IsDamaged TakesSegments bytes second → first ≡ second }
 {}
 
 /// The slots of the living documents are those of each segment, without the dead; and all of them where none is dead.

@@ -1,10 +1,40 @@
 //! Worked lines: what is sent, and what is replied.
 #![tactic(auto, unfolding(crate::proofs::OnLiterals::definitions_on_literals))]
 
-ghost use Rattle.std.specs.Prelude.{[], ◌++◌, ◌∷◌, ◌≡◌, codes, map};
-ghost use Rattle.definitions.specs.Calls.{closed, writer_closed};
-ghost use Rattle.definitions.specs.LineExamples.{after_lines, book_session, empty_session, opened_session, reply, session_with, three_book_lines, three_books_session, title_line, unindexed_session};
-ghost use Rattle.definitions.specs.Replying.{answers_to};
+ghost use Rattle.std.specs.Prelude.{[], ◌++◌, ◌∷◌, ◌≡◌, None, codes, false, map, true};
+ghost use Rattle.definitions.specs.Analyzers.{is_raw_or_default};
+ghost use Rattle.definitions.specs.Calls.{closed, ready, writer_closed};
+ghost use Rattle.definitions.specs.Examples.{of_three_books, old_sea, sea_wind, wind};
+ghost use Rattle.definitions.specs.LineExamples.{after_lines, book_schema, book_session, empty_session, opened_session, reply, session_with, three_book_lines, three_books_session, title_line, unindexed_session};
+ghost use Rattle.definitions.specs.Replying.{AreReplies, answers_to, stops};
+ghost use Rattle.definitions.specs.Settings.{default_settings};
+ghost use Rattle.definitions.specs.Step.{after_line, answer_of, file_of, fresh_index, held_by, index_of, opened};
+ghost use Rattle.definitions.specs.declared.fault.Fault.TheVariants as faults;
+
+/// A device holds the groups of its index, and an index that is opened has them again; a new one has none.
+pub fn devices_hold_groups()
+    ensures two { held_by (index_of book_schema default_settings (record { state = of_three_books 2; status = ready }))
+        ≡ file_of book_schema default_settings ((old_sea ∷ sea_wind ∷ []) ∷ (wind ∷ []) ∷ []) }
+    ensures none { held_by (index_of book_schema default_settings fresh_index) ≡ file_of book_schema default_settings [] }
+    ensures again { (opened is_raw_or_default (file_of book_schema default_settings (of_three_books 2).groups)).1
+        ≡ index_of book_schema default_settings (record { state = of_three_books 2; status = ready }) }
+{}
+
+/// After running out of memory, a limit or a failed device nothing more is owed; every other fault is answered like any line.
+pub fn three_faults_stop()
+    ensures memory { stops faults.OutOfMemory ≡ true }
+    ensures limit { stops faults.Limit ≡ true }
+    ensures device { stops faults.Device ≡ true }
+    ensures closed { stops faults.Closed ≡ false }
+    ensures damaged { stops (faults.Damaged None) ≡ false }
+    ensures bad_request { stops faults.BadRequest ≡ false }
+{}
+
+/// Without a line nothing is written, and no line stays without a reply.
+pub fn each_line_has_a_reply()
+    ensures no_line { ¬ AreReplies answer_of after_line book_session [] (10 ∷ []) }
+    ensures no_reply { ¬ AreReplies answer_of after_line book_session ([] ∷ []) [] }
+{}
 
 /// Three books are added and committed, then searched and counted.
 pub fn a_session_answers_line_by_line()

@@ -1,6 +1,6 @@
 //! Files of records that list segments.
 
-ghost use Rattle.std.specs.Prelude.{[], ◌++◌, ◌∷◌, List, false, true, ℕ};
+ghost use Rattle.std.specs.Prelude.{[], ◌++◌, ◌∷◌, List, false, replicate, true, ℕ};
 ghost use Rattle.definitions.specs.Analyzers.{raw_and_default};
 ghost use Rattle.definitions.specs.Settings.{default_settings};
 ghost use Rattle.layouts.specs.RecordFiles.{IsDamaged, records, sized_body};
@@ -32,9 +32,9 @@ pub fn groups_are_of_the_living()
     ensures flags { ¬ IsGroup [] raw_and_default (bare_segment, true ∷ true ∷ []) ([] ∷ []) }
 {}
 
-/// A body of byte 3 is none, and neither is a record that is cut.
+/// A body that lists documents is none, and neither is a record that is cut.
 pub fn other_bodies_are_damaged()
-    ensures byte_3 { IsDamaged TakesSegments (records (bare_body ∷ []) ++ 165 ∷ (sized_body (3 ∷ []) ++ 0 ∷ [])) 37 }
+    ensures byte_3 { IsDamaged TakesSegments (records (bare_body ∷ []) ++ 165 ∷ (sized_body (3 ∷ replicate 8 0) ++ 0 ∷ [])) 37 }
     ensures cut { IsDamaged TakesSegments (records (bare_body ∷ []) ++ 165 ∷ []) 37 }
     ensures whole { (place : ℕ) → ¬ IsDamaged TakesSegments (records (bare_body ∷ bare_bodies) ++ 0 ∷ 165 ∷ []) place }
 {}

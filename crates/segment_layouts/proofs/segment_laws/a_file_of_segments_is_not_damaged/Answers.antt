@@ -1,3 +1,5 @@
+use Rattle.layouts.proofs.FilesOfRecords.{one_damage}
+use Rattle.segment_layouts.specs.SegmentFiles.{TakesSegments}
 use Rattle.segment_layouts.proofs.OneList.{bodies_taken, undamaged}
 use Rattle.segment_layouts.proofs.segment_laws.a_file_of_segments_is_not_damaged.Goals as goal
 
@@ -6,3 +8,6 @@ returns-clause-taken c = bodies_taken
 
 pub returns-clause-undamaged : goal.returns-clause-undamaged
 returns-clause-undamaged c = undamaged
+
+pub returns-clause-one_place : goal.returns-clause-one_place
+returns-clause-one_place c = one_damage TakesSegments
