@@ -30,6 +30,21 @@ code_bounds g s c few many = go (nat_lt 254 g) refl
         let other : nat_eq g 255 ≡ false = grind (arith, nat_tests) in
         subst (λ b. c ≤ (if b then s else g)) (sym other) few
 
+-- and are themselves within the sum
+greatest_fits : (xs : List ℕ) → greatest_of xs ≤ sum xs
+greatest_fits [] = omega arith
+greatest_fits (x ∷ xs) = (let ih = greatest_fits xs in let all = sum_by-cons (λ y. y) x xs in omega (arith, ih, all))
+
+code_fits : (g s : ℕ) → g ≤ s → (if nat_eq (if nat_lt 254 g then 255 else g) 255 then s else (if nat_lt 254 g then 255 else g)) ≤ s
+code_fits g s small = go (nat_lt 254 g) refl
+  where
+    go : (b : Bool) → nat_lt 254 g ≡ b → (if nat_eq (if b then 255 else g) 255 then s else (if b then 255 else g)) ≤ s
+    go true is = omega arith
+    go false is =
+        let few : g ≤ 254 = grind (arith, nat_tests) in
+        let other : nat_eq g 255 ≡ false = grind (arith, nat_tests) in
+        subst (λ b. (if b then s else g) ≤ s) (sym other) small
+
 split_sum : (n : ℕ) (xs : List ℕ) → sum xs ≡ sum (take n xs) + sum (drop n xs)
 split_sum zero xs = omega arith
 split_sum (suc n) [] = omega arith
@@ -52,10 +67,11 @@ fits_behind (suc n) (x ∷ xs) fit i = fits_behind n xs (λ k. fit (suc k)) i
 pub record Later (num : ℕ) (s : Skips) (counts : List ℕ) (most : ℕ) : Type 0 where
   pub rest : List ℕ
   pub told : TellCounts num s rest
+  pub fits : most ≤ num
   pub above : (b : ℕ) → ((j : ℕ) → get_or rest j 0 ≤ b) → (i : ℕ) → get_or counts i 0 ≤ max most b
 
 pub none_passed : (num : ℕ) (s : Skips) (counts : List ℕ) → TellCounts num s counts → Later num s counts 0
-none_passed num s counts told = record { rest = counts; told = told; above = λ b few i. (let h = few i in omega (arith, h)) }
+none_passed num s counts told = record { rest = counts; told = told; fits = omega arith; above = λ b few i. (let h = few i in omega (arith, h)) }
 
 abbrev head_of : SkipEntry → List SkipEntry → SkipEntry
 head_of other [] = other
@@ -87,6 +103,7 @@ one_passed num s counts most e es left later = go later.told.blocks (sym left �
             fit = fits_behind 128 rest later.told.fit;
             total = (let all = later.told.total in let parts = split_sum 128 rest in omega (arith, all, parts, count));
           };
+          fits = (let so_far = later.fits in let all = later.told.total in let parts = split_sum 128 rest in let one = subst (λ (x : SkipEntry). entry_bound x ≤ x.count_sum) (sym first) (code_fits (greatest_of (take 128 rest)) made.count_sum (omega (arith, own_sum, greatest_fits (take 128 rest)))) in let own = ap (λ (x : SkipEntry). x.count_sum) first in omega (arith, so_far, all, parts, one, own, own_sum));
           above = λ b few i. (let h = later.above (max (entry_bound e) b) (parts_bound 128 rest (entry_bound e) b bounded few) i in omega (arith, h));
         }
 
@@ -100,6 +117,10 @@ rest_bounded num s counts most left later is i = later.above (min left 429496729
   where
     few : (j : ℕ) → get_or later.rest j 0 ≤ min left 4294967295
     few j = (let all = later.told.total in let small = below_sum later.rest j in let fit = later.told.fit j in let same = is (omega (arith, all)) in omega (arith, all, small, fit, same))
+
+-- and all are within how many positions there are
+pub rest_fits : (num : ℕ) (s : Skips) (counts : List ℕ) (most left : ℕ) → Later num s counts most → (s.position_offset ≤ num → left ≡ num - s.position_offset) → max most (min left 4294967295) ≤ num
+rest_fits num s counts most left later is = (let all = later.told.total in let so_far = later.fits in let same = is (omega (arith, all)) in omega (arith, all, so_far, same))
 
 -- ---- what an entry tells
 

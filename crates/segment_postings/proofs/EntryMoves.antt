@@ -2,10 +2,10 @@
 use Rattle.std.proofs.Common.{[], Bool, IsSome, List, None, Option, Some, ap, ap₂, arith, cond, drop, false, get_or, length, nat_lt, refl, subst, suc, sum, sym, take, true, zero, ◌*◌, ◌+◌, ◌/◌, ◌%◌, ◌<◌, ◌≡◌, ◌≤◌, ◌∙◌, ◌∷◌, ◌⊎◌, inl, inr, ℕ}
 use Rattle.std.proofs.lemmas.Bool.{cases_lt}
 use Rattle.std.proofs.lemmas.Bool.Decides.{nat_tests}
-use Rattle.std.proofs.lemmas.List.{drop-drop, drop_all, drop_more, get_or-drop, get_or_past}
-use Rattle.std.proofs.lemmas.List.Sums.{sum_by-take-le}
+use Rattle.std.proofs.lemmas.List.{drop-drop, drop_all, drop_more, get_or-drop, get_or_default, get_or_past}
+use Rattle.std.proofs.lemmas.List.Sums.{prefix_len-le-length, sum_by-take-le}
 use Rattle.definitions.specs.Postings.{terminated}
-use Rattle.segment_postings.proofs.Passing.{sum_of_more}
+use Rattle.segment_postings.proofs.Passing.{below_stops, sum_of_more}
 use Rattle.definitions.specs.Scoring.{DontFall}
 use Rattle.cursors.specs.Entries.{AreSingle, Entry, first, first_count, first_positions, from, highest, most_positions, single}
 use Rattle.cursors.specs.EntryLaws.{AreSingle-drop, AreSingle-from, from-low, from-out, most-drop, most-from}
@@ -98,6 +98,37 @@ below_ahead (suc cur) target low (d ∷ ds) a inside ahead =
     let one = ap (λ b. cond b (1 + below target ds) 0) yes in
     omega (arith, ih, one)
 
+-- a cursor that isn't at its end stands on a document
+pub stands_within : (cur : ℕ) (docs counts numbers : List ℕ) → first (entries_of (drop cur docs) counts numbers) < terminated → cur < length docs
+stands_within cur docs counts numbers on = go (cases_lt cur (length docs))
+  where
+    go : (cur < length docs) ⊎ (length docs ≤ cur) → cur < length docs
+    go (inl within) = within
+    go (inr past) = (let none = ap (λ xs. first (entries_of xs counts numbers)) (drop_all cur docs past) in absurd (omega (arith, on, none)))
+
+-- the document on which a cursor stands is that of its place
+stands_at : (cur : ℕ) (docs counts numbers : List ℕ) → first (entries_of (drop cur docs) counts numbers) ≡ get_or docs cur terminated
+stands_at cur docs counts numbers = (let e : cur + 0 ≡ cur = omega arith in first-entries_of (drop cur docs) counts numbers ∙ (get_or-drop cur docs 0 terminated ∙ ap (λ k. get_or docs k terminated) e))
+
+-- where a cursor stands behind a document, none at its place or behind it is below
+pub below_behind : (target cur : ℕ) (docs counts numbers : List ℕ) → target < first (entries_of (drop cur docs) counts numbers) → below target docs ≤ cur
+below_behind target cur docs counts numbers late = go (cases_lt cur (length docs))
+  where
+    go : (cur < length docs) ⊎ (length docs ≤ cur) → below target docs ≤ cur
+    go (inl within) =
+        let at = stands_at cur docs counts numbers in
+        let same = get_or_default docs cur 0 terminated within in
+        below_stops target cur docs within (omega (arith, late, at, same))
+    go (inr past) = (let most = prefix_len-le-length (λ d. nat_lt d target) docs in omega (arith, past, most))
+
+-- and where it doesn't, all before its place are
+pub below_from : (target cur : ℕ) (docs counts numbers : List ℕ) → Ascends 0 docs → first (entries_of (drop cur docs) counts numbers) ≤ target → target < terminated → cur ≤ below target docs
+below_from target cur docs counts numbers ascends ahead small =
+    let at = stands_at cur docs counts numbers in
+    let within = stands_within cur docs counts numbers (omega (arith, ahead, small)) in
+    let all = below_ahead cur target 0 docs ascends (omega (arith, within)) (omega (arith, at, ahead)) in
+    omega (arith, all)
+
 -- what is from a document on is what is from its place on
 pub from_place : (target cur offset : ℕ) (docs counts numbers : List ℕ) → Ascends 0 docs → first (entries_from cur offset docs counts numbers) ≤ target → from target (entries_from cur offset docs counts numbers) ≡ entries_from (below target docs) offset docs counts numbers
 from_place target cur offset docs counts numbers a ahead = go (cases_lt (length docs) cur)
@@ -167,14 +198,6 @@ pub most_after : (t : ℕ) (before after : List Entry) (most : ℕ) → after �
 most_after t before after most is few = (let same = ap most_positions is in omega (arith, same, few, most-from t before))
 
 -- ---- the document on which a cursor stands
-
--- there is one
-pub stands_within : (cur : ℕ) (docs counts numbers : List ℕ) → first (entries_of (drop cur docs) counts numbers) < terminated → cur < length docs
-stands_within cur docs counts numbers on = go (cases_lt cur (length docs))
-  where
-    go : (cur < length docs) ⊎ (length docs ≤ cur) → cur < length docs
-    go (inl within) = within
-    go (inr past) = (let none = ap (λ xs. first (entries_of xs counts numbers)) (drop_all cur docs past) in absurd (omega (arith, on, none)))
 
 pub count_there : (cur : ℕ) (docs counts numbers : List ℕ) → cur < length docs → first_count (entries_of (drop cur docs) (drop cur counts) numbers) ≡ get_or counts cur 0
 count_there cur docs counts numbers within =

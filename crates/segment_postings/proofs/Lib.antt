@@ -8,3 +8,4 @@ pub mod Opening
 pub mod PositionLists
 pub mod PlacedEntries
 pub mod BoundedCounts
+pub mod CursorMoves

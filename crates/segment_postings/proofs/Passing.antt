@@ -139,6 +139,7 @@ pub record Moved (reads sums : Bool) (before : ℕ) (s : Skips) (after : ℕ) (t
   pub stands : StandsIn reads sums after t bytes
   pub docs : docs_at after t bytes ≡ drop 128 (docs_at before s bytes)
   pub counts : counts_at reads after t bytes ≡ drop 128 (counts_at reads before s bytes)
+  pub entries : t.left ≡ drop 1 s.left
   pub offset : sums ≡ true → 0 < length (docs_at after t bytes) → t.position_offset ≡ s.position_offset + sum (take 128 (counts_at reads before s bytes))
   pub room : sums ≡ true → t.position_offset + sum (counts_at reads after t bytes) ≤ s.position_offset + sum (counts_at reads before s bytes)
 
@@ -157,6 +158,7 @@ moved_behind reads sums before after c p [] r b q bytes stands none =
       };
       docs = sym (drop_all 128 (rest_docs before r here) (omega (arith, some, few)));
       counts = no_counts reads here ∙ sym (drop_all 128 (rest_counts reads r (found (take_documents before r here)).1) (omega (arith, counted, few)));
+      entries = refl;
       offset = λ yes left. absurd (omega (arith, left));
       room = λ yes. (let none_left = ap sum (no_counts reads here) in omega (arith, none_left));
     }
@@ -168,7 +170,7 @@ moved_on reads sums before after s t bytes stands on over is = go (nat_lt 0 (len
     go true e =
         let some : 0 < length s.left = grind (arith, nat_tests) in
         let step = step_on reads sums before s bytes stands some in
-        let moved : Moved reads sums before s (last_doc s.left) (passed 1 s) bytes = record { stands = step.stands; docs = step.docs; counts = step.counts; offset = λ yes left. step.offset yes; room = λ yes. room_of s.position_offset (passed 1 s).position_offset 128 (counts_at reads before s bytes) (counts_at reads (last_doc s.left) (passed 1 s) bytes) (step.offset yes) step.counts } in
+        let moved : Moved reads sums before s (last_doc s.left) (passed 1 s) bytes = record { stands = step.stands; docs = step.docs; counts = step.counts; entries = refl; offset = λ yes left. step.offset yes; room = λ yes. room_of s.position_offset (passed 1 s).position_offset 128 (counts_at reads before s bytes) (counts_at reads (last_doc s.left) (passed 1 s) bytes) (step.offset yes) step.counts } in
         subst (λ u. Moved reads sums before s after u bytes) (sym (on some)) (subst (λ a. Moved reads sums before s a (passed 1 s) bytes) (sym is) moved)
     go false e =
         let none : length s.left ≡ 0 = grind (arith, nat_tests) in
@@ -181,11 +183,12 @@ pub record Passing (reads sums : Bool) (target before : ℕ) (s : Skips) (after 
   pub stands : StandsIn reads sums after t bytes
   pub docs : docs_at after t bytes ≡ drop (128 * k) (docs_at before s bytes)
   pub counts : counts_at reads after t bytes ≡ drop (128 * k) (counts_at reads before s bytes)
+  pub entries : t.left ≡ drop k s.left
   pub passes : below target (docs_at before s bytes) ≡ 128 * k + below target (docs_at after t bytes)
   pub offset : sums ≡ true → t.position_offset ≡ s.position_offset + sum (take (128 * k) (counts_at reads before s bytes))
 
 pub none_passed : (reads sums : Bool) (target before : ℕ) (s : Skips) (bytes : List ℕ) → StandsIn reads sums before s bytes → Passing reads sums target before s before s bytes 0
-none_passed reads sums target before s bytes stands = record { stands = stands; docs = refl; counts = refl; passes = omega arith; offset = λ yes. omega arith }
+none_passed reads sums target before s bytes stands = record { stands = stands; docs = refl; counts = refl; entries = refl; passes = omega arith; offset = λ yes. omega arith }
 
 take_nil : (n : ℕ) → take {A = ℕ} n [] ≡ []
 take_nil zero = refl
@@ -213,6 +216,7 @@ one_passed reads sums target before s after t next u bytes k so_far early few is
       stands = step.stands;
       docs = step.docs ∙ (ap (drop 128) so_far.docs ∙ (drop-drop 128 (128 * k) all ∙ ap (λ m. drop m all) place));
       counts = step.counts ∙ (ap (drop 128) so_far.counts ∙ (drop-drop 128 (128 * k) all_counts ∙ ap (λ m. drop m all_counts) place));
+      entries = ap (drop 1) so_far.entries ∙ drop-drop 1 k s.left;
       passes = omega (arith, passes, here);
       offset = λ yes.
           (let before_it = so_far.offset yes in

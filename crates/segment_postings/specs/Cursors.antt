@@ -1,6 +1,7 @@
 -- What remains of a term's postings.
 use Rattle.std.proofs.Common.{refl}
-use Rattle.std.specs.Prelude.{[], ◌++◌, ◌+◌, ◌≡◌, Bool, List, drop, map, sum, take, ℕ}
+use Rattle.std.specs.Prelude.{[], ◌%◌, ◌*◌, ◌++◌, ◌+◌, ◌/◌, ◌≡◌, Bool, List, drop, if◌then◌else◌, length, map, min, nat_lt, sum, take, ℕ}
+use Rattle.definitions.specs.Blocks.{block_len}
 use Rattle.layouts.specs.SkipEntries.{SkipEntry}
 use Rattle.cursors.specs.Entries.{AreSingle, Entry, Rising, first_positions, single}
 use Rattle.segment_postings.specs.Reading.{counts_at, docs_at}
@@ -51,6 +52,28 @@ cursor_doc_freq s = doc_freq_of s.blocks
 -- how many blocks with documents it decoded
 abbrev pub cursor_blocks_decoded : SegmentPostings → ℕ
 cursor_blocks_decoded s = blocks_decoded s.blocks
+
+-- its blocks, from the one that it holds on
+abbrev pub cursor_blocks : SegmentPostings → BlockSegmentPostings
+cursor_blocks s = s.blocks
+
+-- the place in that block of the document on which it stands
+abbrev pub cursor_place : SegmentPostings → ℕ
+cursor_place s = s.cur
+
+-- how many positions the term has; 0 where they aren't read
+abbrev pub cursor_positions : SegmentPostings → ℕ
+cursor_positions s = length (numbers_of s.positions)
+
+-- a cursor went on to a place, which is counted from the first document of the block that it held: it holds the block
+-- of that place, which was decoded if it is another and has documents, and no other was
+pub record HasMoved (place : ℕ) (before after : SegmentPostings) : Type 0 where
+  pub place_is : cursor_place after ≡ place % block_len
+  pub docs : docs_left (cursor_blocks after) ≡ drop (block_len * (place / block_len)) (docs_left (cursor_blocks before))
+  pub entries : skips_left (cursor_blocks after) ≡ drop (place / block_len) (skips_left (cursor_blocks before))
+  pub decoded : cursor_blocks_decoded after ≡ cursor_blocks_decoded before + (if nat_lt place block_len then 0 else min 1 (length (docs_left (cursor_blocks after))))
+  pub doc_freq : cursor_doc_freq after ≡ cursor_doc_freq before
+  pub positions : cursor_positions after ≡ cursor_positions before
 
 pub rising_left : (s : SegmentPostings) → Rising 0 (entries_left s)
 rising_left s = Rising-entries_of 0 (drop s.cur (docs_left s.blocks)) (drop s.cur (counts_left s.blocks)) (drop (s.blocks.skips.position_offset + sum (take s.cur (counts_left s.blocks))) (numbers_of s.positions)) (Ascends-behind s.cur 0 (docs_left s.blocks) s.blocks.ascends)

@@ -105,6 +105,7 @@ pub record HasPassed (reads sums : Bool) (target before : ℕ) (s : Skips) (afte
   pub stands : StandsIn reads sums after t bytes
   pub docs : docs_at after t bytes ≡ drop (128 * (below target (docs_at before s bytes) / 128)) (docs_at before s bytes)
   pub counts : counts_at reads after t bytes ≡ drop (128 * (below target (docs_at before s bytes) / 128)) (counts_at reads before s bytes)
+  pub entries : t.left ≡ drop (below target (docs_at before s bytes) / 128) s.left
   pub place : below target (docs_at after t bytes) ≡ below target (docs_at before s bytes) % 128
   pub offset : sums ≡ true → t.position_offset ≡ s.position_offset + sum (take (128 * (below target (docs_at before s bytes) / 128)) (counts_at reads before s bytes))
 

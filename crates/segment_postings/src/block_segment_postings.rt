@@ -45,6 +45,7 @@ impl<'a> BlockSegmentPostings<'a> {
         ensures counts { counts_left result ≡ [] }
         ensures decoded { blocks_decoded result ≡ 0 }
         ensures doc_freq { doc_freq_of result ≡ 0 }
+        ensures entries { skips_left result ≡ [] }
     {
         let recorded = Recorded {
             counts: false,
@@ -107,6 +108,8 @@ impl<'a> BlockSegmentPostings<'a> {
             &mut docs,
             &mut counts,
         );
+        let mut decoded = 0;
+        count_block(&mut decoded, len);
         BlockSegmentPostings {
             bytes,
             skips,
@@ -118,7 +121,7 @@ impl<'a> BlockSegmentPostings<'a> {
             docs,
             counts,
             len,
-            decoded: counted(0, len),
+            decoded,
         }
     }
 
@@ -177,7 +180,8 @@ impl<'a> BlockSegmentPostings<'a> {
 
     /// A number that no count from the block on is above, where there are so many positions in all.
     pub(crate) fn greatest_count(&self, num_positions: u128) -> u32
-        ensures { (counts : List ℕ) → TellCounts num_positions self.now.skips counts → (i : ℕ) → slice_index counts i ≤ result }
+        ensures above { (counts : List ℕ) → TellCounts num_positions self.now.skips counts → (i : ℕ) → slice_index counts i ≤ result }
+        ensures few { (counts : List ℕ) → TellCounts num_positions self.now.skips counts → result ≤ num_positions }
     {
         greatest_count(self.skips.copied(), num_positions)
     }
@@ -193,6 +197,7 @@ impl<'a> BlockSegmentPostings<'a> {
     pub fn advance(&mut self)
         ensures docs { docs_left self.new ≡ drop block_len (docs_left self.old) }
         ensures counts { counts_left self.new ≡ drop block_len (counts_left self.old) }
+        ensures entries { skips_left self.new ≡ drop 1 (skips_left self.old) }
         ensures decoded { blocks_decoded self.new ≡ blocks_decoded self.old + min 1 (length (docs_left self.new)) }
         ensures room { positions_are_read self.old ≡ true → positions_passed self.new + sum (counts_left self.new) ≤ positions_passed self.old + sum (counts_left self.old) }
         ensures offset { positions_are_read self.old ≡ true → 0 < length (docs_left self.new) → positions_passed self.new ≡ positions_passed self.old + sum (take block_len (counts_left self.old)) }
@@ -209,7 +214,7 @@ impl<'a> BlockSegmentPostings<'a> {
             &mut self.docs,
             &mut self.counts,
         );
-        self.decoded = counted(self.decoded, self.len);
+        count_block(&mut self.decoded, self.len);
     }
 
     /// Goes on to the first block that may hold a document, which may be the one that is held, and answers the
@@ -218,6 +223,7 @@ impl<'a> BlockSegmentPostings<'a> {
         requires { target ≤ terminated }
         ensures docs { docs_left self.new ≡ drop (block_len * (below target (docs_left self.old) / block_len)) (docs_left self.old) }
         ensures counts { counts_left self.new ≡ drop (block_len * (below target (docs_left self.old) / block_len)) (counts_left self.old) }
+        ensures entries { skips_left self.new ≡ drop (below target (docs_left self.old) / block_len) (skips_left self.old) }
         ensures place { result ≡ below target (docs_left self.old) % block_len }
         ensures decoded { blocks_decoded self.new ≡ blocks_decoded self.old + (if nat_lt (below target (docs_left self.old)) block_len then 0 else min 1 (length (docs_left self.new))) }
         ensures room { positions_are_read self.old ≡ true → positions_passed self.new + sum (counts_left self.new) ≤ positions_passed self.old + sum (counts_left self.old) }
@@ -237,17 +243,17 @@ impl<'a> BlockSegmentPostings<'a> {
             &mut self.docs,
             &mut self.counts,
         );
-        self.decoded = counted(self.decoded, self.len);
+        count_block(&mut self.decoded, self.len);
         first_from(&self.docs, target)
     }
 }
 
-/// The blocks that were decoded, and one more that has so many documents, unless these are none.
-fn counted(decoded: u64, len: usize) -> u64
-    requires { decoded ≤ 4294967296 }
-    ensures { result ≡ decoded + min 1 len }
+/// Counts one more block that was decoded, and has so many documents, unless these are none.
+fn count_block(decoded: &mut u64, len: usize)
+    requires { decoded.old ≤ 4294967296 }
+    ensures { decoded.new ≡ decoded.old + min 1 len }
 {
-    decoded + len.min(1) as u64
+    *decoded += len.min(1) as u64;
 }
 
 /// Passes blocks that end before a document; answers the last document of the block before the one at which

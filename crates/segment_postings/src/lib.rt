@@ -2,6 +2,7 @@
 #![tactic(auto)]
 
 mod block_segment_postings;
+pub mod cursor_laws;
 mod decoding;
 mod greatest_count;
 mod position_lists;

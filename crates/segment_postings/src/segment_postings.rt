@@ -1,16 +1,17 @@
 //! One term's postings, document by document.
 
-ghost use Rattle.std.specs.Prelude.{[], ◌<◌, ◌≡◌, ◌≤◌, ◌+◌, IsSome, List, if◌then◌else◌, length, min, replicate, sum, true, ℕ};
+ghost use Rattle.std.specs.Prelude.{[], ◌+◌, ◌/◌, ◌<◌, ◌≡◌, ◌≤◌, IsSome, List, if◌then◌else◌, length, min, replicate, sum, true, ℕ};
 ghost use Rattle.definitions.specs.Blocks.{block_len};
 ghost use Rattle.cursors.specs.Entries.{AreSingle, most_positions};
 ghost use Rattle.cursors.specs.EntryLaws.{AreSingle-prop};
+ghost use Rattle.layouts.specs.TermPostings.{skip_entries};
 ghost use Rattle.segment_postings.specs.Reading.{HasPostings, counts_at, docs_at};
 ghost use Rattle.segment_postings.specs.TermEntries.{HasPositions, entries_from, entries_of, numbers_of, term_entries};
 
 use crate::block_segment_postings::BlockSegmentPostings;
 use crate::position_lists::append_positions;
 use common::DocId;
-use cursors::{DocSet, Postings};
+use cursors::{DocSet, Postings, SeekDangerResult};
 use positions::PositionReader;
 use skips::Recorded;
 use std::alloc::AllocError;
@@ -26,16 +27,21 @@ pub struct SegmentPostings<'a> {
     ghost placed: { IsSome positions → blocks.reads_positions ≡ true },
     ghost counted: { IsSome positions → blocks.skips.position_offset + sum (counts_at blocks.reads_counts blocks.before blocks.skips blocks.bytes.now) ≤ length (numbers_of positions) },
     ghost of_one_term: { AreSingle (entries_from cur blocks.skips.position_offset (docs_at blocks.before blocks.skips blocks.bytes.now) (counts_at blocks.reads_counts blocks.before blocks.skips blocks.bytes.now) (numbers_of positions)) } by { AreSingle-prop (entries_from cur blocks.skips.position_offset (docs_at blocks.before blocks.skips blocks.bytes.now) (counts_at blocks.reads_counts blocks.before blocks.skips blocks.bytes.now) (numbers_of positions)) },
+    ghost few: { most ≤ length (numbers_of positions) },
     ghost bounded: { most_positions (entries_from cur blocks.skips.position_offset (docs_at blocks.before blocks.skips blocks.bytes.now) (counts_at blocks.reads_counts blocks.before blocks.skips blocks.bytes.now) (numbers_of positions)) ≤ most },
 }
 
 impl<'a> SegmentPostings<'a> {
-    ghost use Rattle.segment_postings.specs.Cursors.{cursor_blocks_decoded, cursor_doc_freq, entries_left};
+    ghost use Rattle.segment_postings.specs.Cursors.{cursor_blocks, cursor_blocks_decoded, cursor_doc_freq, cursor_place, cursor_positions, docs_left, entries_left, skips_left};
 
     /// No document.
     pub fn empty() -> SegmentPostings<'a>
         ensures entries { entries_left result ≡ [] }
         ensures decoded { cursor_blocks_decoded result ≡ 0 }
+        ensures doc_freq { cursor_doc_freq result ≡ 0 }
+        ensures positions { cursor_positions result ≡ 0 }
+        ensures blocks { (docs_left (cursor_blocks result) ≡ []) × (skips_left (cursor_blocks result) ≡ []) }
+        ensures place { cursor_place result ≡ 0 }
     {
         SegmentPostings {
             blocks: BlockSegmentPostings::empty(),
@@ -58,6 +64,14 @@ impl<'a> SegmentPostings<'a> {
         ensures entries { (docs counts : List ℕ) → HasPostings recorded.counts recorded.positions doc_freq bytes.now docs counts → entries_left result ≡ entries_of docs (if reads_counts then counts else replicate doc_freq 1) [] }
         ensures decoded { cursor_blocks_decoded result ≡ min 1 doc_freq }
         ensures doc_freq { cursor_doc_freq result ≡ doc_freq }
+        ensures positions { cursor_positions result ≡ 0 }
+        ensures docs { (docs counts : List ℕ) → HasPostings recorded.counts recorded.positions doc_freq bytes.now docs counts
+            → docs_left (cursor_blocks result) ≡ docs }
+        ensures skips { (docs counts : List ℕ)
+            (known : HasPostings recorded.counts recorded.positions doc_freq bytes.now docs counts)
+            → skips_left (cursor_blocks result)
+            ≡ skip_entries known.option known.ids (length docs / block_len) 0 docs counts }
+        ensures place { cursor_place result ≡ 0 }
     {
         SegmentPostings {
             blocks: BlockSegmentPostings::new(bytes, doc_freq, recorded, reads_counts, false),
@@ -79,6 +93,14 @@ impl<'a> SegmentPostings<'a> {
         ensures entries { (docs counts : List ℕ) (lists : List (List ℕ)) → HasPostings recorded.counts recorded.positions doc_freq bytes.now docs counts → HasPositions counts lists positions.entry → entries_left result ≡ term_entries docs counts lists }
         ensures decoded { cursor_blocks_decoded result ≡ min 1 doc_freq }
         ensures doc_freq { cursor_doc_freq result ≡ doc_freq }
+        ensures positions { cursor_positions result ≡ length positions.entry }
+        ensures docs { (docs counts : List ℕ) → HasPostings recorded.counts recorded.positions doc_freq bytes.now docs counts
+            → docs_left (cursor_blocks result) ≡ docs }
+        ensures skips { (docs counts : List ℕ)
+            (known : HasPostings recorded.counts recorded.positions doc_freq bytes.now docs counts)
+            → skips_left (cursor_blocks result)
+            ≡ skip_entries known.option known.ids (length docs / block_len) 0 docs counts }
+        ensures place { cursor_place result ≡ 0 }
     {
         let mut positions = positions;
         let blocks = BlockSegmentPostings::new(bytes, doc_freq, recorded, true, true);
@@ -107,11 +129,20 @@ impl<'a> SegmentPostings<'a> {
 }
 
 impl<'a> DocSet for SegmentPostings<'a> {
-    ghost use Rattle.segment_postings.specs.Cursors.{docs_left, counts_left, entries_left};
+    ghost use Rattle.std.specs.Prelude.{drop, max};
+    ghost use Rattle.definitions.specs.Postings.{terminated};
+    ghost use Rattle.cursors.specs.Danger.{IsDangerAnswer};
+    ghost use Rattle.cursors.specs.Entries.{first, from};
+    ghost use Rattle.segment_postings.specs.Cursors.{HasMoved, counts_left, cursor_blocks, cursor_place, docs_left, entries_left};
+    ghost use Rattle.segment_postings.specs.Reading.{below};
 
     ghost entries = { entries_left };
 
-    fn advance(&mut self) -> DocId {
+    fn advance(&mut self) -> DocId
+        ensures rest { entries_left self.new ≡ drop 1 (entries_left self.old) }
+        ensures at { result ≡ first (entries_left self.new) }
+        ensures moved { HasMoved (cursor_place self.old + 1) self.old self.new }
+    {
         if self.cur == 127 {
             self.blocks.advance();
             self.cur = 0;
@@ -121,9 +152,31 @@ impl<'a> DocSet for SegmentPostings<'a> {
         self.doc()
     }
 
-    fn seek(&mut self, target: DocId) -> DocId {
+    fn seek(&mut self, target: DocId) -> DocId
+        requires ahead { first (entries_left self.old) ≤ target }
+        requires small { target ≤ terminated }
+        ensures rest { entries_left self.new ≡ from target (entries_left self.old) }
+        ensures at { result ≡ first (entries_left self.new) }
+        ensures moved { HasMoved (below target (docs_left (cursor_blocks self.old))) self.old self.new }
+    {
         self.cur = self.blocks.seek(target);
         self.doc()
+    }
+
+    fn seek_danger(&mut self, target: DocId) -> SeekDangerResult
+        requires { target < terminated }
+        ensures answer { IsDangerAnswer result target (entries_left self.old) (entries_left self.new) }
+        ensures moved { HasMoved (max (cursor_place self.old) (below target (docs_left (cursor_blocks self.old)))) self.old self.new }
+    {
+        let doc = self.doc();
+        if target < doc {
+            return SeekDangerResult::SeekLowerBound(doc);
+        }
+        let doc = self.seek(target);
+        if target < doc {
+            return SeekDangerResult::SeekLowerBound(doc);
+        }
+        SeekDangerResult::Found
     }
 
     fn doc(&self) -> DocId {
@@ -141,7 +194,7 @@ impl<'a> DocSet for SegmentPostings<'a> {
 
 impl<'a> Postings for SegmentPostings<'a> {
     ghost use Rattle.std.specs.Prelude.{◌++◌};
-    ghost use Rattle.segment_postings.specs.Cursors.{alone_left, single_left};
+    ghost use Rattle.segment_postings.specs.Cursors.{alone_left, cursor_positions, entries_left, single_left};
 
     ghost joined = { λ held positions. held ++ positions };
 
@@ -160,7 +213,10 @@ impl<'a> Postings for SegmentPostings<'a> {
         Ok(())
     }
 
-    fn most_positions(&self) -> usize {
+    fn most_positions(&self) -> usize
+        ensures most { most_positions (entries_left self.now) ≤ result }
+        ensures few { result ≤ cursor_positions self.now }
+    {
         self.most
     }
 

@@ -14,7 +14,7 @@ use Rattle.store.specs.Reading.{IsBlockOf}
 use Rattle.store.specs.SkipIndexes.{passes}
 use Rattle.store.specs.Slots.{HasSlot, IsBadBlock, IsBadSlot, IsKeptBlock, IsOpenBlock, IsPast, IsReader, IsSlotFault, Reader, block_number, place_of, reader}
 use Rattle.store.specs.declared.current_block.CurrentBlock.{CurrentBlock}
-use Rattle.store.specs.Walking.{IsCurrent, IsTried, IsTriedAt, IsWalked, stand}
+use Rattle.store.specs.Walking.{IsCurrent, IsRefusedWalk, IsTried, IsTriedAt, IsWalked, stand}
 use Rattle.store.specs.TakenGroups.{IsDamage}
 use Rattle.store.specs.Writing.{block_in, blocks_in, count_of}
 use Rattle.store.proofs.Opened.{At, at_none, at_some, checks_back, counts_back}
@@ -195,3 +195,7 @@ current_again whole cs (Some k) at c tried is got =
 pub walked_at : (at n : ℕ) (place current : Option ℕ) (old kept new : Kept) → IsWalked at place old new → at ≡ n → place ≡ current → old ≡ kept → IsWalked n current kept new
 walked_at at n place current old kept new is e1 e2 e3 =
     subst (λ x. IsWalked n current x new) e3 (subst (λ x. IsWalked n x old new) e2 (subst (λ x. IsWalked x place old new) e1 is))
+
+pub refused_at : (at n : ℕ) (place current : Option ℕ) (old kept new : Kept) → IsRefusedWalk at place old new → at ≡ n → place ≡ current → old ≡ kept → IsRefusedWalk n current kept new
+refused_at at n place current old kept new is e1 e2 e3 =
+    subst (λ x. IsRefusedWalk n current x new) e3 (subst (λ x. IsRefusedWalk n x old new) e2 (subst (λ x. IsRefusedWalk x place old new) e1 is))

@@ -5,7 +5,8 @@ use Rattle.definitions.specs.declared.fault.Fault.TheVariants as faults
 use Rattle.definitions.specs.Values.{Document}
 use Rattle.layouts.specs.DocumentReading.{read_document}
 use Rattle.layouts.specs.Stores.{Block}
-use Rattle.store.specs.Slots.{HasSlot, IsSlotFault}
+use Rattle.store.specs.Caches.{Kept, looked_up, opened}
+use Rattle.store.specs.Slots.{HasSlot, IsSlotFault, block_number}
 
 -- a document's slot reads as this
 abbrev pub HasDocument : List Block → ℕ → Document → Type 0
@@ -18,6 +19,11 @@ HasNoDocument blocks doc = (bytes : List ℕ) × HasSlot blocks doc bytes × (re
 -- memory was wanting, the slot isn't to be had, or it is no document
 abbrev pub IsGetFault : List Block → ℕ → Fault → Type 0
 IsGetFault blocks doc fault = (fault ≡ faults.OutOfMemory) ⊎ (IsSlotFault blocks doc fault ⊎ ((fault ≡ faults.Damaged None) × HasNoDocument blocks doc))
+
+-- the block of a document was looked up once: it is kept where its slot was to be had, and no document came of that
+abbrev pub IsRefusedGet : List Block → ℕ → Kept → Kept → Fault → Type 0
+IsRefusedGet blocks doc old new fault = (IsSlotFault blocks doc fault × (new ≡ looked_up (block_number blocks doc) old))
+    ⊎ (((fault ≡ faults.OutOfMemory) ⊎ ((fault ≡ faults.Damaged None) × HasNoDocument blocks doc)) × (new ≡ opened (block_number blocks doc) (looked_up (block_number blocks doc) old)))
 
 -- memory was wanting, there is no slot at this place, or it is no document
 abbrev pub IsUnread : List (List ℕ) → ℕ → Fault → Type 0

@@ -15,13 +15,17 @@ abbrev pub stands_in : ℕ → Option ℕ → Bool
 stands_in at None = false
 stands_in at (Some place) = nat_eq place at
 
--- a look-up of a block in which it doesn't stand; the block may then be kept
+-- a block in which it doesn't stand is looked up, and was opened
 abbrev pub IsWalked : ℕ → Option ℕ → Kept → Kept → Type 0
-IsWalked at place old new = elim (stands_in at place) [ true ↦ new ≡ old | false ↦ (new ≡ looked_up at old) ⊎ (new ≡ opened at (looked_up at old)) ]
+IsWalked at place old new = elim (stands_in at place) [ true ↦ new ≡ old | false ↦ new ≡ opened at (looked_up at old) ]
+
+-- the same where no bytes came of it: the block may have been opened
+abbrev pub IsRefusedWalk : ℕ → Option ℕ → Kept → Kept → Type 0
+IsRefusedWalk at place old new = elim (stands_in at place) [ true ↦ new ≡ old | false ↦ (new ≡ looked_up at old) ⊎ (new ≡ opened at (looked_up at old)) ]
 
 -- the next document comes, and the iteration stands in this one's block
 abbrev pub IsStep : Reader → ℕ → Reader → ℕ → Type 0
-IsStep old doc new next = (next ≡ doc + 1) × (new.blocks ≡ old.blocks) × (new.current ≡ Some (block_number old.blocks doc)) × IsWalked (block_number old.blocks doc) old.current old.kept new.kept
+IsStep old doc new next = (next ≡ doc + 1) × (new.blocks ≡ old.blocks) × (new.current ≡ Some (block_number old.blocks doc))
 
 -- whether an iteration gives a document: each below their number, or those of them that are alive
 abbrev pub is_due : ℕ → Option (List Bool) → ℕ → Bool
@@ -31,8 +35,8 @@ is_due count (Some alive) doc = nat_lt doc count && slice_index_or alive doc fal
 -- one step: the bytes of the first document that is due, or a fault of its block, and none where none is due
 abbrev pub IsNext : Option (List Bool) → Reader → ℕ → Option (Result (List ℕ) Fault) → Reader → ℕ → Type 0
 IsNext alive old from None new next = IsFirst (is_due (count_of old.blocks) alive) from None × (new ≡ old) × (next ≡ from)
-IsNext alive old from (Some (Ok slot)) new next = (doc : ℕ) × IsFirst (is_due (count_of old.blocks) alive) from (Some doc) × HasSlot old.blocks doc slot × IsStep old doc new next
-IsNext alive old from (Some (Err fault)) new next = (doc : ℕ) × IsFirst (is_due (count_of old.blocks) alive) from (Some doc) × IsSlotFault old.blocks doc fault × IsStep old doc new next
+IsNext alive old from (Some (Ok slot)) new next = (doc : ℕ) × IsFirst (is_due (count_of old.blocks) alive) from (Some doc) × HasSlot old.blocks doc slot × IsStep old doc new next × IsWalked (block_number old.blocks doc) old.current old.kept new.kept
+IsNext alive old from (Some (Err fault)) new next = (doc : ℕ) × IsFirst (is_due (count_of old.blocks) alive) from (Some doc) × IsSlotFault old.blocks doc fault × IsStep old doc new next × IsRefusedWalk (block_number old.blocks doc) old.current old.kept new.kept
 
 -- ---- the fields of a reader
 

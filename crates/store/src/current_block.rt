@@ -1,12 +1,12 @@
 //! The block in which an iteration stands.
 
-ghost use Rattle.std.specs.Prelude.{◌<◌, ◌≡◌, ◌≤◌, ◌⊎◌, Contains, Err, IfErr, IfOk, List, Ok, Some, length, nat_eq, ℕ};
+ghost use Rattle.std.specs.Prelude.{◌<◌, ◌≡◌, ◌≤◌, ◌⊎◌, Contains, Err, IfErr, IfOk, List, Ok, OnErr, OnOk, Some, length, nat_eq, ℕ};
 ghost use Rattle.definitions.specs.declared.fault.Fault.TheVariants as faults;
 ghost use Rattle.std.specs.Map.{lookup};
 ghost use Rattle.store.specs.Caches.{HasRoom, entries_of, kept_of};
 ghost use Rattle.store.specs.Slots.{IsBadBlock, IsOpenBlock};
 ghost use Rattle.store.specs.TakenGroups.{IsDamage};
-ghost use Rattle.store.specs.Walking.{IsTriedAt, IsWalked, stand};
+ghost use Rattle.store.specs.Walking.{IsRefusedWalk, IsTriedAt, IsWalked, stand};
 ghost use Rattle.store.specs.Writing.{block_in};
 
 use crate::block_cache::BlockCache;
@@ -52,7 +52,8 @@ pub(crate) fn open_current(
     ensures err { IfErr result (λ fault. IsDamage fault (IsBadBlock (block_in whole.now reach.now))) }
     ensures stands { stand current.new ≡ Some at }
     ensures tried { IsTriedAt at (block_in whole.now reach.now) current.new }
-    ensures kept { IsWalked at (stand current.old) (kept_of cache.old) (kept_of cache.new) }
+    ensures kept { OnOk result (IsWalked at (stand current.old) (kept_of cache.old) (kept_of cache.new)) }
+    ensures missed { OnErr result (IsRefusedWalk at (stand current.old) (kept_of cache.old) (kept_of cache.new)) }
     ensures entries { (e : ℕ × List ℕ) → Contains (entries_of cache.new) e → Contains (entries_of cache.old) e ⊎ ((e.0 ≡ at) × IsOpenBlock (block_in whole.now reach.now) e.1) }
     ensures room { HasRoom cache.new }
 {

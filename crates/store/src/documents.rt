@@ -7,7 +7,7 @@ ghost use Rattle.layouts.specs.DocumentReading.{read_document};
 ghost use Rattle.layouts.specs.DocumentBytes.{document_bytes};
 ghost use Rattle.layouts.specs.Stores.{Hold};
 ghost use Rattle.store.specs.Caches.{looked_up, opened};
-ghost use Rattle.store.specs.DocumentSlots.{HasDocument, IsGetFault, IsUnread};
+ghost use Rattle.store.specs.DocumentSlots.{HasDocument, IsGetFault, IsRefusedGet, IsUnread};
 ghost use Rattle.store.specs.Slots.{block_number};
 ghost use Rattle.store.specs.Writing.{count_of, passes_limit, stored};
 
@@ -42,6 +42,8 @@ impl StoreReader {
         ensures blocks { self.new.blocks ≡ self.old.blocks }
         ensures current { self.new.current ≡ self.old.current }
         ensures kept { OnOk result (self.new.kept ≡ opened (block_number self.old.blocks doc) (looked_up (block_number self.old.blocks doc) self.old.kept)) }
+        ensures missed { doc < count_of self.old.blocks
+            → IfErr result (IsRefusedGet self.old.blocks doc self.old.kept self.new.kept) }
         ensures past { count_of self.old.blocks ≤ doc → self.new ≡ self.old }
     {
         let bytes = self.get_document_bytes(doc)?;

@@ -5,7 +5,7 @@ ghost use Rattle.layouts.specs.Stores.{AreBlocks, Hold, IsBlock, IsStore, checkp
 ghost use Rattle.store.specs.Caches.{looked_up, none_kept, opened, stats_of};
 ghost use Rattle.store.specs.Reading.{IsBlockOf};
 ghost use Rattle.store.specs.Slots.{HasSlot, IsFile, IsNoStore, IsPast, IsSlotFault, block_number, reader};
-ghost use Rattle.store.specs.Walking.{IsWalked};
+ghost use Rattle.store.specs.Walking.{IsRefusedWalk, IsWalked};
 ghost use Rattle.store.specs.TakenGroups.{IsDamage};
 ghost use Rattle.store.specs.Writing.{count_of};
 
@@ -147,7 +147,8 @@ impl StoreReader {
         ensures err { IfErr result (IsSlotFault self.old.blocks doc) }
         ensures blocks { self.new.blocks ≡ self.old.blocks }
         ensures current { self.new.current ≡ Some (block_number self.old.blocks doc) }
-        ensures kept { IsWalked (block_number self.old.blocks doc) self.old.current self.old.kept self.new.kept }
+        ensures kept { OnOk result (IsWalked (block_number self.old.blocks doc) self.old.current self.old.kept self.new.kept) }
+        ensures missed { OnErr result (IsRefusedWalk (block_number self.old.blocks doc) self.old.current self.old.kept self.new.kept) }
     {
         match self.index.find_block(doc) {
             Some((at, reach)) => {

@@ -1,5 +1,5 @@
 use Rattle.std.proofs.Common.{ap, arith, drop, length, max, min, rules, subst, sym, ◌-◌, ◌≡◌, ◌≤◌, ◌∙◌}
-use Rattle.segment_postings.proofs.BoundedCounts.{First, Later, entry_bound, first_told, none_passed, one_passed, rest_bounded}
+use Rattle.segment_postings.proofs.BoundedCounts.{First, Later, entry_bound, first_told, none_passed, one_passed, rest_bounded, rest_fits}
 use Rattle.skips.specs.SkipBlocks.{Skips, passed}
 use Rattle.segment_postings.proofs.greatest_count.greatest_count.Goals.{After-advance}
 use Rattle.segment_postings.proofs.greatest_count.greatest_count.Goals as goal
@@ -28,12 +28,22 @@ loop-tf_sum-preserved c = λ counts told.
     let bound : c.block_bound.result ≡ entry_bound one.entry = c.block_bound.ensures ∙ sym one.bound_is in
     subst (λ n. Later c.args.num_positions c.advance.new.self counts n) (sym (most ∙ ap (λ n. max c.loop-tf_sum.greatest n) bound)) (subst (λ s. Later c.args.num_positions s counts (max c.loop-tf_sum.greatest (entry_bound one.entry))) (sym (moved c)) next)
 
-pub returns : goal.returns
-returns c = λ counts told i.
+pub returns-clause-above : goal.returns-clause-above
+returns-clause-above c = λ counts told i.
     let left = c.saturating_sub-left.result in
     let offset = c.position_offset.ensures.offset in
     let rest : c.loop-tf_sum.skips.position_offset ≤ c.args.num_positions → left ≡ c.args.num_positions - c.loop-tf_sum.skips.position_offset = λ small. omega (arith, small, offset, c.saturating_sub-left.ensures) in
     let few : c.min.result ≡ min left 4294967295 = search rules in
     let most : c.max.result ≡ max c.loop-tf_sum.greatest c.min.result = search rules in
     let bound = rest_bounded c.args.num_positions c.loop-tf_sum.skips counts c.loop-tf_sum.greatest left (c.loop-tf_sum.invariant counts told) rest i in
+    omega (arith, few, most, bound)
+
+pub returns-clause-few : goal.returns-clause-few
+returns-clause-few c = λ counts told.
+    let left = c.saturating_sub-left.result in
+    let offset = c.position_offset.ensures.offset in
+    let rest : c.loop-tf_sum.skips.position_offset ≤ c.args.num_positions → left ≡ c.args.num_positions - c.loop-tf_sum.skips.position_offset = λ small. omega (arith, small, offset, c.saturating_sub-left.ensures) in
+    let few : c.min.result ≡ min left 4294967295 = search rules in
+    let most : c.max.result ≡ max c.loop-tf_sum.greatest c.min.result = search rules in
+    let bound = rest_fits c.args.num_positions c.loop-tf_sum.skips counts c.loop-tf_sum.greatest left (c.loop-tf_sum.invariant counts told) rest in
     omega (arith, few, most, bound)

@@ -18,7 +18,7 @@ invariant_of-self c =
     let few = c.args.self.now.few in
     let long = ap length on.docs in
     let len = held.len_is in
-    let one = c.counted-self.ensures in
+    let one = c.count_block.ensures in
     record {
       stands = on.stands;
       held = held;
@@ -37,3 +37,6 @@ returns-clause-offset c = (moved (goal.at.returns-clause-offset c).After-advance
 
 pub returns-clause-room : goal.returns-clause-room
 returns-clause-room c = (moved (goal.at.returns-clause-room c).After-advance).room
+
+pub returns-clause-entries : goal.returns-clause-entries
+returns-clause-entries c = (moved (goal.at.returns-clause-entries c).After-advance).entries

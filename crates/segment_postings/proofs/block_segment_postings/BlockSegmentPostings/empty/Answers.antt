@@ -18,3 +18,6 @@ returns-clause-counts c = c.begin.ensures.counts ∙ ap (λ (s : Skips). counts_
 
 pub returns-clause-decoded : goal.returns-clause-decoded
 returns-clause-decoded c = c.begin.ensures.decoded ∙ ap (λ (s : Skips). min 1 (length (docs_at 0 s []))) (begins (goal.at.returns-clause-decoded c).After-new)
+
+pub returns-clause-entries : goal.returns-clause-entries
+returns-clause-entries c = c.begin.ensures.entries ∙ ap (λ (s : Skips). s.left) (begins (goal.at.returns-clause-entries c).After-new)

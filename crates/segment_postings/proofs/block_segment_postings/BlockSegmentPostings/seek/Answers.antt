@@ -32,6 +32,9 @@ returns-then-target-last_doc_in_block-clause-docs c = ap (λ k. drop (128 * k) (
 pub returns-then-target-last_doc_in_block-clause-counts : goal.returns-then-target-last_doc_in_block-clause-counts
 returns-then-target-last_doc_in_block-clause-counts c = ap (λ k. drop (128 * k) (counts_at c.args.self.now.reads_counts c.args.self.now.before c.args.self.now.skips c.args.self.now.bytes.now)) (none (goal.at.returns-then-target-last_doc_in_block-clause-counts c).Then-target-last_doc_in_block)
 
+pub returns-then-target-last_doc_in_block-clause-entries : goal.returns-then-target-last_doc_in_block-clause-entries
+returns-then-target-last_doc_in_block-clause-entries c = ap (λ k. drop k c.args.self.now.skips.left) (none (goal.at.returns-then-target-last_doc_in_block-clause-entries c).Then-target-last_doc_in_block)
+
 pub returns-then-target-last_doc_in_block-clause-place : goal.returns-then-target-last_doc_in_block-clause-place
 returns-then-target-last_doc_in_block-clause-place c =
     let at = (goal.at.returns-then-target-last_doc_in_block-clause-place c).Then-target-last_doc_in_block in
@@ -76,7 +79,7 @@ invariant_of-self c =
     let few = c.args.self.now.few in
     let long = ap length on.docs in
     let len = held.len_is in
-    let one = c.counted-self.ensures in
+    let one = c.count_block.ensures in
     let k = below c.args.target all / 128 in
     let cut = length-drop (128 * k) all in
     record {
@@ -112,7 +115,7 @@ returns-clause-decoded c =
     let no : nat_lt (below c.args.target docs) 128 ≡ false = grind (arith, nat_tests) in
     let one = ap (λ b. cond b 0 (min 1 (length after))) no in
     let len = c.decode_block-self.ensures.len_is in
-    let is = c.counted-self.ensures in
+    let is = c.count_block.ensures in
     omega (arith, one, len, is)
 
 pub returns-clause-room : goal.returns-clause-room

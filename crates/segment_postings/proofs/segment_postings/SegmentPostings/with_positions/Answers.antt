@@ -22,6 +22,7 @@ opened c docs counts lists h p = opened_entries c.new-blocks.result.skips.positi
 record Kept (c : After-greatest_count-most) : Type 0 where
   counted : c.new-blocks.result.skips.position_offset + sum (counts_left c.new-blocks.result) ≤ length c.num_positions.new.self
   of_one_term : AreSingle (entries_from 0 c.new-blocks.result.skips.position_offset (docs_left c.new-blocks.result) (counts_left c.new-blocks.result) c.num_positions.new.self)
+  few : c.greatest_count-most.result ≤ length c.num_positions.new.self
   bounded : most_positions (entries_from 0 c.new-blocks.result.skips.position_offset (docs_left c.new-blocks.result) (counts_left c.new-blocks.result) c.num_positions.new.self) ≤ c.greatest_count-most.result
 
 Kept-prop : (c : After-greatest_count-most) → IsProp (Kept c)
@@ -42,10 +43,11 @@ kept c docs counts lists h p =
       fit = λ i. (posted_from h.option docs counts h.postings.posted).counts_fit i;
       total = (let begins = c.new-blocks.ensures.offset in let all = all_positions counts c.num_positions.new.self lists (has c counts lists p) in let count = c.num_positions.ensures.count in let long = ap length c.num_positions.ensures.same in omega (arith, begins, all, count, long));
     } in
-    let few = most_entries docs counts lists c.greatest_count-most.result (λ i. (let each = c.greatest_count-most.ensures counts told i in let at = ap (λ cs. get_or cs i 0) p.counted in omega (arith, each, at))) in
+    let few = most_entries docs counts lists c.greatest_count-most.result (λ i. (let each = c.greatest_count-most.ensures.above counts told i in let at = ap (λ cs. get_or cs i 0) p.counted in omega (arith, each, at))) in
     record {
       counted = opened_room c.new-blocks.result.skips.position_offset (counts_left c.new-blocks.result) c.num_positions.new.self counts lists (c.new-blocks.ensures.counts docs counts h) c.new-blocks.ensures.offset (has c counts lists p);
       of_one_term = subst AreSingle (sym is) (single_entries docs counts lists p.placed);
+      few = (let least = c.greatest_count-most.ensures.few counts told in let count = c.num_positions.ensures.count in let long = ap length c.num_positions.ensures.same in omega (arith, least, count, long));
       bounded = omega (arith, same, few);
     }
 
@@ -56,7 +58,7 @@ pub invariant_of-result : goal.invariant_of-result
 invariant_of-result c =
     let here = c in
     let all = ∥∥₁_elim c.requires.known (Kept-prop here) (λ k. kept here k.0 k.1 k.2 k.3 k.4) in
-    record { inside = omega arith; placed = λ some. c.new-blocks.ensures.reads.1; counted = λ some. all.counted; of_one_term = all.of_one_term; bounded = all.bounded }
+    record { inside = omega arith; placed = λ some. c.new-blocks.ensures.reads.1; counted = λ some. all.counted; of_one_term = all.of_one_term; few = all.few; bounded = all.bounded }
 
 pub returns-clause-entries : goal.returns-clause-entries
 returns-clause-entries c = λ docs counts lists h p. opened_entries c.new-blocks.result.skips.position_offset (docs_left c.new-blocks.result) (counts_left c.new-blocks.result) c.num_positions.new.self docs counts lists (c.new-blocks.ensures.docs docs counts h) (c.new-blocks.ensures.counts docs counts h) c.new-blocks.ensures.offset (record { counted = p.counted; placed = p.placed; whole = c.num_positions.ensures.same ∙ p.whole }) h.postings.posted.same

@@ -1,4 +1,5 @@
-use Rattle.std.proofs.Common.{arith, drop, ◌+◌, ◌∙◌, ◌≡◌}
+use Rattle.std.proofs.Common.{ap, arith, cond, drop, false, length, min, nat_lt, refl, true, ◌*◌, ◌+◌, ◌/◌, ◌<◌, ◌∙◌, ◌≡◌}
+use Rattle.std.proofs.lemmas.Bool.Decides.{nat_tests}
 use Rattle.segment_postings.proofs.EntryMoves.{block_on, most_on, one_on, single_on}
 use Rattle.segment_postings.specs.Cursors.{counts_left, docs_left, entries_left}
 use Rattle.segment_postings.specs.TermEntries.{entries_from, numbers_of}
@@ -20,6 +21,7 @@ invariant_of-self c =
       placed = λ some. kept ∙ c.args.self.now.placed some;
       counted = λ some. (let old = c.args.self.now.counted some in let room = c.advance.ensures.room (c.args.self.now.placed some) in omega (arith, old, room));
       of_one_term = single_on (entries_left c.args.self.now) _ is c.args.self.now.of_one_term;
+      few = c.args.self.now.few;
       bounded = most_on (entries_left c.args.self.now) _ c.args.self.now.most is c.args.self.now.bounded;
     }
 
@@ -32,6 +34,7 @@ invariant_of-self-2 c =
       placed = c.args.self.now.placed;
       counted = c.args.self.now.counted;
       of_one_term = single_on (entries_left c.args.self.now) _ is c.args.self.now.of_one_term;
+      few = c.args.self.now.few;
       bounded = most_on (entries_left c.args.self.now) _ c.args.self.now.most is c.args.self.now.bounded;
     }
 
@@ -40,3 +43,42 @@ returns-then-self-eq127-clause-rest c = over (goal.at.returns-then-self-eq127-cl
 
 pub returns-clause-rest : goal.returns-clause-rest
 returns-clause-rest c = on (goal.at.returns-clause-rest c).Else-self-eq127
+
+-- ---- to which place
+
+pub returns-then-self-eq127-clause-moved : goal.returns-then-self-eq127-clause-moved
+returns-then-self-eq127-clause-moved c =
+    let place = c.args.self.now.cur + 1 in
+    let last = c.if-self-eq127.true in
+    let one : 1 ≡ place / 128 = omega (arith, last) in
+    let block : 128 ≡ 128 * (place / 128) = omega (arith, last) in
+    let no : nat_lt place 128 ≡ false = (let past : place ≡ 128 = omega (arith, last) in grind (arith, nat_tests)) in
+    let more = ap (λ b. cond b 0 (min 1 (length (docs_left c.advance.new.self)))) no in
+    let count = c.advance.ensures.decoded in
+    record {
+      place_is = omega (arith, last);
+      docs = c.advance.ensures.docs ∙ ap (λ k. drop k (docs_left c.args.self.now.blocks)) block;
+      entries = c.advance.ensures.entries ∙ ap (λ k. drop k c.args.self.now.blocks.skips.left) one;
+      decoded = omega (arith, more, count);
+      doc_freq = c.advance.ensures.kept.0;
+      positions = refl;
+    }
+
+pub returns-clause-moved : goal.returns-clause-moved
+returns-clause-moved c =
+    let place = c.args.self.now.cur + 1 in
+    let inside = c.args.self.now.inside in
+    let other = c.if-self-eq127.false in
+    let within : place < 128 = omega (arith, inside, other) in
+    let none : 0 ≡ place / 128 = omega (arith, within) in
+    let start : 0 ≡ 128 * (place / 128) = omega (arith, within) in
+    let yes : nat_lt place 128 ≡ true = grind (arith, nat_tests) in
+    let more = ap (λ b. cond b 0 (min 1 (length (docs_left c.args.self.now.blocks)))) yes in
+    record {
+      place_is = omega (arith, within);
+      docs = ap (λ k. drop k (docs_left c.args.self.now.blocks)) start;
+      entries = ap (λ k. drop k c.args.self.now.blocks.skips.left) none;
+      decoded = omega (arith, more);
+      doc_freq = refl;
+      positions = refl;
+    }

@@ -1,4 +1,4 @@
-use Rattle.std.proofs.Common.{arith, sym, ◌∙◌, ◌≡◌}
+use Rattle.std.proofs.Common.{arith, refl, sym, ◌∙◌, ◌≡◌}
 use Rattle.segment_postings.proofs.EntryMoves.{from_place, most_after, place_on, single_from}
 use Rattle.segment_postings.specs.Cursors.{counts_left, docs_left, entries_left}
 use Rattle.cursors.specs.Entries.{from}
@@ -22,8 +22,13 @@ invariant_of-self c =
       placed = λ some. kept ∙ c.args.self.now.placed some;
       counted = λ some. (let old = c.args.self.now.counted some in let room = c.seek-self.ensures.room (c.args.self.now.placed some) in omega (arith, old, room));
       of_one_term = single_from c.args.target (entries_left c.args.self.now) _ is c.args.self.now.of_one_term;
+      few = c.args.self.now.few;
       bounded = most_after c.args.target (entries_left c.args.self.now) _ c.args.self.now.most is c.args.self.now.bounded;
     }
 
 pub returns-clause-rest : goal.returns-clause-rest
 returns-clause-rest c = sought (goal.at.returns-clause-rest c).After-seek-self
+
+pub returns-clause-moved : goal.returns-clause-moved
+returns-clause-moved c =
+    record { place_is = c.seek-self.ensures.place; docs = c.seek-self.ensures.docs; entries = c.seek-self.ensures.entries; decoded = c.seek-self.ensures.decoded; doc_freq = c.seek-self.ensures.kept.0; positions = refl }

@@ -4,7 +4,7 @@ use Rattle.std.proofs.lemmas.Result.{err_from_is_err_and}
 use Rattle.store.specs.Slots.{Reader}
 use Rattle.store.specs.Walking.{stand}
 use Rattle.store.specs.Writing.{block_in}
-use Rattle.store.proofs.Readers.{Fields, block_is, current_again, found, keeps_more, kept_open, not_found, slot_fault, slot_there, tried_at, walked_at}
+use Rattle.store.proofs.Readers.{Fields, block_is, current_again, found, keeps_more, kept_open, not_found, refused_at, slot_fault, slot_there, tried_at, walked_at}
 use Rattle.store.proofs.store_reader.StoreReader.next_slot.Goals as goal
 
 pub returns-in-None-clause-err : goal.returns-in-None-clause-err
@@ -19,8 +19,8 @@ returns-in-None-clause-current c =
     let past = not_found c.args.self.now c.self.inside.whole c.self.inside.index c.self.inside.cache c.args.doc f c.in-None.ensures.none in
     absurd (omega (arith, c.requires))
 
-pub returns-in-None-clause-kept : goal.returns-in-None-clause-kept
-returns-in-None-clause-kept c =
+pub returns-in-None-clause-missed : goal.returns-in-None-clause-missed
+returns-in-None-clause-missed c =
     let f : Fields c.args.self.now c.self.inside.whole c.self.inside.index c.self.inside.cache (stand c.self.inside.current) = record { is = c.self.view_is; holds = c.self.invariant.0 } in
     let past = not_found c.args.self.now c.self.inside.whole c.self.inside.index c.self.inside.cache c.args.doc f c.in-None.ensures.none in
     absurd (omega (arith, c.requires))
@@ -66,11 +66,11 @@ returns-in_err-block-in-Some-clause-current c =
     let at = found c.args.self.now c.self.inside.whole c.self.inside.index c.self.inside.cache c.args.doc c.in-Some.at c.in-Some.reach.now f c.in-Some.ensures.some in
     c.in_err-block-in-Some.ensures.stands ∙ ap Some at.number
 
-pub returns-in_err-block-in-Some-clause-kept : goal.returns-in_err-block-in-Some-clause-kept
-returns-in_err-block-in-Some-clause-kept c =
+pub returns-in_err-block-in-Some-clause-missed : goal.returns-in_err-block-in-Some-clause-missed
+returns-in_err-block-in-Some-clause-missed c =
     let f : Fields c.args.self.now c.self.inside.whole c.self.inside.index c.self.inside.cache (stand c.self.inside.current) = record { is = c.self.view_is; holds = c.self.invariant.0 } in
     let at = found c.args.self.now c.self.inside.whole c.self.inside.index c.self.inside.cache c.args.doc c.in-Some.at c.in-Some.reach.now f c.in-Some.ensures.some in
-    walked_at c.in-Some.at _ _ _ _ _ _ c.in_err-block-in-Some.ensures.kept at.number (ap (λ (r : Reader). r.current) c.self.view_is) (ap (λ (r : Reader). r.kept) c.self.view_is)
+    refused_at c.in-Some.at _ _ _ _ _ _ c.in_err-block-in-Some.ensures.missed at.number (ap (λ (r : Reader). r.current) c.self.view_is) (ap (λ (r : Reader). r.kept) c.self.view_is)
 
 pub slot_of-requires-clause-block : goal.slot_of-requires-clause-block
 slot_of-requires-clause-block c =
