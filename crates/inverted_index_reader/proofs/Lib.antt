@@ -24,3 +24,4 @@ pub mod FieldsKept
 pub mod CheckedOnce
 pub mod CheckedLists
 pub mod OpenedPostings
+pub mod DocumentIds

@@ -1,16 +1,19 @@
 -- The postings of a term as a cursor tells them.
-use Rattle.std.proofs.Common.{[], Bool, List, ap, arith, cond, drop, false, length, map, min, refl, replicate, subst, sym, true, true≢false, ◌&&◌, ◌<◌, ◌≡◌, ◌∙◌, ◌∷◌, ◌^◌, ℕ}
+use Rattle.std.proofs.Common.{[], Bool, List, ap, arith, cond, drop, false, length, length-append, map, min, refl, replicate, subst, suc, sum_by, sym, true, true≢false, ◌&&◌, ◌/◌, ◌<◌, ◌≡◌, ◌∙◌, ◌∷◌, ◌^◌, ℕ}
 use Rattle.std.proofs.Math.Seq.{drop-nil, take-nil}
 use Rattle.std.proofs.lemmas.List.{length-map}
+use Rattle.std.proofs.lemmas.List.Sums.{sum_by-cons}
 use Rattle.std.specs.List.{AllByRecursion}
+use Rattle.definitions.specs.Blocks.{block_len}
 use Rattle.definitions.specs.Postings.{Posting}
 use Rattle.definitions.specs.Schema.{IndexRecordOption, basic, has_freq, has_positions, with_freqs, with_freqs_and_positions}
 use Rattle.layouts.specs.InvertedIndexes.{IsPosting, IsTerm}
-use Rattle.layouts.specs.Positions.{ArePositions, position_numbers}
+use Rattle.layouts.specs.Positions.{ArePositions, differences, position_numbers}
+use Rattle.layouts.specs.TermPostings.{skip_entries}
 use Rattle.cursors.specs.Entries.{Entry, highest}
 use Rattle.segment_postings.specs.Reading.{HasPostings}
 use Rattle.segment_postings.specs.TermEntries.{HasPositions, IsPlaced, entries_of, places, term_entries}
-use Rattle.inverted_index_reader.specs.OpenedTerms.{HasTerm, entry_as}
+use Rattle.inverted_index_reader.specs.OpenedTerms.{HasTerm, entries_of_postings, entry_as, positions_asked}
 
 abbrev docs_in : List Posting → List ℕ
 docs_in ps = map (λ (p : Posting). p.doc) ps
@@ -121,6 +124,48 @@ pub one_block : (option : IndexRecordOption) (n : ℕ) (postings positions : Lis
 one_block option n postings positions ps h = (let some = h.is.some in let many = h.many in omega (arith, some, many))
 
 -- what is recorded, as the code tells it
-pub told_postings : (option : IndexRecordOption) (counts positions : Bool) (n : ℕ) (bytes places : List ℕ) (ps : List Posting) → counts ≡ has_freq option → positions ≡ has_positions option → HasTerm option n bytes places ps → HasPostings counts positions n bytes (map (λ (p : Posting). p.doc) ps) (map (λ (p : Posting). p.count) ps)
-told_postings option counts positions n bytes places ps a b h =
-    subst (λ x. HasPostings x positions n bytes (map (λ (p : Posting). p.doc) ps) (map (λ (p : Posting). p.count) ps)) (sym a) (subst (λ x. HasPostings (has_freq option) x n bytes (map (λ (p : Posting). p.doc) ps) (map (λ (p : Posting). p.count) ps)) (sym b) (has_postings option n bytes places ps h))
+abbrev pub told_postings : (option : IndexRecordOption) (counts positions : Bool) (n : ℕ) (bytes places : List ℕ) (ps : List Posting) → counts ≡ has_freq option → positions ≡ has_positions option → HasTerm option n bytes places ps → HasPostings counts positions n bytes (map (λ (p : Posting). p.doc) ps) (map (λ (p : Posting). p.count) ps)
+told_postings option counts positions n bytes places ps a b h = record { option = option; ids = h.ids; postings = h.is.postings_are; many = length-map ps (λ (p : Posting). p.doc) ∙ h.many; counts_are = sym a; positions_are = sym b }
+
+-- ---- what an opened cursor tells beside its entries
+
+-- by as many entries as there are full blocks
+pub entries_told : (option : IndexRecordOption) (ids : List ℕ) (ps : List Posting) → skip_entries option ids (length (map (λ (p : Posting). p.doc) ps) / block_len) 0 (map (λ (p : Posting). p.doc) ps) (map (λ (p : Posting). p.count) ps) ≡ entries_of_postings option ids ps
+entries_told option ids ps = ap (λ n. skip_entries option ids (n / block_len) 0 (map (λ (p : Posting). p.doc) ps) (map (λ (p : Posting). p.count) ps)) (length-map ps (λ (p : Posting). p.doc))
+
+-- its documents are those of the segment
+pub docs_within : (recorded : Bool) (n : ℕ) (ps : List Posting) → AllByRecursion (IsPosting recorded n) ps → AllByRecursion (λ doc. doc < n) (map (λ (p : Posting). p.doc) ps)
+docs_within recorded n [] all = tt
+docs_within recorded n (p ∷ ps) all = (all.0.within, docs_within recorded n ps all.1)
+
+pub entries_within : (asked : IndexRecordOption) (recorded : Bool) (n : ℕ) (ps : List Posting) → AllByRecursion (IsPosting recorded n) ps → AllByRecursion (λ (e : Entry). e.doc < n) (map (entry_as asked) ps)
+entries_within asked recorded n [] all = tt
+entries_within asked recorded n (p ∷ ps) all = (all.0.within, entries_within asked recorded n ps all.1)
+
+-- positions as they are put, as many as there are
+many_differences : (before : ℕ) (ns : List ℕ) → length (differences before ns) ≡ length ns
+many_differences before [] = refl
+many_differences before (n ∷ ns) = ap suc (many_differences n ns)
+
+many_numbers : (ps : List Posting) → length (position_numbers (lists_in ps)) ≡ sum_by (λ (p : Posting). length p.positions) ps
+many_numbers [] = refl
+many_numbers (p ∷ ps) =
+    let rest = many_numbers ps in
+    let here = many_differences 0 p.positions in
+    let both = length-append (differences 0 p.positions) (position_numbers (lists_in ps)) in
+    let all = sum_by-cons (λ (q : Posting). length q.positions) p ps in
+    omega (arith, rest, here, both, all)
+
+pub all_positions : (asked : IndexRecordOption) (ps : List Posting) → has_positions asked ≡ true → length (position_numbers (map (λ (p : Posting). p.positions) ps)) ≡ positions_asked asked ps
+all_positions asked ps reads = many_numbers ps ∙ ap (λ b. sum_by (λ (p : Posting). length (cond b p.positions [])) ps) (sym reads)
+
+pub none_asked : (option asked : IndexRecordOption) (n : ℕ) (postings positions : List ℕ) (ps : List Posting) → (has_positions option && has_positions asked) ≡ false → HasTerm option n postings positions ps → 0 ≡ positions_asked asked ps
+none_asked option asked n postings positions ps none h = go ps (no_positions (has_positions option) (has_positions asked) h.num_docs ps none h.is.each)
+  where
+    go : (qs : List Posting) → AllByRecursion (λ (p : Posting). cond (has_positions asked) p.positions [] ≡ []) qs → 0 ≡ sum_by (λ (p : Posting). length (cond (has_positions asked) p.positions [])) qs
+    go [] all = refl
+    go (q ∷ qs) all =
+        let here = ap length all.0 in
+        let rest = go qs all.1 in
+        let both = sum_by-cons (λ (p : Posting). length (cond (has_positions asked) p.positions [])) q qs in
+        omega (arith, here, rest, both)

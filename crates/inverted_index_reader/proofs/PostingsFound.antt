@@ -1,5 +1,5 @@
 -- The postings of a term, where its info tells of them.
-use Rattle.std.proofs.Common.{[], Bool, List, None, Option, Some, ap, arith, bytes_eq, cond, false, find, length, map, option_map, refl, subst, sym, true, ◌==◌, ◌≡◌, ◌≤◌, ◌∙◌, ◌∷◌, ℕ}
+use Rattle.std.proofs.Common.{[], Bool, List, None, Option, Some, ap, ap₂, arith, bytes_eq, cond, false, find, length, map, option_map, refl, subst, sym, true, ◌==◌, ◌≡◌, ◌≤◌, ◌∙◌, ◌∷◌, ℕ}
 use Rattle.std.proofs.Math.Logic.{∥∥₁_elim}
 use Rattle.std.proofs.Props.{props}
 use Rattle.std.proofs.lemmas.Bool.Decides.{nat_tests}
@@ -8,17 +8,25 @@ use Rattle.std.specs.List.{AllByRecursion}
 use Rattle.std.specs.Option.{option_map_or}
 use Rattle.std.specs.Prelude.{slice_range}
 use Rattle.checked_postings.specs.Placed.{term_of}
+use Rattle.definitions.specs.Analyzers.{Analyzer}
+use Rattle.definitions.specs.Postings.{postings}
 use Rattle.definitions.specs.Schema.{IndexRecordOption, Schema}
+use Rattle.definitions.specs.Terms.{field_of, payload_of}
+use Rattle.definitions.specs.Values.{Document}
 use Rattle.layouts.specs.InvertedIndexes.{IndexedField, IndexedTerm, IsField, IsTerm, field_ids, option_of_term, term_of_key}
+use Rattle.layouts.specs.SkipEntries.{SkipEntry}
+use Rattle.layouts.specs.TermPostings.{bound_in}
 use Rattle.inverted_index_reader.proofs.DictionariesPlaced.{is_dictionary, term_found}
+use Rattle.inverted_index_reader.proofs.DocumentIds.{bounds_are}
+use Rattle.inverted_index_reader.proofs.GivenPostings.{given_held}
 use Rattle.inverted_index_reader.proofs.KindsKnown.{IsKind, kinds_known, same_option}
 use Rattle.inverted_index_reader.proofs.ReaderCalls.{dictionary_is}
 use Rattle.inverted_index_reader.proofs.TermsHeld.{all_of_told, found_all}
 use Rattle.inverted_index_reader.specs.Dictionaries.{Placed, terms_at}
 use Rattle.inverted_index_reader.specs.FieldDictionaries.{EndsBy, IsFound, StandsAt, terms_in}
 use Rattle.inverted_index_reader.specs.FieldKinds.{option_in}
-use Rattle.inverted_index_reader.specs.OpenedTerms.{HasTerm}
-use Rattle.inverted_index_reader.specs.Readers.{Contents, IsInfo, Reader, dictionary_in, index_in, info_in, postings_in, term_in}
+use Rattle.inverted_index_reader.specs.OpenedTerms.{HasTerm, entries_of_postings}
+use Rattle.inverted_index_reader.specs.Readers.{AreOfDocuments, Contents, IsInfo, Reader, dictionary_in, full_bounds, index_in, info_in, postings_held, postings_in, term_held, term_in}
 use Rattle.inverted_index_reader.specs.declared.field_index.FieldIndex.{FieldIndex}
 use Rattle.inverted_index_reader.specs.declared.term_info.TermInfo.{TermInfo}
 use Rattle.inverted_index_reader.specs.declared.term_start.TermStart.{TermStart}
@@ -111,16 +119,40 @@ index_there r field key info None found is =
     let none : ◌≡◌ {A = Option TermInfo} None (Some info) = sym (ap (λ (o : Option FieldIndex). info_in key (option_map_or (λ i. terms_at r.sections.terms i.starts.items) o [])) found) ∙ is in
     absurd cc
 
--- a term, with its bytes as they are lent
-pub has_term : (r : Reader) (field : ℕ) (key : List ℕ) (info : TermInfo) (contents : Contents r) (option : IndexRecordOption) (postings positions : List ℕ) → info_in key (dictionary_in r field) ≡ Some info → ((i : FieldIndex) → index_in field r.indexes ≡ Some i → option ≡ option_in i.kind key) → postings ≡ slice_range r.sections.postings info.postings_range.start info.postings_range.end → positions ≡ slice_range r.sections.positions info.positions_range.start info.positions_range.end → HasTerm option info.doc_freq postings positions (postings_in contents.fields field key)
-has_term r field key info contents option postings positions is recorded first second =
-    let t = term_is r field key info contents is in
+-- what is recorded of a term
+pub option_told : (r : Reader) (field : ℕ) (key : List ℕ) (info : TermInfo) (contents : Contents r) (option : IndexRecordOption) → info_in key (dictionary_in r field) ≡ Some info → ((i : FieldIndex) → index_in field r.indexes ≡ Some i → option ≡ option_in i.kind key) → option ≡ option_of_term contents.schema (term_of_key contents.schema field key)
+option_told r field key info contents option is recorded =
     let index = index_there r field key info (index_in field r.indexes) refl is in
-    let same : option ≡ option_of_term contents.schema (term_of_key contents.schema field key) = recorded index.0 index.1 ∙ option_is r field key contents index.0 index.1 in
+    recorded index.0 index.1 ∙ option_is r field key contents index.0 index.1
+
+-- a term, with its bytes as they are lent
+pub told_term : (r : Reader) (field : ℕ) (key : List ℕ) (info : TermInfo) (contents : Contents r) (option : IndexRecordOption) (postings positions : List ℕ) → info_in key (dictionary_in r field) ≡ Some info → ((i : FieldIndex) → index_in field r.indexes ≡ Some i → option ≡ option_in i.kind key) → postings ≡ slice_range r.sections.postings info.postings_range.start info.postings_range.end → positions ≡ slice_range r.sections.positions info.positions_range.start info.positions_range.end → IsTerm option contents.num_docs (field_ids contents.norms field) (term_of (postings_in contents.fields field key) postings positions) × (length (postings_in contents.fields field key) ≡ info.doc_freq)
+told_term r field key info contents option postings positions is recorded first second =
+    let t = term_is r field key info contents is in
+    let same = option_told r field key info contents option is recorded in
     let ps : postings_in contents.fields field key ≡ t.term.postings = ap (λ (o : Option IndexedTerm). option_map_or (λ x. x.postings) o []) t.found in
     let here = t.is in
     let own : IsTerm (option_of_term contents.schema (term_of_key contents.schema field key)) contents.num_docs (field_ids contents.norms field) (term_of t.term.postings t.term.postings_bytes t.term.positions_bytes) = record { some = here.some; each = here.each; postings_are = here.postings_are; positions_are = here.positions_are } in
     let bytes = sym t.stands.postings ∙ sym first in
     let places = sym t.stands.positions ∙ sym second in
     let lent : IsTerm option contents.num_docs (field_ids contents.norms field) (term_of (postings_in contents.fields field key) postings positions) = subst (λ o. IsTerm o contents.num_docs (field_ids contents.norms field) (term_of (postings_in contents.fields field key) postings positions)) (sym same) (subst (λ xs. IsTerm (option_of_term contents.schema (term_of_key contents.schema field key)) contents.num_docs (field_ids contents.norms field) (term_of xs postings positions)) (sym ps) (subst (λ b. IsTerm (option_of_term contents.schema (term_of_key contents.schema field key)) contents.num_docs (field_ids contents.norms field) (term_of t.term.postings postings b)) places (subst (λ b. IsTerm (option_of_term contents.schema (term_of_key contents.schema field key)) contents.num_docs (field_ids contents.norms field) (term_of t.term.postings b t.term.positions_bytes)) bytes own))) in
-    record { num_docs = contents.num_docs; ids = field_ids contents.norms field; is = lent; many = ap length ps ∙ sym t.stands.docs }
+    (lent, ap length ps ∙ sym t.stands.docs)
+
+abbrev pub has_term : (r : Reader) (field : ℕ) (key : List ℕ) (info : TermInfo) (contents : Contents r) (option : IndexRecordOption) (postings positions : List ℕ) → info_in key (dictionary_in r field) ≡ Some info → ((i : FieldIndex) → index_in field r.indexes ≡ Some i → option ≡ option_in i.kind key) → postings ≡ slice_range r.sections.postings info.postings_range.start info.postings_range.end → positions ≡ slice_range r.sections.positions info.positions_range.start info.positions_range.end → HasTerm option info.doc_freq postings positions (postings_in contents.fields field key)
+has_term r field key info contents option postings positions is recorded first second = let t = told_term r field key info contents option postings positions is recorded first second in record { num_docs = contents.num_docs; ids = field_ids contents.norms field; is = t.0; many = t.1 }
+
+-- ---- a term that was looked up
+
+-- its skip entries, by its bytes
+pub entries_held : (r : Reader) (contents : Contents r) (t : List ℕ) (field : ℕ) (key : List ℕ) (entries : List SkipEntry) → field ≡ field_of t → key ≡ payload_of t → term_of_key contents.schema (field_of t) (payload_of t) ≡ t → term_held contents.schema contents.fields t ≡ term_in contents.fields (field_of t) (payload_of t) → entries ≡ entries_of_postings (option_of_term contents.schema (term_of_key contents.schema field key)) (field_ids contents.norms field) (postings_in contents.fields field key) → entries ≡ entries_of_postings (option_of_term contents.schema t) (field_ids contents.norms (field_of t)) (postings_held contents.schema contents.fields t)
+entries_held r contents t field key entries number value whole same is =
+    is
+    ∙ ap₂ (λ n k. entries_of_postings (option_of_term contents.schema (term_of_key contents.schema n k)) (field_ids contents.norms n) (postings_in contents.fields n k)) number value
+    ∙ ap (λ u. entries_of_postings (option_of_term contents.schema u) (field_ids contents.norms (field_of t)) (postings_in contents.fields (field_of t) (payload_of t))) whole
+    ∙ ap (λ (o : Option IndexedTerm). entries_of_postings (option_of_term contents.schema t) (field_ids contents.norms (field_of t)) (option_map_or (λ x. x.postings) o [])) (sym same)
+
+-- and the bounds that they tell, where the terms are those of documents
+pub bounds_held : (r : Reader) (contents : Contents r) (t : List ℕ) (entries : List SkipEntry) (analyze : Analyzer) (docs : List Document) → AreOfDocuments r contents analyze docs → entries ≡ entries_of_postings (option_of_term contents.schema t) (field_ids contents.norms (field_of t)) (postings_held contents.schema contents.fields t) → map bound_in entries ≡ full_bounds contents.schema analyze t docs
+bounds_held r contents t entries analyze docs are is =
+    ap (map bound_in) is
+    ∙ bounds_are contents.schema analyze (option_of_term contents.schema t) t docs contents.norms (postings_held contents.schema contents.fields t) are.norms_are (given_held (λ u. postings contents.schema analyze u docs) contents.schema contents.fields t are.indexed)

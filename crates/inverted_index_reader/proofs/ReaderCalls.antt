@@ -6,12 +6,12 @@ use Rattle.std.specs.Option.{option_map_or}
 use Rattle.definitions.specs.Schema.{Kind}
 use Rattle.definitions.specs.Terms.{field_of, payload_of, term_bytes, type_code}
 use Rattle.layouts.specs.Deltas.{IsAscendingFrom}
-use Rattle.layouts.specs.InvertedIndexes.{IndexedField, field_terms, num_tokens}
+use Rattle.layouts.specs.InvertedIndexes.{IndexedField, field_terms, num_tokens, term_of_key}
 use Rattle.terms.proofs.TermParts.{code_same, same_code}
 use Rattle.terms.specs.Kinds.{kind_of}
 use Rattle.inverted_index_reader.proofs.DictionariesPlaced.{dictionary_found, is_dictionary, term_found}
 use Rattle.inverted_index_reader.proofs.KindsKnown.{fields_ascend}
-use Rattle.inverted_index_reader.proofs.TermsHeld.{none_held, same_held, same_numbers, some_same}
+use Rattle.inverted_index_reader.proofs.TermsHeld.{none_held, own_bytes, same_held, same_numbers, some_same}
 use Rattle.inverted_index_reader.specs.Dictionaries.{IsDictionary, Placed, terms_at}
 use Rattle.inverted_index_reader.specs.FieldDictionaries.{IsFound, dictionary_of}
 use Rattle.inverted_index_reader.specs.Readers.{Contents, HasKind, Reader, dictionary_in, index_in, info_in, term_held, term_in, tokens_held}
@@ -112,3 +112,6 @@ none_found r t kind contents whole small none = subst (IsFound r.sections None) 
 
 pub same_term : (r : Reader) (t : List ℕ) (kind : Kind) (contents : Contents r) → t ≡ term_bytes (field_of t) kind (payload_of t) → field_of t < 2 ^ 32 → HasKind r (field_of t) kind → term_held contents.schema contents.fields t ≡ term_in contents.fields (field_of t) (payload_of t)
 same_term r t kind contents whole small has = same_held contents.schema contents.num_docs contents.norms contents.fields r t kind contents.is whole small has
+
+pub whole_term : (r : Reader) (t : List ℕ) (kind : Kind) (contents : Contents r) → t ≡ term_bytes (field_of t) kind (payload_of t) → HasKind r (field_of t) kind → term_of_key contents.schema (field_of t) (payload_of t) ≡ t
+whole_term r t kind contents whole has = own_bytes contents.schema contents.num_docs contents.norms contents.fields r t kind contents.is whole has

@@ -220,3 +220,13 @@ same_held schema n norms fields r t kind reader whole small has =
     let number : has.index.kind.field ≡ field_of t = (let test = found.1 in grind (arith, nat_tests, test)) in
     let tell = all_tell schema (field_of t) found.0.entry kind (payload_of t) fields small (ap (slice_get schema) (sym number) ∙ found.0.there) (sym found.0.kind_is ∙ has.kind_is) known.kept in
     ap (λ x. term_held schema fields x) whole ∙ rows_same schema (term_bytes (field_of t) kind (payload_of t)) (payload_of t) (field_of t) 0 fields known.rise tell
+
+-- and its bytes are that value behind the field's
+pub own_bytes : (schema : Schema) (n : ℕ) (norms : List (ℕ × List ℕ)) (fields : List IndexedField) (r : Reader) (t : List ℕ) (kind : Kind) → IsReader schema n norms fields r → t ≡ term_bytes (field_of t) kind (payload_of t) → HasKind r (field_of t) kind → term_of_key schema (field_of t) (payload_of t) ≡ t
+own_bytes schema n norms fields r t kind reader whole has =
+    let known = knows schema n norms fields r reader in
+    let found = found_all (λ (j : FieldIndex). IsKind schema j.kind) (λ (j : FieldIndex). j.kind.field == field_of t) r.indexes has.index known.kinds has.found in
+    let number : has.index.kind.field ≡ field_of t = (let test = found.1 in grind (arith, nat_tests, test)) in
+    term_there schema (field_of t) found.0.entry (payload_of t) (ap (slice_get schema) (sym number) ∙ found.0.there)
+    ∙ ap (λ k. term_bytes (field_of t) k (payload_of t)) (sym found.0.kind_is ∙ has.kind_is)
+    ∙ sym whole

@@ -1,9 +1,13 @@
 -- What a reader of an inverted index stands for.
-use Rattle.std.specs.Prelude.{[], ◌<◌, ◌==◌, ◌^◌, ◌≡◌, ◌≤◌, List, Option, Some, bytes_eq, find, flat_map, length, map, option_map, ℕ}
+use Rattle.std.specs.Prelude.{[], ◌/◌, ◌<◌, ◌==◌, ◌^◌, ◌≡◌, ◌≤◌, List, Option, Some, bytes_eq, find, flat_map, length, map, option_map, take, ℕ}
 use Rattle.std.specs.Option.{option_map_or}
-use Rattle.definitions.specs.Postings.{Posting, terminated}
+use Rattle.definitions.specs.Analyzers.{Analyzer}
+use Rattle.definitions.specs.Blocks.{block_len, blocks, bound_of}
+use Rattle.definitions.specs.KeptLengths.{norms_of}
+use Rattle.definitions.specs.Postings.{Posting, postings, terminated}
 use Rattle.definitions.specs.Schema.{Kind, Schema, max_fields}
-use Rattle.layouts.specs.InvertedIndexes.{AreSections, IndexedField, IndexedTerm, field_terms, num_tokens, term_of_key}
+use Rattle.definitions.specs.Values.{Document}
+use Rattle.layouts.specs.InvertedIndexes.{AreIndexed, AreSections, IndexedField, IndexedTerm, field_terms, num_tokens, term_of_key}
 use Rattle.terms.specs.Kinds.{kind_of}
 use Rattle.inverted_index_reader.specs.CheckedTerms.{Sections}
 use Rattle.inverted_index_reader.specs.Dictionaries.{Placed}
@@ -37,6 +41,15 @@ pub record Contents (r : Reader) : Type 0 where
   pub norms : List (ℕ × List ℕ)
   pub fields : List IndexedField
   pub is : IsReader schema num_docs norms fields r
+
+-- these are the terms of documents, with the lengths that the documents have
+pub record AreOfDocuments (r : Reader) (contents : Contents r) (analyze : Analyzer) (docs : List Document) : Type 0 where
+  pub norms_are : contents.norms ≡ norms_of contents.schema analyze docs
+  pub indexed : AreIndexed contents.schema analyze docs contents.fields
+
+-- the bounds of the full blocks of a term in documents
+abbrev pub full_bounds : Schema → Analyzer → List ℕ → List Document → List (Option (ℕ × ℕ))
+full_bounds schema analyze t docs = map bound_of (take (length (postings schema analyze t docs) / block_len) (blocks schema analyze t docs))
 
 -- ---- look-ups
 

@@ -1,20 +1,23 @@
 //! An inverted index, read from its sections.
 
-ghost use Rattle.std.specs.Prelude.{[], ◌↔◌, ◌∷◌, ◌≡◌, ◌≢◌, ◌≤◌, IfErr, IfNone, IfOk, IfSome, IsTrue, List, None, Some, if◌then◌else◌, length, map, option_map, slice_range};
+ghost use Rattle.std.specs.Prelude.{[], ◌↔◌, ◌<◌, ◌∷◌, ◌≡◌, ◌≢◌, ◌≤◌, IfErr, IfNone, IfOk, IfSome, IsTrue, List, None, Some, if◌then◌else◌, length, map, option_map, slice_range};
 ghost use Rattle.std.specs.List.{AllByRecursion};
+ghost use Rattle.definitions.specs.Analyzers.{Analyzer};
 ghost use Rattle.definitions.specs.Postings.{terminated};
 ghost use Rattle.definitions.specs.Schema.{has_freq};
 ghost use Rattle.definitions.specs.Terms.{field_of, payload_of};
+ghost use Rattle.definitions.specs.Values.{Document};
 ghost use Rattle.definitions.specs.declared.fault.Fault.TheVariants as faults;
 ghost use Rattle.inverted_index_reader.specs.FieldDictionaries.{IsFound, dictionary_of};
 ghost use Rattle.inverted_index_reader.specs.FieldKinds.{option_in};
-ghost use Rattle.inverted_index_reader.specs.OpenedTerms.{entry_as};
-ghost use Rattle.inverted_index_reader.specs.Readers.{Contents, HasKind, IsInfo, IsReader, dictionary_in, index_in, info_in, postings_held, postings_in, term_held, term_in, tokens_held};
+ghost use Rattle.inverted_index_reader.specs.OpenedTerms.{entries_of_postings, entry_as, positions_asked};
+ghost use Rattle.inverted_index_reader.specs.Readers.{AreOfDocuments, Contents, HasKind, IsInfo, IsReader, dictionary_in, full_bounds, index_in, info_in, postings_held, postings_in, term_held, term_in, tokens_held};
 ghost use Rattle.inverted_index_reader.specs.Searching.{between};
 ghost use Rattle.inverted_index_reader.specs.declared.field_index.FieldIndex.{FieldIndex};
-ghost use Rattle.layouts.specs.InvertedIndexes.{AreSections, IndexedField};
+ghost use Rattle.layouts.specs.InvertedIndexes.{AreSections, IndexedField, field_ids, option_of_term, term_of_key};
+ghost use Rattle.layouts.specs.TermPostings.{bound_in};
 ghost use Rattle.options.specs.RecordOption.{record_option_of};
-ghost use Rattle.segment_postings.specs.Cursors.{blocks_decoded, counts_left, cursor_blocks_decoded, cursor_doc_freq, docs_left, entries_left};
+ghost use Rattle.segment_postings.specs.Cursors.{blocks_decoded, counts_left, cursor_blocks, cursor_blocks_decoded, cursor_doc_freq, cursor_place, cursor_positions, doc_freq_of, docs_left, entries_left, skips_left};
 ghost use Rattle.terms.specs.Kinds.{kind_of};
 
 use crate::field_index::FieldIndex;
@@ -145,6 +148,8 @@ impl InvertedIndexReader {
         ensures own { IfSome result (λ info. info_in (payload_of term.now) (dictionary_in self.now (field_of term.now)) ≡ Some info) }
         ensures same { (contents : Contents self.now) → IfSome result (λ info. term_held contents.schema contents.fields term.now ≡ term_in contents.fields (field_of term.now) (payload_of term.now)) }
         ensures ok { (contents : Contents self.now) → IsFound self.now.sections result (term_held contents.schema contents.fields term.now) }
+        ensures whole { (contents : Contents self.now)
+            → IfSome result (λ info. term_of_key contents.schema (field_of term.now) (payload_of term.now) ≡ term.now) }
     {
         if !self.has_type(term.field(), term.typ()) {
             return None;
@@ -210,6 +215,18 @@ impl InvertedIndexReader {
         ensures ok { (contents : Contents self.now) → entries_left result ≡ map (entry_as (record_option_of option)) (postings_in contents.fields field value_bytes.now) }
         ensures decoded { cursor_blocks_decoded result ≡ 1 }
         ensures doc_freq { cursor_doc_freq result ≡ term_info.now.doc_freq }
+        ensures within { (contents : Contents self.now)
+            → AllByRecursion (λ e. e.doc < contents.num_docs) (entries_left result) }
+        ensures skips { (contents : Contents self.now)
+            → skips_left (cursor_blocks result)
+            ≡ entries_of_postings
+            (option_of_term contents.schema (term_of_key contents.schema field value_bytes.now))
+            (field_ids contents.norms field)
+            (postings_in contents.fields field value_bytes.now) }
+        ensures place { cursor_place result ≡ 0 }
+        ensures positions { (contents : Contents self.now)
+            → cursor_positions result
+            ≡ positions_asked (record_option_of option) (postings_in contents.fields field value_bytes.now) }
     {
         let recorded = self.option_of(field, value_bytes);
         let (postings, positions) = self.bytes_of(term_info);
@@ -225,6 +242,24 @@ impl InvertedIndexReader {
         ensures some { (contents : Contents self.now) → IfSome result (λ p. entries_left p ≡ map (entry_as (record_option_of option)) (postings_held contents.schema contents.fields term.now)) }
         ensures none { (contents : Contents self.now) → IfNone result (postings_held contents.schema contents.fields term.now ≡ []) }
         ensures decoded { IfSome result (λ p. cursor_blocks_decoded p ≡ 1) }
+        ensures within { (contents : Contents self.now)
+            → IfSome result (λ p. AllByRecursion (λ e. e.doc < contents.num_docs) (entries_left p)) }
+        ensures doc_freq { (contents : Contents self.now)
+            → IfSome result (λ p. cursor_doc_freq p ≡ length (postings_held contents.schema contents.fields term.now)) }
+        ensures skips { (contents : Contents self.now)
+            → IfSome result (λ p. skips_left (cursor_blocks p)
+            ≡ entries_of_postings
+            (option_of_term contents.schema term.now)
+            (field_ids contents.norms (field_of term.now))
+            (postings_held contents.schema contents.fields term.now)) }
+        ensures bounds { (contents : Contents self.now) (analyze : Analyzer) (docs : List Document)
+            → AreOfDocuments self.now contents analyze docs
+            → IfSome result (λ p. map bound_in (skips_left (cursor_blocks p))
+            ≡ full_bounds contents.schema analyze term.now docs) }
+        ensures place { IfSome result (λ p. cursor_place p ≡ 0) }
+        ensures positions { (contents : Contents self.now)
+            → IfSome result (λ p. cursor_positions p
+            ≡ positions_asked (record_option_of option) (postings_held contents.schema contents.fields term.now)) }
     {
         let term_info = self.get_term_info(term)?;
         let value_bytes = term.serialized_value_bytes();
@@ -243,6 +278,15 @@ impl InvertedIndexReader {
         ensures docs { (contents : Contents self.now) → docs_left result ≡ map (λ x. x.doc) (postings_in contents.fields field value_bytes.now) }
         ensures counts { (contents : Contents self.now) → counts_left result ≡ map (λ x. if has_freq (record_option_of option) then x.count else 1) (postings_in contents.fields field value_bytes.now) }
         ensures decoded { blocks_decoded result ≡ 1 }
+        ensures doc_freq { doc_freq_of result ≡ term_info.now.doc_freq }
+        ensures within { (contents : Contents self.now)
+            → AllByRecursion (λ doc. doc < contents.num_docs) (docs_left result) }
+        ensures skips { (contents : Contents self.now)
+            → skips_left result
+            ≡ entries_of_postings
+            (option_of_term contents.schema (term_of_key contents.schema field value_bytes.now))
+            (field_ids contents.norms field)
+            (postings_in contents.fields field value_bytes.now) }
     {
         let recorded = self.option_of(field, value_bytes);
         let (postings, _) = self.bytes_of(term_info);
@@ -259,6 +303,20 @@ impl InvertedIndexReader {
         ensures counts { (contents : Contents self.now) → IfSome result (λ p. counts_left p ≡ map (λ x. if has_freq (record_option_of option) then x.count else 1) (postings_held contents.schema contents.fields term.now)) }
         ensures none { (contents : Contents self.now) → IfNone result (postings_held contents.schema contents.fields term.now ≡ []) }
         ensures decoded { IfSome result (λ p. blocks_decoded p ≡ 1) }
+        ensures within { (contents : Contents self.now)
+            → IfSome result (λ p. AllByRecursion (λ doc. doc < contents.num_docs) (docs_left p)) }
+        ensures doc_freq { (contents : Contents self.now)
+            → IfSome result (λ p. doc_freq_of p ≡ length (postings_held contents.schema contents.fields term.now)) }
+        ensures skips { (contents : Contents self.now)
+            → IfSome result (λ p. skips_left p
+            ≡ entries_of_postings
+            (option_of_term contents.schema term.now)
+            (field_ids contents.norms (field_of term.now))
+            (postings_held contents.schema contents.fields term.now)) }
+        ensures bounds { (contents : Contents self.now) (analyze : Analyzer) (docs : List Document)
+            → AreOfDocuments self.now contents analyze docs
+            → IfSome result (λ p. map bound_in (skips_left p)
+            ≡ full_bounds contents.schema analyze term.now docs) }
     {
         let term_info = self.get_term_info(term)?;
         let value_bytes = term.serialized_value_bytes();

@@ -3,9 +3,9 @@
 ghost use Rattle.std.specs.Prelude.{◌&&◌, ◌≡◌, List, if◌then◌else◌, map, ℕ};
 ghost use Rattle.definitions.specs.Postings.{Posting};
 ghost use Rattle.definitions.specs.Schema.{has_freq, has_positions};
-ghost use Rattle.inverted_index_reader.specs.OpenedTerms.{HasTerm, entry_as};
+ghost use Rattle.inverted_index_reader.specs.OpenedTerms.{HasTerm, entries_of_postings, entry_as, positions_asked};
 ghost use Rattle.options.specs.RecordOption.{record_option_of};
-ghost use Rattle.segment_postings.specs.Cursors.{blocks_decoded, counts_left, cursor_blocks_decoded, cursor_doc_freq, doc_freq_of, docs_left, entries_left};
+ghost use Rattle.segment_postings.specs.Cursors.{blocks_decoded, counts_left, cursor_blocks, cursor_blocks_decoded, cursor_doc_freq, cursor_place, cursor_positions, doc_freq_of, docs_left, entries_left, skips_left};
 
 use checked_postings::recorded_of;
 use options::IndexRecordOption;
@@ -38,6 +38,12 @@ pub(crate) fn open_term<'a>(
     ensures entries { (ps : List Posting) → HasTerm (record_option_of option) doc_freq postings.now positions.now ps → entries_left result ≡ map (entry_as (record_option_of asked)) ps }
     ensures decoded { cursor_blocks_decoded result ≡ 1 }
     ensures doc_freq { cursor_doc_freq result ≡ doc_freq }
+    ensures skips { (ps : List Posting)
+        (known : HasTerm (record_option_of option) doc_freq postings.now positions.now ps)
+        → skips_left (cursor_blocks result) ≡ entries_of_postings (record_option_of option) known.ids ps }
+    ensures place { cursor_place result ≡ 0 }
+    ensures positions { (ps : List Posting) → HasTerm (record_option_of option) doc_freq postings.now positions.now ps
+        → cursor_positions result ≡ positions_asked (record_option_of asked) ps }
 {
     let recorded = recorded_of(option);
     if reads_positions(option, asked) {
@@ -59,6 +65,9 @@ pub(crate) fn open_term_blocks<'a>(
     ensures counts { (ps : List Posting) (positions : List ℕ) → HasTerm (record_option_of option) doc_freq postings.now positions ps → counts_left result ≡ map (λ p. if has_freq (record_option_of asked) then p.count else 1) ps }
     ensures decoded { blocks_decoded result ≡ 1 }
     ensures doc_freq { doc_freq_of result ≡ doc_freq }
+    ensures skips { (ps : List Posting) (positions : List ℕ)
+        (known : HasTerm (record_option_of option) doc_freq postings.now positions ps)
+        → skips_left result ≡ entries_of_postings (record_option_of option) known.ids ps }
 {
     let recorded = recorded_of(option);
     let reads_counts = reads_counts(option, asked);

@@ -1,4 +1,4 @@
-use Rattle.std.proofs.Common.{[], ap, cond, false, map, replicate, subst, sym, true, ◌&&◌, ◌≡◌, ◌∙◌}
+use Rattle.std.proofs.Common.{[], ap, cond, false, length, map, replicate, subst, sym, true, ◌&&◌, ◌≡◌, ◌∙◌}
 use Rattle.std.proofs.Math.Logic.{∥∥₁_elim, ∥∥₁_map}
 use Rattle.std.specs.Coded.{Coded-set, coded_ℕ}
 use Rattle.definitions.specs.Postings.{Posting}
@@ -6,7 +6,7 @@ use Rattle.definitions.specs.Schema.{has_positions}
 use Rattle.layouts.specs.Positions.{position_numbers}
 use Rattle.options.specs.RecordOption.{record_option_of}
 use Rattle.segment_postings.specs.TermEntries.{HasPositions, entries_of}
-use Rattle.inverted_index_reader.proofs.OpenedPostings.{entries_as, has_positions_in, one_block, placed_as, reads_all, told_postings}
+use Rattle.inverted_index_reader.proofs.OpenedPostings.{all_positions, entries_as, entries_told, has_positions_in, none_asked, one_block, placed_as, reads_all, told_postings}
 use Rattle.inverted_index_reader.proofs.opened_term.open_term.Goals as goal
 
 pub new-reader-requires : goal.new-reader-requires
@@ -69,3 +69,27 @@ returns-clause-entries c ps known =
 pub returns-clause-decoded : goal.returns-clause-decoded
 returns-clause-decoded c =
     ∥∥₁_elim c.requires (Coded-set coded_ℕ _ _) (λ known. c.new.ensures.decoded ∙ one_block (record_option_of c.args.option) c.args.doc_freq c.args.postings.now c.args.positions.now known.0 known.1)
+
+-- ---- skip entries and positions
+
+pub returns-then-reads_positions-clause-skips : goal.returns-then-reads_positions-clause-skips
+returns-then-reads_positions-clause-skips c ps known = c.with_positions.ensures.skips (map (λ (p : Posting). p.doc) ps) (map (λ (p : Posting). p.count) ps) (told_postings (record_option_of c.args.option) c.recorded_of-recorded.result.counts c.recorded_of-recorded.result.positions c.args.doc_freq c.args.postings.now c.args.positions.now ps c.recorded_of-recorded.ensures.counts c.recorded_of-recorded.ensures.positions known) ∙ entries_told (record_option_of c.args.option) known.ids ps
+
+pub returns-clause-skips : goal.returns-clause-skips
+returns-clause-skips c ps known = c.new.ensures.skips (map (λ (p : Posting). p.doc) ps) (map (λ (p : Posting). p.count) ps) (told_postings (record_option_of c.args.option) c.recorded_of-recorded.result.counts c.recorded_of-recorded.result.positions c.args.doc_freq c.args.postings.now c.args.positions.now ps c.recorded_of-recorded.ensures.counts c.recorded_of-recorded.ensures.positions known) ∙ entries_told (record_option_of c.args.option) known.ids ps
+
+pub returns-then-reads_positions-clause-positions : goal.returns-then-reads_positions-clause-positions
+returns-then-reads_positions-clause-positions c ps known =
+    let option = record_option_of c.args.option in
+    let asked = record_option_of c.args.asked in
+    let both : (has_positions option && has_positions asked) ≡ true = sym c.reads_positions.ensures ∙ c.if-reads_positions.true in
+    let all = reads_all option asked both in
+    let places = has_positions_in option c.args.doc_freq c.args.postings.now c.args.positions.now ps all.1 known in
+    c.with_positions.ensures.positions ∙ ap length (c.new-reader.ensures (position_numbers (map (λ (p : Posting). p.positions) ps)) places.1) ∙ all_positions asked ps all.3
+
+pub returns-clause-positions : goal.returns-clause-positions
+returns-clause-positions c ps known =
+    let option = record_option_of c.args.option in
+    let asked = record_option_of c.args.asked in
+    let none : (has_positions option && has_positions asked) ≡ false = sym c.reads_positions.ensures ∙ c.if-reads_positions.false in
+    c.new.ensures.positions ∙ none_asked option asked c.args.doc_freq c.args.postings.now c.args.positions.now ps none known

@@ -1,6 +1,6 @@
 use Rattle.std.proofs.Common.{ap, arith, subst, sym, true≢false, ◌≡◌, ◌∙◌}
 use Rattle.definitions.specs.Terms.{field_of, payload_of}
-use Rattle.inverted_index_reader.proofs.ReaderCalls.{for_some, info_of_held, none_found, own_info, same_term}
+use Rattle.inverted_index_reader.proofs.ReaderCalls.{for_some, info_of_held, none_found, own_info, same_term, whole_term}
 use Rattle.inverted_index_reader.specs.Readers.{HasKind, dictionary_in, info_in}
 use Rattle.terms.specs.Kinds.{kind_of}
 use Rattle.inverted_index_reader.proofs.inverted_index_reader.InvertedIndexReader.get_term_info.Goals.{After-get}
@@ -35,3 +35,6 @@ returns-clause-ok c contents =
     let same = c.field.ensures in
     let fits = c.field.type_inv in
     info_of_held c.args.self.now c.args.term.now (kind_of c.typ.result) contents c.get.result c.typ.ensures.parts (omega (arith, same, fits)) (has c) (got c)
+
+pub returns-clause-whole : goal.returns-clause-whole
+returns-clause-whole c contents = for_some c.get.result (whole_term c.args.self.now c.args.term.now (kind_of c.typ.result) contents c.typ.ensures.parts (has (goal.at.returns-clause-whole c).After-get))
