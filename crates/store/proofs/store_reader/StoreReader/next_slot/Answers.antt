@@ -70,7 +70,8 @@ pub returns-in_err-block-in-Some-clause-missed : goal.returns-in_err-block-in-So
 returns-in_err-block-in-Some-clause-missed c =
     let f : Fields c.args.self.now c.self.inside.whole c.self.inside.index c.self.inside.cache (stand c.self.inside.current) = record { is = c.self.view_is; holds = c.self.invariant.0 } in
     let at = found c.args.self.now c.self.inside.whole c.self.inside.index c.self.inside.cache c.args.doc c.in-Some.at c.in-Some.reach.now f c.in-Some.ensures.some in
-    refused_at c.in-Some.at _ _ _ _ _ _ c.in_err-block-in-Some.ensures.missed at.number (ap (λ (r : Reader). r.current) c.self.view_is) (ap (λ (r : Reader). r.kept) c.self.view_is)
+    let p = err_from_is_err_and c.from_residual.result c.from_residual.ensures.1 in
+    rw p.1 (refused_at c.in-Some.at _ _ _ _ _ _ c.in_err-block-in-Some.ensures.missed at.number (ap (λ (r : Reader). r.current) c.self.view_is) (ap (λ (r : Reader). r.kept) c.self.view_is))
 
 pub slot_of-requires-clause-block : goal.slot_of-requires-clause-block
 slot_of-requires-clause-block c =
