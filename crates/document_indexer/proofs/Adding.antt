@@ -14,7 +14,7 @@ use Rattle.definitions.specs.declared.fault.Fault.{Fault}
 use Rattle.postings_writer.specs.Occurrences.{Occurrence, by_document, last_count, places_of}
 use Rattle.document_indexer.specs.Contexts.{AreBefore, Context, HasStarts, Holds, IsRefusal, Positions, Records, Refuses}
 use Rattle.document_indexer.specs.Indexed.{AreCounted, HasRecorded, IsAddRefusal, doc_places, places_in}
-use Rattle.document_indexer.specs.Runs.{no_starts, occurrence_at, occurrences_at, run_terms}
+use Rattle.document_indexer.specs.Runs.{AreStepsWithin, no_starts, occurrence_at, occurrences_at, run_terms}
 use Rattle.document_indexer.specs.Steps.{steps_of}
 use Rattle.document_indexer.proofs.DocRuns.{doc_run}
 use Rattle.document_indexer.proofs.Grouping.{last_count_below, one_more, placed, places_from}
@@ -93,6 +93,9 @@ module _ (schema : Schema) (analyze : Analyzer) (was now : Context) (docs : List
     count = (let same = r.doc in let count = h.count in let more = length-more in omega arith);
     before = (let P : ℕ → Type 0 = λ n. AreBefore (n + 1) now.positions in subst P (sym r.doc) (r.before (before_next was.doc was.positions h.before)));
   }
+
+  pub document_within : Records was now (steps_of schema analyze doc) → AreStepsWithin no_starts (steps_of schema analyze doc)
+  document_within r = r.within h.written.os no_starts begun
 
   -- ---- it is refused
 

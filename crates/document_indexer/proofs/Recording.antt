@@ -12,7 +12,7 @@ use Rattle.definitions.specs.Values.{Token}
 use Rattle.definitions.specs.declared.fault.Fault.{Fault}
 use Rattle.postings_writer.specs.Occurrences.{Occurrence, by_document, last_count, places_of}
 use Rattle.postings_writer.specs.Recorders.{IsCountRefusal}
-use Rattle.postings_writer.specs.Texts.{IsTextRefusal, text_occurrences}
+use Rattle.postings_writer.specs.Texts.{AreWithin, IsTextRefusal, text_occurrences}
 use Rattle.postings_writer.specs.Writers.{IsIndexedTerm, Stands, Writer}
 use Rattle.postings_writer.proofs.Standing.{places_of-push}
 use Rattle.document_indexer.specs.Contexts.{AreBefore, CanIndex, Context, HasStarts, Holds, IsIndexedField, IsReady, IsRefusal, Positions, Records, Refuses, context, start_of}
@@ -41,6 +41,10 @@ within_next : (starts : Starts) (xs ys : List Step) → AreStepsWithin starts (x
 within_next starts [] ys all = all
 within_next starts (x ∷ xs) ys all = within_next (next_starts starts x) xs ys all.1
 
+within_both : (starts : Starts) (xs ys : List Step) → AreStepsWithin starts xs → AreStepsWithin (starts_after starts xs) ys → AreStepsWithin starts (xs ++ ys)
+within_both starts [] ys first rest = rest
+within_both starts (x ∷ xs) ys first rest = (first.0, within_both (next_starts starts x) xs ys first.1 rest)
+
 -- the occurrences of steps behind others
 joined : (doc : ℕ) (os : List Occurrence) (ps qs : List Placed) → (os ++ occurrences_at doc ps) ++ occurrences_at doc qs ≡ os ++ occurrences_at doc (ps ++ qs)
 joined doc os ps qs = append_assoc os (occurrences_at doc ps) (occurrences_at doc qs) ∙ ap (λ more. os ++ more) (sym (map-append (occurrence_at doc) ps qs))
@@ -49,6 +53,7 @@ joined doc os ps qs = append_assoc os (occurrences_at doc ps) (occurrences_at do
 pub records_none : (c : Context) → IsReady c → Records c c []
 records_none c ready = record {
   holds = λ os starts h. record { stands = subst (Stands c.writer) (sym (append_nil os)) h.stands; starts_are = h.starts_are };
+  within = λ os starts h. tt;
   schema = refl;
   doc = refl;
   next = ready.next;
@@ -64,6 +69,7 @@ records_more a b c xs ys r s = record {
       let Q : List Occurrence → Type 0 = λ os. Holds c os (starts_after (starts_after starts xs) ys) in
       let R : Starts → Type 0 = λ st. Holds c (os ++ occurrences_at a.doc (run_terms starts (xs ++ ys))) st in
       subst R (sym (after-append starts xs ys)) (subst Q (joined a.doc os (run_terms starts xs) (run_terms (starts_after starts xs) ys) ∙ ap (λ ps. os ++ occurrences_at a.doc ps) (sym (run-append starts xs ys))) (subst P r.doc more));
+  within = λ os starts h. within_both starts xs ys (r.within os starts h) (s.within (os ++ occurrences_at a.doc (run_terms starts xs)) (starts_after starts xs) (r.holds os starts h));
   schema = s.schema ∙ r.schema;
   doc = s.doc ∙ r.doc;
   next = (let same = r.doc in let below = s.next in omega arith);
@@ -140,6 +146,7 @@ refused_next a b xs ys fault r refused os starts h =
 pub term_recorded : {A E : Type 0} (result : Result A E) (w new : Writer) (positions : Positions) (doc : ℕ) (t : List ℕ) → ((os : List Occurrence) → Stands w os → OnOk result (Stands new (os ++ record { doc = doc; term = t; position = 0 } ∷ []))) → OnOk result ((new.schema ≡ w.schema) × (new.num_docs ≡ doc + 1)) → OnOk result (Records (context w positions doc) (context new positions doc) (term_step t ∷ []))
 term_recorded (Ok x) w new positions doc t ok same = record {
   holds = λ os starts h. record { stands = ok os h.stands; starts_are = h.starts_are };
+  within = λ os starts h. (tt, tt);
   schema = same.0;
   doc = refl;
   next = (let is = same.1 in omega arith);
@@ -204,10 +211,11 @@ pub text_recorded : (w new : Writer) (positions later : Positions) (doc : ℕ) (
     → start ≡ start_of doc prefix positions
     → ((os : List Occurrence) (real : ℕ) → Stands w os → start ≡ min (2 ^ 31) real → Stands new (os ++ text_occurrences doc prefix real ts))
     → ((real : ℕ) → start ≡ min (2 ^ 31) real → next ≡ min (2 ^ 31) (next_start gap real ts))
+    → ((real : ℕ) → start ≡ min (2 ^ 31) real → AreWithin gap real ts)
     → new.schema ≡ w.schema → new.num_docs ≤ doc + 1
     → ((other : List ℕ) → lookup (bytes_eq other) later ≡ cond (bytes_eq prefix other) (Some (doc, next)) (lookup (bytes_eq other) positions))
     → Records (context w positions doc) (context new later doc) (text_step prefix gap ts ∷ [])
-text_recorded w new positions later doc prefix gap start next ts start_is stands next_is schema docs put = record {
+text_recorded w new positions later doc prefix gap start next ts start_is stands next_is within schema docs put = record {
   holds = λ os starts h.
       let real : start ≡ min (2 ^ 31) (starts prefix) = start_is ∙ h.starts_are prefix in
       let same : text_occurrences doc prefix (starts prefix) ts ≡ occurrences_at doc (run_terms starts (text_step prefix gap ts ∷ [])) = sym (tokens_recorded doc prefix (starts prefix) ts) ∙ ap (occurrences_at doc) (sym (append_nil (map (placed_at prefix (starts prefix)) ts))) in
@@ -215,6 +223,7 @@ text_recorded w new positions later doc prefix gap start next ts start_is stands
         stands = subst (λ more. Stands new (os ++ more)) same (stands os (starts prefix) h.stands real);
         starts_are = start_more positions later starts doc prefix gap next ts h.starts_are (next_is (starts prefix) real) put;
       };
+  within = λ os starts h. (within (starts prefix) (start_is ∙ h.starts_are prefix), tt);
   schema = schema;
   doc = refl;
   next = docs;

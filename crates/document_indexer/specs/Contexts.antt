@@ -63,6 +63,7 @@ CanIndex c field kind = IsReady c × IsIndexedField c.writer.schema field kind
 -- steps of the document were recorded
 pub record Records (was now : Context) (ss : List Step) : Type 0 where
   pub holds : (os : List Occurrence) (starts : Starts) → Holds was os starts → Holds now (os ++ occurrences_at was.doc (run_terms starts ss)) (starts_after starts ss)
+  pub within : (os : List Occurrence) (starts : Starts) → Holds was os starts → AreStepsWithin starts ss
   pub schema : now.writer.schema ≡ was.writer.schema
   pub doc : now.doc ≡ was.doc
   pub next : now.writer.num_docs ≤ was.doc + 1

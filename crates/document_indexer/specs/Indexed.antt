@@ -48,6 +48,10 @@ AreCounted schema analyze docs = (t : List ℕ) → AllByRecursion (λ doc. leng
 abbrev pub PassesLimit : Schema → Analyzer → List Document → Document → Type 0
 PassesLimit schema analyze docs doc = (terminated ≤ length docs) ⊎ (AreStepsWithin no_starts (steps_of schema analyze doc) → ⊥) ⊎ (AreCounted schema analyze (docs ++ doc ∷ []) → ⊥)
 
+-- with one document more neither the number of documents nor the greatest position is passed
+abbrev pub IsWithinLimits : Schema → Analyzer → List Document → Document → Type 0
+IsWithinLimits schema analyze docs doc = (length docs < terminated) × AreStepsWithin no_starts (steps_of schema analyze doc)
+
 -- memory was wanting, or a limit would be passed
 abbrev pub IsAddRefusal : Fault → Schema → Analyzer → List Document → Document → Type 0
 IsAddRefusal fault schema analyze docs doc = (fault ≡ faults.OutOfMemory) ⊎ ((fault ≡ faults.Limit) × PassesLimit schema analyze docs doc)

@@ -6,7 +6,7 @@ ghost use Rattle.definitions.specs.Postings.{postings};
 ghost use Rattle.definitions.specs.Values.{Document};
 ghost use Rattle.layouts.specs.InvertedIndexes.{AreIndexed, AreSections, IndexedField};
 ghost use Rattle.postings_writer.specs.Limits.{IsSerializeRefusal};
-ghost use Rattle.document_indexer.specs.Indexed.{IsAddRefusal};
+ghost use Rattle.document_indexer.specs.Indexed.{IsAddRefusal, IsWithinLimits};
 ghost use Rattle.document_indexer.specs.Indexers.{HasIndexed, analyzer_of, schema_of, writer_of};
 
 use crate::index_document::index_document;
@@ -52,6 +52,8 @@ impl<'a, A: Analyzer> DocumentIndexer<'a, A> {
         requires { (docs : List Document) × HasIndexed A.analyze self.old docs }
         ensures ok { (docs : List Document) → HasIndexed A.analyze self.old docs → OnOk result (HasIndexed A.analyze self.new (docs ++ doc.now ∷ [])) }
         ensures same { OnOk result ((schema_of self.new ≡ schema_of self.old) × (analyzer_of self.new ≡ analyzer_of self.old)) }
+        ensures within { (docs : List Document) → HasIndexed A.analyze self.old docs
+            → OnOk result (IsWithinLimits (schema_of self.old) (A.analyze (analyzer_of self.old)) docs doc.now) }
         ensures err { (docs : List Document) → HasIndexed A.analyze self.old docs → IfErr result (λ fault. IsAddRefusal fault (schema_of self.old) (A.analyze (analyzer_of self.old)) docs doc.now) }
     {
         if self.context.doc() >= TERMINATED {

@@ -6,7 +6,7 @@ use Rattle.definitions.specs.Analyzers.{kept}
 use Rattle.definitions.specs.Places.{next_start}
 use Rattle.definitions.specs.Values.{Token}
 use Rattle.postings_writer.specs.Occurrences.{Occurrence}
-use Rattle.postings_writer.specs.Texts.{IsTextRefusal, text_occurrences}
+use Rattle.postings_writer.specs.Texts.{AreWithin, IsTextRefusal, text_occurrences}
 use Rattle.postings_writer.specs.Writers.{Stands}
 use Rattle.document_indexer.specs.Contexts.{start_of}
 use Rattle.document_indexer.proofs.Recording.{text_recorded, text_refused}
@@ -34,10 +34,12 @@ returns-clause-ok c =
     let stream : kept (c.new-stream.result.1) ≡ ts = ap (λ (s : _). kept s.1) c.new-stream.ensures in
     let Q : List Token → Type 0 = λ xs. (os : List Occurrence) (real : ℕ) → Stands c.args.postings_writer.now os → start ≡ min (2 ^ 31) real → Stands c.index_text.new.self (os ++ text_occurrences doc prefix real xs) in
     let R : List Token → Type 0 = λ xs. (real : ℕ) → start ≡ min (2 ^ 31) real → next ≡ min (2 ^ 31) (next_start 1 real xs) in
+    let W : List Token → Type 0 = λ xs. (real : ℕ) → start ≡ min (2 ^ 31) real → AreWithin 1 real xs in
     let same = c.in_ok-next.ensures.same in
     let S : List ℕ → Type 0 = λ bs. (other : List ℕ) → lookup (bytes_eq other) c.set_start.new.self ≡ cond (bytes_eq bs other) (Some (doc, next)) (lookup (bytes_eq other) c.args.positions.now) in
     (text_recorded c.args.postings_writer.now c.index_text.new.self c.args.positions.now c.set_start.new.self doc prefix 1 start next ts
     (c.start_of-start.ensures ∙ ap (λ bs. start_of doc bs c.args.positions.now) c.deref.ensures.value)
     (subst Q stream c.in_ok-next.ensures.ok)
     (subst R stream c.in_ok-next.ensures.next)
+    (subst W stream c.in_ok-next.ensures.within)
     same.0 same.1 (subst S (c.deref-2.ensures.value ∙ same.2) c.in_ok-set_start.ensures))
