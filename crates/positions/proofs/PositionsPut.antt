@@ -45,14 +45,17 @@ pub positions_put : (numbers widths packed : List ℕ) → AreSmall numbers → 
 positions_put numbers widths packed small blocks = record { widths = widths; packed = packed; whole = refl; blocks = blocks; small = small }
 
 -- a term is closed: its positions stand behind the bytes before
-pub term_closed : (was : List ℕ × List ℕ) (out waiting numbers widths ws packed ps named all left : List ℕ) → ◌≡◌ {A = List ℕ × List ℕ} (out, waiting) was → AreSmall waiting → numbers ≡ waiting → ws ≡ widths → ps ≡ packed → AreBlocks widths numbers packed → named ≡ out ++ sized_bytes ws → all ≡ named ++ ps → left ≡ [] → (x : List ℕ) × ArePositions was.1 x × ◌≡◌ {A = List ℕ × List ℕ} (all, left) (was.0 ++ x, [])
-term_closed was out waiting numbers widths ws packed ps named all left seen small is names blocks_are blocks put_names put_blocks none =
+pub term_closed : (was : List ℕ × List ℕ) (out waiting numbers widths ws packed ps none named whole lent all left : List ℕ) → ◌≡◌ {A = List ℕ × List ℕ} (out, waiting) was → AreSmall waiting → numbers ≡ waiting → ws ≡ widths → ps ≡ packed → AreBlocks widths numbers packed → none ≡ [] → named ≡ none ++ sized_bytes ws → whole ≡ named ++ ps → lent ≡ whole → all ≡ out ++ lent → left ≡ [] → (x : List ℕ) × ArePositions was.1 x × ◌≡◌ {A = List ℕ × List ℕ} (all, left) (was.0 ++ x, [])
+term_closed was out waiting numbers widths ws packed ps none named whole lent all left seen small is names blocks_are blocks begun put_names put_blocks lent_is put nothing =
     let P : List ℕ → Type 0 = λ xs. AreBlocks widths xs packed in
     let here : ArePositions waiting (sized_bytes widths ++ packed) = positions_put waiting widths packed small (subst P is blocks) in
     let Q : List ℕ → Type 0 = λ xs. ArePositions xs (sized_bytes widths ++ packed) in
-    let whole : all ≡ was.0 ++ (sized_bytes widths ++ packed) =
-    put_blocks
-    ∙ ap₂ (λ a b. a ++ b) (put_names ∙ ap (λ xs. out ++ sized_bytes xs) names) blocks_are
-    ∙ append_assoc out (sized_bytes widths) packed
+    let term : lent ≡ sized_bytes widths ++ packed =
+    lent_is
+    ∙ put_blocks
+    ∙ ap₂ (λ a b. a ++ b) (put_names ∙ ap₂ (λ xs ys. xs ++ sized_bytes ys) begun names) blocks_are in
+    let stands : all ≡ was.0 ++ (sized_bytes widths ++ packed) =
+    put
+    ∙ ap (λ xs. out ++ xs) term
     ∙ ap (λ p. p.0 ++ (sized_bytes widths ++ packed)) seen in
-    (sized_bytes widths ++ packed, subst Q (ap (λ p. p.1) seen) here, ap₂ (λ a b. (a, b)) whole none)
+    (sized_bytes widths ++ packed, subst Q (ap (λ p. p.1) seen) here, ap₂ (λ a b. (a, b)) stands nothing)

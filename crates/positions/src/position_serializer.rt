@@ -1,6 +1,6 @@
 //! Positions of terms, written as bytes.
 
-ghost use Rattle.std.specs.Prelude.{[], ◌++◌, ◌<◌, ◌≡◌, ◌^◌, List, OnOk, length, slice_index, ℕ};
+ghost use Rattle.std.specs.Prelude.{[], ◌++◌, ◌<◌, ◌≡◌, ◌^◌, List, OnErr, OnOk, length, slice_index, ℕ};
 ghost use Rattle.layouts.specs.Positions.{AreBlocks, ArePositions};
 
 use common::put_bytes;
@@ -8,14 +8,16 @@ use packed_blocks::{BlockEncoder, COMPRESSION_BLOCK_SIZE, VIntEncoder};
 use std::alloc::{AllocError, Global};
 use std::marker::Model;
 
-/// The positions of terms, term by term. The numbers of a term wait until it is closed. Seen as the bytes of
-/// the closed terms, and the numbers that wait.
+/// The positions of terms, term by term. The numbers of a term wait until it is closed. A refused call changes
+/// nothing. Seen as the bytes of the closed terms, and the numbers that wait.
 #[derive(Drop)]
 pub struct PositionSerializer {
     out: Vec<u8>,
     waiting: Vec<u32>,
     widths: Vec<u8>,
     packed: Vec<u8>,
+    // The bytes of the term that is closed.
+    term: Vec<u8>,
     encoder: BlockEncoder,
 }
 
@@ -40,6 +42,7 @@ impl PositionSerializer {
             waiting: Vec::new(alloc),
             widths: Vec::new(alloc),
             packed: Vec::new(alloc),
+            term: Vec::new(alloc),
             encoder: BlockEncoder::new(),
         }
     }
@@ -54,14 +57,16 @@ impl PositionSerializer {
     /// Adds the positions of a document to its term: the first as it is, and then the differences.
     pub fn write_positions_delta(&mut self, positions_delta: &[u32]) -> Result<(), AllocError>
         requires { (i : ℕ) → slice_index positions_delta.now i < 2 ^ 31 }
-        ensures { OnOk result (self.new ≡ (self.old.0, self.old.1 ++ positions_delta.now)) }
+        ensures ok { OnOk result (self.new ≡ (self.old.0, self.old.1 ++ positions_delta.now)) }
+        ensures refused { OnErr result (self.new ≡ self.old) }
     {
         self.waiting.extend_from_slice(positions_delta)
     }
 
     /// Appends the positions of the term, and begins another.
     pub fn close_term(&mut self) -> Result<(), AllocError>
-        ensures { OnOk result ((bytes : List ℕ) × ArePositions self.old.1 bytes × (self.new ≡ (self.old.0 ++ bytes, []))) }
+        ensures ok { OnOk result ((bytes : List ℕ) × ArePositions self.old.1 bytes × (self.new ≡ (self.old.0 ++ bytes, []))) }
+        ensures refused { OnErr result (self.new ≡ self.old) }
     {
         self.widths.clear();
         self.packed.clear();
@@ -71,8 +76,10 @@ impl PositionSerializer {
             &mut self.widths,
             &mut self.packed,
         )?;
-        put_bytes(&mut self.out, &self.widths)?;
-        self.out.extend_from_slice(&self.packed)?;
+        self.term.clear();
+        put_bytes(&mut self.term, &self.widths)?;
+        self.term.extend_from_slice(&self.packed)?;
+        self.out.extend_from_slice(&self.term)?;
         self.waiting.clear();
         Ok(())
     }

@@ -54,6 +54,20 @@ pub record IsClosed (was now : FieldWriting) (docs counts numbers : List ℕ) : 
   pub positions : now.positions ≡ (was.positions.0 ++ bytes, [])
   pub terms : now.terms ≡ inserted was.key (record { doc_freq = length docs; postings_len = length (postings_of was.writing docs counts); positions_len = length bytes }) was.terms
 
+-- the field is the same, and so are the lengths that it keeps
+pub record IsSameField (was now : FieldWriting) : Type 0 where
+  pub field : now.field ≡ was.field
+  pub num_tokens : now.num_tokens ≡ was.num_tokens
+  pub mode : now.writing.mode ≡ was.writing.mode
+  pub norms : now.writing.norms ≡ was.writing.norms
+
+-- and what stands of the terms that were closed
+pub record AreKept (was now : FieldWriting) : Type 0 where
+  pub same : IsSameField was now
+  pub terms : now.terms ≡ was.terms
+  pub postings : now.postings ≡ was.postings
+  pub positions : now.positions.0 ≡ was.positions.0
+
 -- the sections of terms, postings and positions so far
 pub record Sections : Type 0 where
   pub terms : List ℕ

@@ -1,10 +1,10 @@
 //! The terms of a field, written with their postings and positions.
 
-ghost use Rattle.std.specs.Prelude.{[], ◌+◌, ◌++◌, ◌<◌, ◌≡◌, ◌≤◌, ◌^◌, ◌∷◌, IfErr, IfOk, IfSome, IsTrue, List, OnOk, if◌then◌else◌, length, slice_index, ℕ};
+ghost use Rattle.std.specs.Prelude.{[], ◌+◌, ◌++◌, ◌<◌, ◌≡◌, ◌≤◌, ◌^◌, ◌∷◌, IfErr, IfOk, IfSome, IsTrue, List, OnErr, OnOk, if◌then◌else◌, length, slice_index, ℕ};
 ghost use Rattle.definitions.specs.Postings.{terminated};
 ghost use Rattle.definitions.specs.Schema.{basic, has_freq, has_positions};
 ghost use Rattle.layouts.specs.InvertedIndexes.{HasPositions};
-ghost use Rattle.postings_serializer.specs.FieldWriting.{IsCloseRefusal, IsClosed, IsOpen, field_closed};
+ghost use Rattle.postings_serializer.specs.FieldWriting.{AreKept, IsCloseRefusal, IsClosed, IsOpen, IsSameField, field_closed};
 ghost use Rattle.postings_serializer.specs.TermWriting.{IsSumRefusal, recorded_count};
 
 use crate::inverted_index_serializer::InvertedIndexSerializer;
@@ -15,7 +15,8 @@ use positions::PositionSerializer;
 use std::alloc::AllocError;
 use std::marker::Model;
 
-/// Writes the terms of a field, one after another.
+/// Writes the terms of a field, one after another. What a refused call began of a term is of no use; where it was to
+/// close the term, parts of that may stand behind the terms before.
 #[derive(Drop)]
 pub struct FieldSerializer<'a> {
     pub(crate) terms: TermDictionaryBuilder,
@@ -47,6 +48,8 @@ impl<'a> FieldSerializer<'a> {
         ensures key { OnOk result (self.new.key ≡ key.now) }
         ensures option { OnOk result (self.new.writing.option ≡ (if record_term_freq then self.old.writing.mode else basic)) }
         ensures same { OnOk result ((self.new.field ≡ self.old.field) × (self.new.num_tokens ≡ self.old.num_tokens) × (self.new.terms ≡ self.old.terms) × (self.new.postings ≡ self.old.postings) × (self.new.positions ≡ self.old.positions) × (self.new.writing.mode ≡ self.old.writing.mode) × (self.new.writing.norms ≡ self.old.writing.norms) × (self.new.writing.next ≡ 0)) }
+        ensures refused { OnErr result (AreKept self.old self.new) }
+        ensures waiting { OnErr result (self.new.positions.1 ≡ []) }
     {
         self.postings_serializer.new_term(record_term_freq);
         self.doc_freq = 0;
@@ -62,6 +65,8 @@ impl<'a> FieldSerializer<'a> {
         ensures key { OnOk result (self.new.key ≡ key.now) }
         ensures option { OnOk result (self.new.writing.option ≡ basic) }
         ensures same { OnOk result ((self.new.field ≡ self.old.field) × (self.new.num_tokens ≡ self.old.num_tokens) × (self.new.terms ≡ self.old.terms) × (self.new.postings ≡ self.old.postings) × (self.new.positions ≡ self.old.positions) × (self.new.writing.mode ≡ self.old.writing.mode) × (self.new.writing.norms ≡ self.old.writing.norms) × (self.new.writing.next ≡ 0)) }
+        ensures refused { OnErr result (AreKept self.old self.new) }
+        ensures waiting { OnErr result (self.new.positions.1 ≡ []) }
     {
         self.new_term(key, false)
     }
@@ -82,6 +87,7 @@ impl<'a> FieldSerializer<'a> {
         ensures written { (docs counts numbers : List ℕ) → IsOpen self.old docs counts numbers → OnOk result (IsOpen self.new (docs ++ doc ∷ []) (counts ++ recorded_count self.old.writing.option term_freq ∷ []) (numbers ++ position_deltas.now)) }
         ensures same { OnOk result ((self.new.field ≡ self.old.field) × (self.new.num_tokens ≡ self.old.num_tokens) × (self.new.terms ≡ self.old.terms) × (self.new.postings ≡ self.old.postings) × (self.new.key ≡ self.old.key) × (self.new.writing.mode ≡ self.old.writing.mode) × (self.new.writing.option ≡ self.old.writing.option) × (self.new.writing.norms ≡ self.old.writing.norms) × (self.new.writing.next ≡ doc + 1) × (self.new.positions.0 ≡ self.old.positions.0)) }
         ensures err { (docs counts numbers : List ℕ) → IsOpen self.old docs counts numbers → IfErr result (λ fault. IsSumRefusal fault (counts ++ recorded_count self.old.writing.option term_freq ∷ [])) }
+        ensures refused { OnErr result (AreKept self.old self.new) }
     {
         self.postings_serializer.write_doc(doc, term_freq)?;
         self.write_positions(position_deltas)?;
@@ -92,7 +98,8 @@ impl<'a> FieldSerializer<'a> {
     /// The positions of a document, where they are recorded.
     fn write_positions(&mut self, position_deltas: &[u32]) -> Result<(), AllocError>
         requires { (i : ℕ) → slice_index position_deltas.now i < 2 ^ 31 }
-        ensures { OnOk result (self.new ≡ record self.old { positions = (self.old.positions.0, self.old.positions.1 ++ (if has_positions self.old.writing.option then position_deltas.now else [])) }) }
+        ensures ok { OnOk result (self.new ≡ record self.old { positions = (self.old.positions.0, self.old.positions.1 ++ (if has_positions self.old.writing.option then position_deltas.now else [])) }) }
+        ensures refused { OnErr result (self.new ≡ self.old) }
     {
         if !self.postings_serializer.has_positions() {
             return Ok(());
@@ -107,6 +114,7 @@ impl<'a> FieldSerializer<'a> {
         ensures ok { (docs counts numbers : List ℕ) → IsOpen self.old docs counts numbers → OnOk result (IsClosed self.old self.new docs counts numbers) }
         ensures same { OnOk result ((self.new.field ≡ self.old.field) × (self.new.num_tokens ≡ self.old.num_tokens) × (self.new.writing.mode ≡ self.old.writing.mode) × (self.new.writing.norms ≡ self.old.writing.norms)) }
         ensures err { (docs counts numbers : List ℕ) → IsOpen self.old docs counts numbers → IfErr result (λ fault. IsCloseRefusal fault self.old docs counts numbers) }
+        ensures refused { OnErr result (IsSameField self.old self.new) }
     {
         let doc_freq = self.doc_freq;
         self.doc_freq = 0;
@@ -127,7 +135,8 @@ impl<'a> FieldSerializer<'a> {
 
     /// Closes the positions of the term, where they are recorded.
     fn close_positions(&mut self) -> Result<(), AllocError>
-        ensures { OnOk result ((bytes : List ℕ) × HasPositions (has_positions self.old.writing.option) self.old.positions.1 bytes × (self.new ≡ record self.old { positions = (self.old.positions.0 ++ bytes, if has_positions self.old.writing.option then [] else self.old.positions.1) })) }
+        ensures ok { OnOk result ((bytes : List ℕ) × HasPositions (has_positions self.old.writing.option) self.old.positions.1 bytes × (self.new ≡ record self.old { positions = (self.old.positions.0 ++ bytes, if has_positions self.old.writing.option then [] else self.old.positions.1) })) }
+        ensures refused { OnErr result (self.new ≡ self.old) }
     {
         if !self.postings_serializer.has_positions() {
             return Ok(());

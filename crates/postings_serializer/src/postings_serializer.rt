@@ -153,6 +153,7 @@ impl<'a> PostingsSerializer<'a> {
         ensures posted { (docs counts : List ℕ) → AreWritten self.old docs counts → ArePosted self.old.option docs counts }
         ensures begun { OnOk result (self.new ≡ begun self.old.mode self.old.option self.old.norms) }
         ensures kept { OnOk result (length output.old.items ≤ length output.new.items) }
+        ensures same { (self.new.mode ≡ self.old.mode) × (self.new.option ≡ self.old.option) × (self.new.norms ≡ self.old.norms) }
     {
         self.blocks
             .write_rest(self.option, self.last_doc, &self.block)?;
