@@ -21,7 +21,7 @@ impl<S: Scorer> BoostScorer<S> {
     pub fn new(underlying: S, boost: Score) -> BoostScorer<S>
         requires positive { pos 0 ≤ℤ boost }
         requires fits { natural boost * greatest_score (S.entries underlying) ≤ max_score }
-        ensures { ⟦<BoostScorer<S> as DocSet>⟧.entries result ≡ rescored_by (λ n. natural boost * n) (S.entries underlying) }
+        ensures { ⟦<BoostScorer<S> as DocSet>⟧.entries result ≡ rescored_by (λ e. natural boost * e.score) (S.entries underlying) }
     {
         BoostScorer {
             underlying,
@@ -33,7 +33,7 @@ impl<S: Scorer> BoostScorer<S> {
 impl<S: Scorer> DocSet for BoostScorer<S> {
     ghost use Rattle.leaf_scorers.specs.ScoredEntryLaws.{Rising-boosted};
 
-    ghost entries = { λ s. rescored_by (λ n. s.boost * n) (S.entries s.underlying) };
+    ghost entries = { λ s. rescored_by (λ e. s.boost * e.score) (S.entries s.underlying) };
 
     #[inline]
     fn advance(&mut self) -> DocId {

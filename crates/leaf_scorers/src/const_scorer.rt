@@ -21,7 +21,7 @@ impl<D: DocSet> ConstScorer<D> {
     pub fn new(docset: D, score: Score) -> ConstScorer<D>
         requires positive { pos 0 ≤ℤ score }
         requires small { score ≤ℤ pos max_score }
-        ensures { ⟦<ConstScorer<D> as DocSet>⟧.entries result ≡ rescored_by (λ n. natural score) (D.entries docset) }
+        ensures { ⟦<ConstScorer<D> as DocSet>⟧.entries result ≡ rescored_by (λ e. natural score) (D.entries docset) }
     {
         ConstScorer {
             docset,
@@ -31,7 +31,7 @@ impl<D: DocSet> ConstScorer<D> {
 }
 
 impl<D: DocSet> From<D> for ConstScorer<D> {
-    ghost from_gives = { λ docset scorer. ⟦<ConstScorer<D> as DocSet>⟧.entries scorer ≡ rescored_by (λ n. 1) (D.entries docset) };
+    ghost from_gives = { λ docset scorer. ⟦<ConstScorer<D> as DocSet>⟧.entries scorer ≡ rescored_by (λ e. 1) (D.entries docset) };
 
     fn from(docset: D) -> ConstScorer<D> {
         ConstScorer::new(docset, 1)
@@ -41,7 +41,7 @@ impl<D: DocSet> From<D> for ConstScorer<D> {
 impl<D: DocSet> DocSet for ConstScorer<D> {
     ghost use Rattle.leaf_scorers.specs.ScoredEntryLaws.{Rising-constant};
 
-    ghost entries = { λ s. rescored_by (λ n. s.score) (D.entries s.docset) };
+    ghost entries = { λ s. rescored_by (λ e. s.score) (D.entries s.docset) };
 
     #[inline]
     fn advance(&mut self) -> DocId {
