@@ -14,7 +14,7 @@ impl DocSet for EmptyScorer {
     ghost entries = { λ s. [] };
 
     fn advance(&mut self) -> DocId {
-        TERMINATED
+        self.doc()
     }
 
     fn doc(&self) -> DocId {
