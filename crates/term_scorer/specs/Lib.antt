@@ -1,0 +1,5 @@
+pub mod TermScores
+pub mod TermScoreLaws
+pub mod Similarities
+pub mod ScoredTerms
+pub mod Explaining

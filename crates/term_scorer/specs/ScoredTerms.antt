@@ -1,0 +1,23 @@
+-- What a scorer of a term has.
+use Rattle.std.specs.Prelude.{List, ℕ}
+use Rattle.cursors.specs.Entries.{Entry, Rising}
+use Rattle.segment_postings.specs.Cursors.{entries_left, rising_left}
+use Rattle.term_scorer.specs.Similarities.{similarity_data}
+use Rattle.term_scorer.specs.TermScores.{TermSimilarity, term_scored}
+use Rattle.term_scorer.specs.TermScoreLaws.{Rising-term}
+use Rattle.term_scorer.specs.declared.term_scorer.TermScorer.{TermScorer}
+
+-- the length id of each document
+abbrev pub length_ids : TermScorer → List ℕ
+length_ids s = s.fieldnorm_reader
+
+-- the weight, the boost and the norms
+abbrev pub similarity_of : TermScorer → TermSimilarity
+similarity_of s = similarity_data s.similarity
+
+-- what remains of the postings, with the scores that their counts and length ids earn
+abbrev pub scored_left : TermScorer → List Entry
+scored_left s = term_scored (similarity_data s.similarity) s.fieldnorm_reader (entries_left s.postings)
+
+pub rising_scored : (s : TermScorer) → Rising 0 (scored_left s)
+rising_scored s = Rising-term (similarity_data s.similarity) s.fieldnorm_reader (entries_left s.postings) s.similarity.fits (rising_left s.postings)

@@ -1,0 +1,120 @@
+//! The documents of a term, with their scores.
+
+ghost use Rattle.std.specs.Prelude.{[], ◌*◌, ◌<◌, ◌≡◌, ◌≤◌, IfOk, length, pos, slice_index};
+ghost use Rattle.cursors.specs.Entries.{first, first_count, first_score, from};
+ghost use Rattle.definitions.specs.Postings.{terminated};
+ghost use Rattle.definitions.specs.Scoring.{max_score};
+ghost use Rattle.leaf_scorers.specs.ScoredEntries.{greatest_score};
+ghost use Rattle.segment_postings.specs.Cursors.{entries_left};
+ghost use Rattle.term_scorer.specs.Explaining.{explained_value};
+ghost use Rattle.term_scorer.specs.Similarities.{similarity_data};
+ghost use Rattle.term_scorer.specs.TermScores.{documents_bound, term_scored};
+
+use crate::explanation::Explanation;
+use crate::similarity::Similarity;
+use common::{DocId, Score};
+use cursors::{DocSet, Postings};
+use fieldnorms::FieldNormReader;
+use leaf_scorers::Scorer;
+use segment_postings::SegmentPostings;
+use std::alloc::{AllocError, Global};
+
+/// The documents of a term, each with the score that its count and its length earn.
+#[derive(Drop)]
+pub struct TermScorer<'a> {
+    postings: SegmentPostings<'a>,
+    fieldnorm_reader: FieldNormReader<'a>,
+    similarity: Similarity<'a>,
+    ghost covered: { documents_bound (entries_left postings) ≤ length fieldnorm_reader },
+}
+
+impl<'a> TermScorer<'a> {
+    ghost use Rattle.term_scorer.specs.ScoredTerms.{length_ids, scored_left, similarity_of};
+
+    /// The postings of a term with the scores that follow from the lengths of all documents.
+    pub fn new(
+        postings: SegmentPostings<'a>,
+        fieldnorm_reader: FieldNormReader<'a>,
+        similarity: Similarity<'a>,
+    ) -> TermScorer<'a>
+        requires { from (length fieldnorm_reader) (entries_left postings) ≡ [] }
+        ensures entries { scored_left result ≡ term_scored (similarity_data similarity.entry) fieldnorm_reader.entry (entries_left postings.entry) }
+        ensures lengths { length_ids result ≡ fieldnorm_reader.entry }
+        ensures similarity { similarity_of result ≡ similarity_data similarity.entry }
+    {
+        TermScorer {
+            postings,
+            fieldnorm_reader,
+            similarity,
+        }
+    }
+
+    /// How often the term stands in the current document, as far as its postings tell.
+    #[inline]
+    pub fn term_freq(&self) -> u32
+        requires { first (scored_left self.now) < terminated }
+        ensures { result ≡ first_count (scored_left self.now) }
+    {
+        self.postings.term_freq()
+    }
+
+    /// The length id of the current document.
+    #[inline]
+    pub fn fieldnorm_id(&self) -> u8
+        requires { first (scored_left self.now) < terminated }
+        ensures { result ≡ slice_index (length_ids self.now) (first (scored_left self.now)) }
+    {
+        self.fieldnorm_reader.fieldnorm_id(self.postings.doc())
+    }
+
+    /// The boost times the weight. No score is above it.
+    pub fn max_score(&self) -> Score
+        ensures value { result ≡ pos ((similarity_of self.now).boost * (similarity_of self.now).weight) }
+        ensures greatest { greatest_score (scored_left self.now) ≤ (similarity_of self.now).boost * (similarity_of self.now).weight }
+    {
+        self.similarity.max_score()
+    }
+
+    /// The score of the current document, and what it follows from.
+    pub fn explain(&self, alloc: Global) -> Result<Explanation, AllocError>
+        requires { first (scored_left self.now) < terminated }
+        ensures { IfOk result (λ explanation. explained_value explanation ≡ pos (first_score (scored_left self.now))) }
+    {
+        self.similarity
+            .explain(alloc, self.fieldnorm_id(), self.term_freq())
+    }
+}
+
+impl<'a> DocSet for TermScorer<'a> {
+    ghost use Rattle.term_scorer.specs.ScoredTerms.{rising_scored, scored_left};
+
+    ghost entries = { scored_left };
+
+    #[inline]
+    fn advance(&mut self) -> DocId {
+        self.postings.advance()
+    }
+
+    #[inline]
+    fn seek(&mut self, target: DocId) -> DocId {
+        self.postings.seek(target)
+    }
+
+    #[inline]
+    fn doc(&self) -> DocId {
+        self.postings.doc()
+    }
+
+    fn size_hint(&self) -> u32 {
+        self.postings.size_hint()
+    }
+
+    ghost rising = { rising_scored };
+}
+
+impl<'a> Scorer for TermScorer<'a> {
+    #[inline]
+    fn score(&mut self) -> Score {
+        self.similarity.score(self.fieldnorm_id(), self.term_freq())
+    }
+}
