@@ -64,10 +64,11 @@ impl Read for FailingReader {
     }
 }
 
-// Takes some writes, and then fails.
+// Takes some writes and some flushes, and then fails.
 #[derive(Drop)]
 struct FailingWriter {
     writes_left: u8,
+    flushes_left: u8,
 }
 
 impl Write for FailingWriter {
@@ -80,6 +81,10 @@ impl Write for FailingWriter {
     }
 
     fn flush(&mut self) -> io::Result<()> {
+        if self.flushes_left == 0 {
+            return Err(ErrorKind::Other.into());
+        }
+        self.flushes_left -= 1;
         Ok(())
     }
 }
@@ -204,18 +209,37 @@ fn ends_where_a_read_fails(rt: HostRuntime) -> Result<(), Fail> {
     Ok(())
 }
 
-/// Whether a run over a writer that fails after some writes ends so.
-fn ends_at_a_write(alloc: Global, writes_left: u8) -> bool {
+/// How a run of four lines ends over a writer that fails after some writes, or some flushes. It writes twice for a reply,
+/// and flushes before it looks for the first line and for the end, and at the end.
+fn ended_over(alloc: Global, writes_left: u8, flushes_left: u8) -> Result<(), RunFault> {
     let mut reader = "a\nb\nc\nd\n".as_bytes();
-    let mut writer = FailingWriter { writes_left };
-    run(alloc, &mut reader, &mut writer, &mut make_echo(alloc)) == Err(RunFault::WriteFault)
+    let mut writer = FailingWriter {
+        writes_left,
+        flushes_left,
+    };
+    run(alloc, &mut reader, &mut writer, &mut make_echo(alloc))
 }
 
 #[test]
 fn ends_where_a_write_fails(rt: HostRuntime) {
     for writes_left in 0..8 {
-        assert!(rt; ends_at_a_write(rt.alloc(), writes_left));
+        assert!(rt; ended_over(rt.alloc(), writes_left, 3) == Err(RunFault::WriteFault));
     }
+}
+
+/// Whether a run ends where its first, second or third flush fails, and goes through where none does.
+fn ends_at_flushes(alloc: Global) -> bool {
+    for flushes_left in 0..3 {
+        if ended_over(alloc, 8, flushes_left) != Err(RunFault::WriteFault) {
+            return false;
+        }
+    }
+    ended_over(alloc, 8, 3) == Ok(())
+}
+
+#[test]
+fn ends_where_a_flush_fails(rt: HostRuntime) {
+    assert!(rt; ends_at_flushes(rt.alloc()));
 }
 
 fn serve_client(alloc: Global, flushing: &Flushing) -> Result<(), Fail> {

@@ -1,5 +1,5 @@
 -- What a commit leaves, in memory and in its file.
-use Rattle.std.proofs.Common.{[], List, None, Option, Some, ap, ap₂, arith, length, map, option_map, refl, subst, sym, ◌++◌, ◌<◌, ◌∙◌, ◌∷◌, ◌≡◌, ◌≤◌, ◌^◌, ℕ}
+use Rattle.std.proofs.Common.{[], List, None, Option, Some, ap, ap₂, length, map, option_map, refl, subst, sym, ◌++◌, ◌∙◌, ◌∷◌, ◌≡◌, ◌≤◌, ℕ}
 use Rattle.std.specs.List.{AllByRecursion}
 use Rattle.definitions.specs.Analyzers.{Analyzer}
 use Rattle.definitions.specs.Calls as calls
@@ -8,7 +8,7 @@ use Rattle.definitions.specs.Schema.{Schema}
 use Rattle.definitions.specs.Settings.{Settings}
 use Rattle.definitions.specs.State as states
 use Rattle.definitions.specs.Values.{Document}
-use Rattle.engine.specs.Accepting.{IsKept}
+use Rattle.engine.specs.Accepting.{KeepsDocuments, all_documents}
 use Rattle.engine.specs.Files.{HeldBody, last_in, last_of}
 use Rattle.engine.specs.Standing.{Stands, status_of}
 use Rattle.engine.specs.declared.collection.Collection.{Collection}
@@ -24,7 +24,7 @@ use Rattle.engine.proofs.LastBodies.{Found, last_found}
 use Rattle.engine.proofs.Standings.{all_both, committed_added, stands_with}
 
 -- what stood stands still
-pub stands_kept : {A : Type 0} (analyze : A → Analyzer) (old new : Collection A) → IsKept old new → (c : calls.Configuration) (x : calls.Index) → Stands analyze old c x → Stands analyze new c x
+pub stands_kept : {A : Type 0} (analyze : A → Analyzer) (old new : Collection A) → KeepsDocuments old new → (c : calls.Configuration) (x : calls.Index) → Stands analyze old c x → Stands analyze new c x
 stands_kept analyze old new kept c x s =
     stands_with analyze old new kept.made c x s x
     (s.seen ∙ ap documents_of (sym kept.docs))
@@ -76,16 +76,19 @@ all_recordable : (schema : Schema) (analyze : Analyzer) (docs : List IndexedDoc)
 all_recordable schema analyze [] h = tt
 all_recordable schema analyze (doc ∷ docs) h = (h.0.recordable, all_recordable schema analyze docs h.1)
 
--- the file of a commit says what is committed after it
-pub commit_says : {A : Type 0} (analyze : A → Analyzer) (old : Collection A) (c : calls.Configuration) (x : calls.Index) (settings : Settings) (bodies : List (List ℕ)) → Stands analyze old c x → HeldBody (documents_of old.docs.items ++ documents_of old.pending.items) → last_in bodies ≡ Some ((c.schema, settings), states.committed x.state)
-    → last_in (bodies ++ docs_body (documents_of old.docs.items ++ documents_of old.pending.items) ∷ []) ≡ Some ((c.schema, settings), states.committed (calls.after c x.state calls.commit_pending))
-commit_says analyze old c x settings bodies s fits says =
-    let all : List Document = documents_of old.docs.items ++ documents_of old.pending.items in
-    let same : c.schema ≡ old.schema = ap (λ k. k.schema) s.made in
+-- the body of a commit's record says what is committed after it
+pub body_says : {A : Type 0} (analyze : A → Analyzer) (old : Collection A) (c : calls.Configuration) (x : calls.Index) → Stands analyze old c x → HeldBody (all_documents old)
+    → docs_in old.schema (docs_body (all_documents old)) ≡ Some (states.committed (calls.after c x.state calls.commit_pending))
+body_says analyze old c x s fits =
+    let all : List Document = all_documents old in
     let fields : AllByRecursion (HasFields (length old.schema)) all = all_both (HasFields (length old.schema)) (documents_of old.docs.items) (documents_of old.pending.items) (all_have_fields old.schema (analyze old.analyzer) old.docs.items s.docs) (all_have_fields old.schema (analyze old.analyzer) old.pending.items s.pending) in
     let kept : AllByRecursion (AllByRecursion (λ p. IsRecordable p.1)) all = all_both (AllByRecursion (λ p. IsRecordable p.1)) (documents_of old.docs.items) (documents_of old.pending.items) (all_recordable old.schema (analyze old.analyzer) old.docs.items s.docs) (all_recordable old.schema (analyze old.analyzer) old.pending.items s.pending) in
     let fitting : AllByRecursion FitsDocument all = held_fit all fits.held kept in
-    let read : docs_in old.schema (docs_body all) ≡ Some all = docs_back old.schema all fits.few fitting fields in
-    let made : Schema × Settings = (c.schema, settings) in
-    says_next bodies made (states.committed x.state) (states.committed (calls.after c x.state calls.commit_pending)) (docs_body all) says
-    (ap (λ (schema : Schema). docs_in schema (docs_body all)) same ∙ read ∙ ap (λ (ds : List Document). Some ds) (sym (committed_all analyze old c x s)))
+    docs_back old.schema all fits.few fitting fields ∙ ap (λ (ds : List Document). Some ds) (sym (committed_all analyze old c x s))
+
+-- and so does the file with it
+pub commit_says : {A : Type 0} (analyze : A → Analyzer) (old : Collection A) (c : calls.Configuration) (x : calls.Index) (bodies : List (List ℕ)) → Stands analyze old c x → HeldBody (all_documents old) → last_in bodies ≡ Some ((old.schema, old.settings), states.committed x.state)
+    → last_in (bodies ++ docs_body (all_documents old) ∷ []) ≡ Some ((old.schema, old.settings), states.committed (calls.after c x.state calls.commit_pending))
+commit_says analyze old c x bodies s fits says =
+    let made : Schema × Settings = (old.schema, old.settings) in
+    says_next bodies made (states.committed x.state) (states.committed (calls.after c x.state calls.commit_pending)) (docs_body (all_documents old)) says (body_says analyze old c x s fits)

@@ -1,10 +1,12 @@
 -- Errors that are handed on.
-use Rattle.std.proofs.Common.{Err, IfErr, Ok, Result, ap, arith, ◌⊎◌, subst, sym, ◌≡◌, ◌∙◌, ℕ}
+use Rattle.std.proofs.Common.{Err, IfErr, Ok, OnOk, Result, ap, arith, inl, inr, true≢false, ◌⊎◌, subst, sym, ◌≡◌, ◌≢◌, ◌∙◌, ◌+◌, ◌<◌, ◌^◌, ◌↔◌, ℕ}
+use Rattle.std.proofs.lemmas.Bool.{cases_lt}
+use Rattle.std.specs.Bool.{⊤}
 use Rattle.std.specs.Prelude.{IsErrAnd, IsErrOf}
 use Rattle.definitions.specs.Disk.{HasCause}
 use Rattle.definitions.specs.declared.fault.Fault.{Fault}
 use Rattle.definitions.specs.declared.fault.Fault.TheVariants as faults
-use Rattle.engine.proofs.Faults.{device_failed, writer_faults}
+use Rattle.engine.proofs.Faults.{device_failed, is_limit, writer_faults}
 
 -- what holds of an error holds of a result that has it
 pub err_has : {T : Type 0} (r : Result T Fault) (fault : Fault) (P : Fault → Type 0) → IsErrAnd r (λ e. e ≡ fault) → P fault → IfErr r P
@@ -30,3 +32,31 @@ writer_caused now (Err e) fault is writer = record { later = omega arith; cause 
 pub no_limit : {T : Type 0} (r : Result T Fault) (fault : Fault) → IsErrAnd r (λ e. e ≡ fault) → (fault ≡ faults.WriterClosed) ⊎ (fault ≡ faults.Closed) → ¬ (IsErrOf r faults.Limit)
 no_limit (Ok x) fault is writer limit = absurd is
 no_limit (Err e) fault is writer limit = (writer_faults fault writer).1 (sym is ∙ ap error_or_memory limit)
+
+-- a call that went well, and then another
+pub caused_later : {T U : Type 0} (before mid now : ℕ) (r : Result T Fault) (s : Result U Fault) → HasCause before mid r → HasCause mid now s → HasCause before now s
+caused_later before mid now r s first second = record {
+  later = omega (arith, first.later, second.later);
+  cause = λ device. elim (second.cause device) [
+    | inl rose ↦ inl (omega (arith, first.later, rose))
+    | inr most ↦ elim (cases_lt before mid) [
+      | inl below ↦ inl (omega (arith, below, second.later))
+      | inr above ↦ inr (omega (arith, above, first.later, most))
+    ]
+  ];
+}
+
+-- a limit is no want of memory
+pub limit_is_no_memory : (fault : Fault) → IsErrOf {T = ⊤} (Err fault) faults.Limit → fault ≢ faults.OutOfMemory
+limit_is_no_memory fault limit memory = true≢false (sym (ap is_limit (ap error_or_memory limit)) ∙ ap is_limit memory)
+
+answer_is_no_error : (u : ⊤) (fault : Fault) → IsErrOf (Ok u) fault → ⊥
+answer_is_no_error u fault e = cc
+
+-- a record within the limit leaves the closed gate below it
+pub below_limit : (r : Result ⊤ Fault) (gate now len : ℕ) → OnOk r (now ≡ gate + len) → (IsErrOf r faults.Limit ↔ (2 ^ 63 < gate + 1 + len)) → OnOk r (now < 2 ^ 63)
+below_limit (Err fault) gate now len is limit = tt
+below_limit (Ok u) gate now len is limit = elim (cases_lt (2 ^ 63) (gate + 1 + len)) [
+  | inl past ↦ absurd (answer_is_no_error u faults.Limit (limit.1 past))
+  | inr within ↦ omega (arith, is, within)
+]

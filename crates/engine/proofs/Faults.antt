@@ -69,7 +69,7 @@ abbrev is_device : Fault → Bool
 is_device faults.Device = true
 is_device _ = false
 
-abbrev is_limit : Fault → Bool
+abbrev pub is_limit : Fault → Bool
 is_limit faults.Limit = true
 is_limit _ = false
 

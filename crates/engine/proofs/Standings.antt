@@ -1,9 +1,8 @@
 -- What an index stands for, as calls are made.
-use Rattle.std.proofs.Common.{[], Bool, ◌||◌, Err, IfErr, IfOk, List, None, Ok, OnErr, OnOk, Result, Some, Vec, ap, ap₂, cond, false, filter, length, map, refl, subst, sym, true, ⊎_elim, ◌++◌, ◌<◌, ◌∙◌, ◌∷◌, ◌≡◌, ◌≢◌, ◌≤◌, ℕ}
+use Rattle.std.proofs.Common.{[], Bool, ◌||◌, Err, IfErr, IfOk, List, None, Ok, OnErr, OnOk, Result, Some, ap, ap₂, cond, false, filter, length, map, refl, subst, sym, true, ⊎_elim, ◌++◌, ◌∙◌, ◌∷◌, ◌≡◌, ◌≢◌, ◌≤◌, ℕ}
 use Rattle.std.specs.Bool.{⊤}
 use Rattle.std.specs.List.{AllByRecursion}
 use Rattle.std.specs.Result.{IsErrAnd, result_err}
-use Rattle.std.specs.declared.alloc.Global.{Global}
 use Rattle.std.proofs.lemmas.List.{map-append}
 use Rattle.definitions.specs.Analyzers.{Analyzer}
 use Rattle.definitions.specs.Calls as calls
@@ -26,6 +25,13 @@ use Rattle.engine.proofs.Faults.{memory_or_other}
 use Rattle.plain.proofs.ScanSteps.{all_push}
 
 -- ---- made of the same
+
+pub alike_then : {A : Type 0} (one two three : Collection A) → IsMadeAlike one two → IsMadeAlike two three → IsMadeAlike one three
+alike_then one two three first second = record {
+  analyzer = second.analyzer ∙ first.analyzer;
+  schema = second.schema ∙ first.schema;
+  settings = second.settings ∙ first.settings;
+}
 
 module _ {A : Type 0} (analyze : A → Analyzer) (old new : Collection A) (alike : IsMadeAlike old new) where
   -- what holds of what the index was made of holds of it still

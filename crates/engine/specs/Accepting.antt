@@ -6,6 +6,7 @@ use Rattle.definitions.specs.State.{after_add}
 use Rattle.definitions.specs.Values.{Document}
 use Rattle.definitions.specs.declared.fault.Fault.{Fault}
 use Rattle.definitions.specs.declared.fault.Fault.TheVariants as faults
+use Rattle.plain.specs.Hits.{documents_of}
 use Rattle.plain.specs.IndexedDocs.{IsIndexed}
 use Rattle.engine.specs.declared.collection.Collection.{Collection}
 use Rattle.engine.specs.declared.collection.Status.TheVariants as status
@@ -38,8 +39,12 @@ pub record Stops {A : Type 0} (old new : Collection A) : Type 0 where
   pub status : new.status ≡ status.WriterClosed
 
 -- what was committed and what waits is as it was
-pub record IsKept {A : Type 0} (old new : Collection A) : Type 0 where
+pub record KeepsDocuments {A : Type 0} (old new : Collection A) : Type 0 where
   pub made : IsMadeAlike old new
   pub docs : new.docs.items ≡ old.docs.items
   pub pending : new.pending.items ≡ old.pending.items
   pub status : new.status ≡ old.status
+
+-- the documents that are committed, and behind them those that wait
+abbrev pub all_documents : {A : Type 0} → Collection A → List Document
+all_documents collection = documents_of collection.docs.items ++ documents_of collection.pending.items

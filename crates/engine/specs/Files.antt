@@ -1,18 +1,14 @@
 -- The file of an index: what it says, and how it lies on a device.
 use Rattle.std.specs.Prelude.{[], ◌<◌, ◌^◌, ◌∷◌, ◌≡◌, ◌⊎◌, Bool, List, Option, Some, false, is_some, length, option_map, true, ℕ}
 use Rattle.std.specs.List.{AllByRecursion}
-use Rattle.definitions.specs.Analyzers.{Analyzer}
 use Rattle.definitions.specs.Disk.{IsEither, Unsynced, settled}
 use Rattle.definitions.specs.Making.{are_analyzed}
 use Rattle.definitions.specs.Moments.{LeavesOnly}
 use Rattle.definitions.specs.Schema.{Schema}
 use Rattle.definitions.specs.Settings.{Settings}
-use Rattle.definitions.specs.Step.{configuration_of}
 use Rattle.definitions.specs.Values.{Document}
 use Rattle.definitions.specs.declared.fault.Fault.{Fault}
 use Rattle.definitions.specs.declared.fault.Fault.TheVariants as faults
-use Rattle.engine.specs.Standing.{StandsReopened}
-use Rattle.engine.specs.declared.collection.Collection.{Collection}
 use Rattle.document_values.specs.Docs.{IsGoodPair}
 use Rattle.layouts.specs.DocumentReading.{deepest}
 use Rattle.layouts.specs.RecordBodies.{bodies_in, first_in, TakesBody}
@@ -72,9 +68,3 @@ is_first body = is_some (first_in body)
 -- what the file of a device refuses of an index that could be made
 abbrev pub IsCreateRefusal : Fault → Type 0
 IsCreateRefusal fault = (fault ≡ faults.Device) ⊎ (fault ≡ faults.NotEmpty)
-
--- the collection stands for the index of a file: the documents of its last record are committed, and none waits
-pub record IsOpened {A : Type 0} (analyze : A → Analyzer) (analyzer : Analyzer) (collection : Collection A) (bytes : List ℕ) : Type 0 where
-  pub docs : List Document
-  pub file : IsFileOf collection.schema collection.settings docs bytes
-  pub stands : StandsReopened analyze collection (configuration_of collection.schema analyzer collection.settings) docs

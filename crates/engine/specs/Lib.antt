@@ -4,3 +4,4 @@ pub mod Accepting
 pub mod Files
 pub mod Contents
 pub mod FirstBodies
+pub mod Indexes

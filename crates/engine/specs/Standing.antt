@@ -28,5 +28,5 @@ pub record Stands {A : Type 0} (analyze : A → Analyzer) (index : Collection A)
   pub sized : 1 ≤ index.settings.docs_per_segment
 
 -- these documents are committed, in whatever groups a file's last record has them, and none waits
-abbrev pub StandsReopened : {A : Type 0} → (A → Analyzer) → Collection A → calls.Configuration → List Document → Type 0
-StandsReopened analyze index c docs = (groups : List (List Document)) → flat_map (λ group. group) groups ≡ docs → Stands analyze index c (reopened groups)
+abbrev pub IsReopened : {A : Type 0} → (A → Analyzer) → Collection A → calls.Configuration → List Document → Type 0
+IsReopened analyze index c docs = (groups : List (List Document)) → flat_map (λ group. group) groups ≡ docs → Stands analyze index c (reopened groups)

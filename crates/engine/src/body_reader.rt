@@ -50,8 +50,11 @@ impl BodyReader {
     /// What the bodies say, of which there may be none.
     pub(crate) fn found(self) -> Result<Option<Found>, AllocError>
         requires { AreTaken TakesBody [] (map (λ body. body.items) self.bodies.items) }
-        ensures says { IfOk result (λ found. option_map (λ f. ((f.schema, f.settings), f.docs.items)) found ≡ last_in (map (λ body. body.items) self.bodies.items)) }
-        ensures fields { IfOk result (λ found. IfSome found (λ f. AllByRecursion (IsOfSchema f.schema) f.docs.items)) }
+        ensures says { IfOk result (λ found.
+            option_map (λ f. ((f.schema, f.settings), f.docs.items)) found
+            ≡ last_in (map (λ body. body.items) self.bodies.items)) }
+        ensures fields { IfOk result (λ found.
+            IfSome found (λ f. AllByRecursion (IsOfSchema f.schema) f.docs.items)) }
     {
         let BodyReader {
             alloc,
@@ -74,8 +77,12 @@ impl BodyReader {
     /// Takes the first body.
     fn take_first(&mut self, body: &[u8]) -> Result<bool, AllocError>
         requires { is_none self.old.made ≡ true }
-        ensures answer { IfOk result (λ took. IsTrue took ↔ TakesBody (map (λ b. b.items) self.old.bodies.items) body.now) }
-        ensures appended { IfOk result (λ took. map (λ b. b.items) self.new.bodies.items ≡ cond took (map (λ b. b.items) self.old.bodies.items ++ body.now ∷ []) (map (λ b. b.items) self.old.bodies.items)) }
+        ensures answer { IfOk result (λ took.
+            IsTrue took ↔ TakesBody (map (λ b. b.items) self.old.bodies.items) body.now) }
+        ensures appended { IfOk result (λ took.
+            map (λ b. b.items) self.new.bodies.items
+            ≡ cond took (map (λ b. b.items) self.old.bodies.items ++ body.now ∷ [])
+            (map (λ b. b.items) self.old.bodies.items)) }
     {
         let made = read_first_body(self.alloc, body)?;
         if made.is_none() {
@@ -89,8 +96,12 @@ impl BodyReader {
     /// Takes a body of documents.
     fn take_docs(&mut self, body: &[u8]) -> Result<bool, AllocError>
         requires { is_some self.old.made ≡ true }
-        ensures answer { IfOk result (λ took. IsTrue took ↔ TakesBody (map (λ b. b.items) self.old.bodies.items) body.now) }
-        ensures appended { IfOk result (λ took. map (λ b. b.items) self.new.bodies.items ≡ cond took (map (λ b. b.items) self.old.bodies.items ++ body.now ∷ []) (map (λ b. b.items) self.old.bodies.items)) }
+        ensures answer { IfOk result (λ took.
+            IsTrue took ↔ TakesBody (map (λ b. b.items) self.old.bodies.items) body.now) }
+        ensures appended { IfOk result (λ took.
+            map (λ b. b.items) self.new.bodies.items
+            ≡ cond took (map (λ b. b.items) self.old.bodies.items ++ body.now ∷ [])
+            (map (λ b. b.items) self.old.bodies.items)) }
     {
         if !self.reads_docs(body)? {
             return Ok(false);
@@ -133,7 +144,8 @@ fn read_last(
     schema: &Schema,
     bodies: &[Vec<u8>],
 ) -> Result<Option<Vec<CompactDoc>>, AllocError>
-    ensures value { IfOk result (λ found. option_map (λ docs. docs.items) found ≡ last_docs schema.now (map (λ b. b.items) bodies.now)) }
+    ensures value { IfOk result (λ found.
+        option_map (λ docs. docs.items) found ≡ last_docs schema.now (map (λ b. b.items) bodies.now)) }
     ensures fields { IfOk result (λ found. IfSome found (λ docs. AllByRecursion (IsOfSchema schema.now) docs.items)) }
 {
     if bodies.len() < 2 {

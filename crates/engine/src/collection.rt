@@ -9,9 +9,9 @@ ghost use Rattle.definitions.specs.Scanning as scanning;
 ghost use Rattle.definitions.specs.State.{committed};
 ghost use Rattle.definitions.specs.Step.{configuration_of, fresh_index};
 ghost use Rattle.definitions.specs.declared.fault.Fault.TheVariants as faults;
-ghost use Rattle.engine.specs.Accepting.{Accepts, IsKept, IsMadeAlike, Stops, Waits};
+ghost use Rattle.engine.specs.Accepting.{Accepts, IsMadeAlike, KeepsDocuments, Stops, Waits, all_documents};
 ghost use Rattle.engine.specs.Files.{HeldBody, IsHeld};
-ghost use Rattle.engine.specs.Standing.{Stands, StandsReopened, status_of};
+ghost use Rattle.engine.specs.Standing.{Stands, IsReopened, status_of};
 ghost use Rattle.layouts.specs.DocumentBytes.{document_bytes};
 ghost use Rattle.layouts.specs.RecordBodies.{docs_body};
 ghost use Rattle.plain.specs.Hits.{Describe, documents_of, hit_of, scored};
@@ -46,7 +46,7 @@ pub enum Status {
 
 /// The documents of an index: those that are committed, which searches see, and those that wait.
 #[derive(Drop)]
-pub struct Collection<A> {
+pub(crate) struct Collection<A> {
     pub(crate) alloc: Global,
     pub(crate) analyzer: A,
     pub(crate) schema: Schema,
@@ -58,7 +58,12 @@ pub struct Collection<A> {
 
 impl<A: Analyzer + Drop> Collection<A> {
     /// A collection without documents.
-    pub fn new(alloc: Global, analyzer: A, schema: Schema, settings: Settings) -> Collection<A>
+    pub(crate) fn new(
+        alloc: Global,
+        analyzer: A,
+        schema: Schema,
+        settings: Settings,
+    ) -> Collection<A>
         ensures stands { Stands A.analyze result (configuration_of schema (A.analyze analyzer) settings) fresh_index }
         ensures made { (result.schema ≡ schema) × (result.settings ≡ settings) × (result.analyzer ≡ analyzer) }
     {
@@ -82,8 +87,10 @@ impl<A: Analyzer + Drop> Collection<A> {
         docs: Vec<IndexedDoc>,
     ) -> Collection<A>
         requires { Describe schema (A.analyze analyzer) docs.items }
-        ensures stands { StandsReopened A.analyze result (configuration_of schema (A.analyze analyzer) settings) (documents_of docs.items) }
-        ensures made { (result.schema ≡ schema) × (result.settings ≡ settings) × (result.analyzer ≡ analyzer) × (result.docs ≡ docs) }
+        ensures stands { IsReopened A.analyze result (configuration_of schema (A.analyze analyzer) settings)
+            (documents_of docs.items) }
+        ensures made { (result.schema ≡ schema) × (result.settings ≡ settings) × (result.analyzer ≡ analyzer)
+            × (result.docs ≡ docs) }
     {
         Collection {
             alloc,
@@ -105,19 +112,21 @@ impl<A: Analyzer + Drop> Collection<A> {
     }
 
     /// What the index may still do.
-    pub fn state(&self) -> Status
-        ensures { (c : calls.Configuration) (x : calls.Index) → Stands A.analyze self.now c x → x.status ≡ status_of result }
+    pub(crate) fn state(&self) -> Status
+        ensures { (c : calls.Configuration) (x : calls.Index) → Stands A.analyze self.now c x
+            → x.status ≡ status_of result }
     {
         self.status
     }
 
     /// Adds the document that a JSON text holds; a search sees it after the next commit. A text that holds
     /// no JSON object is `NotAnObject`; a value that its field doesn't take is refused as its type says.
-    pub fn add_json(&mut self, text: &str) -> Result<(), Fault>
+    pub(crate) fn add_json(&mut self, text: &str) -> Result<(), Fault>
         ensures left { (c : calls.Configuration) (x : calls.Index) → Stands A.analyze self.old c x
             → (y : calls.Index) × calls.Leaves c x (calls.add_json text.now) result y × Stands A.analyze self.new c y }
         ensures exact { (c : calls.Configuration) (x : calls.Index) → Stands A.analyze self.old c x
-            → IfErr result (λ fault. fault ≢ faults.OutOfMemory → calls.call_fault c x (calls.add_json text.now) ≡ Some fault) }
+            → IfErr result (λ fault. fault ≢ faults.OutOfMemory
+            → calls.call_fault c x (calls.add_json text.now) ≡ Some fault) }
         ensures made { IsMadeAlike self.old self.new }
     {
         let doc = self.accept_text(text)?;
@@ -125,11 +134,13 @@ impl<A: Analyzer + Drop> Collection<A> {
     }
 
     /// Adds the document in a JSON value, as `add_json` does.
-    pub fn add_value(&mut self, value: &Json) -> Result<(), Fault>
+    pub(crate) fn add_value(&mut self, value: &Json) -> Result<(), Fault>
         ensures left { (c : calls.Configuration) (x : calls.Index) → Stands A.analyze self.old c x
-            → (y : calls.Index) × calls.Leaves c x (calls.add_value (view value.now)) result y × Stands A.analyze self.new c y }
+            → (y : calls.Index) × calls.Leaves c x (calls.add_value (view value.now)) result y
+            × Stands A.analyze self.new c y }
         ensures exact { (c : calls.Configuration) (x : calls.Index) → Stands A.analyze self.old c x
-            → IfErr result (λ fault. fault ≢ faults.OutOfMemory → calls.call_fault c x (calls.add_value (view value.now)) ≡ Some fault) }
+            → IfErr result (λ fault. fault ≢ faults.OutOfMemory
+            → calls.call_fault c x (calls.add_value (view value.now)) ≡ Some fault) }
         ensures made { IsMadeAlike self.old self.new }
     {
         let doc = self.accept_value(value)?;
@@ -137,8 +148,8 @@ impl<A: Analyzer + Drop> Collection<A> {
     }
 
     /// Finds the memory that a commit takes beside its record.
-    pub fn reserve_commit(&mut self) -> Result<(), AllocError>
-        ensures kept { IsKept self.old self.new }
+    pub(crate) fn reserve_commit(&mut self) -> Result<(), AllocError>
+        ensures kept { KeepsDocuments self.old self.new }
         ensures room { OnOk result (vec_len self.new.docs + vec_len self.new.pending ≤ vec_capacity self.new.docs) }
     {
         self.docs.reserve(self.pending.len())
@@ -147,8 +158,8 @@ impl<A: Analyzer + Drop> Collection<A> {
     /// The frame of the record of a commit: all documents, those that wait behind those that are committed.
     pub(crate) fn commit_frame(&self) -> Result<Vec<u8>, AllocError>
         requires { vec_len self.now.docs + vec_len self.now.pending ≤ vec_capacity self.now.docs }
-        ensures framed { IfOk result (λ frame. frame.items ≡ frame_bytes (docs_body (documents_of self.now.docs.items ++ documents_of self.now.pending.items))) }
-        ensures fits { OnOk result (HeldBody (documents_of self.now.docs.items ++ documents_of self.now.pending.items)) }
+        ensures framed { IfOk result (λ frame. frame.items ≡ frame_bytes (docs_body (all_documents self.now))) }
+        ensures fits { OnOk result (HeldBody (all_documents self.now)) }
     {
         let mut frame = start_frame(self.alloc)?;
         put_docs_head(&mut frame, self.docs.len() + self.pending.len())?;
@@ -159,11 +170,12 @@ impl<A: Analyzer + Drop> Collection<A> {
     }
 
     /// Makes searches see what was added.
-    pub fn install_commit(&mut self)
+    pub(crate) fn install_commit(&mut self)
         requires { vec_len self.old.docs + vec_len self.old.pending ≤ vec_capacity self.old.docs }
         ensures made { IsMadeAlike self.old self.new }
         ensures left { (c : calls.Configuration) (x : calls.Index) → Stands A.analyze self.old c x
-            → Stands A.analyze self.new c (record { state = calls.after c x.state calls.commit_pending; status = x.status }) }
+            → Stands A.analyze self.new c
+            (record { state = calls.after c x.state calls.commit_pending; status = x.status }) }
     {
         if self.docs.append(&mut self.pending).is_err() {
             unreachable!();
@@ -171,7 +183,7 @@ impl<A: Analyzer + Drop> Collection<A> {
     }
 
     /// Takes no more calls but those of this status.
-    pub fn stop(&mut self, status: Status)
+    pub(crate) fn stop(&mut self, status: Status)
         ensures made { IsMadeAlike self.old self.new }
         ensures left { (c : calls.Configuration) (x : calls.Index) → Stands A.analyze self.old c x
             → Stands A.analyze self.new c (record { state = x.state; status = status_of status }) }
@@ -180,12 +192,15 @@ impl<A: Analyzer + Drop> Collection<A> {
     }
 
     /// The best k of the committed documents that match, by score, and then by addition.
-    pub fn search(&self, query: &AnyQuery, k: usize) -> Result<Vec<Hit>, Fault>
-        ensures ok { (c : calls.Configuration) (x : calls.Index) → Stands A.analyze self.now c x → IfOk result (λ hits.
+    pub(crate) fn search(&self, query: &AnyQuery, k: usize) -> Result<Vec<Hit>, Fault>
+        ensures ok { (c : calls.Configuration) (x : calls.Index) → Stands A.analyze self.now c x
+            → IfOk result (λ hits.
             (calls.call_fault c x (calls.search_best (query_of query.now) k) ≡ None)
-            × (map hit_of hits.items ≡ map scored (scanning.scan c.schema c.analyze c.similarity (committed x.state) (query_of query.now) k))) }
-        ensures err { (c : calls.Configuration) (x : calls.Index) → Stands A.analyze self.now c x → IfErr result (λ fault.
-            fault ≢ faults.OutOfMemory → calls.call_fault c x (calls.search_best (query_of query.now) k) ≡ Some fault) }
+            × (map hit_of hits.items
+            ≡ map scored (scanning.scan c.schema c.analyze c.similarity (committed x.state) (query_of query.now) k))) }
+        ensures err { (c : calls.Configuration) (x : calls.Index)
+            → Stands A.analyze self.now c x → IfErr result (λ fault. fault ≢ faults.OutOfMemory
+            → calls.call_fault c x (calls.search_best (query_of query.now) k) ≡ Some fault) }
     {
         self.check_open()?;
         check_query(&self.schema, &self.settings, query)?;
@@ -200,12 +215,14 @@ impl<A: Analyzer + Drop> Collection<A> {
     }
 
     /// How many of the committed documents match.
-    pub fn count(&self, query: &AnyQuery) -> Result<u64, Fault>
-        ensures ok { (c : calls.Configuration) (x : calls.Index) → Stands A.analyze self.now c x → IfOk result (λ count.
+    pub(crate) fn count(&self, query: &AnyQuery) -> Result<u64, Fault>
+        ensures ok { (c : calls.Configuration) (x : calls.Index) → Stands A.analyze self.now c x
+            → IfOk result (λ count.
             (calls.call_fault c x (calls.count_all (query_of query.now)) ≡ None)
             × (count ≡ scanning.scan_count c.schema c.analyze (committed x.state) (query_of query.now))) }
-        ensures err { (c : calls.Configuration) (x : calls.Index) → Stands A.analyze self.now c x → IfErr result (λ fault.
-            calls.call_fault c x (calls.count_all (query_of query.now)) ≡ Some fault) }
+        ensures err { (c : calls.Configuration) (x : calls.Index)
+            → Stands A.analyze self.now c x → IfErr result (λ fault. fault ≢ faults.OutOfMemory
+            → calls.call_fault c x (calls.count_all (query_of query.now)) ≡ Some fault) }
     {
         self.check_open()?;
         check_query(&self.schema, &self.settings, query)?;
@@ -214,7 +231,8 @@ impl<A: Analyzer + Drop> Collection<A> {
 
     /// The document that an add of a text adds.
     fn accept_text(&self, text: &str) -> Result<CompactDoc, Fault>
-        ensures taken { (c : calls.Configuration) (x : calls.Index) → Stands A.analyze self.now c x → Accepts c x (calls.add_json text.now) result }
+        ensures taken { (c : calls.Configuration) (x : calls.Index) → Stands A.analyze self.now c x
+            → Accepts c x (calls.add_json text.now) result }
         ensures known { IfOk result (IsOfSchema self.now.schema) }
     {
         self.check_writer()?;
@@ -223,7 +241,8 @@ impl<A: Analyzer + Drop> Collection<A> {
 
     /// The document that an add of a value adds.
     fn accept_value(&self, value: &Json) -> Result<CompactDoc, Fault>
-        ensures taken { (c : calls.Configuration) (x : calls.Index) → Stands A.analyze self.now c x → Accepts c x (calls.add_value (view value.now)) result }
+        ensures taken { (c : calls.Configuration) (x : calls.Index) → Stands A.analyze self.now c x
+            → Accepts c x (calls.add_value (view value.now)) result }
         ensures known { IfOk result (IsOfSchema self.now.schema) }
     {
         self.check_writer()?;
@@ -291,7 +310,8 @@ pub(crate) fn check_making<A: Analyzer>(
     schema: &Schema,
     settings: &Settings,
 ) -> Result<(), Fault>
-    ensures value { result ≢ Err faults.OutOfMemory → result_err result ≡ making_fault (A.knows_name analyzer.now) schema.now settings.now }
+    ensures value { result ≢ Err faults.OutOfMemory
+        → result_err result ≡ making_fault (A.knows_name analyzer.now) schema.now settings.now }
 {
     if schema.num_fields() > MAX_INDEX_FIELDS {
         return Err(Fault::TooManyFields);

@@ -39,13 +39,22 @@ pub(crate) fn read_contents<D: Device, A: Analyzer>(
 ) -> Result<Contents, Fault>
     ensures honest { D.honest device.new ≡ D.honest device.old }
     ensures cause { HasCause (D.failed device.old) (D.failed device.new) result }
-    ensures kept { IsTrue (D.honest device.old) → IsKept D.moment D.left_since D.content D.unsynced device.old device.new }
-    ensures file { IsTrue (D.honest device.old) → IfOk result (λ contents. Holds contents.schema contents.settings (documents_of contents.docs.items) (D.content device.new) contents.gate) }
-    ensures inside { IsTrue (D.honest device.old) → IfOk result (λ contents. contents.gate < length (D.content device.new)) }
+    ensures kept { IsTrue (D.honest device.old)
+        → IsKept D.moment D.left_since D.content D.unsynced device.old device.new }
+    ensures file { IsTrue (D.honest device.old)
+        → IfOk result (λ contents.
+        Holds contents.schema contents.settings (documents_of contents.docs.items)
+        (D.content device.new) contents.gate) }
+    ensures inside { IsTrue (D.honest device.old)
+        → IfOk result (λ contents. contents.gate < length (D.content device.new)) }
     ensures short { IfOk result (λ contents. contents.gate < 2 ^ 63) }
     ensures known { IfOk result (λ contents. are_analyzed (A.knows_name analyzer.now) contents.schema ≡ true) }
-    ensures described { IfOk result (λ contents. Describe contents.schema (A.analyze analyzer.now) contents.docs.items) }
-    ensures refused { IsTrue (D.honest device.old) → IfErr result (λ fault. (fault ≡ faults.Device) ⊎ (fault ≡ faults.OutOfMemory) ⊎ IsOpenRefusal (A.knows_name analyzer.now) (D.content device.new) fault) }
+    ensures described { IfOk result (λ contents.
+        Describe contents.schema (A.analyze analyzer.now) contents.docs.items) }
+    ensures refused { IsTrue (D.honest device.old)
+        → IfErr result (λ fault.
+        (fault ≡ faults.Device) ⊎ (fault ≡ faults.OutOfMemory)
+        ⊎ IsOpenRefusal (A.knows_name analyzer.now) (D.content device.new) fault) }
 {
     let mut reader = BodyReader::new(alloc);
     let gate = read_records(alloc, device, &mut reader)?;

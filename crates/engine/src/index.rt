@@ -3,22 +3,23 @@
 ghost use Rattle.std.specs.Prelude.{[], ◌++◌, ◌+◌, ◌<◌, ◌^◌, ◌∷◌, ◌≡◌, ◌≢◌, ◌≤◌, ◌⊎◌, IfErr, IfOk, IsErrOf, IsTrue, List, None, OnOk, Some, length, map, true, vec_capacity, vec_len, ℕ};
 ghost use Rattle.std.specs.Result.{result_err};
 ghost use Rattle.definitions.specs.Calls as calls;
-ghost use Rattle.definitions.specs.Disk.{HasCause, IsImage, settled};
+ghost use Rattle.definitions.specs.Disk.{HasCause, settled};
 ghost use Rattle.definitions.specs.Making.{are_analyzed, making_fault};
 ghost use Rattle.definitions.specs.Moments.{LeavesOnly};
 ghost use Rattle.definitions.specs.Scanning as scanning;
 ghost use Rattle.definitions.specs.State.{committed};
 ghost use Rattle.definitions.specs.Step.{configuration_of, fresh_index};
 ghost use Rattle.definitions.specs.declared.fault.Fault.TheVariants as faults;
-ghost use Rattle.engine.specs.Accepting.{IsKept, IsMadeAlike};
-ghost use Rattle.engine.specs.Files.{HeldBody, IsCreateRefusal, IsOpenRefusal, IsOpened, LeavesEither, Rests, is_first};
-ghost use Rattle.engine.specs.Standing.{Stands, StandsReopened, status_of};
+ghost use Rattle.engine.specs.Accepting.{KeepsDocuments, all_documents};
+ghost use Rattle.engine.specs.Files.{HeldBody, IsCreateRefusal, IsOpenRefusal, is_first};
+ghost use Rattle.engine.specs.Indexes.{AppendsRecord, CrashLeavesEither, IndexRests, IndexStands, IsOpened, KeepsFile, KeepsMaking, PassesLimit, alloc_of, analyzer_after, analyzer_of, device_after, device_of, ending_of, gate_of, schema_of, settings_of};
+ghost use Rattle.engine.specs.Standing.{IsReopened, status_of};
 ghost use Rattle.layouts.specs.RecordBodies.{docs_body, first_body, first_in};
 ghost use Rattle.layouts.specs.RecordFiles.{EndsAt, IsAtRest, IsFresh, IsOneOf};
 ghost use Rattle.plain.specs.Hits.{Describe, documents_of, hit_of, scored};
 ghost use Rattle.plain.specs.Queries.{query_of};
 ghost use Rattle.records.specs.Frames.{frame_bytes};
-ghost use Rattle.records.specs.Outcomes.{IsCaused};
+ghost use Rattle.records.specs.Kept.{IsKept, LeavesNow};
 ghost use Rattle.serde_json.specs.View.{view};
 
 use crate::collection::{Collection, Status, check_making};
@@ -76,24 +77,33 @@ impl<D: Device + Drop, A: Analyzer + Drop> Index<D, A> {
         schema: Schema,
         settings: Settings,
     ) -> Result<Index<D, A>, Refused<D, A>>
-        ensures ok { IfOk result (λ index. Stands A.analyze index.collection (configuration_of schema (A.analyze analyzer) settings) fresh_index) }
+        ensures ok { IfOk result (λ index.
+            IndexStands A.analyze index (configuration_of schema (A.analyze analyzer) settings) fresh_index) }
+        ensures of { IfOk result (λ index. (schema_of index ≡ schema) × (settings_of index ≡ settings)) }
         ensures made { OnOk result (making_fault (A.knows_name analyzer) schema settings ≡ None) }
-        ensures of { IfOk result (λ index. (index.collection.schema ≡ schema) × (index.collection.settings ≡ settings) × (index.collection.analyzer ≡ analyzer)) }
-        ensures exact { IfErr result (λ r. (r.fault ≡ faults.OutOfMemory) ⊎ (making_fault (A.knows_name analyzer) schema settings ≡ Some r.fault)
+        ensures exact { IfErr result (λ r. (r.fault ≡ faults.OutOfMemory)
+            ⊎ (making_fault (A.knows_name analyzer) schema settings ≡ Some r.fault)
             ⊎ ((making_fault (A.knows_name analyzer) schema settings ≡ None) × IsCreateRefusal r.fault)) }
-        ensures returned { IfErr result (λ r. r.analyzer ≡ analyzer) }
-        ensures honest { IfOk result (λ index. D.honest index.file.device ≡ D.honest device) }
-        ensures honest_err { IfErr result (λ r. D.honest r.device ≡ D.honest device) }
-        ensures cause { IfErr result (λ r. IsCaused (D.failed device) (D.failed r.device) r.fault) }
+
+        ensures honest { D.honest (device_after result) ≡ D.honest device }
+        ensures analyzer { analyzer_after result ≡ analyzer }
+        ensures cause { HasCause (D.failed device) (D.failed (device_after result)) (ending_of result) }
+
         ensures empty { IsTrue (D.honest device) → OnOk result (D.content device ≡ []) }
-        ensures not_empty { IsTrue (D.honest device) → IfErr result (λ r. r.fault ≡ faults.NotEmpty → D.content device ≢ []) }
-        ensures rests { IsTrue (D.honest device) → IfOk result (λ index. Rests schema settings [] (D.content index.file.device) (D.unsynced index.file.device) index.file.gate) }
-        ensures kept { IsTrue (D.honest device) → IfErr result (λ r. r.fault ≢ faults.Device → D.content r.device ≡ D.content device) }
+        ensures not_empty { IsTrue (D.honest device)
+            → IfErr result (λ r. r.fault ≡ faults.NotEmpty → D.content device ≢ []) }
+        ensures rests { IsTrue (D.honest device) → IfOk result (λ index. IndexRests index []) }
+
+        // What no index can be made of doesn't touch the device; of other refusals `Device` alone may.
+        ensures untouched { IfErr result (λ r.
+            making_fault (A.knows_name analyzer) schema settings ≡ Some r.fault → r.device ≡ device) }
+        ensures kept { IsTrue (D.honest device) → IfErr result (λ r. r.fault ≢ faults.Device
+            → IsKept D.moment D.left_since D.content D.unsynced device r.device) }
+
         // A crash at any moment leaves no index, or one without documents, if before it could leave nothing else.
-        ensures any_moment { IsTrue (D.honest device) → ((image : List ℕ) → IsImage (D.content device) (D.unsynced device) image → IsFresh is_first image)
-            → IfOk result (λ index. LeavesOnly D.moment D.left_since device index.file.device (IsFresh is_first)) }
-        ensures any_moment_err { IsTrue (D.honest device) → ((image : List ℕ) → IsImage (D.content device) (D.unsynced device) image → IsFresh is_first image)
-            → IfErr result (λ r. LeavesOnly D.moment D.left_since device r.device (IsFresh is_first)) }
+        ensures any_moment { IsTrue (D.honest device)
+            → LeavesNow D.content D.unsynced device (IsFresh is_first)
+            → LeavesOnly D.moment D.left_since device (device_after result) (IsFresh is_first) }
     {
         let frame = match first_frame(alloc, &analyzer, &schema, &settings) {
             Ok(frame) => frame,
@@ -118,28 +128,28 @@ impl<D: Device + Drop, A: Analyzer + Drop> Index<D, A> {
         }
     }
 
-    /// The index of a device's file, with the documents that were committed last. Refusals come in this order: `Device`,
-    /// `NoIndex`, `Damaged` with the place of a gate, `UnknownTokenizer`.
+    /// The index of a device's file, with the documents that were committed last. Refusals come in this order:
+    /// `Device`, `NoIndex`, `Damaged` with the place of a gate, `UnknownTokenizer`.
     pub fn open(alloc: Global, device: D, analyzer: A) -> Result<Index<D, A>, Refused<D, A>>
-        ensures opened { IsTrue (D.honest device) → IfOk result (λ index. IsOpened A.analyze (A.analyze analyzer) index.collection (D.content device)) }
-        ensures known { IfOk result (λ index. are_analyzed (A.knows_name analyzer) index.collection.schema ≡ true) }
-        ensures same_analyzer { IfOk result (λ index. index.collection.analyzer ≡ analyzer) }
-        ensures refused { IsTrue (D.honest device) → IfErr result (λ r. (r.fault ≡ faults.Device) ⊎ (r.fault ≡ faults.OutOfMemory) ⊎ IsOpenRefusal (A.knows_name analyzer) (D.content device) r.fault) }
-        ensures returned { IfErr result (λ r. r.analyzer ≡ analyzer) }
-        ensures honest { IfOk result (λ index. D.honest index.file.device ≡ D.honest device) }
-        ensures honest_err { IfErr result (λ r. D.honest r.device ≡ D.honest device) }
-        ensures cause { IfErr result (λ r. IsCaused (D.failed device) (D.failed r.device) r.fault) }
-        ensures rests { IsTrue (D.honest device) → IfOk result (λ index. Rests index.collection.schema index.collection.settings (documents_of index.collection.docs.items) (D.content index.file.device) (D.unsynced index.file.device) index.file.gate) }
-        ensures kept { IsTrue (D.honest device) → IfErr result (λ r. r.fault ≢ faults.Device → D.content r.device ≡ D.content device) }
+        ensures opened { IfOk result (IsOpened A.analyze (A.analyze analyzer) device) }
+        ensures known { IfOk result (λ index. are_analyzed (A.knows_name analyzer) (schema_of index) ≡ true) }
+        ensures refused { IsTrue (D.honest device) → IfErr result (λ r.
+            (r.fault ≡ faults.Device) ⊎ (r.fault ≡ faults.OutOfMemory)
+            ⊎ IsOpenRefusal (A.knows_name analyzer) (D.content device) r.fault) }
+
+        ensures honest { D.honest (device_after result) ≡ D.honest device }
+        ensures analyzer { analyzer_after result ≡ analyzer }
+        ensures cause { HasCause (D.failed device) (D.failed (device_after result)) (ending_of result) }
+        ensures kept { IsTrue (D.honest device) → IfErr result (λ r. r.fault ≢ faults.Device
+            → IsKept D.moment D.left_since D.content D.unsynced device r.device) }
+
         // What a crash may leave is of one of two files, or fresh, at every moment, if it was so before.
-        ensures any_moment { (a b : List (List ℕ)) → IsTrue (D.honest device) → ((image : List ℕ) → IsImage (D.content device) (D.unsynced device) image → IsOneOf a b image)
-            → IfOk result (λ index. LeavesOnly D.moment D.left_since device index.file.device (IsOneOf a b)) }
-        ensures any_moment_err { (a b : List (List ℕ)) → IsTrue (D.honest device) → ((image : List ℕ) → IsImage (D.content device) (D.unsynced device) image → IsOneOf a b image)
-            → IfErr result (λ r. LeavesOnly D.moment D.left_since device r.device (IsOneOf a b)) }
-        ensures fresh { IsTrue (D.honest device) → ((image : List ℕ) → IsImage (D.content device) (D.unsynced device) image → IsFresh is_first image)
-            → IfOk result (λ index. LeavesOnly D.moment D.left_since device index.file.device (IsFresh is_first)) }
-        ensures fresh_err { IsTrue (D.honest device) → ((image : List ℕ) → IsImage (D.content device) (D.unsynced device) image → IsFresh is_first image)
-            → IfErr result (λ r. LeavesOnly D.moment D.left_since device r.device (IsFresh is_first)) }
+        ensures any_moment { (a b : List (List ℕ)) → IsTrue (D.honest device)
+            → LeavesNow D.content D.unsynced device (IsOneOf a b)
+            → LeavesOnly D.moment D.left_since device (device_after result) (IsOneOf a b) }
+        ensures fresh { IsTrue (D.honest device)
+            → LeavesNow D.content D.unsynced device (IsFresh is_first)
+            → LeavesOnly D.moment D.left_since device (device_after result) (IsFresh is_first) }
     {
         let mut device = device;
         match read_contents(alloc, &mut device, &analyzer) {
@@ -154,7 +164,7 @@ impl<D: Device + Drop, A: Analyzer + Drop> Index<D, A> {
 
     /// The device and the analyzer, whatever the state; what waits is dropped.
     pub fn into_device(self) -> (D, A)
-        ensures { (result.0 ≡ self.file.device) × (result.1 ≡ self.collection.analyzer) }
+        ensures { (result.0 ≡ device_of self) × (result.1 ≡ analyzer_of self) }
     {
         let Index { collection, file } = self;
         (file.into_device(), collection.into_analyzer())
@@ -162,35 +172,36 @@ impl<D: Device + Drop, A: Analyzer + Drop> Index<D, A> {
 
     /// What the index may still do.
     pub fn state(&self) -> Status
-        ensures { (c : calls.Configuration) (x : calls.Index) → Stands A.analyze self.now.collection c x → x.status ≡ status_of result }
+        ensures { (c : calls.Configuration) (x : calls.Index) → IndexStands A.analyze self.now c x
+            → x.status ≡ status_of result }
     {
         self.collection.state()
     }
 
     /// The fields.
     pub fn schema(&self) -> &Schema
-        ensures { result.now ≡ self.now.collection.schema }
+        ensures { result.now ≡ schema_of self.now }
     {
         &self.collection.schema
     }
 
     /// The settings.
     pub fn settings(&self) -> &Settings
-        ensures { result.now ≡ self.now.collection.settings }
+        ensures { result.now ≡ settings_of self.now }
     {
         &self.collection.settings
     }
 
     /// The allocator that the index was made with.
     pub fn alloc(&self) -> Global
-        ensures { result ≡ self.now.collection.alloc }
+        ensures { result ≡ alloc_of self.now }
     {
         self.collection.alloc
     }
 
     /// Whether searches are answered.
     pub fn check_open(&self) -> Result<(), Fault>
-        ensures { (c : calls.Configuration) (x : calls.Index) → Stands A.analyze self.now.collection c x
+        ensures { (c : calls.Configuration) (x : calls.Index) → IndexStands A.analyze self.now c x
             → result_err result ≡ calls.status_fault x.status true }
     {
         self.collection.check_open()
@@ -199,48 +210,65 @@ impl<D: Device + Drop, A: Analyzer + Drop> Index<D, A> {
     /// Adds the document that a JSON text holds; a search sees it after the next commit. A text that holds
     /// no JSON object is `NotAnObject`; a value that its field doesn't take is refused as its type says.
     pub fn add_json(&mut self, text: &str) -> Result<(), Fault>
-        ensures left { (c : calls.Configuration) (x : calls.Index) → Stands A.analyze self.old.collection c x
-            → (y : calls.Index) × calls.Leaves c x (calls.add_json text.now) result y × Stands A.analyze self.new.collection c y }
-        ensures exact { (c : calls.Configuration) (x : calls.Index) → Stands A.analyze self.old.collection c x
-            → IfErr result (λ fault. fault ≢ faults.OutOfMemory → calls.call_fault c x (calls.add_json text.now) ≡ Some fault) }
-        ensures made { IsMadeAlike self.old.collection self.new.collection }
-        ensures file { self.new.file ≡ self.old.file }
+        ensures left { (c : calls.Configuration) (x : calls.Index) → IndexStands A.analyze self.old c x
+            → (y : calls.Index) × calls.Leaves c x (calls.add_json text.now) result y
+            × IndexStands A.analyze self.new c y }
+        ensures exact { (c : calls.Configuration) (x : calls.Index) → IndexStands A.analyze self.old c x
+            → IfErr result (λ fault. fault ≢ faults.OutOfMemory
+            → calls.call_fault c x (calls.add_json text.now) ≡ Some fault) }
+
+        ensures made { KeepsMaking self.old self.new }
+        ensures file { KeepsFile self.old self.new }
     {
         self.collection.add_json(text)
     }
 
     /// Adds the document in a JSON value, as `add_json` does.
     pub fn add_value(&mut self, value: &Json) -> Result<(), Fault>
-        ensures left { (c : calls.Configuration) (x : calls.Index) → Stands A.analyze self.old.collection c x
-            → (y : calls.Index) × calls.Leaves c x (calls.add_value (view value.now)) result y × Stands A.analyze self.new.collection c y }
-        ensures exact { (c : calls.Configuration) (x : calls.Index) → Stands A.analyze self.old.collection c x
-            → IfErr result (λ fault. fault ≢ faults.OutOfMemory → calls.call_fault c x (calls.add_value (view value.now)) ≡ Some fault) }
-        ensures made { IsMadeAlike self.old.collection self.new.collection }
-        ensures file { self.new.file ≡ self.old.file }
+        ensures left { (c : calls.Configuration) (x : calls.Index) → IndexStands A.analyze self.old c x
+            → (y : calls.Index) × calls.Leaves c x (calls.add_value (view value.now)) result y
+            × IndexStands A.analyze self.new c y }
+        ensures exact { (c : calls.Configuration) (x : calls.Index) → IndexStands A.analyze self.old c x
+            → IfErr result (λ fault. fault ≢ faults.OutOfMemory
+            → calls.call_fault c x (calls.add_value (view value.now)) ≡ Some fault) }
+
+        ensures made { KeepsMaking self.old self.new }
+        ensures file { KeepsFile self.old self.new }
     {
         self.collection.add_value(value)
     }
 
-    /// Writes a record of all documents, those that wait too, and makes searches see them. `Limit` past 2^63 bytes of file,
-    /// as want of memory, closes the writer; after `Device` the index is closed, and the file may have either list.
+    /// Writes a record of all documents, those that wait too, and makes searches see them. `Limit` past 2^63 bytes of
+    /// file, as want of memory, closes the writer; after `Device` the index is closed, and the file may have either list.
     pub fn commit(&mut self) -> Result<(), Fault>
-        ensures left { (c : calls.Configuration) (x : calls.Index) → Stands A.analyze self.old.collection c x
-            → (y : calls.Index) × calls.Leaves c x calls.commit_pending result y × Stands A.analyze self.new.collection c y }
-        ensures exact { (c : calls.Configuration) (x : calls.Index) → Stands A.analyze self.old.collection c x
-            → IfErr result (λ fault. fault ≢ faults.OutOfMemory → fault ≢ faults.Device → fault ≢ faults.Limit → calls.call_fault c x calls.commit_pending ≡ Some fault) }
-        ensures made { IsMadeAlike self.old.collection self.new.collection }
-        ensures honest { D.honest self.new.file.device ≡ D.honest self.old.file.device }
-        ensures cause { HasCause (D.failed self.old.file.device) (D.failed self.new.file.device) result }
-        ensures limit { (c : calls.Configuration) (x : calls.Index) → Stands A.analyze self.old.collection c x
-            → IsErrOf result faults.Limit → 2 ^ 63 < self.old.file.gate + 1 + length (frame_bytes (docs_body (committed (calls.after c x.state calls.commit_pending)))) }
-        ensures kept { IfErr result (λ fault. fault ≢ faults.Device → (self.new.file.device ≡ self.old.file.device) × (self.new.file.gate ≡ self.old.file.gate)) }
-        ensures rests { (c : calls.Configuration) (x : calls.Index) → Stands A.analyze self.old.collection c x → IsTrue (D.honest self.old.file.device)
-            → Rests c.schema self.old.collection.settings (committed x.state) (D.content self.old.file.device) (D.unsynced self.old.file.device) self.old.file.gate
-            → OnOk result (Rests c.schema self.old.collection.settings (committed (calls.after c x.state calls.commit_pending)) (D.content self.new.file.device) (D.unsynced self.new.file.device) self.new.file.gate) }
+        ensures left { (c : calls.Configuration) (x : calls.Index) → IndexStands A.analyze self.old c x
+            → (y : calls.Index) × calls.Leaves c x calls.commit_pending result y
+            × IndexStands A.analyze self.new c y }
+        ensures exact { (c : calls.Configuration) (x : calls.Index) → IndexStands A.analyze self.old c x
+            → IfErr result (λ fault. fault ≢ faults.OutOfMemory → fault ≢ faults.Device → fault ≢ faults.Limit
+            → calls.call_fault c x calls.commit_pending ≡ Some fault) }
+        ensures made { KeepsMaking self.old self.new }
+
+        ensures honest { D.honest (device_of self.new) ≡ D.honest (device_of self.old) }
+        ensures cause { HasCause (D.failed (device_of self.old)) (D.failed (device_of self.new)) result }
+        ensures limit { (c : calls.Configuration) (x : calls.Index) → IndexStands A.analyze self.old c x
+            → IsErrOf result faults.Limit
+            → PassesLimit self.old (committed (calls.after c x.state calls.commit_pending)) }
+        ensures short { OnOk result (gate_of self.new < 2 ^ 63) }
+        ensures kept { IfErr result (λ fault. fault ≢ faults.Device → KeepsFile self.old self.new) }
+
+        // One record, also where nothing waits.
+        ensures appended { (c : calls.Configuration) (x : calls.Index) → IndexStands A.analyze self.old c x
+            → IsTrue (D.honest (device_of self.old))
+            → OnOk result (AppendsRecord self.old self.new (committed (calls.after c x.state calls.commit_pending))) }
+        ensures rests { (c : calls.Configuration) (x : calls.Index) → IndexStands A.analyze self.old c x
+            → IsTrue (D.honest (device_of self.old)) → IndexRests self.old (committed x.state)
+            → OnOk result (IndexRests self.new (committed (calls.after c x.state calls.commit_pending))) }
         // A crash at any moment of the call leaves a file of the documents before it or after it.
-        ensures any_moment { (c : calls.Configuration) (x : calls.Index) → Stands A.analyze self.old.collection c x → IsTrue (D.honest self.old.file.device)
-            → Rests c.schema self.old.collection.settings (committed x.state) (D.content self.old.file.device) (D.unsynced self.old.file.device) self.old.file.gate
-            → LeavesEither D.moment D.left_since self.old.file.device self.new.file.device c.schema self.old.collection.settings (committed x.state) (committed (calls.after c x.state calls.commit_pending)) }
+        ensures any_moment { (c : calls.Configuration) (x : calls.Index) → IndexStands A.analyze self.old c x
+            → IsTrue (D.honest (device_of self.old)) → IndexRests self.old (committed x.state)
+            → CrashLeavesEither self.old self.new (committed x.state)
+            (committed (calls.after c x.state calls.commit_pending)) }
     {
         self.collection.check_writer()?;
         match self.write_commit() {
@@ -257,23 +285,33 @@ impl<D: Device + Drop, A: Analyzer + Drop> Index<D, A> {
 
     /// Writes the record of a commit, for which all memory is found before.
     fn write_commit(&mut self) -> Result<(), Fault>
-        ensures documents { IsKept self.old.collection self.new.collection }
-        ensures room { OnOk result (vec_len self.new.collection.docs + vec_len self.new.collection.pending ≤ vec_capacity self.new.collection.docs) }
-        ensures fault { IfErr result (λ fault. (fault ≡ faults.OutOfMemory) ⊎ (fault ≡ faults.Device) ⊎ (fault ≡ faults.Limit)) }
-        ensures fits { OnOk result (HeldBody (documents_of self.old.collection.docs.items ++ documents_of self.old.collection.pending.items)) }
-        ensures fits_err { IfErr result (λ fault. fault ≢ faults.OutOfMemory → HeldBody (documents_of self.old.collection.docs.items ++ documents_of self.old.collection.pending.items)) }
-        ensures honest { D.honest self.new.file.device ≡ D.honest self.old.file.device }
-        ensures cause { HasCause (D.failed self.old.file.device) (D.failed self.new.file.device) result }
-        ensures limit { IsErrOf result faults.Limit → 2 ^ 63 < self.old.file.gate + 1 + length (frame_bytes (docs_body (documents_of self.old.collection.docs.items ++ documents_of self.old.collection.pending.items))) }
-        ensures kept { IfErr result (λ fault. fault ≢ faults.Device → (self.new.file.device ≡ self.old.file.device) × (self.new.file.gate ≡ self.old.file.gate)) }
-        ensures written { (bodies : List (List ℕ)) → IsTrue (D.honest self.old.file.device)
-            → IsAtRest (D.content self.old.file.device) self.old.file.gate bodies
-            → OnOk result (IsAtRest (D.content self.new.file.device) self.new.file.gate (bodies ++ docs_body (documents_of self.old.collection.docs.items ++ documents_of self.old.collection.pending.items) ∷ [])) }
-        ensures synced { IsTrue (D.honest self.old.file.device) → OnOk result (D.unsynced self.new.file.device ≡ settled (length (D.content self.new.file.device))) }
-        ensures any_moment { (bodies : List (List ℕ)) → IsTrue (D.honest self.old.file.device)
-            → IsAtRest (D.content self.old.file.device) self.old.file.gate bodies
-            → D.unsynced self.old.file.device ≡ settled (length (D.content self.old.file.device))
-            → LeavesOnly D.moment D.left_since self.old.file.device self.new.file.device (IsOneOf bodies (bodies ++ docs_body (documents_of self.old.collection.docs.items ++ documents_of self.old.collection.pending.items) ∷ [])) }
+        ensures documents { KeepsDocuments self.old.collection self.new.collection }
+        ensures room { OnOk result (vec_len self.new.collection.docs + vec_len self.new.collection.pending
+            ≤ vec_capacity self.new.collection.docs) }
+        ensures fault { IfErr result (λ fault.
+            (fault ≡ faults.OutOfMemory) ⊎ (fault ≡ faults.Device) ⊎ (fault ≡ faults.Limit)) }
+        ensures fits { OnOk result (HeldBody (all_documents self.old.collection)) }
+        ensures fits_err { IfErr result (λ fault. fault ≢ faults.OutOfMemory
+            → HeldBody (all_documents self.old.collection)) }
+
+        ensures honest { D.honest (device_of self.new) ≡ D.honest (device_of self.old) }
+        ensures cause { HasCause (D.failed (device_of self.old)) (D.failed (device_of self.new)) result }
+        ensures limit { IsErrOf result faults.Limit
+            → 2 ^ 63 < gate_of self.old + 1 + length (frame_bytes (docs_body (all_documents self.old.collection))) }
+        ensures short { OnOk result (gate_of self.new < 2 ^ 63) }
+        ensures kept { IfErr result (λ fault. fault ≢ faults.Device → KeepsFile self.old self.new) }
+
+        ensures written { (bodies : List (List ℕ)) → IsTrue (D.honest (device_of self.old))
+            → IsAtRest (D.content (device_of self.old)) (gate_of self.old) bodies
+            → OnOk result (IsAtRest (D.content (device_of self.new)) (gate_of self.new)
+            (bodies ++ docs_body (all_documents self.old.collection) ∷ [])) }
+        ensures synced { IsTrue (D.honest (device_of self.old))
+            → OnOk result (D.unsynced (device_of self.new) ≡ settled (length (D.content (device_of self.new)))) }
+        ensures any_moment { (bodies : List (List ℕ)) → IsTrue (D.honest (device_of self.old))
+            → IsAtRest (D.content (device_of self.old)) (gate_of self.old) bodies
+            → D.unsynced (device_of self.old) ≡ settled (length (D.content (device_of self.old)))
+            → LeavesOnly D.moment D.left_since (device_of self.old) (device_of self.new)
+            (IsOneOf bodies (bodies ++ docs_body (all_documents self.old.collection) ∷ [])) }
     {
         self.collection.reserve_commit()?;
         let frame = self.collection.commit_frame()?;
@@ -282,22 +320,27 @@ impl<D: Device + Drop, A: Analyzer + Drop> Index<D, A> {
 
     /// The best k of the committed documents that match, by score, and then by addition.
     pub fn search(&self, query: &AnyQuery, k: usize) -> Result<Vec<Hit>, Fault>
-        ensures ok { (c : calls.Configuration) (x : calls.Index) → Stands A.analyze self.now.collection c x → IfOk result (λ hits.
+        ensures ok { (c : calls.Configuration) (x : calls.Index) → IndexStands A.analyze self.now c x
+            → IfOk result (λ hits.
             (calls.call_fault c x (calls.search_best (query_of query.now) k) ≡ None)
-            × (map hit_of hits.items ≡ map scored (scanning.scan c.schema c.analyze c.similarity (committed x.state) (query_of query.now) k))) }
-        ensures err { (c : calls.Configuration) (x : calls.Index) → Stands A.analyze self.now.collection c x → IfErr result (λ fault.
-            fault ≢ faults.OutOfMemory → calls.call_fault c x (calls.search_best (query_of query.now) k) ≡ Some fault) }
+            × (map hit_of hits.items
+            ≡ map scored (scanning.scan c.schema c.analyze c.similarity (committed x.state) (query_of query.now) k))) }
+        ensures err { (c : calls.Configuration) (x : calls.Index) → IndexStands A.analyze self.now c x
+            → IfErr result (λ fault. fault ≢ faults.OutOfMemory
+            → calls.call_fault c x (calls.search_best (query_of query.now) k) ≡ Some fault) }
     {
         self.collection.search(query, k)
     }
 
     /// How many of the committed documents match.
     pub fn count(&self, query: &AnyQuery) -> Result<u64, Fault>
-        ensures ok { (c : calls.Configuration) (x : calls.Index) → Stands A.analyze self.now.collection c x → IfOk result (λ count.
+        ensures ok { (c : calls.Configuration) (x : calls.Index) → IndexStands A.analyze self.now c x
+            → IfOk result (λ count.
             (calls.call_fault c x (calls.count_all (query_of query.now)) ≡ None)
             × (count ≡ scanning.scan_count c.schema c.analyze (committed x.state) (query_of query.now))) }
-        ensures err { (c : calls.Configuration) (x : calls.Index) → Stands A.analyze self.now.collection c x → IfErr result (λ fault.
-            calls.call_fault c x (calls.count_all (query_of query.now)) ≡ Some fault) }
+        ensures err { (c : calls.Configuration) (x : calls.Index) → IndexStands A.analyze self.now c x
+            → IfErr result (λ fault. fault ≢ faults.OutOfMemory
+            → calls.call_fault c x (calls.count_all (query_of query.now)) ≡ Some fault) }
     {
         self.collection.count(query)
     }
@@ -323,7 +366,8 @@ fn first_frame<A: Analyzer>(
     ensures ok { IfOk result (λ frame. frame.items ≡ frame_bytes (first_body schema.now settings.now)) }
     ensures made { OnOk result (making_fault (A.knows_name analyzer.now) schema.now settings.now ≡ None) }
     ensures read_back { OnOk result (first_in (first_body schema.now settings.now) ≡ Some (schema.now, settings.now)) }
-    ensures err { IfErr result (λ fault. fault ≢ faults.OutOfMemory → making_fault (A.knows_name analyzer.now) schema.now settings.now ≡ Some fault) }
+    ensures err { IfErr result (λ fault.
+        fault ≢ faults.OutOfMemory → making_fault (A.knows_name analyzer.now) schema.now settings.now ≡ Some fault) }
 {
     check_making(alloc, analyzer, schema, settings)?;
     let mut frame = start_frame(alloc)?;
@@ -342,24 +386,29 @@ fn open_file<D: Device + Drop, A: Analyzer + Drop>(
     requires inside { IsTrue (D.honest device) → contents.gate < length (D.content device) }
     requires short { contents.gate < 2 ^ 63 }
     requires described { Describe contents.schema (A.analyze analyzer) contents.docs.items }
-    ensures stands { IfOk result (λ index. StandsReopened A.analyze index.collection (configuration_of contents.schema (A.analyze analyzer) contents.settings) (documents_of contents.docs.items)) }
-    ensures made { IfOk result (λ index. (index.collection.schema ≡ contents.schema) × (index.collection.settings ≡ contents.settings) × (index.collection.docs ≡ contents.docs)) }
-    ensures same_analyzer { IfOk result (λ index. index.collection.analyzer ≡ analyzer) }
+    ensures stands { IfOk result (λ index. IsReopened A.analyze index.collection
+        (configuration_of contents.schema (A.analyze analyzer) contents.settings) (documents_of contents.docs.items)) }
+    ensures made { IfOk result (λ index.
+        (schema_of index ≡ contents.schema) × (settings_of index ≡ contents.settings)) }
     ensures refused { IfErr result (λ r. r.fault ≡ faults.Device) }
-    ensures returned { IfErr result (λ r. r.analyzer ≡ analyzer) }
-    ensures honest { IfOk result (λ index. D.honest index.file.device ≡ D.honest device) }
-    ensures honest_err { IfErr result (λ r. D.honest r.device ≡ D.honest device) }
-    ensures cause { IfErr result (λ r. IsCaused (D.failed device) (D.failed r.device) r.fault) }
-    ensures at_rest { (bodies : List (List ℕ)) → IsTrue (D.honest device) → EndsAt (D.content device) contents.gate bodies → IfOk result (λ index. IsAtRest (D.content index.file.device) index.file.gate bodies) }
-    ensures unsynced { IsTrue (D.honest device) → IfOk result (λ index. D.unsynced index.file.device ≡ settled (length (D.content index.file.device))) }
-    ensures any_moment { (bodies a b : List (List ℕ)) → IsTrue (D.honest device) → EndsAt (D.content device) contents.gate bodies → ((image : List ℕ) → IsImage (D.content device) (D.unsynced device) image → IsOneOf a b image)
-        → IfOk result (λ index. LeavesOnly D.moment D.left_since device index.file.device (IsOneOf a b)) }
-    ensures any_moment_err { (bodies a b : List (List ℕ)) → IsTrue (D.honest device) → EndsAt (D.content device) contents.gate bodies → ((image : List ℕ) → IsImage (D.content device) (D.unsynced device) image → IsOneOf a b image)
-        → IfErr result (λ r. LeavesOnly D.moment D.left_since device r.device (IsOneOf a b)) }
-    ensures fresh { (bodies : List (List ℕ)) → IsTrue (D.honest device) → EndsAt (D.content device) contents.gate bodies → ((image : List ℕ) → IsImage (D.content device) (D.unsynced device) image → IsFresh is_first image)
-        → IfOk result (λ index. LeavesOnly D.moment D.left_since device index.file.device (IsFresh is_first)) }
-    ensures fresh_err { (bodies : List (List ℕ)) → IsTrue (D.honest device) → EndsAt (D.content device) contents.gate bodies → ((image : List ℕ) → IsImage (D.content device) (D.unsynced device) image → IsFresh is_first image)
-        → IfErr result (λ r. LeavesOnly D.moment D.left_since device r.device (IsFresh is_first)) }
+
+    ensures honest { D.honest (device_after result) ≡ D.honest device }
+    ensures analyzer { analyzer_after result ≡ analyzer }
+    ensures cause { HasCause (D.failed device) (D.failed (device_after result)) (ending_of result) }
+
+    ensures at_rest { (bodies : List (List ℕ)) → IsTrue (D.honest device)
+        → EndsAt (D.content device) contents.gate bodies
+        → IfOk result (λ index. IsAtRest (D.content (device_of index)) (gate_of index) bodies) }
+    ensures unsynced { IsTrue (D.honest device) → IfOk result (λ index.
+        D.unsynced (device_of index) ≡ settled (length (D.content (device_of index)))) }
+    ensures any_moment { (bodies a b : List (List ℕ)) → IsTrue (D.honest device)
+        → EndsAt (D.content device) contents.gate bodies
+        → LeavesNow D.content D.unsynced device (IsOneOf a b)
+        → LeavesOnly D.moment D.left_since device (device_after result) (IsOneOf a b) }
+    ensures fresh { (bodies : List (List ℕ)) → IsTrue (D.honest device)
+        → EndsAt (D.content device) contents.gate bodies
+        → LeavesNow D.content D.unsynced device (IsFresh is_first)
+        → LeavesOnly D.moment D.left_since device (device_after result) (IsFresh is_first) }
 {
     let Contents {
         gate,

@@ -1,7 +1,11 @@
--- A device that was read alone.
+-- What a crash now leaves of a device, and a device that was read alone.
 use Rattle.std.specs.Prelude.{◌≡◌, List, ℕ}
 use Rattle.definitions.specs.Disk.{IsImage, Unsynced}
 use Rattle.definitions.specs.Moments.{LeavesOnly}
+
+-- a crash now leaves only images that have P
+abbrev pub LeavesNow : {D : Type 0} → (D → List ℕ) → (D → Unsynced) → D → (List ℕ → Type 0) → Type 0
+LeavesNow content unsynced device P = (image : List ℕ) → IsImage (content device) (unsynced device) image → P image
 
 -- its content is as before, and a crash leaves what it might have left before
 pub record IsKept {D : Type 0} (moment : D → ℕ) (left_since : D → ℕ → List ℕ → Type 0) (content : D → List ℕ) (unsynced : D → Unsynced) (old new : D) : Type 0 where

@@ -2,3 +2,4 @@
 pub mod Frames
 pub mod Outcomes
 pub mod Kept
+pub mod HandedBack

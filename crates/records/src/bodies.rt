@@ -15,5 +15,6 @@ pub trait Bodies {
     /// Takes a body, where it is in the grammar. What a reader is after an error is nobody's matter.
     fn take(&mut self, body: &[u8]) -> Result<bool, AllocError>
         ensures answer { IfOk result (λ took. IsTrue took ↔ takes (taken self.old) body.now) }
-        ensures appended { IfOk result (λ took. taken self.new ≡ cond took (taken self.old ++ body.now ∷ []) (taken self.old)) };
+        ensures appended { IfOk result (λ took.
+            taken self.new ≡ cond took (taken self.old ++ body.now ∷ []) (taken self.old)) };
 }

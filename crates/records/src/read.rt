@@ -27,14 +27,20 @@ pub fn read_records<D: Device, B: Bodies>(
     requires { B.taken bodies.old ≡ [] }
     ensures honest { D.honest device.new ≡ D.honest device.old }
     ensures cause { HasCause (D.failed device.old) (D.failed device.new) result }
-    ensures kept { IsTrue (D.honest device.old) → IsKept D.moment D.left_since D.content D.unsynced device.old device.new }
-    ensures file { IsTrue (D.honest device.old) → IfOk result (λ gate. EndsAt (D.content device.new) gate (B.taken bodies.new)) }
+    ensures kept { IsTrue (D.honest device.old)
+        → IsKept D.moment D.left_since D.content D.unsynced device.old device.new }
+    ensures file { IsTrue (D.honest device.old)
+        → IfOk result (λ gate. EndsAt (D.content device.new) gate (B.taken bodies.new)) }
     ensures inside { IsTrue (D.honest device.old) → IfOk result (λ gate. gate < length (D.content device.new)) }
     ensures short { IfOk result (λ gate. gate < 2 ^ 63) }
     ensures index { IsTrue (D.honest device.old) → OnOk result (¬ IsNoIndex (D.content device.new)) }
     ensures taken { OnOk result (AreTaken B.takes [] (B.taken bodies.new)) }
-    ensures refused { IsTrue (D.honest device.old) → IfErr result (λ fault. (fault ≡ faults.Device) ⊎ (fault ≡ faults.OutOfMemory) ⊎ IsRefusal B.takes (D.content device.new) fault) }
-    ensures fault { IfErr result (λ fault. (fault ≡ faults.Device) ⊎ (fault ≡ faults.OutOfMemory) ⊎ (fault ≡ faults.NoIndex) ⊎ ((place : _) × (fault ≡ faults.Damaged place))) }
+    ensures refused { IsTrue (D.honest device.old)
+        → IfErr result (λ fault.
+        (fault ≡ faults.Device) ⊎ (fault ≡ faults.OutOfMemory) ⊎ IsRefusal B.takes (D.content device.new) fault) }
+    ensures fault { IfErr result (λ fault.
+        (fault ≡ faults.Device) ⊎ (fault ≡ faults.OutOfMemory) ⊎ (fault ≡ faults.NoIndex)
+        ⊎ ((place : _) × (fault ≡ faults.Damaged place))) }
 {
     let bytes = device.read(alloc)?;
     scan(&bytes, bodies)
@@ -70,8 +76,10 @@ pub fn scan<B: Bodies>(bytes: &[u8], bodies: &mut B) -> Result<usize, Fault>
 // The body that stands after an open gate, and what follows from the next gate on, where there is a gate.
 fn take_record(bytes: &[u8]) -> Option<(&[u8], &[u8])>
     ensures { MatchOption result
-        ((body : List ℕ) (gate : ℕ) (rest : List ℕ) → length body < 2 ^ 64 → ¬ (bytes.now ≡ sized_body body ++ gate ∷ rest))
-        (λ parts. (length parts.0.now < 2 ^ 64) × (bytes.now ≡ sized_body parts.0.now ++ parts.1.now) × (0 < length parts.1.now)) }
+        ((body : List ℕ) (gate : ℕ) (rest : List ℕ) → length body < 2 ^ 64
+        → ¬ (bytes.now ≡ sized_body body ++ gate ∷ rest))
+        (λ parts. (length parts.0.now < 2 ^ 64) × (bytes.now ≡ sized_body parts.0.now ++ parts.1.now)
+        × (0 < length parts.1.now)) }
 {
     let (len, rest) = take_u64(bytes).ok()?;
     if len >= rest.len() as u64 {

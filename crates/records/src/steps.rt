@@ -6,7 +6,7 @@ ghost use Rattle.definitions.specs.Moments.{LeavesOnly};
 ghost use Rattle.definitions.specs.declared.fault.Fault.TheVariants as faults;
 ghost use Rattle.layouts.specs.RecordFiles.{EndsAt, IsAtRest, IsFresh, IsOneOf};
 ghost use Rattle.records.specs.Frames.{frame_bytes};
-ghost use Rattle.records.specs.Kept.{IsKept};
+ghost use Rattle.records.specs.Kept.{IsKept, LeavesNow};
 
 use crate::read::OPEN;
 use common::{Device, cut_synced, write_synced};
@@ -21,12 +21,26 @@ pub(crate) fn settle_file<D: Device>(device: &mut D, gate: usize) -> Result<(), 
     ensures cause { HasCause (D.failed device.old) (D.failed device.new) result }
     ensures fault { IfErr result (λ fault. fault ≡ faults.Device) }
     ensures inside { IsTrue (D.honest device.old) → gate < length (D.content device.new) }
-    ensures at_rest { (bodies : List (List ℕ)) → IsTrue (D.honest device.old) → EndsAt (D.content device.old) gate bodies → OnOk result (IsAtRest (D.content device.new) gate bodies) }
-    ensures unsynced { IsTrue (D.honest device.old) → OnOk result (D.unsynced device.new ≡ settled (length (D.content device.new))) }
-    ensures any_moment { (bodies a b : List (List ℕ)) → IsTrue (D.honest device.old) → EndsAt (D.content device.old) gate bodies → ((image : List ℕ) → IsImage (D.content device.old) (D.unsynced device.old) image → IsOneOf a b image) → LeavesOnly D.moment D.left_since device.old device.new (IsOneOf a b) }
-    ensures fresh { (takes : List ℕ → Bool) (bodies : List (List ℕ)) → IsTrue (D.honest device.old) → EndsAt (D.content device.old) gate bodies → ((image : List ℕ) → IsImage (D.content device.old) (D.unsynced device.old) image → IsFresh takes image) → LeavesOnly D.moment D.left_since device.old device.new (IsFresh takes) }
-    ensures one { (bodies a b : List (List ℕ)) → IsTrue (D.honest device.old) → EndsAt (D.content device.old) gate bodies → ((image : List ℕ) → IsImage (D.content device.old) (D.unsynced device.old) image → IsOneOf a b image) → IsEither a b bodies }
-    ensures first { (takes : List ℕ → Bool) (bodies : List (List ℕ)) → IsTrue (D.honest device.old) → EndsAt (D.content device.old) gate bodies → bodies ≢ [] → ((image : List ℕ) → IsImage (D.content device.old) (D.unsynced device.old) image → IsFresh takes image) → (body : List ℕ) × (bodies ≡ body ∷ []) }
+    ensures at_rest { (bodies : List (List ℕ)) → IsTrue (D.honest device.old)
+        → EndsAt (D.content device.old) gate bodies
+        → OnOk result (IsAtRest (D.content device.new) gate bodies) }
+    ensures unsynced { IsTrue (D.honest device.old)
+        → OnOk result (D.unsynced device.new ≡ settled (length (D.content device.new))) }
+    ensures any_moment { (bodies a b : List (List ℕ)) → IsTrue (D.honest device.old)
+        → EndsAt (D.content device.old) gate bodies
+        → LeavesNow D.content D.unsynced device.old (IsOneOf a b)
+        → LeavesOnly D.moment D.left_since device.old device.new (IsOneOf a b) }
+    ensures fresh { (takes : List ℕ → Bool) (bodies : List (List ℕ)) → IsTrue (D.honest device.old)
+        → EndsAt (D.content device.old) gate bodies
+        → LeavesNow D.content D.unsynced device.old (IsFresh takes)
+        → LeavesOnly D.moment D.left_since device.old device.new (IsFresh takes) }
+    ensures one { (bodies a b : List (List ℕ)) → IsTrue (D.honest device.old)
+        → EndsAt (D.content device.old) gate bodies
+        → LeavesNow D.content D.unsynced device.old (IsOneOf a b) → IsEither a b bodies }
+    ensures first { (takes : List ℕ → Bool) (bodies : List (List ℕ)) → IsTrue (D.honest device.old)
+        → EndsAt (D.content device.old) gate bodies → bodies ≢ []
+        → LeavesNow D.content D.unsynced device.old (IsFresh takes)
+        → (body : List ℕ) × (bodies ≡ body ∷ []) }
 {
     device.sync()?;
     cut_synced(device, gate + 1)
@@ -43,11 +57,19 @@ pub(crate) fn append_record<D: Device>(
     ensures honest { D.honest device.new ≡ D.honest device.old }
     ensures cause { HasCause (D.failed device.old) (D.failed device.new) result }
     ensures fault { IfErr result (λ fault. fault ≡ faults.Device) }
-    ensures no_shorter { IsTrue (D.honest device.old) → length (D.content device.old) ≤ length (D.content device.new) }
-    ensures long { IsTrue (D.honest device.old) → OnOk result (gate + length frame.now < length (D.content device.new)) }
-    ensures appended { (bodies : List (List ℕ)) (body : List ℕ) → IsTrue (D.honest device.old) → frame.now ≡ frame_bytes body → IsAtRest (D.content device.old) gate bodies → OnOk result (IsAtRest (D.content device.new) (gate + length frame.now) (bodies ++ body ∷ [])) }
-    ensures unsynced { IsTrue (D.honest device.old) → OnOk result (D.unsynced device.new ≡ settled (length (D.content device.new))) }
-    ensures any_moment { (bodies : List (List ℕ)) (body : List ℕ) → IsTrue (D.honest device.old) → frame.now ≡ frame_bytes body → IsAtRest (D.content device.old) gate bodies → D.unsynced device.old ≡ settled (length (D.content device.old)) → LeavesOnly D.moment D.left_since device.old device.new (IsOneOf bodies (bodies ++ body ∷ [])) }
+    ensures no_shorter { IsTrue (D.honest device.old)
+        → length (D.content device.old) ≤ length (D.content device.new) }
+    ensures long { IsTrue (D.honest device.old)
+        → OnOk result (gate + length frame.now < length (D.content device.new)) }
+    ensures appended { (bodies : List (List ℕ)) (body : List ℕ) → IsTrue (D.honest device.old)
+        → frame.now ≡ frame_bytes body → IsAtRest (D.content device.old) gate bodies
+        → OnOk result (IsAtRest (D.content device.new) (gate + length frame.now) (bodies ++ body ∷ [])) }
+    ensures unsynced { IsTrue (D.honest device.old)
+        → OnOk result (D.unsynced device.new ≡ settled (length (D.content device.new))) }
+    ensures any_moment { (bodies : List (List ℕ)) (body : List ℕ) → IsTrue (D.honest device.old)
+        → frame.now ≡ frame_bytes body → IsAtRest (D.content device.old) gate bodies
+        → D.unsynced device.old ≡ settled (length (D.content device.old))
+        → LeavesOnly D.moment D.left_since device.old device.new (IsOneOf bodies (bodies ++ body ∷ [])) }
 {
     write_synced(device, gate + 1, frame)?;
     write_synced(device, gate, &[OPEN])
@@ -61,14 +83,22 @@ pub(crate) fn create_file<D: Device>(
 ) -> Result<(), Fault>
     ensures honest { D.honest device.new ≡ D.honest device.old }
     ensures cause { HasCause (D.failed device.old) (D.failed device.new) result }
-    ensures fault { IfErr result (λ fault. (fault ≡ faults.Device) ⊎ (fault ≡ faults.OutOfMemory) ⊎ (fault ≡ faults.NotEmpty)) }
+    ensures fault { IfErr result (λ fault.
+        (fault ≡ faults.Device) ⊎ (fault ≡ faults.OutOfMemory) ⊎ (fault ≡ faults.NotEmpty)) }
     ensures not_empty { IsTrue (D.honest device.old) → IsErrOf result faults.NotEmpty → D.content device.old ≢ [] }
     ensures empty { IsTrue (D.honest device.old) → OnOk result (D.content device.old ≡ []) }
     ensures long { IsTrue (D.honest device.old) → OnOk result (length frame.now < length (D.content device.new)) }
-    ensures at_rest { (body : List ℕ) → IsTrue (D.honest device.old) → frame.now ≡ frame_bytes body → OnOk result (IsAtRest (D.content device.new) (length frame.now) (body ∷ [])) }
-    ensures unsynced { IsTrue (D.honest device.old) → OnOk result (D.unsynced device.new ≡ settled (length (D.content device.new))) }
-    ensures any_moment { (takes : List ℕ → Bool) (body : List ℕ) → IsTrue (D.honest device.old) → frame.now ≡ frame_bytes body → IsTrue (takes body) → ((image : List ℕ) → IsImage (D.content device.old) (D.unsynced device.old) image → IsFresh takes image) → LeavesOnly D.moment D.left_since device.old device.new (IsFresh takes) }
-    ensures kept { IsTrue (D.honest device.old) → (D.content device.old ≢ []) ⊎ IsErrOf result faults.OutOfMemory → IsKept D.moment D.left_since D.content D.unsynced device.old device.new }
+    ensures at_rest { (body : List ℕ) → IsTrue (D.honest device.old) → frame.now ≡ frame_bytes body
+        → OnOk result (IsAtRest (D.content device.new) (length frame.now) (body ∷ [])) }
+    ensures unsynced { IsTrue (D.honest device.old)
+        → OnOk result (D.unsynced device.new ≡ settled (length (D.content device.new))) }
+    ensures any_moment { (takes : List ℕ → Bool) (body : List ℕ) → IsTrue (D.honest device.old)
+        → frame.now ≡ frame_bytes body → IsTrue (takes body)
+        → LeavesNow D.content D.unsynced device.old (IsFresh takes)
+        → LeavesOnly D.moment D.left_since device.old device.new (IsFresh takes) }
+    ensures kept { IsTrue (D.honest device.old)
+        → (D.content device.old ≢ []) ⊎ IsErrOf result faults.OutOfMemory
+        → IsKept D.moment D.left_since D.content D.unsynced device.old device.new }
 {
     lay_gate(alloc, device)?;
     append_record(device, 0, frame)
@@ -78,13 +108,18 @@ pub(crate) fn create_file<D: Device>(
 pub(crate) fn lay_gate<D: Device>(alloc: Global, device: &mut D) -> Result<(), Fault>
     ensures honest { D.honest device.new ≡ D.honest device.old }
     ensures cause { HasCause (D.failed device.old) (D.failed device.new) result }
-    ensures fault { IfErr result (λ fault. (fault ≡ faults.Device) ⊎ (fault ≡ faults.OutOfMemory) ⊎ (fault ≡ faults.NotEmpty)) }
+    ensures fault { IfErr result (λ fault.
+        (fault ≡ faults.Device) ⊎ (fault ≡ faults.OutOfMemory) ⊎ (fault ≡ faults.NotEmpty)) }
     ensures not_empty { IsTrue (D.honest device.old) → IsErrOf result faults.NotEmpty → D.content device.old ≢ [] }
     ensures empty { IsTrue (D.honest device.old) → OnOk result (D.content device.old ≡ []) }
     ensures content { IsTrue (D.honest device.old) → OnOk result (D.content device.new ≡ 0 ∷ []) }
     ensures unsynced { IsTrue (D.honest device.old) → OnOk result (D.unsynced device.new ≡ settled 1) }
-    ensures any_moment { (takes : List ℕ → Bool) → IsTrue (D.honest device.old) → ((image : List ℕ) → IsImage (D.content device.old) (D.unsynced device.old) image → IsFresh takes image) → LeavesOnly D.moment D.left_since device.old device.new (IsFresh takes) }
-    ensures kept { IsTrue (D.honest device.old) → (D.content device.old ≢ []) ⊎ IsErrOf result faults.OutOfMemory → IsKept D.moment D.left_since D.content D.unsynced device.old device.new }
+    ensures any_moment { (takes : List ℕ → Bool) → IsTrue (D.honest device.old)
+        → LeavesNow D.content D.unsynced device.old (IsFresh takes)
+        → LeavesOnly D.moment D.left_since device.old device.new (IsFresh takes) }
+    ensures kept { IsTrue (D.honest device.old)
+        → (D.content device.old ≢ []) ⊎ IsErrOf result faults.OutOfMemory
+        → IsKept D.moment D.left_since D.content D.unsynced device.old device.new }
 {
     if !device.read(alloc)?.is_empty() {
         return Err(Fault::NotEmpty);

@@ -1,7 +1,8 @@
 //! How a line is read, one look at the reader's buffer at a time.
 
-ghost use Rattle.std.specs.Prelude.{◌≡◌, ◌<◌, OnOk, OnErr, IfOk};
+ghost use Rattle.std.specs.Prelude.{◌≡◌, ◌<◌, OnOk, OnErr, IfErr, IfOk};
 ghost use Rattle.std.specs.Io.KnownBytes.{Keeps};
+ghost use Rattle.common.specs.declared.run_fault.RunFault.TheVariants as run_faults;
 ghost use Rattle.serve_lines.specs.Reading.{MovesChunk, TakesLine};
 
 use crate::RunFault;
@@ -49,8 +50,31 @@ fn take_chunk<R: BufRead>(reader: &mut R, line: &mut LineBuffer) -> io::Result<C
     }
 }
 
-// Takes the next chunk. What was written before is flushed first if the reader may wait. A read
-// that a signal interrupts takes an empty part.
+// Looks at the reader. A read that a signal interrupts takes an empty part.
+fn look<R: BufRead>(reader: &mut R, line: &mut LineBuffer) -> Result<Chunk, RunFault>
+    ensures ok { IfOk result (λ chunk.
+        MovesChunk chunk (R.remaining reader.old) (R.remaining reader.new) line.old line.new) }
+    ensures fault { IfErr result (λ fault. fault ≡ run_faults.ReadFault) }
+{
+    match take_chunk(reader, line) {
+        Ok(chunk) => Ok(chunk),
+        Err(error) if error.kind() == ErrorKind::Interrupted => Ok(Chunk::Part),
+        Err(_) => Err(RunFault::ReadFault),
+    }
+}
+
+/// Flushes what was written.
+pub(crate) fn flush<W: Write>(writer: &mut W) -> Result<(), RunFault>
+    ensures writer { OnOk result (Keeps (W.contents writer.old) (W.contents writer.new)) }
+    ensures fault { IfErr result (λ fault. fault ≡ run_faults.WriteFault) }
+{
+    if writer.flush().is_err() {
+        return Err(RunFault::WriteFault);
+    }
+    Ok(())
+}
+
+// Takes the next chunk. What was written before is flushed first if the reader may wait.
 fn next_chunk<R: BufRead, W: Write>(
     reader: &mut R,
     writer: &mut W,
@@ -60,14 +84,10 @@ fn next_chunk<R: BufRead, W: Write>(
         MovesChunk chunk (R.remaining reader.old) (R.remaining reader.new) line.old line.new) }
     ensures writer { OnOk result (Keeps (W.contents writer.old) (W.contents writer.new)) }
 {
-    if line.may_wait && writer.flush().is_err() {
-        return Err(RunFault::WriteFault);
+    if line.may_wait {
+        flush(writer)?;
     }
-    match take_chunk(reader, line) {
-        Ok(chunk) => Ok(chunk),
-        Err(error) if error.kind() == ErrorKind::Interrupted => Ok(Chunk::Part),
-        Err(_) => Err(RunFault::ReadFault),
-    }
+    look(reader, line)
 }
 
 /// Reads the next line, and answers whether there was one. Each look at the reader is one of the

@@ -1,14 +1,15 @@
 //! The run over the lines of an input.
 
-ghost use Rattle.std.specs.Prelude.{◌≡◌, ℕ, ◌<◌, List, OnOk, IfOk, IfSome};
+ghost use Rattle.std.specs.Prelude.{◌≡◌, ℕ, ◌<◌, ◌^◌, List, OnOk, IfErr, IfOk, IfSome};
 ghost use Rattle.std.specs.Io.KnownBytes.{Appends};
+ghost use Rattle.common.specs.declared.run_fault.RunFault.TheVariants as run_faults;
 ghost use Rattle.definitions.specs.Lines.{lines_of};
 ghost use Rattle.serve_lines.specs.Reading.{Holds};
 ghost use Rattle.definitions.specs.Replying.{output_line, Writes};
-ghost use Rattle.serve_lines.specs.Serving.{Grows, ServesLine, WritesAnswer};
+ghost use Rattle.serve_lines.specs.Serving.{Grows, ServesAll, ServesLine, WritesAnswer};
 
 use crate::line::LineBuffer;
-use crate::reading::read_line;
+use crate::reading::{flush, read_line};
 use crate::{RunFault, Service};
 use std::alloc::Global;
 use std::io::{BufRead, Write};
@@ -25,11 +26,23 @@ pub fn run<R: BufRead, W: Write, S: Service>(
     service: &mut S,
 ) -> Result<(), RunFault>
     // Where the reader's bytes are known, the replies to its lines are written.
-    ensures { (s : S.State) → S.stands service.old s
+    ensures replies { (s : S.State) → S.stands service.old s
         → OnOk result (IfSome (R.remaining reader.old) (λ input.
         Writes S.answer S.after s (lines_of input) (W.contents writer.old) (W.contents writer.new))) }
+    // Unless the reply of a fault that stops is among them, the service stands for the state after all lines.
+    ensures stands { (s : S.State) → S.stands service.old s
+        → OnOk result (IfSome (R.remaining reader.old) (λ input.
+        ServesAll S.answer S.after (S.stands service.new) s (lines_of input)
+        (W.contents writer.old) (W.contents writer.new))) }
 {
-    run_within(alloc, reader, writer, service, MOST_TURNS)
+    run_within(alloc, reader, writer, service, most_turns())
+}
+
+/// The most looks at its reader that a run takes.
+fn most_turns() -> u64
+    ensures { result ≡ 2 ^ 48 }
+{
+    MOST_TURNS
 }
 
 /// The same with another number of looks at the reader; where they don't suffice it ends with `ReadFault`.
@@ -40,16 +53,18 @@ pub fn run_within<R: BufRead, W: Write, S: Service>(
     service: &mut S,
     most_turns: u64,
 ) -> Result<(), RunFault>
-    ensures { (s : S.State) → S.stands service.old s
+    ensures replies { (s : S.State) → S.stands service.old s
         → OnOk result (IfSome (R.remaining reader.old) (λ input.
         Writes S.answer S.after s (lines_of input) (W.contents writer.old) (W.contents writer.new))) }
+    ensures stands { (s : S.State) → S.stands service.old s
+        → OnOk result (IfSome (R.remaining reader.old) (λ input.
+        ServesAll S.answer S.after (S.stands service.new) s (lines_of input)
+        (W.contents writer.old) (W.contents writer.new))) }
 {
     let mut line = LineBuffer::new(alloc);
     let mut turns = most_turns;
     while serve_line(reader, writer, service, &mut line, &mut turns)? {}
-    if writer.flush().is_err() {
-        return Err(RunFault::WriteFault);
-    }
+    flush(writer)?;
     Ok(())
 }
 
@@ -82,6 +97,7 @@ fn answer_line<W: Write, S: Service>(
     line: &LineBuffer,
 ) -> Result<(), RunFault>
     ensures grows { OnOk result (Grows (W.contents writer.old) (W.contents writer.new)) }
+    ensures fault { IfErr result (λ fault. fault ≡ run_faults.WriteFault) }
     ensures answered { (s : S.State) → S.stands service.old s
         → (seen : List ℕ) → Holds line.now seen
         → OnOk result (WritesAnswer S.answer S.after (S.stands service.new) s seen
@@ -98,7 +114,9 @@ fn answer_line<W: Write, S: Service>(
 
 // Writes a reply and its newline.
 fn tell<W: Write>(writer: &mut W, reply: &str) -> Result<(), RunFault>
-    ensures { OnOk result (Appends (W.contents writer.old) (W.contents writer.new) (output_line reply.now)) }
+    ensures written { OnOk result
+        (Appends (W.contents writer.old) (W.contents writer.new) (output_line reply.now)) }
+    ensures fault { IfErr result (λ fault. fault ≡ run_faults.WriteFault) }
 {
     let newline = "\n";
     if writer.write_all(reply.as_bytes()).is_err()

@@ -1,4 +1,4 @@
-use Rattle.std.proofs.Common.{◌++◌, ◌≡◌, drop, flat_map, take}
+use Rattle.std.proofs.Common.{◌++◌, ◌≡◌, drop, flat_map}
 use Rattle.std.specs.List.{AllByRecursion}
 use Rattle.engine.specs.Files.{IsHeld}
 use Rattle.layouts.specs.DocumentBytes.{document_bytes}

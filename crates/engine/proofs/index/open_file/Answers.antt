@@ -4,5 +4,5 @@ use Rattle.engine.proofs.index.open_file.Goals as goal
 pub returns-in-Ok-clause-fresh : goal.returns-in-Ok-clause-fresh
 returns-in-Ok-clause-fresh g c bodies h ends images = c.in-Ok.ensures.fresh is_first bodies h ends images
 
-pub returns-in-Err-clause-fresh_err : goal.returns-in-Err-clause-fresh_err
-returns-in-Err-clause-fresh_err g c bodies h ends images = c.in-Err.ensures.fresh_err is_first bodies h ends images
+pub returns-in-Err-clause-fresh : goal.returns-in-Err-clause-fresh
+returns-in-Err-clause-fresh g c bodies h ends images = c.in-Err.ensures.fresh is_first bodies h ends images

@@ -1,4 +1,4 @@
-use Rattle.std.proofs.Common.{true, None, ap, refl, subst, sym, ◌∙◌, ◌≡◌}
+use Rattle.std.proofs.Common.{true, None, ap, subst, sym, ◌∙◌, ◌≡◌}
 use Rattle.std.specs.Result.{result_err}
 use Rattle.definitions.specs.Calls as calls
 use Rattle.definitions.specs.Refusing.{refusal}

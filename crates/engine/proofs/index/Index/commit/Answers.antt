@@ -1,20 +1,22 @@
-use Rattle.std.proofs.Common.{false, [], Err, ap, inl, inr, refl, subst, sym, ◌++◌, ◌∙◌, ◌∷◌, ◌≡◌, List, length, ◌<◌, ◌+◌, ◌^◌}
+use Rattle.std.proofs.Common.{false, [], Err, ap, inl, inr, refl, subst, sym, ◌++◌, ◌∙◌, ◌∷◌, ◌≡◌, List}
 use Rattle.std.specs.Result.{result_err}
 use Rattle.definitions.specs.Calls as calls
+use Rattle.definitions.specs.State.{committed}
 use Rattle.definitions.specs.Values.{Document}
 use Rattle.definitions.specs.declared.fault.Fault.{Fault}
 use Rattle.definitions.specs.declared.fault.Fault.TheVariants as faults
 use Rattle.definitions.specs.Moments.{LeavesOnly}
+use Rattle.engine.specs.Accepting.{all_documents}
+use Rattle.engine.specs.Indexes.{device_of, gate_of}
 use Rattle.engine.specs.Standing.{Stands, status_of}
 use Rattle.layouts.specs.RecordFiles.{IsOneOf}
 use Rattle.layouts.specs.RecordBodies.{docs_body}
-use Rattle.plain.specs.Hits.{documents_of}
 use Rattle.records.proofs.CallByCall.{resting}
-use Rattle.records.specs.Frames.{frame_bytes}
-use Rattle.engine.proofs.Commits.{commit_says, committed_all, stands_kept}
-use Rattle.engine.proofs.ErrorsKept.{no_limit, writer_caused}
+use Rattle.engine.proofs.Commits.{body_says, commit_says, stands_kept}
+use Rattle.engine.proofs.ErrorsKept.{limit_is_no_memory, no_limit, writer_caused}
 use Rattle.engine.proofs.Faults.{device_failed, memory_or_other, status_left}
-use Rattle.engine.proofs.Standings.{err_same, own_refuses, status_refuses}
+use Rattle.engine.proofs.Openings.{same_saying}
+use Rattle.engine.proofs.Standings.{alike_then, err_same, own_refuses, status_refuses}
 use Rattle.engine.proofs.index.Index.commit.Goals as goal
 
 pub returns-in_err-check_writer-clause-left : goal.returns-in_err-check_writer-clause-left
@@ -35,12 +37,13 @@ pub returns-in_err-check_writer-clause-any_moment : goal.returns-in_err-check_wr
 returns-in_err-check_writer-clause-any_moment g c k x s h rests =
     let d = g.D.Device in
     let old = c.args.self.now in
+    let device = device_of old in
     record {
       first = rests.bodies;
       second = rests.bodies;
       says_one = rests.says;
       says_other = inl rests.says;
-      images = resting d.moment d.left_since d.content d.unsynced old.file.device old.file.gate rests.bodies rests.bodies rests.at_rest rests.synced (λ image left. g.met.D.Device.only_now old.file.device image h left);
+      images = resting d.moment d.left_since d.content d.unsynced device (gate_of old) rests.bodies rests.bodies rests.at_rest rests.synced (λ image left. g.met.D.Device.only_now device image h left);
     }
 
 pub returns-in-Ok-clause-left : goal.returns-in-Ok-clause-left
@@ -50,26 +53,32 @@ returns-in-Ok-clause-left g c k x s =
     let kept = stands_kept g.A.Analyzer.analyze c.args.self.now.collection c.write_commit.new.self.collection c.write_commit.ensures.documents k x s in
     (record { state = calls.after k x.state call; status = x.status }, calls.answered (own_refuses k x call ready), c.install_commit.ensures.left k x kept)
 
+pub returns-in-Ok-clause-appended : goal.returns-in-Ok-clause-appended
+returns-in-Ok-clause-appended g c k x s h bodies rest =
+    let old = c.args.self.now.collection in
+    (docs_body (all_documents old), body_says g.A.Analyzer.analyze old k x s c.in-Ok.ensures.fits, c.in-Ok.ensures.written bodies h rest)
+
 pub returns-in-Ok-clause-rests : goal.returns-in-Ok-clause-rests
 returns-in-Ok-clause-rests g c k x s h rests =
-    let old = c.args.self.now in
-    let body = docs_body (documents_of old.collection.docs.items ++ documents_of old.collection.pending.items) in
+    let old = c.args.self.now.collection in
+    let new = c.install_commit.new.self in
+    let made = alike_then old c.write_commit.new.self.collection new c.write_commit.ensures.documents.made c.install_commit.ensures.made in
+    let docs : List Document = committed (calls.after k x.state calls.commit_pending) in
     record {
-      bodies = rests.bodies ++ body ∷ [];
+      bodies = rests.bodies ++ docs_body (all_documents old) ∷ [];
       at_rest = c.in-Ok.ensures.written rests.bodies h rests.at_rest;
-      says = commit_says g.A.Analyzer.analyze old.collection k x old.collection.settings rests.bodies s c.in-Ok.ensures.fits rests.says;
+      says = commit_says g.A.Analyzer.analyze old k x rests.bodies s c.in-Ok.ensures.fits rests.says ∙ same_saying old.schema new.schema old.settings new.settings docs made.schema made.settings;
       synced = c.in-Ok.ensures.synced h;
     }
 
 pub returns-in-Ok-clause-any_moment : goal.returns-in-Ok-clause-any_moment
 returns-in-Ok-clause-any_moment g c k x s h rests =
-    let old = c.args.self.now in
-    let body = docs_body (documents_of old.collection.docs.items ++ documents_of old.collection.pending.items) in
+    let old = c.args.self.now.collection in
     record {
       first = rests.bodies;
-      second = rests.bodies ++ body ∷ [];
+      second = rests.bodies ++ docs_body (all_documents old) ∷ [];
       says_one = rests.says;
-      says_other = inr (commit_says g.A.Analyzer.analyze old.collection k x old.collection.settings rests.bodies s c.in-Ok.ensures.fits rests.says);
+      says_other = inr (commit_says g.A.Analyzer.analyze old k x rests.bodies s c.in-Ok.ensures.fits rests.says);
       images = c.write_commit.ensures.any_moment rests.bodies h rests.at_rest rests.synced;
     }
 
@@ -92,29 +101,28 @@ returns-in-Err-clause-left g c k x s =
 
 pub returns-in-Err-clause-limit : goal.returns-in-Err-clause-limit
 returns-in-Err-clause-limit g c k x s limit =
-    let old = c.args.self.now in
-    subst (λ (docs : List Document). 2 ^ 63 < old.file.gate + 1 + length (frame_bytes (docs_body docs))) (sym (committed_all g.A.Analyzer.analyze old.collection k x s)) (c.write_commit.ensures.limit (c.in-Err.is ∙ limit))
+    let old = c.args.self.now.collection in
+    (docs_body (all_documents old), body_says g.A.Analyzer.analyze old k x s (c.in-Err.ensures.fits_err (limit_is_no_memory c.in-Err.fault limit)), c.write_commit.ensures.limit (c.in-Err.is ∙ limit))
 
 pub returns-in-Err-clause-any_moment : goal.returns-in-Err-clause-any_moment
 returns-in-Err-clause-any_moment g c k x s h rests =
     let d = g.D.Device in
     let old = c.args.self.now in
-    let analyze = g.A.Analyzer.analyze in
-    let body = docs_body (documents_of old.collection.docs.items ++ documents_of old.collection.pending.items) in
+    let device = device_of old in
     elim (memory_or_other c.in-Err.fault) [
       | inl memory ↦ record {
         first = rests.bodies;
         second = rests.bodies;
         says_one = rests.says;
         says_other = inl rests.says;
-        images = subst (λ new. LeavesOnly d.moment d.left_since old.file.device new (IsOneOf rests.bodies rests.bodies)) (sym (c.in-Err.ensures.kept (λ device. device_failed (sym device ∙ memory))).0)
-            (resting d.moment d.left_since d.content d.unsynced old.file.device old.file.gate rests.bodies rests.bodies rests.at_rest rests.synced (λ image left. g.met.D.Device.only_now old.file.device image h left));
+        images = subst (λ new. LeavesOnly d.moment d.left_since device new (IsOneOf rests.bodies rests.bodies)) (sym (c.in-Err.ensures.kept (λ failed. device_failed (sym failed ∙ memory))).0)
+            (resting d.moment d.left_since d.content d.unsynced device (gate_of old) rests.bodies rests.bodies rests.at_rest rests.synced (λ image left. g.met.D.Device.only_now device image h left));
       }
       | inr other ↦ record {
         first = rests.bodies;
-        second = rests.bodies ++ body ∷ [];
+        second = rests.bodies ++ docs_body (all_documents old.collection) ∷ [];
         says_one = rests.says;
-        says_other = inr (commit_says analyze old.collection k x old.collection.settings rests.bodies s (c.in-Err.ensures.fits_err other) rests.says);
+        says_other = inr (commit_says g.A.Analyzer.analyze old.collection k x rests.bodies s (c.in-Err.ensures.fits_err other) rests.says);
         images = c.write_commit.ensures.any_moment rests.bodies h rests.at_rest rests.synced;
       }
     ]

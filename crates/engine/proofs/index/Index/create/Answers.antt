@@ -3,10 +3,16 @@ use Rattle.definitions.proofs.CallRuns.{started}
 use Rattle.engine.specs.Files.{is_first}
 use Rattle.layouts.specs.RecordBodies.{first_body}
 use Rattle.layouts.specs.RecordFiles.{IsFresh}
+use Rattle.engine.proofs.Openings.{same_device}
 use Rattle.engine.proofs.index.Index.create.Goals as goal
 
-pub returns-in-Err-clause-any_moment_err : goal.returns-in-Err-clause-any_moment_err
-returns-in-Err-clause-any_moment_err g c h images =
+pub returns-in-Err-clause-kept : goal.returns-in-Err-clause-kept
+returns-in-Err-clause-kept g c h other =
+    let d = g.D.Device in
+    same_device d.moment d.left_since d.content d.unsynced c.args.device (λ image left. g.met.D.Device.only_now c.args.device image h left)
+
+pub returns-in-Err-clause-any_moment : goal.returns-in-Err-clause-any_moment
+returns-in-Err-clause-any_moment g c h images =
     let d = g.D.Device in
     started d.moment d.left_since c.args.device (IsFresh is_first) (λ image left. images image (g.met.D.Device.only_now c.args.device image h left))
 
@@ -17,10 +23,10 @@ returns-in-Ok-create-clause-any_moment g c h images =
 pub returns-in-Err-create-clause-kept : goal.returns-in-Err-create-clause-kept
 returns-in-Err-create-clause-kept g c h other = elim c.in-Err-create.ensures.fault [
   | inl device ↦ absurd (other device)
-  | inr (inl memory) ↦ (c.in-Err-create.ensures.kept h (inr memory)).content_kept
-  | inr (inr held) ↦ (c.in-Err-create.ensures.kept h (inl (c.in-Err-create.ensures.not_empty h held))).content_kept
+  | inr (inl memory) ↦ c.in-Err-create.ensures.kept h (inr memory)
+  | inr (inr held) ↦ c.in-Err-create.ensures.kept h (inl (c.in-Err-create.ensures.not_empty h held))
 ]
 
-pub returns-in-Err-create-clause-any_moment_err : goal.returns-in-Err-create-clause-any_moment_err
-returns-in-Err-create-clause-any_moment_err g c h images =
-    c.in-Err-create.ensures.any_moment_err is_first (first_body c.args.schema c.args.settings) h (c.deref.ensures.value ∙ c.in-Ok.ensures.ok) (ap is_some c.in-Ok.ensures.read_back) images
+pub returns-in-Err-create-clause-any_moment : goal.returns-in-Err-create-clause-any_moment
+returns-in-Err-create-clause-any_moment g c h images =
+    c.in-Err-create.ensures.any_moment is_first (first_body c.args.schema c.args.settings) h (c.deref.ensures.value ∙ c.in-Ok.ensures.ok) (ap is_some c.in-Ok.ensures.read_back) images

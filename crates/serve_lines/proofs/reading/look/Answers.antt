@@ -2,7 +2,7 @@ use Rattle.std.proofs.Common.{◌≢◌, [], sym, subst, append-nil}
 use Rattle.std.proofs.lemmas.List.Elements.{All-nil}
 use Rattle.std.proofs.KnownBytes.{Consumes-kept, Consumes-nil}
 use Rattle.serve_lines.specs.Reading.{Holds}
-use Rattle.serve_lines.proofs.reading.next_chunk.Goals as goal
+use Rattle.serve_lines.proofs.reading.look.Goals as goal
 
 pub returns-in-Err-clause-ok : goal.returns-in-Err-clause-ok
 returns-in-Err-clause-ok g c =
