@@ -29,7 +29,11 @@ impl<'a> PostingsWriter<'a> {
         requires stands { (os : List Occurrence) × Stands self.now os }
         requires lengths { AllByRecursion (λ p. self.now.num_docs ≤ length p.1) fieldnorm_readers.now }
         requires new { serializer ≡ record { terms = 0 ∷ []; postings = []; positions = [] } }
-        ensures ok { (num_docs : ℕ) (os : List Occurrence) → self.now.num_docs ≤ num_docs → Stands self.now os → IfOk result (λ s. (fields : List IndexedField) × AreSections self.now.schema num_docs fieldnorm_readers.now fields s.terms s.postings s.positions × AreGiven (λ t. postings_in (option_of_term self.now.schema t) t os) self.now.schema fields × AllByRecursion (IsFieldWithin self.now.schema) fields) }
+        ensures ok { (num_docs : ℕ) (os : List Occurrence) → self.now.num_docs ≤ num_docs → Stands self.now os
+            → IfOk result (λ s. (fields : List IndexedField)
+            × AreSections self.now.schema num_docs fieldnorm_readers.now fields s.terms s.postings s.positions
+            × AreGiven (λ t. postings_in (option_of_term self.now.schema t) t os) self.now.schema fields
+            × AllByRecursion (IsFieldWithin self.now.schema) fields) }
         ensures err { (os : List Occurrence) → Stands self.now os → IfErr result (λ fault. IsSerializeRefusal fault self.now.schema fieldnorm_readers.now (λ t. postings_in (option_of_term self.now.schema t) t os)) }
     {
         for (field, entry) in self.schema.fields() {
