@@ -5,7 +5,7 @@ ghost use Rattle.std.specs.List.{AllByRecursion};
 ghost use Rattle.definitions.specs.Postings.{postings};
 ghost use Rattle.definitions.specs.Values.{Document};
 ghost use Rattle.layouts.specs.InvertedIndexes.{AreIndexed, AreSections, IndexedField};
-ghost use Rattle.postings_writer.specs.Limits.{IsSerializeRefusal};
+ghost use Rattle.postings_writer.specs.Limits.{IsFieldWithin, IsSerializeRefusal};
 ghost use Rattle.document_indexer.specs.Indexed.{IsAddRefusal, IsWithinLimits};
 ghost use Rattle.document_indexer.specs.Indexers.{HasIndexed, analyzer_of, schema_of, writer_of};
 
@@ -86,7 +86,12 @@ impl<'a, A: Analyzer> DocumentIndexer<'a, A> {
         fieldnorm_readers: &FieldNormReaders<'_>,
     ) -> Result<(Vec<u8>, Vec<u8>, Vec<u8>), Fault>
         requires { (docs : List Document) × HasIndexed A.analyze self.now docs × AllByRecursion (λ p. length p.1 ≡ length docs) fieldnorm_readers.now }
-        ensures ok { (docs : List Document) → HasIndexed A.analyze self.now docs → IfOk result (λ sections. (fields : List IndexedField) × AreSections (schema_of self.now) (length docs) fieldnorm_readers.now fields sections.0.items sections.1.items sections.2.items × AreIndexed (schema_of self.now) (A.analyze (analyzer_of self.now)) docs fields) }
+        ensures ok { (docs : List Document) → HasIndexed A.analyze self.now docs
+            → IfOk result (λ sections. (fields : List IndexedField)
+            × AreSections (schema_of self.now) (length docs) fieldnorm_readers.now fields
+            sections.0.items sections.1.items sections.2.items
+            × AreIndexed (schema_of self.now) (A.analyze (analyzer_of self.now)) docs fields
+            × AllByRecursion (IsFieldWithin (schema_of self.now)) fields) }
         ensures err { (docs : List Document) → HasIndexed A.analyze self.now docs → IfErr result (λ fault. IsSerializeRefusal fault (schema_of self.now) fieldnorm_readers.now (λ t. postings (schema_of self.now) (A.analyze (analyzer_of self.now)) t docs)) }
     {
         let serializer = InvertedIndexSerializer::open(alloc)?;

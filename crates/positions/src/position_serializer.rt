@@ -65,7 +65,8 @@ impl PositionSerializer {
 
     /// Appends the positions of the term, and begins another.
     pub fn close_term(&mut self) -> Result<(), AllocError>
-        ensures ok { OnOk result ((bytes : List ℕ) × ArePositions self.old.1 bytes × (self.new ≡ (self.old.0 ++ bytes, []))) }
+        ensures ok { OnOk result ((bytes : List ℕ) × ArePositions self.old.1 bytes
+            × (self.new ≡ (self.old.0 ++ bytes, []))) }
         ensures refused { OnErr result (self.new ≡ self.old) }
     {
         self.widths.clear();

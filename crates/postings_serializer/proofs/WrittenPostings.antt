@@ -281,6 +281,15 @@ written_closed w was b docs counts doc_freq seen is few a many =
     ∙ term_written w docs counts doc_freq (subst S (sym seen) a) few many
     ∙ ap (λ (x : Writing). postings_bytes x.option (listed x.norms) docs counts) seen
 
+-- the counts of each full block have a sum of 32 bits
+pub written_sums : (w was : Writing) (docs counts : List ℕ) → w ≡ was → length w.waiting.docs < 128 → AreWritten was docs counts → SumsFit (length docs / block_len) counts
+written_sums w was docs counts seen few a =
+    let long = ap (λ (x : Writing). length x.waiting.docs) seen in
+    let blocks : a.full + 0 ≡ length docs / 128 = omega (arith, a.long, few, long) in
+    let P : ℕ → Type 0 = λ k. SumsFit k counts in
+    let Q : List ℕ → Type 0 = λ xs. SumsFit (a.full + 0) xs in
+    subst P blocks (subst Q (append-nil counts) (a.sums_are 0 [] tt))
+
 -- what was written is what a term may have
 pub written_posted : (w was : Writing) (docs counts : List ℕ) → w ≡ was → length w.waiting.docs < 128 → AreWritten was docs counts → ArePosted was.option docs counts
 written_posted w was docs counts seen few a = record {
@@ -289,17 +298,8 @@ written_posted w was docs counts seen few a = record {
   docs_fit = a.docs_fit;
   counts_fit = a.counts_fit;
   alone = a.alone;
-  sums_fit = λ e. fit;
+  sums_fit = λ e. written_sums w was docs counts seen few a;
 }
-  where
-    blocks : a.full + 0 ≡ length docs / 128
-    blocks = (let long = ap (λ (x : Writing). length x.waiting.docs) seen in omega (arith, a.long, few, long))
-
-    fit : SumsFit (length docs / block_len) counts
-    fit =
-        let P : ℕ → Type 0 = λ k. SumsFit k counts in
-        let Q : List ℕ → Type 0 = λ xs. SumsFit (a.full + 0) xs in
-        subst P blocks (subst Q (append-nil counts) (a.sums_are 0 [] tt))
 
 -- a count as it is recorded, of a document that may come
 pub may_come : (w was : Writing) (doc count term_freq : ℕ) → w ≡ was → was.next ≤ doc → doc < terminated → count ≡ recorded_count was.option term_freq → 0 < count → count < 2 ^ 32 → MayCome w.option w.next doc count

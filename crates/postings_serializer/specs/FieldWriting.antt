@@ -1,12 +1,13 @@
 -- What a serializer of a field's terms stands for.
-use Rattle.std.specs.Prelude.{[], ◌++◌, ◌+◌, ◌<◌, ◌^◌, ◌≡◌, ◌≤◌, ◌⊎◌, List, if◌then◌else◌, length, Option, ℕ}
+use Rattle.std.specs.Prelude.{[], ◌++◌, ◌+◌, ◌/◌, ◌<◌, ◌^◌, ◌≡◌, ◌≤◌, ◌⊎◌, List, if◌then◌else◌, length, Option, ℕ}
 use Rattle.packed_blocks.specs.UnpackedBlocks.{listed}
+use Rattle.definitions.specs.Blocks.{block_len}
 use Rattle.definitions.specs.NumberCodes.{u32_bytes, u64_bytes, vint_bytes}
 use Rattle.definitions.specs.Schema.{IndexRecordOption, has_positions}
 use Rattle.definitions.specs.declared.fault.Fault.{Fault}
 use Rattle.definitions.specs.declared.fault.Fault.TheVariants as faults
 use Rattle.layouts.specs.InvertedIndexes.{HasPositions}
-use Rattle.layouts.specs.TermPostings.{ArePosted, postings_bytes}
+use Rattle.layouts.specs.TermPostings.{ArePosted, SumsFit, postings_bytes}
 use Rattle.layouts.specs.TermSections.{TermLengths, entry_of_term}
 use Rattle.postings_serializer.specs.TermWriting.{AreWritten, Writing, begun}
 
@@ -46,6 +47,7 @@ postings_of w docs counts = postings_bytes w.option (listed w.norms) docs counts
 pub record IsClosed (was now : FieldWriting) (docs counts numbers : List ℕ) : Type 0 where
   pub bytes : List ℕ
   pub posted : ArePosted was.writing.option docs counts
+  pub sums_fit : SumsFit (length docs / block_len) counts
   pub postings_fit : length (postings_of was.writing docs counts) < 2 ^ 32
   pub positions_fit : length bytes < 2 ^ 32
   pub terms_fit : was.terms.num_terms < 4294967295

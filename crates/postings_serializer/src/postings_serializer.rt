@@ -1,10 +1,11 @@
 //! The postings of terms, written as bytes.
 
-ghost use Rattle.std.specs.Prelude.{[], ◌++◌, ◌+◌, ◌<◌, ◌≡◌, ◌≤◌, ◌^◌, ◌∷◌, IfErr, IfSome, IsTrue, List, OnOk, false, if◌then◌else◌, length, nat_le, ℕ};
+ghost use Rattle.std.specs.Prelude.{[], ◌++◌, ◌+◌, ◌/◌, ◌<◌, ◌≡◌, ◌≤◌, ◌^◌, ◌∷◌, IfErr, IfSome, IsTrue, List, OnOk, false, if◌then◌else◌, length, nat_le, ℕ};
 ghost use Rattle.packed_blocks.specs.UnpackedBlocks.{listed};
+ghost use Rattle.definitions.specs.Blocks.{block_len};
 ghost use Rattle.definitions.specs.Postings.{terminated};
 ghost use Rattle.definitions.specs.Schema.{basic, has_freq, has_positions};
-ghost use Rattle.layouts.specs.TermPostings.{ArePosted, id_of, postings_bytes};
+ghost use Rattle.layouts.specs.TermPostings.{ArePosted, SumsFit, id_of, postings_bytes};
 ghost use Rattle.options.specs.RecordOption.{record_option_of};
 ghost use Rattle.postings_serializer.specs.TermWriting.{AreWritten, IsRefusal, IsSumRefusal, begun, passes_sum, recorded_count};
 
@@ -151,9 +152,12 @@ impl<'a> PostingsSerializer<'a> {
         ensures within { (docs counts : List ℕ) → AreWritten self.old docs counts → length docs ≡ doc_freq → OnOk result (length (postings_bytes self.old.option (listed self.old.norms) docs counts) < 2 ^ 32) }
         ensures err { (docs counts : List ℕ) → AreWritten self.old docs counts → length docs ≡ doc_freq → IfErr result (λ fault. IsRefusal fault (nat_le (2 ^ 32) (length (postings_bytes self.old.option (listed self.old.norms) docs counts)))) }
         ensures posted { (docs counts : List ℕ) → AreWritten self.old docs counts → ArePosted self.old.option docs counts }
+        ensures sums { (docs counts : List ℕ) → AreWritten self.old docs counts
+            → SumsFit (length docs / block_len) counts }
         ensures begun { OnOk result (self.new ≡ begun self.old.mode self.old.option self.old.norms) }
         ensures kept { OnOk result (length output.old.items ≤ length output.new.items) }
-        ensures same { (self.new.mode ≡ self.old.mode) × (self.new.option ≡ self.old.option) × (self.new.norms ≡ self.old.norms) }
+        ensures same { (self.new.mode ≡ self.old.mode) × (self.new.option ≡ self.old.option)
+            × (self.new.norms ≡ self.old.norms) }
     {
         self.blocks
             .write_rest(self.option, self.last_doc, &self.block)?;

@@ -128,6 +128,11 @@ module _ (s now : Sections) (field tokens : ℕ) (mode : IndexRecordOption) (nor
     positions = ap (λ (x : Sections). x.positions) is ∙ ap (λ (x : List ℕ × List ℕ). x.0) added.positions ∙ ap (λ xs. s.positions ++ xs) (sym (append_nil (flat_map (λ (t : IndexedTerm). t.positions_bytes) ts)));
   }
 
+-- behind no term there are as many as there may be
+few_terms : (ts : List IndexedTerm) → (0 < length ts → 0 + length ts ≤ 4294967295) → length ts ≤ 4294967295
+few_terms [] few = omega arith
+few_terms (t ∷ ts) few = (let all = few (omega arith) in omega arith)
+
 -- ---- the field of places
 
 -- what was written of the recorders of places
@@ -145,6 +150,7 @@ field_of_places e places terms s now field tokens norms w rs ts has added is tok
       record {
         ascend = subst TermsAscend (sym keys) ascend;
         tokens_fit = subst (λ n. n < 2 ^ 64) (tokens_are ∙ sym same) fit;
+        few = few_terms ts added.few;
         each = all_terms e places terms has (listed norms) ts rs added.told added.each found;
         all = λ key some. subst (λ ks. list_any (bytes_eq key) ks ≡ true) (sym keys) (all key (subst IsSome (sym (has key)) (some_recorder (option_of_key e key) (places key) some)));
       },

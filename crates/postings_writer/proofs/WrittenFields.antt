@@ -1,5 +1,5 @@
 -- Terms that were written to a field, and fields that were written to the sections.
-use Rattle.std.proofs.Common.{[], ◌++◌, ◌⊎◌, IsSomeAnd, Some, inl, inr, option_map, slice_get, suc, zero, ◌+◌, ◌<◌, ◌≡◌, ◌∙◌, ◌∷◌, List, ap, ap₂, append_assoc, arith, get_or, length, length-append, map, refl, subst, sym, take, ℕ}
+use Rattle.std.proofs.Common.{[], ◌++◌, ◌⊎◌, IsSomeAnd, Some, inl, inr, option_map, slice_get, suc, zero, ◌+◌, ◌<◌, ◌^◌, ◌≡◌, ◌∙◌, ◌∷◌, List, ap, ap₂, append_assoc, arith, get_or, length, length-append, map, refl, subst, sym, take, ℕ}
 use Rattle.std.specs.List.{AllByRecursion, flat_map}
 use Rattle.std.proofs.lemmas.List.{length-map, length-take-le, map-append, take_more}
 use Rattle.std.proofs.lemmas.Option.{slice_get-get_or}
@@ -53,6 +53,7 @@ none_added kind was nothing = record {
   terms = ap₂ (λ es n. record { closed = was.terms.closed; entries = es; num_terms = n }) (sym (append_nil was.terms.entries)) (let P : was.terms.num_terms ≡ was.terms.num_terms + 0 = omega arith in P);
   postings = sym (append_nil was.postings);
   positions = ap₂ (λ xs ys. (xs, ys)) (sym (append_nil was.positions.0)) nothing;
+  few = λ some. absurd (omega arith);
   same = (refl, refl, refl, refl);
 }
 
@@ -71,7 +72,7 @@ module _ (kind : Kind) (was now new : FieldWriting) (rs : List Recorded) (ts : L
   bytes_are = ap (λ o. postings_bytes option (listed o) (map (λ (p : Posting). p.doc) ps) (map (λ (p : Posting). recorded_count option p.count) ps)) before.same.3
 
   spelled : IsSpelled option (listed was.writing.norms) t
-  spelled = record { postings_are = record { posted = w.posted; whole = refl }; positions_are = w.positions_are }
+  spelled = record { postings_are = record { posted = w.posted; whole = refl }; positions_are = w.positions_are; within = record { sums = w.sums_fit; postings = subst (λ (xs : List ℕ). length xs < 2 ^ 32) bytes_are w.postings_fit; positions = w.positions_fit } }
 
   abbrev entered : ℕ → List ℕ → Terms → Terms
   entered freq bytes terms = inserted key (record { doc_freq = freq; postings_len = length bytes; positions_len = length w.bytes }) terms
@@ -92,6 +93,11 @@ module _ (kind : Kind) (was now new : FieldWriting) (rs : List Recorded) (ts : L
     terms = terms_are;
     postings = w.postings ∙ ap₂ (λ xs ys. xs ++ ys) before.postings bytes_are ∙ append_assoc was.postings (flat_map (λ (x : IndexedTerm). x.postings_bytes) ts) t.postings_bytes ∙ ap (λ xs. was.postings ++ xs) (sym (flat_map_push (λ (x : IndexedTerm). x.postings_bytes) ts t));
     positions = w.positions ∙ ap (λ (xs : List ℕ × List ℕ). (xs.0 ++ w.bytes, [])) before.positions ∙ ap (λ xs. (xs, [])) (append_assoc was.positions.0 (flat_map (λ (x : IndexedTerm). x.positions_bytes) ts) w.bytes ∙ ap (λ xs. was.positions.0 ++ xs) (sym (flat_map_push (λ (x : IndexedTerm). x.positions_bytes) ts t)));
+    few = λ some.
+        (let long = length-append ts (t ∷ []) in
+        let fit = w.terms_fit in
+        let count = ap (λ (x : Terms). x.num_terms) before.terms in
+        omega arith);
     same = (w.same.0 ∙ before.same.0, w.same.1 ∙ before.same.1, w.same.2 ∙ before.same.2, w.same.3 ∙ before.same.3);
   }
 

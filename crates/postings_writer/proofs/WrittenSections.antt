@@ -18,7 +18,7 @@ use Rattle.layouts.specs.TermSections.{field_terms_bytes}
 use Rattle.postings_serializer.specs.FieldWriting.{Sections}
 use Rattle.postings_serializer.specs.TermWriting.{recorded_count}
 use Rattle.postings_writer.specs.Fields.{option_of_key}
-use Rattle.postings_writer.specs.Limits.{FieldPasses, IsFieldRefusal, IsSerializeRefusal, TermPasses}
+use Rattle.postings_writer.specs.Limits.{FieldPasses, IsFieldRefusal, IsFieldWithin, IsSerializeRefusal, IsTermWithin, TermPasses}
 use Rattle.postings_writer.specs.Occurrences.{Occurrence, places_of, postings_at, postings_in}
 use Rattle.postings_writer.specs.Sections.{AreFieldsAdded, IsFieldOf, IsTermOf}
 use Rattle.postings_writer.specs.Writers.{IsIndexedTerm, IsOccurrence, Stands, Writer}
@@ -178,6 +178,9 @@ module _ (w : Writer) (num_docs : ℕ) (norms : List (ℕ × List ℕ)) (os : Li
         is.is.each;
   }
 
+  field_within : (f : IndexedField) → IsStanding schema norms os f → IsFieldWithin schema f
+  field_within f is = record { few = is.is.few; each = all_then (IsTermOf is.entry (field_ids norms f.field) (places_in f.field is.entry os)) (λ (t : IndexedTerm). IsTermWithin (option_of_term schema (term_of_key schema f.field t.key)) t) f.terms (λ t term. subst (λ o. IsTermWithin o t) (sym (option_is f.field is.entry t.key is.at)) term.spelled.within) is.is.each }
+
   abbrev given : List ℕ → List Posting
   given t = postings_in (option_of_term schema t) t os
 
@@ -224,7 +227,7 @@ module _ (w : Writer) (num_docs : ℕ) (norms : List (ℕ × List ℕ)) (os : Li
   number_there field e at indexed = subst (λ n. list_any (nat_eq n) (indexed_fields schema) ≡ true) (zero-add field) (indexed_at 0 schema field e at indexed)
 
   -- what all fields together are
-  pub all_written : (was now : Sections) (rest : List (ℕ × Entry)) → was ≡ record { terms = 0 ∷ []; postings = []; positions = [] } → rest ≡ [] → AreWrittenOf schema norms os was now (enumerate_from 0 schema) rest → (fields : List IndexedField) × AreSections schema num_docs norms fields now.terms now.postings now.positions × AreGiven given schema fields
+  pub all_written : (was now : Sections) (rest : List (ℕ × Entry)) → was ≡ record { terms = 0 ∷ []; postings = []; positions = [] } → rest ≡ [] → AreWrittenOf schema norms os was now (enumerate_from 0 schema) rest → (fields : List IndexedField) × AreSections schema num_docs norms fields now.terms now.postings now.positions × AreGiven given schema fields × AllByRecursion (IsFieldWithin schema) fields
   all_written was now rest new none written =
       let names : map (λ (f : IndexedField). f.field) written.fields ≡ indexed_fields schema = sym (written.names ∙ ap (λ es. map (λ (f : IndexedField). f.field) written.fields ++ numbers es) none ∙ append_nil (map (λ (f : IndexedField). f.field) written.fields)) in (
         written.fields,
@@ -242,6 +245,7 @@ module _ (w : Writer) (num_docs : ℕ) (norms : List (ℕ × List ℕ)) (os : Li
               let k = term_known schema w.num_docs t os stands.each some in
               field_there t k some written.fields (subst (λ ns. list_any (nat_eq k.field) ns ≡ true) (sym names) (number_there k.field k.entry k.is k.indexed)) written.each;
         },
+        all_then (IsStanding schema norms os) (IsFieldWithin schema) written.fields field_within written.each,
       )
 
   -- ---- what is refused

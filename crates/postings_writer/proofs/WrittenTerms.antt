@@ -188,6 +188,8 @@ term_written was begun full now key option ps key_is option_is first second clos
     record {
       bytes = closed.bytes;
       posted = subst (λ x. ArePosted option (docs_in ps) (map (λ (p : Posting). recorded_count x p.count) ps)) option_is (subst (λ x. ArePosted x (docs_in ps) (counts_in begun ps)) o closed.posted);
+      sums_fit = subst (λ x. SumsFit (length ps / block_len) (map (λ (p : Posting). recorded_count x p.count) ps)) option_is (subst (λ n. SumsFit (n / block_len) (counts_in begun ps)) (length-map ps (λ (p : Posting). p.doc)) closed.sums_fit);
+      postings_fit = subst (λ (xs : List ℕ). length xs < 2 ^ 32) bytes closed.postings_fit;
       positions_fit = closed.positions_fit;
       terms_fit = subst (λ (t : Terms). t.num_terms < 4294967295) terms_are closed.terms_fit;
       positions_are = subst (λ x. HasPositions (has_positions x) (numbers_in ps) closed.bytes) o closed.positions_are;

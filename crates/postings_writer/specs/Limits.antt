@@ -6,7 +6,7 @@ use Rattle.definitions.specs.Postings.{Posting}
 use Rattle.definitions.specs.Schema.{IndexRecordOption, Schema, field_has, has_positions, is_indexed}
 use Rattle.definitions.specs.declared.fault.Fault.{Fault}
 use Rattle.definitions.specs.declared.fault.Fault.TheVariants as faults
-use Rattle.layouts.specs.InvertedIndexes.{HasPositions, field_ids, option_of_term, term_of_key}
+use Rattle.layouts.specs.InvertedIndexes.{HasPositions, IndexedField, IndexedTerm, field_ids, option_of_term, term_of_key}
 use Rattle.layouts.specs.Positions.{position_numbers}
 use Rattle.layouts.specs.TermPostings.{SumsFit, postings_bytes}
 use Rattle.layouts.specs.TermSections.{TermsAscend}
@@ -34,7 +34,18 @@ PositionsPass option ps = (bytes : List ℕ) × HasPositions (has_positions opti
 abbrev pub TermPasses : IndexRecordOption → List ℕ → List Posting → Type 0
 TermPasses option ids ps = CountsPass ps ⊎ SumsPass option ps ⊎ PostingsPass option ids ps ⊎ PositionsPass option ps
 
+-- the sums of the counts of blocks don't pass 32 bits, and the bytes of postings and positions are fewer than that
+pub record IsTermWithin (option : IndexRecordOption) (t : IndexedTerm) : Type 0 where
+  pub sums : SumsFit (length t.postings / block_len) (map (λ (p : Posting). recorded_count option p.count) t.postings)
+  pub postings : length t.postings_bytes < 2 ^ 32
+  pub positions : length t.positions_bytes < 2 ^ 32
+
 -- ---- a field
+
+-- its terms are at most 4294967295, and each is within its limits
+pub record IsFieldWithin (schema : Schema) (f : IndexedField) : Type 0 where
+  pub few : length f.terms ≤ 4294967295
+  pub each : AllByRecursion (λ (t : IndexedTerm). IsTermWithin (option_of_term schema (term_of_key schema f.field t.key)) t) f.terms
 
 -- terms by their value bytes, each with a posting, are more than 4294967295, or their tokens pass 64 bits
 pub record TooMany (given : List ℕ → List Posting) : Type 0 where

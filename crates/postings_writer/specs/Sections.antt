@@ -1,5 +1,5 @@
 -- The terms of fields, as they are written to the sections of a segment.
-use Rattle.std.specs.Prelude.{[], ◌++◌, ◌+◌, ◌<◌, ◌^◌, ◌≡◌, ◌⊎◌, IsSomeAnd, List, bytes_eq, flat_map, if◌then◌else◌, length, map, slice_get, true, ℕ}
+use Rattle.std.specs.Prelude.{[], ◌++◌, ◌+◌, ◌<◌, ◌^◌, ◌≡◌, ◌≤◌, ◌⊎◌, IsSomeAnd, List, bytes_eq, flat_map, if◌then◌else◌, length, map, slice_get, true, ℕ}
 use Rattle.std.specs.List.{AllByRecursion, list_any}
 use Rattle.packed_blocks.specs.UnpackedBlocks.{listed}
 use Rattle.definitions.specs.Postings.{Posting}
@@ -12,7 +12,7 @@ use Rattle.postings_serializer.specs.FieldWriting.{FieldWriting, Sections}
 use Rattle.postings_serializer.specs.TermWriting.{recorded_count}
 use Rattle.postings_writer.specs.Fields.{option_of_key}
 use Rattle.terms.specs.TextKeys.{is_text_key}
-use Rattle.postings_writer.specs.Limits.{TermPasses}
+use Rattle.postings_writer.specs.Limits.{IsTermWithin, TermPasses}
 use Rattle.postings_writer.specs.Occurrences.{postings_at}
 use Rattle.postings_writer.specs.Serializing.{postings_from}
 use Rattle.postings_writer.specs.declared.recorder.Recorder.{Recorder}
@@ -23,6 +23,7 @@ use Rattle.postings_writer.specs.declared.recorder.Recorder.{Recorder}
 pub record IsSpelled (option : IndexRecordOption) (ids : List ℕ) (t : IndexedTerm) : Type 0 where
   pub postings_are : AreTermPostings option ids (map (λ p. p.doc) t.postings) (map (λ p. recorded_count option p.count) t.postings) t.postings_bytes
   pub positions_are : HasPositions (has_positions option) (position_numbers (map (λ p. p.positions) t.postings)) t.positions_bytes
+  pub within : IsTermWithin option t
 
 -- what is recorded of a term by its value bytes, in a field of a kind that records so much of texts
 abbrev pub option_in : Kind → IndexRecordOption → List ℕ → IndexRecordOption
@@ -35,6 +36,7 @@ pub record AreAdded (kind : Kind) (was now : FieldWriting) (recorded : List (Lis
   pub terms : now.terms ≡ record { closed = was.terms.closed; entries = was.terms.entries ++ flat_map entry_of_term (map lengths_of ts); num_terms = was.terms.num_terms + length ts }
   pub postings : now.postings ≡ was.postings ++ flat_map (λ (t : IndexedTerm). t.postings_bytes) ts
   pub positions : now.positions ≡ (was.positions.0 ++ flat_map (λ (t : IndexedTerm). t.positions_bytes) ts, [])
+  pub few : 0 < length ts → was.terms.num_terms + length ts ≤ 4294967295
   pub same : (now.field ≡ was.field) × (now.num_tokens ≡ was.num_tokens) × (now.writing.mode ≡ was.writing.mode) × (now.writing.norms ≡ was.writing.norms)
 
 -- one of these terms passes a limit, or with those before they are too many
@@ -59,5 +61,6 @@ pub record IsTermOf (e : Entry) (ids : List ℕ) (places : List ℕ → List (�
 pub record IsFieldOf (e : Entry) (ids : List ℕ) (places : List ℕ → List (ℕ × ℕ)) (f : IndexedField) : Type 0 where
   pub ascend : TermsAscend (map (λ (t : IndexedTerm). t.key) f.terms)
   pub tokens_fit : num_tokens f < 2 ^ 64
+  pub few : length f.terms ≤ 4294967295
   pub each : AllByRecursion (IsTermOf e ids places) f.terms
   pub all : (key : List ℕ) → 0 < length (places key) → list_any (bytes_eq key) (map (λ (t : IndexedTerm). t.key) f.terms) ≡ true

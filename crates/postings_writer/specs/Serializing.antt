@@ -1,13 +1,14 @@
 -- The postings that recorders stand for, as a serializer takes them.
-use Rattle.std.specs.Prelude.{[], ◌++◌, ◌<◌, ◌^◌, ◌≡◌, ◌∷◌, IfSome, List, Option, drop, length, map, sum_by, ℕ}
+use Rattle.std.specs.Prelude.{[], ◌++◌, ◌/◌, ◌<◌, ◌^◌, ◌≡◌, ◌∷◌, IfSome, List, Option, drop, length, map, sum_by, ℕ}
 use Rattle.std.specs.List.{AllByRecursion}
+use Rattle.definitions.specs.Blocks.{block_len}
 use Rattle.definitions.specs.Postings.{Posting, terminated}
 use Rattle.packed_blocks.specs.UnpackedBlocks.{listed}
 use Rattle.definitions.specs.Schema.{IndexRecordOption, has_positions, with_freqs_and_positions}
 use Rattle.layouts.specs.Deltas.{IsAscendingFrom}
 use Rattle.layouts.specs.InvertedIndexes.{HasPositions}
 use Rattle.layouts.specs.Positions.{differences, position_numbers}
-use Rattle.layouts.specs.TermPostings.{ArePosted, postings_bytes}
+use Rattle.layouts.specs.TermPostings.{ArePosted, SumsFit, postings_bytes}
 use Rattle.postings_serializer.specs.FieldWriting.{FieldWriting, inserted}
 use Rattle.postings_serializer.specs.TermWriting.{recorded_count}
 use Rattle.postings_writer.specs.Occurrences.{postings_at}
@@ -57,6 +58,8 @@ pub record CanWrite (next : ℕ) (norms : Option (List ℕ)) (ps : List Posting)
 pub record IsWrittenTerm (was now : FieldWriting) (key : List ℕ) (option : IndexRecordOption) (ps : List Posting) : Type 0 where
   pub bytes : List ℕ
   pub posted : ArePosted option (map (λ (p : Posting). p.doc) ps) (map (λ (p : Posting). recorded_count option p.count) ps)
+  pub sums_fit : SumsFit (length ps / block_len) (map (λ (p : Posting). recorded_count option p.count) ps)
+  pub postings_fit : length (postings_bytes option (listed was.writing.norms) (map (λ (p : Posting). p.doc) ps) (map (λ (p : Posting). recorded_count option p.count) ps)) < 2 ^ 32
   pub positions_fit : length bytes < 2 ^ 32
   pub terms_fit : was.terms.num_terms < 4294967295
   pub positions_are : HasPositions (has_positions option) (position_numbers (map (λ (p : Posting). p.positions) ps)) bytes

@@ -6,7 +6,7 @@ ghost use Rattle.definitions.specs.Schema.{is_indexed};
 ghost use Rattle.definitions.specs.Terms.{term_bytes};
 ghost use Rattle.layouts.specs.InvertedIndexes.{AreGiven, AreSections, IndexedField, field_ids, option_of_term};
 ghost use Rattle.postings_writer.specs.Fields.{option_of_key};
-ghost use Rattle.postings_writer.specs.Limits.{IsFieldRefusal, IsSerializeRefusal};
+ghost use Rattle.postings_writer.specs.Limits.{IsFieldRefusal, IsFieldWithin, IsSerializeRefusal};
 ghost use Rattle.postings_writer.specs.Occurrences.{Occurrence, places_of, postings_at, postings_in};
 ghost use Rattle.postings_writer.specs.Sections.{AreFieldsAdded, IsFieldOf};
 ghost use Rattle.postings_writer.specs.Writers.{Stands};
@@ -29,7 +29,11 @@ impl<'a> PostingsWriter<'a> {
         requires stands { (os : List Occurrence) × Stands self.now os }
         requires lengths { AllByRecursion (λ p. self.now.num_docs ≤ length p.1) fieldnorm_readers.now }
         requires new { serializer ≡ record { terms = 0 ∷ []; postings = []; positions = [] } }
-        ensures ok { (num_docs : ℕ) (os : List Occurrence) → self.now.num_docs ≤ num_docs → Stands self.now os → IfOk result (λ s. (fields : List IndexedField) × AreSections self.now.schema num_docs fieldnorm_readers.now fields s.terms s.postings s.positions × AreGiven (λ t. postings_in (option_of_term self.now.schema t) t os) self.now.schema fields) }
+        ensures ok { (num_docs : ℕ) (os : List Occurrence) → self.now.num_docs ≤ num_docs → Stands self.now os
+            → IfOk result (λ s. (fields : List IndexedField)
+            × AreSections self.now.schema num_docs fieldnorm_readers.now fields s.terms s.postings s.positions
+            × AreGiven (λ t. postings_in (option_of_term self.now.schema t) t os) self.now.schema fields
+            × AllByRecursion (IsFieldWithin self.now.schema) fields) }
         ensures err { (os : List Occurrence) → Stands self.now os → IfErr result (λ fault. IsSerializeRefusal fault self.now.schema fieldnorm_readers.now (λ t. postings_in (option_of_term self.now.schema t) t os)) }
     {
         for (field, entry) in self.schema.fields() {

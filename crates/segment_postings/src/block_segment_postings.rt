@@ -180,7 +180,8 @@ impl<'a> BlockSegmentPostings<'a> {
 
     /// A number that no count from the block on is above, where there are so many positions in all.
     pub(crate) fn greatest_count(&self, num_positions: u128) -> u32
-        ensures above { (counts : List ℕ) → TellCounts num_positions self.now.skips counts → (i : ℕ) → slice_index counts i ≤ result }
+        ensures above { (counts : List ℕ) → TellCounts num_positions self.now.skips counts
+            → (i : ℕ) → slice_index counts i ≤ result }
         ensures few { (counts : List ℕ) → TellCounts num_positions self.now.skips counts → result ≤ num_positions }
     {
         greatest_count(self.skips.copied(), num_positions)
@@ -223,7 +224,8 @@ impl<'a> BlockSegmentPostings<'a> {
         requires { target ≤ terminated }
         ensures docs { docs_left self.new ≡ drop (block_len * (below target (docs_left self.old) / block_len)) (docs_left self.old) }
         ensures counts { counts_left self.new ≡ drop (block_len * (below target (docs_left self.old) / block_len)) (counts_left self.old) }
-        ensures entries { skips_left self.new ≡ drop (below target (docs_left self.old) / block_len) (skips_left self.old) }
+        ensures entries { skips_left self.new
+            ≡ drop (below target (docs_left self.old) / block_len) (skips_left self.old) }
         ensures place { result ≡ below target (docs_left self.old) % block_len }
         ensures decoded { blocks_decoded self.new ≡ blocks_decoded self.old + (if nat_lt (below target (docs_left self.old)) block_len then 0 else min 1 (length (docs_left self.new))) }
         ensures room { positions_are_read self.old ≡ true → positions_passed self.new + sum (counts_left self.new) ≤ positions_passed self.old + sum (counts_left self.old) }

@@ -8,7 +8,8 @@ use skips::{BlockInfo, SkipReader};
 /// A number that no count from the entries' block on is above: of full blocks the greatest counts that the
 /// entries tell or, where they tell none, the sums of their counts, and of the rest how many positions are left.
 pub(crate) fn greatest_count(skips: SkipReader<'_>, num_positions: u128) -> u32
-    ensures above { (counts : List ℕ) → TellCounts num_positions skips.entry counts → (i : ℕ) → slice_index counts i ≤ result }
+    ensures above { (counts : List ℕ) → TellCounts num_positions skips.entry counts
+        → (i : ℕ) → slice_index counts i ≤ result }
     ensures few { (counts : List ℕ) → TellCounts num_positions skips.entry counts → result ≤ num_positions }
 {
     let mut skips = skips;

@@ -65,7 +65,8 @@ impl<'a> SegmentPostings<'a> {
         ensures decoded { cursor_blocks_decoded result ≡ min 1 doc_freq }
         ensures doc_freq { cursor_doc_freq result ≡ doc_freq }
         ensures positions { cursor_positions result ≡ 0 }
-        ensures docs { (docs counts : List ℕ) → HasPostings recorded.counts recorded.positions doc_freq bytes.now docs counts
+        ensures docs { (docs counts : List ℕ)
+            → HasPostings recorded.counts recorded.positions doc_freq bytes.now docs counts
             → docs_left (cursor_blocks result) ≡ docs }
         ensures skips { (docs counts : List ℕ)
             (known : HasPostings recorded.counts recorded.positions doc_freq bytes.now docs counts)
@@ -94,7 +95,8 @@ impl<'a> SegmentPostings<'a> {
         ensures decoded { cursor_blocks_decoded result ≡ min 1 doc_freq }
         ensures doc_freq { cursor_doc_freq result ≡ doc_freq }
         ensures positions { cursor_positions result ≡ length positions.entry }
-        ensures docs { (docs counts : List ℕ) → HasPostings recorded.counts recorded.positions doc_freq bytes.now docs counts
+        ensures docs { (docs counts : List ℕ)
+            → HasPostings recorded.counts recorded.positions doc_freq bytes.now docs counts
             → docs_left (cursor_blocks result) ≡ docs }
         ensures skips { (docs counts : List ℕ)
             (known : HasPostings recorded.counts recorded.positions doc_freq bytes.now docs counts)
@@ -166,7 +168,9 @@ impl<'a> DocSet for SegmentPostings<'a> {
     fn seek_danger(&mut self, target: DocId) -> SeekDangerResult
         requires { target < terminated }
         ensures answer { IsDangerAnswer result target (entries_left self.old) (entries_left self.new) }
-        ensures moved { HasMoved (max (cursor_place self.old) (below target (docs_left (cursor_blocks self.old)))) self.old self.new }
+        ensures moved { HasMoved
+            (max (cursor_place self.old) (below target (docs_left (cursor_blocks self.old))))
+            self.old self.new }
     {
         let doc = self.doc();
         if target < doc {

@@ -147,8 +147,10 @@ impl StoreReader {
         ensures err { IfErr result (IsSlotFault self.old.blocks doc) }
         ensures blocks { self.new.blocks ≡ self.old.blocks }
         ensures current { self.new.current ≡ Some (block_number self.old.blocks doc) }
-        ensures kept { OnOk result (IsWalked (block_number self.old.blocks doc) self.old.current self.old.kept self.new.kept) }
-        ensures missed { OnErr result (IsRefusedWalk (block_number self.old.blocks doc) self.old.current self.old.kept self.new.kept) }
+        ensures kept { OnOk result
+            (IsWalked (block_number self.old.blocks doc) self.old.current self.old.kept self.new.kept) }
+        ensures missed { OnErr result
+            (IsRefusedWalk (block_number self.old.blocks doc) self.old.current self.old.kept self.new.kept) }
     {
         match self.index.find_block(doc) {
             Some((at, reach)) => {

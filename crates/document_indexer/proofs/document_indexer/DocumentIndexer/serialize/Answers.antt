@@ -18,4 +18,4 @@ returns-clause-ok g c docs has =
     let analyze = g.A.Analyzer.analyze (analyzer_of c.args.self.now) in
     sections_given (schema_of c.args.self.now) analyze docs c.args.fieldnorm_readers.now c.postings_writer-writer.result.now c.close.result.0.items c.close.result.1.items c.close.result.2.items (subst (λ (w : Writer). HasWritten (schema_of c.args.self.now) analyze w docs) (sym c.postings_writer-writer.ensures) has.written) (λ n os few stands.
     let found = c.in_ok-serializer-2.ensures.ok n os few stands in
-    (found.0, subst (λ (xs : List ℕ). AreSections c.postings_writer-writer.result.now.schema n c.args.fieldnorm_readers.now found.0 xs c.close.result.1.items c.close.result.2.items) (sym c.close.ensures.terms) (subst (λ (xs : List ℕ). AreSections c.postings_writer-writer.result.now.schema n c.args.fieldnorm_readers.now found.0 c.in_ok-serializer-2.serializer.terms xs c.close.result.2.items) (sym c.close.ensures.postings) (subst (λ (xs : List ℕ). AreSections c.postings_writer-writer.result.now.schema n c.args.fieldnorm_readers.now found.0 c.in_ok-serializer-2.serializer.terms c.in_ok-serializer-2.serializer.postings xs) (sym c.close.ensures.positions) found.1)), found.2))
+    (found.0, subst (λ (xs : List ℕ). AreSections c.postings_writer-writer.result.now.schema n c.args.fieldnorm_readers.now found.0 xs c.close.result.1.items c.close.result.2.items) (sym c.close.ensures.terms) (subst (λ (xs : List ℕ). AreSections c.postings_writer-writer.result.now.schema n c.args.fieldnorm_readers.now found.0 c.in_ok-serializer-2.serializer.terms xs c.close.result.2.items) (sym c.close.ensures.postings) (subst (λ (xs : List ℕ). AreSections c.postings_writer-writer.result.now.schema n c.args.fieldnorm_readers.now found.0 c.in_ok-serializer-2.serializer.terms c.in_ok-serializer-2.serializer.postings xs) (sym c.close.ensures.positions) found.1)), found.2, found.3))

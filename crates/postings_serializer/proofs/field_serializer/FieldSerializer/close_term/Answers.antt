@@ -22,6 +22,7 @@ returns-clause-ok c docs counts numbers a =
     subst Q c.self.view_is (record {
       bytes = p.0;
       posted = c.in_ok-close_term.ensures.posted docs counts open_term.written;
+      sums_fit = c.in_ok-close_term.ensures.sums docs counts open_term.written;
       postings_fit = c.in_ok-close_term.ensures.within docs counts open_term.written (sym open_term.doc_freq_is);
       positions_fit = (let more = ap (λ (x : List ℕ × List ℕ). length x.0) placed in omega (arith, more, length-append was.positions_serializer.0 p.0, c.written_bytes.ensures, c.written_bytes-positions_start.ensures, c.if-positions_len.false));
       terms_fit = (let here = c.in_ok-insert.ensures.within in let same = ap (λ (x : FieldWriting). x.terms.num_terms) stands in omega arith);

@@ -1,6 +1,6 @@
 use Rattle.std.proofs.Common.{ap, length, subst, sym, ◌++◌, ◌<◌, ◌^◌, ◌∙◌, List, ℕ}
 use Rattle.std.proofs.lemmas.Result.{err_from_is_err_and}
-use Rattle.postings_serializer.proofs.WrittenPostings.{written_closed, written_posted}
+use Rattle.postings_serializer.proofs.WrittenPostings.{written_closed, written_posted, written_sums}
 use Rattle.postings_serializer.proofs.postings_serializer.PostingsSerializer.close_term.Goals as goal
 
 pub returns-in_err-append_to-clause-err : goal.returns-in_err-append_to-clause-err
@@ -25,3 +25,12 @@ returns-in_err-write_rest-clause-posted c docs counts a = written_posted _ c.arg
 
 pub returns-in_err-append_to-clause-posted : goal.returns-in_err-append_to-clause-posted
 returns-in_err-append_to-clause-posted c docs counts a = written_posted _ c.args.self.now docs counts c.self.view_is c.self.invariant.few a
+
+pub returns-clause-sums : goal.returns-clause-sums
+returns-clause-sums c docs counts a = written_sums _ c.args.self.now docs counts c.self.view_is c.self.invariant.few a
+
+pub returns-in_err-write_rest-clause-sums : goal.returns-in_err-write_rest-clause-sums
+returns-in_err-write_rest-clause-sums c docs counts a = written_sums _ c.args.self.now docs counts c.self.view_is c.self.invariant.few a
+
+pub returns-in_err-append_to-clause-sums : goal.returns-in_err-append_to-clause-sums
+returns-in_err-append_to-clause-sums c docs counts a = written_sums _ c.args.self.now docs counts c.self.view_is c.self.invariant.few a
