@@ -1,12 +1,13 @@
 //! `bench`: how fast the crates work, measured at their public calls.
 //!
-//! With one word it prints a table: `blocks`, `cursors`, `texts` (which reads them from standard input) or `files`. Without
+//! With one word it prints a table: `blocks`, `cursors`, `scores`, `texts` (which reads them from standard input) or `files`. Without
 //! a word it prints nothing.
 #![tactic(auto)]
 
 mod block_codes;
 mod cursor_walks;
 mod files;
+mod score_walks;
 mod spread_terms;
 mod texts;
 mod times;
@@ -21,6 +22,7 @@ enum Bench {
     Nothing,
     Blocks,
     Cursors,
+    Scores,
     Texts,
     Files,
 }
@@ -38,6 +40,7 @@ fn measure(rt: &HostRuntime, bench: Bench) -> Result<(), Fault> {
         Bench::Nothing => Ok(()),
         Bench::Blocks => block_codes::measure(rt),
         Bench::Cursors => cursor_walks::measure(rt, rt.alloc()),
+        Bench::Scores => score_walks::measure(rt, rt.alloc()),
         Bench::Texts => texts::measure_input(rt, rt.alloc()),
         Bench::Files => files::measure_all(rt),
     }
@@ -59,6 +62,7 @@ fn bench_of(word: &str) -> Bench {
     match word {
         "blocks" => Bench::Blocks,
         "cursors" => Bench::Cursors,
+        "scores" => Bench::Scores,
         "texts" => Bench::Texts,
         "files" => Bench::Files,
         _ => Bench::Nothing,

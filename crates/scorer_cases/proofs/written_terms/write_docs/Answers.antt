@@ -1,0 +1,23 @@
+use Rattle.std.proofs.Common.{[], List, arith, length, length-append, ◌+◌, ◌++◌, ◌∙◌, ◌∷◌, ◌≡◌, ℕ}
+use Rattle.scorer_cases.proofs.written_terms.write_docs.Goals as goal
+
+more : (docs : List ℕ) (doc : ℕ) {place : ℕ} → length docs ≡ place → length (docs ++ doc ∷ []) ≡ place + 1
+more docs doc many = omega (arith, many, length-append docs (doc ∷ []))
+
+pub loop-place-preserved : goal.loop-place-preserved
+loop-place-preserved c =
+    let so_far = c.loop-place.invariant in
+    let docs = so_far.0.0 in
+    let counts = so_far.0.1 in
+    let same = c.in_ok-write_doc.ensures.same in
+    let next = same.3 in
+    let many = so_far.0.3 in
+    ((_, _, c.in_ok-write_doc.ensures.written docs counts so_far.0.2, more docs _ many), omega (arith, next), same.2 ∙ so_far.2, same.1 ∙ so_far.3)
+
+pub returns-clause-written : goal.returns-clause-written
+returns-clause-written c =
+    let so_far = c.loop-place.invariant in
+    let done = c.loop-place-test.false in
+    let end = c.loop-place.auto.place-end in
+    let many = so_far.0.3 in
+    (so_far.0.0, so_far.0.1, so_far.0.2, omega (arith, many, done, end))

@@ -1,0 +1,59 @@
+//! Moves of a scorer: `doc`, `advance`, `fill`, `count`, `score`, or a number, which is sought.
+
+use case_lines::{Refusal, number, numbers};
+use common::TERMINATED;
+use scorers::Scorer;
+use serde_json::Value;
+use std::alloc::Global;
+
+/// What each move answers, in order.
+pub(crate) fn moved<S: Scorer>(
+    alloc: Global,
+    scorer: &mut S,
+    moves: &[Value],
+) -> Result<Value, Refusal> {
+    let mut answers = Vec::new(alloc);
+    for asked in moves {
+        answers.push(moved_once(alloc, scorer, asked)?)?;
+    }
+    Ok(Value::Array(answers))
+}
+
+/// What a move answers.
+fn moved_once<S: Scorer>(alloc: Global, scorer: &mut S, asked: &Value) -> Result<Value, Refusal> {
+    if let Some(target) = asked.as_u64() {
+        return sought(scorer, target);
+    }
+    match asked.as_str().ok_or(Refusal::NotAsked)? {
+        "doc" => Ok(number(u64::from(scorer.doc()))),
+        "advance" => Ok(number(u64::from(scorer.advance()))),
+        "count" => Ok(number(u64::from(scorer.count_including_deleted()))),
+        "fill" => filled(alloc, scorer),
+        "score" => score(scorer),
+        _ => Err(Refusal::NotAsked),
+    }
+}
+
+/// The document at which a seek ends.
+fn sought<S: Scorer>(scorer: &mut S, target: u64) -> Result<Value, Refusal> {
+    let target = u32::try_from(target).ok().ok_or(Refusal::NotAsked)?;
+    if scorer.doc() > target || target > TERMINATED {
+        return Err(Refusal::NotAsked);
+    }
+    Ok(number(u64::from(scorer.seek(target))))
+}
+
+/// The documents that fill a buffer.
+fn filled<S: Scorer>(alloc: Global, scorer: &mut S) -> Result<Value, Refusal> {
+    let mut buffer = [0; 64];
+    let filled = scorer.fill_buffer(&mut buffer);
+    Ok(numbers(alloc, &buffer[..filled])?)
+}
+
+/// The score of the current document.
+fn score<S: Scorer>(scorer: &mut S) -> Result<Value, Refusal> {
+    if scorer.doc() >= TERMINATED {
+        return Err(Refusal::NotAsked);
+    }
+    Ok(Value::from(scorer.score()))
+}

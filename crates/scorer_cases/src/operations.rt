@@ -1,0 +1,30 @@
+//! Operations by their names.
+
+use crate::{combined, leaves, terms};
+use case_lines::{Arguments, Operations, Refusal};
+use serde_json::Value;
+use std::alloc::Global;
+
+/// Operations on leaves, combiners and scorers of terms.
+#[derive(Drop)]
+pub(crate) struct ScorerOperations {
+    pub(crate) alloc: Global,
+}
+
+impl Operations for ScorerOperations {
+    fn answer(&mut self, operation: &str, arguments: &Arguments) -> Result<Value, Refusal> {
+        let alloc = self.alloc;
+        match operation {
+            "all" => leaves::all(alloc, arguments),
+            "none" => leaves::none(alloc, arguments),
+            "constant" => leaves::constant(alloc, arguments),
+            "documents" => leaves::documents(alloc, arguments),
+            "set" => leaves::set(alloc, arguments),
+            "pairs" => leaves::pairs(alloc, arguments),
+            "combined" => combined::combined(alloc, arguments),
+            "term-scores" => terms::scores(alloc, arguments),
+            "term-explained" => terms::explained(alloc, arguments),
+            _ => Err(Refusal::NotAsked),
+        }
+    }
+}

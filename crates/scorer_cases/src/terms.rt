@@ -1,0 +1,181 @@
+//! Scorers of terms.
+
+ghost use Rattle.std.specs.Prelude.{[], ◌<◌, ◌≡◌, List, false, length, true, ℕ};
+ghost use Rattle.cursors.specs.Entries.{first, from};
+ghost use Rattle.definitions.specs.Postings.{terminated};
+ghost use Rattle.definitions.specs.Scoring.{DontFall};
+ghost use Rattle.segment_postings.specs.Cursors.{entries_left};
+ghost use Rattle.segment_postings.specs.Reading.{HasPostings};
+ghost use Rattle.term_scorer.specs.ScoredTerms.{scored_left};
+
+use crate::written_terms::{opened, written};
+use case_lines::{Arguments, Refusal, number};
+use common::{MAX_SCORE, Score, TERMINATED};
+use cursors::DocSet;
+use fieldnorms::FieldNormReader;
+use scorers::{Scorer, Similarity, TermScorer};
+use segment_postings::SegmentPostings;
+use serde_json::Value;
+use std::alloc::Global;
+
+/// The most documents of a term.
+const MOST: usize = 1000;
+
+/// What is told of a scorer.
+#[derive(Clone, Copy)]
+enum Asked {
+    Scores,
+    Explanation,
+}
+
+/// Each document with its count, its length id and its score, and then the greatest score.
+pub(crate) fn scores(alloc: Global, arguments: &Arguments) -> Result<Value, Refusal> {
+    told(alloc, arguments, Asked::Scores)
+}
+
+/// The explanation of the first document's score.
+pub(crate) fn explained(alloc: Global, arguments: &Arguments) -> Result<Value, Refusal> {
+    told(alloc, arguments, Asked::Explanation)
+}
+
+/// What a scorer tells of whether counts are read, documents with counts, their length ids if their field keeps lengths,
+/// a weight, a boost and norms.
+fn told(alloc: Global, arguments: &Arguments, asked: Asked) -> Result<Value, Refusal> {
+    let docs = docs_in(alloc, arguments.list(1)?)?;
+    if docs.len() >= MOST {
+        return Err(Refusal::NotAsked);
+    }
+    let bytes = written(alloc, &docs)?;
+    let norms = arguments.numbers(alloc, 5)?;
+    let ids = arguments.bytes(alloc, 2)?;
+    let similarity = similarity(
+        arguments.signed_number(3)?,
+        arguments.signed_number(4)?,
+        &norms,
+    )?;
+    let lengths = lengths_of(&ids)?;
+    let mut scorer = scorer(
+        &bytes,
+        docs.len() as u32,
+        arguments.flag(0)?,
+        lengths,
+        similarity,
+    )?;
+    match asked {
+        Asked::Scores => rows(alloc, &mut scorer),
+        Asked::Explanation => explanation(alloc, &scorer),
+    }
+}
+
+/// Documents, each with its count.
+fn docs_in(alloc: Global, values: &[Value]) -> Result<Vec<(u32, u32)>, Refusal> {
+    let mut docs = Vec::new(alloc);
+    for value in values {
+        docs.push((part(value, 0)?, part(value, 1)?))?;
+    }
+    Ok(docs)
+}
+
+/// The number at a place of a list.
+fn part(value: &Value, place: usize) -> Result<u32, Refusal> {
+    value
+        .get(place)
+        .and_then(Value::as_u64)
+        .and_then(|number| u32::try_from(number).ok())
+        .ok_or(Refusal::NotAsked)
+}
+
+/// The lengths of a field: the id of each document, or none where there is no id.
+fn lengths_of(ids: &[u8]) -> Result<FieldNormReader<'_>, Refusal> {
+    if ids.is_empty() {
+        return Ok(FieldNormReader::constant(TERMINATED, 1));
+    }
+    let num_docs = u32::try_from(ids.len()).ok().ok_or(Refusal::NotAsked)?;
+    Ok(FieldNormReader::open(ids, num_docs)?)
+}
+
+/// A weight and a boost, where they meet what is asked of them, with norms.
+fn similarity(weight: Score, boost: Score, norms: &[u32]) -> Result<Similarity<'_>, Refusal> {
+    if weight < 0 || boost < 0 || norms.len() != 256 || !rise(norms) {
+        return Err(Refusal::NotAsked);
+    }
+    match (boost as u64).checked_mul(weight as u64) {
+        Some(product) if product <= MAX_SCORE as u64 => Ok(Similarity::new(weight, boost, norms)),
+        _ => Err(Refusal::NotAsked),
+    }
+}
+
+/// Whether norms don't fall.
+fn rise(norms: &[u32]) -> bool
+    ensures { result ≡ true → DontFall norms.now }
+{
+    let Some((first, rest)) = norms.split_first() else {
+        return true;
+    };
+    let Some(second) = rest.first() else {
+        return true;
+    };
+    *first <= *second && rise(rest)
+}
+
+/// Whether all documents are below a number.
+fn are_below(postings: &mut SegmentPostings<'_>, num_docs: u32) -> bool
+    ensures { result ≡ true → from num_docs (entries_left postings.old) ≡ [] }
+{
+    if num_docs > TERMINATED || postings.doc() > num_docs {
+        return false;
+    }
+    postings.seek(num_docs) == TERMINATED
+}
+
+/// The scorer of a term whose documents all have a length id.
+fn scorer<'a>(
+    bytes: &'a [u8],
+    num_docs: u32,
+    reads_counts: bool,
+    lengths: FieldNormReader<'a>,
+    similarity: Similarity<'a>,
+) -> Result<TermScorer<'a>, Refusal>
+    requires { (ds counts : List ℕ) × HasPostings true false num_docs bytes.now ds counts }
+{
+    if !are_below(
+        &mut opened(bytes, num_docs, reads_counts),
+        lengths.num_docs(),
+    ) {
+        return Err(Refusal::NotAsked);
+    }
+    Ok(TermScorer::new(opened(bytes, num_docs, reads_counts), lengths, similarity))
+}
+
+/// Each document with its count, its length id and its score, and then the greatest score.
+fn rows(alloc: Global, scorer: &mut TermScorer<'_>) -> Result<Value, Refusal> {
+    let mut rows = Vec::new(alloc);
+    for _ in 0..MOST {
+        if scorer.doc() < TERMINATED {
+            rows.push(row(alloc, scorer)?)?;
+        }
+        scorer.advance();
+    }
+    rows.push(Value::from(scorer.max_score()))?;
+    Ok(Value::Array(rows))
+}
+
+/// The current document with its count, its length id and its score.
+fn row(alloc: Global, scorer: &mut TermScorer<'_>) -> Result<Value, Refusal>
+    requires { first (scored_left scorer.old) < terminated }
+{
+    Ok(Value::Array(vec![in alloc;
+        number(u64::from(scorer.doc())),
+        number(u64::from(scorer.term_freq())),
+        number(u64::from(scorer.fieldnorm_id())),
+        Value::from(scorer.score()),
+    ]?))
+}
+
+/// The explanation of the current document's score.
+fn explanation(alloc: Global, scorer: &TermScorer<'_>) -> Result<Value, Refusal> {
+    if scorer.doc() >= TERMINATED {
+        return Err(Refusal::NotAsked);
+    }
+    Ok(Value::String(scorer.explain(alloc)?.to_pretty_json(alloc)?))
+}
