@@ -13,6 +13,7 @@ use Rattle.document_values.specs.Docs.{IsGoodPair}
 use Rattle.layouts.specs.DocumentReading.{deepest}
 use Rattle.layouts.specs.RecordBodies.{bodies_in, first_in, TakesBody}
 use Rattle.layouts.specs.RecordFiles.{EndsAt, IsAtRest, IsFile, IsOneOf}
+pub use Rattle.records.specs.Kept.{IsKept}
 use Rattle.records.specs.Outcomes.{IsRefusal}
 
 -- the last of these lists

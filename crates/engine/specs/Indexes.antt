@@ -6,6 +6,7 @@ use Rattle.definitions.specs.Analyzers.{Analyzer}
 use Rattle.definitions.specs.Calls as calls
 use Rattle.definitions.specs.Schema.{Schema}
 use Rattle.definitions.specs.Settings.{Settings}
+use Rattle.definitions.specs.State.{committed}
 use Rattle.definitions.specs.Step.{configuration_of}
 use Rattle.definitions.specs.Values.{Document}
 use Rattle.definitions.specs.declared.fault.Fault.{Fault}
@@ -65,6 +66,10 @@ module _ {D A : Type 0} {d : devices.Ghosts D} where
   -- the body of a record that has these documents
   abbrev pub IsBodyOf : Index D A d → List Document → List ℕ → Type 0
   IsBodyOf index docs body = docs_in (schema_of index) body ≡ Some docs
+
+  -- over an honest device a ready index rests in its file, with what is committed
+  abbrev pub IsInFile : Index D A d → calls.Index → Type 0
+  IsInFile index x = IsTrue (d.honest (device_of index)) → x.status ≡ calls.ready → IndexRests index (committed x.state)
 
   -- a file with nothing after its closed gate has one record more, and that record has these documents
   abbrev pub AppendsRecord : Index D A d → Index D A d → List Document → Type 0

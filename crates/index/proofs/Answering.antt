@@ -1,6 +1,7 @@
 -- What is replied to a request, from what the index did.
 use Rattle.std.proofs.Common.{Err, inl, inr, ◌⊎◌, false, true, true≢false, ok_or, option_map, IfErr, IfOk, None, Ok, OnOk, Option, Result, Some, ap, refl, subst, sym, ◌∙◌, ◌≡◌, ◌≢◌, ℕ}
 use Rattle.std.specs.Bool.{⊤}
+use Rattle.common.specs.declared.device.Device as devices
 use Rattle.definitions.specs.Analyzers.{Analyzer}
 use Rattle.definitions.specs.Calls as calls
 use Rattle.definitions.specs.FaultNames.{reply_text}
@@ -13,7 +14,7 @@ use Rattle.definitions.specs.declared.fault.Fault.TheVariants as faults
 use Rattle.definitions.proofs.ReplyTexts.{error_text, ok_text}
 use Rattle.definitions.proofs.Steps.{answered_call, refused_call, unread_call}
 use Rattle.definitions.specs.Built.{built_query_in}
-use Rattle.definitions.specs.Query.{Query, empty}
+use Rattle.definitions.specs.Query.{Query}
 use Rattle.definitions.specs.Replies.{count_reply, hits_reply}
 use Rattle.definitions.specs.Scanning.{scan, scan_count}
 use Rattle.definitions.specs.State.{committed}
@@ -22,15 +23,15 @@ use Rattle.std.specs.Cow.{cow_str_bytes}
 use Rattle.std.specs.declared.borrow.CowStr.{CowStr}
 use Rattle.serde_json.specs.Read.{read}
 use Rattle.index.specs.Replying.{Answers, GoesOn, change_text}
-use Rattle.engine.specs.Standing.{Stands}
-use Rattle.engine.specs.declared.collection.Collection.{Collection}
+use Rattle.engine.specs.Indexes.{IndexStands}
+use Rattle.engine.specs.declared.index.Index.{Index}
 use Rattle.definitions.specs.Replying.{stops}
 
 none≢some : {X : Type 0} {x : X} → None ≡ Some x → ⊥
 none≢some h = cc
 
 -- a call that is answered wasn't refused
-answered_leaves : (c : calls.Configuration) (x y : calls.Index) (call : calls.Call) → calls.Leaves c x call (Ok tt) y → (calls.call_fault c x call ≡ None) × (y ≡ record { state = calls.after c x.state call; status = x.status })
+pub answered_leaves : (c : calls.Configuration) (x y : calls.Index) (call : calls.Call) → calls.Leaves c x call (Ok tt) y → (calls.call_fault c x call ≡ None) × (y ≡ record { state = calls.after c x.state call; status = x.status })
 answered_leaves c x y call (calls.answered accepted) = (accepted, refl)
 
 -- a call that its tests refuse leaves what stood
@@ -47,16 +48,16 @@ pub going_on : (fault other : Fault) → stops fault ≡ false → stops other �
 going_on fault other on stop same = true≢false (sym stop ∙ ap stops (sym same) ∙ on)
 
 -- the reply to a change, and what stands after it
-pub change_answered : {A : Type 0} (analyze : A → Analyzer) (new : Collection A) (c : calls.Configuration) (x : calls.Index) (r : requests.Request) (call : calls.Call) (change : Result ⊤ Fault) → steps.call_in c.schema r ≡ Ok call → steps.answer_reply c x.state call ≡ ok_reply → (y : calls.Index) × calls.Leaves c x call change y × Stands analyze new c y → IfErr change (λ fault. stops fault ≡ false → calls.call_fault c x call ≡ Some fault) → GoesOn change → (change_text change ≡ reply_of ((steps.index_step c x r).0)) × Stands analyze new c ((steps.index_step c x r).1)
+pub change_answered : {D A : Type 0} {d : devices.Ghosts D} (analyze : A → Analyzer) (new : Index D A d) (c : calls.Configuration) (x : calls.Index) (r : requests.Request) (call : calls.Call) (change : Result ⊤ Fault) → steps.call_in c.schema r ≡ Ok call → steps.answer_reply c x.state call ≡ ok_reply → (y : calls.Index) × calls.Leaves c x call change y × IndexStands analyze new c y → IfErr change (λ fault. stops fault ≡ false → calls.call_fault c x call ≡ Some fault) → GoesOn change → (change_text change ≡ reply_of ((steps.index_step c x r).0)) × IndexStands analyze new c ((steps.index_step c x r).1)
 change_answered analyze new c x r call (Ok u) read ok (y, left, stands) exact other =
     let told = answered_leaves c x y call left in
     let step = answered_call c x r call read told.0 in
-    (sym ok_text ∙ sym (ap reply_of ok) ∙ ap (λ p. reply_of p.0) (sym step), subst (λ p. Stands analyze new c p.1) (sym step) (subst (Stands analyze new c) told.1 stands))
+    (sym ok_text ∙ sym (ap reply_of ok) ∙ ap (λ p. reply_of p.0) (sym step), subst (λ p. IndexStands analyze new c p.1) (sym step) (subst (IndexStands analyze new c) told.1 stands))
 change_answered analyze new c x r call (Err fault) read ok (y, left, stands) exact other =
     let not_memory : fault ≢ faults.OutOfMemory = going_on fault faults.OutOfMemory other refl in
     let refused = exact other in
     let step = refused_call c x r call fault read refused in
-    (error_text fault ∙ ap (λ p. reply_of p.0) (sym step), subst (λ p. Stands analyze new c p.1) (sym step) (subst (Stands analyze new c) (refused_leaves c x y call fault left refused not_memory) stands))
+    (error_text fault ∙ ap (λ p. reply_of p.0) (sym step), subst (λ p. IndexStands analyze new c p.1) (sym step) (subst (IndexStands analyze new c) (refused_leaves c x y call fault left refused not_memory) stands))
 
 -- ---- searches and counts
 
@@ -93,24 +94,24 @@ err_weaker (Err e) P Q f h = f e h
 -- ---- replies
 
 -- the reply to a request that is refused
-pub refusal_answered : {A Z : Type 0} (analyze : A → Analyzer) (index : Collection A) (c : calls.Configuration) (x : calls.Index) (r : requests.Request) (fault : Fault) (result : Result (CowStr Z) Fault) → Stands analyze index c x → (fault ≢ faults.OutOfMemory → steps.index_step c x r ≡ steps.refusing fault x) → IfOk result (λ text. cow_str_bytes text ≡ reply_text fault) → OnOk result (stops fault ≡ false) → Answers analyze index c x r result
+pub refusal_answered : {D A Z : Type 0} {d : devices.Ghosts D} (analyze : A → Analyzer) (index : Index D A d) (c : calls.Configuration) (x : calls.Index) (r : requests.Request) (fault : Fault) (result : Result (CowStr Z) Fault) → IndexStands analyze index c x → (fault ≢ faults.OutOfMemory → steps.index_step c x r ≡ steps.refusing fault x) → IfOk result (λ text. cow_str_bytes text ≡ reply_text fault) → OnOk result (stops fault ≡ false) → Answers analyze index c x r result
 refusal_answered analyze index c x r fault (Ok text) s refused told other =
     let step = refused (going_on fault faults.OutOfMemory other refl) in
     record {
       text = told ∙ error_text fault ∙ ap (λ p. reply_of p.0) (sym step);
-      state = subst (λ p. Stands analyze index c p.1) (sym step) s;
+      state = subst (λ p. IndexStands analyze index c p.1) (sym step) s;
     }
 refusal_answered analyze index c x r fault (Err e) s refused told other = record { text = tt; state = tt }
 
 -- the reply to a request that changes nothing
-pub text_answered : {A Z : Type 0} (analyze : A → Analyzer) (index : Collection A) (c : calls.Configuration) (x : calls.Index) (r : requests.Request) (d : json.Data) (text : CowStr Z) → Stands analyze index c x → steps.index_step c x r ≡ (d, x) → cow_str_bytes text ≡ reply_of d → Answers analyze index c x r (Ok text)
-text_answered analyze index c x r d text s step told = record {
+pub text_answered : {D A Z : Type 0} {d : devices.Ghosts D} (analyze : A → Analyzer) (index : Index D A d) (c : calls.Configuration) (x : calls.Index) (r : requests.Request) (said : json.Data) (text : CowStr Z) → IndexStands analyze index c x → steps.index_step c x r ≡ (said, x) → cow_str_bytes text ≡ reply_of said → Answers analyze index c x r (Ok text)
+text_answered analyze index c x r said text s step told = record {
   text = told ∙ ap (λ p. reply_of p.0) (sym step);
-  state = subst (λ p. Stands analyze index c p.1) (sym step) s;
+  state = subst (λ p. IndexStands analyze index c p.1) (sym step) s;
 }
 
 -- the reply to a request that changes something
-pub change_answers : {A Z : Type 0} (analyze : A → Analyzer) (new : Collection A) (c : calls.Configuration) (x : calls.Index) (r : requests.Request) (call : calls.Call) (change : Result ⊤ Fault) (result : Result (CowStr Z) Fault) → steps.call_in c.schema r ≡ Ok call → steps.answer_reply c x.state call ≡ ok_reply → (y : calls.Index) × calls.Leaves c x call change y × Stands analyze new c y → IfErr change (λ fault. stops fault ≡ false → calls.call_fault c x call ≡ Some fault) → IfOk result (λ text. cow_str_bytes text ≡ change_text change) → OnOk result (GoesOn change) → Answers analyze new c x r result
+pub change_answers : {D A Z : Type 0} {d : devices.Ghosts D} (analyze : A → Analyzer) (new : Index D A d) (c : calls.Configuration) (x : calls.Index) (r : requests.Request) (call : calls.Call) (change : Result ⊤ Fault) (result : Result (CowStr Z) Fault) → steps.call_in c.schema r ≡ Ok call → steps.answer_reply c x.state call ≡ ok_reply → (y : calls.Index) × calls.Leaves c x call change y × IndexStands analyze new c y → IfErr change (λ fault. stops fault ≡ false → calls.call_fault c x call ≡ Some fault) → IfOk result (λ text. cow_str_bytes text ≡ change_text change) → OnOk result (GoesOn change) → Answers analyze new c x r result
 change_answers analyze new c x r call change (Ok text) read ok left exact told other =
     let both = change_answered analyze new c x r call change read ok left exact other in
     record { text = told ∙ both.0; state = both.1 }
@@ -122,11 +123,11 @@ ready_then calls.ready own h = refl
 ready_then calls.writer_closed own h = absurd (none≢some (sym h))
 ready_then calls.closed own h = absurd (none≢some (sym h))
 
--- the index was ready, or its device is as it was
-pub commit_kept : {D Z : Type 0} (old new : D) (P : Type 0) (stands : calls.Index → Type 0) (change : Result ⊤ Fault) (result : Result Z Fault) (c : calls.Configuration) (x : calls.Index) → (y : calls.Index) × calls.Leaves c x calls.commit_pending change y × stands y → IfErr change (λ fault. fault ≢ faults.Device → (new ≡ old) × P) → OnOk result (GoesOn change) → OnOk result ((x.status ≡ calls.ready) ⊎ (new ≡ old))
-commit_kept old new P stands change (Err e) c x left kept on = tt
-commit_kept old new P stands (Ok u) (Ok z) c x (y, left, stood) kept on = inl (ready_then x.status (calls.own_fault c x.state calls.commit_pending) ((answered_leaves c x y calls.commit_pending left).0))
-commit_kept old new P stands (Err fault) (Ok z) c x left kept on = inr ((kept (going_on fault faults.Device on refl)).0)
+-- the index was ready, or its file is as it was
+pub commit_kept : {Z : Type 0} (Kept : Type 0) (stands : calls.Index → Type 0) (change : Result ⊤ Fault) (result : Result Z Fault) (c : calls.Configuration) (x : calls.Index) → (y : calls.Index) × calls.Leaves c x calls.commit_pending change y × stands y → IfErr change (λ fault. fault ≢ faults.Device → Kept) → OnOk result (GoesOn change) → OnOk result ((x.status ≡ calls.ready) ⊎ Kept)
+commit_kept Kept stands change (Err e) c x left kept on = tt
+commit_kept Kept stands (Ok u) (Ok z) c x (y, left, stood) kept on = inl (ready_then x.status (calls.own_fault c x.state calls.commit_pending) ((answered_leaves c x y calls.commit_pending left).0))
+commit_kept Kept stands (Err fault) (Ok z) c x left kept on = inr (kept (going_on fault faults.Device on refl))
 
 -- what is refused unless memory is wanted is refused where the run goes on
 pub add_refused : {T : Type 0} (r : Result T Fault) (P : Fault → Type 0) → IfErr r (λ fault. fault ≢ faults.OutOfMemory → P fault) → IfErr r (λ fault. stops fault ≡ false → P fault)

@@ -1,6 +1,7 @@
 -- What a session answers, and what it stands for after it.
-use Rattle.std.proofs.Common.{Bool, Err, IfOk, IsUtf8, None, Ok, OnOk, Option, Result, Some, ap, cond, false, inl, inr, ok_or, option_and_then, option_map, refl, subst, sym, true, ◌∙◌, ◌≡◌, ◌⊎◌, List, ℕ}
+use Rattle.std.proofs.Common.{Bool, Err, IfErr, IfOk, None, Ok, OnOk, Option, Result, Some, ap, cond, false, inl, inr, ok_or, option_and_then, option_map, refl, subst, sym, true, ◌∙◌, ◌≡◌, ◌⊎◌, List, ℕ}
 use Rattle.std.specs.Bool.{⊤}
+use Rattle.std.specs.Prelude.{IsErrAnd, IsErrOf}
 use Rattle.std.specs.Cow.{cow_str_bytes}
 use Rattle.std.specs.declared.borrow.CowStr.{CowStr}
 use Rattle.common.specs.declared.analyzer.Analyzer as analyzers
@@ -15,21 +16,22 @@ use Rattle.definitions.specs.Requests as requests
 use Rattle.definitions.specs.Schema.{Schema}
 use Rattle.definitions.specs.SchemaGrammar.{schema_in}
 use Rattle.definitions.specs.Settings.{Settings}
-use Rattle.definitions.specs.State.{State}
 use Rattle.definitions.specs.Step as steps
 use Rattle.definitions.specs.declared.fault.Fault.{Fault}
 use Rattle.definitions.specs.declared.fault.Fault.TheVariants as faults
 use Rattle.definitions.proofs.ReplyTexts.{error_text}
-use Rattle.engine.specs.Accepting.{IsMadeAlike}
+use Rattle.definitions.specs.Disk.{HasCause}
+use Rattle.definitions.specs.State.{State, committed}
+use Rattle.engine.specs.Indexes.{IndexStands, IsInFile, KeepsFile, KeepsMaking, PassesLimit, device_of}
 use Rattle.index.specs.AskedRequests.{index_request_of}
 use Rattle.index.specs.Replying.{Answers, GoesOn, change_text}
-use Rattle.index.specs.Sessions.{HasHeld, HasStage, IsIndex, IsKnown, LeavesStage, Replies, StandsFor, analysis_of}
-use Rattle.engine.specs.Standing.{Stands}
+use Rattle.index.specs.Sessions.{CommitPasses, HasHeld, HasStage, IsIndex, IsKnown, LeavesStage, Replies, StandsFor, analysis_of, failures_of, failures_on}
 use Rattle.engine.specs.declared.index.Index.{Index}
 use Rattle.index.specs.declared.requests.IndexRequest.{IndexRequest}
 use Rattle.index.specs.declared.requests.IndexRequest.TheVariants.{Add, Commit, Count, Search}
 use Rattle.index.specs.declared.session.Session.{Session}
 use Rattle.index.specs.declared.stage.Stage.TheVariants.{Spare, Standing}
+use Rattle.index.proofs.Causes.{memory_cause, memory_no_limit, same_cause, same_error}
 use Rattle.index.proofs.Stages.{held_kept}
 use Rattle.serde_json.specs.Read.{read}
 use Rattle.serde_json.specs.View.{view}
@@ -123,53 +125,113 @@ pub on_map : {T E : Type 0} (r : Result T E) (P Q : Type 0) → (P → Q) → On
 on_map (Ok t) P Q f h = f h
 on_map (Err e) P Q f h = tt
 
+-- and of three
+on_three : {T E : Type 0} (r : Result T E) (P Q R S : Type 0) → OnOk r P → OnOk r Q → OnOk r R → (P → Q → R → S) → OnOk r S
+on_three (Ok t) P Q R S p q s f = f p q s
+on_three (Err e) P Q R S p q s f = tt
+
 module _ {D A Z : Type 0} {d : devices.Ghosts D} {a : analyzers.Ghosts A} where
   -- the reply to a change
-  pub replied : (s : steps.Session) (new : Session D A d a) (change : Result ⊤ Fault) (result : Result (CowStr Z) Fault) (p : json.Data × steps.Stage) (r : requests.Request) → steps.stage_step s.analysis s.stage r ≡ p → LeavesStage a.knows_name a.analyze s.analysis new.stage change p → IfOk result (λ text. cow_str_bytes text ≡ change_text change) → OnOk result (GoesOn change) → Replies new result (steps.step s (Some r))
-  replied s new change (Ok text) p r is leaves told on =
-      let left = leaves on in
-      record {
-        text = told ∙ left.0 ∙ ap (λ q. reply_of q.0) (sym is);
-        state = subst (λ (q : json.Data × steps.Stage). HasStage a.knows_name a.analyze s.analysis new.stage q.1) (sym is) left.1;
-      }
-  replied s new change (Err fault) p r is leaves told on = record { text = tt; state = tt }
+  pub replied : (s : steps.Session) (old new : Session D A d a) (change : Result ⊤ Fault) (result : Result (CowStr Z) Fault) (p : json.Data × steps.Stage) (r : requests.Request) → steps.stage_step s.analysis s.stage r ≡ p → LeavesStage a.knows_name a.analyze s.analysis new.stage change p → IfOk result (λ text. cow_str_bytes text ≡ change_text change) → OnOk result (GoesOn change)
+      → IfErr result (λ e. change ≡ Err e) → HasCause (failures_of old) (failures_of new) change → ¬ IsErrOf change faults.Limit → Replies old new s (Some r) result
+  replied s old new change result p r is leaves told on same failures no_limit = record {
+    text = text result told on;
+    state = state result on;
+    failures = same_cause (failures_of old) (failures_of new) change result same failures;
+    limit = λ limit. absurd (no_limit (same_error change result faults.Limit same limit));
+  }
+    where
+      text : (result : Result (CowStr Z) Fault) → IfOk result (λ text. cow_str_bytes text ≡ change_text change) → OnOk result (GoesOn change) → IfOk result (λ text. cow_str_bytes text ≡ reply_of ((steps.step s (Some r)).0))
+      text (Ok t) told on = told ∙ (leaves on).0 ∙ ap (λ q. reply_of q.0) (sym is)
+      text (Err e) told on = tt
+
+      state : (result : Result (CowStr Z) Fault) → OnOk result (GoesOn change) → OnOk result (StandsFor new ((steps.step s (Some r)).1))
+      state (Ok t) on = subst (λ (q : json.Data × steps.Stage). HasStage a.knows_name a.analyze s.analysis new.stage q.1) (sym is) (leaves on).1
+      state (Err e) on = tt
 
   -- the reply to a request that is refused
-  pub refused_reply : (s : steps.Session) (session : Session D A d a) (fault : Fault) (result : Result (CowStr Z) Fault) (r : requests.Request) → StandsFor session s → (OnOk result (steps.stage_step s.analysis s.stage r ≡ steps.refusing fault s.stage)) → IfOk result (λ text. cow_str_bytes text ≡ reply_text fault) → Replies session result (steps.step s (Some r))
-  refused_reply s session fault (Ok text) r stands is told = record {
+  pub refused_reply : (s : steps.Session) (session : Session D A d a) (fault : Fault) (result : Result (CowStr Z) Fault) (r : requests.Request) → StandsFor session s → (OnOk result (steps.stage_step s.analysis s.stage r ≡ steps.refusing fault s.stage)) → IfOk result (λ text. cow_str_bytes text ≡ reply_text fault) → IfErr result (λ e. e ≡ faults.OutOfMemory) → Replies session session s (Some r) result
+  refused_reply s session fault (Ok text) r stands is told memory = record {
     text = told ∙ error_text fault ∙ ap (λ q. reply_of q.0) (sym is);
     state = subst (λ (q : json.Data × steps.Stage). HasStage a.knows_name a.analyze s.analysis session.stage q.1) (sym is) stands;
+    failures = memory_cause (failures_of session) (Ok text) tt;
+    limit = λ limit. absurd (memory_no_limit (Ok text) tt limit);
   }
-  refused_reply s session fault (Err e) r stands is told = record { text = tt; state = tt }
+  refused_reply s session fault (Err e) r stands is told memory = record {
+    text = tt;
+    state = tt;
+    failures = memory_cause {T = CowStr Z} (failures_of session) (Err e) memory;
+    limit = λ limit. absurd (memory_no_limit {T = CowStr Z} (Err e) memory limit);
+  }
+
+  -- the same of a session with the same stage
+  pub same_stage : (s : steps.Session) (old new : Session D A d a) (o : Option requests.Request) (result : Result (CowStr Z) Fault) → new.stage ≡ old.stage → Replies old old s o result → Replies old new s o result
+  same_stage s old new o result same replies = record {
+    text = replies.text;
+    state = subst (λ t. OnOk result (HasStage a.knows_name a.analyze ((steps.step s o).1.analysis) t ((steps.step s o).1.stage))) (sym same) replies.state;
+    failures = subst (λ t. HasCause (failures_of old) (failures_on t) result) (sym same) replies.failures;
+    limit = replies.limit;
+  }
 
   -- the reply where nothing is asked for
-  pub unasked_reply : (s : steps.Session) (session : Session D A d a) (o : Option requests.Request) (text : CowStr Z) → None ≡ o → StandsFor session s → cow_str_bytes text ≡ reply_text faults.BadRequest → Replies session (Ok text) (steps.step s o)
-  unasked_reply s session o text is stands told = subst (λ (q : Option requests.Request). Replies session (Ok text) (steps.step s q)) is (record { text = told ∙ error_text faults.BadRequest; state = stands })
+  pub unasked_reply : (s : steps.Session) (session : Session D A d a) (o : Option requests.Request) (text : CowStr Z) → None ≡ o → StandsFor session s → cow_str_bytes text ≡ reply_text faults.BadRequest → Replies session session s o (Ok text)
+  unasked_reply s session o text is stands told =
+      subst (λ (q : Option requests.Request). Replies session session s q (Ok text)) is
+      (record {
+        text = told ∙ error_text faults.BadRequest;
+        state = stands;
+        failures = memory_cause (failures_of session) (Ok text) tt;
+        limit = λ limit. absurd (memory_no_limit (Ok text) tt limit);
+      })
 
--- what is asked of the index that stands
-module _ {D A Z : Type 0} {d : devices.Ghosts D} (knows : A → List ℕ → Bool) (analyze : A → Analyzer) where
-  pub index_left : (s : steps.Session) (old new : Index D A d) (r : IndexRequest) (result : Result (CowStr Z) Fault) → HasStage knows analyze s.analysis (Some (Standing old)) s.stage
-      → ((c : calls.Configuration) (x : calls.Index) → Stands analyze old.collection c x → Answers analyze new.collection c x (index_request_of r) result)
-      → IsMadeAlike old.collection new.collection
-      → ((c : calls.Configuration) (x : calls.Index) → Stands analyze old.collection c x → OnOk result ((x.status ≡ calls.ready) ⊎ (new.file.device ≡ old.file.device)))
-      → IfOk result (λ text. cow_str_bytes text ≡ reply_of ((steps.step s (Some (index_request_of r))).0)) × OnOk result (HasStage knows analyze s.analysis (Some (Standing new)) ((steps.step s (Some (index_request_of r))).1.stage))
-  index_left s old new r (Err fault) stands answered made kept = (tt, tt)
-  index_left s old new r (Ok text) stands answered made kept = at s.stage stands
+  -- and where no memory is found
+  pub memory_reply : (s : steps.Session) (session : Session D A d a) (o : Option requests.Request) (result : Result (CowStr Z) Fault) → IsErrAnd result (λ e. e ≡ faults.OutOfMemory) → Replies session session s o result
+  memory_reply s session o (Ok text) memory = absurd memory
+  memory_reply s session o (Err e) memory = record {
+    text = tt;
+    state = tt;
+    failures = memory_cause {T = CowStr Z} (failures_of session) (Err e) memory;
+    limit = λ limit. absurd (memory_no_limit {T = CowStr Z} (Err e) memory limit);
+  }
+
+  -- what is asked of the index that stands
+  pub index_reply : (s : steps.Session) (before after : Session D A d a) (old new : Index D A d) (r : IndexRequest) (result : Result (CowStr Z) Fault) → before.stage ≡ Some (Standing old) → after.stage ≡ Some (Standing new) → StandsFor before s
+      → ((c : calls.Configuration) (x : calls.Index) → IndexStands a.analyze old c x → Answers a.analyze new c x (index_request_of r) result)
+      → KeepsMaking old new
+      → ((c : calls.Configuration) (x : calls.Index) → IndexStands a.analyze old c x → OnOk result ((x.status ≡ calls.ready) ⊎ KeepsFile old new))
+      → ((c : calls.Configuration) (x : calls.Index) → IndexStands a.analyze old c x → IsInFile old x → OnOk result (IsInFile new ((steps.index_step c x (index_request_of r)).1)))
+      → ((c : calls.Configuration) (x : calls.Index) → IndexStands a.analyze old c x → HasCause (d.failed (device_of old)) (d.failed (device_of new)) result)
+      → ((c : calls.Configuration) (x : calls.Index) → IndexStands a.analyze old c x → IsErrOf result faults.Limit → (index_request_of r ≡ requests.commit_all) × PassesLimit old (committed (calls.after c x.state calls.commit_pending)))
+      → Replies before after s (Some (index_request_of r)) result
+  index_reply s before after old new r result was is stands answered made kept rests failures limit =
+      at s.stage refl (subst (λ o. HasStage a.knows_name a.analyze s.analysis o s.stage) was stands)
     where
-      at : (stage : steps.Stage) → HasStage knows analyze s.analysis (Some (Standing old)) stage → (cow_str_bytes text ≡ reply_of ((steps.stage_step s.analysis stage (index_request_of r)).0)) × HasStage knows analyze s.analysis (Some (Standing new)) ((steps.stage_step s.analysis stage (index_request_of r)).1)
-      at (steps.no_index held) h = absurd h
-      at (steps.index_of fields numbers x) h =
+      at : (stage : steps.Stage) → s.stage ≡ stage → HasStage a.knows_name a.analyze s.analysis (Some (Standing old)) s.stage → Replies before after s (Some (index_request_of r)) result
+      at (steps.no_index held) same h = absurd (subst (HasStage a.knows_name a.analyze s.analysis (Some (Standing old))) same h)
+      at (steps.index_of fields numbers x) same h =
+          let index : IsIndex a.knows_name a.analyze s.analysis old fields numbers x = subst (HasStage a.knows_name a.analyze s.analysis (Some (Standing old))) same h in
           let c = steps.configuration_of fields s.analysis.analyze numbers in
-          let is = asked_step s.analysis (steps.index_of fields numbers x) r in
-          let told = answered c x h.stands in
-          let index : IsIndex knows analyze s.analysis new fields numbers ((steps.index_step c x (index_request_of r)).1) = record {
-            analysis = h.analysis ∙ ap (analysis_of knows analyze) (sym made.analyzer);
-            fields = made.schema ∙ h.fields;
-            numbers = made.settings ∙ h.numbers;
-            stands = told.state;
-            known = known_after d.honest d.content old.file.device new.file.device c fields numbers x r (kept c x h.stands) h.known;
-          } in
-          (told.text ∙ ap (λ q. reply_of q.0) (sym is), subst (λ (q : json.Data × steps.Stage). HasStage knows analyze s.analysis (Some (Standing new)) q.1) (sym is) index)
+          let y = (steps.index_step c x (index_request_of r)).1 in
+          let step : steps.stage_step s.analysis s.stage (index_request_of r) ≡ steps.in_index s.analysis.analyze (steps.index_of fields numbers x) (index_request_of r) = ap (λ (t : steps.Stage). steps.stage_step s.analysis t (index_request_of r)) same ∙ asked_step s.analysis (steps.index_of fields numbers x) r in
+          let told = answered c x index.stands in
+          record {
+            text = subst (λ (q : json.Data × steps.Stage). IfOk result (λ text. cow_str_bytes text ≡ reply_of q.0)) (sym step) told.text;
+            state = subst (λ (q : json.Data × steps.Stage). OnOk result (HasStage a.knows_name a.analyze s.analysis after.stage q.1)) (sym step)
+                (subst (λ o. OnOk result (HasStage a.knows_name a.analyze s.analysis o (steps.index_of fields numbers y))) (sym is)
+                (on_three result (IndexStands a.analyze new c y) ((x.status ≡ calls.ready) ⊎ KeepsFile old new) (IsInFile new y) (IsIndex a.knows_name a.analyze s.analysis new fields numbers y)
+                told.state (kept c x index.stands) (rests c x index.stands index.rests)
+                (λ standing still in_file. record {
+                  analysis = index.analysis ∙ ap (analysis_of a.knows_name a.analyze) (sym made.analyzer);
+                  fields = made.schema ∙ index.fields;
+                  numbers = made.settings ∙ index.numbers;
+                  stands = standing;
+                  rests = in_file;
+                  known = known_after d.honest d.content (device_of old) (device_of new) c fields numbers x r (elim still [ inl ready ↦ inl ready | inr file ↦ inr file.0 ]) index.known;
+                })));
+            failures = subst (λ o. HasCause (failures_on o) (failures_on after.stage) result) (sym was) (subst (λ o. HasCause (d.failed (device_of old)) (failures_on o) result) (sym is) (failures c x index.stands));
+            limit = λ met. let why = limit c x index.stands met in
+                (ap Some why.0, subst (λ o. CommitPasses s.analysis o s.stage) (sym was) (subst (λ t. CommitPasses s.analysis (Some (Standing old)) t) (sym same) why.1));
+          }
 
 -- none stands to be asked
 pub none_asked : {D A : Type 0} (d : devices.Ghosts D) (knows : A → List ℕ → Bool) (analyze : A → Analyzer) (a : steps.Analysis) (stage : steps.Stage) (device : D) (analyzer : A) (r : IndexRequest) → HasStage {d = d} knows analyze a (Some (Spare device analyzer)) stage → steps.stage_step a stage (index_request_of r) ≡ steps.refusing faults.NotOpen stage

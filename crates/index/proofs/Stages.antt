@@ -1,26 +1,35 @@
 -- What stands after an index was made or opened.
-use Rattle.std.proofs.Common.{[], Bool, Err, IfErr, IfOk, IsTrue, List, None, Ok, OnOk, Option, Result, Some, ap, cond, false, inl, inr, refl, subst, sym, true, ◌∙◌, ◌≡◌, ◌≢◌, ◌⊎◌, ℕ}
+use Rattle.std.proofs.Common.{[], Bool, Err, IfErr, IfOk, IsTrue, List, None, Ok, OnOk, Option, Result, Some, ap, cond, false, inl, inr, refl, subst, sym, true, true≢false, ◌∙◌, ◌≡◌, ◌≢◌, ◌⊎◌, ℕ}
 use Rattle.common.specs.declared.device.Device as devices
 use Rattle.definitions.specs.Analyzers.{Analyzer}
 use Rattle.definitions.specs.Calls as calls
+use Rattle.definitions.specs.Disk.{HasCause}
 use Rattle.definitions.specs.Making.{are_analyzed, making_fault}
+use Rattle.definitions.specs.Replying.{stops}
+use Rattle.std.specs.Prelude.{IsErrOf}
+use Rattle.std.specs.Bool.{⊤}
 use Rattle.std.specs.Option.{option_or}
 use Rattle.definitions.specs.Replies.{ok_reply, reply_of}
 use Rattle.definitions.specs.Schema.{Schema}
 use Rattle.definitions.specs.Settings.{Settings}
+use Rattle.definitions.specs.State.{committed}
 use Rattle.definitions.specs.Step as steps
 use Rattle.definitions.specs.Values.{Document}
 use Rattle.definitions.specs.declared.fault.Fault.{Fault}
 use Rattle.definitions.specs.declared.fault.Fault.TheVariants as faults
 use Rattle.definitions.proofs.ReplyTexts.{error_text, ok_text}
-use Rattle.engine.specs.Files.{IsCreateRefusal, IsFileOf, IsOpenRefusal, IsOpened}
+use Rattle.engine.specs.Files.{IsCreateRefusal, IsFileOf, IsKept, IsOpenRefusal}
+use Rattle.engine.specs.Indexes.{IndexRests, IndexStands, IsOpened, analyzer_after, analyzer_of, device_after, device_of, ending_of, schema_of, settings_of}
 use Rattle.index.specs.Replying.{change_text}
-use Rattle.index.specs.Sessions.{HasHeld, HasStage, IsIndex, IsSpare, LeavesStage, all_of, analysis_of, left_by}
-use Rattle.engine.specs.Standing.{Stands, StandsReopened}
+use Rattle.index.specs.Sessions.{HasHeld, HasStage, IsIndex, IsSpare, IsStage, LeavesStage, all_of, analysis_of, device_on, left_by, stage_after}
+use Rattle.engine.specs.Standing.{IsReopened}
 use Rattle.engine.specs.declared.index.Index.{Index}
 use Rattle.engine.specs.declared.index.Refused.{Refused}
 use Rattle.index.specs.declared.stage.Stage.TheVariants.{Spare, Standing}
 use Rattle.index.proofs.Answering.{going_on}
+use Rattle.index.proofs.Causes.{error_in, making_goes_on}
+use Rattle.engine.proofs.Faults.{is_limit}
+use Rattle.engine.proofs.Openings.{same_saying}
 use Rattle.engine.proofs.FileSayings.{Found, file_is_index, file_is_whole, found, no_bytes, no_index_yet, one_saying}
 use Rattle.layouts.specs.RecordFiles.{IsNoIndex}
 use Rattle.serde_json.specs.Data as json
@@ -54,19 +63,20 @@ module _ {D A : Type 0} (d : devices.Ghosts D) (knows : A → List ℕ → Bool)
 
   -- an index was made
   pub made_stage : (a : steps.Analysis) (device : D) (analyzer : A) (held : steps.Held) (s : Schema) (u : Settings) (index : Index D A d) → IsSpare d.honest d.content knows analyze a device analyzer held
-      → making_fault (knows analyzer) s u ≡ None → (IsTrue (d.honest device) → d.content device ≡ []) → Stands analyze index.collection (steps.configuration_of s (analyze analyzer) u) steps.fresh_index
-      → (index.collection.schema ≡ s) × (index.collection.settings ≡ u) × (index.collection.analyzer ≡ analyzer)
+      → making_fault (knows analyzer) s u ≡ None → (IsTrue (d.honest device) → d.content device ≡ []) → IndexStands analyze index (steps.configuration_of s (analyze analyzer) u) steps.fresh_index
+      → (schema_of index ≡ s) × (settings_of index ≡ u) → analyzer_of index ≡ analyzer → (IsTrue (d.honest device) → IndexRests index [])
       → LeavesStage knows analyze a (Some (Standing index)) (Ok tt) (steps.created a.knows s u held)
-  made_stage a device analyzer (steps.file_of t v e) s u index spare none empty stands of = absurd (no_bytes spare.1.1.0 (d.content device) spare.1.1.1 (empty spare.1.0))
-  made_stage a device analyzer steps.no_file s u index spare none empty stands of =
+  made_stage a device analyzer (steps.file_of t v e) s u index spare none empty stands of by rests = absurd (no_bytes spare.1.1.0 (d.content device) spare.1.1.1 (empty spare.1.0))
+  made_stage a device analyzer steps.no_file s u index spare none empty stands of by rests =
       let fault : making_fault a.knows s u ≡ None = subst (λ (b : steps.Analysis). making_fault b.knows s u ≡ None) (sym spare.0) none in
       let step : steps.created a.knows s u steps.no_file ≡ (ok_reply, steps.index_of s u steps.fresh_index) = ap (λ (o : Option Fault). steps.refused_or (option_or o None) (steps.no_index steps.no_file) (ok_reply, steps.index_of s u steps.fresh_index)) fault in
       answered_stage a index s u steps.fresh_index (steps.created a.knows s u steps.no_file) step
       (record {
-        analysis = spare.0 ∙ ap (analysis_of knows analyze) (sym of.2);
+        analysis = spare.0 ∙ ap (analysis_of knows analyze) (sym by);
         fields = of.0;
         numbers = of.1;
-        stands = subst (λ (b : steps.Analysis). Stands analyze index.collection (steps.configuration_of s b.analyze u) steps.fresh_index) (sym spare.0) stands;
+        stands = subst (λ (b : steps.Analysis). IndexStands analyze index (steps.configuration_of s b.analyze u) steps.fresh_index) (sym spare.0) stands;
+        rests = λ h ready. rests spare.1.0;
         known = inl refl;
       })
 
@@ -77,11 +87,11 @@ module _ {D A : Type 0} (d : devices.Ghosts D) (knows : A → List ℕ → Bool)
   -- none was made
   pub unmade_stage : (a : steps.Analysis) (device : D) (analyzer : A) (held : steps.Held) (s : Schema) (u : Settings) (r : Refused D A) → IsSpare d.honest d.content knows analyze a device analyzer held
       → (r.fault ≡ faults.OutOfMemory) ⊎ (making_fault (knows analyzer) s u ≡ Some r.fault) ⊎ ((making_fault (knows analyzer) s u ≡ None) × IsCreateRefusal r.fault)
-      → r.analyzer ≡ analyzer → d.honest r.device ≡ d.honest device → (IsTrue (d.honest device) → r.fault ≡ faults.NotEmpty → d.content device ≢ []) → (IsTrue (d.honest device) → r.fault ≢ faults.Device → d.content r.device ≡ d.content device)
+      → r.analyzer ≡ analyzer → d.honest r.device ≡ d.honest device → (IsTrue (d.honest device) → r.fault ≡ faults.NotEmpty → d.content device ≢ []) → (IsTrue (d.honest device) → r.fault ≢ faults.Device → IsKept d.moment d.left_since d.content d.unsynced device r.device)
       → LeavesStage {d = d} knows analyze a (Some (Spare r.device r.analyzer)) (Err r.fault) (steps.created a.knows s u held)
   unmade_stage a device analyzer held s u r spare exact returned honest full kept on =
       let is_honest = held_honest d.honest d.content device held spare.1 in
-      let same = kept is_honest (going_on r.fault faults.Device on refl) in
+      let same = (kept is_honest (going_on r.fault faults.Device on refl)).content_kept in
       let stays = spare_kept a device r.device analyzer r.analyzer held spare returned honest same in
       refused_stage a r.device r.analyzer r.fault held (steps.created a.knows s u held) (step held spare.1 exact) stays on
     where
@@ -102,33 +112,33 @@ module _ {D A : Type 0} (d : devices.Ghosts D) (knows : A → List ℕ → Bool)
 
   -- an index was opened
   pub opened_stage : (a : steps.Analysis) (device : D) (analyzer : A) (held : steps.Held) (index : Index D A d) → IsSpare d.honest d.content knows analyze a device analyzer held
-      → (IsTrue (d.honest device) → IsOpened analyze (analyze analyzer) index.collection (d.content device)) → are_analyzed (knows analyzer) index.collection.schema ≡ true → index.collection.analyzer ≡ analyzer
+      → IsOpened analyze (analyze analyzer) device index → are_analyzed (knows analyzer) (schema_of index) ≡ true → analyzer_of index ≡ analyzer
       → LeavesStage knows analyze a (Some (Standing index)) (Ok tt) (steps.opened a.knows held)
-  opened_stage a device analyzer steps.no_file index spare opened known by = let o = opened spare.1.0 in absurd (no_bytes o.file.0 (d.content device) o.file.1 spare.1.1)
+  opened_stage a device analyzer steps.no_file index spare opened known by = let file = opened.file spare.1.0 in absurd (no_bytes file.0 (d.content device) file.1 spare.1.1)
   opened_stage a device analyzer (steps.file_of s u e) index spare opened known by =
-      let o = opened spare.1.0 in
-      let is : found index.collection.schema index.collection.settings o.docs ≡ found s u (all_of e) = one_saying index.collection.schema s index.collection.settings u o.docs (all_of e) (d.content device) o.file spare.1.1 in
-      let schema : index.collection.schema ≡ s = ap (λ (f : Found). f.0.0) is in
+      let is : found (schema_of index) (settings_of index) opened.docs ≡ found s u (all_of e) = one_saying (schema_of index) s (settings_of index) u opened.docs (all_of e) (d.content device) (opened.file spare.1.0) spare.1.1 in
+      let schema : schema_of index ≡ s = ap (λ (f : Found). f.0.0) is in
       let knows_all : are_analyzed a.knows s ≡ true = subst (λ (b : steps.Analysis). are_analyzed b.knows s ≡ true) (sym spare.0) (subst (λ (t : Schema). are_analyzed (knows analyzer) t ≡ true) schema known) in
       let step : steps.opened a.knows (steps.file_of s u e) ≡ (ok_reply, steps.index_of s u (steps.reopened e)) = ap (λ (b : Bool). cond b (ok_reply, steps.index_of s u (steps.reopened e)) (steps.refusing faults.UnknownTokenizer (steps.no_index (steps.file_of s u e)))) knows_all in
-      let stands : Stands analyze index.collection (steps.configuration_of s (analyze analyzer) u) (steps.reopened e) = subst (λ (f : Found). StandsReopened analyze index.collection (steps.configuration_of f.0.0 (analyze analyzer) f.0.1) f.1) is o.stands e refl in
+      let stands : IndexStands analyze index (steps.configuration_of s (analyze analyzer) u) (steps.reopened e) = subst (λ (f : Found). IsReopened analyze index.collection (steps.configuration_of f.0.0 (analyze analyzer) f.0.1) f.1) is opened.stands e refl in
       answered_stage a index s u (steps.reopened e) (steps.opened a.knows (steps.file_of s u e)) step
       (record {
         analysis = spare.0 ∙ ap (analysis_of knows analyze) (sym by);
         fields = schema;
         numbers = ap (λ (f : Found). f.0.1) is;
-        stands = subst (λ (b : steps.Analysis). Stands analyze index.collection (steps.configuration_of s b.analyze u) (steps.reopened e)) (sym spare.0) stands;
+        stands = subst (λ (b : steps.Analysis). IndexStands analyze index (steps.configuration_of s b.analyze u) (steps.reopened e)) (sym spare.0) stands;
+        rests = λ h ready. subst (IndexRests index) (ap (λ (f : Found). f.1) is) (opened.rests spare.1.0);
         known = inl refl;
       })
 
   -- none was opened
   pub unopened_stage : (a : steps.Analysis) (device : D) (analyzer : A) (held : steps.Held) (r : Refused D A) → IsSpare d.honest d.content knows analyze a device analyzer held
       → (IsTrue (d.honest device) → (r.fault ≡ faults.Device) ⊎ (r.fault ≡ faults.OutOfMemory) ⊎ IsOpenRefusal (knows analyzer) (d.content device) r.fault)
-      → r.analyzer ≡ analyzer → d.honest r.device ≡ d.honest device → (IsTrue (d.honest device) → r.fault ≢ faults.Device → d.content r.device ≡ d.content device)
+      → r.analyzer ≡ analyzer → d.honest r.device ≡ d.honest device → (IsTrue (d.honest device) → r.fault ≢ faults.Device → IsKept d.moment d.left_since d.content d.unsynced device r.device)
       → LeavesStage {d = d} knows analyze a (Some (Spare r.device r.analyzer)) (Err r.fault) (steps.opened a.knows held)
   unopened_stage a device analyzer held r spare refused returned honest kept on =
       let is_honest = held_honest d.honest d.content device held spare.1 in
-      let same = kept is_honest (going_on r.fault faults.Device on refl) in
+      let same = (kept is_honest (going_on r.fault faults.Device on refl)).content_kept in
       let stays = spare_kept a device r.device analyzer r.analyzer held spare returned honest same in
       refused_stage a r.device r.analyzer r.fault held (steps.opened a.knows held) (step held spare.1 (refused is_honest)) stays on
     where
@@ -152,23 +162,84 @@ module _ {D A : Type 0} (d : devices.Ghosts D) (knows : A → List ℕ → Bool)
   -- what a call that makes an index leaves
   pub create_left : (a : steps.Analysis) (device : D) (analyzer : A) (held : steps.Held) (s : Schema) (u : Settings) (outcome : Result (Index D A d) (Refused D A)) → IsSpare d.honest d.content knows analyze a device analyzer held
       → OnOk outcome (making_fault (knows analyzer) s u ≡ None) → (IsTrue (d.honest device) → OnOk outcome (d.content device ≡ []))
-      → IfOk outcome (λ index. Stands analyze index.collection (steps.configuration_of s (analyze analyzer) u) steps.fresh_index)
-      → IfOk outcome (λ index. (index.collection.schema ≡ s) × (index.collection.settings ≡ u) × (index.collection.analyzer ≡ analyzer))
+      → IfOk outcome (λ index. IndexStands analyze index (steps.configuration_of s (analyze analyzer) u) steps.fresh_index)
+      → IfOk outcome (λ index. (schema_of index ≡ s) × (settings_of index ≡ u))
       → IfErr outcome (λ r. (r.fault ≡ faults.OutOfMemory) ⊎ (making_fault (knows analyzer) s u ≡ Some r.fault) ⊎ ((making_fault (knows analyzer) s u ≡ None) × IsCreateRefusal r.fault))
-      → IfErr outcome (λ r. r.analyzer ≡ analyzer) → IfErr outcome (λ r. d.honest r.device ≡ d.honest device)
+      → analyzer_after outcome ≡ analyzer → d.honest (device_after outcome) ≡ d.honest device
       → (IsTrue (d.honest device) → IfErr outcome (λ r. r.fault ≡ faults.NotEmpty → d.content device ≢ []))
-      → (IsTrue (d.honest device) → IfErr outcome (λ r. r.fault ≢ faults.Device → d.content r.device ≡ d.content device))
+      → (IsTrue (d.honest device) → IfErr outcome (λ r. r.fault ≢ faults.Device → IsKept d.moment d.left_since d.content d.unsynced device r.device))
+      → (IsTrue (d.honest device) → IfOk outcome (λ index. IndexRests index []))
       → LeavesStage knows analyze a (Some ((left_by outcome).0)) ((left_by outcome).1) (steps.created a.knows s u held)
-  create_left a device analyzer held s u (Ok index) spare none empty stands of exact returned honest full kept = made_stage a device analyzer held s u index spare none empty stands of
-  create_left a device analyzer held s u (Err r) spare none empty stands of exact returned honest full kept = unmade_stage a device analyzer held s u r spare exact returned honest full kept
+  create_left a device analyzer held s u (Ok index) spare none empty stands of exact by honest full kept rests = made_stage a device analyzer held s u index spare none empty stands of by rests
+  create_left a device analyzer held s u (Err r) spare none empty stands of exact by honest full kept rests = unmade_stage a device analyzer held s u r spare exact by honest full kept
 
   -- what a call that opens an index leaves
   pub open_left : (a : steps.Analysis) (device : D) (analyzer : A) (held : steps.Held) (outcome : Result (Index D A d) (Refused D A)) → IsSpare d.honest d.content knows analyze a device analyzer held
-      → (IsTrue (d.honest device) → IfOk outcome (λ index. IsOpened analyze (analyze analyzer) index.collection (d.content device)))
-      → IfOk outcome (λ index. are_analyzed (knows analyzer) index.collection.schema ≡ true) → IfOk outcome (λ index. index.collection.analyzer ≡ analyzer)
+      → IfOk outcome (IsOpened analyze (analyze analyzer) device)
+      → IfOk outcome (λ index. are_analyzed (knows analyzer) (schema_of index) ≡ true)
       → (IsTrue (d.honest device) → IfErr outcome (λ r. (r.fault ≡ faults.Device) ⊎ (r.fault ≡ faults.OutOfMemory) ⊎ IsOpenRefusal (knows analyzer) (d.content device) r.fault))
-      → IfErr outcome (λ r. r.analyzer ≡ analyzer) → IfErr outcome (λ r. d.honest r.device ≡ d.honest device)
-      → (IsTrue (d.honest device) → IfErr outcome (λ r. r.fault ≢ faults.Device → d.content r.device ≡ d.content device))
+      → analyzer_after outcome ≡ analyzer → d.honest (device_after outcome) ≡ d.honest device
+      → (IsTrue (d.honest device) → IfErr outcome (λ r. r.fault ≢ faults.Device → IsKept d.moment d.left_since d.content d.unsynced device r.device))
       → LeavesStage knows analyze a (Some ((left_by outcome).0)) ((left_by outcome).1) (steps.opened a.knows held)
-  open_left a device analyzer held (Ok index) spare opened known by refused returned honest kept = opened_stage a device analyzer held index spare opened known by
-  open_left a device analyzer held (Err r) spare opened known by refused returned honest kept = unopened_stage a device analyzer held r spare refused returned honest kept
+  open_left a device analyzer held (Ok index) spare opened known refused by honest kept = opened_stage a device analyzer held index spare opened known by
+  open_left a device analyzer held (Err r) spare opened known refused by honest kept = unopened_stage a device analyzer held r spare refused by honest kept
+
+  -- ---- the device
+
+  -- what an honest device of an index holds
+  index_held : (a : steps.Analysis) (index : Index D A d) (s : Schema) (u : Settings) (x : calls.Index) → IsIndex knows analyze a index s u x → IsTrue (d.honest (device_of index)) → HasHeld d.honest d.content (device_of index) (steps.file_of s u x.state.groups)
+  index_held a index s u x h honest = elim h.known [
+    | inl ready ↦ let rests = h.rests honest ready in
+        (honest, (rests.bodies, rests.at_rest.file, rests.says ∙ same_saying (schema_of index) s (settings_of index) u (committed x.state) (sym h.fields) (sym h.numbers)))
+    | inr held ↦ held
+  ]
+
+  -- and what stands without it
+  pub standing_spare : (a : steps.Analysis) (index : Index D A d) (device : D) (analyzer : A) (s : steps.Stage) → device ≡ device_of index → analyzer ≡ analyzer_of index → IsStage knows analyze a (Standing index) s → IsTrue (d.honest device) → IsSpare d.honest d.content knows analyze a device analyzer (steps.held_by s)
+  standing_spare a index device analyzer (steps.no_index held) same by h honest = absurd h
+  standing_spare a index device analyzer (steps.index_of s u x) same by h honest = (
+    h.analysis ∙ ap (analysis_of knows analyze) (sym by),
+    subst (λ (e : D). HasHeld d.honest d.content e (steps.file_of s u x.state.groups)) (sym same) (index_held a index s u x h (subst (λ (e : D). IsTrue (d.honest e)) same honest)),
+  )
+
+-- the device after an index was to be made or opened
+stage_device : {D A : Type 0} {d : devices.Ghosts D} (outcome : Result (Index D A d) (Refused D A)) → device_on (stage_after outcome) ≡ device_after outcome
+stage_device (Ok index) = refl
+stage_device (Err r) = refl
+
+-- its failures have their cause
+pub stage_failures : {D A : Type 0} {d : devices.Ghosts D} (old device : D) (outcome : Result (Index D A d) (Refused D A)) → device ≡ old → HasCause (d.failed device) (d.failed (device_after outcome)) (ending_of outcome) → HasCause (d.failed old) (d.failed (device_on (stage_after outcome))) (ending_of outcome)
+stage_failures {d = d} old device outcome same cause =
+    subst (λ e. HasCause (d.failed old) (d.failed e) (ending_of outcome)) (sym (stage_device outcome))
+    (subst (λ e. HasCause (d.failed e) (d.failed (device_after outcome)) (ending_of outcome)) same cause)
+
+no_answer : (fault : Fault) → IsErrOf {T = ⊤} (Ok tt) fault → ⊥
+no_answer fault e = cc
+
+no_limit : (fault other : Fault) → is_limit other ≡ false → fault ≡ other → IsErrOf {T = ⊤} (Err fault) faults.Limit → ⊥
+no_limit fault other is same limit = true≢false (sym (ap is_limit (ap error_in limit)) ∙ ap is_limit same ∙ is)
+
+-- an index is made or not, and no limit is met
+pub made_no_limit : {D A : Type 0} {d : devices.Ghosts D} (knows : List ℕ → Bool) (s : Schema) (u : Settings) (outcome : Result (Index D A d) (Refused D A))
+    → IfErr outcome (λ r. (r.fault ≡ faults.OutOfMemory) ⊎ (making_fault knows s u ≡ Some r.fault) ⊎ ((making_fault knows s u ≡ None) × IsCreateRefusal r.fault))
+    → ¬ IsErrOf (ending_of outcome) faults.Limit
+made_no_limit knows s u (Ok index) exact limit = no_answer faults.Limit limit
+made_no_limit knows s u (Err r) exact limit = elim exact [
+  | inl memory ↦ no_limit r.fault faults.OutOfMemory refl memory limit
+  | inr (inl refused) ↦ true≢false (sym (ap stops (ap error_in limit)) ∙ making_goes_on knows s u r.fault refused)
+  | inr (inr (none, inl device)) ↦ no_limit r.fault faults.Device refl device limit
+  | inr (inr (none, inr held)) ↦ no_limit r.fault faults.NotEmpty refl held limit
+]
+
+-- nor where one is opened
+pub opened_no_limit : {D A : Type 0} {d : devices.Ghosts D} (knows : List ℕ → Bool) (bytes : List ℕ) (outcome : Result (Index D A d) (Refused D A))
+    → IfErr outcome (λ r. (r.fault ≡ faults.Device) ⊎ (r.fault ≡ faults.OutOfMemory) ⊎ IsOpenRefusal knows bytes r.fault)
+    → ¬ IsErrOf (ending_of outcome) faults.Limit
+opened_no_limit knows bytes (Ok index) refused limit = no_answer faults.Limit limit
+opened_no_limit knows bytes (Err r) refused limit = elim refused [
+  | inl device ↦ no_limit r.fault faults.Device refl device limit
+  | inr (inl memory) ↦ no_limit r.fault faults.OutOfMemory refl memory limit
+  | inr (inr (inl (inl (is, none)))) ↦ no_limit r.fault faults.NoIndex refl is limit
+  | inr (inr (inl (inr (place, is, damaged)))) ↦ no_limit r.fault (faults.Damaged (Some place)) refl is limit
+  | inr (inr (inr unknown)) ↦ no_limit r.fault faults.UnknownTokenizer refl unknown.0 limit
+]

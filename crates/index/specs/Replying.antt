@@ -2,6 +2,7 @@
 use Rattle.std.specs.Prelude.{⊤, ◌≡◌, Err, IfOk, List, Ok, OnOk, Result, codes, false, ℕ}
 use Rattle.std.specs.Cow.{cow_str_bytes}
 use Rattle.std.specs.declared.borrow.CowStr.{CowStr}
+use Rattle.common.specs.declared.device.Device as devices
 use Rattle.definitions.specs.Analyzers.{Analyzer}
 use Rattle.definitions.specs.Calls as calls
 use Rattle.definitions.specs.FaultNames.{reply_text}
@@ -9,8 +10,8 @@ use Rattle.definitions.specs.Replies.{reply_of}
 use Rattle.definitions.specs.Requests as requests
 use Rattle.definitions.specs.Step as steps
 use Rattle.definitions.specs.declared.fault.Fault.{Fault}
-use Rattle.engine.specs.Standing.{Stands}
-use Rattle.engine.specs.declared.collection.Collection.{Collection}
+use Rattle.engine.specs.Indexes.{IndexStands}
+use Rattle.engine.specs.declared.index.Index.{Index}
 use Rattle.definitions.specs.Replying.{stops}
 
 -- the reply to a change
@@ -23,7 +24,7 @@ abbrev pub GoesOn : Result ⊤ Fault → Type 0
 GoesOn (Ok u) = ⊤
 GoesOn (Err fault) = stops fault ≡ false
 
--- the text is the definitions' reply, and the collection stands for what comes after
-pub record Answers {A Z : Type 0} (analyze : A → Analyzer) (new : Collection A) (c : calls.Configuration) (x : calls.Index) (r : requests.Request) (result : Result (CowStr Z) Fault) : Type 0 where
+-- the text is the definitions' reply, and the index stands for what comes after
+pub record Answers {D A Z : Type 0} {d : devices.Ghosts D} (analyze : A → Analyzer) (new : Index D A d) (c : calls.Configuration) (x : calls.Index) (r : requests.Request) (result : Result (CowStr Z) Fault) : Type 0 where
   pub text : IfOk result (λ text. cow_str_bytes text ≡ reply_of ((steps.index_step c x r).0))
-  pub state : OnOk result (Stands analyze new c ((steps.index_step c x r).1))
+  pub state : OnOk result (IndexStands analyze new c ((steps.index_step c x r).1))

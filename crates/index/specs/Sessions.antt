@@ -1,20 +1,24 @@
 -- What a session stands for, and what it answers.
-use Rattle.std.specs.Prelude.{[], ⊤, ◌≡◌, ◌⊎◌, Bool, Err, IfOk, IsTrue, List, None, Ok, OnOk, Option, Result, Some, flat_map, ℕ}
+use Rattle.std.specs.Prelude.{[], ⊤, ◌≡◌, ◌⊎◌, Bool, Err, IfOk, IsErrOf, IsTrue, List, None, Ok, OnOk, Option, Result, Some, flat_map, ℕ}
 use Rattle.std.specs.Cow.{cow_str_bytes}
 use Rattle.std.specs.declared.borrow.CowStr.{CowStr}
 use Rattle.common.specs.declared.analyzer.Analyzer as analyzers
 use Rattle.common.specs.declared.device.Device as devices
 use Rattle.definitions.specs.Analyzers.{Analyzer}
 use Rattle.definitions.specs.Calls as calls
+use Rattle.definitions.specs.Disk.{HasCause}
 use Rattle.definitions.specs.Replies.{reply_of}
+use Rattle.definitions.specs.Requests as requests
 use Rattle.definitions.specs.Schema.{Schema}
 use Rattle.definitions.specs.Settings.{Settings}
+use Rattle.definitions.specs.State.{committed}
 use Rattle.definitions.specs.Step as steps
 use Rattle.definitions.specs.Values.{Document}
 use Rattle.definitions.specs.declared.fault.Fault.{Fault}
+use Rattle.definitions.specs.declared.fault.Fault.TheVariants as faults
 use Rattle.engine.specs.Files.{IsFileOf}
+use Rattle.engine.specs.Indexes.{IndexStands, IsInFile, PassesLimit, analyzer_of, device_of, ending_of, schema_of, settings_of}
 use Rattle.index.specs.Replying.{GoesOn, change_text}
-use Rattle.engine.specs.Standing.{Stands}
 use Rattle.engine.specs.declared.index.Index.{Index}
 use Rattle.engine.specs.declared.index.Refused.{Refused}
 use Rattle.index.specs.declared.session.Session.{Session}
@@ -52,13 +56,14 @@ abbrev pub IsSpare : {D A : Type 0} → (D → Bool) → (D → List ℕ) → (A
 IsSpare honest content knows analyze a device analyzer held = (a ≡ analysis_of knows analyze analyzer) × HasHeld honest content device held
 
 module _ {D A : Type 0} {d : devices.Ghosts D} (knows : A → List ℕ → Bool) (analyze : A → Analyzer) where
-  -- the index is made of these, and stands for this one
+  -- the index is made of these, stands for this one, and has in its file what is committed
   pub record IsIndex (a : steps.Analysis) (index : Index D A d) (schema : Schema) (settings : Settings) (x : calls.Index) : Type 0 where
-    pub analysis : a ≡ analysis_of knows analyze index.collection.analyzer
-    pub fields : index.collection.schema ≡ schema
-    pub numbers : index.collection.settings ≡ settings
-    pub stands : Stands analyze index.collection (steps.configuration_of schema a.analyze settings) x
-    pub known : IsKnown d.honest d.content index.file.device schema settings x
+    pub analysis : a ≡ analysis_of knows analyze (analyzer_of index)
+    pub fields : schema_of index ≡ schema
+    pub numbers : settings_of index ≡ settings
+    pub stands : IndexStands analyze index (steps.configuration_of schema a.analyze settings) x
+    pub rests : IsInFile index x
+    pub known : IsKnown d.honest d.content (device_of index) schema settings x
 
   abbrev pub IsStage : steps.Analysis → Stage D A d → steps.Stage → Type 0
   IsStage a (Spare device analyzer) (steps.no_index held) = IsSpare d.honest d.content knows analyze a device analyzer held
@@ -74,16 +79,50 @@ module _ {D A : Type 0} {d : devices.Ghosts D} (knows : A → List ℕ → Bool)
   abbrev pub LeavesStage : steps.Analysis → Option (Stage D A d) → Result ⊤ Fault → json.Data × steps.Stage → Type 0
   LeavesStage a stage change p = GoesOn change → (change_text change ≡ reply_of p.0) × HasStage a stage p.1
 
--- what stands after an index was to be made or opened, and whether it was
-abbrev pub left_by : {D A : Type 0} {d : devices.Ghosts D} → Result (Index D A d) (Refused D A) → Stage D A d × Result ⊤ Fault
-left_by (Ok index) = (Standing index, Ok tt)
-left_by (Err refused) = (Spare refused.device refused.analyzer, Err refused.fault)
+module _ {D A : Type 0} {d : devices.Ghosts D} where
+  -- the device of what stands
+  abbrev pub device_on : Stage D A d → D
+  device_on (Spare device analyzer) = device
+  device_on (Standing index) = device_of index
+
+  -- and how often it failed
+  abbrev pub failures_on : Option (Stage D A d) → ℕ
+  failures_on None = 0
+  failures_on (Some stage) = d.failed (device_on stage)
+
+  -- an index stands whose next commit would pass the limit of a file
+  abbrev pub CommitPasses : steps.Analysis → Option (Stage D A d) → steps.Stage → Type 0
+  CommitPasses a None s = ⊥
+  CommitPasses a (Some (Spare device analyzer)) s = ⊥
+  CommitPasses a (Some (Standing index)) (steps.no_index held) = ⊥
+  CommitPasses a (Some (Standing index)) (steps.index_of schema settings x) =
+      PassesLimit index (committed (calls.after (steps.configuration_of schema a.analyze settings) x.state calls.commit_pending))
+
+  -- what stands after an index was to be made or opened
+  abbrev pub stage_after : Result (Index D A d) (Refused D A) → Stage D A d
+  stage_after (Ok index) = Standing index
+  stage_after (Err refused) = Spare refused.device refused.analyzer
+
+  -- and whether it was
+  abbrev pub left_by : Result (Index D A d) (Refused D A) → Stage D A d × Result ⊤ Fault
+  left_by outcome = (stage_after outcome, ending_of outcome)
 
 -- the session has the analyzer, and what it has stands for this
 abbrev pub StandsFor : {D A : Type 0} {d : devices.Ghosts D} {a : analyzers.Ghosts A} → Session D A d a → steps.Session → Type 0
 StandsFor {a = a} session s = HasStage a.knows_name a.analyze s.analysis session.stage s.stage
 
--- the text is the definitions' reply, and the session stands for what comes after
-pub record Replies {D A Z : Type 0} {d : devices.Ghosts D} {a : analyzers.Ghosts A} (new : Session D A d a) (result : Result (CowStr Z) Fault) (p : json.Data × steps.Session) : Type 0 where
-  pub text : IfOk result (λ text. cow_str_bytes text ≡ reply_of p.0)
-  pub state : OnOk result (StandsFor new p.1)
+-- how often the device of a session failed
+abbrev pub failures_of : {D A : Type 0} {d : devices.Ghosts D} {a : analyzers.Ghosts A} → Session D A d a → ℕ
+failures_of session = failures_on session.stage
+
+-- the next commit of the index that stands would pass the limit of a file
+abbrev pub PassesByCommit : {D A : Type 0} {d : devices.Ghosts D} {a : analyzers.Ghosts A} → Session D A d a → steps.Session → Type 0
+PassesByCommit session s = CommitPasses s.analysis session.stage s.stage
+
+-- the reply to what was asked is the definitions', and the session stands for what comes after; `Device` has its cause, and
+-- `Limit` is the answer to a commit that would pass the limit
+pub record Replies {D A Z : Type 0} {d : devices.Ghosts D} {a : analyzers.Ghosts A} (old new : Session D A d a) (s : steps.Session) (asked : Option requests.Request) (result : Result (CowStr Z) Fault) : Type 0 where
+  pub text : IfOk result (λ text. cow_str_bytes text ≡ reply_of ((steps.step s asked).0))
+  pub state : OnOk result (StandsFor new ((steps.step s asked).1))
+  pub failures : HasCause (failures_of old) (failures_of new) result
+  pub limit : IsErrOf result faults.Limit → (asked ≡ Some requests.commit_all) × PassesByCommit old s

@@ -1,18 +1,19 @@
 //! What is replied to requests of the index that stands.
 
-ghost use Rattle.std.specs.Prelude.{◌≡◌, ◌≢◌, ◌⊎◌, IfErr, IfOk, IsTrue, List, OnOk, false, map};
+ghost use Rattle.std.specs.Prelude.{◌≡◌, ◌≢◌, ◌⊎◌, Err, IfErr, IfOk, IsErrOf, IsTrue, List, OnOk, false, map};
 ghost use Rattle.std.specs.Cow.{cow_str_bytes};
 ghost use Rattle.definitions.specs.Calls as calls;
+ghost use Rattle.definitions.specs.Disk.{HasCause};
 ghost use Rattle.definitions.specs.FaultNames.{reply_text};
 ghost use Rattle.definitions.specs.Replies.{count_reply, hits_reply};
 ghost use Rattle.definitions.specs.Requests as requests;
 ghost use Rattle.definitions.specs.Scanning as scanning;
+ghost use Rattle.definitions.specs.State.{committed};
 ghost use Rattle.definitions.specs.Step as steps;
 ghost use Rattle.definitions.specs.declared.fault.Fault.TheVariants as faults;
-ghost use Rattle.engine.specs.Accepting.{IsMadeAlike};
 ghost use Rattle.index.specs.AskedRequests.{index_request_of};
 ghost use Rattle.index.specs.Replying.{Answers, GoesOn, change_text};
-ghost use Rattle.engine.specs.Standing.{Stands};
+ghost use Rattle.engine.specs.Indexes.{IndexStands, IsInFile, KeepsFile, KeepsMaking, PassesLimit, device_of};
 ghost use Rattle.plain.specs.Hits.{hit_of, scored};
 ghost use Rattle.definitions.specs.Replying.{stops};
 ghost use Rattle.serde_json.specs.View.{view};
@@ -35,10 +36,23 @@ pub(crate) fn answer<D: Device + Drop, A: Analyzer + Drop>(
     index: &mut Index<D, A>,
     request: IndexRequest<'_>,
 ) -> Result<CowStr<'static>, Fault>
-    ensures answered { (c : calls.Configuration) (x : calls.Index) → Stands A.analyze index.old.collection c x → Answers A.analyze index.new.collection c x (index_request_of request.entry) result }
-    ensures made { IsMadeAlike index.old.collection index.new.collection }
-    ensures kept { (c : calls.Configuration) (x : calls.Index) → Stands A.analyze index.old.collection c x → OnOk result ((x.status ≡ calls.ready) ⊎ (index.new.file.device ≡ index.old.file.device)) }
+    ensures answered { (c : calls.Configuration) (x : calls.Index) → IndexStands A.analyze index.old c x
+        → Answers A.analyze index.new c x (index_request_of request.entry) result }
+    ensures made { KeepsMaking index.old index.new }
+
+    ensures kept { (c : calls.Configuration) (x : calls.Index) → IndexStands A.analyze index.old c x
+        → OnOk result ((x.status ≡ calls.ready) ⊎ KeepsFile index.old index.new) }
+    ensures rests { (c : calls.Configuration) (x : calls.Index) → IndexStands A.analyze index.old c x
+        → IsInFile index.old x
+        → OnOk result (IsInFile index.new ((steps.index_step c x (index_request_of request.entry)).1)) }
+
     ensures err { IfErr result (λ fault. IsTrue (stops fault)) }
+    ensures failures { (c : calls.Configuration) (x : calls.Index) → IndexStands A.analyze index.old c x
+        → HasCause (D.failed (device_of index.old)) (D.failed (device_of index.new)) result }
+    ensures limit { (c : calls.Configuration) (x : calls.Index) → IndexStands A.analyze index.old c x
+        → IsErrOf result faults.Limit
+        → (index_request_of request.entry ≡ requests.commit_all)
+        × PassesLimit index.old (committed (calls.after c x.state calls.commit_pending)) }
 {
     match request {
         IndexRequest::Add(doc) => answer_change(index.add_value(doc)),
@@ -54,8 +68,11 @@ fn search<D: Device + Drop, A: Analyzer + Drop>(
     query: &Json,
     k: u64,
 ) -> Result<CowStr<'static>, Fault>
-    ensures answered { (c : calls.Configuration) (x : calls.Index) → Stands A.analyze index.now.collection c x → Answers A.analyze index.now.collection c x (requests.search_docs (view query.now) k) result }
-    ensures err { IfErr result (λ fault. IsTrue (stops fault)) }
+    ensures answered { (c : calls.Configuration) (x : calls.Index) → IndexStands A.analyze index.now c x
+        → Answers A.analyze index.now c x (requests.search_docs (view query.now) k) result }
+    ensures err { (c : calls.Configuration) (x : calls.Index) → IndexStands A.analyze index.now c x
+        → IfErr result (λ fault. fault ≡ faults.OutOfMemory) }
+    ensures stops { IfErr result (λ fault. IsTrue (stops fault)) }
 {
     match find(index, query, k) {
         Ok(hits) => Ok(CowStr::Owned(hits_text(index.alloc(), &hits)?)),
@@ -68,8 +85,11 @@ fn count<D: Device + Drop, A: Analyzer + Drop>(
     index: &Index<D, A>,
     query: &Json,
 ) -> Result<CowStr<'static>, Fault>
-    ensures answered { (c : calls.Configuration) (x : calls.Index) → Stands A.analyze index.now.collection c x → Answers A.analyze index.now.collection c x (requests.count_docs (view query.now)) result }
-    ensures err { IfErr result (λ fault. IsTrue (stops fault)) }
+    ensures answered { (c : calls.Configuration) (x : calls.Index) → IndexStands A.analyze index.now c x
+        → Answers A.analyze index.now c x (requests.count_docs (view query.now)) result }
+    ensures err { (c : calls.Configuration) (x : calls.Index) → IndexStands A.analyze index.now c x
+        → IfErr result (λ fault. fault ≡ faults.OutOfMemory) }
+    ensures stops { IfErr result (λ fault. IsTrue (stops fault)) }
 {
     match find_count(index, query) {
         Ok(count) => Ok(CowStr::Owned(count_text(index.alloc(), count)?)),
@@ -83,10 +103,14 @@ fn find<D: Device + Drop, A: Analyzer + Drop>(
     query: &Json,
     k: u64,
 ) -> Result<Vec<Hit>, Fault>
-    ensures ok { (c : calls.Configuration) (x : calls.Index) → Stands A.analyze index.now.collection c x → IfOk result (λ hits.
-        (hs : List scanning.Hit) × (map hit_of hits.items ≡ map scored hs) × (steps.index_step c x (requests.search_docs (view query.now) k) ≡ (hits_reply hs, x))) }
-    ensures err { (c : calls.Configuration) (x : calls.Index) → Stands A.analyze index.now.collection c x → IfErr result (λ fault.
-        fault ≢ faults.OutOfMemory → steps.index_step c x (requests.search_docs (view query.now) k) ≡ steps.refusing fault x) }
+    ensures ok { (c : calls.Configuration) (x : calls.Index) → IndexStands A.analyze index.now c x
+        → IfOk result (λ hits. (hs : List scanning.Hit) × (map hit_of hits.items ≡ map scored hs)
+        × (steps.index_step c x (requests.search_docs (view query.now) k) ≡ (hits_reply hs, x))) }
+    ensures err { (c : calls.Configuration) (x : calls.Index) → IndexStands A.analyze index.now c x
+        → IfErr result (λ fault. fault ≢ faults.OutOfMemory
+        → steps.index_step c x (requests.search_docs (view query.now) k) ≡ steps.refusing fault x) }
+    ensures goes_on { (c : calls.Configuration) (x : calls.Index) → IndexStands A.analyze index.now c x
+        → IfErr result (λ fault. fault ≢ faults.OutOfMemory → stops fault ≡ false) }
 {
     index.check_open()?;
     let query = read_query(index.alloc(), index.schema(), query)?;
@@ -98,10 +122,14 @@ fn find_count<D: Device + Drop, A: Analyzer + Drop>(
     index: &Index<D, A>,
     query: &Json,
 ) -> Result<u64, Fault>
-    ensures ok { (c : calls.Configuration) (x : calls.Index) → Stands A.analyze index.now.collection c x → IfOk result (λ count.
+    ensures ok { (c : calls.Configuration) (x : calls.Index) → IndexStands A.analyze index.now c x
+        → IfOk result (λ count.
         steps.index_step c x (requests.count_docs (view query.now)) ≡ (count_reply count, x)) }
-    ensures err { (c : calls.Configuration) (x : calls.Index) → Stands A.analyze index.now.collection c x → IfErr result (λ fault.
-        fault ≢ faults.OutOfMemory → steps.index_step c x (requests.count_docs (view query.now)) ≡ steps.refusing fault x) }
+    ensures err { (c : calls.Configuration) (x : calls.Index) → IndexStands A.analyze index.now c x
+        → IfErr result (λ fault. fault ≢ faults.OutOfMemory
+        → steps.index_step c x (requests.count_docs (view query.now)) ≡ steps.refusing fault x) }
+    ensures goes_on { (c : calls.Configuration) (x : calls.Index) → IndexStands A.analyze index.now c x
+        → IfErr result (λ fault. fault ≢ faults.OutOfMemory → stops fault ≡ false) }
 {
     index.check_open()?;
     let query = read_query(index.alloc(), index.schema(), query)?;
@@ -113,6 +141,7 @@ pub(crate) fn answer_change(change: Result<(), Fault>) -> Result<CowStr<'static>
     ensures text { IfOk result (λ text. cow_str_bytes text ≡ change_text change) }
     ensures on { OnOk result (GoesOn change) }
     ensures err { IfErr result (λ fault. IsTrue (stops fault)) }
+    ensures same { IfErr result (λ fault. change ≡ Err fault) }
 {
     match change {
         Ok(()) => Ok(CowStr::Borrowed(OK_REPLY)),
@@ -125,6 +154,7 @@ pub(crate) fn refusal(fault: Fault) -> Result<CowStr<'static>, Fault>
     ensures text { IfOk result (λ text. cow_str_bytes text ≡ reply_text fault) }
     ensures on { OnOk result (stops fault ≡ false) }
     ensures err { IfErr result (λ e. IsTrue (stops e)) }
+    ensures same { IfErr result (λ e. e ≡ fault) }
 {
     match fault {
         Fault::OutOfMemory | Fault::Limit | Fault::Device => Err(fault),

@@ -1,17 +1,20 @@
 //! A run: the lines of an input, each answered by a session. Its functions stand beside no struct with a ghost field,
 //! since what their contracts cite names the session.
 
-ghost use Rattle.std.specs.Prelude.{◌≡◌, IfErr, IfOk, IfSome, IsTrue, List, OnOk, ℕ};
+ghost use Rattle.std.specs.Prelude.{◌≡◌, IfErr, IfOk, IfSome, IsErrOf, IsTrue, List, OnOk, Some, ℕ};
 ghost use Rattle.std.specs.Cow.{cow_str_bytes};
+ghost use Rattle.definitions.specs.Disk.{HasCause};
 ghost use Rattle.definitions.specs.Lines.{lines_of};
+ghost use Rattle.definitions.specs.Requests as requests;
 ghost use Rattle.definitions.specs.Step as steps;
-ghost use Rattle.index.specs.Sessions.{HasHeld, StandsFor, analysis_of, session_on};
+ghost use Rattle.definitions.specs.declared.fault.Fault.TheVariants as faults;
+ghost use Rattle.index.specs.Sessions.{HasHeld, PassesByCommit, StandsFor, analysis_of, failures_of, session_on};
 ghost use Rattle.definitions.specs.Replying.{Writes, stops};
+ghost use Rattle.serve_lines.specs.Serving.{ServesAll};
 
 use crate::session::Session;
 use common::{Analyzer, Device, RunFault};
 use definitions::Fault;
-use serve_lines::Service;
 use std::alloc::Global;
 use std::borrow::CowStr;
 use std::io::{BufRead, Write};
@@ -41,15 +44,21 @@ pub fn run_session<R: BufRead, W: Write, D: Device + Drop, A: Analyzer + Drop>(
     session: &mut Session<D, A>,
 ) -> Result<(), RunFault>
     // Where the reader's bytes are known, the replies to its lines are written.
-    ensures { (s : steps.Session) → StandsFor session.old s
+    ensures replies { (s : steps.Session) → StandsFor session.old s
         → OnOk result (IfSome (R.remaining reader.old) (λ input.
         Writes steps.answer_of steps.after_line s (lines_of input) (W.contents writer.old) (W.contents writer.new))) }
+    // Unless the reply of a fault that stops is among them, the session stands for what comes after all lines.
+    ensures stands { (s : steps.Session) → StandsFor session.old s
+        → OnOk result (IfSome (R.remaining reader.old) (λ input.
+        ServesAll steps.answer_of steps.after_line (StandsFor session.new) s (lines_of input)
+        (W.contents writer.old) (W.contents writer.new))) }
 {
     serve_lines::run(session.alloc, reader, writer, session)
 }
 
 /// The reply to one line of JSON, and what the session stands for after it. `OutOfMemory`, `Limit` and `Device` are
-/// the errors: after one the session need not stand for any state.
+/// the errors: after one the session need not stand for any state. `Device` comes only where the device failed, and
+/// `Limit` only where a commit was asked for whose record would pass the limit of a file.
 pub fn reply<D: Device + Drop, A: Analyzer + Drop>(
     session: &mut Session<D, A>,
     line: &str,
@@ -58,7 +67,12 @@ pub fn reply<D: Device + Drop, A: Analyzer + Drop>(
         → IfOk result (λ text. cow_str_bytes text ≡ steps.answer_of s line.now) }
     ensures state { (s : steps.Session) → StandsFor session.old s
         → OnOk result (StandsFor session.new (steps.after_line s line.now)) }
+
+    ensures failures { (s : steps.Session) → StandsFor session.old s
+        → HasCause (failures_of session.old) (failures_of session.new) result }
+    ensures limit { (s : steps.Session) → StandsFor session.old s → IsErrOf result faults.Limit
+        → (steps.line_request line.now ≡ Some requests.commit_all) × PassesByCommit session.old s }
     ensures err { IfErr result (λ fault. IsTrue (stops fault)) }
 {
-    session.reply(line)
+    session.answer_line(line)
 }

@@ -1,12 +1,14 @@
 //! A session: lines of JSON that speak to the index of a device.
 
-ghost use Rattle.std.specs.Prelude.{◌≡◌, IfErr, IfOk, IsTrue, Some, false, is_some, option_map, true};
+ghost use Rattle.std.specs.Prelude.{◌≡◌, IfErr, IfOk, IsErrOf, IsTrue, Some, false, is_some, option_map, true};
 ghost use Rattle.definitions.specs.Built.{built_request_in};
 ghost use Rattle.definitions.specs.Calls as calls;
+ghost use Rattle.definitions.specs.Disk.{HasCause};
 ghost use Rattle.definitions.specs.Requests as requests;
 ghost use Rattle.definitions.specs.Step as steps;
+ghost use Rattle.definitions.specs.declared.fault.Fault.TheVariants as faults;
 ghost use Rattle.index.specs.AskedRequests.{index_request_of, request_of};
-ghost use Rattle.engine.specs.Standing.{Stands};
+ghost use Rattle.engine.specs.Indexes.{IndexStands, IsInFile, analyzer_of, device_of, schema_of, settings_of};
 ghost use Rattle.definitions.specs.Replying.{stops};
 ghost use Rattle.serde_json.specs.Read.{read};
 ghost use Rattle.serde_json.specs.View.{view};
@@ -34,7 +36,7 @@ pub struct Session<D: Device, A: Analyzer> {
 }
 
 impl<D: Device + Drop, A: Analyzer + Drop> Session<D, A> {
-    ghost use Rattle.index.specs.Sessions.{HasHeld, IsKnown, StandsFor, analysis_of, session_of, session_on};
+    ghost use Rattle.index.specs.Sessions.{HasHeld, IsKnown, IsSpare, StandsFor, analysis_of, session_of, session_on};
 
     /// A session over a device, in which no index stands.
     pub fn new(alloc: Global, device: D, analyzer: A) -> Session<D, A>
@@ -50,17 +52,30 @@ impl<D: Device + Drop, A: Analyzer + Drop> Session<D, A> {
     /// A session in which this index stands.
     pub fn with_index(index: Index<D, A>) -> Session<D, A>
         ensures { (x : calls.Index)
-            → Stands A.analyze index.collection
-            (steps.configuration_of index.collection.schema (A.analyze index.collection.analyzer)
-            index.collection.settings) x
-            → IsKnown D.honest D.content index.file.device index.collection.schema index.collection.settings x
-            → StandsFor result (session_of (analysis_of A.knows_name A.analyze index.collection.analyzer)
-            index.collection.schema index.collection.settings x) }
+            → IndexStands A.analyze index
+            (steps.configuration_of (schema_of index) (A.analyze (analyzer_of index)) (settings_of index)) x
+            → IsInFile index x
+            → IsKnown D.honest D.content (device_of index) (schema_of index) (settings_of index) x
+            → StandsFor result (session_of (analysis_of A.knows_name A.analyze (analyzer_of index))
+            (schema_of index) (settings_of index) x) }
     {
         Session {
             alloc: index.alloc(),
             stage: Some(Stage::Standing(index)),
         }
+    }
+
+    /// The device and the analyzer, whatever stands; what waits is dropped.
+    pub fn into_device(self) -> (D, A)
+        // An honest device holds what is committed, so that a session over it, once its index is open, answers the same.
+        ensures { (s : steps.Session) → StandsFor self s → IsTrue (D.honest result.0)
+            → IsSpare D.honest D.content A.knows_name A.analyze s.analysis result.0 result.1 (steps.held_by s.stage) }
+    {
+        let Session { stage, .. } = self;
+        let Some(stage) = stage else {
+            unreachable!();
+        };
+        stage.into_device()
     }
 }
 
@@ -77,20 +92,29 @@ impl<D: Device + Drop, A: Analyzer + Drop> Service for Session<D, A> {
     ghost after = { steps.after_line };
 
     fn reply(&mut self, line: &str) -> Result<CowStr<'static>, Fault> {
+        self.answer_line(line)
+    }
+}
+
+impl<D: Device + Drop, A: Analyzer + Drop> Session<D, A> {
+    ghost use Rattle.index.specs.Sessions.{LeavesStage, Replies, StandsFor, failures_of};
+
+    /// Answers a line.
+    pub(crate) fn answer_line(&mut self, line: &str) -> Result<CowStr<'static>, Fault>
+        ensures answered { (s : steps.Session) → StandsFor self.old s
+            → Replies self.old self.new s (steps.line_request line.now) result }
+        ensures err { IfErr result (λ fault. IsTrue (stops fault)) }
+    {
         match parse_line(self.alloc, line)? {
             Some(json) => self.answer_value(&json),
             None => Ok(CowStr::Borrowed(Fault::BadRequest.reply())),
         }
     }
-}
-
-impl<D: Device + Drop, A: Analyzer + Drop> Session<D, A> {
-    ghost use Rattle.index.specs.Sessions.{LeavesStage, Replies, StandsFor};
 
     /// Does what a value asks for.
     fn answer_value(&mut self, json: &Json) -> Result<CowStr<'static>, Fault>
         ensures answered { (s : steps.Session) → StandsFor self.old s
-            → Replies self.new result (steps.step s (built_request_in (view json.now))) }
+            → Replies self.old self.new s (built_request_in (view json.now)) result }
         ensures err { IfErr result (λ fault. IsTrue (stops fault)) }
     {
         match request_in(json) {
@@ -102,7 +126,7 @@ impl<D: Device + Drop, A: Analyzer + Drop> Session<D, A> {
     /// Does what a request asks for.
     fn answer(&mut self, request: Request<'_>) -> Result<CowStr<'static>, Fault>
         ensures answered { (s : steps.Session) → StandsFor self.old s
-            → Replies self.new result (steps.step s (Some (request_of request.entry))) }
+            → Replies self.old self.new s (Some (request_of request.entry)) result }
         ensures err { IfErr result (λ fault. IsTrue (stops fault)) }
     {
         match request {
@@ -115,8 +139,8 @@ impl<D: Device + Drop, A: Analyzer + Drop> Session<D, A> {
     /// Makes an index, unless one is ready.
     fn create(&mut self, schema: &Json, settings: Option<&Json>) -> Result<CowStr<'static>, Fault>
         ensures answered { (s : steps.Session) → StandsFor self.old s
-            → Replies self.new result (steps.step s
-            (Some (requests.create_index (view schema.now) (option_map (λ d. view d.now) settings.entry)))) }
+            → Replies self.old self.new s
+            (Some (requests.create_index (view schema.now) (option_map (λ d. view d.now) settings.entry))) result }
         ensures err { IfErr result (λ fault. IsTrue (stops fault)) }
     {
         if self.has_ready_index() {
@@ -131,7 +155,7 @@ impl<D: Device + Drop, A: Analyzer + Drop> Session<D, A> {
     /// Opens the index of the device's file, unless one is ready.
     fn open(&mut self) -> Result<CowStr<'static>, Fault>
         ensures answered { (s : steps.Session) → StandsFor self.old s
-            → Replies self.new result (steps.step s (Some requests.open_index)) }
+            → Replies self.old self.new s (Some requests.open_index) result }
         ensures err { IfErr result (λ fault. IsTrue (stops fault)) }
     {
         if self.has_ready_index() {
@@ -143,7 +167,7 @@ impl<D: Device + Drop, A: Analyzer + Drop> Session<D, A> {
     /// Does what is asked of the index that stands.
     fn ask(&mut self, request: IndexRequest<'_>) -> Result<CowStr<'static>, Fault>
         ensures answered { (s : steps.Session) → StandsFor self.old s
-            → Replies self.new result (steps.step s (Some (index_request_of request.entry))) }
+            → Replies self.old self.new s (Some (index_request_of request.entry)) result }
         ensures err { IfErr result (λ fault. IsTrue (stops fault)) }
     {
         match &mut self.stage {
@@ -155,9 +179,11 @@ impl<D: Device + Drop, A: Analyzer + Drop> Session<D, A> {
 
     /// Makes an index of these in place of what stands.
     fn make(&mut self, schema: Schema, settings: Settings) -> Result<(), Fault>
-        ensures { (s : steps.Session) → StandsFor self.old s → steps.is_ready s.stage ≡ false
+        ensures left { (s : steps.Session) → StandsFor self.old s → steps.is_ready s.stage ≡ false
             → LeavesStage A.knows_name A.analyze s.analysis self.new.stage result
             (steps.created s.analysis.knows schema settings (steps.held_by s.stage)) }
+        ensures failures { HasCause (failures_of self.old) (failures_of self.new) result }
+        ensures limit { ¬ IsErrOf result faults.Limit }
     {
         let Some(stage) = self.stage.take() else {
             unreachable!();
@@ -169,9 +195,12 @@ impl<D: Device + Drop, A: Analyzer + Drop> Session<D, A> {
 
     /// Opens the index of the device's file in place of what stands.
     fn reopen(&mut self) -> Result<(), Fault>
-        ensures { (s : steps.Session) → StandsFor self.old s → steps.is_ready s.stage ≡ false
+        ensures left { (s : steps.Session) → StandsFor self.old s → steps.is_ready s.stage ≡ false
             → LeavesStage A.knows_name A.analyze s.analysis self.new.stage result
             (steps.opened s.analysis.knows (steps.held_by s.stage)) }
+        ensures failures { HasCause (failures_of self.old) (failures_of self.new) result }
+        ensures limit { (s : steps.Session) → StandsFor self.old s → steps.is_ready s.stage ≡ false
+            → ¬ IsErrOf result faults.Limit }
     {
         let Some(stage) = self.stage.take() else {
             unreachable!();

@@ -1,9 +1,11 @@
 //! What stands on a device: no index, or one. An index is made or opened in place of what stands.
 
-ghost use Rattle.std.specs.Prelude.{◌≡◌, Some, false};
+ghost use Rattle.std.specs.Prelude.{◌≡◌, IsErrOf, IsTrue, Some, false};
+ghost use Rattle.definitions.specs.Disk.{HasCause};
 ghost use Rattle.definitions.specs.Step as steps;
+ghost use Rattle.definitions.specs.declared.fault.Fault.TheVariants as faults;
 ghost use Rattle.engine.specs.Standing.{status_of};
-ghost use Rattle.index.specs.Sessions.{IsSpare, IsStage, LeavesStage, left_by};
+ghost use Rattle.index.specs.Sessions.{IsSpare, IsStage, LeavesStage, device_on, left_by};
 
 use common::{Analyzer, Device};
 use definitions::Fault;
@@ -40,10 +42,12 @@ impl<D: Device + Drop, A: Analyzer + Drop> Stage<D, A> {
         schema: Schema,
         settings: Settings,
     ) -> (Stage<D, A>, Result<(), Fault>)
-        ensures { (a : steps.Analysis) (s : steps.Stage) → IsStage A.knows_name A.analyze a self s
+        ensures left { (a : steps.Analysis) (s : steps.Stage) → IsStage A.knows_name A.analyze a self s
             → steps.is_ready s ≡ false
             → LeavesStage A.knows_name A.analyze a (Some result.0) result.1
             (steps.created a.knows schema settings (steps.held_by s)) }
+        ensures failures { HasCause (D.failed (device_on self)) (D.failed (device_on result.0)) result.1 }
+        ensures limit { ¬ IsErrOf result.1 faults.Limit }
     {
         let (device, analyzer) = self.into_device();
         leave(Index::create(alloc, device, analyzer, schema, settings))
@@ -51,17 +55,24 @@ impl<D: Device + Drop, A: Analyzer + Drop> Stage<D, A> {
 
     /// Opens the index of the device's file in place of what stands.
     pub(crate) fn open(self, alloc: Global) -> (Stage<D, A>, Result<(), Fault>)
-        ensures { (a : steps.Analysis) (s : steps.Stage) → IsStage A.knows_name A.analyze a self s
+        ensures left { (a : steps.Analysis) (s : steps.Stage) → IsStage A.knows_name A.analyze a self s
             → steps.is_ready s ≡ false
             → LeavesStage A.knows_name A.analyze a (Some result.0) result.1 (steps.opened a.knows (steps.held_by s)) }
+        ensures failures { HasCause (D.failed (device_on self)) (D.failed (device_on result.0)) result.1 }
+        ensures limit { (a : steps.Analysis) (s : steps.Stage) → IsStage A.knows_name A.analyze a self s
+            → steps.is_ready s ≡ false → ¬ IsErrOf result.1 faults.Limit }
     {
         let (device, analyzer) = self.into_device();
         leave(Index::open(alloc, device, analyzer))
     }
 
     /// The device and the analyzer. An index that stands is dropped, and what waits in it is lost.
-    fn into_device(self) -> (D, A)
-        ensures { (a : steps.Analysis) (s : steps.Stage) → IsStage A.knows_name A.analyze a self s
+    pub(crate) fn into_device(self) -> (D, A)
+        ensures device { result.0 ≡ device_on self }
+        ensures held { (a : steps.Analysis) (s : steps.Stage) → IsStage A.knows_name A.analyze a self s
+            → IsTrue (D.honest result.0)
+            → IsSpare D.honest D.content A.knows_name A.analyze a result.0 result.1 (steps.held_by s) }
+        ensures spare { (a : steps.Analysis) (s : steps.Stage) → IsStage A.knows_name A.analyze a self s
             → steps.is_ready s ≡ false
             → IsSpare D.honest D.content A.knows_name A.analyze a result.0 result.1 (steps.held_by s) }
     {

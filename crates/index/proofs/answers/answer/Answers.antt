@@ -1,23 +1,109 @@
-use Rattle.std.proofs.Common.{Some, ◌≡◌, refl, subst, sym}
+use Rattle.std.proofs.Common.{OnOk, Some, ap, false, inr, refl, subst, sym, ◌≡◌, ◌≢◌, ◌⊎◌}
 use Rattle.definitions.specs.Calls as calls
+use Rattle.definitions.specs.Disk.{HasCause}
+use Rattle.definitions.specs.Replying.{stops}
 use Rattle.definitions.specs.Requests as requests
+use Rattle.definitions.specs.Step as steps
+use Rattle.definitions.specs.declared.fault.Fault.TheVariants as faults
+use Rattle.engine.specs.Indexes.{IndexStands, IsInFile, KeepsFile, device_of}
 use Rattle.index.specs.AskedRequests.{index_request_of}
 use Rattle.index.specs.Replying.{Answers}
-use Rattle.engine.specs.Standing.{Stands}
-use Rattle.index.proofs.Answering.{add_refused, change_answers, commit_kept, commit_refused}
+use Rattle.index.proofs.Answering.{add_refused, change_answers, commit_kept, commit_refused, err_weaker}
+use Rattle.index.proofs.Causes.{any_answer, call_goes_on, change_is_memory, memory_cause, memory_no_limit, same_cause, same_error}
+use Rattle.index.proofs.IndexFiles.{added_same, added_status, commit_in_file, counted_still, in_file_still, searched_still}
 use Rattle.serde_json.specs.View.{view}
 use Rattle.index.proofs.answers.answer.Goals as goal
+
+-- ---- an add
 
 pub returns-in-Add-clause-answered : goal.returns-in-Add-clause-answered
 returns-in-Add-clause-answered g c k x s =
     let d = view c.in-Add.doc.now in
-    subst (λ r. Answers g.A.Analyzer.analyze c.add_value.new.self.collection k x (index_request_of r) c.answer_change.result) (sym c.in-Add.is)
-    (change_answers g.A.Analyzer.analyze c.add_value.new.self.collection k x (requests.add_doc d) (calls.add_value d) c.add_value.result c.answer_change.result refl refl (c.add_value.ensures.left k x s) (add_refused c.add_value.result (λ fault. calls.call_fault k x (calls.add_value d) ≡ Some fault) (c.add_value.ensures.exact k x s)) c.answer_change.ensures.text c.answer_change.ensures.on)
+    subst (λ r. Answers g.A.Analyzer.analyze c.add_value.new.self k x (index_request_of r) c.answer_change.result) (sym c.in-Add.is)
+    (change_answers g.A.Analyzer.analyze c.add_value.new.self k x (requests.add_doc d) (calls.add_value d) c.add_value.result c.answer_change.result refl refl (c.add_value.ensures.left k x s) (add_refused c.add_value.result (λ fault. calls.call_fault k x (calls.add_value d) ≡ Some fault) (c.add_value.ensures.exact k x s)) c.answer_change.ensures.text c.answer_change.ensures.on)
+
+pub returns-in-Add-clause-kept : goal.returns-in-Add-clause-kept
+returns-in-Add-clause-kept g c k x s = any_answer c.answer_change.result ((x.status ≡ calls.ready) ⊎ KeepsFile c.args.index.now c.add_value.new.self) (inr c.add_value.ensures.file)
+
+pub returns-in-Add-clause-rests : goal.returns-in-Add-clause-rests
+returns-in-Add-clause-rests g c k x s is =
+    let d = view c.in-Add.doc.now in
+    let new = c.add_value.new.self in
+    subst (λ r. OnOk c.answer_change.result (IsInFile new ((steps.index_step k x (index_request_of r)).1))) (sym c.in-Add.is)
+    (any_answer c.answer_change.result (IsInFile new ((steps.index_step k x (requests.add_doc d)).1))
+    (in_file_still c.args.index.now new x ((steps.index_step k x (requests.add_doc d)).1) c.add_value.ensures.made c.add_value.ensures.file (added_status k x d) (added_same k x d) is))
+
+pub returns-in-Add-clause-failures : goal.returns-in-Add-clause-failures
+returns-in-Add-clause-failures g c k x s =
+    let d = g.D.Device in
+    let call = calls.add_value (view c.in-Add.doc.now) in
+    let on = err_weaker c.add_value.result (λ fault. fault ≢ faults.OutOfMemory → calls.call_fault k x call ≡ Some fault) (λ fault. fault ≢ faults.OutOfMemory → stops fault ≡ false) (λ fault refused other. call_goes_on k x call fault (refused other)) (c.add_value.ensures.exact k x s) in
+    subst (λ e. HasCause (d.failed (device_of c.args.index.now)) (d.failed e) c.answer_change.result) (sym c.add_value.ensures.file.0)
+    (memory_cause (d.failed (device_of c.args.index.now)) c.answer_change.result (change_is_memory c.add_value.result c.answer_change.result on c.answer_change.ensures.same c.answer_change.ensures.err))
+
+pub returns-in-Add-clause-limit : goal.returns-in-Add-clause-limit
+returns-in-Add-clause-limit g c k x s limit =
+    let call = calls.add_value (view c.in-Add.doc.now) in
+    let on = err_weaker c.add_value.result (λ fault. fault ≢ faults.OutOfMemory → calls.call_fault k x call ≡ Some fault) (λ fault. fault ≢ faults.OutOfMemory → stops fault ≡ false) (λ fault refused other. call_goes_on k x call fault (refused other)) (c.add_value.ensures.exact k x s) in
+    absurd (memory_no_limit c.answer_change.result (change_is_memory c.add_value.result c.answer_change.result on c.answer_change.ensures.same c.answer_change.ensures.err) limit)
+
+-- ---- a commit
 
 pub returns-in-Commit-clause-answered : goal.returns-in-Commit-clause-answered
 returns-in-Commit-clause-answered g c k x s =
-    subst (λ r. Answers g.A.Analyzer.analyze c.commit.new.self.collection k x (index_request_of r) c.answer_change-in-Commit.result) (sym c.in-Commit.is)
-    (change_answers g.A.Analyzer.analyze c.commit.new.self.collection k x requests.commit_all calls.commit_pending c.commit.result c.answer_change-in-Commit.result refl refl (c.commit.ensures.left k x s) (commit_refused c.commit.result (λ fault. calls.call_fault k x calls.commit_pending ≡ Some fault) (c.commit.ensures.exact k x s)) c.answer_change-in-Commit.ensures.text c.answer_change-in-Commit.ensures.on)
+    subst (λ r. Answers g.A.Analyzer.analyze c.commit.new.self k x (index_request_of r) c.answer_change-in-Commit.result) (sym c.in-Commit.is)
+    (change_answers g.A.Analyzer.analyze c.commit.new.self k x requests.commit_all calls.commit_pending c.commit.result c.answer_change-in-Commit.result refl refl (c.commit.ensures.left k x s) (commit_refused c.commit.result (λ fault. calls.call_fault k x calls.commit_pending ≡ Some fault) (c.commit.ensures.exact k x s)) c.answer_change-in-Commit.ensures.text c.answer_change-in-Commit.ensures.on)
 
 pub returns-in-Commit-clause-kept : goal.returns-in-Commit-clause-kept
-returns-in-Commit-clause-kept g c k x s = commit_kept c.args.index.now.file.device c.commit.new.self.file.device (c.commit.new.self.file.gate ≡ c.args.index.now.file.gate) (Stands g.A.Analyzer.analyze c.commit.new.self.collection k) c.commit.result c.answer_change-in-Commit.result k x (c.commit.ensures.left k x s) c.commit.ensures.kept c.answer_change-in-Commit.ensures.on
+returns-in-Commit-clause-kept g c k x s = commit_kept (KeepsFile c.args.index.now c.commit.new.self) (IndexStands g.A.Analyzer.analyze c.commit.new.self k) c.commit.result c.answer_change-in-Commit.result k x (c.commit.ensures.left k x s) c.commit.ensures.kept c.answer_change-in-Commit.ensures.on
+
+pub returns-in-Commit-clause-rests : goal.returns-in-Commit-clause-rests
+returns-in-Commit-clause-rests g c k x s is =
+    let new = c.commit.new.self in
+    subst (λ r. OnOk c.answer_change-in-Commit.result (IsInFile new ((steps.index_step k x (index_request_of r)).1))) (sym c.in-Commit.is)
+    (commit_in_file g.A.Analyzer.analyze c.args.index.now new c.commit.result c.answer_change-in-Commit.result k x (c.commit.ensures.left k x s) (commit_refused c.commit.result (λ fault. calls.call_fault k x calls.commit_pending ≡ Some fault) (c.commit.ensures.exact k x s)) c.commit.ensures.made c.commit.ensures.honest c.commit.ensures.kept (c.commit.ensures.rests k x s) c.answer_change-in-Commit.ensures.on is)
+
+pub returns-in-Commit-clause-failures : goal.returns-in-Commit-clause-failures
+returns-in-Commit-clause-failures g c k x s =
+    let d = g.D.Device in
+    same_cause (d.failed (device_of c.args.index.now)) (d.failed (device_of c.commit.new.self)) c.commit.result c.answer_change-in-Commit.result c.answer_change-in-Commit.ensures.same c.commit.ensures.cause
+
+pub returns-in-Commit-clause-limit : goal.returns-in-Commit-clause-limit
+returns-in-Commit-clause-limit g c k x s limit =
+    (ap index_request_of c.in-Commit.is, c.commit.ensures.limit k x s (same_error c.commit.result c.answer_change-in-Commit.result faults.Limit c.answer_change-in-Commit.ensures.same limit))
+
+-- ---- a search
+
+pub returns-in-Search-clause-kept : goal.returns-in-Search-clause-kept
+returns-in-Search-clause-kept g c k x s = any_answer c.search.result ((x.status ≡ calls.ready) ⊎ KeepsFile c.args.index.now c.args.index.now) (inr (refl, refl))
+
+pub returns-in-Search-clause-rests : goal.returns-in-Search-clause-rests
+returns-in-Search-clause-rests g c k x s is =
+    let index = c.args.index.now in
+    let r = requests.search_docs (view c.in-Search.query.now) c.in-Search.k in
+    subst (λ r. OnOk c.search.result (IsInFile index ((steps.index_step k x (index_request_of r)).1))) (sym c.in-Search.is)
+    (any_answer c.search.result (IsInFile index ((steps.index_step k x r).1)) (subst (λ y. IsInFile index y) (sym (searched_still k x (view c.in-Search.query.now) c.in-Search.k)) is))
+
+pub returns-in-Search-clause-failures : goal.returns-in-Search-clause-failures
+returns-in-Search-clause-failures g c k x s = memory_cause (g.D.Device.failed (device_of c.args.index.now)) c.search.result (c.search.ensures.err k x s)
+
+pub returns-in-Search-clause-limit : goal.returns-in-Search-clause-limit
+returns-in-Search-clause-limit g c k x s limit = absurd (memory_no_limit c.search.result (c.search.ensures.err k x s) limit)
+
+-- ---- a count
+
+pub returns-in-Count-clause-kept : goal.returns-in-Count-clause-kept
+returns-in-Count-clause-kept g c k x s = any_answer c.count.result ((x.status ≡ calls.ready) ⊎ KeepsFile c.args.index.now c.args.index.now) (inr (refl, refl))
+
+pub returns-in-Count-clause-rests : goal.returns-in-Count-clause-rests
+returns-in-Count-clause-rests g c k x s is =
+    let index = c.args.index.now in
+    let r = requests.count_docs (view c.in-Count.query.now) in
+    subst (λ r. OnOk c.count.result (IsInFile index ((steps.index_step k x (index_request_of r)).1))) (sym c.in-Count.is)
+    (any_answer c.count.result (IsInFile index ((steps.index_step k x r).1)) (subst (λ y. IsInFile index y) (sym (counted_still k x (view c.in-Count.query.now))) is))
+
+pub returns-in-Count-clause-failures : goal.returns-in-Count-clause-failures
+returns-in-Count-clause-failures g c k x s = memory_cause (g.D.Device.failed (device_of c.args.index.now)) c.count.result (c.count.ensures.err k x s)
+
+pub returns-in-Count-clause-limit : goal.returns-in-Count-clause-limit
+returns-in-Count-clause-limit g c k x s limit = absurd (memory_no_limit c.count.result (c.count.ensures.err k x s) limit)

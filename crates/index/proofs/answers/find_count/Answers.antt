@@ -1,4 +1,4 @@
-use Rattle.std.proofs.Common.{None, Some, true, subst, sym, ◌≡◌, ◌≢◌}
+use Rattle.std.proofs.Common.{false, None, Some, true, subst, sym, ◌≡◌, ◌≢◌}
 use Rattle.std.specs.Result.{result_err}
 use Rattle.definitions.specs.Built.{built_query_in}
 use Rattle.definitions.specs.Calls as calls
@@ -14,6 +14,8 @@ use Rattle.engine.proofs.ErrorsKept.{err_has}
 use Rattle.index.proofs.Answering.{count_answered, err_weaker, ok_weaker, read_count}
 use Rattle.serde_json.specs.View.{view}
 use Rattle.std.proofs.Common.{ap, ◌∙◌}
+use Rattle.definitions.specs.Replying.{stops}
+use Rattle.index.proofs.Causes.{call_goes_on, status_goes_on}
 use Rattle.index.proofs.answers.find_count.Goals as goal
 
 pub returns-clause-ok : goal.returns-clause-ok
@@ -33,9 +35,9 @@ returns-clause-err g c k x s =
     let q = query_of c.in_ok-query.query in
     let read = subst (λ m. built_query_in m.schema d ≡ Some q) (sym s.made) (subst (λ fields. built_query_in fields d ≡ Some q) c.schema.ensures c.in_ok-query.ensures.ok) in
     err_weaker c.count.result
-    (λ fault. calls.call_fault k x (calls.count_all q) ≡ Some fault)
+    (λ fault. fault ≢ faults.OutOfMemory → calls.call_fault k x (calls.count_all q) ≡ Some fault)
     (λ fault. fault ≢ faults.OutOfMemory → steps.index_step k x (requests.count_docs d) ≡ steps.refusing fault x)
-    (λ fault refused other. refused_call k x (requests.count_docs d) (calls.count_all q) fault (read_count k d q read) refused)
+    (λ fault refused other. refused_call k x (requests.count_docs d) (calls.count_all q) fault (read_count k d q read) (refused other))
     (c.count.ensures.err k x s)
 
 -- a closed index refuses before the query is read
@@ -46,3 +48,24 @@ returns-in_err-check_open-clause-err g c k x s =
     let closed : calls.status_fault x.status true ≡ Some fault = sym (c.check_open.ensures k x s) ∙ ap result_err c.in_err-check_open.was in
     err_has c.from_residual.result fault (λ e. e ≢ faults.OutOfMemory → steps.index_step k x request ≡ steps.refusing e x) c.from_residual.ensures.1
     (λ other. ap (λ o. steps.refused_or o x (steps.call_step k x (steps.call_in k.schema request))) closed)
+
+pub returns-in_err-check_open-clause-goes_on : goal.returns-in_err-check_open-clause-goes_on
+returns-in_err-check_open-clause-goes_on g c k x s =
+    let fault = c.in_err-check_open.field-0.0 in
+    let closed : calls.status_fault x.status true ≡ Some fault = sym (c.check_open.ensures k x s) ∙ ap result_err c.in_err-check_open.was in
+    err_has c.from_residual.result fault (λ e. e ≢ faults.OutOfMemory → stops e ≡ false) c.from_residual.ensures.1 (λ other. status_goes_on x.status fault closed)
+
+pub returns-in_err-query-clause-goes_on : goal.returns-in_err-query-clause-goes_on
+returns-in_err-query-clause-goes_on g c k x s =
+    let fault = c.in_err-query.field-0.0 in
+    err_has c.from_residual-in_err-query.result fault (λ e. e ≢ faults.OutOfMemory → stops e ≡ false) c.from_residual-in_err-query.ensures.1 (λ other. ap stops ((c.in_err-query.ensures.err other).0))
+
+pub returns-clause-goes_on : goal.returns-clause-goes_on
+returns-clause-goes_on g c k x s =
+    let q = query_of c.in_ok-query.query in
+    let call = calls.count_all q in
+    err_weaker c.count.result
+    (λ fault. fault ≢ faults.OutOfMemory → calls.call_fault k x call ≡ Some fault)
+    (λ fault. fault ≢ faults.OutOfMemory → stops fault ≡ false)
+    (λ fault refused other. call_goes_on k x call fault (refused other))
+    (c.count.ensures.err k x s)

@@ -1,5 +1,4 @@
 use Rattle.std.proofs.Common.{ap, option_map, subst, sym, ◌∙◌}
-use Rattle.definitions.specs.Step as steps
 use Rattle.index.specs.AskedRequests.{request_of}
 use Rattle.index.specs.Sessions.{Replies}
 use Rattle.index.proofs.SessionSteps.{unasked_reply}
@@ -7,7 +6,7 @@ use Rattle.index.proofs.session.Session.answer_value.Goals as goal
 
 pub returns-in-Some-clause-answered : goal.returns-in-Some-clause-answered
 returns-in-Some-clause-answered g c s h =
-    subst (λ q. Replies c.answer.new.self c.answer.result (steps.step s q)) (ap (option_map request_of) (sym c.in-Some.is) ∙ c.request_in.ensures) (c.answer.ensures.answered s h)
+    subst (λ q. Replies c.args.self.now c.answer.new.self s q c.answer.result) (ap (option_map request_of) (sym c.in-Some.is) ∙ c.request_in.ensures) (c.answer.ensures.answered s h)
 
 pub returns-in-None-clause-answered : goal.returns-in-None-clause-answered
 returns-in-None-clause-answered g c s h = unasked_reply s c.args.self.now _ _ (ap (option_map request_of) (sym c.in-None.is) ∙ c.request_in.ensures) h c.reply.ensures

@@ -4,6 +4,7 @@ use Rattle.definitions.specs.Step as steps
 use Rattle.definitions.specs.declared.fault.Fault.TheVariants as faults
 use Rattle.definitions.specs.Replying.{stops}
 use Rattle.index.proofs.Answering.{going_on}
+use Rattle.index.proofs.Causes.{stop_is_memory, unread_goes_on}
 use Rattle.index.proofs.SessionSteps.{already_made, on_map, refused_reply, unread_step}
 use Rattle.serde_json.specs.View.{view}
 use Rattle.index.proofs.session.Session.create.Goals as goal
@@ -13,7 +14,7 @@ returns-then-has_ready_index-clause-answered g c s h =
     let d = view c.args.schema.now in
     let more = option_map (λ x. view x.now) c.args.settings in
     let ready : steps.is_ready s.stage ≡ true = sym (c.if-has_ready_index.ensures s h) in
-    refused_reply s c.args.self.now faults.AlreadyOpen _ (requests.create_index d more) h (already_made s d more ready) c.reply.ensures
+    refused_reply s c.args.self.now faults.AlreadyOpen _ (requests.create_index d more) h (already_made s d more ready) c.reply.ensures tt
 
 pub returns-in-Err-clause-answered : goal.returns-in-Err-clause-answered
 returns-in-Err-clause-answered g c s h =
@@ -25,3 +26,4 @@ returns-in-Err-clause-answered g c s h =
     (on_map c.refusal.result (stops fault ≡ false) (steps.stage_step s.analysis s.stage (requests.create_index d more) ≡ steps.refusing fault s.stage)
     (λ on. unread_step s d more fault not_ready (c.in-Err.ensures.err (going_on fault faults.OutOfMemory on refl))) c.refusal.ensures.on)
     c.refusal.ensures.text
+    (stop_is_memory fault c.refusal.result (λ other. unread_goes_on d more fault (c.in-Err.ensures.err other)) c.refusal.ensures.same c.refusal.ensures.err)

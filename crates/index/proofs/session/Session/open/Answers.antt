@@ -8,4 +8,4 @@ use Rattle.index.proofs.session.Session.open.Goals as goal
 pub returns-then-has_ready_index-clause-answered : goal.returns-then-has_ready_index-clause-answered
 returns-then-has_ready_index-clause-answered g c s h =
     let ready : steps.is_ready s.stage ≡ true = sym (c.if-has_ready_index.ensures s h) in
-    refused_reply s c.args.self.now faults.AlreadyOpen _ requests.open_index h (already_opened s ready) c.reply.ensures
+    refused_reply s c.args.self.now faults.AlreadyOpen _ requests.open_index h (already_opened s ready) c.reply.ensures tt

@@ -1,0 +1,18 @@
+use Rattle.std.proofs.Common.{None, Some, ap, option_map, subst, sym, ◌∙◌}
+use Rattle.definitions.specs.Step as steps
+use Rattle.index.specs.Sessions.{Replies}
+use Rattle.index.proofs.SessionSteps.{line_asks, memory_reply, unasked_reply}
+use Rattle.serde_json.specs.View.{view}
+use Rattle.index.proofs.session.Session.answer_line.Goals as goal
+
+pub returns-in_err-json-clause-answered : goal.returns-in_err-json-clause-answered
+returns-in_err-json-clause-answered g c s h = memory_reply s c.args.self.now (steps.line_request c.args.line.now) c.from_residual.result c.from_residual.ensures.1
+
+pub returns-in-Some-clause-answered : goal.returns-in-Some-clause-answered
+returns-in-Some-clause-answered g c s h =
+    let asks = line_asks c.args.line.now (Some (view c.in-Some.json)) (ap (option_map view) (sym c.in-Some.is) ∙ c.in_ok-json.ensures) in
+    subst (λ q. Replies c.args.self.now c.answer_value.new.self s q c.answer_value.result) (sym asks) (c.answer_value.ensures.answered s h)
+
+pub returns-in-None-clause-answered : goal.returns-in-None-clause-answered
+returns-in-None-clause-answered g c s h =
+    unasked_reply s c.args.self.now (steps.line_request c.args.line.now) _ (sym (line_asks c.args.line.now None (ap (option_map view) (sym c.in-None.is) ∙ c.in_ok-json.ensures))) h c.reply.ensures
