@@ -14,4 +14,4 @@ pub use lines::answers;
 pub use operations::Operations;
 pub use outcomes::Outcomes;
 pub use refusal::Refusal;
-pub use replies::{flag, hex, number, numbers, pair, text, texts, triple};
+pub use replies::{Cell, cells, flag, hex, number, numbers, pair, text, texts, triple};

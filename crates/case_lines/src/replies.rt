@@ -37,6 +37,27 @@ pub fn triple(
     Ok(Value::Array(vec![in alloc; first, second, third]?))
 }
 
+/// A number or what a condition says, in a row of these.
+#[derive(Clone, Copy)]
+pub enum Cell {
+    /// A number.
+    Number(u64),
+    /// What a condition says.
+    Flag(bool),
+}
+
+/// A row of numbers and of what conditions say.
+pub fn cells(alloc: Global, cells: &[Cell]) -> Result<Value, AllocError> {
+    let mut list = Vec::with_capacity(alloc, cells.len())?;
+    for cell in cells {
+        list.push(match *cell {
+            Cell::Number(told) => number(told),
+            Cell::Flag(told) => flag(told),
+        })?;
+    }
+    Ok(Value::Array(list))
+}
+
 /// What a condition says.
 pub fn flag(condition: bool) -> Value {
     Value::Bool(condition)

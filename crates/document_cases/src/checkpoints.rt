@@ -2,7 +2,7 @@
 
 use case_lines::{Arguments, Refusal, hex, number, numbers, pair};
 use serde_json::Value;
-use std::alloc::Global;
+use std::alloc::{AllocError, Global};
 use store::{Checkpoint, DocStoreFooter, DocStoreVersion, SkipIndex, SkipIndexBuilder};
 
 /// What an operation on checkpoints or on footers answers.
@@ -15,15 +15,17 @@ pub(crate) fn answer(
         "checkpoints" => checkpoints(alloc, arguments),
         "checkpoints-read" => checkpoints_read(alloc, arguments),
         "checkpoint-of" => checkpoint_of(alloc, arguments),
-        "versions" => Ok(Value::String(format!(in alloc;
-            "{} {}",
-            DocStoreVersion::V1,
-            DocStoreVersion::V2
-        )?)),
+        "versions" => Ok(versions(alloc)?),
         "footer" => footer(alloc, arguments),
         "footer-read" => footer_read(alloc, arguments),
         _ => Err(Refusal::NotAsked),
     }
+}
+
+/// The versions as they print.
+fn versions(alloc: Global) -> Result<Value, AllocError> {
+    let text = format!(in alloc; "{} {}", DocStoreVersion::V1, DocStoreVersion::V2)?;
+    Ok(Value::String(text))
 }
 
 /// The bytes of checkpoints, each by its first document, the one behind its last, and the same of its bytes.
@@ -31,14 +33,29 @@ fn checkpoints(alloc: Global, arguments: &Arguments) -> Result<Value, Refusal> {
     let mut builder = SkipIndexBuilder::new(alloc);
     let all = arguments.numbers(alloc, 0)?;
     for four in all.chunks_exact(4) {
-        builder.insert(Checkpoint {
-            doc_range: four[0]..four[1],
-            byte_range: four[2] as usize..four[3] as usize,
-        })?;
+        builder.insert(checkpoint(four[0], four[1], four[2], four[3]))?;
     }
     let mut bytes = Vec::new(alloc);
     builder.serialize_into(alloc, &mut bytes)?;
     Ok(hex(alloc, &bytes)?)
+}
+
+/// The checkpoint of documents and bytes, each by its first and the one behind its last.
+fn checkpoint(first_doc: u32, end_doc: u32, first_byte: u32, end_byte: u32) -> Checkpoint {
+    Checkpoint {
+        doc_range: first_doc..end_doc,
+        byte_range: first_byte as usize..end_byte as usize,
+    }
+}
+
+/// The four numbers of a checkpoint.
+fn four_of(reach: &Checkpoint) -> [u32; 4] {
+    [
+        reach.doc_range.start,
+        reach.doc_range.end,
+        u32::try_from(reach.byte_range.start).unwrap_or(u32::MAX),
+        u32::try_from(reach.byte_range.end).unwrap_or(u32::MAX),
+    ]
 }
 
 /// The checkpoints of bytes, as `checkpoints` takes them.
@@ -46,10 +63,7 @@ fn checkpoints_read(alloc: Global, arguments: &Arguments) -> Result<Value, Refus
     let index = SkipIndex::open(alloc, &arguments.bytes(alloc, 0)?)?;
     let mut list = Vec::new(alloc);
     for reach in index.checkpoints() {
-        list.push(reach.doc_range.start)?;
-        list.push(reach.doc_range.end)?;
-        list.push(u32::try_from(reach.byte_range.start).unwrap_or(u32::MAX))?;
-        list.push(u32::try_from(reach.byte_range.end).unwrap_or(u32::MAX))?;
+        list.extend_from_slice(&four_of(reach))?;
     }
     Ok(numbers(alloc, &list)?)
 }

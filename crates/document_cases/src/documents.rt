@@ -2,7 +2,7 @@
 
 use crate::shown_values::{owned_value, shown, value_list};
 use case_lines::{Arguments, Refusal, flag, hex, number, pair, text};
-use document::{CompactDoc, OwnedValue, put_value, take_value};
+use document::{CompactDoc, CompactDocValue, OwnedValue, put_value, take_value};
 use document_lines::document_of_values;
 use schema::{Field, Schema};
 use serde_json::Value;
@@ -76,20 +76,39 @@ pub(crate) fn document(
     place: usize,
 ) -> Result<CompactDoc, Refusal> {
     match arguments.value(place)? {
-        Value::String(_) => Ok(CompactDoc::deserialize(alloc, &arguments.bytes(alloc, place)?)?),
+        Value::String(_) => document_of_bytes(alloc, arguments, place),
         Value::Array(values) => document_of_values(alloc, values),
         json => Ok(CompactDoc::from_json_object(alloc, schema, json)?),
     }
+}
+
+/// The document of the bytes at a place.
+fn document_of_bytes(
+    alloc: Global,
+    arguments: &Arguments,
+    place: usize,
+) -> Result<CompactDoc, Refusal> {
+    let bytes = arguments.bytes(alloc, place)?;
+    Ok(CompactDoc::deserialize(alloc, &bytes)?)
 }
 
 /// Each value of a document with its field's number.
 pub(crate) fn values(alloc: Global, doc: &CompactDoc) -> Result<Value, AllocError> {
     let mut list = Vec::new(alloc);
     for (field, value) in doc.field_values() {
-        let id = number(u64::from(field.field_id()));
-        list.push(pair(alloc, id, shown(alloc, value)?)?)?;
+        list.push(field_value(alloc, field, value)?)?;
     }
     Ok(Value::Array(list))
+}
+
+/// A field's number and a value.
+fn field_value(
+    alloc: Global,
+    field: Field,
+    value: CompactDocValue<'_>,
+) -> Result<Value, AllocError> {
+    let id = number(u64::from(field.field_id()));
+    pair(alloc, id, shown(alloc, value)?)
 }
 
 /// The first value of a field.
@@ -126,9 +145,15 @@ fn named(alloc: Global, schema: &Schema, doc: &CompactDoc) -> Result<Value, Refu
     let mut list = Vec::new(alloc);
     for (name, _) in doc.fields() {
         let values = doc.get(name).unwrap_or(&[]);
-        list.push(pair(alloc, text(alloc, name)?, owned(alloc, values)?)?)?;
+        list.push(named_values(alloc, name, values)?)?;
     }
     Ok(Value::Array(list))
+}
+
+/// A name and its values.
+fn named_values(alloc: Global, name: &str, values: &[OwnedValue]) -> Result<Value, AllocError> {
+    let values = owned(alloc, values)?;
+    pair(alloc, text(alloc, name)?, values)
 }
 
 /// Values that own what they hold.
@@ -144,10 +169,20 @@ fn owned(alloc: Global, values: &[OwnedValue]) -> Result<Value, AllocError> {
 fn copied(alloc: Global, doc: &CompactDoc) -> Result<Value, Refusal> {
     let mut copy = CompactDoc::new(alloc);
     for (field, value) in doc.field_values() {
-        let owned = OwnedValue::from_compact(alloc, value)?;
-        copy.add_field_value(field, &owned)?;
+        add_copy(alloc, &mut copy, field, value)?;
     }
     Ok(pair(alloc, number(copy.len() as u64), flag(copy == *doc))?)
+}
+
+/// Copies a value into a document.
+fn add_copy(
+    alloc: Global,
+    copy: &mut CompactDoc,
+    field: Field,
+    value: CompactDocValue<'_>,
+) -> Result<(), Refusal> {
+    let owned = OwnedValue::from_compact(alloc, value)?;
+    Ok(copy.add_field_value(field, &owned)?)
 }
 
 /// What an operation on the bytes of one value answers.

@@ -1,12 +1,12 @@
 //! Stores of many slots: the slot with a number has the number's remainder by 13 as its length.
 
 use crate::stores::reader;
-use case_lines::{Arguments, Refusal, flag, hex, number};
+use case_lines::{Arguments, Cell, Refusal, cells, flag, hex, number, numbers, triple};
 use common::AliveBitSet;
 use definitions::Fault;
 use serde_json::Value;
 use std::alloc::{AllocError, Global};
-use store::{DocStoreFooter, SkipIndex, StoreReader, StoreWriter};
+use store::{CacheStats, DocStoreFooter, SkipIndex, StoreReader, StoreWriter};
 
 /// What an operation on such stores answers.
 pub(crate) fn answer(
@@ -16,13 +16,13 @@ pub(crate) fn answer(
 ) -> Result<Value, Refusal> {
     match operation {
         "bytes" => {
-            let writer = writer_of(alloc, 0, arguments.small_number(0)?, arguments.number(1)?)?;
-            Ok(hex(alloc, &writer.close(alloc)?)?)
+            let file = file_of(alloc, arguments.small_number(0)?, arguments.number(1)?)?;
+            Ok(hex(alloc, &file)?)
         }
         "orders" => orders(alloc, arguments),
         "iterated" => iterated(alloc, arguments),
         "alive-each-seventh" => alive_each_seventh(alloc, arguments.small_number(0)?),
-        "alive-block" => alive_block(alloc),
+        "alive-block" => alive_block(alloc, 100),
         "stacked" => stacked(alloc, arguments.number(0)?),
         "open" => Ok(number(u64::from(reader(alloc, &arguments.bytes(alloc, 0)?, 1)?.num_docs()))),
         "read-or-damaged" => Ok(flag(is_read_or_damaged(alloc, &arguments.bytes(alloc, 0)?))),
@@ -59,6 +59,17 @@ fn writer_of(
     Ok(writer)
 }
 
+/// The file of the slots with so many numbers from 0 on.
+fn file_of(alloc: Global, count: u32, block_size: u64) -> Result<Vec<u8>, Refusal> {
+    let writer = writer_of(alloc, 0, count, block_size)?;
+    Ok(writer.close(alloc)?)
+}
+
+/// Whether the bytes are those of the slot with a number.
+fn is_slot(alloc: Global, read: &[u8], doc: u32) -> Result<bool, AllocError> {
+    Ok(read == slot(alloc, doc)?.as_slice())
+}
+
 /// How many of the slots have their bytes, in ascending, descending or mixed order.
 fn count_read(
     alloc: Global,
@@ -73,12 +84,20 @@ fn count_read(
             1 => count.wrapping_sub(1).wrapping_sub(i),
             _ => i.wrapping_mul(7919).checked_rem(count).unwrap_or(0),
         };
-        let read = reader.get_document_bytes(doc)?;
-        if read.as_slice() == slot(alloc, doc)?.as_slice() {
+        if is_slot(alloc, &reader.get_document_bytes(doc)?, doc)? {
             right = right.wrapping_add(1);
         }
     }
     Ok(right)
+}
+
+/// How many of the slots have their bytes, in each of three orders.
+fn counts_read(alloc: Global, reader: &mut StoreReader, count: u32) -> Result<[u32; 3], Refusal> {
+    Ok([
+        count_read(alloc, reader, 0, count)?,
+        count_read(alloc, reader, 1, count)?,
+        count_read(alloc, reader, 2, count)?,
+    ])
 }
 
 /// Of a store of so many slots, with blocks of a size, read by a reader that keeps so many blocks: how many slots
@@ -87,22 +106,53 @@ fn count_read(
 fn orders(alloc: Global, arguments: &Arguments) -> Result<Value, Refusal> {
     let count = arguments.small_number(0)?;
     let capacity = arguments.number(2)? as usize;
-    let writer = writer_of(alloc, 0, count, arguments.number(1)?)?;
-    let mut reader = reader(alloc, &writer.close(alloc)?, capacity)?;
-    let mut list = Vec::new(alloc);
-    list.push(number(u64::from(reader.num_docs())))?;
-    for order in 0..3 {
-        let right = count_read(alloc, &mut reader, order, count)?;
-        list.push(number(u64::from(right)))?;
-    }
-    let refused = is_refused(&mut reader, count) && is_refused(&mut reader, u32::MAX);
+    let told = orders_of_slots(alloc, count, arguments.number(1)?, capacity)?;
+    Ok(cells(alloc, &told)?)
+}
+
+/// What `orders` answers of so many slots.
+fn orders_of_slots(
+    alloc: Global,
+    count: u32,
+    block_size: u64,
+    capacity: usize,
+) -> Result<[Cell; 8], Refusal> {
+    let file = file_of(alloc, count, block_size)?;
+    orders_of_file(alloc, &file, count, capacity)
+}
+
+/// What `orders` answers of a file of so many slots.
+fn orders_of_file(
+    alloc: Global,
+    file: &[u8],
+    count: u32,
+    capacity: usize,
+) -> Result<[Cell; 8], Refusal> {
+    let mut reader = reader(alloc, file, capacity)?;
+    told_of_orders(alloc, &mut reader, count, capacity)
+}
+
+/// What `orders` answers of a reader.
+fn told_of_orders(
+    alloc: Global,
+    reader: &mut StoreReader,
+    count: u32,
+    capacity: usize,
+) -> Result<[Cell; 8], Refusal> {
+    let [ascending, descending, mixed] = counts_read(alloc, reader, count)?;
+    let refused = is_refused(reader, count) && is_refused(reader, u32::MAX);
     let stats = reader.cache_stats();
     let asked = stats.cache_hits.wrapping_add(stats.cache_misses);
-    list.push(number(asked as u64))?;
-    list.push(flag(refused))?;
-    list.push(flag(stats.num_entries <= capacity))?;
-    list.push(flag(capacity > 0 || stats.cache_hits == 0))?;
-    Ok(Value::Array(list))
+    Ok([
+        Cell::Number(u64::from(reader.num_docs())),
+        Cell::Number(u64::from(ascending)),
+        Cell::Number(u64::from(descending)),
+        Cell::Number(u64::from(mixed)),
+        Cell::Number(asked as u64),
+        Cell::Flag(refused),
+        Cell::Flag(stats.num_entries <= capacity),
+        Cell::Flag(capacity > 0 || stats.cache_hits == 0),
+    ])
 }
 
 /// Whether no store has a slot with that number.
@@ -121,7 +171,7 @@ fn count_blocks(alloc: Global, file: &[u8]) -> Result<usize, Refusal> {
 fn count_in_order(alloc: Global, reader: &mut StoreReader) -> Result<u32, Refusal> {
     let mut right = 0u32;
     for read in reader.iter(None) {
-        if read?.as_slice() == slot(alloc, right)?.as_slice() {
+        if is_slot(alloc, &read?, right)? {
             right = right.wrapping_add(1);
         }
     }
@@ -132,99 +182,200 @@ fn count_in_order(alloc: Global, reader: &mut StoreReader) -> Result<u32, Refusa
 /// none: how many slots come right each time, and whether the first time looks up each block once, and the second
 /// time finds it kept or looks it up again.
 fn iterated(alloc: Global, arguments: &Arguments) -> Result<Value, Refusal> {
-    let writer = writer_of(alloc, 0, arguments.small_number(0)?, arguments.number(1)?)?;
-    let file = writer.close(alloc)?;
-    let blocks = count_blocks(alloc, &file)?;
-    let keeps = arguments.flag(2)?;
+    let count = arguments.small_number(0)?;
+    let told = walks_of_slots(alloc, count, arguments.number(1)?, arguments.flag(2)?)?;
+    Ok(cells(alloc, &told)?)
+}
+
+/// What `iterated` answers of so many slots, by whether all blocks are kept.
+fn walks_of_slots(
+    alloc: Global,
+    count: u32,
+    block_size: u64,
+    keeps: bool,
+) -> Result<[Cell; 4], Refusal> {
+    let file = file_of(alloc, count, block_size)?;
+    walks_of_file(alloc, &file, keeps)
+}
+
+/// What `iterated` answers of a file, by whether all blocks are kept.
+fn walks_of_file(alloc: Global, file: &[u8], keeps: bool) -> Result<[Cell; 4], Refusal> {
+    let blocks = count_blocks(alloc, file)?;
     let (capacity, kept) = if keeps { (10000, blocks) } else { (0, 0) };
-    let mut reader = reader(alloc, &file, capacity)?;
-    let mut list = Vec::new(alloc);
-    for hits in [0, kept] {
-        let misses = reader.cache_stats().cache_misses;
-        let right = count_in_order(alloc, &mut reader)?;
-        let stats = reader.cache_stats();
-        let looked_up = misses.wrapping_add(blocks.wrapping_sub(hits));
-        list.push(number(u64::from(right)))?;
-        list.push(flag(
-            stats.num_entries == kept
-                && stats.cache_hits == hits
-                && stats.cache_misses == looked_up,
-        ))?;
-    }
-    Ok(Value::Array(list))
+    let mut reader = reader(alloc, file, capacity)?;
+    told_of_both(alloc, &mut reader, blocks, kept)
+}
+
+/// What `iterated` answers of a reader, by how many blocks there are and are kept.
+fn told_of_both(
+    alloc: Global,
+    reader: &mut StoreReader,
+    blocks: usize,
+    kept: usize,
+) -> Result<[Cell; 4], Refusal> {
+    let [first, looked_up] = told_of_walk(alloc, reader, blocks, kept, 0)?;
+    let [second, found] = told_of_walk(alloc, reader, blocks, kept, kept)?;
+    Ok([first, looked_up, second, found])
+}
+
+/// How many slots come right, and whether so many blocks are then found kept, and the others looked up.
+fn told_of_walk(
+    alloc: Global,
+    reader: &mut StoreReader,
+    blocks: usize,
+    kept: usize,
+    hits: usize,
+) -> Result<[Cell; 2], Refusal> {
+    let misses = reader.cache_stats().cache_misses;
+    let right = count_in_order(alloc, reader)?;
+    let stats = reader.cache_stats();
+    let looked_up = misses.wrapping_add(blocks.wrapping_sub(hits));
+    let is_so = stats.num_entries == kept
+        && stats.cache_hits == hits
+        && stats.cache_misses == looked_up;
+    Ok([Cell::Number(u64::from(right)), Cell::Flag(is_so)])
 }
 
 /// Where all of the first documents but each seventh from 3 on are dead, in a store of 100: the document behind the
 /// last of those that come, and whether all have their bytes. Documents past those are dead.
 fn alive_each_seventh(alloc: Global, max_doc: u32) -> Result<Value, Refusal> {
-    let mut alive = AliveBitSet::for_max_doc(alloc, max_doc)?;
-    for doc in 0..max_doc {
-        if doc % 7 != 3 && (doc as usize) < alive.len() {
-            alive.kill(doc);
-        }
-    }
-    let writer = writer_of(alloc, 0, 100, 30)?;
-    let mut reader = reader(alloc, &writer.close(alloc)?, 0)?;
-    come_in_steps(alloc, &mut reader, &alive, 3, 7)
+    let (told, _) = come_of_alive(alloc, 30, each_seventh(alloc, max_doc)?, 3, 7)?;
+    Ok(cells(alloc, &told)?)
 }
 
 /// Where only the documents 40 and 41 of 100 are alive, each in a block of its own: the document behind the last of
 /// those that come, whether all have their bytes, and how often a block was found and looked up.
-fn alive_block(alloc: Global) -> Result<Value, Refusal> {
-    let mut alive = AliveBitSet::for_max_doc(alloc, 100)?;
-    for doc in 0..100u32 {
-        if doc / 2 != 20 && (doc as usize) < alive.len() {
-            alive.kill(doc);
-        }
-    }
-    let writer = writer_of(alloc, 0, 100, 0)?;
-    let mut reader = reader(alloc, &writer.close(alloc)?, 0)?;
-    let come = come_in_steps(alloc, &mut reader, &alive, 40, 1)?;
-    let stats = reader.cache_stats();
-    Ok(Value::Array(vec![in alloc;
-        come,
-        number(stats.cache_hits as u64),
-        number(stats.cache_misses as u64),
-    ]?))
+fn alive_block(alloc: Global, max_doc: u32) -> Result<Value, Refusal> {
+    let (told, stats) = come_of_alive(alloc, 0, one_block(alloc, max_doc)?, 40, 1)?;
+    Ok(told_with_stats(alloc, &told, stats)?)
 }
 
-/// The document a step behind the last of those that come, from one on, and whether all have their bytes.
+/// Those that come of 100 slots with blocks of a size.
+fn come_of_alive(
+    alloc: Global,
+    block_size: u64,
+    alive: AliveBitSet,
+    first: u32,
+    step: u32,
+) -> Result<([Cell; 2], CacheStats), Refusal> {
+    let file = file_of(alloc, 100, block_size)?;
+    come_of(alloc, &file, &alive, first, step)
+}
+
+/// A row, and how often a block was found and looked up.
+fn told_with_stats(alloc: Global, told: &[Cell], stats: CacheStats) -> Result<Value, AllocError> {
+    let hits = number(stats.cache_hits as u64);
+    let misses = number(stats.cache_misses as u64);
+    triple(alloc, cells(alloc, told)?, hits, misses)
+}
+
+/// The first documents, of which each seventh from 3 on is alive.
+fn each_seventh(alloc: Global, max_doc: u32) -> Result<AliveBitSet, AllocError> {
+    let mut alive = AliveBitSet::for_max_doc(alloc, max_doc)?;
+    for doc in 0..max_doc {
+        kill_unless(&mut alive, doc, doc % 7 == 3);
+    }
+    Ok(alive)
+}
+
+/// The first documents, of which 40 and 41 are alive.
+fn one_block(alloc: Global, max_doc: u32) -> Result<AliveBitSet, AllocError> {
+    let mut alive = AliveBitSet::for_max_doc(alloc, max_doc)?;
+    for doc in 0..max_doc {
+        kill_unless(&mut alive, doc, doc / 2 == 20);
+    }
+    Ok(alive)
+}
+
+/// Kills a document, unless it lives.
+fn kill_unless(alive: &mut AliveBitSet, doc: u32, lives: bool) {
+    if !lives && (doc as usize) < alive.len() {
+        alive.kill(doc);
+    }
+}
+
+/// The document a step behind the last of those of a file that come, from one on, and whether all have their bytes;
+/// and what was looked up.
+fn come_of(
+    alloc: Global,
+    file: &[u8],
+    alive: &AliveBitSet,
+    first: u32,
+    step: u32,
+) -> Result<([Cell; 2], CacheStats), Refusal> {
+    let mut reader = reader(alloc, file, 0)?;
+    come_in_steps(alloc, &mut reader, alive, first, step)
+}
+
+/// The same of a reader.
 fn come_in_steps(
     alloc: Global,
     reader: &mut StoreReader,
     alive: &AliveBitSet,
     first: u32,
     step: u32,
-) -> Result<Value, Refusal> {
+) -> Result<([Cell; 2], CacheStats), Refusal> {
     let mut doc = first;
     let mut right = true;
     for read in reader.iter(Some(alive)) {
-        right = right && read?.as_slice() == slot(alloc, doc)?.as_slice();
+        right = right && is_slot(alloc, &read?, doc)?;
         doc = doc.wrapping_add(step);
     }
-    Ok(Value::Array(vec![in alloc; number(u64::from(doc)), flag(right)]?))
+    Ok((
+        [Cell::Number(u64::from(doc)), Cell::Flag(right)],
+        reader.cache_stats(),
+    ))
 }
 
 /// Stacks stores on one of ten slots with blocks of a size, and adds three slots after each: how many slots there
 /// are, and how many are read right in each of three orders.
 fn stacked(alloc: Global, block_size: u64) -> Result<Value, Refusal> {
+    let (num_docs, [ascending, descending, mixed]) = stacked_counts(alloc, block_size)?;
+    Ok(numbers(alloc, &[num_docs, ascending, descending, mixed])?)
+}
+
+/// How many slots there are when stores are stacked, and how many are read right in each of three orders.
+fn stacked_counts(alloc: Global, block_size: u64) -> Result<(u32, [u32; 3]), Refusal> {
     let mut writer = writer_of(alloc, 0, 10, block_size)?;
+    let docs = stack_others(alloc, &mut writer)?;
+    let num_docs = writer.num_docs();
+    let file = writer.close(alloc)?;
+    Ok((num_docs, counts_of(alloc, &file, docs)?))
+}
+
+/// Stacks stores of different sizes behind the first ten slots, and answers how many slots there are then.
+fn stack_others(alloc: Global, writer: &mut StoreWriter) -> Result<u32, Refusal> {
     let mut docs = 10;
     for (count, size) in [(0, 5), (1, 0), (100, 1), (40, 16384), (0, 0), (300, 100)] {
-        let other = writer_of(alloc, docs, count, size)?;
-        writer.stack(&reader(alloc, &other.close(alloc)?, 0)?)?;
-        docs = count.wrapping_add(docs);
-        add(alloc, &mut writer, docs, 3)?;
-        docs = docs.wrapping_add(3);
+        stack_other(alloc, writer, docs, count, size)?;
+        docs = docs.wrapping_add(count).wrapping_add(3);
     }
-    let mut list = Vec::new(alloc);
-    list.push(number(u64::from(writer.num_docs())))?;
-    let mut reader = reader(alloc, &writer.close(alloc)?, 3)?;
-    for order in 0..3 {
-        let right = count_read(alloc, &mut reader, order, docs)?;
-        list.push(number(u64::from(right)))?;
-    }
-    Ok(Value::Array(list))
+    Ok(docs)
+}
+
+/// How many of a file's slots have their bytes, in each of three orders.
+fn counts_of(alloc: Global, file: &[u8], docs: u32) -> Result<[u32; 3], Refusal> {
+    let mut reader = reader(alloc, file, 3)?;
+    counts_read(alloc, &mut reader, docs)
+}
+
+/// Stacks a store of so many slots from one on, and adds three slots after it.
+fn stack_other(
+    alloc: Global,
+    writer: &mut StoreWriter,
+    first: u32,
+    count: u32,
+    block_size: u64,
+) -> Result<(), Refusal> {
+    let other = writer_of(alloc, first, count, block_size)?.close(alloc)?;
+    stack_file(alloc, writer, &other)?;
+    add(alloc, writer, first.wrapping_add(count), 3)
+}
+
+/// Stacks the store of a file.
+fn stack_file(alloc: Global, writer: &mut StoreWriter, file: &[u8]) -> Result<(), Refusal> {
+    let other = reader(alloc, file, 0)?;
+    Ok(writer.stack(&other)?)
 }
 
 /// Whether every slot of a store is read or refused as damaged, where the store itself isn't.

@@ -2,8 +2,8 @@
 
 use crate::{documents, record_bodies, stores, values};
 use case_lines::{Arguments, Operations, Refusal};
+use document_lines::made;
 use schema::Schema;
-use schema_lines::made;
 use serde_json::Value;
 use std::alloc::Global;
 

@@ -83,18 +83,29 @@ pub(crate) fn reader(alloc: Global, bytes: &[u8], capacity: usize) -> Result<Sto
 /// The values of each document of a store, got by its number.
 fn documents(alloc: Global, schema: &Schema, arguments: &Arguments) -> Result<Value, Refusal> {
     let mut reader = reader(alloc, &of_documents(alloc, schema, arguments)?, 2)?;
+    all_values(alloc, &mut reader)
+}
+
+/// The values of each document of a reader.
+fn all_values(alloc: Global, reader: &mut StoreReader) -> Result<Value, Refusal> {
     let mut list = Vec::new(alloc);
     for doc in 0..reader.num_docs() {
-        list.push(values(alloc, &reader.get(alloc, doc)?)?)?;
+        list.push(values_of(alloc, reader, doc)?)?;
     }
     Ok(Value::Array(list))
 }
 
+/// The values of the document with a number.
+fn values_of(alloc: Global, reader: &mut StoreReader, doc: u32) -> Result<Value, Refusal> {
+    let doc = reader.get(alloc, doc)?;
+    Ok(values(alloc, &doc)?)
+}
+
 /// The values of the document with a number, the third argument.
 fn document(alloc: Global, bytes: Vec<u8>, arguments: &Arguments) -> Result<Value, Refusal> {
+    let doc = arguments.small_number(2)?;
     let mut reader = reader(alloc, &bytes, 2)?;
-    let doc = reader.get(alloc, arguments.small_number(2)?)?;
-    Ok(values(alloc, &doc)?)
+    values_of(alloc, &mut reader, doc)
 }
 
 /// Of each slot that is added the refusal's name, or null.
@@ -102,13 +113,18 @@ fn slots_taken(alloc: Global, arguments: &Arguments) -> Result<Value, Refusal> {
     let mut writer = StoreWriter::new(alloc, block_size(arguments)?);
     let mut list = Vec::new(alloc);
     for value in arguments.list(0)? {
-        let (bytes, _) = slot(alloc, value)?;
-        list.push(match writer.store_bytes(&bytes) {
-            Ok(()) => Value::Null,
-            Err(fault) => text(alloc, fault.name())?,
-        })?;
+        list.push(taken(alloc, &mut writer, value)?)?;
     }
     Ok(Value::Array(list))
+}
+
+/// Adds a slot, and answers the refusal's name, or null.
+fn taken(alloc: Global, writer: &mut StoreWriter, value: &Value) -> Result<Value, Refusal> {
+    let (bytes, _) = slot(alloc, value)?;
+    match writer.store_bytes(&bytes) {
+        Ok(()) => Ok(Value::Null),
+        Err(fault) => Ok(text(alloc, fault.name())?),
+    }
 }
 
 /// Where the index of a store's blocks begins, and the byte that stands there: how many layers it has.

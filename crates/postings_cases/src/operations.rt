@@ -3,7 +3,7 @@
 use crate::held::Held;
 use crate::{damage, indexes, lookups};
 use case_lines::{Arguments, Operations, Refusal, hex};
-use schema_lines::made;
+use document_lines::made;
 use serde_json::Value;
 
 impl Operations for Held {

@@ -6,4 +6,10 @@ mod checked_terms;
 #[cfg(test)]
 mod cursor_walks;
 #[cfg(test)]
+mod recorded_texts;
+#[cfg(test)]
+mod recorders;
+#[cfg(test)]
 mod written_postings;
+#[cfg(test)]
+mod written_terms;

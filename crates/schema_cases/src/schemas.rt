@@ -1,9 +1,9 @@
 //! Schemas: fields that are added one by one, and JSON.
 
 use case_lines::{Arguments, Refusal, flag, number, pair, text};
+use document_lines::made;
 use options::IndexRecordOption;
 use schema::{FieldEntry, Schema, is_valid_field_name};
-use schema_lines::made;
 use serde_json::Value;
 use std::alloc::Global;
 

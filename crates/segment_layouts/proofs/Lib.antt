@@ -7,3 +7,4 @@ pub mod OneList
 pub mod BareFile
 pub mod BookSegment
 pub mod UnstoredSegment
+pub mod NewSegments

@@ -4,9 +4,9 @@ ghost use Rattle.std.specs.Prelude.{[], ◌++◌, ◌∷◌, List, false, replic
 ghost use Rattle.definitions.specs.Analyzers.{raw_and_default};
 ghost use Rattle.definitions.specs.Settings.{default_settings};
 ghost use Rattle.layouts.specs.RecordFiles.{IsDamaged, records, sized_body};
-ghost use Rattle.segment_layouts.specs.SegmentBodies.{Member, kept, segments_body};
+ghost use Rattle.segment_layouts.specs.SegmentBodies.{Member, fresh, kept, segments_body};
 ghost use Rattle.segment_layouts.specs.SegmentExamples.{HasByteEach, bare_bodies, bare_body, bare_segment, one_byte, replacing_bodies};
-ghost use Rattle.segment_layouts.specs.SegmentFiles.{AreMade, IsGroup, IsRecordFile, LeavesGroups, TakesSegments};
+ghost use Rattle.segment_layouts.specs.SegmentFiles.{AreBodies, AreMade, IsGroup, IsRecordFile, LeavesGroups, TakesSegments};
 
 /// A file of three records: nothing, a group of one document, and that group without it. Behind the closed gate anything
 /// may stand.
@@ -37,4 +37,9 @@ pub fn other_bodies_are_damaged()
     ensures byte_3 { IsDamaged TakesSegments (records (bare_body ∷ []) ++ 165 ∷ (sized_body (3 ∷ replicate 8 0) ++ 0 ∷ [])) 37 }
     ensures cut { IsDamaged TakesSegments (records (bare_body ∷ []) ++ 165 ∷ []) 37 }
     ensures whole { (place : ℕ) → ¬ IsDamaged TakesSegments (records (bare_body ∷ bare_bodies) ++ 0 ∷ 165 ∷ []) place }
+{}
+
+/// A new segment of a body is in its layout: a byte is none.
+pub fn new_segments_are_in_their_layout()
+    ensures { ¬ AreBodies (bare_body ∷ segments_body (fresh (7 ∷ []) ∷ []) ((true ∷ []) ∷ []) ∷ []) }
 {}

@@ -4,7 +4,7 @@ use Rattle.std.specs.Prelude.{slice_get}
 use Rattle.definitions.specs.Schema.{Kind, Schema, text_kind}
 use Rattle.definitions.specs.Terms.{term_bytes}
 use Rattle.postings_writer.specs.Writers.{Writer}
-use Rattle.postings_writer_tests.proofs.written_terms.sections.Goals as goal
+use Rattle.postings_tests.proofs.written_terms.sections.Goals as goal
 
 spelled : (text : List ℕ) → (0 ∷ 0 ∷ 0 ∷ 0 ∷ 115 ∷ []) ++ text ≡ term_bytes 0 text_kind text
 spelled text = refl

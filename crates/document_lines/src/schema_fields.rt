@@ -1,5 +1,6 @@
 //! Fields that are added to a schema, by their options' names.
 
+use crate::added_values::{part, text_in};
 use case_lines::{Refusal, number, text};
 use definitions::Fault;
 use options::{
@@ -16,19 +17,12 @@ pub(crate) fn answer_to_add(
     builder: &mut SchemaBuilder,
     field: &Value,
 ) -> Result<Value, Refusal> {
-    let kind = part(field, 0)?;
-    let name = part(field, 1)?;
-    match add(builder, kind, name, part(field, 2)?)? {
+    let kind = text_in(part(field, 0)?)?;
+    let name = text_in(part(field, 1)?)?;
+    match add(builder, kind, name, text_in(part(field, 2)?)?)? {
         Ok(field) => Ok(number(u64::from(field.field_id()))),
         Err(fault) => Ok(text(alloc, fault.name())?),
     }
-}
-
-/// The text at a place of a list.
-fn part(list: &Value, place: usize) -> Result<&str, Refusal> {
-    list.get(place)
-        .and_then(Value::as_str)
-        .ok_or(Refusal::NotAsked)
 }
 
 /// Adds a field.
