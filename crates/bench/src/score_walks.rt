@@ -23,6 +23,7 @@ const RUNS: u32 = 60;
 const WEIGHTS: [u64; 2] = [1000, 1_000_000_000_000];
 
 /// What a term is scored by.
+#[derive(Drop)]
 struct Scoring<'a> {
     weight: u64,
     ids: &'a [u8],
@@ -57,21 +58,15 @@ fn rows(rt: &HostRuntime, alloc: Global, num_docs: u32) -> Result<(), Fault>
 }
 
 /// Prints what a walk takes.
-fn row(
-    rt: &HostRuntime,
-    bytes: &[u8],
-    num_docs: u32,
-    scoring: &Scoring<'_>,
-) -> Result<(), Fault>
+fn row(rt: &HostRuntime, bytes: &[u8], num_docs: u32, scoring: &Scoring<'_>) -> Result<(), Fault>
     requires { (docs counts : List ℕ) × HasPostings true false num_docs bytes.now docs counts }
 {
     let mut best = u128::MAX;
     let mut plain_best = u128::MAX;
     let mut same = true;
     for _ in 0..RUNS {
-        let begun = now(rt)?;
-        let seen = scored(bytes, num_docs, scoring)?;
-        best = best.min(nanos_since(rt, begun)?);
+        let (nanos, seen) = scored(rt, bytes, num_docs, scoring)?;
+        best = best.min(nanos);
         let begun = now(rt)?;
         let plain_seen = walk_dividing(&mut opened(bytes, num_docs), scoring);
         plain_best = plain_best.min(nanos_since(rt, begun)?);
@@ -130,19 +125,33 @@ fn are_below(postings: &mut SegmentPostings<'_>, num_docs: u32) -> bool
     postings.seek(num_docs) == TERMINATED
 }
 
-/// What a scorer saw that was made from the bytes of its term.
-fn scored(bytes: &[u8], num_docs: u32, scoring: &Scoring<'_>) -> Result<u64, Fault>
+/// The nanoseconds that a scorer took, from the opening of its term on, and what it saw.
+fn scored(
+    clock: &impl Clock,
+    bytes: &[u8],
+    num_docs: u32,
+    scoring: &Scoring<'_>,
+) -> Result<(u128, u64), Fault>
     requires { (docs counts : List ℕ) × HasPostings true false num_docs bytes.now docs counts }
 {
     let count = u32::try_from(scoring.ids.len()).ok().ok_or(Fault::Limit)?;
     let lengths = FieldNormReader::open(scoring.ids, count)?;
-    let norms = scoring.norms;
-    if scoring.weight > MAX_SCORE as u64 || norms.len() != 256 || !rise(norms) {
+    let similarity = similarity(scoring.weight, scoring.norms)?;
+    if !are_below(&mut opened(bytes, num_docs), lengths.num_docs()) {
         return Err(Fault::Limit);
     }
-    let similarity = Similarity::new(scoring.weight as i64, 1, norms);
+    let begun = now(clock)?;
     let postings = opened(bytes, num_docs);
-    Ok(walk(&mut TermScorer::new(postings, lengths, similarity)))
+    let seen = walk(&mut TermScorer::new(postings, lengths, similarity));
+    Ok((nanos_since(clock, begun)?, seen))
+}
+
+/// A weight with norms.
+fn similarity(weight: u64, norms: &[u32]) -> Result<Similarity<'_>, Fault> {
+    if weight > MAX_SCORE as u64 || norms.len() != 256 || !rise(norms) {
+        return Err(Fault::Limit);
+    }
+    Ok(Similarity::new(weight as i64, 1, norms))
 }
 
 /// Goes over all documents with their scores.

@@ -1,7 +1,9 @@
 //! Terms to walk over: each document some 50 behind the one before, with a count of 1 to 4.
 
 ghost use Rattle.std.specs.Prelude.{[], ◌<◌, ◌≡◌, ◌≤◌, IfOk, List, None, OnOk, false, length, true, ℕ};
+ghost use Rattle.segment_postings.specs.Cursors.{entries_left};
 ghost use Rattle.segment_postings.specs.Reading.{HasPostings};
+ghost use Rattle.segment_postings.specs.TermEntries.{entries_of};
 ghost use Rattle.postings_serializer.specs.TermWriting.{AreWritten};
 
 use definitions::Fault;
@@ -60,6 +62,7 @@ pub(crate) fn written(
 /// The cursor at its first document.
 pub(crate) fn opened(bytes: &[u8], num_docs: u32) -> SegmentPostings<'_>
     requires { (docs counts : List ℕ) × HasPostings true false num_docs bytes.now docs counts }
+    ensures { (docs counts : List ℕ) → HasPostings true false num_docs bytes.now docs counts → entries_left result ≡ entries_of docs counts [] }
 {
     let recorded = Recorded {
         counts: true,

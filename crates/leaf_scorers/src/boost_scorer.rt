@@ -21,7 +21,8 @@ impl<S: Scorer> BoostScorer<S> {
     pub fn new(underlying: S, boost: Score) -> BoostScorer<S>
         requires positive { pos 0 ≤ℤ boost }
         requires fits { natural boost * greatest_score (S.entries underlying) ≤ max_score }
-        ensures { ⟦<BoostScorer<S> as DocSet>⟧.entries result ≡ rescored_by (λ e. natural boost * e.score) (S.entries underlying) }
+        ensures { ⟦<BoostScorer<S> as DocSet>⟧.entries result
+            ≡ rescored_by (λ e. natural boost * e.score) (S.entries underlying) }
     {
         BoostScorer {
             underlying,

@@ -31,7 +31,8 @@ impl<D: DocSet> ConstScorer<D> {
 }
 
 impl<D: DocSet> From<D> for ConstScorer<D> {
-    ghost from_gives = { λ docset scorer. ⟦<ConstScorer<D> as DocSet>⟧.entries scorer ≡ rescored_by (λ e. 1) (D.entries docset) };
+    ghost from_gives = { λ docset scorer. ⟦<ConstScorer<D> as DocSet>⟧.entries scorer
+        ≡ rescored_by (λ e. 1) (D.entries docset) };
 
     fn from(docset: D) -> ConstScorer<D> {
         ConstScorer::new(docset, 1)

@@ -25,8 +25,10 @@ impl DisjunctionMaxCombiner {
     pub fn with_tie_breaker(tie_breaker: Score) -> DisjunctionMaxCombiner
         requires positive { pos 0 ≤ℤ tie_breaker }
         requires share { tie_breaker ≤ℤ pos 1000 }
-        ensures answer { (xs : List ℕ) → ⟦<DisjunctionMaxCombiner as ScoreCombiner>⟧.answer result xs ≡ best_and_tie (natural tie_breaker) xs }
-        ensures anew { (xs : List ℕ) → ⟦<DisjunctionMaxCombiner as ScoreCombiner>⟧.anew result xs ≡ best_and_tie (natural tie_breaker) xs }
+        ensures answer { (xs : List ℕ) → ⟦<DisjunctionMaxCombiner as ScoreCombiner>⟧.answer result xs
+            ≡ best_and_tie (natural tie_breaker) xs }
+        ensures anew { (xs : List ℕ) → ⟦<DisjunctionMaxCombiner as ScoreCombiner>⟧.anew result xs
+            ≡ best_and_tie (natural tie_breaker) xs }
         ensures total { ⟦<DisjunctionMaxCombiner as ScoreCombiner>⟧.total result ≡ 0 }
     {
         DisjunctionMaxCombiner {
@@ -38,7 +40,8 @@ impl DisjunctionMaxCombiner {
 }
 
 impl Default for DisjunctionMaxCombiner {
-    ghost is_default = { λ c. ((xs : List ℕ) → ⟦<DisjunctionMaxCombiner as ScoreCombiner>⟧.answer c xs ≡ best_and_tie 0 xs) × (⟦<DisjunctionMaxCombiner as ScoreCombiner>⟧.total c ≡ 0) };
+    ghost is_default = { λ c. ((xs : List ℕ) → ⟦<DisjunctionMaxCombiner as ScoreCombiner>⟧.answer c xs
+        ≡ best_and_tie 0 xs) × (⟦<DisjunctionMaxCombiner as ScoreCombiner>⟧.total c ≡ 0) };
 
     fn default() -> DisjunctionMaxCombiner {
         DisjunctionMaxCombiner::with_tie_breaker(0)

@@ -25,7 +25,8 @@ pub trait ScoreCombiner: Copy {
         requires fits { total self.old + first_score (S.entries scorer.old) ≤ max_score }
         ensures same { S.entries scorer.new ≡ S.entries scorer.old }
         ensures total { total self.new ≤ total self.old + first_score (S.entries scorer.old) }
-        ensures answer { (xs : List ℕ) → answer self.new xs ≡ answer self.old (first_score (S.entries scorer.old) ∷ xs) }
+        ensures answer { (xs : List ℕ) → answer self.new xs
+            ≡ answer self.old (first_score (S.entries scorer.old) ∷ xs) }
         ensures anew { (xs : List ℕ) → anew self.new xs ≡ anew self.old xs };
 
     /// Forgets the scores so far.

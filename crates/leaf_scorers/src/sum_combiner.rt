@@ -15,7 +15,8 @@ pub struct SumCombiner {
 }
 
 impl Default for SumCombiner {
-    ghost is_default = { λ c. ((xs : List ℕ) → ⟦<SumCombiner as ScoreCombiner>⟧.answer c xs ≡ sum xs) × (⟦<SumCombiner as ScoreCombiner>⟧.total c ≡ 0) };
+    ghost is_default = { λ c. ((xs : List ℕ) → ⟦<SumCombiner as ScoreCombiner>⟧.answer c xs ≡ sum xs)
+        × (⟦<SumCombiner as ScoreCombiner>⟧.total c ≡ 0) };
 
     fn default() -> SumCombiner {
         SumCombiner { sum: 0 }

@@ -38,8 +38,8 @@ pub(crate) fn explained(alloc: Global, arguments: &Arguments) -> Result<Value, R
     told(alloc, arguments, Asked::Explanation)
 }
 
-/// What a scorer tells of whether counts are read, documents with counts, their length ids if their field keeps lengths,
-/// a weight, a boost and norms.
+/// What a scorer tells, made of whether counts are read, documents with counts, their length ids if their field keeps
+/// lengths, a weight, a boost and norms.
 fn told(alloc: Global, arguments: &Arguments, asked: Asked) -> Result<Value, Refusal> {
     let docs = docs_in(alloc, arguments.list(1)?)?;
     if docs.len() >= MOST {

@@ -19,7 +19,8 @@ fn write_docs(serializer: &mut PostingsSerializer, docs: &[(u32, u32)]) -> Resul
     requires next { serializer.old.next ≡ 0 }
     requires lengths { serializer.old.norms ≡ None }
     requires nothing { AreWritten serializer.old [] [] }
-    ensures written { OnOk result ((ds counts : List ℕ) × AreWritten serializer.new ds counts × (length ds ≡ length docs.now)) }
+    ensures written { OnOk result ((ds counts : List ℕ) × AreWritten serializer.new ds counts × (length ds
+        ≡ length docs.now)) }
     ensures same { OnOk result ((serializer.new.option ≡ serializer.old.option) × (serializer.new.norms ≡ None)) }
 {
     let mut next = 0;
@@ -37,7 +38,8 @@ fn write_docs(serializer: &mut PostingsSerializer, docs: &[(u32, u32)]) -> Resul
 /// The bytes of a term's postings with counts.
 pub(crate) fn written(alloc: Global, docs: &[(u32, u32)]) -> Result<Vec<u8>, Refusal>
     requires { length docs.now < 1000000 }
-    ensures { IfOk result (λ bytes. (ds counts : List ℕ) × HasPostings true false (length docs.now) bytes.items ds counts) }
+    ensures { IfOk result (λ bytes. (ds counts : List ℕ)
+        × HasPostings true false (length docs.now) bytes.items ds counts) }
 {
     let mut serializer = PostingsSerializer::new(alloc, IndexRecordOption::WithFreqs, None);
     let mut bytes = Vec::new(alloc);
@@ -49,7 +51,8 @@ pub(crate) fn written(alloc: Global, docs: &[(u32, u32)]) -> Result<Vec<u8>, Ref
 /// The cursor at its first document. Where counts aren't read each is 1.
 pub(crate) fn opened(bytes: &[u8], num_docs: u32, reads_counts: bool) -> SegmentPostings<'_>
     requires { (ds counts : List ℕ) × HasPostings true false num_docs bytes.now ds counts }
-    ensures { (ds counts : List ℕ) → HasPostings true false num_docs bytes.now ds counts → entries_left result ≡ entries_of ds (if reads_counts then counts else replicate num_docs 1) [] }
+    ensures { (ds counts : List ℕ) → HasPostings true false num_docs bytes.now ds counts → entries_left result
+        ≡ entries_of ds (if reads_counts then counts else replicate num_docs 1) [] }
 {
     let recorded = Recorded {
         counts: true,

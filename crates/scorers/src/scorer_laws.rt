@@ -12,5 +12,9 @@ ghost use Rattle.term_scorer.specs.TermScores.{score_by};
 
 /// What the count and the length id of a document earn is its score by the definitions.
 pub fn term_scores_are_those_of_definitions()
-    ensures { (schema : Schema) (analyze : Analyzer) (sim : Similarity) (doc : Document) (t : List ℕ) (option : IndexRecordOption) (b : ℕ) → score_by (record { weight = sim.weight t; boost = b; norms = sim.norms }) (length_id schema analyze (field_of t) doc) (query_count schema analyze t option doc) ≡ score schema analyze sim doc b (term t option) }
+    ensures { (schema : Schema) (analyze : Analyzer) (sim : Similarity) (doc : Document)
+        (t : List ℕ) (option : IndexRecordOption) (b : ℕ)
+        → score_by (record { weight = sim.weight t; boost = b; norms = sim.norms })
+        (length_id schema analyze (field_of t) doc) (query_count schema analyze t option doc)
+        ≡ score schema analyze sim doc b (term t option) }
 {}

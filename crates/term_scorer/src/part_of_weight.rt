@@ -3,8 +3,8 @@
 ghost use Rattle.std.specs.Prelude.{◌*◌, ◌/◌, ◌<◌, ◌≡◌, ◌≤◌};
 ghost use Rattle.definitions.specs.Scoring.{part};
 
-/// The part of a weight that a count earns beside a norm. It divides by 32 bits where that is enough, and by 128 where the
-/// weight times the count passes 64.
+/// The part of a weight that a count earns beside a norm. It divides by 32 bits where that is enough, and by 128
+/// where the weight times the count passes 64.
 #[inline]
 pub(crate) fn part_of_weight(weight: u64, count: u32, norm: u32) -> u64
     ensures { result ≡ part weight count norm }

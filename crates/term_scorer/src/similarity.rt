@@ -37,7 +37,8 @@ impl<'a> Similarity<'a> {
         requires fits { natural boost * natural weight ≤ max_score }
         requires norm_for_each { length norms.now ≡ 256 }
         requires rises { DontFall norms.now }
-        ensures { similarity_data result ≡ record { weight = natural weight; boost = natural boost; norms = norms.now } }
+        ensures { similarity_data result
+            ≡ record { weight = natural weight; boost = natural boost; norms = norms.now } }
     {
         Similarity {
             weight: weight as u64,
@@ -69,7 +70,8 @@ impl<'a> Similarity<'a> {
         fieldnorm_id: u8,
         term_freq: u32,
     ) -> Result<Explanation, AllocError>
-        ensures { IfOk result (λ explanation. explained_value explanation ≡ pos (score_by (similarity_data self.now) fieldnorm_id term_freq)) }
+        ensures { IfOk result (λ explanation. explained_value explanation
+            ≡ pos (score_by (similarity_data self.now) fieldnorm_id term_freq)) }
     {
         let score = self.score(fieldnorm_id, term_freq);
         let factors = [

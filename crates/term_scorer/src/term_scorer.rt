@@ -38,7 +38,8 @@ impl<'a> TermScorer<'a> {
         similarity: Similarity<'a>,
     ) -> TermScorer<'a>
         requires { from (length fieldnorm_reader) (entries_left postings) ≡ [] }
-        ensures entries { scored_left result ≡ term_scored (similarity_data similarity.entry) fieldnorm_reader.entry (entries_left postings.entry) }
+        ensures entries { scored_left result
+            ≡ term_scored (similarity_data similarity.entry) fieldnorm_reader.entry (entries_left postings.entry) }
         ensures lengths { length_ids result ≡ fieldnorm_reader.entry }
         ensures similarity { similarity_of result ≡ similarity_data similarity.entry }
     {
@@ -70,7 +71,8 @@ impl<'a> TermScorer<'a> {
     /// The boost times the weight. No score is above it.
     pub fn max_score(&self) -> Score
         ensures value { result ≡ pos ((similarity_of self.now).boost * (similarity_of self.now).weight) }
-        ensures greatest { greatest_score (scored_left self.now) ≤ (similarity_of self.now).boost * (similarity_of self.now).weight }
+        ensures greatest { greatest_score (scored_left self.now)
+            ≤ (similarity_of self.now).boost * (similarity_of self.now).weight }
     {
         self.similarity.max_score()
     }
@@ -78,7 +80,8 @@ impl<'a> TermScorer<'a> {
     /// The score of the current document, and what it follows from.
     pub fn explain(&self, alloc: Global) -> Result<Explanation, AllocError>
         requires { first (scored_left self.now) < terminated }
-        ensures { IfOk result (λ explanation. explained_value explanation ≡ pos (first_score (scored_left self.now))) }
+        ensures { IfOk result (λ explanation. explained_value explanation
+            ≡ pos (first_score (scored_left self.now))) }
     {
         self.similarity
             .explain(alloc, self.fieldnorm_id(), self.term_freq())

@@ -1,0 +1,12 @@
+use Rattle.std.proofs.Common.{ap, length, sym, ◌∙◌}
+use Rattle.cursors.specs.Entries.{from}
+use Rattle.segment_postings.specs.Cursors.{entries_left}
+use Rattle.bench.proofs.score_walks.scored.Goals as goal
+
+pub new-requires : goal.new-requires
+new-requires g c =
+    let ds = c.requires.0 in
+    let counts = c.requires.1 in
+    let h = c.requires.2 in
+    let same = c.opened.ensures ds counts h ∙ sym (c.opened-postings.ensures ds counts h) in
+    sym (ap (from (length c.in_ok-lengths.lengths)) same) ∙ (ap (λ n. from n (entries_left c.opened.result)) (sym c.num_docs.ensures) ∙ c.are_below.ensures c.if-not-are_below.false)
