@@ -1,9 +1,9 @@
-//! Operations on sessions: `session`, `requests` and `run`, and a request by itself. Where lines go in or come out, `|` stands
-//! for a newline.
+//! Operations on sessions: `session`, `requests`, `end` and `run`, and a request by itself. Where lines go in or come out,
+//! `|` stands for a newline.
 
 use crate::answers::ok;
 use crate::cases::Cases;
-use common::{RawAndDefault, RunFault};
+use common::{Device, RawAndDefault, RunFault};
 use definitions::Fault;
 use index::{Session, reply, run, run_session};
 use std::alloc::Global;
@@ -18,6 +18,7 @@ impl Cases {
         let answer = match operation {
             "session" => self.begin()?,
             "requests" => self.requests(arguments)?,
+            "end" => self.end()?,
             "run" => self.run(arguments)?,
             _ => return Ok(None),
         };
@@ -50,6 +51,16 @@ impl Cases {
         let mut output = Vec::new(self.alloc);
         let ended = run_session(&mut input.as_bytes(), &mut output, session);
         written(self.alloc, ended, &output)
+    }
+
+    /// Ends the session; what its device holds is the file from now on.
+    fn end(&mut self) -> Result<String, Fault> {
+        let Some(session) = self.session.take() else {
+            return Err(Fault::NotOpen);
+        };
+        let (mut device, _analyzer) = session.into_device();
+        self.file = device.read(self.alloc)?;
+        ok(self.alloc)
     }
 
     /// What a run over the file writes for lines.
