@@ -1,35 +1,51 @@
 //! No document.
 
-ghost use Rattle.std.specs.Prelude.{[]};
+ghost use Rattle.std.specs.Prelude.{[], ◌≡◌};
 
+use crate::all_scorer::AllScorer;
 use crate::scorer::Scorer;
-use common::{DocId, Score, TERMINATED};
+use common::{DocId, Score};
 use cursors::DocSet;
 
-/// No document: it stands at the end.
-#[derive(Clone, Copy, Debug)]
-pub struct EmptyScorer;
+/// No document: it stands at the end, as all documents below 0 do.
+#[derive(Drop)]
+pub struct EmptyScorer {
+    none: AllScorer,
+}
+
+impl EmptyScorer {
+    /// Stands at the end.
+    pub fn new() -> EmptyScorer
+        ensures { ⟦<EmptyScorer as DocSet>⟧.entries result ≡ [] }
+    {
+        EmptyScorer {
+            none: AllScorer::new(0),
+        }
+    }
+}
 
 impl DocSet for EmptyScorer {
-    ghost entries = { λ s. [] };
+    ghost use Rattle.leaf_scorers.specs.ScoredEntryLaws.{rising_all};
+
+    ghost entries = { λ s. ⟦<AllScorer as DocSet>⟧.entries s.none };
 
     fn advance(&mut self) -> DocId {
-        self.doc()
+        self.none.advance()
     }
 
     fn doc(&self) -> DocId {
-        TERMINATED
+        self.none.doc()
     }
 
     fn size_hint(&self) -> u32 {
-        0
+        self.none.size_hint()
     }
 
-    ghost rising = { λ s. tt };
+    ghost rising = { λ s. rising_all s.none.doc s.none.max_doc s.none.small };
 }
 
 impl Scorer for EmptyScorer {
     fn score(&mut self) -> Score {
-        0
+        self.none.score()
     }
 }

@@ -27,7 +27,7 @@ fn all_below(max_doc: u32) -> Result<AllScorer, Refusal> {
 
 /// No document.
 pub(crate) fn none(alloc: Global, arguments: &Arguments) -> Result<Value, Refusal> {
-    moved(alloc, &mut EmptyScorer, arguments.list(0)?)
+    moved(alloc, &mut EmptyScorer::new(), arguments.list(0)?)
 }
 
 /// The documents below a number, with a constant score.
