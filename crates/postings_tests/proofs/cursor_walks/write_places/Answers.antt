@@ -33,7 +33,7 @@ loop-place-preserved c =
     let long : length xs ≡ count = omega (arith, length-take count all, some) in
     let small = small_sum c.loop-place.place (omega (arith, within, few)) in
     let has = one_more counts lists c.loop-place.positions.1 xs count so_far.0.5 long (omega (arith, small, sum_taken count all)) in
-    let moved = c.in_ok-write_positions_delta.ensures in
+    let moved = c.in_ok-write_positions_delta.ensures.ok in
     let P : ℕ → Type 0 = λ n. HasPositions (counts ++ n ∷ []) (lists ++ places 0 xs ∷ []) (c.loop-place.positions.1 ++ xs) in
     let Q : List ℕ → Type 0 = λ ns. HasPositions (counts ++ recorded_count c.loop-place.serializer.option count ∷ []) (lists ++ places 0 xs ∷ []) ns in
     ((docs ++ doc ∷ [], counts ++ recorded_count c.loop-place.serializer.option count ∷ [], lists ++ places 0 xs ∷ [], c.in_ok-write_doc.ensures.written docs counts so_far.0.3, omega (arith, many, length-append docs (doc ∷ [])), subst Q (sym (ap (λ p. p.1) moved)) (subst P (sym counted) has)), omega (arith, next), same.2 ∙ so_far.2, same.1 ∙ so_far.3, ap (λ p. p.0) moved ∙ so_far.4)
