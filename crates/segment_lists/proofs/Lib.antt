@@ -1,0 +1,5 @@
+-- Lemmas behind the laws of rows.
+pub mod RowsLeft
+pub mod Deletings
+pub mod Commits
+pub mod Merges

@@ -1,0 +1,3 @@
+-- The lists that an index over segments stands on: documents that may be dead, and what waits for a commit.
+pub mod Rows
+pub mod Waiting
