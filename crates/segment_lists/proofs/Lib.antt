@@ -3,3 +3,4 @@ pub mod RowsLeft
 pub mod Deletings
 pub mod Commits
 pub mod Merges
+pub mod FoundLive

@@ -4,10 +4,14 @@ ghost use Rattle.std.specs.Prelude.{[], ◌+◌, ◌++◌, ◌-◌, ◌∷◌, �
 ghost use Rattle.std.specs.List.{list_any};
 ghost use Rattle.definitions.specs.Alive.{Segment, live, live_groups};
 ghost use Rattle.definitions.specs.Analyzers.{Analyzer};
+ghost use Rattle.definitions.specs.Query.{Query};
 ghost use Rattle.definitions.specs.Recorded.{holds};
+ghost use Rattle.definitions.specs.Scanning.{ranked, scan};
 ghost use Rattle.definitions.specs.Schema.{Schema};
+ghost use Rattle.definitions.specs.Scoring.{Similarity};
 ghost use Rattle.definitions.specs.State.{State, after_commit, as_group, deleted_terms, living, merged};
 ghost use Rattle.definitions.specs.Values.{Document};
+ghost use Rattle.segment_lists.specs.Found.{places_from, shown_at};
 ghost use Rattle.segment_lists.specs.Rows.{cut_flags, flagged, left_rows, struck};
 ghost use Rattle.segment_lists.specs.Waiting.{Numbered, Waits, pending_rows, struck_from};
 
@@ -46,4 +50,12 @@ pub fn numbered_deletions_cover_earlier_documents()
     ensures behind { (has : List ℕ → Document → Bool) (t : List ℕ) (n i : ℕ) (rows : Segment) → n ≤ i → struck_from has ((t, n) ∷ []) i rows ≡ rows }
     ensures cut { (has : List ℕ → Document → Bool) (t : List ℕ) (k i : ℕ) (docs : List Document) (flags : List Bool)
         → flagged docs (cut_flags k (map (λ doc. not (has t doc)) docs) flags) ≡ struck_from has ((t, i + k) ∷ []) i (flagged docs flags) }
+{}
+
+/// The best places over segments, by score and then by place, shown with their stored values, are the hits of a plain scan
+/// over the living documents, one segment after the other.
+pub fn the_best_over_segments_are_those_of_a_scan()
+    ensures { (schema : Schema) (analyze : Analyzer) (sim : Similarity) (q : Query) (rows : List Segment) (k : ℕ)
+        → map (shown_at schema rows) (take k (ranked (λ p. p.score) (places_from schema analyze sim q 0 rows)))
+        ≡ scan schema analyze sim (live rows) q k }
 {}
