@@ -1,0 +1,6 @@
+-- Lemmas behind the bodies of segments.
+pub mod PartsBack
+pub mod SetsBack
+pub mod BodiesBack
+pub mod PlacesFollow
+pub mod FilesCut

@@ -1,0 +1,4 @@
+-- How the bodies of segments are read.
+pub mod Parts
+pub mod Bodies
+pub mod Places

@@ -1,0 +1,113 @@
+//! Bodies of segments. A part is a number, the place of a kept segment, or the hexadecimal digits of a new one; an alive
+//! set is a text of a `1` for each document that is alive and a `0` for each that isn't.
+
+use case_lines::{Arguments, Refusal, bytes_of_digits, flag, hex, number, pair, text};
+use common::AliveBitSet;
+use definitions::Fault;
+use segment_bodies::{Part, SegmentsBody, places_follow, put_segments_body, read_segments_body};
+use serde_json::Value;
+use std::alloc::{AllocError, Global};
+
+/// The bytes of a body with these parts and alive sets.
+pub(crate) fn put(alloc: Global, arguments: &Arguments) -> Result<Value, Refusal> {
+    let segments = new_segments(alloc, arguments.list(0)?)?;
+    let parts = parts_of(alloc, arguments.list(0)?, &segments)?;
+    let sets = alive_sets(alloc, arguments.list(1)?)?;
+    if parts.len() > u32::MAX as usize {
+        return Err(Refusal::NotAsked);
+    }
+    let mut body = Vec::new(alloc);
+    put_segments_body(alloc, &mut body, &parts, &sets)?;
+    Ok(hex(alloc, &body)?)
+}
+
+/// The parts and the alive sets of a body.
+pub(crate) fn read(alloc: Global, arguments: &Arguments) -> Result<Value, Refusal> {
+    let bytes = arguments.bytes(alloc, 0)?;
+    match read_segments_body(alloc, &bytes)? {
+        Some(body) => Ok(shown(alloc, &body)?),
+        None => Err(Refusal::Fault(Fault::Damaged(None))),
+    }
+}
+
+/// Whether the places of parts follow a list of this length.
+pub(crate) fn follow(alloc: Global, arguments: &Arguments) -> Result<Value, Refusal> {
+    let segments = new_segments(alloc, arguments.list(0)?)?;
+    let parts = parts_of(alloc, arguments.list(0)?, &segments)?;
+    Ok(flag(places_follow(&parts, arguments.number(1)? as usize)))
+}
+
+/// The bytes of each part that is a new segment, and none of the others.
+fn new_segments(alloc: Global, list: &[Value]) -> Result<Vec<Vec<u8>>, Refusal> {
+    let mut segments = Vec::new(alloc);
+    for value in list {
+        let segment = match value.as_str() {
+            Some(_) => bytes_of_digits(alloc, value)?,
+            None => Vec::new(alloc),
+        };
+        segments.push(segment)?;
+    }
+    Ok(segments)
+}
+
+/// The parts of a list, with the bytes of its new segments.
+fn parts_of<'a>(
+    alloc: Global,
+    list: &[Value],
+    segments: &'a [Vec<u8>],
+) -> Result<Vec<Part<'a>>, Refusal> {
+    let mut parts = Vec::new(alloc);
+    for (value, segment) in list.iter().zip(segments) {
+        parts.push(match value.as_u64() {
+            Some(place) => Part::Kept(u32::try_from(place).ok().ok_or(Refusal::NotAsked)?),
+            None => Part::Fresh(segment),
+        })?;
+    }
+    Ok(parts)
+}
+
+/// The alive sets of a list of texts.
+fn alive_sets(alloc: Global, list: &[Value]) -> Result<Vec<AliveBitSet>, Refusal> {
+    let mut sets = Vec::new(alloc);
+    for value in list {
+        sets.push(alive_set(alloc, value.as_str().ok_or(Refusal::NotAsked)?)?)?;
+    }
+    Ok(sets)
+}
+
+/// The alive set of a text.
+fn alive_set(alloc: Global, flags: &str) -> Result<AliveBitSet, Refusal> {
+    let num_docs = u32::try_from(flags.len()).ok().ok_or(Refusal::NotAsked)?;
+    let mut set = AliveBitSet::for_max_doc(alloc, num_docs)?;
+    for (doc, byte) in flags.as_bytes().iter().enumerate() {
+        if *byte == b'0' && doc < set.len() {
+            set.kill(doc as u32);
+        }
+    }
+    Ok(set)
+}
+
+/// The parts and the alive sets of a body, as they are written in a line.
+fn shown(alloc: Global, body: &SegmentsBody<'_>) -> Result<Value, AllocError> {
+    let mut parts = Vec::new(alloc);
+    for part in &body.parts {
+        parts.push(match part {
+            Part::Kept(place) => number(u64::from(*place)),
+            Part::Fresh(segment) => hex(alloc, segment)?,
+        })?;
+    }
+    let mut sets = Vec::new(alloc);
+    for set in &body.alive {
+        sets.push(shown_set(alloc, set)?)?;
+    }
+    pair(alloc, Value::Array(parts), Value::Array(sets))
+}
+
+/// An alive set as a text.
+fn shown_set(alloc: Global, set: &AliveBitSet) -> Result<Value, AllocError> {
+    let mut flags = String::new(alloc);
+    for doc in 0..set.len() {
+        flags.push(if set.is_alive(doc as u32) { '1' } else { '0' })?;
+    }
+    text(alloc, &flags)
+}

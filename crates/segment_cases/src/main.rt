@@ -1,0 +1,25 @@
+//! `segment_cases`: answers worked cases on the records that list segments. Each line of standard input is a case, an
+//! operation and its arguments, and the line of standard output with the same number is its answer.
+#![tactic(auto)]
+
+mod bodies;
+mod operations;
+
+use case_lines::answers;
+use operations::SegmentOperations;
+use std::io;
+use std::process::ExitCode;
+
+fn main(rt: HostRuntime) -> ExitCode {
+    let alloc = rt.alloc();
+    let Ok(text) = io::read_to_string(alloc, rt.reader()) else {
+        return ExitCode::FAILURE;
+    };
+    let Ok(answers) = answers(alloc, &mut SegmentOperations { alloc }, &text) else {
+        return ExitCode::FAILURE;
+    };
+    match print!(rt; "{answers}") {
+        Ok(()) => ExitCode::SUCCESS,
+        Err(_) => ExitCode::FAILURE,
+    }
+}
