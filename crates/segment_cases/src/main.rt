@@ -2,8 +2,8 @@
 //! operation and its arguments, and the line of standard output with the same number is its answer.
 #![tactic(auto)]
 
-mod bodies;
 mod operations;
+mod record_bodies;
 
 use case_lines::answers;
 use operations::SegmentOperations;

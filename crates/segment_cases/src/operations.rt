@@ -1,6 +1,6 @@
 //! Operations by their names.
 
-use crate::bodies;
+use crate::record_bodies;
 use case_lines::{Arguments, Operations, Refusal};
 use serde_json::Value;
 use std::alloc::Global;
@@ -15,9 +15,9 @@ impl Operations for SegmentOperations {
     fn answer(&mut self, operation: &str, arguments: &Arguments) -> Result<Value, Refusal> {
         let alloc = self.alloc;
         match operation {
-            "put-body" => bodies::put(alloc, arguments),
-            "read-body" => bodies::read(alloc, arguments),
-            "places-follow" => bodies::follow(alloc, arguments),
+            "put-body" => record_bodies::put(alloc, arguments),
+            "read-body" => record_bodies::read(alloc, arguments),
+            "places-follow" => record_bodies::follow(alloc, arguments),
             _ => Err(Refusal::NotAsked),
         }
     }
