@@ -8,4 +8,5 @@ pub mod Caches
 pub mod Slots
 pub mod Stacking
 pub mod Walking
+pub mod Iterations
 pub mod DocumentSlots

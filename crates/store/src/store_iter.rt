@@ -20,10 +20,12 @@ pub struct StoreIter<'a> {
 }
 
 impl<'a> StoreIter<'a> {
+    ghost use Rattle.store.specs.Iterations.{flags_of, place_of, reader_of};
+
     /// The next document that is due.
     fn due(&self) -> Option<u32>
-        ensures first { IsFirst (is_due (count_of self.now.reader.now.blocks) (option_map (λ a. a.now) self.now.alive)) self.now.doc result }
-        ensures within { IfSome result (λ doc. (doc < count_of self.now.reader.now.blocks) × (count_of self.now.reader.now.blocks < 2 ^ 32)) }
+        ensures first { IsFirst (is_due (count_of (reader_of self.now).blocks) (flags_of self.now)) (place_of self.now) result }
+        ensures within { IfSome result (λ doc. (doc < count_of (reader_of self.now).blocks) × (count_of (reader_of self.now).blocks < 2 ^ 32)) }
     {
         let doc = match self.alive {
             Some(alive) => alive.first_alive_from(self.doc)?,
@@ -38,11 +40,13 @@ impl<'a> StoreIter<'a> {
 }
 
 impl<'a> Iterator for StoreIter<'a> {
+    ghost use Rattle.store.specs.Iterations.{flags_of, place_of, reader_of};
+
     type Item = Result<Bytes, Fault>;
 
-    ghost remaining = { λ i. at_most (count_of i.reader.now.blocks - i.doc) };
+    ghost remaining = { λ i. at_most (count_of (reader_of i).blocks - place_of i) };
 
-    ghost next_gives = { λ a r b. IsNext (option_map (λ s. s.now) a.alive) a.reader.now a.doc r b.reader.now b.doc × (b.alive ≡ a.alive) };
+    ghost next_gives = { λ a r b. IsNext (flags_of a) (reader_of a) (place_of a) r (reader_of b) (place_of b) × (flags_of b ≡ flags_of a) };
 
     fn next(&mut self) -> Option<Result<Bytes, Fault>> {
         let doc = self.due()?;

@@ -1,6 +1,6 @@
 //! Reading a store: documents by their numbers, from blocks that are opened when they are reached.
 
-ghost use Rattle.std.specs.Prelude.{[], ◌-◌, ◌<◌, ◌≡◌, ◌≤◌, IfErr, IfOk, List, None, OnErr, OnOk, Some, length, slice_index_or, ℕ};
+ghost use Rattle.std.specs.Prelude.{[], ◌-◌, ◌<◌, ◌≡◌, ◌≤◌, IfErr, IfOk, List, None, OnErr, OnOk, Some, length, option_map, slice_index_or, ℕ};
 ghost use Rattle.layouts.specs.Stores.{AreBlocks, Hold, IsBlock, IsStore, checkpoints, data_of, store_bytes};
 ghost use Rattle.store.specs.Caches.{looked_up, none_kept, opened, stats_of};
 ghost use Rattle.store.specs.Reading.{IsBlockOf};
@@ -79,6 +79,8 @@ fn slot_of(block: Bytes, reach: &Checkpoint, doc: u32) -> Bytes
 }
 
 impl StoreReader {
+    ghost use Rattle.store.specs.Iterations.{flags_of, place_of, reader_of};
+
     /// Reads a store. Its footer and its skip index are checked whole; its blocks aren't.
     pub fn open(alloc: Global, file: Bytes, cache_num_blocks: usize) -> Result<StoreReader, Fault>
         ensures ok { IfOk result (λ r. AreBlocks r.blocks × (file ≡ store_bytes r.blocks)) }
@@ -170,9 +172,9 @@ impl StoreReader {
     /// The documents in order, or those of them that are alive; a document past the alive set isn't. A
     /// block is looked up once, when a document of it is reached.
     pub fn iter<'a>(&'a mut self, alive_bitset: Option<&'a AliveBitSet>) -> StoreIter<'a>
-        ensures doc { result.doc ≡ 0 }
-        ensures alive { result.alive ≡ alive_bitset.entry }
-        ensures reader { result.reader.now ≡ reader self.old.blocks self.old.kept None }
+        ensures place { place_of result ≡ 0 }
+        ensures alive { flags_of result ≡ option_map (λ alive. alive.now) alive_bitset.entry }
+        ensures reader { reader_of result ≡ reader self.old.blocks self.old.kept None }
     {
         self.current = None;
         StoreIter {
