@@ -1,0 +1,45 @@
+-- Laws of the documents that enough lists have.
+use Rattle.std.proofs.Common.{[], List, ap, arith, false, le-leb, length, map, nat_le, refl, sym, true, ◌+◌, ◌<◌, ◌∙◌, ◌∷◌, ◌≡◌, ◌≤◌, ℕ}
+use Rattle.std.proofs.lemmas.Bool.{lt-leb}
+use Rattle.definitions.specs.Postings.{terminated}
+use Rattle.cursors.specs.Entries.{Entry, from}
+use Rattle.leaf_scorers.specs.ScoredEntryLaws.{by_place}
+use Rattle.members.specs.Members.{at_document, at_least, enough, entries_at, least, listed}
+use Rattle.members.specs.MemberLaws.{entries_at-cut, entries_at-kept, from-listed, listed-end, listed-found, listed-same, listed-skip}
+
+pub too_few : (minimum : ℕ) (ess : List (List Entry)) (d : ℕ) → length (entries_at d ess) < minimum → enough minimum ess d ≡ false
+too_few minimum ess d l = lt-leb minimum (length (entries_at d ess)) l
+
+-- those before the least can be passed
+pub chosen-low : (minimum : ℕ) (make : ℕ → List Entry → Entry) (ess : List (List Entry)) → 1 ≤ minimum → least ess ≤ terminated → ((d : ℕ) → d < least ess → entries_at d ess ≡ []) → at_least minimum make ess ≡ listed (enough minimum ess) (λ d. make d (entries_at d ess)) (least ess)
+chosen-low minimum make ess some small none = listed-skip (enough minimum ess) (λ d. make d (entries_at d ess)) 0 (least ess) (omega arith) small (λ d b h. too_few minimum ess d (let gone = ap length (none d h) in omega (arith, gone, some)))
+
+-- a cut of all lists is a cut of what is chosen
+pub chosen-from : (minimum : ℕ) (make : ℕ → List Entry → Entry) (ess : List (List Entry)) (t : ℕ) → 1 ≤ minimum → t ≤ terminated → at_least minimum make (map (from t) ess) ≡ from t (at_least minimum make ess)
+chosen-from minimum make ess t some small =
+    listed-skip (enough minimum (map (from t) ess)) (λ d. make d (entries_at d (map (from t) ess))) 0 t (omega arith) small (λ d b h. too_few minimum (map (from t) ess) d (let gone = ap length (entries_at-cut d t ess h) in omega (arith, gone, some)))
+    ∙ (listed-same (enough minimum (map (from t) ess)) (enough minimum ess) (λ d. make d (entries_at d (map (from t) ess))) (λ d. make d (entries_at d ess)) t (λ d l h. ap (λ xs. nat_le minimum (length xs)) (entries_at-kept d t ess l)) (λ d l h. ap (make d) (entries_at-kept d t ess l))
+    ∙ sym (from-listed (enough minimum ess) (λ d. make d (entries_at d ess)) 0 t (omega arith) small))
+
+-- the least document is chosen
+pub chosen-here : (minimum : ℕ) (make : ℕ → List Entry → Entry) (ess : List (List Entry)) → 1 ≤ minimum → least ess < terminated → ((d : ℕ) → d < least ess → entries_at d ess ≡ []) → minimum ≤ length (entries_at (least ess) ess) → at_least minimum make ess ≡ at_document (least ess) (make (least ess) (entries_at (least ess) ess)) ∷ listed (enough minimum ess) (λ d. make d (entries_at d ess)) (least ess + 1)
+chosen-here minimum make ess some small none many = chosen-low minimum make ess some (omega (arith, small)) none ∙ listed-found (enough minimum ess) (λ d. make d (entries_at d ess)) (least ess) small (le-leb minimum (length (entries_at (least ess) ess)) many)
+
+-- none is
+pub chosen-end : (minimum : ℕ) (make : ℕ → List Entry → Entry) (ess : List (List Entry)) → 1 ≤ minimum → least ess ≡ terminated → ((d : ℕ) → d < least ess → entries_at d ess ≡ []) → at_least minimum make ess ≡ []
+chosen-end minimum make ess some is none = chosen-low minimum make ess some (omega (arith, is)) none ∙ listed-end (enough minimum ess) (λ d. make d (entries_at d ess)) (least ess) (omega (arith, is))
+
+-- where too few lists have the least document, it can be passed
+pub chosen-past : (minimum : ℕ) (make : ℕ → List Entry → Entry) (ess moved : List (List Entry)) (doc : ℕ) → 1 ≤ minimum → doc ≡ least ess → doc < terminated → ((d : ℕ) → d < least ess → entries_at d ess ≡ []) → length (entries_at doc ess) < minimum → moved ≡ map (from (doc + 1)) ess → at_least minimum make moved ≡ at_least minimum make ess
+chosen-past minimum make ess moved doc some is small none few same =
+    ap (at_least minimum make) same
+    ∙ (chosen-from minimum make ess (doc + 1) some (omega (arith, small))
+    ∙ (from-listed (enough minimum ess) (λ d. make d (entries_at d ess)) 0 (doc + 1) (omega arith) (omega (arith, small))
+    ∙ sym (listed-skip (enough minimum ess) (λ d. make d (entries_at d ess)) 0 (doc + 1) (omega arith) (omega (arith, small)) (λ d b h. too_few minimum ess d
+    (by_place doc d (length (entries_at d ess) < minimum)
+    (λ i. (let here : d ≡ doc = omega (arith, i, h) in let size = ap (λ x. length (entries_at x ess)) here in omega (arith, size, few)))
+    (λ o. (let gone = ap length (none d (omega (arith, o, is))) in omega (arith, gone, some))))))))
+
+-- makers that agree make one list
+pub same-making : (minimum : ℕ) (f g : ℕ → List Entry → Entry) (ess : List (List Entry)) → ((d : ℕ) (es : List Entry) → f d es ≡ g d es) → at_least minimum f ess ≡ at_least minimum g ess
+same-making minimum f g ess same = listed-same (enough minimum ess) (enough minimum ess) (λ d. f d (entries_at d ess)) (λ d. g d (entries_at d ess)) 0 (λ d l h. refl) (λ d l h. same d (entries_at d ess))

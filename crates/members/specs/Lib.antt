@@ -1,0 +1,4 @@
+pub mod Members
+pub mod MemberLaws
+pub mod AtLeastLaws
+pub mod ChangedLists
