@@ -124,6 +124,11 @@ listed-stands f s d l e = (elim (f d) as (λ b. f d ≡ b → b ≡ true) [
   | false ↦ (λ h. let later = ap first (listed-out f s d l h) in let far = listed-later f s (d + 1) (omega (arith, l)) in absurd (omega (arith, e, later, far)))
 ]) refl
 
+-- nothing is before document 0
+pub from-zero : (es : List Entry) → from 0 es ≡ es
+from-zero [] = refl
+from-zero (e ∷ es) = from-in 0 e es (omega arith) ∙ ap (λ xs. e ∷ xs) (from-zero es)
+
 -- ---- entries in lists
 
 -- a list hasn't what comes before it
@@ -160,6 +165,18 @@ one-first (e ∷ es) l = (refl, refl)
 -- the score on which a list stands
 pub scores-on : (d : ℕ) (es : List Entry) → Rising 0 es → first es ≡ d → d < terminated → scores_in (entries_of d es) ≡ first_score es ∷ []
 scores-on d es r e l = ap scores_in (entries-on d es r e l) ∙ (one-first es (omega (arith, e, l))).1
+
+-- it has no document twice
+pub one-entry : (d low : ℕ) (es : List Entry) → Rising low es → length (entries_of d es) ≤ 1
+one-entry d low [] r = omega arith
+one-entry d low (e ∷ es) r =
+    let ih = one-entry d (e.doc + 1) es r.3 in
+    (elim (d == e.doc) as (λ b. (d == e.doc) ≡ b → length (if b then e ∷ entries_of d es else entries_of d es) ≤ 1) [
+      | true ↦ (λ h. let same : d ≡ e.doc = grind (arith, nat_tests, h) in
+          let none = ap length (entries-before d (e.doc + 1) es r.3 (omega (arith, same))) in
+          let goal : length (e ∷ entries_of d es) ≤ 1 = omega (arith, none) in goal)
+      | false ↦ (λ h. ih)
+    ]) refl
 
 -- a cut takes nothing behind it
 pub entries-kept : (d t : ℕ) (es : List Entry) → t ≤ d → entries_of d (from t es) ≡ entries_of d es
@@ -203,7 +220,8 @@ scores-then xs ys zs = ap (λ ss. ss ++ zs) (scores-append xs ys) ∙ append_ass
 pub sum-scores : (xs ys : List Entry) → sum (scores_in (xs ++ ys)) ≡ sum (scores_in xs) + sum (scores_in ys)
 sum-scores xs ys = ap sum (scores-append xs ys) ∙ sum-append (scores_in xs) (scores_in ys)
 
-sum-before : (d low : ℕ) (es : List Entry) → Rising low es → sum (scores_in (entries_of d es)) ≤ greatest_score es
+-- the scores of a document in one list
+pub sum-before : (d low : ℕ) (es : List Entry) → Rising low es → sum (scores_in (entries_of d es)) ≤ greatest_score es
 sum-before d low [] r = omega arith
 sum-before d low (e ∷ es) r =
     let ih = sum-before d (e.doc + 1) es r.3 in
@@ -223,6 +241,33 @@ sum-greatest entries rising d (x ∷ xs) =
     let here = sum-before d 0 (entries x) (rising x) in
     let both = sum-scores (entries_of d (entries x)) (entries_at d (map entries xs)) in
     omega (arith, ih, here, both)
+
+-- no more lists have a document than there are
+pub few-have : {X : Type 0} (entries : X → List Entry) → ((x : X) → Rising 0 (entries x)) → (d : ℕ) (xs : List X) → length (entries_at d (map entries xs)) ≤ length xs
+few-have entries rising d [] = omega arith
+few-have entries rising d (x ∷ xs) =
+    let ih = few-have entries rising d xs in
+    let here = one-entry d 0 (entries x) (rising x) in
+    let both = length-append (entries_of d (entries x)) (entries_at d (map entries xs)) in
+    omega (arith, ih, here, both)
+
+-- fewer have it where one hasn't
+pub one-lacks : {X : Type 0} (entries : X → List Entry) → ((x : X) → Rising 0 (entries x)) → (d i : ℕ) (xs : List X) → i < length xs → entries_of d (get_or (map entries xs) i []) ≡ [] → length (entries_at d (map entries xs)) < length xs
+one-lacks entries rising d i [] l none = absurd (omega (arith, l))
+one-lacks entries rising d zero (x ∷ xs) l none =
+    let here = ap length none in
+    let rest = few-have entries rising d xs in
+    let both = length-append (entries_of d (entries x)) (entries_at d (map entries xs)) in
+    omega (arith, here, rest, both)
+one-lacks entries rising d (suc i) (x ∷ xs) l none =
+    let ih = one-lacks entries rising d i xs (omega (arith, l)) none in
+    let here = one-entry d 0 (entries x) (rising x) in
+    let both = length-append (entries_of d (entries x)) (entries_at d (map entries xs)) in
+    omega (arith, ih, here, both)
+
+-- lists that are the same from a document on have the same later
+pub same-from : (t d : ℕ) (ess fss : List (List Entry)) → map (from t) ess ≡ map (from t) fss → t ≤ d → entries_at d ess ≡ entries_at d fss
+same-from t d ess fss e l = sym (entries_at-kept d t ess l) ∙ (ap (entries_at d) e ∙ entries_at-kept d t fss l)
 
 -- a cut takes scores away
 pub sums-cut : (t d : ℕ) (ess : List (List Entry)) → sum (scores_in (entries_at d (map (from t) ess))) ≤ sum (scores_in (entries_at d ess))

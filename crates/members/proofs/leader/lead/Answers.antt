@@ -4,7 +4,7 @@ use Rattle.definitions.specs.Postings.{terminated}
 use Rattle.cursors.specs.Entries.{Entry, first, from}
 use Rattle.members.specs.ChangedLists.{changed-get, changed-length, changed-set}
 use Rattle.members.specs.Members.{entries_at, least}
-use Rattle.members.proofs.Leaders.{leader-next}
+use Rattle.members.specs.LeaderLaws.{leader-next}
 use Rattle.members.proofs.leader.lead.Goals as goal
 
 pub loop-i-preserved : goal.loop-i-preserved

@@ -7,18 +7,18 @@ use Rattle.leaf_scorers.specs.ScoredEntryLaws.{by_place}
 use Rattle.members.specs.Members.{entries_at, entries_of, least}
 use Rattle.members.specs.MemberLaws.{entries-least, entries-low, entries-on, one-first}
 
-least-last : (ess : List (List Entry)) (es : List Entry) → least (ess ++ es ∷ []) ≡ min (least ess) (first es)
+pub least-last : (ess : List (List Entry)) (es : List Entry) → least (ess ++ es ∷ []) ≡ min (least ess) (first es)
 least-last [] es = omega arith
 least-last (xs ∷ ess) es = (let ih = least-last ess es in omega (arith, ih))
 
-entries-last : (d : ℕ) (ess : List (List Entry)) (es : List Entry) → entries_at d (ess ++ es ∷ []) ≡ entries_at d ess ++ entries_of d es
+pub entries-last : (d : ℕ) (ess : List (List Entry)) (es : List Entry) → entries_at d (ess ++ es ∷ []) ≡ entries_at d ess ++ entries_of d es
 entries-last d [] es = append-nil (entries_of d es)
 entries-last d (xs ∷ ess) es = ap (λ ys. entries_of d xs ++ ys) (entries-last d ess es) ∙ sym (append_assoc (entries_of d xs) (entries_at d ess) (entries_of d es))
 
-count-last : (d : ℕ) (ess : List (List Entry)) (es : List Entry) → length (entries_at d (ess ++ es ∷ [])) ≡ length (entries_at d ess) + length (entries_of d es)
+pub count-last : (d : ℕ) (ess : List (List Entry)) (es : List Entry) → length (entries_at d (ess ++ es ∷ [])) ≡ length (entries_at d ess) + length (entries_of d es)
 count-last d ess es = ap length (entries-last d ess es) ∙ length-append (entries_at d ess) (entries_of d es)
 
-one-on : (d : ℕ) (es : List Entry) → Rising 0 es → first es ≡ d → d < terminated → length (entries_of d es) ≡ 1
+pub one-on : (d : ℕ) (es : List Entry) → Rising 0 es → first es ≡ d → d < terminated → length (entries_of d es) ≡ 1
 one-on d es r e l = ap length (entries-on d es r e l) ∙ (one-first es (omega (arith, e, l))).0
 
 -- the leader beside one list more is the leader of all

@@ -1,0 +1,4 @@
+pub mod Windows
+pub mod WindowLaws
+pub mod Fillings
+pub mod Choices
