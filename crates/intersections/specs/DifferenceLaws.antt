@@ -1,10 +1,11 @@
 -- Laws of differences.
-use Rattle.std.proofs.Common.{[], Bool, List, ap, arith, drop, false, get_or, if◌then◌else◌, length, le-leb, map, nat_le, refl, suc, sym, true, true≢false, zero, ◌||◌, ◌+◌, ◌<◌, ◌∙◌, ◌∷◌, ◌≡◌, ◌≤◌, ℕ}
+use Rattle.std.proofs.Common.{[], Bool, List, ap, arith, drop, false, get_or, if◌then◌else◌, length, le-leb, map, max, nat_le, refl, suc, sym, true, true≢false, zero, ◌||◌, ◌+◌, ◌<◌, ◌∙◌, ◌∷◌, ◌≡◌, ◌≤◌, ℕ}
 use Rattle.std.proofs.Props.{props}
 use Rattle.definitions.specs.Postings.{terminated}
 use Rattle.cursors.specs.Danger.{Missed}
 use Rattle.cursors.specs.Entries.{Entry, Rising, first, from}
 use Rattle.cursors.specs.EntryLaws.{Rising-from, Rising-lower, from-from, from-in, from-out}
+use Rattle.leaf_scorers.specs.ScoredEntries.{greatest_score}
 use Rattle.leaf_scorers.specs.ScoredEntryLaws.{by_place}
 use Rattle.members.specs.MemberLaws.{entries-kept, entries-low, entries-on, one-first}
 use Rattle.members.specs.Members.{entries_of}
@@ -116,3 +117,13 @@ any-at entries d (suc i) (x ∷ xs) e = ap (λ b. has (entries x) d || b) (any-a
 pub none-any : {X : Type 0} (entries : X → List Entry) (d : ℕ) (xs : List X) → ((k : ℕ) → k < length xs → get_or (map (λ x. has (entries x) d) xs) k false ≡ false) → has_any (map entries xs) d ≡ false
 none-any entries d [] none = refl
 none-any entries d (x ∷ xs) none = ap (λ b. b || has_any (map entries xs) d) (none 0 (omega arith)) ∙ none-any entries d xs (λ k l. none (suc k) (omega (arith, l)))
+
+-- no score is above the greatest
+pub greatest-without : (set : ℕ → Bool) (es : List Entry) → greatest_score (without set es) ≤ greatest_score es
+greatest-without set [] = omega arith
+greatest-without set (e ∷ es) =
+    let ih = greatest-without set es in
+    elim (set e.doc) as (λ b. greatest_score (if b then without set es else e ∷ without set es) ≤ max e.score (greatest_score es)) [
+      | true ↦ (let goal : greatest_score (without set es) ≤ max e.score (greatest_score es) = omega (arith, ih) in goal)
+      | false ↦ (let goal : max e.score (greatest_score (without set es)) ≤ max e.score (greatest_score es) = omega (arith, ih) in goal)
+    ]

@@ -1,11 +1,12 @@
 -- Laws of the documents that enough lists have.
-use Rattle.std.proofs.Common.{[], List, ap, arith, false, le-leb, length, map, nat_le, refl, sym, true, ◌+◌, ◌<◌, ◌∙◌, ◌∷◌, ◌≡◌, ◌≤◌, ℕ}
+use Rattle.std.proofs.Common.{[], Bool, List, ap, arith, false, if◌then◌else◌, le-leb, length, map, max, nat_le, refl, suc, sum, sym, true, zero, ◌++◌, ◌+◌, ◌-◌, ◌<◌, ◌∙◌, ◌∷◌, ◌≡◌, ◌≤◌, ℕ}
 use Rattle.std.proofs.lemmas.Bool.{lt-leb}
 use Rattle.definitions.specs.Postings.{terminated}
-use Rattle.cursors.specs.Entries.{Entry, from}
+use Rattle.cursors.specs.Entries.{Entry, Rising, from}
+use Rattle.leaf_scorers.specs.ScoredEntries.{greatest_score}
 use Rattle.leaf_scorers.specs.ScoredEntryLaws.{by_place}
-use Rattle.members.specs.Members.{at_document, at_least, enough, entries_at, least, listed}
-use Rattle.members.specs.MemberLaws.{entries_at-cut, entries_at-kept, from-listed, listed-end, listed-found, listed-same, listed-skip}
+use Rattle.members.specs.Members.{at_document, at_least, combining, enough, entries_at, greatest_sum, joining, least, listed, walk}
+use Rattle.members.specs.MemberLaws.{entries_at-cut, entries_at-kept, from-listed, listed-end, listed-found, listed-same, listed-skip, sum-greatest}
 
 pub too_few : (minimum : ℕ) (ess : List (List Entry)) (d : ℕ) → length (entries_at d ess) < minimum → enough minimum ess d ≡ false
 too_few minimum ess d l = lt-leb minimum (length (entries_at d ess)) l
@@ -43,3 +44,31 @@ chosen-past minimum make ess moved doc some is small none few same =
 -- makers that agree make one list
 pub same-making : (minimum : ℕ) (f g : ℕ → List Entry → Entry) (ess : List (List Entry)) → ((d : ℕ) (es : List Entry) → f d es ≡ g d es) → at_least minimum f ess ≡ at_least minimum g ess
 same-making minimum f g ess same = listed-same (enough minimum ess) (enough minimum ess) (λ d. f d (entries_at d ess)) (λ d. g d (entries_at d ess)) 0 (λ d l h. refl) (λ d l h. same d (entries_at d ess))
+
+-- ---- the greatest score
+
+greatest-walk : (f : ℕ → Bool) (s : ℕ → Entry) (bound low n : ℕ) → ((d : ℕ) → (s d).score ≤ bound) → greatest_score (walk f s low n) ≤ bound
+unfolding walk
+greatest-walk f s bound low zero h = omega arith
+greatest-walk f s bound low (suc n) h =
+    let ih = greatest-walk f s bound (low + 1) n h in
+    let here = h low in
+    elim (f low) as (λ b. greatest_score (if b then at_document low (s low) ∷ walk f s (low + 1) n else walk f s (low + 1) n) ≤ bound) [
+      | true ↦ (let goal : max (s low).score (greatest_score (walk f s (low + 1) n)) ≤ bound = omega (arith, ih, here) in goal)
+      | false ↦ ih
+    ]
+
+greatest-listed : (f : ℕ → Bool) (s : ℕ → Entry) (bound low : ℕ) → ((d : ℕ) → (s d).score ≤ bound) → greatest_score (listed f s low) ≤ bound
+unfolding listed
+greatest-listed f s bound low h = greatest-walk f s bound low (terminated - low) h
+
+-- scores that are added up are no more than the greatest of each list
+pub greatest-summed : {X : Type 0} (entries : X → List Entry) → ((x : X) → Rising 0 (entries x)) → (minimum : ℕ) (xs : List X) → greatest_score (at_least minimum (combining sum) (map entries xs)) ≤ greatest_sum (map entries xs)
+greatest-summed entries rising minimum xs = greatest-listed (enough minimum (map entries xs)) (λ d. combining sum d (entries_at d (map entries xs))) (greatest_sum (map entries xs)) 0 (λ d. sum-greatest entries rising d xs)
+
+pub greatest-joined : {X : Type 0} (entries : X → List Entry) → ((x : X) → Rising 0 (entries x)) → (minimum : ℕ) (xs : List X) → greatest_score (at_least minimum joining (map entries xs)) ≤ greatest_sum (map entries xs)
+greatest-joined entries rising minimum xs = greatest-listed (enough minimum (map entries xs)) (λ d. joining d (entries_at d (map entries xs))) (greatest_sum (map entries xs)) 0 (λ d. sum-greatest entries rising d xs)
+
+pub greatest-last : (ess : List (List Entry)) (es : List Entry) → greatest_sum (ess ++ es ∷ []) ≡ greatest_sum ess + greatest_score es
+greatest-last [] es = omega arith
+greatest-last (xs ∷ ess) es = (let ih = greatest-last ess es in omega (arith, ih))
