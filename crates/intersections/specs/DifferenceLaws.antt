@@ -1,5 +1,5 @@
 -- Laws of differences.
-use Rattle.std.proofs.Common.{[], Bool, List, ap, arith, drop, false, get_or, if◌then◌else◌, length, le-leb, map, max, nat_le, refl, suc, sym, true, true≢false, zero, ◌||◌, ◌+◌, ◌<◌, ◌∙◌, ◌∷◌, ◌≡◌, ◌≤◌, ℕ}
+use Rattle.std.proofs.Common.{[], Bool, List, ap, arith, drop, false, if◌then◌else◌, length, le-leb, map, max, nat_le, refl, suc, sym, true, ◌+◌, ◌<◌, ◌∙◌, ◌∷◌, ◌≡◌, ◌≤◌, ℕ}
 use Rattle.std.proofs.Props.{props}
 use Rattle.definitions.specs.Postings.{terminated}
 use Rattle.cursors.specs.Danger.{Missed}
@@ -9,9 +9,7 @@ use Rattle.leaf_scorers.specs.ScoredEntries.{greatest_score}
 use Rattle.leaf_scorers.specs.ScoredEntryLaws.{by_place}
 use Rattle.members.specs.MemberLaws.{entries-kept, entries-low, entries-on, one-first}
 use Rattle.members.specs.Members.{entries_of}
-use Rattle.std.specs.List.{list_any}
-use Rattle.std.proofs.Math.Bool.{or-true}
-use Rattle.intersections.specs.Differences.{IsOutside, has, has_any, without}
+use Rattle.intersections.specs.Differences.{IsOutside, has, without}
 
 -- what is excluded goes
 pub without-out : (set : ℕ → Bool) (e : Entry) (es : List Entry) → set e.doc ≡ true → without set (e ∷ es) ≡ without set es
@@ -95,28 +93,6 @@ has-missed d bound before after r m =
     let above = m.above in
     let next = m.before_next in
     sym (has-kept d d before (from d before) (from-from d d before (omega arith)) (omega arith)) ∙ has-low d (from d before) (Rising-from d 0 before r) (omega (arith, above, next))
-
--- ---- whether one of several lists has a document
-
--- by whether each has
-flags-any : {X : Type 0} (entries : X → List Entry) (d : ℕ) (xs : List X) → list_any (λ b. b) (map (λ x. has (entries x) d) xs) ≡ has_any (map entries xs) d
-flags-any entries d [] = refl
-flags-any entries d (x ∷ xs) = ap (λ b. has (entries x) d || b) (flags-any entries d xs)
-
--- where each has as before
-pub any-same : {X : Type 0} (entries : X → List Entry) (d : ℕ) (xs ys : List X) → map (λ x. has (entries x) d) xs ≡ map (λ x. has (entries x) d) ys → has_any (map entries xs) d ≡ has_any (map entries ys) d
-any-same entries d xs ys e = sym (flags-any entries d xs) ∙ (ap (list_any (λ b. b)) e ∙ flags-any entries d ys)
-
--- one that has
-pub any-at : {X : Type 0} (entries : X → List Entry) (d i : ℕ) (xs : List X) → get_or (map (λ x. has (entries x) d) xs) i false ≡ true → has_any (map entries xs) d ≡ true
-any-at entries d i [] e = absurd (true≢false (sym e))
-any-at entries d zero (x ∷ xs) e = ap (λ b. b || has_any (map entries xs) d) e
-any-at entries d (suc i) (x ∷ xs) e = ap (λ b. has (entries x) d || b) (any-at entries d i xs e) ∙ or-true (has (entries x) d)
-
--- where none has
-pub none-any : {X : Type 0} (entries : X → List Entry) (d : ℕ) (xs : List X) → ((k : ℕ) → k < length xs → get_or (map (λ x. has (entries x) d) xs) k false ≡ false) → has_any (map entries xs) d ≡ false
-none-any entries d [] none = refl
-none-any entries d (x ∷ xs) none = ap (λ b. b || has_any (map entries xs) d) (none 0 (omega arith)) ∙ none-any entries d xs (λ k l. none (suc k) (omega (arith, l)))
 
 -- no score is above the greatest
 pub greatest-without : (set : ℕ → Bool) (es : List Entry) → greatest_score (without set es) ≤ greatest_score es

@@ -1,17 +1,16 @@
 -- Differences of lists of entries.
-use Rattle.std.specs.Prelude.{[], Bool, List, ◌<◌, ◌∷◌, ◌≡◌, ◌||◌, false, if◌then◌else◌, length, nat_le, ℕ}
+use Rattle.std.specs.Prelude.{[], Bool, List, ◌<◌, ◌∷◌, ◌≡◌, false, if◌then◌else◌, length, nat_le, ℕ}
 use Rattle.definitions.specs.Postings.{terminated}
 use Rattle.cursors.specs.Entries.{Entry, first}
-use Rattle.members.specs.Members.{entries_of}
+use Rattle.members.specs.Members.{entries_of, with_score}
 
 -- whether a list has a document
 abbrev pub has : List Entry → ℕ → Bool
 has es d = nat_le 1 (length (entries_of d es))
 
--- whether one of several has
-abbrev pub has_any : List (List Entry) → ℕ → Bool
-has_any [] d = false
-has_any (es ∷ ess) d = has es d || has_any ess d
+-- a document alone
+abbrev pub unscored : ℕ → List Entry → Entry
+unscored d es = with_score d 0
 
 -- the entries whose documents aren't excluded
 abbrev pub without : (ℕ → Bool) → List Entry → List Entry

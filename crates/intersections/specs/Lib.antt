@@ -1,5 +1,6 @@
 pub mod Differences
 pub mod DifferenceLaws
+pub mod ExclusionLaws
 pub mod Optionals
 pub mod OptionalLaws
 pub mod Meetings

@@ -1,48 +1,67 @@
 //! Several cursors whose documents are left out.
 
-ghost use Rattle.std.specs.Prelude.{◌<◌, ◌≡◌, ◌≤◌, map, ℕ};
+ghost use Rattle.std.specs.Prelude.{◌<◌, ◌≡◌, map, ℕ};
+ghost use Rattle.cursors.specs.Entries.{first};
 ghost use Rattle.definitions.specs.Postings.{terminated};
-ghost use Rattle.intersections.specs.Differences.{has_any};
+ghost use Rattle.intersections.specs.Differences.{has, unscored};
+ghost use Rattle.members.specs.Members.{at_least, enough, least};
 
-use crate::exclusion_set::ExclusionSet;
-use common::DocId;
+use common::{DocId, TERMINATED};
 use cursors::DocSet;
+use members::lead;
 
-/// The documents that one of several cursors has.
+/// The documents that one of several cursors has, without scores: a set to leave out.
 #[derive(Drop)]
 pub struct ExclusionList<D: DocSet> {
-    sets: Vec<D>,
+    docsets: Vec<D>,
+    doc: DocId,
+    ghost leads: { doc ≡ least (map D.entries docsets.items) },
 }
 
 impl<D: DocSet> ExclusionList<D> {
     /// The documents that one of these cursors has.
-    pub fn new(sets: Vec<D>) -> ExclusionList<D>
-        ensures { (d : ℕ) → ⟦<ExclusionList<D> as ExclusionSet>⟧.excludes result d
-            ≡ has_any (map D.entries sets.items) d }
+    pub fn new(docsets: Vec<D>) -> ExclusionList<D>
+        ensures entries { ⟦<ExclusionList<D> as DocSet>⟧.entries result
+            ≡ at_least 1 unscored (map D.entries docsets.items) }
+        ensures excludes { (d : ℕ) → d < terminated → has (⟦<ExclusionList<D> as DocSet>⟧.entries result) d
+            ≡ enough 1 (map D.entries docsets.items) d }
     {
-        ExclusionList { sets }
+        let mut docsets = docsets;
+        let doc = lead(&mut docsets, 0).doc;
+        ExclusionList { docsets, doc }
     }
 }
 
-/// Whether one of several cursors has a document.
-fn contained<D: DocSet>(sets: &mut Vec<D>, doc: DocId) -> bool
-    requires { doc < terminated }
-    ensures value { result ≡ has_any (map D.entries sets.old.items) doc }
-    ensures later { (d : ℕ) → doc ≤ d
-        → has_any (map D.entries sets.new.items) d ≡ has_any (map D.entries sets.old.items) d }
-{
-    for i in 0..sets.len() {
-        if sets[i].contains(doc) {
-            return true;
+impl<D: DocSet> DocSet for ExclusionList<D> {
+    ghost use Rattle.intersections.specs.ExclusionLaws.{Rising-unscored};
+
+    ghost entries = { λ s. at_least 1 unscored (map D.entries s.docsets.items) };
+
+    fn advance(&mut self) -> DocId {
+        if self.doc == TERMINATED {
+            return TERMINATED;
         }
+        self.doc = lead(&mut self.docsets, self.doc + 1).doc;
+        self.doc
     }
-    false
-}
 
-impl<D: DocSet> ExclusionSet for ExclusionList<D> {
-    ghost excludes = { λ s d. has_any (map D.entries s.sets.items) d };
-
-    fn contains(&mut self, doc: DocId) -> bool {
-        contained(&mut self.sets, doc)
+    fn seek(&mut self, target: DocId) -> DocId {
+        self.doc = lead(&mut self.docsets, target).doc;
+        self.doc
     }
+
+    #[inline]
+    fn doc(&self) -> DocId {
+        self.doc
+    }
+
+    fn size_hint(&self) -> u32 {
+        let mut hint = 0;
+        for i in 0..self.docsets.len() {
+            hint = hint.max(self.docsets[i].size_hint());
+        }
+        hint
+    }
+
+    ghost rising = { λ s. Rising-unscored (map D.entries s.docsets.items) };
 }

@@ -2,11 +2,11 @@
 use Rattle.std.proofs.Common.{[], Bool, List, ap, arith, false, if◌then◌else◌, le-leb, length, map, max, nat_le, refl, suc, sum, sym, true, zero, ◌++◌, ◌+◌, ◌-◌, ◌<◌, ◌∙◌, ◌∷◌, ◌≡◌, ◌≤◌, ℕ}
 use Rattle.std.proofs.lemmas.Bool.{lt-leb}
 use Rattle.definitions.specs.Postings.{terminated}
-use Rattle.cursors.specs.Entries.{Entry, Rising, from}
+use Rattle.cursors.specs.Entries.{Entry, Rising, first, from}
 use Rattle.leaf_scorers.specs.ScoredEntries.{greatest_score}
 use Rattle.leaf_scorers.specs.ScoredEntryLaws.{by_place}
 use Rattle.members.specs.Members.{at_document, at_least, combining, enough, entries_at, greatest_sum, joining, least, listed, walk}
-use Rattle.members.specs.MemberLaws.{entries_at-cut, entries_at-kept, from-listed, listed-end, listed-found, listed-same, listed-skip, sum-greatest}
+use Rattle.members.specs.MemberLaws.{entries-least, entries_at-cut, entries_at-kept, from-listed, has-least, least-small, listed-end, listed-found, listed-same, listed-skip, sum-greatest}
 
 pub too_few : (minimum : ℕ) (ess : List (List Entry)) (d : ℕ) → length (entries_at d ess) < minimum → enough minimum ess d ≡ false
 too_few minimum ess d l = lt-leb minimum (length (entries_at d ess)) l
@@ -44,6 +44,15 @@ chosen-past minimum make ess moved doc some is small none few same =
 -- makers that agree make one list
 pub same-making : (minimum : ℕ) (f g : ℕ → List Entry → Entry) (ess : List (List Entry)) → ((d : ℕ) (es : List Entry) → f d es ≡ g d es) → at_least minimum f ess ≡ at_least minimum g ess
 same-making minimum f g ess same = listed-same (enough minimum ess) (enough minimum ess) (λ d. f d (entries_at d ess)) (λ d. g d (entries_at d ess)) 0 (λ d l h. refl) (λ d l h. same d (entries_at d ess))
+
+-- the least document is the first of a union
+pub union-first : {X : Type 0} (entries : X → List Entry) → ((x : X) → Rising 0 (entries x)) → (make : ℕ → List Entry → Entry) (xs : List X) → first (at_least 1 make (map entries xs)) ≡ least (map entries xs)
+union-first entries rising make xs =
+    let ess : List (List Entry) = map entries xs in
+    let small = least-small entries rising xs in
+    by_place terminated (least ess) (first (at_least 1 make ess) ≡ least ess)
+    (λ i. (let end : least ess ≡ terminated = omega (arith, i, small) in ap first (chosen-end 1 make ess (omega arith) end (λ d l. entries-least entries rising d xs l)) ∙ sym end))
+    (λ o. (let some = has-least entries rising xs o in ap first (chosen-here 1 make ess (omega arith) o (λ d l. entries-least entries rising d xs l) (omega (arith, some)))))
 
 -- ---- the greatest score
 
