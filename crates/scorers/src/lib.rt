@@ -3,8 +3,12 @@
 
 pub mod scorer_laws;
 
+pub use intersections::{
+    Exclude, ExclusionList, ExclusionSet, Intersection, RequiredOptionalScorer,
+};
 pub use leaf_scorers::{
     AllScorer, BitSetDocSet, BoostScorer, ConstScorer, DisjunctionMaxCombiner, DoNothingCombiner,
     EmptyScorer, ListScorer, ScoreCombiner, Scorer, SumCombiner, VecDocSet, leaf_laws,
 };
 pub use term_scorer::{Explanation, Similarity, TermScorer};
+pub use unions::{BufferedUnionScorer, Disjunction, ScorerWrapper};

@@ -1,0 +1,13 @@
+-- A required list with an optional one.
+use Rattle.std.specs.Prelude.{List, ◌∷◌, ℕ}
+use Rattle.cursors.specs.Entries.{Entry}
+use Rattle.leaf_scorers.specs.ScoredEntries.{rescored_by}
+use Rattle.members.specs.Members.{entries_of, scores_in}
+
+-- what a combiner makes of an entry's score and the optional one, where there is one
+abbrev pub score_with : (List ℕ → ℕ) → List Entry → Entry → ℕ
+score_with combine optional e = combine (e.score ∷ scores_in (entries_of e.doc optional))
+
+-- the required entries with these scores
+abbrev pub with_optional : (List ℕ → ℕ) → List Entry → List Entry → List Entry
+with_optional combine required optional = rescored_by (score_with combine optional) required

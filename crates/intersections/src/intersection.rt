@@ -1,0 +1,77 @@
+//! The documents that all scorers have.
+
+ghost use Rattle.std.specs.Prelude.{◌<◌, ◌≡◌, ◌≤◌, length, map};
+ghost use Rattle.cursors.specs.Entries.{first};
+ghost use Rattle.definitions.specs.Scoring.{max_score};
+ghost use Rattle.intersections.specs.MeetingLaws.{IsMeeting-prop};
+ghost use Rattle.intersections.specs.Meetings.{IsMeeting, meeting};
+ghost use Rattle.members.specs.Members.{greatest_sum};
+
+use crate::meeting::{cheapest, next_match};
+use common::{DocId, Score, TERMINATED};
+use cursors::DocSet;
+use leaf_scorers::{ScoreCombiner, Scorer, SumCombiner};
+use members::combine_at;
+
+/// The documents that all of several cursors have, with their scores and counts added up, and the positions of each in
+/// the order in which the cursors were given.
+#[derive(Drop)]
+pub struct Intersection<S: DocSet> {
+    docsets: Vec<S>,
+    lead: usize,
+    doc: DocId,
+    ghost leading: { lead < length docsets.items },
+    ghost meets: { IsMeeting (map S.entries docsets.items) doc } by { IsMeeting-prop (map S.entries docsets.items) doc },
+}
+
+impl<S: DocSet> Intersection<S> {
+    /// The documents that all of several cursors have. The one that costs least leads.
+    pub fn new(docsets: Vec<S>) -> Intersection<S>
+        requires several { 2 ≤ length docsets.items }
+        requires fits { greatest_sum (map S.entries docsets.items) ≤ max_score }
+        ensures { ⟦<Intersection<S> as DocSet>⟧.entries result ≡ meeting (map S.entries docsets.items) }
+    {
+        let mut docsets = docsets;
+        let lead = cheapest(&docsets);
+        let doc = next_match(&mut docsets, lead, 0);
+        Intersection { docsets, lead, doc }
+    }
+}
+
+impl<S: DocSet> DocSet for Intersection<S> {
+    ghost entries = { λ s. meeting (map S.entries s.docsets.items) };
+
+    fn advance(&mut self) -> DocId {
+        if self.doc == TERMINATED {
+            return TERMINATED;
+        }
+        self.doc = next_match(&mut self.docsets, self.lead, self.doc + 1);
+        self.doc
+    }
+
+    fn seek(&mut self, target: DocId) -> DocId {
+        self.doc = next_match(&mut self.docsets, self.lead, target);
+        self.doc
+    }
+
+    #[inline]
+    fn doc(&self) -> DocId {
+        self.doc
+    }
+
+    fn size_hint(&self) -> u32 {
+        self.docsets[self.lead].size_hint()
+    }
+
+    fn cost(&self) -> u64 {
+        self.docsets[self.lead].cost()
+    }
+
+    ghost rising = { λ s. s.meets.rises };
+}
+
+impl<S: Scorer> Scorer for Intersection<S> {
+    fn score(&mut self) -> Score {
+        combine_at(&mut self.docsets, self.doc, SumCombiner::default()).score()
+    }
+}

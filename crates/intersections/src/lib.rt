@@ -1,0 +1,15 @@
+//! Intersections of scorers, differences, and a required scorer with an optional one.
+#![tactic(auto)]
+
+mod exclude;
+mod exclusion_list;
+mod exclusion_set;
+mod intersection;
+mod meeting;
+mod required_optional_scorer;
+
+pub use exclude::Exclude;
+pub use exclusion_list::ExclusionList;
+pub use exclusion_set::ExclusionSet;
+pub use intersection::Intersection;
+pub use required_optional_scorer::RequiredOptionalScorer;

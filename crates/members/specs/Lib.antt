@@ -1,0 +1,5 @@
+pub mod Members
+pub mod MemberLaws
+pub mod AtLeastLaws
+pub mod LeaderLaws
+pub mod ChangedLists

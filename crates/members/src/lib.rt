@@ -1,0 +1,10 @@
+//! Several cursors as one: moves of all, and what their scores make.
+#![tactic(auto)]
+
+mod leader;
+mod moves;
+mod scores;
+
+pub use leader::{Leader, lead};
+pub use moves::{least_of, move_all, move_to};
+pub use scores::{combine_at, take_score};

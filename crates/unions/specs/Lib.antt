@@ -1,0 +1,5 @@
+pub mod Windows
+pub mod WindowLaws
+pub mod Fillings
+pub mod Choices
+pub mod Together

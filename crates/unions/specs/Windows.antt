@@ -1,0 +1,66 @@
+-- A window over the documents to come: a flag and a combiner for each of so many documents from a start on.
+use Rattle.std.specs.Prelude.{[], Bool, List, ◌++◌, ◌+◌, ◌-◌, ◌<◌, ◌||◌, ◌≡◌, ◌≤◌, false, if◌then◌else◌, length, map, min, nat_le, slice_index_or, sum, ℕ}
+use Rattle.definitions.specs.Postings.{terminated}
+use Rattle.definitions.specs.Scoring.{max_score}
+use Rattle.cursors.specs.Entries.{Entry, first, from}
+use Rattle.members.specs.Members.{enough, entries_at, least, listed, scores_in, with_score}
+
+-- what a slot holds: a fresh combiner where its document has no flag
+abbrev pub held : {C : Type 0} → List Bool → List C → C → ℕ → C
+held flags slots fresh k = if slice_index_or flags k false then slice_index_or slots k fresh else fresh
+
+-- whether a document is in the window, or in one of the lists
+abbrev pub is_ahead : List Bool → ℕ → List (List Entry) → ℕ → Bool
+is_ahead flags start ess d = slice_index_or flags (d - start) false || enough 1 ess d
+
+-- what its slot and the lists make of its scores
+abbrev pub score_ahead : {C : Type 0} → (C → List ℕ → ℕ) → List Bool → List C → C → ℕ → List (List Entry) → ℕ → ℕ
+score_ahead answer flags slots fresh start ess d = answer (held flags slots fresh (d - start)) (scores_in (entries_at d ess))
+
+-- its entry
+abbrev pub entry_ahead : {C : Type 0} → (C → List ℕ → ℕ) → List Bool → List C → C → ℕ → List (List Entry) → ℕ → Entry
+entry_ahead answer flags slots fresh start ess d = with_score d (score_ahead answer flags slots fresh start ess d)
+
+-- the documents from one on that are in the window or in the lists
+abbrev pub windowed : {C : Type 0} → (C → List ℕ → ℕ) → List Bool → List C → C → ℕ → List (List Entry) → ℕ → List Entry
+windowed answer flags slots fresh start ess low = listed (is_ahead flags start ess) (entry_ahead answer flags slots fresh start ess) low
+
+-- the lists stand behind the window, and no sum of scores is above the greatest score
+pub record IsWindow {C : Type 0} (total : C → ℕ) (flags : List Bool) (slots : List C) (fresh : C) (start : ℕ) (ess : List (List Entry)) : Type 0 where
+  pub flags_fit : length flags ≡ 4096
+  pub slots_fit : length slots ≡ 4096
+  pub behind : min (start + 4096) terminated ≤ least ess
+  pub unused : total fresh ≡ 0
+  pub fits : (d : ℕ) → start ≤ d → d < terminated → total (held flags slots fresh (d - start)) + sum (scores_in (entries_at d ess)) ≤ max_score
+
+-- scores go from lists into slots: of each document of the window, what its slot holds and what the lists
+-- still give make what they made before
+pub record Moves {C : Type 0} (answer : C → List ℕ → ℕ) (total : C → ℕ) (fresh : C) (start high : ℕ) (flags : List Bool) (slots : List C) (left : ℕ → List Entry) (flags_then : List Bool) (slots_then : List C) (left_then : ℕ → List Entry) : Type 0 where
+  pub flags_fit : length flags_then ≡ length flags
+  pub slots_fit : length slots_then ≡ length slots
+  pub stand : (d : ℕ) → start ≤ d → d < high → (slice_index_or flags_then (d - start) false || nat_le 1 (length (left_then d))) ≡ (slice_index_or flags (d - start) false || nat_le 1 (length (left d)))
+  pub answers : (d : ℕ) (xs : List ℕ) → start ≤ d → d < high → answer (held flags_then slots_then fresh (d - start)) (scores_in (left_then d) ++ xs) ≡ answer (held flags slots fresh (d - start)) (scores_in (left d) ++ xs)
+  pub totals : (d : ℕ) → start ≤ d → d < high → total (held flags_then slots_then fresh (d - start)) + sum (scores_in (left_then d)) ≤ total (held flags slots fresh (d - start)) + sum (scores_in (left d))
+
+-- the document on which a union stands is the first of those from it on, and in the window
+pub record IsStanding {C : Type 0} (answer : C → List ℕ → ℕ) (total : C → ℕ) (flags : List Bool) (slots : List C) (fresh : C) (start : ℕ) (ess : List (List Entry)) (doc : ℕ) : Type 0 where
+  pub window : IsWindow total flags slots fresh start ess
+  pub at : doc ≡ first (windowed answer flags slots fresh start ess doc)
+  pub begun : start ≤ doc
+  pub small : doc ≤ terminated
+  pub near : doc < terminated → doc < start + 4096
+
+-- a window that is filled anew, from the least document on
+pub record IsFilling {C : Type 0} (answer : C → List ℕ → ℕ) (total : C → ℕ) (fresh : C) (next high : ℕ) (cleared : List Bool) (slots : List C) (ess : List (List Entry)) (flags : List Bool) (slots_then : List C) (ess_then : List (List Entry)) : Type 0 where
+  pub least_is : next ≡ least ess
+  pub below : next < terminated
+  pub high_is : high ≡ min (next + 4096) terminated
+  pub none : (d : ℕ) → d < least ess → entries_at d ess ≡ []
+  pub some : 0 < length (entries_at next ess)
+  pub flags_fit : length cleared ≡ 4096
+  pub slots_fit : length slots ≡ 4096
+  pub clear : (k : ℕ) → slice_index_or cleared k false ≡ false
+  pub unused : total fresh ≡ 0
+  pub fits : (d : ℕ) → least ess ≤ d → d < terminated → sum (scores_in (entries_at d ess)) ≤ max_score
+  pub rest : ess_then ≡ map (from high) ess
+  pub moved : Moves answer total fresh next high cleared slots (λ d. entries_at d ess) flags slots_then (λ d. [])

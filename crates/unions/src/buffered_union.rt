@@ -1,0 +1,201 @@
+//! The union of scorers, which looks ahead in a window of documents.
+
+ghost use Rattle.std.specs.Prelude.{◌+◌, ◌<◌, ◌≡◌, ◌≤◌, IfOk, length, map, sum, ℕ};
+ghost use Rattle.cursors.specs.Entries.{first};
+ghost use Rattle.definitions.specs.Postings.{terminated};
+ghost use Rattle.definitions.specs.Scoring.{max_score};
+ghost use Rattle.members.specs.Members.{at_least, combining, entries_at, greatest_sum, least, scores_in};
+ghost use Rattle.unions.specs.Fillings.{IsStanding-prop};
+ghost use Rattle.unions.specs.Windows.{IsStanding, IsWindow, windowed};
+
+use crate::window::{HORIZON, collect_all, slot_of};
+use common::{BitSet, DocId, Score, TERMINATED};
+use cursors::DocSet;
+use leaf_scorers::{ScoreCombiner, Scorer};
+use members::{least_of, move_all};
+use std::alloc::{AllocError, Global};
+
+/// The documents of several scorers, each once, with what a combiner makes of its scores.
+#[derive(Drop)]
+pub struct BufferedUnionScorer<S: Scorer, C: ScoreCombiner> {
+    docsets: Vec<S>,
+    fresh: C,
+    present: BitSet,
+    slots: Vec<C>,
+    start: DocId,
+    doc: DocId,
+    num_docs: u32,
+    ghost standing: { IsStanding C.answer C.total present slots.items fresh start (map S.entries docsets.items) doc } by { IsStanding-prop C.answer C.total present slots.items fresh start (map S.entries docsets.items) doc },
+}
+
+/// Fills the window from the least document on, and answers that; the end where there is none.
+fn refill<S: Scorer, C: ScoreCombiner>(
+    docsets: &mut Vec<S>,
+    fresh: C,
+    present: &mut BitSet,
+    slots: &mut Vec<C>,
+) -> DocId
+    requires flags { length present.old ≡ 4096 }
+    requires slots { length slots.old.items ≡ 4096 }
+    requires unused { C.total fresh ≡ 0 }
+    requires fits { (d : ℕ) → least (map S.entries docsets.old.items) ≤ d → d < terminated
+        → sum (scores_in (entries_at d (map S.entries docsets.old.items))) ≤ max_score }
+    ensures same { windowed C.answer present.new slots.new.items fresh result (map S.entries docsets.new.items) result
+        ≡ at_least 1 (combining (C.answer fresh)) (map S.entries docsets.old.items) }
+    ensures standing { IsStanding C.answer C.total present.new slots.new.items fresh result
+        (map S.entries docsets.new.items) result }
+{
+    let next = least_of(docsets);
+    if next == TERMINATED {
+        return TERMINATED;
+    }
+    let high = (next + HORIZON).min(TERMINATED);
+    present.clear();
+    collect_all(docsets, next, high, fresh, present, slots);
+    next
+}
+
+/// Goes on to the first document that isn't below a number, and answers where the window then starts, and
+/// the document.
+#[inline]
+fn settle<S: Scorer, C: ScoreCombiner>(
+    docsets: &mut Vec<S>,
+    fresh: C,
+    present: &mut BitSet,
+    slots: &mut Vec<C>,
+    start: DocId,
+    low: DocId,
+) -> (DocId, DocId)
+    requires window { IsWindow C.total present.old slots.old.items fresh start (map S.entries docsets.old.items) }
+    requires begun { start ≤ low }
+    requires small { low ≤ terminated }
+    requires ahead { low ≤ least (map S.entries docsets.old.items) }
+    ensures same { windowed C.answer present.new slots.new.items fresh result.0
+        (map S.entries docsets.new.items) result.1
+        ≡ windowed C.answer present.old slots.old.items fresh start (map S.entries docsets.old.items) low }
+    ensures standing { IsStanding C.answer C.total present.new slots.new.items fresh result.0
+        (map S.entries docsets.new.items) result.1 }
+{
+    if let Some(k) = present.first_from(low - start) {
+        return (start, (start + k).min(TERMINATED));
+    }
+    let next = refill(docsets, fresh, present, slots);
+    (next, next)
+}
+
+/// Goes on to the first document that isn't below a target, which may be past the window.
+fn settle_at<S: Scorer, C: ScoreCombiner>(
+    docsets: &mut Vec<S>,
+    fresh: C,
+    present: &mut BitSet,
+    slots: &mut Vec<C>,
+    start: DocId,
+    target: DocId,
+) -> (DocId, DocId)
+    requires window { IsWindow C.total present.old slots.old.items fresh start (map S.entries docsets.old.items) }
+    requires begun { start ≤ target }
+    requires small { target ≤ terminated }
+    ensures same { windowed C.answer present.new slots.new.items fresh result.0
+        (map S.entries docsets.new.items) result.1
+        ≡ windowed C.answer present.old slots.old.items fresh start (map S.entries docsets.old.items) target }
+    ensures standing { IsStanding C.answer C.total present.new slots.new.items fresh result.0
+        (map S.entries docsets.new.items) result.1 }
+{
+    if target - start < HORIZON {
+        return settle(docsets, fresh, present, slots, start, target);
+    }
+    move_all(docsets, target);
+    settle(docsets, fresh, present, slots, start, target)
+}
+
+impl<S: Scorer + Drop, C: ScoreCombiner> BufferedUnionScorer<S, C> {
+    /// The union of scorers. What the combiner has taken is forgotten; the number of documents is a hint.
+    pub fn build(
+        alloc: Global,
+        docsets: Vec<S>,
+        combiner: C,
+        num_docs: u32,
+    ) -> Result<BufferedUnionScorer<S, C>, AllocError>
+        requires { greatest_sum (map S.entries docsets.items) ≤ max_score }
+        ensures { IfOk result (λ union. ⟦<BufferedUnionScorer<S, C> as DocSet>⟧.entries union
+            ≡ at_least 1 (combining (C.anew combiner)) (map S.entries docsets.items)) }
+    {
+        let mut docsets = docsets;
+        let mut fresh = combiner;
+        fresh.clear();
+        let mut present = BitSet::with_max_value(alloc, HORIZON)?;
+        let mut slots = vec![in alloc; fresh; 4096]?;
+        let doc = refill(&mut docsets, fresh, &mut present, &mut slots);
+        Ok(BufferedUnionScorer {
+            docsets,
+            fresh,
+            present,
+            slots,
+            start: doc,
+            doc,
+            num_docs,
+        })
+    }
+}
+
+impl<S: Scorer, C: ScoreCombiner> DocSet for BufferedUnionScorer<S, C> {
+    ghost use Rattle.unions.specs.Fillings.{Rising-windowed};
+
+    ghost entries = { λ s. windowed C.answer s.present s.slots.items s.fresh s.start (map S.entries s.docsets.items) s.doc };
+
+    #[inline]
+    fn advance(&mut self) -> DocId {
+        if self.doc == TERMINATED {
+            return TERMINATED;
+        }
+        let (start, doc) = settle(
+            &mut self.docsets,
+            self.fresh,
+            &mut self.present,
+            &mut self.slots,
+            self.start,
+            self.doc + 1,
+        );
+        self.start = start;
+        self.doc = doc;
+        doc
+    }
+
+    fn seek(&mut self, target: DocId) -> DocId {
+        let (start, doc) = settle_at(
+            &mut self.docsets,
+            self.fresh,
+            &mut self.present,
+            &mut self.slots,
+            self.start,
+            target,
+        );
+        self.start = start;
+        self.doc = doc;
+        doc
+    }
+
+    #[inline]
+    fn doc(&self) -> DocId {
+        self.doc
+    }
+
+    fn size_hint(&self) -> u32 {
+        self.num_docs
+    }
+
+    ghost rising = { λ s. Rising-windowed C.answer C.total C.bounded s.present s.slots.items s.fresh s.start (map S.entries s.docsets.items) s.doc s.standing };
+}
+
+impl<S: Scorer, C: ScoreCombiner> Scorer for BufferedUnionScorer<S, C> {
+    #[inline]
+    fn score(&mut self) -> Score {
+        slot_of(
+            &self.present,
+            &self.slots,
+            self.fresh,
+            self.doc - self.start,
+        )
+        .score()
+    }
+}

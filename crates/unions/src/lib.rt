@@ -1,0 +1,13 @@
+//! Unions of scorers, and the documents that several of them have.
+#![tactic(auto)]
+
+mod buffered_union;
+mod disjunction;
+mod scorer_wrapper;
+mod simple_union;
+mod window;
+
+pub use buffered_union::BufferedUnionScorer;
+pub use disjunction::Disjunction;
+pub use scorer_wrapper::ScorerWrapper;
+pub use simple_union::SimpleUnion;
