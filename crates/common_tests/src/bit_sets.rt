@@ -55,6 +55,22 @@ fn numbers_of_a_set(rt: HostRuntime) -> Result<(), Fail> {
     Ok(())
 }
 
+/// Whether a cleared set has no number, and takes the numbers as a new one does.
+fn cleared_sets_are_empty(alloc: Global) -> Result<bool, AllocError> {
+    let mut set = BitSet::with_max_value(alloc, 10000)?;
+    insert_all(&mut set);
+    set.clear();
+    let empty = set.len() == 0 && set.first_from(0).is_none();
+    insert_all(&mut set);
+    Ok(empty && has_the_numbers(&set))
+}
+
+#[test]
+fn cleared_sets(rt: HostRuntime) -> Result<(), Fail> {
+    assert!(rt; cleared_sets_are_empty(rt.alloc())?);
+    Ok(())
+}
+
 /// Whether the greatest number of a full set, taken out twice, is gone, and no other.
 fn greatest_is_taken_out(alloc: Global, greatest: u32) -> Result<bool, AllocError> {
     let mut set = BitSet::with_max_value_and_full(alloc, greatest.saturating_add(1))?;

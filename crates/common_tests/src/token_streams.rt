@@ -1,7 +1,8 @@
 //! Tokens that are read one after another, and what has a length.
 
 use common::{
-    Analyzer, HasLen, PreTokenizedStream, PreTokenizedString, RawAndDefault, Token, TokenStream,
+    Analyzer, BufferedStream, HasLen, PreTokenizedStream, PreTokenizedString, RawAndDefault, Token,
+    TokenBuffer, TokenStream,
 };
 use definitions::Fault;
 use std::alloc::{AllocError, Global};
@@ -62,6 +63,75 @@ fn given_tokens_are_read(alloc: Global) -> Result<bool, Fault> {
 #[test]
 fn tokens_that_a_text_came_with(rt: HostRuntime) -> Result<(), Fail> {
     assert!(rt; given_tokens_are_read(rt.alloc())?);
+    Ok(())
+}
+
+/// What a stream over a buffer reads, after the buffer took the text's tokens in place of its own.
+fn spell_buffered(
+    alloc: Global,
+    name: &str,
+    text: &str,
+    buffer: &mut TokenBuffer,
+) -> Result<String, AllocError> {
+    RawAndDefault.tokens_into(alloc, name, text, buffer)?;
+    spell(alloc, &mut BufferedStream::new(buffer))
+}
+
+/// Whether a buffer holds the tokens of the text that it took last.
+fn buffered_tokens_are_read(alloc: Global) -> Result<bool, AllocError> {
+    let mut buffer = TokenBuffer::new(alloc);
+    let words = spell_buffered(alloc, "default", "The Old-Sea 42 éa", &mut buffer)?;
+    let whole = spell_buffered(alloc, "raw", "The Sea", &mut buffer)?;
+    let none = spell_buffered(alloc, "other", "The Sea", &mut buffer)?;
+    Ok(
+        words.as_str() == "0 the, 1 old, 2 sea, 3 42, 4 éa, "
+            && whole.as_str() == "0 The Sea, "
+            && none.is_empty(),
+    )
+}
+
+#[test]
+fn tokens_of_a_buffer(rt: HostRuntime) -> Result<(), Fail> {
+    assert!(rt; buffered_tokens_are_read(rt.alloc())?);
+    Ok(())
+}
+
+/// An analyzer that fills a buffer from the tokens that it makes.
+struct Plain;
+
+impl Analyzer for Plain {
+    ghost use Rattle.definitions.proofs.TokenTexts.{raw_and_default_analyzes};
+    ghost use Rattle.definitions.specs.Analyzers.{is_raw_or_default, raw_and_default};
+
+    ghost knows_name = { λ _. is_raw_or_default };
+
+    ghost analyze = { λ _. raw_and_default };
+
+    ghost is_analyzer = { λ _. raw_and_default_analyzes };
+
+    fn knows(&self, name: &str) -> bool {
+        RawAndDefault.knows(name)
+    }
+
+    fn tokens(&self, alloc: Global, name: &str, text: &str) -> Result<Vec<Token>, AllocError> {
+        RawAndDefault.tokens(alloc, name, text)
+    }
+}
+
+/// Whether a buffer takes tokens that were made before, and gives them with texts of their own.
+fn copied_tokens_are_read(alloc: Global) -> Result<bool, AllocError> {
+    let mut buffer = TokenBuffer::new(alloc);
+    Plain.tokens_into(alloc, "default", "The Sea", &mut buffer)?;
+    let tokens = buffer.to_tokens(alloc)?;
+    Ok(
+        spell(alloc, &mut PreTokenizedStream::new(&tokens))?.as_str() == "0 the, 1 sea, "
+            && buffer.len() == 2,
+    )
+}
+
+#[test]
+fn tokens_that_are_copied(rt: HostRuntime) -> Result<(), Fail> {
+    assert!(rt; copied_tokens_are_read(rt.alloc())?);
     Ok(())
 }
 
