@@ -1,6 +1,6 @@
 //! What no clause says: that a run goes through, and what it does where its reader or writer fails.
 
-ghost use Rattle.std.specs.Prelude.{◌≡◌, ◌==◌, ◌%◌, ◌+◌, ℕ, ◌++◌, codes, if◌then◌else◌};
+ghost use Rattle.std.specs.Prelude.{◌≡◌, ◌==◌, ◌%◌, ◌+◌, ℕ, ◌++◌, codes, if◌then◌else◌, true};
 
 use definitions::Fault;
 use serve_lines::{RunFault, Service, run, run_within};
@@ -26,6 +26,10 @@ impl Service for Echo {
     ghost answer = { λ answered line. (if answered % 2 == 0 then codes "+" else codes "-") ++ line };
 
     ghost after = { λ answered _. answered + 1 };
+
+    ghost leaves = { λ answered left. left ≡ answered };
+
+    ghost lasts = { λ _. true };
 
     fn reply(&mut self, line: &str) -> Result<CowStr<'static>, Fault> {
         if line == "fail" {

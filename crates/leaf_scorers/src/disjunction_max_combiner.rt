@@ -41,6 +41,7 @@ impl DisjunctionMaxCombiner {
 
 impl Default for DisjunctionMaxCombiner {
     ghost is_default = { λ c. ((xs : List ℕ) → ⟦<DisjunctionMaxCombiner as ScoreCombiner>⟧.answer c xs
+        ≡ best_and_tie 0 xs) × ((xs : List ℕ) → ⟦<DisjunctionMaxCombiner as ScoreCombiner>⟧.anew c xs
         ≡ best_and_tie 0 xs) × (⟦<DisjunctionMaxCombiner as ScoreCombiner>⟧.total c ≡ 0) };
 
     fn default() -> DisjunctionMaxCombiner {

@@ -5,10 +5,12 @@ use Rattle.definitions.specs.Moments.{LeavesOnly}
 
 -- a crash now leaves only images that have P
 abbrev pub LeavesNow : {D : Type 0} → (D → List ℕ) → (D → Unsynced) → D → (List ℕ → Type 0) → Type 0
-LeavesNow content unsynced device P = (image : List ℕ) → IsImage (content device) (unsynced device) image → P image
+LeavesNow content unsynced device P =
+    (image : List ℕ) → IsImage (content device) (unsynced device) image → P image
 
 -- its content is as before, and a crash leaves what it might have left before
-pub record IsKept {D : Type 0} (moment : D → ℕ) (left_since : D → ℕ → List ℕ → Type 0) (content : D → List ℕ) (unsynced : D → Unsynced) (old new : D) : Type 0 where
+pub record IsKept {D : Type 0} (moment : D → ℕ) (left_since : D → ℕ → List ℕ → Type 0) (content : D → List ℕ)
+    (unsynced : D → Unsynced) (old new : D) : Type 0 where
   pub content_kept : content new ≡ content old
   pub unsynced_kept : unsynced new ≡ unsynced old
   pub images_kept : LeavesOnly moment left_since old new (IsImage (content old) (unsynced old))

@@ -1,12 +1,11 @@
 //! Reading a file of records: the bodies go to a reader, and the closed gate's place is the answer.
 
 ghost use Rattle.std.specs.Prelude.{[], ◌++◌, ◌+◌, ◌<◌, ◌^◌, ◌∷◌, ◌≡◌, ◌⊎◌, IfErr, IfOk, IsTrue, List, MatchOption, OnOk, length, ℕ};
-ghost use Rattle.definitions.specs.Disk.{HasCause, IsImage};
-ghost use Rattle.definitions.specs.Moments.{LeavesOnly};
+ghost use Rattle.definitions.specs.Disk.{HasCause};
 ghost use Rattle.definitions.specs.declared.fault.Fault.TheVariants as faults;
 ghost use Rattle.layouts.specs.RecordFiles.{AreTaken, EndsAt, IsNoIndex, sized_body};
 ghost use Rattle.records.specs.Kept.{IsKept};
-ghost use Rattle.records.specs.Outcomes.{IsRefusal};
+ghost use Rattle.records.specs.Outcomes.{CountsNoOther, IsRefusal};
 
 use crate::bodies::Bodies;
 use common::{Device, take_u64};
@@ -27,6 +26,7 @@ pub fn read_records<D: Device, B: Bodies>(
     requires { B.taken bodies.old ≡ [] }
     ensures honest { D.honest device.new ≡ D.honest device.old }
     ensures cause { HasCause (D.failed device.old) (D.failed device.new) result }
+    ensures counted { CountsNoOther (D.failed device.old) (D.failed device.new) result }
     ensures kept { IsTrue (D.honest device.old)
         → IsKept D.moment D.left_since D.content D.unsynced device.old device.new }
     ensures file { IsTrue (D.honest device.old)

@@ -7,6 +7,7 @@ ghost use Rattle.definitions.specs.declared.fault.Fault.TheVariants as faults;
 ghost use Rattle.layouts.specs.RecordFiles.{EndsAt, IsAtRest, IsFresh, IsOneOf};
 ghost use Rattle.records.specs.Frames.{frame_bytes};
 ghost use Rattle.records.specs.Kept.{IsKept, LeavesNow};
+ghost use Rattle.records.specs.Outcomes.{CountsNoOther};
 
 use crate::steps::{append_record, create_file, settle_file};
 use common::Device;
@@ -38,6 +39,7 @@ impl<D: Device> RecordFile<D> {
 
         ensures honest { D.honest (device_after result) ≡ D.honest device }
         ensures cause { HasCause (D.failed device) (D.failed (device_after result)) (ending_of result) }
+        ensures counted { CountsNoOther (D.failed device) (D.failed (device_after result)) (ending_of result) }
         // A device that holds a byte, or that is read without memory, stays as it is.
         ensures kept { IsTrue (D.honest device)
             → IfErr result (λ refusal. (D.content device ≢ []) ⊎ (refusal.0 ≡ faults.OutOfMemory)
@@ -72,6 +74,7 @@ impl<D: Device> RecordFile<D> {
 
         ensures honest { D.honest (device_after result) ≡ D.honest device }
         ensures cause { HasCause (D.failed device) (D.failed (device_after result)) (ending_of result) }
+        ensures counted { CountsNoOther (D.failed device) (D.failed (device_after result)) (ending_of result) }
 
         ensures at_rest { (bodies : List (List ℕ)) → IsTrue (D.honest device)
             → EndsAt (D.content device) gate bodies
@@ -115,6 +118,7 @@ impl<D: Device> RecordFile<D> {
 
         ensures honest { D.honest self.new.device ≡ D.honest self.old.device }
         ensures cause { HasCause (D.failed self.old.device) (D.failed self.new.device) result }
+        ensures counted { CountsNoOther (D.failed self.old.device) (D.failed self.new.device) result }
 
         ensures gate { OnOk result (self.new.gate ≡ self.old.gate + length frame.now) }
         ensures appended { (bodies : List (List ℕ)) (body : List ℕ) → IsTrue (D.honest self.old.device)

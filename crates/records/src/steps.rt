@@ -1,12 +1,13 @@
 //! The steps in which a file of records is created, settled and appended to, on a device that is lent.
 
 ghost use Rattle.std.specs.Prelude.{Bool, [], ◌++◌, ◌+◌, ◌<◌, ◌^◌, ◌∷◌, ◌≡◌, ◌≢◌, ◌≤◌, ◌⊎◌, IfErr, IsErrOf, IsTrue, List, OnErr, OnOk, length, ℕ};
-ghost use Rattle.definitions.specs.Disk.{HasCause, IsEither, IsImage, settled};
+ghost use Rattle.definitions.specs.Disk.{HasCause, IsEither, settled};
 ghost use Rattle.definitions.specs.Moments.{LeavesOnly};
 ghost use Rattle.definitions.specs.declared.fault.Fault.TheVariants as faults;
 ghost use Rattle.layouts.specs.RecordFiles.{EndsAt, IsAtRest, IsFresh, IsOneOf};
 ghost use Rattle.records.specs.Frames.{frame_bytes};
 ghost use Rattle.records.specs.Kept.{IsKept, LeavesNow};
+ghost use Rattle.records.specs.Outcomes.{CountsNoOther};
 
 use crate::read::OPEN;
 use common::{Device, cut_synced, write_synced};
@@ -19,6 +20,7 @@ pub(crate) fn settle_file<D: Device>(device: &mut D, gate: usize) -> Result<(), 
     requires short { gate < 2 ^ 63 }
     ensures honest { D.honest device.new ≡ D.honest device.old }
     ensures cause { HasCause (D.failed device.old) (D.failed device.new) result }
+    ensures counted { CountsNoOther (D.failed device.old) (D.failed device.new) result }
     ensures fault { IfErr result (λ fault. fault ≡ faults.Device) }
     ensures inside { IsTrue (D.honest device.old) → gate < length (D.content device.new) }
     ensures at_rest { (bodies : List (List ℕ)) → IsTrue (D.honest device.old)
@@ -56,6 +58,7 @@ pub(crate) fn append_record<D: Device>(
     requires room { gate + 1 + length frame.now ≤ 2 ^ 63 }
     ensures honest { D.honest device.new ≡ D.honest device.old }
     ensures cause { HasCause (D.failed device.old) (D.failed device.new) result }
+    ensures counted { CountsNoOther (D.failed device.old) (D.failed device.new) result }
     ensures fault { IfErr result (λ fault. fault ≡ faults.Device) }
     ensures no_shorter { IsTrue (D.honest device.old)
         → length (D.content device.old) ≤ length (D.content device.new) }
@@ -83,6 +86,7 @@ pub(crate) fn create_file<D: Device>(
 ) -> Result<(), Fault>
     ensures honest { D.honest device.new ≡ D.honest device.old }
     ensures cause { HasCause (D.failed device.old) (D.failed device.new) result }
+    ensures counted { CountsNoOther (D.failed device.old) (D.failed device.new) result }
     ensures fault { IfErr result (λ fault.
         (fault ≡ faults.Device) ⊎ (fault ≡ faults.OutOfMemory) ⊎ (fault ≡ faults.NotEmpty)) }
     ensures not_empty { IsTrue (D.honest device.old) → IsErrOf result faults.NotEmpty → D.content device.old ≢ [] }
@@ -108,6 +112,7 @@ pub(crate) fn create_file<D: Device>(
 pub(crate) fn lay_gate<D: Device>(alloc: Global, device: &mut D) -> Result<(), Fault>
     ensures honest { D.honest device.new ≡ D.honest device.old }
     ensures cause { HasCause (D.failed device.old) (D.failed device.new) result }
+    ensures counted { CountsNoOther (D.failed device.old) (D.failed device.new) result }
     ensures fault { IfErr result (λ fault.
         (fault ≡ faults.Device) ⊎ (fault ≡ faults.OutOfMemory) ⊎ (fault ≡ faults.NotEmpty)) }
     ensures not_empty { IsTrue (D.honest device.old) → IsErrOf result faults.NotEmpty → D.content device.old ≢ [] }

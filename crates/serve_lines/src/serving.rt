@@ -1,12 +1,12 @@
 //! The run over the lines of an input.
 
-ghost use Rattle.std.specs.Prelude.{◌≡◌, ℕ, ◌<◌, ◌^◌, List, OnOk, IfErr, IfOk, IfSome};
+ghost use Rattle.std.specs.Prelude.{◌≡◌, ℕ, ◌<◌, ◌^◌, List, OnOk, IfErr, IfOk, IfSome, IsTrue};
 ghost use Rattle.std.specs.Io.KnownBytes.{Appends};
 ghost use Rattle.common.specs.declared.run_fault.RunFault.TheVariants as run_faults;
 ghost use Rattle.definitions.specs.Lines.{lines_of};
 ghost use Rattle.serve_lines.specs.Reading.{Holds};
 ghost use Rattle.definitions.specs.Replying.{output_line, Writes};
-ghost use Rattle.serve_lines.specs.Serving.{Grows, ServesAll, ServesLine, WritesAnswer};
+ghost use Rattle.serve_lines.specs.Serving.{ServesAll, ServesLine, WritesAnswer};
 
 use crate::line::LineBuffer;
 use crate::reading::{flush, read_line};
@@ -29,10 +29,11 @@ pub fn run<R: BufRead, W: Write, S: Service>(
     ensures replies { (s : S.State) → S.stands service.old s
         → OnOk result (IfSome (R.remaining reader.old) (λ input.
         Writes S.answer S.after s (lines_of input) (W.contents writer.old) (W.contents writer.new))) }
-    // Unless the reply of a fault that stops is among them, the service stands for the state after all lines.
+    // The service stands for the state after all lines, unless that of `Device` is among the replies, or that of
+    // another fault that stops where it doesn't last.
     ensures stands { (s : S.State) → S.stands service.old s
         → OnOk result (IfSome (R.remaining reader.old) (λ input.
-        ServesAll S.answer S.after (S.stands service.new) s (lines_of input)
+        ServesAll S.answer S.after S.leaves (IsTrue (S.lasts service.old)) (S.stands service.new) s (lines_of input)
         (W.contents writer.old) (W.contents writer.new))) }
 {
     run_within(alloc, reader, writer, service, most_turns())
@@ -58,7 +59,7 @@ pub fn run_within<R: BufRead, W: Write, S: Service>(
         Writes S.answer S.after s (lines_of input) (W.contents writer.old) (W.contents writer.new))) }
     ensures stands { (s : S.State) → S.stands service.old s
         → OnOk result (IfSome (R.remaining reader.old) (λ input.
-        ServesAll S.answer S.after (S.stands service.new) s (lines_of input)
+        ServesAll S.answer S.after S.leaves (IsTrue (S.lasts service.old)) (S.stands service.new) s (lines_of input)
         (W.contents writer.old) (W.contents writer.new))) }
 {
     let mut line = LineBuffer::new(alloc);
@@ -77,11 +78,10 @@ fn serve_line<R: BufRead, W: Write, S: Service>(
     turns: &mut u64,
 ) -> Result<bool, RunFault>
     ensures turns { OnOk result (turns.new < turns.old) }
-    ensures grows { OnOk result (Grows (W.contents writer.old) (W.contents writer.new)) }
-    ensures served { (s : S.State) → S.stands service.old s → IfOk result (λ more.
-        ServesLine S.answer S.after (S.stands service.new) more s
-        (R.remaining reader.old) (R.remaining reader.new)
-        (W.contents writer.old) (W.contents writer.new)) }
+    ensures lasts { S.lasts service.new ≡ S.lasts service.old }
+    ensures served { IfOk result (λ more.
+        ServesLine S.answer S.after S.leaves (IsTrue (S.lasts service.old)) (S.stands service.old) (S.stands service.new)
+        more (R.remaining reader.old) (R.remaining reader.new) (W.contents writer.old) (W.contents writer.new)) }
 {
     if !read_line(reader, writer, line, turns)? {
         return Ok(false);
@@ -96,12 +96,11 @@ fn answer_line<W: Write, S: Service>(
     service: &mut S,
     line: &LineBuffer,
 ) -> Result<(), RunFault>
-    ensures grows { OnOk result (Grows (W.contents writer.old) (W.contents writer.new)) }
     ensures fault { IfErr result (λ fault. fault ≡ run_faults.WriteFault) }
-    ensures answered { (s : S.State) → S.stands service.old s
-        → (seen : List ℕ) → Holds line.now seen
-        → OnOk result (WritesAnswer S.answer S.after (S.stands service.new) s seen
-        (W.contents writer.old) (W.contents writer.new)) }
+    ensures lasts { S.lasts service.new ≡ S.lasts service.old }
+    ensures answered { (seen : List ℕ) → Holds line.now seen
+        → OnOk result (WritesAnswer S.answer S.after S.leaves (IsTrue (S.lasts service.old))
+        (S.stands service.old) (S.stands service.new) seen (W.contents writer.old) (W.contents writer.new)) }
 {
     match line.text() {
         Ok(text) => match service.reply(text) {

@@ -1,11 +1,16 @@
 -- What a scorer of a term has.
-use Rattle.std.specs.Prelude.{List, ℕ}
+use Rattle.std.specs.Prelude.{◌≡◌, List, ℕ}
 use Rattle.cursors.specs.Entries.{Entry, Rising}
-use Rattle.segment_postings.specs.Cursors.{entries_left, rising_left}
+use Rattle.segment_postings.specs.Cursors.{HasMoved, entries_left, rising_left}
+use Rattle.segment_postings.specs.declared.segment_postings.SegmentPostings.{SegmentPostings}
 use Rattle.term_scorer.specs.Similarities.{similarity_data}
 use Rattle.term_scorer.specs.TermScores.{TermSimilarity, term_scored}
 use Rattle.term_scorer.specs.TermScoreLaws.{Rising-term}
 use Rattle.term_scorer.specs.declared.term_scorer.TermScorer.{TermScorer}
+
+-- the postings over which it goes
+abbrev pub cursor_of : TermScorer → SegmentPostings
+cursor_of s = s.postings
 
 -- the length id of each document
 abbrev pub length_ids : TermScorer → List ℕ
@@ -21,3 +26,10 @@ scored_left s = term_scored (similarity_data s.similarity) s.fieldnorm_reader (e
 
 pub rising_scored : (s : TermScorer) → Rising 0 (scored_left s)
 rising_scored s = Rising-term (similarity_data s.similarity) s.fieldnorm_reader (entries_left s.postings) s.similarity.fits (rising_left s.postings)
+
+-- its postings went on to a place, which is counted from the first document of the block that they held, and all else is as
+-- it was
+pub record MovesOn (place : ℕ) (before after : TermScorer) : Type 0 where
+  pub moved : HasMoved place (cursor_of before) (cursor_of after)
+  pub lengths : length_ids after ≡ length_ids before
+  pub similarity : similarity_of after ≡ similarity_of before

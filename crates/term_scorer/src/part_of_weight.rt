@@ -3,8 +3,8 @@
 ghost use Rattle.std.specs.Prelude.{◌*◌, ◌/◌, ◌<◌, ◌≡◌, ◌≤◌};
 ghost use Rattle.definitions.specs.Scoring.{part};
 
-/// The part of a weight that a count earns beside a norm. It divides by 32 bits where that is enough, and by 128
-/// where the weight times the count passes 64.
+/// The part of a weight that a count earns beside a norm. It divides by 128 bits where the weight times the count
+/// passes 64.
 #[inline]
 pub(crate) fn part_of_weight(weight: u64, count: u32, norm: u32) -> u64
     ensures { result ≡ part weight count norm }
@@ -14,21 +14,9 @@ pub(crate) fn part_of_weight(weight: u64, count: u32, norm: u32) -> u64
     }
     let whole = u64::from(count) + u64::from(norm);
     match weight.checked_mul(u64::from(count)) {
-        Some(product) => quotient(product, whole),
+        Some(product) => product / whole,
         None => wide_part(weight, count, whole),
     }
-}
-
-/// A quotient.
-#[inline]
-fn quotient(dividend: u64, divisor: u64) -> u64
-    requires { 0 < divisor }
-    ensures { result ≡ dividend / divisor }
-{
-    if dividend <= 4294967295 && divisor <= 4294967295 {
-        return u64::from(dividend as u32 / divisor as u32);
-    }
-    dividend / divisor
 }
 
 /// The part of a weight by 128 bits.

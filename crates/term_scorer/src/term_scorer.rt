@@ -1,6 +1,6 @@
 //! The documents of a term, with their scores.
 
-ghost use Rattle.std.specs.Prelude.{[], ◌*◌, ◌<◌, ◌≡◌, ◌≤◌, IfOk, length, pos, slice_index};
+ghost use Rattle.std.specs.Prelude.{[], ◌*◌, ◌+◌, ◌<◌, ◌≡◌, ◌≤◌, IfOk, length, pos, slice_index};
 ghost use Rattle.cursors.specs.Entries.{first, first_count, first_score, from};
 ghost use Rattle.definitions.specs.Postings.{terminated};
 ghost use Rattle.definitions.specs.Scoring.{max_score};
@@ -13,7 +13,7 @@ ghost use Rattle.term_scorer.specs.TermScores.{documents_bound, term_scored};
 use crate::explanation::Explanation;
 use crate::similarity::Similarity;
 use common::{DocId, Score};
-use cursors::{DocSet, Postings};
+use cursors::{DocSet, Postings, SeekDangerResult};
 use fieldnorms::FieldNormReader;
 use leaf_scorers::Scorer;
 use segment_postings::SegmentPostings;
@@ -29,7 +29,7 @@ pub struct TermScorer<'a> {
 }
 
 impl<'a> TermScorer<'a> {
-    ghost use Rattle.term_scorer.specs.ScoredTerms.{length_ids, scored_left, similarity_of};
+    ghost use Rattle.term_scorer.specs.ScoredTerms.{cursor_of, length_ids, scored_left, similarity_of};
 
     /// The postings of a term with the scores that follow from the lengths of all documents.
     pub fn new(
@@ -42,6 +42,7 @@ impl<'a> TermScorer<'a> {
             ≡ term_scored (similarity_data similarity.entry) fieldnorm_reader.entry (entries_left postings.entry) }
         ensures lengths { length_ids result ≡ fieldnorm_reader.entry }
         ensures similarity { similarity_of result ≡ similarity_data similarity.entry }
+        ensures cursor { cursor_of result ≡ postings.entry }
     {
         TermScorer {
             postings,
@@ -89,18 +90,43 @@ impl<'a> TermScorer<'a> {
 }
 
 impl<'a> DocSet for TermScorer<'a> {
-    ghost use Rattle.term_scorer.specs.ScoredTerms.{rising_scored, scored_left};
+    ghost use Rattle.std.specs.Prelude.{drop, max};
+    ghost use Rattle.cursors.specs.Danger.{IsDangerAnswer};
+    ghost use Rattle.segment_postings.specs.Cursors.{cursor_blocks, cursor_place, docs_left};
+    ghost use Rattle.segment_postings.specs.Reading.{below};
+    ghost use Rattle.term_scorer.specs.ScoredTerms.{MovesOn, cursor_of, rising_scored, scored_left};
 
     ghost entries = { scored_left };
 
     #[inline]
-    fn advance(&mut self) -> DocId {
+    fn advance(&mut self) -> DocId
+        ensures rest { scored_left self.new ≡ drop 1 (scored_left self.old) }
+        ensures at { result ≡ first (scored_left self.new) }
+        ensures moved { MovesOn (cursor_place (cursor_of self.old) + 1) self.old self.new }
+    {
         self.postings.advance()
     }
 
     #[inline]
-    fn seek(&mut self, target: DocId) -> DocId {
+    fn seek(&mut self, target: DocId) -> DocId
+        requires ahead { first (scored_left self.old) ≤ target }
+        requires small { target ≤ terminated }
+        ensures rest { scored_left self.new ≡ from target (scored_left self.old) }
+        ensures at { result ≡ first (scored_left self.new) }
+        ensures moved { MovesOn (below target (docs_left (cursor_blocks (cursor_of self.old)))) self.old self.new }
+    {
         self.postings.seek(target)
+    }
+
+    #[inline]
+    fn seek_danger(&mut self, target: DocId) -> SeekDangerResult
+        requires { target < terminated }
+        ensures answer { IsDangerAnswer result target (scored_left self.old) (scored_left self.new) }
+        ensures moved { MovesOn
+            (max (cursor_place (cursor_of self.old)) (below target (docs_left (cursor_blocks (cursor_of self.old)))))
+            self.old self.new }
+    {
+        self.postings.seek_danger(target)
     }
 
     #[inline]
