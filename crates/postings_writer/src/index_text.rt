@@ -1,7 +1,7 @@
 //! Records the tokens of texts.
 
 ghost use Rattle.std.specs.Prelude.{[], ◌++◌, ◌+◌, ◌<◌, ◌^◌, ◌≡◌, ◌≤◌, ◌∷◌, IfErr, IfOk, List, OnOk, min, ℕ};
-ghost use Rattle.common.specs.Token.{token_of};
+ghost use Rattle.common.specs.Buffers.{token_of_ref};
 ghost use Rattle.definitions.specs.Analyzers.{kept};
 ghost use Rattle.definitions.specs.Places.{ends, greatest_from, next_start};
 ghost use Rattle.definitions.specs.Postings.{terminated};
@@ -11,7 +11,7 @@ ghost use Rattle.postings_writer.specs.Texts.{AreWithin, EndsPast, IsTextRefusal
 ghost use Rattle.postings_writer.specs.Writers.{IsIndexedTerm, Stands};
 
 use crate::postings_writer::PostingsWriter;
-use common::{MAX_TOKEN_LEN, Token, TokenStream};
+use common::{MAX_TOKEN_LEN, TokenRef, TokenStream};
 use definitions::Fault;
 
 /// What every position, with its length and the gap behind it, is below.
@@ -19,9 +19,9 @@ const MAX_POSITION: u32 = 2147483648;
 
 /// The position of a token in a value that begins at a start, and where the token ends. With the gap behind it
 /// the end is below 2147483648.
-fn place_of(start: u32, gap: u32, token: &Token) -> Result<(u32, u32), Fault>
-    ensures ok { IfOk result (λ p. (p.0 ≡ start + token.now.position) × (p.1 ≡ start + token.now.position + token.now.position_length) × (p.1 + gap < 2 ^ 31)) }
-    ensures err { IfErr result (λ fault. (fault ≡ faults.Limit) × (2 ^ 31 ≤ end_of gap start (token_of token.now))) }
+fn place_of(start: u32, gap: u32, token: TokenRef<'_>) -> Result<(u32, u32), Fault>
+    ensures ok { IfOk result (λ p. (p.0 ≡ start + token.position) × (p.1 ≡ start + token.position + token.position_length) × (p.1 + gap < 2 ^ 31)) }
+    ensures err { IfErr result (λ fault. (fault ≡ faults.Limit) × (2 ^ 31 ≤ end_of gap start (token_of_ref token))) }
 {
     let position = below_limit(token.position)?;
     let length = below_limit(token.position_length)?;
@@ -101,18 +101,18 @@ impl<'a> PostingsWriter<'a> {
         &mut self,
         doc: u32,
         term_buffer: &mut Vec<u8>,
-        token: &Token,
+        token: TokenRef<'_>,
         start: u32,
         gap: u32,
     ) -> Result<u32, Fault>
         requires known { (text : List ℕ) → IsIndexedTerm self.old.schema (term_buffer.old.items ++ text) }
         requires next { self.old.num_docs ≤ doc + 1 }
         requires fits { doc < terminated }
-        ensures ok { (os : List Occurrence) → Stands self.old os → OnOk result (Stands self.new (os ++ text_occurrences doc term_buffer.old.items start (kept (token_of token.now ∷ [])))) }
-        ensures end { IfOk result (λ end. end ≡ greatest_from start (ends start (kept (token_of token.now ∷ [])))) }
-        ensures within { OnOk result (AreWithin gap start (kept (token_of token.now ∷ []))) }
+        ensures ok { (os : List Occurrence) → Stands self.old os → OnOk result (Stands self.new (os ++ text_occurrences doc term_buffer.old.items start (kept (token_of_ref token ∷ [])))) }
+        ensures end { IfOk result (λ end. end ≡ greatest_from start (ends start (kept (token_of_ref token ∷ [])))) }
+        ensures within { OnOk result (AreWithin gap start (kept (token_of_ref token ∷ []))) }
         ensures same { OnOk result ((self.new.schema ≡ self.old.schema) × (self.new.num_docs ≤ doc + 1) × (term_buffer.new.items ≡ term_buffer.old.items)) }
-        ensures err { (os : List Occurrence) → Stands self.old os → IfErr result (λ fault. IsTextRefusal fault os doc term_buffer.old.items gap start (kept (token_of token.now ∷ []))) }
+        ensures err { (os : List Occurrence) → Stands self.old os → IfErr result (λ fault. IsTextRefusal fault os doc term_buffer.old.items gap start (kept (token_of_ref token ∷ []))) }
     {
         if token.text.len() > MAX_TOKEN_LEN {
             return Ok(start);

@@ -1,6 +1,6 @@
 use Rattle.std.proofs.Common.{[], ◌++◌, ◌≡◌, ◌≤◌, ◌∙◌, ◌∷◌, List, ap, arith, length, subst, sym, ℕ}
 use Rattle.std.proofs.lemmas.Result.{err_from_is_err_and}
-use Rattle.common.specs.Token.{token_of}
+use Rattle.common.specs.Buffers.{token_of_ref}
 use Rattle.definitions.specs.Analyzers.{max_token_len}
 use Rattle.definitions.specs.Values.{Token}
 use Rattle.postings_writer.specs.Occurrences.{places_of}
@@ -11,7 +11,7 @@ use Rattle.postings_writer.proofs.postings_writer.PostingsWriter.index_token.Goa
 
 pub returns-in_err-subscribe-clause-err : goal.returns-in_err-subscribe-clause-err
 returns-in_err-subscribe-clause-err c os stands =
-    let t : Token = token_of c.args.token.now in
+    let t : Token = token_of_ref c.args.token in
     let prefix = c.args.term_buffer.now.items in
     let term : c.deref.result.now ≡ prefix ++ t.text = c.deref.ensures.value ∙ c.in_ok-extend_from_slice.ensures.items ∙ ap (λ bs. prefix ++ bs) c.as_bytes.ensures.value in
     let short : length t.text ≤ max_token_len = (let long = c.len.ensures in let test = c.if-len-gt-MAX_TOKEN_LEN.false in omega arith) in

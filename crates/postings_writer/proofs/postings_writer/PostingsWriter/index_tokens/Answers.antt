@@ -1,6 +1,6 @@
 use Rattle.std.proofs.Common.{[], ◌++◌, ◌≡◌, ◌∙◌, ◌∷◌, List, arith, subst, sym, ℕ}
 use Rattle.std.proofs.lemmas.Result.{err_from_is_err_and}
-use Rattle.common.specs.Token.{token_of}
+use Rattle.common.specs.Buffers.{token_of_ref}
 use Rattle.definitions.specs.Analyzers.{kept}
 use Rattle.definitions.specs.Values.{Token}
 use Rattle.postings_writer.specs.Occurrences.{Occurrence}
@@ -12,7 +12,7 @@ use Rattle.postings_writer.proofs.postings_writer.PostingsWriter.index_tokens.Go
 pub loop-self-preserved : goal.loop-self-preserved
 loop-self-preserved g c =
     let inv = c.loop-self.invariant in
-    let t : Token = token_of c.token.result.now in
+    let t : Token = token_of_ref c.token.result in
     let prefix = c.args.term_buffer.now.items in
     let all = g.T.TokenStream.rest c.args.stream.now in
     let rest = g.T.TokenStream.rest c.loop-self.stream in
@@ -31,7 +31,7 @@ loop-self-preserved g c =
 pub returns-in_err-token_end-clause-err : goal.returns-in_err-token_end-clause-err
 returns-in_err-token_end-clause-err g c os stands =
     let inv = c.loop-self.invariant in
-    let t : Token = token_of c.token.result.now in
+    let t : Token = token_of_ref c.token.result in
     let prefix = c.args.term_buffer.now.items in
     let all = g.T.TokenStream.rest c.args.stream.now in
     let rest = g.T.TokenStream.rest c.loop-self.stream in
