@@ -1,3 +1,5 @@
 pub mod Token
 pub mod Calls
+pub mod MemoryDevices
 pub mod BitSets
+pub mod Buffers

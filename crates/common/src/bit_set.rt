@@ -51,6 +51,7 @@ impl BitSet {
     }
 
     /// Puts a number in.
+    #[inline]
     pub fn insert(&mut self, el: u32)
         requires { el < length self.old }
         ensures { self.new ≡ slice_set self.old el true }
@@ -65,6 +66,7 @@ impl BitSet {
     }
 
     /// Takes a number out.
+    #[inline]
     pub fn remove(&mut self, el: u32)
         requires { el < length self.old }
         ensures { self.new ≡ slice_set self.old el false }
@@ -78,7 +80,16 @@ impl BitSet {
         }
     }
 
+    /// Takes all numbers out, a word at a time.
+    pub fn clear(&mut self)
+        ensures { self.new ≡ replicate (length self.old) false }
+    {
+        self.words.fill(0);
+        self.len = 0;
+    }
+
     /// Whether a number is in. None from the bound on is.
+    #[inline]
     pub fn contains(&self, el: u32) -> bool
         ensures { result ≡ slice_index_or self.now el false }
     {
@@ -86,6 +97,7 @@ impl BitSet {
     }
 
     /// The least number that is in and isn't below this one.
+    #[inline]
     pub fn first_from(&self, el: u32) -> Option<u32>
         ensures first { IsFirst (λ i. slice_index_or self.now i false) el result }
         ensures within { IfSome result (λ at. (at < length self.now) × (length self.now < 2 ^ 32)) }
@@ -94,6 +106,7 @@ impl BitSet {
     }
 
     /// How many numbers are in.
+    #[inline]
     pub fn len(&self) -> usize
         ensures { result ≡ count_set self.now }
     {
@@ -101,6 +114,7 @@ impl BitSet {
     }
 
     /// The bound that the numbers are below.
+    #[inline]
     pub fn max_value(&self) -> u32
         ensures { result ≡ length self.now }
     {

@@ -56,6 +56,7 @@ pub(crate) fn count_bits(words: &[u64]) -> usize
 }
 
 /// The least number from one on whose bit is set.
+#[inline]
 pub(crate) fn first_bit(words: &[u64], from: u32) -> Option<u32>
     requires { length words.now ≤ 2 ^ 26 }
     ensures { IsFirst (flag_at words.now) from result }

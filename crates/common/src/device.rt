@@ -1,6 +1,6 @@
 //! What holds a file's bytes, and may fail or crash.
 
-ghost use Rattle.std.specs.Prelude.{◌++◌, ◌≡◌, ◌≢◌, ◌≤◌, ◌⊎◌, Bool, IfErr, IfOk, IsTrue, List, OnErr, OnOk, length, take, ℕ};
+ghost use Rattle.std.specs.Prelude.{◌++◌, ◌≡◌, ◌≢◌, ◌≤◌, ◌⊎◌, Bool, IfErr, IfOk, IsErrOf, IsTrue, List, OnErr, OnOk, length, take, ℕ};
 ghost use Rattle.definitions.specs.declared.fault.Fault.TheVariants as faults;
 ghost use Rattle.definitions.specs.Disk.{HasCause, IsEither, IsImage, IsPartly, Unsynced, overwritten, settled, shortened, written};
 ghost use Rattle.definitions.specs.Moments.{Elapses};
@@ -35,6 +35,7 @@ pub trait Device {
     fn read(&mut self, alloc: Global) -> Result<Vec<u8>, Fault>
         ensures honest { honest self.new ≡ honest self.old }
         ensures cause { HasCause (failed self.old) (failed self.new) result }
+        ensures counted { ¬ IsErrOf result faults.Device → failed self.new ≡ failed self.old }
         ensures fault { IfErr result (λ fault. (fault ≡ faults.Device) ⊎ (fault ≡ faults.OutOfMemory)) }
         ensures bytes { IsTrue (honest self.old) → IfOk result (λ bytes. bytes.items ≡ content self.old) }
         ensures content { IsTrue (honest self.old) → content self.new ≡ content self.old }
@@ -46,6 +47,7 @@ pub trait Device {
         requires { IsTrue (honest self.old) → at ≤ length (content self.old) }
         ensures honest { honest self.new ≡ honest self.old }
         ensures cause { HasCause (failed self.old) (failed self.new) result }
+        ensures counted { ¬ IsErrOf result faults.Device → failed self.new ≡ failed self.old }
         ensures fault { IfErr result (λ fault. fault ≡ faults.Device) }
         ensures content { IsTrue (honest self.old) → OnOk result (content self.new ≡ overwritten at bytes.now (content self.old)) }
         ensures partly { IsTrue (honest self.old) → OnErr result (IsPartly (content self.old) (overwritten at bytes.now (content self.old)) (content self.new)) }
@@ -58,6 +60,7 @@ pub trait Device {
         requires { IsTrue (honest self.old) → len ≤ length (content self.old) }
         ensures honest { honest self.new ≡ honest self.old }
         ensures cause { HasCause (failed self.old) (failed self.new) result }
+        ensures counted { ¬ IsErrOf result faults.Device → failed self.new ≡ failed self.old }
         ensures fault { IfErr result (λ fault. fault ≡ faults.Device) }
         ensures content { IsTrue (honest self.old) → OnOk result (content self.new ≡ take len (content self.old)) }
         ensures partly { IsTrue (honest self.old) → OnErr result (IsPartly (content self.old) (take len (content self.old)) (content self.new)) }
@@ -69,6 +72,7 @@ pub trait Device {
     fn sync(&mut self) -> Result<(), Fault>
         ensures honest { honest self.new ≡ honest self.old }
         ensures cause { HasCause (failed self.old) (failed self.new) result }
+        ensures counted { ¬ IsErrOf result faults.Device → failed self.new ≡ failed self.old }
         ensures fault { IfErr result (λ fault. fault ≡ faults.Device) }
         ensures content { IsTrue (honest self.old) → content self.new ≡ content self.old }
         ensures unsynced { IsTrue (honest self.old) → OnOk result (unsynced self.new ≡ settled (length (content self.old))) }

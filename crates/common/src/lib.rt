@@ -18,6 +18,7 @@ mod raw_and_default;
 mod run_fault;
 mod synced;
 mod token;
+mod token_buffer;
 mod token_stream;
 
 pub use alive_bit_set::{AliveBitSet, AliveIter};
@@ -39,4 +40,5 @@ pub use raw_and_default::RawAndDefault;
 pub use run_fault::RunFault;
 pub use synced::{cut_synced, write_synced};
 pub use token::{MAX_TOKEN_LEN, Token, max_token_len_is_that_of_definitions};
-pub use token_stream::{PreTokenizedStream, TokenStream};
+pub use token_buffer::{TokenBuffer, TokenRef};
+pub use token_stream::{BufferedStream, PreTokenizedStream, TokenStream};

@@ -1,8 +1,8 @@
 //! A device over memory.
 
-ghost use Rattle.std.specs.Prelude.{[], ◌++◌, ◌<◌, ◌∷◌, ◌≡◌, ◌≤◌, IfErr, IsErrOf, OnErr, OnOk, length, slice_index, true, ℕ};
+ghost use Rattle.std.specs.Prelude.{[], ◌++◌, ◌<◌, ◌∷◌, ◌≡◌, ◌≤◌, IfErr, IsErrOf, OnErr, OnOk, length, slice_index, take, true, ℕ};
 ghost use Rattle.definitions.specs.declared.fault.Fault.TheVariants as faults;
-ghost use Rattle.definitions.specs.Disk.{HasCause, IsImage, overwritten, settled};
+ghost use Rattle.definitions.specs.Disk.{HasCause, IsImage, overwritten, settled, shortened, written};
 ghost use Rattle.definitions.specs.Moments.{Elapses};
 ghost use Rattle.common.specs.Calls.{IsWithin, LeftSince, after_call, content_after, disk_after, unsynced_after};
 
@@ -52,6 +52,7 @@ impl MemoryDevice {
         ensures ok { OnOk result (disk_after self.new.calls.items ≡ after_call (disk_after self.old.calls.items) call) }
         ensures err { OnErr result (disk_after self.new.calls.items ≡ disk_after self.old.calls.items) }
         ensures cause { HasCause self.old.failed self.new.failed result }
+        ensures counted { OnOk result (self.new.failed ≡ self.old.failed) }
         ensures fault { IfErr result (λ fault. fault ≡ faults.Device) }
         ensures time { Elapses (length self.old.calls.items) (length self.new.calls.items) (LeftSince self.old.calls.items) (LeftSince self.new.calls.items) (IsImage self.new.bytes.items (unsynced_after self.new.calls.items)) }
     {
@@ -104,21 +105,22 @@ fn overwrite(content: &mut Vec<u8>, at: usize, bytes: &[u8]) -> Result<(), Alloc
 }
 
 impl Device for MemoryDevice {
-    ghost use Rattle.std.specs.Prelude.{length, true};
+    ghost use Rattle.std.specs.Prelude.{true};
     ghost use Rattle.definitions.proofs.KeptCalls.{only_now, since_now};
-    ghost use Rattle.common.specs.Calls.{LeftSince, content_after, unsynced_after};
+    ghost use Rattle.common.specs.Calls.{content_after, unsynced_after};
+    ghost use Rattle.common.specs.MemoryDevices.{content_of, failures_of, left_since_of, moment_of, unsynced_of};
 
     ghost honest = { λ _. true };
 
-    ghost content = { λ device. device.bytes.items };
+    ghost content = { content_of };
 
-    ghost failed = { λ device. device.failed };
+    ghost failed = { failures_of };
 
-    ghost unsynced = { λ device. unsynced_after device.calls.items };
+    ghost unsynced = { unsynced_of };
 
-    ghost moment = { λ device. length device.calls.items };
+    ghost moment = { moment_of };
 
-    ghost left_since = { λ device. LeftSince device.calls.items };
+    ghost left_since = { left_since_of };
 
     ghost remains = { λ device _. device.remains };
 
@@ -130,14 +132,38 @@ impl Device for MemoryDevice {
         Ok(self.bytes.to_vec(alloc)?)
     }
 
-    fn write_at(&mut self, at: usize, bytes: &[u8]) -> Result<(), Fault> {
+    /// Where no memory is found nothing is written.
+    fn write_at(&mut self, at: usize, bytes: &[u8]) -> Result<(), Fault>
+        requires { at ≤ length (content_of self.old) }
+        ensures cause { HasCause (failures_of self.old) (failures_of self.new) result }
+        ensures counted { OnOk result (failures_of self.new ≡ failures_of self.old) }
+        ensures fault { IfErr result (λ fault. fault ≡ faults.Device) }
+        ensures content { OnOk result (content_of self.new ≡ overwritten at bytes.now (content_of self.old)) }
+        ensures unsynced { OnOk result (unsynced_of self.new ≡ written at (length bytes.now) (unsynced_of self.old)) }
+        ensures unchanged { OnErr result (content_of self.new ≡ content_of self.old) }
+        ensures unsynced_err { OnErr result (unsynced_of self.new ≡ unsynced_of self.old) }
+        ensures time { Elapses (moment_of self.old) (moment_of self.new) (left_since_of self.old) (left_since_of self.new)
+            (IsImage (content_of self.new) (unsynced_of self.new)) }
+    {
         match bytes.to_vec(self.alloc) {
             Ok(bytes) => self.make(Call::Write { at, bytes }),
             Err(_) => fail(&mut self.failed),
         }
     }
 
-    fn cut(&mut self, len: usize) -> Result<(), Fault> {
+    /// Where no memory is found nothing is cut.
+    fn cut(&mut self, len: usize) -> Result<(), Fault>
+        requires { len ≤ length (content_of self.old) }
+        ensures cause { HasCause (failures_of self.old) (failures_of self.new) result }
+        ensures counted { OnOk result (failures_of self.new ≡ failures_of self.old) }
+        ensures fault { IfErr result (λ fault. fault ≡ faults.Device) }
+        ensures content { OnOk result (content_of self.new ≡ take len (content_of self.old)) }
+        ensures unsynced { OnOk result (unsynced_of self.new ≡ shortened len (unsynced_of self.old)) }
+        ensures unchanged { OnErr result (content_of self.new ≡ content_of self.old) }
+        ensures unsynced_err { OnErr result (unsynced_of self.new ≡ unsynced_of self.old) }
+        ensures time { Elapses (moment_of self.old) (moment_of self.new) (left_since_of self.old) (left_since_of self.new)
+            (IsImage (content_of self.new) (unsynced_of self.new)) }
+    {
         self.make(Call::Cut { len })
     }
 

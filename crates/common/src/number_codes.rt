@@ -2,7 +2,7 @@
 //!
 //! What is taken is lent from the bytes. A text is put by its bytes.
 
-ghost use Rattle.std.specs.Prelude.{nat_eq, nat_lt, ok_or, ◌%◌, ◌&&◌, ◌*◌, ◌++◌, ◌+◌, ◌<◌, ◌≡◌, ◌≤◌, ◌^◌, ◌||◌, IfErr, IfOk, None, OnOk, Some};
+ghost use Rattle.std.specs.Prelude.{nat_eq, nat_lt, ok_or, ◌%◌, ◌&&◌, ◌*◌, ◌++◌, ◌+◌, ◌<◌, ◌≡◌, ◌≤◌, ◌^◌, ◌||◌, IfErr, IfOk, None, OnErr, OnOk, Some, length, take};
 ghost use Rattle.definitions.specs.Json.{only_if};
 ghost use Rattle.definitions.specs.NumberCodes.{sized_bytes, take_bytes, take_text, take_u32, take_u64, take_vint, u32_bytes, u64_bytes, vint_bytes};
 ghost use Rattle.definitions.specs.declared.fault.Fault.TheVariants as faults;
@@ -12,7 +12,8 @@ use std::alloc::AllocError;
 
 /// Appends a number in as few bytes of seven bits as it takes, the lowest first.
 pub fn put_vint(out: &mut Vec<u8>, n: u64) -> Result<(), AllocError>
-    ensures { OnOk result (out.new.items ≡ out.old.items ++ vint_bytes n) }
+    ensures ok { OnOk result (out.new.items ≡ out.old.items ++ vint_bytes n) }
+    ensures err { OnErr result (take (length out.old.items) out.new.items ≡ out.old.items) }
 {
     let mut high = n;
     while high >= 128 {
@@ -25,21 +26,24 @@ pub fn put_vint(out: &mut Vec<u8>, n: u64) -> Result<(), AllocError>
 
 /// Appends a number in four bytes, the lowest first.
 pub fn put_u32(out: &mut Vec<u8>, n: u32) -> Result<(), AllocError>
-    ensures { OnOk result (out.new.items ≡ out.old.items ++ u32_bytes n) }
+    ensures ok { OnOk result (out.new.items ≡ out.old.items ++ u32_bytes n) }
+    ensures err { OnErr result (out.new.items ≡ out.old.items) }
 {
     out.extend_from_slice(&u32::to_le_bytes(n))
 }
 
 /// Appends a number in eight bytes, the lowest first.
 pub fn put_u64(out: &mut Vec<u8>, n: u64) -> Result<(), AllocError>
-    ensures { OnOk result (out.new.items ≡ out.old.items ++ u64_bytes n) }
+    ensures ok { OnOk result (out.new.items ≡ out.old.items ++ u64_bytes n) }
+    ensures err { OnErr result (out.new.items ≡ out.old.items) }
 {
     out.extend_from_slice(&u64::to_le_bytes(n))
 }
 
 /// Appends how many bytes there are, and then these.
 pub fn put_bytes(out: &mut Vec<u8>, bytes: &[u8]) -> Result<(), AllocError>
-    ensures { OnOk result (out.new.items ≡ out.old.items ++ sized_bytes bytes.now) }
+    ensures ok { OnOk result (out.new.items ≡ out.old.items ++ sized_bytes bytes.now) }
+    ensures err { OnErr result (take (length out.old.items) out.new.items ≡ out.old.items) }
 {
     put_vint(out, bytes.len() as u64)?;
     out.extend_from_slice(bytes)

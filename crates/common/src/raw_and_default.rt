@@ -1,11 +1,13 @@
 //! The two analyzers that are always there.
 
-ghost use Rattle.std.specs.Prelude.{◌++◌, ◌≡◌, IfOk, OnOk, map, option_to_list};
+ghost use Rattle.std.specs.Prelude.{◌++◌, ◌≡◌, ◌≤◌, IfOk, IsCharBoundary, List, OnOk, map, option_to_list, slice_range, ℕ};
+ghost use Rattle.std.specs.Char.{to_ascii_lowercase};
 ghost use Rattle.definitions.specs.Analyzers.{default_tokens, is_raw_or_default, is_word_byte, max_run_len, raw, raw_and_default, run_token};
 ghost use Rattle.common.specs.Token.{token_of};
 
 use crate::analyzer::Analyzer;
 use crate::token::Token;
+use crate::token_buffer::TokenBuffer;
 use std::alloc::{AllocError, Global};
 
 /// The analyzers `raw`, whose one token is the whole text, and `default`, whose tokens are the words.
@@ -35,6 +37,23 @@ impl Analyzer for RawAndDefault {
             default_tokens(alloc, text)
         } else {
             Ok(Vec::new(alloc))
+        }
+    }
+
+    fn tokens_into(
+        &self,
+        _alloc: Global,
+        name: &str,
+        text: &str,
+        buffer: &mut TokenBuffer,
+    ) -> Result<(), AllocError> {
+        buffer.clear();
+        if name == "raw" {
+            buffer.push(0, 1, text)
+        } else if name == "default" {
+            put_words(buffer, text)
+        } else {
+            Ok(())
         }
     }
 }
@@ -98,6 +117,48 @@ fn push_word(
             position_length: 1,
             text,
         })?;
+    }
+    Ok(())
+}
+
+// The same loop over a text whose letters are lowered all at once, with no text of its own for a word.
+fn put_words(buffer: &mut TokenBuffer, text: &str) -> Result<(), AllocError>
+    ensures { OnOk result (buffer.new.1 ≡ default_tokens text.now) }
+{
+    let mut position = 0;
+    let mut start = 0;
+    buffer.put_lowercase(text)?;
+    for (i, byte) in text.as_bytes().iter().enumerate() {
+        if !is_word_byte(*byte) {
+            if start < i {
+                put_word(buffer, position, start, i)?;
+                position += 1;
+            }
+            start = i + 1;
+        }
+    }
+    if start < text.len() {
+        put_word(buffer, position, start, text.len())?;
+    }
+    Ok(())
+}
+
+// A word of a text whose letters are lowered in the buffer.
+fn put_word(
+    buffer: &mut TokenBuffer,
+    position: usize,
+    start: usize,
+    end: usize,
+) -> Result<(), AllocError>
+    requires rise { start ≤ end }
+    requires start { IsCharBoundary buffer.old.0 start }
+    requires end { IsCharBoundary buffer.old.0 end }
+    ensures text { buffer.new.0 ≡ buffer.old.0 }
+    ensures tokens { (s : List ℕ) → buffer.old.0 ≡ map to_ascii_lowercase s
+        → OnOk result (buffer.new.1 ≡ buffer.old.1 ++ option_to_list (run_token (position, slice_range s start end))) }
+{
+    if end - start <= MAX_WORD_LEN {
+        buffer.push_part(position, 1, start, end)?;
     }
     Ok(())
 }

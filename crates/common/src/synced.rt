@@ -1,6 +1,6 @@
 //! The steps that end with a sync: of each, one clause says what a crash may leave while it runs.
 
-ghost use Rattle.std.specs.Prelude.{◌≡◌, ◌≤◌, IfErr, IsTrue, OnErr, OnOk, length, take};
+ghost use Rattle.std.specs.Prelude.{◌≡◌, ◌≤◌, IfErr, IsErrOf, IsTrue, OnErr, OnOk, length, take};
 ghost use Rattle.definitions.specs.declared.fault.Fault.TheVariants as faults;
 ghost use Rattle.definitions.specs.Disk.{HasCause, IsEither, IsImage, IsPartly, overwritten, settled, shortened, written};
 ghost use Rattle.definitions.specs.Moments.{LeavesOnly};
@@ -13,6 +13,7 @@ pub fn write_synced<D: Device>(device: &mut D, at: usize, bytes: &[u8]) -> Resul
     requires { IsTrue (D.honest device.old) → at ≤ length (D.content device.old) }
     ensures honest { D.honest device.new ≡ D.honest device.old }
     ensures cause { HasCause (D.failed device.old) (D.failed device.new) result }
+    ensures counted { ¬ IsErrOf result faults.Device → D.failed device.new ≡ D.failed device.old }
     ensures fault { IfErr result (λ fault. fault ≡ faults.Device) }
     ensures content { IsTrue (D.honest device.old) → OnOk result (D.content device.new ≡ overwritten at bytes.now (D.content device.old)) }
     ensures partly { IsTrue (D.honest device.old) → OnErr result (IsPartly (D.content device.old) (overwritten at bytes.now (D.content device.old)) (D.content device.new)) }
@@ -32,6 +33,7 @@ pub fn cut_synced<D: Device>(device: &mut D, len: usize) -> Result<(), Fault>
     requires { IsTrue (D.honest device.old) → len ≤ length (D.content device.old) }
     ensures honest { D.honest device.new ≡ D.honest device.old }
     ensures cause { HasCause (D.failed device.old) (D.failed device.new) result }
+    ensures counted { ¬ IsErrOf result faults.Device → D.failed device.new ≡ D.failed device.old }
     ensures fault { IfErr result (λ fault. fault ≡ faults.Device) }
     ensures content { IsTrue (D.honest device.old) → OnOk result (D.content device.new ≡ take len (D.content device.old)) }
     ensures partly { IsTrue (D.honest device.old) → OnErr result (IsPartly (D.content device.old) (take len (D.content device.old)) (D.content device.new)) }

@@ -77,6 +77,7 @@ impl<'a> FieldNormReader<'a> {
     }
 
     /// A document's length id.
+    #[inline]
     pub fn fieldnorm_id(&self, doc: u32) -> u8
         requires { doc < length self.now }
         ensures { result ≡ slice_index self.now doc }

@@ -5,3 +5,7 @@ use Rattle.packed_blocks.specs.declared.block_decoder.BlockDecoder.{BlockDecoder
 -- the numbers that were read last
 abbrev pub output_list : BlockDecoder → List ℕ
 output_list decoder = take decoder.output_len decoder.output
+
+-- the numbers at all of its places, those that were read last first
+abbrev pub output_places : BlockDecoder → List ℕ
+output_places decoder = decoder.output

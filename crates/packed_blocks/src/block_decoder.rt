@@ -19,12 +19,12 @@ pub struct BlockDecoder {
 }
 
 impl BlockDecoder {
-    ghost use Rattle.packed_blocks.specs.Decoded.{output_list};
+    ghost use Rattle.packed_blocks.specs.Decoded.{output_list, output_places};
 
     /// A decoder that has read nothing yet, with the same number at each of its 128 places.
     pub fn with_val(val: u32) -> BlockDecoder
         ensures nothing { output_list result ≡ [] }
-        ensures places { result.output ≡ replicate block_len val }
+        ensures places { output_places result ≡ replicate block_len val }
     {
         BlockDecoder {
             output: [val; COMPRESSION_BLOCK_SIZE],
@@ -75,7 +75,7 @@ impl BlockDecoder {
     /// The number at one of the 128 places, the numbers read last first.
     pub fn output(&self, place: usize) -> u32
         requires { place < block_len }
-        ensures { result ≡ slice_index self.now.output place }
+        ensures { result ≡ slice_index (output_places self.now) place }
     {
         self.output[place]
     }

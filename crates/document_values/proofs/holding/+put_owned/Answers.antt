@@ -37,7 +37,7 @@ pub put_owned_members-returns-clause-put : goal.put_owned_members-returns-clause
 put_owned_members-returns-clause-put t c =
     let l = c.loop-key in
     let none : drop l.key-index c.args.members.now ≡ [] = drop_all l.key-index c.args.members.now (omega arith) in
-    members_put c.args.out.now.items c.push.new.self.items c.put_vint.new.out.items l.out.items _ l.key-index c.args.members.now c.in_ok-push.ensures.items c.in_ok-put_vint.ensures (search rules) l.invariant.0 none
+    members_put c.args.out.now.items c.push.new.self.items c.put_vint.new.out.items l.out.items _ l.key-index c.args.members.now c.in_ok-push.ensures.items c.in_ok-put_vint.ensures.ok (search rules) l.invariant.0 none
 
 pub put_owned_members-returns-clause-held : goal.put_owned_members-returns-clause-held
 put_owned_members-returns-clause-held t c =
@@ -50,7 +50,7 @@ pub put_owned_values-returns-clause-put : goal.put_owned_values-returns-clause-p
 put_owned_values-returns-clause-put t c =
     let l = c.loop-value in
     let none : drop l.value-index c.args.values.now ≡ [] = drop_all l.value-index c.args.values.now (omega arith) in
-    values_put c.args.out.now.items c.push.new.self.items c.put_vint.new.out.items l.out.items _ l.value-index c.args.values.now c.in_ok-push.ensures.items c.in_ok-put_vint.ensures (search rules) l.invariant.0 none
+    values_put c.args.out.now.items c.push.new.self.items c.put_vint.new.out.items l.out.items _ l.value-index c.args.values.now c.in_ok-push.ensures.items c.in_ok-put_vint.ensures.ok (search rules) l.invariant.0 none
 
 pub put_owned_values-returns-clause-held : goal.put_owned_values-returns-clause-held
 put_owned_values-returns-clause-held t c =

@@ -9,12 +9,12 @@ use Rattle.document_values.proofs.writing.+put_value.Goals as goal
 pub put_array-returns : goal.put_array-returns
 put_array-returns t c =
     let none : c.loop-value.value-iterator ≡ [] = search rules in
-    array_put c.args.out.now.items c.push.new.self.items c.put_vint.new.out.items c.loop-value.out.items c.count_left.result c.args.values c.loop-value.value-iterator c.in_ok-push.ensures.items c.in_ok-put_vint.ensures c.count_left.ensures c.loop-value.invariant.2 none
+    array_put c.args.out.now.items c.push.new.self.items c.put_vint.new.out.items c.loop-value.out.items c.count_left.result c.args.values c.loop-value.value-iterator c.in_ok-push.ensures.items c.in_ok-put_vint.ensures.ok c.count_left.ensures c.loop-value.invariant.2 none
 
 pub put_object-returns : goal.put_object-returns
 put_object-returns t c =
     let none : c.loop-key.key-iterator ≡ [] = search rules in
-    object_put c.args.out.now.items c.push.new.self.items c.put_vint.new.out.items c.loop-key.out.items c.count_left.result c.args.members c.loop-key.key-iterator c.in_ok-push.ensures.items c.in_ok-put_vint.ensures c.count_left.ensures c.loop-key.invariant.2 none
+    object_put c.args.out.now.items c.push.new.self.items c.put_vint.new.out.items c.loop-key.out.items c.count_left.result c.args.members c.loop-key.key-iterator c.in_ok-push.ensures.items c.in_ok-put_vint.ensures.ok c.count_left.ensures c.loop-key.invariant.2 none
 
 pub put_value-returns-in-Facet : goal.put_value-returns-in-Facet
 put_value-returns-in-Facet t c = subst (λ ys. OnOk c.put_sized-in-Facet.result (c.put_sized-in-Facet.new.out.items ≡ c.args.out.now.items ++ ys))
