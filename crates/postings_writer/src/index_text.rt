@@ -20,8 +20,8 @@ const MAX_POSITION: u32 = 2147483648;
 /// The position of a token in a value that begins at a start, and where the token ends. With the gap behind it
 /// the end is below 2147483648.
 fn place_of(start: u32, gap: u32, token: TokenRef<'_>) -> Result<(u32, u32), Fault>
-    ensures ok { IfOk result (λ p. (p.0 ≡ start + token.position) × (p.1 ≡ start + token.position + token.position_length) × (p.1 + gap < 2 ^ 31)) }
-    ensures err { IfErr result (λ fault. (fault ≡ faults.Limit) × (2 ^ 31 ≤ end_of gap start (token_of_ref token))) }
+    ensures ok { IfOk result (λ p. (p.0 ≡ start + token.entry.position) × (p.1 ≡ start + token.entry.position + token.entry.position_length) × (p.1 + gap < 2 ^ 31)) }
+    ensures err { IfErr result (λ fault. (fault ≡ faults.Limit) × (2 ^ 31 ≤ end_of gap start (token_of_ref token.entry))) }
 {
     let position = below_limit(token.position)?;
     let length = below_limit(token.position_length)?;
@@ -108,11 +108,11 @@ impl<'a> PostingsWriter<'a> {
         requires known { (text : List ℕ) → IsIndexedTerm self.old.schema (term_buffer.old.items ++ text) }
         requires next { self.old.num_docs ≤ doc + 1 }
         requires fits { doc < terminated }
-        ensures ok { (os : List Occurrence) → Stands self.old os → OnOk result (Stands self.new (os ++ text_occurrences doc term_buffer.old.items start (kept (token_of_ref token ∷ [])))) }
-        ensures end { IfOk result (λ end. end ≡ greatest_from start (ends start (kept (token_of_ref token ∷ [])))) }
-        ensures within { OnOk result (AreWithin gap start (kept (token_of_ref token ∷ []))) }
+        ensures ok { (os : List Occurrence) → Stands self.old os → OnOk result (Stands self.new (os ++ text_occurrences doc term_buffer.old.items start (kept (token_of_ref token.entry ∷ [])))) }
+        ensures end { IfOk result (λ end. end ≡ greatest_from start (ends start (kept (token_of_ref token.entry ∷ [])))) }
+        ensures within { OnOk result (AreWithin gap start (kept (token_of_ref token.entry ∷ []))) }
         ensures same { OnOk result ((self.new.schema ≡ self.old.schema) × (self.new.num_docs ≤ doc + 1) × (term_buffer.new.items ≡ term_buffer.old.items)) }
-        ensures err { (os : List Occurrence) → Stands self.old os → IfErr result (λ fault. IsTextRefusal fault os doc term_buffer.old.items gap start (kept (token_of_ref token ∷ []))) }
+        ensures err { (os : List Occurrence) → Stands self.old os → IfErr result (λ fault. IsTextRefusal fault os doc term_buffer.old.items gap start (kept (token_of_ref token.entry ∷ []))) }
     {
         if token.text.len() > MAX_TOKEN_LEN {
             return Ok(start);

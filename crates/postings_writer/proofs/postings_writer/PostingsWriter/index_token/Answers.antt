@@ -14,7 +14,7 @@ returns-in_err-subscribe-clause-err c os stands =
     let t : Token = token_of_ref c.args.token in
     let prefix = c.args.term_buffer.now.items in
     let term : c.deref.result.now ≡ prefix ++ t.text = c.deref.ensures.value ∙ c.in_ok-extend_from_slice.ensures.items ∙ ap (λ bs. prefix ++ bs) c.as_bytes.ensures.value in
-    let short : length t.text ≤ max_token_len = (let long = c.len.ensures in let test = c.if-len-gt-MAX_TOKEN_LEN.false in omega arith) in
+    let short : length t.text ≤ max_token_len = (let test = c.if-token-gt-MAX_TOKEN_LEN.false in omega arith) in
     let p = err_from_is_err_and c.from_residual-in_err-subscribe.result c.from_residual-in_err-subscribe.ensures.1 in
     let P : List ℕ → Type 0 = λ bs. IsCountRefusal c.in_err-subscribe.field-0.0 (places_of bs os ++ (c.args.doc, c.in_ok-position.position) ∷ []) in
     let Q : List Token → Type 0 = λ ts. IsTextRefusal c.in_err-subscribe.field-0.0 os c.args.doc prefix c.args.gap c.args.start ts in
