@@ -61,9 +61,9 @@ doc_at t n (p ∷ ps) = go (bytes_eq p.0 t) (doc_at t n ps)
 
 module _ (schema : Schema) (analyze : Analyzer) (was now : Context) (docs : List Document) (doc : Document) (h : HasRecorded schema analyze was docs) where
   few_fields : length schema ≤ max_fields
-  few_fields = subst (λ s. length s ≤ max_fields) h.written.schema_is h.written.stands.few
+  few_fields = h.written.stands.few
 
-  begun : Holds was h.written.os no_starts
+  begun : Holds schema was h.written.os no_starts
   begun = record { stands = h.written.stands; starts_are = first_starts was.doc was.positions h.before }
 
   -- ---- it was recorded
@@ -81,20 +81,19 @@ module _ (schema : Schema) (analyze : Analyzer) (was now : Context) (docs : List
       go [] = refl
       go (d ∷ ds) = (let ih = go ds in omega arith)
 
-  pub document_more : Records was now (steps_of schema analyze doc) → HasRecorded schema analyze (record { writer = now.writer; positions = now.positions; doc = now.doc + 1 }) (docs ++ doc ∷ [])
+  pub document_more : Records schema was now (steps_of schema analyze doc) → HasRecorded schema analyze (record { writer = now.writer; positions = now.positions; doc = now.doc + 1 }) (docs ++ doc ∷ [])
   document_more r = record {
     written = record {
       os = h.written.os ++ occurrences_at was.doc (run_terms no_starts (steps_of schema analyze doc));
       stands = (r.holds h.written.os no_starts begun).stands;
       occurrences_are = places_more;
-      schema_is = r.schema ∙ h.written.schema_is;
       few = (let below = r.next in let count = h.count in let more = length-more in omega arith);
     };
     count = (let same = r.doc in let count = h.count in let more = length-more in omega arith);
     before = (let P : ℕ → Type 0 = λ n. AreBefore (n + 1) now.positions in subst P (sym r.doc) (r.before (before_next was.doc was.positions h.before)));
   }
 
-  pub document_within : Records was now (steps_of schema analyze doc) → AreStepsWithin no_starts (steps_of schema analyze doc)
+  pub document_within : Records schema was now (steps_of schema analyze doc) → AreStepsWithin no_starts (steps_of schema analyze doc)
   document_within r = r.within h.written.os no_starts begun
 
   -- ---- it is refused
@@ -122,7 +121,7 @@ module _ (schema : Schema) (analyze : Analyzer) (was now : Context) (docs : List
       ∙ sym (one_more placed xss xs) in
       subst (λ ps. last_count (by_document ps) < 2 ^ 32) (sym here) (last_count_below (2 ^ 32) 0 (xss ++ xs ∷ []) (omega arith) (all_positions t xs docs (part_within xs (at t rest) (occurrences schema analyze t doc) whole) (counted t)))
 
-  pub document_refused : (fault : Fault) → Refuses was (steps_of schema analyze doc) fault → IsAddRefusal fault schema analyze docs doc
+  pub document_refused : (fault : Fault) → Refuses schema was (steps_of schema analyze doc) fault → IsAddRefusal fault schema analyze docs doc
   document_refused fault refused = go (refused h.written.os no_starts begun)
     where
       go : IsRefusal fault h.written.os was.doc no_starts (steps_of schema analyze doc) → IsAddRefusal fault schema analyze docs doc

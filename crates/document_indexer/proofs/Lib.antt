@@ -14,3 +14,5 @@ pub mod Grouping
 pub mod PostingsOf
 pub mod Adding
 pub mod PassedLimits
+pub mod CountedLengths
+pub mod KeptLengths

@@ -58,11 +58,11 @@ refusal_is fault schema norms given others same (inr (limit, any)) = inr (
 given_there : (schema : Schema) (analyze : Analyzer) (docs : List Document) (os : List Occurrence) → AreOccurrences schema analyze docs os → (t : List ℕ) → postings_in (option_of_term schema t) t os ≡ postings schema analyze t docs
 given_there schema analyze docs os are t = ap (postings_at (option_of_term schema t)) (are t) ∙ postings_are schema analyze t docs
 
-pub sections_given : (schema : Schema) (analyze : Analyzer) (docs : List Document) (norms : List (ℕ × List ℕ)) (w : Writer) (terms ps qs : List ℕ) → HasWritten schema analyze w docs → ((n : ℕ) (os : List Occurrence) → w.num_docs ≤ n → Stands w os → (fields : List IndexedField) × AreSections w.schema n norms fields terms ps qs × AreGiven (λ t. postings_in (option_of_term w.schema t) t os) w.schema fields × AllByRecursion (IsFieldWithin w.schema) fields) → (fields : List IndexedField) × AreSections schema (length docs) norms fields terms ps qs × AreGiven (λ t. postings schema analyze t docs) schema fields × AllByRecursion (IsFieldWithin schema) fields
+pub sections_given : (schema : Schema) (analyze : Analyzer) (docs : List Document) (norms : List (ℕ × List ℕ)) (w : Writer) (terms ps qs : List ℕ) → HasWritten schema analyze w docs → ((n : ℕ) (os : List Occurrence) → w.num_docs ≤ n → Stands schema w os → (fields : List IndexedField) × AreSections schema n norms fields terms ps qs × AreGiven (λ t. postings_in (option_of_term schema t) t os) schema fields × AllByRecursion (IsFieldWithin schema) fields) → (fields : List IndexedField) × AreSections schema (length docs) norms fields terms ps qs × AreGiven (λ t. postings schema analyze t docs) schema fields × AllByRecursion (IsFieldWithin schema) fields
 sections_given schema analyze docs norms w terms ps qs written found =
-    let there = subst (λ s. (fields : List IndexedField) × AreSections s (length docs) norms fields terms ps qs × AreGiven (λ t. postings_in (option_of_term s t) t written.os) s fields × AllByRecursion (IsFieldWithin s) fields) written.schema_is (found (length docs) written.os written.few written.stands) in
+    let there = found (length docs) written.os written.few written.stands in
     (there.0, there.1, given_are schema _ _ there.0 (given_there schema analyze docs written.os written.occurrences_are) there.2, there.3)
 
-pub refusal_given : (fault : Fault) (schema : Schema) (analyze : Analyzer) (docs : List Document) (norms : List (ℕ × List ℕ)) (w : Writer) → HasWritten schema analyze w docs → ((os : List Occurrence) → Stands w os → IsSerializeRefusal fault w.schema norms (λ t. postings_in (option_of_term w.schema t) t os)) → IsSerializeRefusal fault schema norms (λ t. postings schema analyze t docs)
+pub refusal_given : (fault : Fault) (schema : Schema) (analyze : Analyzer) (docs : List Document) (norms : List (ℕ × List ℕ)) (w : Writer) → HasWritten schema analyze w docs → ((os : List Occurrence) → Stands schema w os → IsSerializeRefusal fault schema norms (λ t. postings_in (option_of_term schema t) t os)) → IsSerializeRefusal fault schema norms (λ t. postings schema analyze t docs)
 refusal_given fault schema analyze docs norms w written found =
-    refusal_is fault schema norms _ _ (given_there schema analyze docs written.os written.occurrences_are) (subst (λ s. IsSerializeRefusal fault s norms (λ t. postings_in (option_of_term s t) t written.os)) written.schema_is (found written.os written.stands))
+    refusal_is fault schema norms _ _ (given_there schema analyze docs written.os written.occurrences_are) (found written.os written.stands)

@@ -6,16 +6,16 @@ use Rattle.std.proofs.lemmas.List.{map-append}
 use Rattle.std.proofs.lemmas.Slice.Eq.{bytes_eq-Decides}
 use Rattle.definitions.specs.Indexing.{Placed}
 use Rattle.definitions.specs.Places.{next_start}
-use Rattle.definitions.specs.Schema.{Kind}
+use Rattle.definitions.specs.Schema.{Kind, Schema}
 use Rattle.definitions.specs.Terms.{term_bytes}
 use Rattle.definitions.specs.Values.{Token}
 use Rattle.definitions.specs.declared.fault.Fault.{Fault}
 use Rattle.postings_writer.specs.Occurrences.{Occurrence, by_document, last_count, places_of}
 use Rattle.postings_writer.specs.Recorders.{IsCountRefusal}
 use Rattle.postings_writer.specs.Texts.{AreWithin, IsTextRefusal, text_occurrences}
-use Rattle.postings_writer.specs.Writers.{IsIndexedTerm, Stands, Writer}
+use Rattle.postings_writer.specs.Writers.{HasFields, IsIndexedTerm, Stands, Writer}
 use Rattle.postings_writer.proofs.Standing.{places_of-push}
-use Rattle.document_indexer.specs.Contexts.{AreBefore, CanIndex, Context, HasStarts, Holds, IsIndexedField, IsReady, IsRefusal, Positions, Records, Refuses, context, start_of}
+use Rattle.document_indexer.specs.Contexts.{AreBefore, CanIndex, Context, HasStarts, Holds, IsReady, IsRefusal, Positions, Records, Refuses, context, start_of}
 use Rattle.document_indexer.specs.Runs.{AreStepsWithin, Starts, occurrence_at, occurrences_at, next_starts, run_terms, starts_after, step_terms}
 use Rattle.document_indexer.specs.Steps.{Step, term_step, text_step}
 
@@ -50,27 +50,27 @@ joined : (doc : ℕ) (os : List Occurrence) (ps qs : List Placed) → (os ++ occ
 joined doc os ps qs = append_assoc os (occurrences_at doc ps) (occurrences_at doc qs) ∙ ap (λ more. os ++ more) (sym (map-append (occurrence_at doc) ps qs))
 
 -- nothing is recorded
-pub records_none : (c : Context) → IsReady c → Records c c []
-records_none c ready = record {
-  holds = λ os starts h. record { stands = subst (Stands c.writer) (sym (append_nil os)) h.stands; starts_are = h.starts_are };
+pub records_none : (schema : Schema) (c : Context) → IsReady schema c → Records schema c c []
+records_none schema c ready = record {
+  holds = λ os starts h. record { stands = subst (Stands schema c.writer) (sym (append_nil os)) h.stands; starts_are = h.starts_are };
   within = λ os starts h. tt;
-  schema = refl;
+  made = ready.made;
   doc = refl;
   next = ready.next;
   before = λ all. all;
 }
 
 -- more is recorded
-pub records_more : (a b c : Context) (xs ys : List Step) → Records a b xs → Records b c ys → Records a c (xs ++ ys)
-records_more a b c xs ys r s = record {
+pub records_more : (schema : Schema) (a b c : Context) (xs ys : List Step) → Records schema a b xs → Records schema b c ys → Records schema a c (xs ++ ys)
+records_more schema a b c xs ys r s = record {
   holds = λ os starts h.
       let more = s.holds (os ++ occurrences_at a.doc (run_terms starts xs)) (starts_after starts xs) (r.holds os starts h) in
-      let P : ℕ → Type 0 = λ d. Holds c ((os ++ occurrences_at a.doc (run_terms starts xs)) ++ occurrences_at d (run_terms (starts_after starts xs) ys)) (starts_after (starts_after starts xs) ys) in
-      let Q : List Occurrence → Type 0 = λ os. Holds c os (starts_after (starts_after starts xs) ys) in
-      let R : Starts → Type 0 = λ st. Holds c (os ++ occurrences_at a.doc (run_terms starts (xs ++ ys))) st in
+      let P : ℕ → Type 0 = λ d. Holds schema c ((os ++ occurrences_at a.doc (run_terms starts xs)) ++ occurrences_at d (run_terms (starts_after starts xs) ys)) (starts_after (starts_after starts xs) ys) in
+      let Q : List Occurrence → Type 0 = λ os. Holds schema c os (starts_after (starts_after starts xs) ys) in
+      let R : Starts → Type 0 = λ st. Holds schema c (os ++ occurrences_at a.doc (run_terms starts (xs ++ ys))) st in
       subst R (sym (after-append starts xs ys)) (subst Q (joined a.doc os (run_terms starts xs) (run_terms (starts_after starts xs) ys) ∙ ap (λ ps. os ++ occurrences_at a.doc ps) (sym (run-append starts xs ys))) (subst P r.doc more));
   within = λ os starts h. within_both starts xs ys (r.within os starts h) (s.within (os ++ occurrences_at a.doc (run_terms starts xs)) (starts_after starts xs) (r.holds os starts h));
-  schema = s.schema ∙ r.schema;
+  made = s.made;
   doc = s.doc ∙ r.doc;
   next = (let same = r.doc in let below = s.next in omega arith);
   before = λ all.
@@ -79,18 +79,19 @@ records_more a b c xs ys r s = record {
       subst Q r.doc (s.before (subst P (sym r.doc) (r.before all)));
 }
 
-pub ready_more : (a b : Context) (xs : List Step) → Records a b xs → IsReady a → IsReady b
-ready_more a b xs r ready = record {
+pub ready_more : (schema : Schema) (a b : Context) (xs : List Step) → Records schema a b xs → IsReady schema a → IsReady schema b
+ready_more schema a b xs r ready = record {
+  made = r.made;
   next = (let same = r.doc in let below = r.next in omega arith);
   fits = (let same = r.doc in let fits = ready.fits in omega arith);
 }
 
-pub can_more : (a b : Context) (xs : List Step) (field : ℕ) (kind : Kind) → Records a b xs → CanIndex a field kind → CanIndex b field kind
-can_more a b xs field kind r can = (ready_more a b xs r can.0, subst (λ s. IsIndexedField s field kind) (sym r.schema) can.1)
+pub can_more : (schema : Schema) (a b : Context) (xs : List Step) (field : ℕ) (kind : Kind) → Records schema a b xs → CanIndex schema a field kind → CanIndex schema b field kind
+can_more schema a b xs field kind r can = (ready_more schema a b xs r can.0, can.1)
 
 -- a value of such a field is a term's
-pub known_term : (c : Context) (field : ℕ) (kind : Kind) → CanIndex c field kind → (key : List ℕ) → IsIndexedTerm c.writer.schema (term_bytes field kind key)
-known_term c field kind can key = record {
+pub known_term : (schema : Schema) (c : Context) (field : ℕ) (kind : Kind) → CanIndex schema c field kind → (key : List ℕ) → IsIndexedTerm schema (term_bytes field kind key)
+known_term schema c field kind can key = record {
   field = field;
   entry = can.1.entry;
   key = key;
@@ -101,8 +102,8 @@ known_term c field kind can key = record {
 }
 
 -- the first of these steps are refused
-pub refused_first : (c : Context) (xs ys : List Step) (fault : Fault) → Refuses c xs fault → Refuses c (xs ++ ys) fault
-refused_first c xs ys fault refused os starts h = go (refused os starts h)
+pub refused_first : (schema : Schema) (c : Context) (xs ys : List Step) (fault : Fault) → Refuses schema c xs fault → Refuses schema c (xs ++ ys) fault
+refused_first schema c xs ys fault refused os starts h = go (refused os starts h)
   where
     go : IsRefusal fault os c.doc starts xs → IsRefusal fault os c.doc starts (xs ++ ys)
     go (inl memory) = inl memory
@@ -119,8 +120,8 @@ refused_first c xs ys fault refused os starts h = go (refused os starts h)
     )
 
 -- steps behind those that were recorded are refused
-pub refused_next : (a b : Context) (xs ys : List Step) (fault : Fault) → Records a b xs → Refuses b ys fault → Refuses a (xs ++ ys) fault
-refused_next a b xs ys fault r refused os starts h =
+pub refused_next : (schema : Schema) (a b : Context) (xs ys : List Step) (fault : Fault) → Records schema a b xs → Refuses schema b ys fault → Refuses schema a (xs ++ ys) fault
+refused_next schema a b xs ys fault r refused os starts h =
     let P : ℕ → Type 0 = λ d. IsRefusal fault (os ++ occurrences_at a.doc (run_terms starts xs)) d (starts_after starts xs) ys in
     go (subst P r.doc (refused (os ++ occurrences_at a.doc (run_terms starts xs)) (starts_after starts xs) (r.holds os starts h)))
   where
@@ -143,21 +144,21 @@ refused_next a b xs ys fault r refused os starts h =
 
 -- ---- a term
 
-pub term_recorded : {A E : Type 0} (result : Result A E) (w new : Writer) (positions : Positions) (doc : ℕ) (t : List ℕ) → ((os : List Occurrence) → Stands w os → OnOk result (Stands new (os ++ record { doc = doc; term = t; position = 0 } ∷ []))) → OnOk result ((new.schema ≡ w.schema) × (new.num_docs ≡ doc + 1)) → OnOk result (Records (context w positions doc) (context new positions doc) (term_step t ∷ []))
-term_recorded (Ok x) w new positions doc t ok same = record {
+pub term_recorded : {A E : Type 0} (result : Result A E) (schema : Schema) (w new : Writer) (positions : Positions) (doc : ℕ) (t : List ℕ) → ((os : List Occurrence) → Stands schema w os → OnOk result (Stands schema new (os ++ record { doc = doc; term = t; position = 0 } ∷ []))) → OnOk result (HasFields schema new × (new.num_docs ≡ doc + 1)) → OnOk result (Records schema (context w positions doc) (context new positions doc) (term_step t ∷ []))
+term_recorded (Ok x) schema w new positions doc t ok same = record {
   holds = λ os starts h. record { stands = ok os h.stands; starts_are = h.starts_are };
   within = λ os starts h. (tt, tt);
-  schema = same.0;
+  made = same.0;
   doc = refl;
   next = (let is = same.1 in omega arith);
   before = λ all. all;
 }
-term_recorded (Err e) w new positions doc t ok same = tt
+term_recorded (Err e) schema w new positions doc t ok same = tt
 
 -- a term is refused
-pub term_refused : {A : Type 0} (result : Result A Fault) (w : Writer) (positions : Positions) (doc : ℕ) (t : List ℕ) → ((os : List Occurrence) → Stands w os → IfErr result (λ fault. IsCountRefusal fault (places_of t os ++ (doc, 0) ∷ []))) → IfErr result (Refuses (context w positions doc) (term_step t ∷ []))
-term_refused (Ok x) w positions doc t err = tt
-term_refused (Err fault) w positions doc t err = λ os starts h. go os starts (err os h.stands)
+pub term_refused : {A : Type 0} (result : Result A Fault) (schema : Schema) (w : Writer) (positions : Positions) (doc : ℕ) (t : List ℕ) → ((os : List Occurrence) → Stands schema w os → IfErr result (λ fault. IsCountRefusal fault (places_of t os ++ (doc, 0) ∷ []))) → IfErr result (Refuses schema (context w positions doc) (term_step t ∷ []))
+term_refused (Ok x) schema w positions doc t err = tt
+term_refused (Err fault) schema w positions doc t err = λ os starts h. go os starts (err os h.stands)
   where
     here : (os : List Occurrence) → places_of t (os ++ occurrence_at doc (t, 0) ∷ []) ≡ places_of t os ++ (doc, 0) ∷ []
     here os = places_of-push t os (occurrence_at doc (t, 0)) ∙ ap (λ b. places_of t os ++ cond b ((doc, 0) ∷ []) []) ((bytes_eq-Decides t t).1 refl)
@@ -207,35 +208,35 @@ before_more positions later doc prefix next put all other = subst (λ o. IfSome 
     go true = omega arith
     go false = all other
 
-pub text_recorded : (w new : Writer) (positions later : Positions) (doc : ℕ) (prefix : List ℕ) (gap start next : ℕ) (ts : List Token)
+pub text_recorded : (schema : Schema) (w new : Writer) (positions later : Positions) (doc : ℕ) (prefix : List ℕ) (gap start next : ℕ) (ts : List Token)
     → start ≡ start_of doc prefix positions
-    → ((os : List Occurrence) (real : ℕ) → Stands w os → start ≡ min (2 ^ 31) real → Stands new (os ++ text_occurrences doc prefix real ts))
+    → ((os : List Occurrence) (real : ℕ) → Stands schema w os → start ≡ min (2 ^ 31) real → Stands schema new (os ++ text_occurrences doc prefix real ts))
     → ((real : ℕ) → start ≡ min (2 ^ 31) real → next ≡ min (2 ^ 31) (next_start gap real ts))
     → ((real : ℕ) → start ≡ min (2 ^ 31) real → AreWithin gap real ts)
-    → new.schema ≡ w.schema → new.num_docs ≤ doc + 1
+    → HasFields schema new → new.num_docs ≤ doc + 1
     → ((other : List ℕ) → lookup (bytes_eq other) later ≡ cond (bytes_eq prefix other) (Some (doc, next)) (lookup (bytes_eq other) positions))
-    → Records (context w positions doc) (context new later doc) (text_step prefix gap ts ∷ [])
-text_recorded w new positions later doc prefix gap start next ts start_is stands next_is within schema docs put = record {
+    → Records schema (context w positions doc) (context new later doc) (text_step prefix gap ts ∷ [])
+text_recorded schema w new positions later doc prefix gap start next ts start_is stands next_is within made docs put = record {
   holds = λ os starts h.
       let real : start ≡ min (2 ^ 31) (starts prefix) = start_is ∙ h.starts_are prefix in
       let same : text_occurrences doc prefix (starts prefix) ts ≡ occurrences_at doc (run_terms starts (text_step prefix gap ts ∷ [])) = sym (tokens_recorded doc prefix (starts prefix) ts) ∙ ap (occurrences_at doc) (sym (append_nil (map (placed_at prefix (starts prefix)) ts))) in
       record {
-        stands = subst (λ more. Stands new (os ++ more)) same (stands os (starts prefix) h.stands real);
+        stands = subst (λ more. Stands schema new (os ++ more)) same (stands os (starts prefix) h.stands real);
         starts_are = start_more positions later starts doc prefix gap next ts h.starts_are (next_is (starts prefix) real) put;
       };
   within = λ os starts h. (within (starts prefix) (start_is ∙ h.starts_are prefix), tt);
-  schema = schema;
+  made = made;
   doc = refl;
   next = docs;
   before = before_more positions later doc prefix next put;
 }
 
 -- a text is refused
-pub text_refused : (fault : Fault) (w : Writer) (positions : Positions) (doc : ℕ) (prefix : List ℕ) (gap start : ℕ) (ts : List Token)
+pub text_refused : (fault : Fault) (schema : Schema) (w : Writer) (positions : Positions) (doc : ℕ) (prefix : List ℕ) (gap start : ℕ) (ts : List Token)
     → start ≡ start_of doc prefix positions
-    → ((os : List Occurrence) (real : ℕ) → Stands w os → start ≡ min (2 ^ 31) real → IsTextRefusal fault os doc prefix gap real ts)
-    → Refuses (context w positions doc) (text_step prefix gap ts ∷ []) fault
-text_refused fault w positions doc prefix gap start ts start_is err os starts h = go (err os (starts prefix) h.stands (start_is ∙ h.starts_are prefix))
+    → ((os : List Occurrence) (real : ℕ) → Stands schema w os → start ≡ min (2 ^ 31) real → IsTextRefusal fault os doc prefix gap real ts)
+    → Refuses schema (context w positions doc) (text_step prefix gap ts ∷ []) fault
+text_refused fault schema w positions doc prefix gap start ts start_is err os starts h = go (err os (starts prefix) h.stands (start_is ∙ h.starts_are prefix))
   where
     place : Token → Placed
     place = placed_at prefix (starts prefix)

@@ -8,7 +8,7 @@ use Rattle.definitions.specs.Schema.{Entry, Kind, Schema, is_indexed}
 use Rattle.definitions.specs.declared.fault.Fault.{Fault}
 use Rattle.definitions.specs.declared.fault.Fault.TheVariants as faults
 use Rattle.postings_writer.specs.Occurrences.{Occurrence, by_document, last_count, places_of}
-use Rattle.postings_writer.specs.Writers.{Stands, Writer}
+use Rattle.postings_writer.specs.Writers.{HasFields, Stands, Writer}
 use Rattle.document_indexer.specs.Runs.{AreStepsWithin, Starts, occurrences_at, run_terms, starts_after}
 use Rattle.document_indexer.specs.Steps.{Step}
 
@@ -39,8 +39,8 @@ abbrev pub context : Writer → Positions → ℕ → Context
 context writer positions doc = record { writer = writer; positions = positions; doc = doc }
 
 -- these occurrences are recorded, and texts of the document begin there
-pub record Holds (c : Context) (os : List Occurrence) (starts : Starts) : Type 0 where
-  pub stands : Stands c.writer os
+pub record Holds (schema : Schema) (c : Context) (os : List Occurrence) (starts : Starts) : Type 0 where
+  pub stands : Stands schema c.writer os
   pub starts_are : HasStarts c.doc c.positions starts
 
 -- the schema has an indexed field of that number and kind
@@ -52,19 +52,20 @@ pub record IsIndexedField (schema : Schema) (field : ℕ) (kind : Kind) : Type 0
   pub kind_is : entry.kind ≡ kind
 
 -- the document may have more terms
-pub record IsReady (c : Context) : Type 0 where
+pub record IsReady (schema : Schema) (c : Context) : Type 0 where
+  pub made : HasFields schema c.writer
   pub next : c.writer.num_docs ≤ c.doc + 1
   pub fits : c.doc < terminated
 
 -- it may have more terms of a field
-abbrev pub CanIndex : Context → ℕ → Kind → Type 0
-CanIndex c field kind = IsReady c × IsIndexedField c.writer.schema field kind
+abbrev pub CanIndex : Schema → Context → ℕ → Kind → Type 0
+CanIndex schema c field kind = IsReady schema c × IsIndexedField schema field kind
 
 -- steps of the document were recorded
-pub record Records (was now : Context) (ss : List Step) : Type 0 where
-  pub holds : (os : List Occurrence) (starts : Starts) → Holds was os starts → Holds now (os ++ occurrences_at was.doc (run_terms starts ss)) (starts_after starts ss)
-  pub within : (os : List Occurrence) (starts : Starts) → Holds was os starts → AreStepsWithin starts ss
-  pub schema : now.writer.schema ≡ was.writer.schema
+pub record Records (schema : Schema) (was now : Context) (ss : List Step) : Type 0 where
+  pub holds : (os : List Occurrence) (starts : Starts) → Holds schema was os starts → Holds schema now (os ++ occurrences_at was.doc (run_terms starts ss)) (starts_after starts ss)
+  pub within : (os : List Occurrence) (starts : Starts) → Holds schema was os starts → AreStepsWithin starts ss
+  pub made : HasFields schema now.writer
   pub doc : now.doc ≡ was.doc
   pub next : now.writer.num_docs ≤ was.doc + 1
   pub before : AreBefore (was.doc + 1) was.positions → AreBefore (was.doc + 1) now.positions
@@ -82,5 +83,5 @@ abbrev pub IsRefusal : Fault → List Occurrence → ℕ → Starts → List Ste
 IsRefusal fault os doc starts ss = (fault ≡ faults.OutOfMemory) ⊎ ((fault ≡ faults.Limit) × ((AreStepsWithin starts ss → ⊥) ⊎ CountPasses os doc (run_terms starts ss)))
 
 -- whatever is recorded, the steps are refused so
-abbrev pub Refuses : Context → List Step → Fault → Type 0
-Refuses was ss fault = (os : List Occurrence) (starts : Starts) → Holds was os starts → IsRefusal fault os was.doc starts ss
+abbrev pub Refuses : Schema → Context → List Step → Fault → Type 0
+Refuses schema was ss fault = (os : List Occurrence) (starts : Starts) → Holds schema was os starts → IsRefusal fault os was.doc starts ss

@@ -29,9 +29,8 @@ AreOccurrences schema analyze docs os = (t : List ℕ) → places_of t os ≡ pl
 -- the writer holds what these documents give
 pub record HasWritten (schema : Schema) (analyze : Analyzer) (w : Writer) (docs : List Document) : Type 0 where
   pub os : List Occurrence
-  pub stands : Stands w os
+  pub stands : Stands schema w os
   pub occurrences_are : AreOccurrences schema analyze docs os
-  pub schema_is : w.schema ≡ schema
   pub few : w.num_docs ≤ length docs
 
 -- these documents are recorded, and the next one is to be

@@ -3,4 +3,5 @@ pub mod Steps
 pub mod Runs
 pub mod Contexts
 pub mod Indexed
+pub mod FieldLengths
 pub mod Indexers

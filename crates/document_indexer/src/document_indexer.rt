@@ -2,101 +2,145 @@
 
 ghost use Rattle.std.specs.Prelude.{[], ◌++◌, ◌∷◌, ◌≡◌, IfErr, IfOk, List, OnOk, length};
 ghost use Rattle.std.specs.List.{AllByRecursion};
+ghost use Rattle.definitions.specs.Analyzers as definitions;
+ghost use Rattle.definitions.specs.KeptLengths.{length_fields, norms_of};
 ghost use Rattle.definitions.specs.Postings.{postings};
+ghost use Rattle.definitions.specs.Schema as schemas;
 ghost use Rattle.definitions.specs.Values.{Document};
+ghost use Rattle.layouts.specs.FieldNorms.{IsNorms, norms_bytes};
 ghost use Rattle.layouts.specs.InvertedIndexes.{AreIndexed, AreSections, IndexedField};
 ghost use Rattle.postings_writer.specs.Limits.{IsFieldWithin, IsSerializeRefusal};
 ghost use Rattle.document_indexer.specs.Indexed.{IsAddRefusal, IsWithinLimits};
-ghost use Rattle.document_indexer.specs.Indexers.{HasIndexed, analyzer_of, schema_of, writer_of};
+ghost use Rattle.document_indexer.specs.Indexers.{HasIndexed, writer_of};
 
+use crate::field_lengths::{length_fields, record_lengths};
 use crate::index_document::index_document;
 use crate::indexing_context::IndexingContext;
 use common::{Analyzer, TERMINATED};
 use definitions::Fault;
 use document::CompactDoc;
-use fieldnorms::FieldNormReaders;
+use fieldnorms::{FieldNormReaders, FieldNormsSerializer, FieldNormsWriter};
 use postings_serializer::InvertedIndexSerializer;
 use postings_writer::PostingsWriter;
 use schema::Schema;
 use std::alloc::{AllocError, Global};
 
-/// Indexes documents, numbered from 0: the terms of their values, by the types of their fields. After a refused
-/// call what was recorded is of no use.
+/// Indexes documents, numbered from 0: the terms of their values, by the types of their fields, and the lengths of
+/// their fields. Each call is given the schema and the analyzer that all of them are indexed by. After a refused call
+/// what was recorded is of no use.
 #[derive(Drop)]
-pub struct DocumentIndexer<'a, A: Analyzer> {
-    schema: &'a Schema,
-    analyzer: &'a A,
-    context: IndexingContext<'a>,
+pub struct DocumentIndexer {
+    context: IndexingContext,
+    // Of the document that was indexed last, a length for each field.
+    lengths: Vec<u32>,
+    norms: FieldNormsWriter,
 }
 
-impl<'a, A: Analyzer> DocumentIndexer<'a, A> {
+impl DocumentIndexer {
     /// No document is indexed yet.
-    pub fn for_schema(
-        alloc: Global,
-        schema: &'a Schema,
-        analyzer: &'a A,
-    ) -> Result<DocumentIndexer<'a, A>, AllocError>
-        ensures nothing { IfOk result (λ indexer. HasIndexed A.analyze indexer []) }
-        ensures given { IfOk result (λ indexer. (schema_of indexer ≡ schema.now) × (analyzer_of indexer ≡ analyzer.now)) }
+    pub fn for_schema(alloc: Global, schema: &Schema) -> Result<DocumentIndexer, AllocError>
+        ensures { (analyze : definitions.Analyzer) → IfOk result (λ indexer. HasIndexed schema.now analyze indexer []) }
     {
         let context = IndexingContext::for_schema(alloc, schema)?;
+        let fields = length_fields(alloc, schema)?;
+        let norms = FieldNormsWriter::for_fields(alloc, &fields)?;
         Ok(DocumentIndexer {
-            schema,
-            analyzer,
             context,
+            lengths: Vec::new(alloc),
+            norms,
         })
     }
 
     /// Indexes one more document.
-    pub fn add(&mut self, doc: &CompactDoc) -> Result<(), Fault>
-        requires { (docs : List Document) × HasIndexed A.analyze self.old docs }
-        ensures ok { (docs : List Document) → HasIndexed A.analyze self.old docs → OnOk result (HasIndexed A.analyze self.new (docs ++ doc.now ∷ [])) }
-        ensures same { OnOk result ((schema_of self.new ≡ schema_of self.old) × (analyzer_of self.new ≡ analyzer_of self.old)) }
-        ensures within { (docs : List Document) → HasIndexed A.analyze self.old docs
-            → OnOk result (IsWithinLimits (schema_of self.old) (A.analyze (analyzer_of self.old)) docs doc.now) }
-        ensures err { (docs : List Document) → HasIndexed A.analyze self.old docs → IfErr result (λ fault. IsAddRefusal fault (schema_of self.old) (A.analyze (analyzer_of self.old)) docs doc.now) }
+    pub fn add<A: Analyzer>(
+        &mut self,
+        schema: &Schema,
+        analyzer: &A,
+        doc: &CompactDoc,
+    ) -> Result<(), Fault>
+        requires { (docs : List Document) × HasIndexed schema.now (A.analyze analyzer.now) self.old docs }
+        ensures ok { (docs : List Document) → HasIndexed schema.now (A.analyze analyzer.now) self.old docs
+            → OnOk result (HasIndexed schema.now (A.analyze analyzer.now) self.new (docs ++ doc.now ∷ [])) }
+        ensures within { (docs : List Document) → HasIndexed schema.now (A.analyze analyzer.now) self.old docs
+            → OnOk result (IsWithinLimits schema.now (A.analyze analyzer.now) docs doc.now) }
+        ensures err { (docs : List Document) → HasIndexed schema.now (A.analyze analyzer.now) self.old docs
+            → IfErr result (λ fault. IsAddRefusal fault schema.now (A.analyze analyzer.now) docs doc.now) }
     {
         if self.context.doc() >= TERMINATED {
             return Err(Fault::Limit);
         }
-        index_document(&mut self.context, self.analyzer, self.schema, doc)?;
+        index_document(&mut self.context, schema, analyzer, doc, &mut self.lengths)?;
+        record_lengths(&mut self.norms, self.context.doc(), &self.lengths)?;
         self.context.end_document();
         Ok(())
     }
 
     /// How many documents are indexed.
     pub fn num_docs(&self) -> u32
-        ensures { (docs : List Document) → HasIndexed A.analyze self.now docs → result ≡ length docs }
+        ensures { (schema : schemas.Schema) (analyze : definitions.Analyzer) (docs : List Document) → HasIndexed schema analyze self.now docs
+            → result ≡ length docs }
     {
         self.context.doc()
     }
 
     /// What is recorded.
-    pub fn postings_writer(&self) -> &PostingsWriter<'a>
+    pub fn postings_writer(&self) -> &PostingsWriter
         ensures { result.now ≡ writer_of self.now }
     {
         self.context.postings_writer()
     }
 
-    /// The sections of terms, postings and positions of the documents. A field that keeps lengths has one for
-    /// each document.
+    /// The sections of terms, postings, positions and lengths of the documents.
     pub fn serialize(
         &self,
         alloc: Global,
-        fieldnorm_readers: &FieldNormReaders<'_>,
-    ) -> Result<(Vec<u8>, Vec<u8>, Vec<u8>), Fault>
-        requires { (docs : List Document) × HasIndexed A.analyze self.now docs × AllByRecursion (λ p. length p.1 ≡ length docs) fieldnorm_readers.now }
-        ensures ok { (docs : List Document) → HasIndexed A.analyze self.now docs
+        schema: &Schema,
+    ) -> Result<(Vec<u8>, Vec<u8>, Vec<u8>, Vec<u8>), Fault>
+        requires { (analyze : definitions.Analyzer) × (docs : List Document) × HasIndexed schema.now analyze self.now docs }
+        ensures ok { (analyze : definitions.Analyzer) (docs : List Document) → HasIndexed schema.now analyze self.now docs
             → IfOk result (λ sections. (fields : List IndexedField)
-            × AreSections (schema_of self.now) (length docs) fieldnorm_readers.now fields
+            × AreSections schema.now (length docs) (norms_of schema.now analyze docs) fields
             sections.0.items sections.1.items sections.2.items
-            × AreIndexed (schema_of self.now) (A.analyze (analyzer_of self.now)) docs fields
-            × AllByRecursion (IsFieldWithin (schema_of self.now)) fields) }
-        ensures err { (docs : List Document) → HasIndexed A.analyze self.now docs → IfErr result (λ fault. IsSerializeRefusal fault (schema_of self.now) fieldnorm_readers.now (λ t. postings (schema_of self.now) (A.analyze (analyzer_of self.now)) t docs)) }
+            × AreIndexed schema.now analyze docs fields
+            × AllByRecursion (IsFieldWithin schema.now) fields) }
+        ensures lengths { (analyze : definitions.Analyzer) (docs : List Document) → HasIndexed schema.now analyze self.now docs
+            → IfOk result (λ sections. IsNorms (length_fields schema.now) (length docs) sections.3.items (norms_of schema.now analyze docs)) }
+        ensures err { (analyze : definitions.Analyzer) (docs : List Document) → HasIndexed schema.now analyze self.now docs
+            → IfErr result (λ fault. IsSerializeRefusal fault schema.now (norms_of schema.now analyze docs) (λ t. postings schema.now analyze t docs)) }
     {
+        let norms = self
+            .norms
+            .serialize(FieldNormsSerializer::from_write(Vec::new(alloc)))?;
+        let (terms, postings, positions) = self.serialize_terms(alloc, schema, &norms)?;
+        Ok((terms, postings, positions, norms))
+    }
+
+    /// The sections of terms, postings and positions, behind the section of lengths.
+    fn serialize_terms(
+        &self,
+        alloc: Global,
+        schema: &Schema,
+        norms: &[u8],
+    ) -> Result<(Vec<u8>, Vec<u8>, Vec<u8>), Fault>
+        requires indexed { (analyze : definitions.Analyzer) × (docs : List Document) × HasIndexed schema.now analyze self.now docs }
+        requires lengths { norms.now ≡ norms_bytes self.now.norms }
+        ensures ok { (analyze : definitions.Analyzer) (docs : List Document) → HasIndexed schema.now analyze self.now docs
+            → IfOk result (λ sections. (fields : List IndexedField)
+            × AreSections schema.now (length docs) (norms_of schema.now analyze docs) fields
+            sections.0.items sections.1.items sections.2.items
+            × AreIndexed schema.now analyze docs fields
+            × AllByRecursion (IsFieldWithin schema.now) fields) }
+        ensures err { (analyze : definitions.Analyzer) (docs : List Document) → HasIndexed schema.now analyze self.now docs
+            → IfErr result (λ fault. IsSerializeRefusal fault schema.now (norms_of schema.now analyze docs) (λ t. postings schema.now analyze t docs)) }
+    {
+        let fields = length_fields(alloc, schema)?;
+        // The lengths were just written, so they are refused for want of memory alone.
+        let Ok(readers) = FieldNormReaders::open(alloc, norms, self.num_docs(), &fields) else {
+            return Err(Fault::OutOfMemory);
+        };
         let serializer = InvertedIndexSerializer::open(alloc)?;
         let writer = self.postings_writer();
-        let serializer = writer.serialize(fieldnorm_readers, serializer)?;
+        let serializer = writer.serialize(schema, &readers, serializer)?;
         Ok(serializer.close())
     }
 }

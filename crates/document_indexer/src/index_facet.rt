@@ -11,36 +11,43 @@ ghost use Rattle.document_indexer.specs.Steps.{facet_steps};
 use crate::indexing_context::IndexingContext;
 use definitions::Fault;
 use document_values::CompactDocValue;
+use schema::Schema;
 use terms::{FACET_SEP_BYTE, Field, Type};
 
 /// Records the terms of all prefixes of a facet's steps, the empty one included.
 pub(crate) fn index_facet(
-    indexer: &mut IndexingContext<'_>,
+    indexer: &mut IndexingContext,
+    schema: &Schema,
     field: Field,
     value: CompactDocValue<'_>,
 ) -> Result<(), Fault>
-    requires { CanIndex indexer.old field facet_kind }
-    ensures ok { OnOk result (Records indexer.old indexer.new (facet_steps field (value_of value.entry))) }
-    ensures err { IfErr result (Refuses indexer.old (facet_steps field (value_of value.entry))) }
+    requires { CanIndex schema.now indexer.old field facet_kind }
+    ensures ok { OnOk result (Records schema.now indexer.old indexer.new (facet_steps field (value_of value.entry))) }
+    ensures err { IfErr result (Refuses schema.now indexer.old (facet_steps field (value_of value.entry))) }
 {
     match value {
-        CompactDocValue::Facet(text) => index_prefixes(indexer, field, text),
+        CompactDocValue::Facet(text) => index_prefixes(indexer, schema, field, text),
         _ => Ok(()),
     }
 }
 
 /// Records what stands before each separator of a facet's text, after the empty prefix and before the whole text.
-fn index_prefixes(indexer: &mut IndexingContext<'_>, field: Field, text: &str) -> Result<(), Fault>
-    requires { CanIndex indexer.old field facet_kind }
-    ensures ok { OnOk result (Records indexer.old indexer.new (facet_steps field (facet (steps_in text.now)))) }
-    ensures err { IfErr result (Refuses indexer.old (facet_steps field (facet (steps_in text.now)))) }
+fn index_prefixes(
+    indexer: &mut IndexingContext,
+    schema: &Schema,
+    field: Field,
+    text: &str,
+) -> Result<(), Fault>
+    requires { CanIndex schema.now indexer.old field facet_kind }
+    ensures ok { OnOk result (Records schema.now indexer.old indexer.new (facet_steps field (facet (steps_in text.now)))) }
+    ensures err { IfErr result (Refuses schema.now indexer.old (facet_steps field (facet (steps_in text.now)))) }
 {
     let bytes = text.as_bytes();
-    indexer.index_term(field, Type::Facet, &[])?;
+    indexer.index_term(schema, field, Type::Facet, &[])?;
     for end in 0..bytes.len() {
         if bytes[end] == FACET_SEP_BYTE {
-            indexer.index_term(field, Type::Facet, &bytes[..end])?;
+            indexer.index_term(schema, field, Type::Facet, &bytes[..end])?;
         }
     }
-    indexer.index_term(field, Type::Facet, bytes)
+    indexer.index_term(schema, field, Type::Facet, bytes)
 }

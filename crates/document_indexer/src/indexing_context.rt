@@ -1,18 +1,20 @@
 //! What the indexing of a document works on: the terms of its values are written into one buffer, and recorded.
 
-ghost use Rattle.std.specs.Prelude.{[], ◌++◌, ◌+◌, ◌<◌, ◌∷◌, ◌≡◌, IfErr, IfOk, List, OnOk, map, ℕ};
+ghost use Rattle.std.specs.Prelude.{[], ◌++◌, ◌+◌, ◌<◌, ◌∷◌, ◌≡◌, IfErr, IfOk, List, OnOk, length, map, ℕ};
 ghost use Rattle.common.specs.Token.{token_of};
 ghost use Rattle.definitions.specs.Analyzers.{kept};
 ghost use Rattle.definitions.specs.Postings.{terminated};
 ghost use Rattle.definitions.specs.Schema.{json_kind, text_kind};
 ghost use Rattle.definitions.specs.Terms.{json_term, path_of_keys, term_bytes, type_code};
-ghost use Rattle.postings_writer.specs.Writers.{IsIndexedTerm, Stands};
+ghost use Rattle.postings_writer.specs.Writers.{HasFields, IsIndexedTerm, Stands};
 ghost use Rattle.terms.specs.Kinds.{kind_of};
 ghost use Rattle.document_indexer.specs.Contexts.{CanIndex, IsReady, Records, Refuses, context};
+ghost use Rattle.document_indexer.specs.FieldLengths.{cut};
 ghost use Rattle.document_indexer.specs.Steps.{path_step, term_step, text_step};
 
 use crate::indexing_positions::IndexingPositions;
-use common::{PreTokenizedStream, Token};
+use crate::json_field::JsonField;
+use common::{Analyzer, BufferedStream, Token, TokenBuffer};
 use definitions::Fault;
 use postings_writer::PostingsWriter;
 use schema::Schema;
@@ -23,18 +25,19 @@ use terms::{Field, Type, push_json_path, push_term_header};
 /// How many positions stand between two texts.
 const POSITION_GAP: u32 = 1;
 
-/// What is recorded, where the next texts begin, and the document that is indexed. Each term is written into the
-/// same buffer.
+/// What is recorded, where the next texts begin, and the document that is indexed. Each term is written into one
+/// buffer, and the tokens of each text into another.
 #[derive(Drop)]
-pub(crate) struct IndexingContext<'a> {
+pub(crate) struct IndexingContext {
     alloc: Global,
-    postings_writer: PostingsWriter<'a>,
+    postings_writer: PostingsWriter,
     positions: IndexingPositions,
     doc: u32,
     term_buffer: Vec<u8>,
+    tokens: TokenBuffer,
 }
 
-impl<'a> Model for IndexingContext<'a> {
+impl Model for IndexingContext {
     ghost use Rattle.document_indexer.specs.Contexts.{Context};
 
     ghost Value = { Context };
@@ -42,14 +45,10 @@ impl<'a> Model for IndexingContext<'a> {
     ghost view = { λ c. record { writer = c.postings_writer; positions = c.positions; doc = c.doc } };
 }
 
-impl<'a> IndexingContext<'a> {
+impl IndexingContext {
     /// Nothing is recorded, and the first document is to be indexed.
-    pub(crate) fn for_schema(
-        alloc: Global,
-        schema: &'a Schema,
-    ) -> Result<IndexingContext<'a>, AllocError>
-        ensures stands { IfOk result (λ c. Stands c.writer []) }
-        ensures schema { IfOk result (λ c. c.writer.schema ≡ schema.now) }
+    pub(crate) fn for_schema(alloc: Global, schema: &Schema) -> Result<IndexingContext, AllocError>
+        ensures stands { IfOk result (λ c. Stands schema.now c.writer []) }
         ensures docs { IfOk result (λ c. c.writer.num_docs ≡ 0) }
         ensures rest { IfOk result (λ c. (c.positions ≡ []) × (c.doc ≡ 0)) }
     {
@@ -60,6 +59,7 @@ impl<'a> IndexingContext<'a> {
             positions: IndexingPositions::new(alloc),
             doc: 0,
             term_buffer: Vec::new(alloc),
+            tokens: TokenBuffer::new(alloc),
         })
     }
 
@@ -76,7 +76,7 @@ impl<'a> IndexingContext<'a> {
     }
 
     /// What is recorded.
-    pub(crate) fn postings_writer(&self) -> &PostingsWriter<'a>
+    pub(crate) fn postings_writer(&self) -> &PostingsWriter
         ensures { result.now ≡ self.now.writer }
     {
         &self.postings_writer
@@ -91,31 +91,77 @@ impl<'a> IndexingContext<'a> {
     }
 
     /// Records the term of a value, by its bytes.
-    pub(crate) fn index_term(&mut self, field: Field, kind: Type, value: &[u8]) -> Result<(), Fault>
-        requires { CanIndex self.old field (kind_of kind) }
-        ensures ok { OnOk result (Records self.old self.new (term_step (term_bytes field (kind_of kind) value.now) ∷ [])) }
-        ensures err { IfErr result (Refuses self.old (term_step (term_bytes field (kind_of kind) value.now) ∷ [])) }
+    pub(crate) fn index_term(
+        &mut self,
+        schema: &Schema,
+        field: Field,
+        kind: Type,
+        value: &[u8],
+    ) -> Result<(), Fault>
+        requires { CanIndex schema.now self.old field (kind_of kind) }
+        ensures ok { OnOk result (Records schema.now self.old self.new (term_step (term_bytes field (kind_of kind) value.now) ∷ [])) }
+        ensures err { IfErr result (Refuses schema.now self.old (term_step (term_bytes field (kind_of kind) value.now) ∷ [])) }
     {
         self.term_buffer.clear();
         push_term_header(&mut self.term_buffer, field, kind)?;
         self.term_buffer.extend_from_slice(value)?;
         self.postings_writer
-            .subscribe(self.doc, &self.term_buffer, 0)
+            .subscribe(schema, self.doc, &self.term_buffer, 0)
     }
 
-    /// Records the tokens of a text of a text field, but for those that are too long.
-    pub(crate) fn index_text(&mut self, field: Field, tokens: &[Token]) -> Result<(), Fault>
-        requires { CanIndex self.old field text_kind }
-        ensures ok { OnOk result (Records self.old self.new (text_step (term_bytes field text_kind []) 1 (kept (map token_of tokens.now)) ∷ [])) }
-        ensures err { IfErr result (Refuses self.old (text_step (term_bytes field text_kind []) 1 (kept (map token_of tokens.now)) ∷ [])) }
+    /// Records the tokens of a text of a text field, but for those that are too long, and answers how many that is.
+    pub(crate) fn index_text<A: Analyzer>(
+        &mut self,
+        schema: &Schema,
+        analyzer: &A,
+        field: Field,
+        tokenizer: &str,
+        text: &str,
+    ) -> Result<u32, Fault>
+        requires { CanIndex schema.now self.old field text_kind }
+        ensures ok { OnOk result (Records schema.now self.old self.new
+            (text_step (term_bytes field text_kind []) 1 (kept (A.analyze analyzer.now tokenizer.now text.now)) ∷ [])) }
+        ensures num_tokens { IfOk result (λ n. n ≡ cut (length (kept (A.analyze analyzer.now tokenizer.now text.now)))) }
+        ensures err { IfErr result (Refuses schema.now self.old
+            (text_step (term_bytes field text_kind []) 1 (kept (A.analyze analyzer.now tokenizer.now text.now)) ∷ [])) }
     {
+        analyzer.tokens_into(self.alloc, tokenizer, text, &mut self.tokens)?;
         self.term_buffer.clear();
         push_term_header(&mut self.term_buffer, field, Type::Str)?;
         record_text(
             self.alloc,
+            schema,
             self.doc,
             &mut self.term_buffer,
-            tokens,
+            &self.tokens,
+            &mut self.postings_writer,
+            &mut self.positions,
+        )
+    }
+
+    /// The same of a text that comes with its tokens.
+    pub(crate) fn index_tokens(
+        &mut self,
+        schema: &Schema,
+        field: Field,
+        tokens: &[Token],
+    ) -> Result<u32, Fault>
+        requires { CanIndex schema.now self.old field text_kind }
+        ensures ok { OnOk result (Records schema.now self.old self.new
+            (text_step (term_bytes field text_kind []) 1 (kept (map token_of tokens.now)) ∷ [])) }
+        ensures num_tokens { IfOk result (λ n. n ≡ cut (length (kept (map token_of tokens.now)))) }
+        ensures err { IfErr result (Refuses schema.now self.old
+            (text_step (term_bytes field text_kind []) 1 (kept (map token_of tokens.now)) ∷ [])) }
+    {
+        self.tokens.put_tokens(tokens)?;
+        self.term_buffer.clear();
+        push_term_header(&mut self.term_buffer, field, Type::Str)?;
+        record_text(
+            self.alloc,
+            schema,
+            self.doc,
+            &mut self.term_buffer,
+            &self.tokens,
             &mut self.postings_writer,
             &mut self.positions,
         )
@@ -124,83 +170,97 @@ impl<'a> IndexingContext<'a> {
     /// Records the term of a value at these keys of a JSON field, by the value's type and bytes.
     pub(crate) fn index_leaf(
         &mut self,
-        field: Field,
+        json_field: &JsonField<'_>,
         keys: &[&str],
-        expand_dots: bool,
         kind: Type,
         value: &[u8],
     ) -> Result<(), Fault>
-        requires { CanIndex self.old field json_kind }
-        ensures ok { OnOk result (Records self.old self.new (term_step (json_term field (path_of_keys expand_dots (map (λ k. k.now) keys.now)) (type_code (kind_of kind) ++ value.now)) ∷ [])) }
-        ensures err { IfErr result (Refuses self.old (term_step (json_term field (path_of_keys expand_dots (map (λ k. k.now) keys.now)) (type_code (kind_of kind) ++ value.now)) ∷ [])) }
+        requires { CanIndex json_field.now.schema.now self.old json_field.now.field json_kind }
+        ensures ok { OnOk result (Records json_field.now.schema.now self.old self.new
+            (term_step (json_term json_field.now.field (path_of_keys json_field.now.expand_dots (map (λ k. k.now) keys.now)) (type_code (kind_of kind) ++ value.now)) ∷ [])) }
+        ensures err { IfErr result (Refuses json_field.now.schema.now self.old
+            (term_step (json_term json_field.now.field (path_of_keys json_field.now.expand_dots (map (λ k. k.now) keys.now)) (type_code (kind_of kind) ++ value.now)) ∷ [])) }
     {
-        begin_leaf(&mut self.term_buffer, field, keys, expand_dots, kind)?;
+        begin_leaf(&mut self.term_buffer, json_field, keys, kind)?;
         self.term_buffer.extend_from_slice(value)?;
         self.postings_writer
-            .subscribe(self.doc, &self.term_buffer, 0)
+            .subscribe(json_field.schema, self.doc, &self.term_buffer, 0)
     }
 
     /// Records the tokens of a text at these keys of a JSON field, but for those that are too long.
-    pub(crate) fn index_path_text(
+    pub(crate) fn index_path_text<A: Analyzer>(
         &mut self,
-        field: Field,
+        analyzer: &A,
+        json_field: &JsonField<'_>,
         keys: &[&str],
-        expand_dots: bool,
-        tokens: &[Token],
+        text: &str,
     ) -> Result<(), Fault>
-        requires { CanIndex self.old field json_kind }
-        ensures ok { OnOk result (Records self.old self.new (path_step field (path_of_keys expand_dots (map (λ k. k.now) keys.now)) (kept (map token_of tokens.now)) ∷ [])) }
-        ensures err { IfErr result (Refuses self.old (path_step field (path_of_keys expand_dots (map (λ k. k.now) keys.now)) (kept (map token_of tokens.now)) ∷ [])) }
+        requires { CanIndex json_field.now.schema.now self.old json_field.now.field json_kind }
+        ensures ok { OnOk result (Records json_field.now.schema.now self.old self.new
+            (path_step json_field.now.field (path_of_keys json_field.now.expand_dots (map (λ k. k.now) keys.now)) (kept (A.analyze analyzer.now json_field.now.tokenizer.now text.now)) ∷ [])) }
+        ensures err { IfErr result (Refuses json_field.now.schema.now self.old
+            (path_step json_field.now.field (path_of_keys json_field.now.expand_dots (map (λ k. k.now) keys.now)) (kept (A.analyze analyzer.now json_field.now.tokenizer.now text.now)) ∷ [])) }
     {
-        begin_leaf(&mut self.term_buffer, field, keys, expand_dots, Type::Str)?;
+        analyzer.tokens_into(self.alloc, json_field.tokenizer, text, &mut self.tokens)?;
+        begin_leaf(&mut self.term_buffer, json_field, keys, Type::Str)?;
         record_text(
             self.alloc,
+            json_field.schema,
             self.doc,
             &mut self.term_buffer,
-            tokens,
+            &self.tokens,
             &mut self.postings_writer,
             &mut self.positions,
-        )
+        )?;
+        Ok(())
     }
 }
 
 /// Leaves in the buffer the first bytes of the terms of a type's values at these keys of a JSON field.
 fn begin_leaf(
     term_buffer: &mut Vec<u8>,
-    field: Field,
+    json_field: &JsonField<'_>,
     keys: &[&str],
-    expand_dots: bool,
     kind: Type,
 ) -> Result<(), AllocError>
-    ensures { OnOk result (term_buffer.new.items ≡ json_term field (path_of_keys expand_dots (map (λ k. k.now) keys.now)) (type_code (kind_of kind))) }
+    ensures { OnOk result (term_buffer.new.items ≡ json_term json_field.now.field (path_of_keys json_field.now.expand_dots (map (λ k. k.now) keys.now)) (type_code (kind_of kind))) }
 {
     term_buffer.clear();
-    push_json_path(term_buffer, field, keys, expand_dots)?;
+    push_json_path(term_buffer, json_field.field, keys, json_field.expand_dots)?;
     term_buffer.push(kind.to_code())?;
     Ok(())
 }
 
-/// Records the tokens of a text of the document, but for those that are too long. The buffer holds the first bytes
-/// of their terms.
+/// Records the tokens of a text of the document, but for those that are too long, and answers how many that is. The
+/// term's buffer holds the first bytes of their terms.
 fn record_text(
     alloc: Global,
+    schema: &Schema,
     doc: u32,
     term_buffer: &mut Vec<u8>,
-    tokens: &[Token],
-    postings_writer: &mut PostingsWriter<'_>,
+    tokens: &TokenBuffer,
+    postings_writer: &mut PostingsWriter,
     positions: &mut IndexingPositions,
-) -> Result<(), Fault>
-    requires ready { IsReady (context postings_writer.old positions.old doc) }
-    requires known { (text : List ℕ) → IsIndexedTerm postings_writer.old.schema (term_buffer.old.items ++ text) }
-    ensures ok { OnOk result (Records (context postings_writer.old positions.old doc)
+) -> Result<u32, Fault>
+    requires ready { IsReady schema.now (context postings_writer.old positions.old doc) }
+    requires known { (text : List ℕ) → IsIndexedTerm schema.now (term_buffer.old.items ++ text) }
+    ensures ok { OnOk result (Records schema.now (context postings_writer.old positions.old doc)
         (context postings_writer.new positions.new doc)
-        (text_step term_buffer.old.items 1 (kept (map token_of tokens.now)) ∷ [])) }
-    ensures err { IfErr result (Refuses (context postings_writer.old positions.old doc)
-        (text_step term_buffer.old.items 1 (kept (map token_of tokens.now)) ∷ [])) }
+        (text_step term_buffer.old.items 1 (kept tokens.now.1) ∷ [])) }
+    ensures num_tokens { IfOk result (λ n. n ≡ cut (length (kept tokens.now.1))) }
+    ensures err { IfErr result (Refuses schema.now (context postings_writer.old positions.old doc)
+        (text_step term_buffer.old.items 1 (kept tokens.now.1) ∷ [])) }
 {
     let start = positions.start_of(doc, term_buffer);
-    let mut stream = PreTokenizedStream::new(tokens);
-    let next = postings_writer.index_text(doc, term_buffer, &mut stream, start, POSITION_GAP)?;
-    positions.set_start(alloc, doc, term_buffer, next)?;
-    Ok(())
+    let mut stream = BufferedStream::new(tokens);
+    let text = postings_writer.index_text(
+        schema,
+        doc,
+        term_buffer,
+        &mut stream,
+        start,
+        POSITION_GAP,
+    )?;
+    positions.set_start(alloc, doc, term_buffer, text.next_start)?;
+    Ok(text.num_tokens)
 }

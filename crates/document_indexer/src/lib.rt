@@ -2,6 +2,7 @@
 #![tactic(auto)]
 
 mod document_indexer;
+mod field_lengths;
 mod index_document;
 mod index_facet;
 mod index_json;
@@ -9,5 +10,6 @@ mod index_value;
 mod indexing_context;
 pub mod indexing_laws;
 mod indexing_positions;
+mod json_field;
 
 pub use document_indexer::DocumentIndexer;

@@ -4,7 +4,7 @@ use Rattle.std.specs.List.{AllByRecursion}
 use Rattle.std.proofs.lemmas.Bool.Decides.{nat_tests}
 use Rattle.definitions.specs.Postings.{Posting}
 use Rattle.definitions.specs.Recorded.{ascending, insert_ascending}
-use Rattle.definitions.specs.Schema.{IndexRecordOption, basic, has_positions, with_freqs, with_freqs_and_positions}
+use Rattle.definitions.specs.Schema.{IndexRecordOption, Schema, basic, has_positions, with_freqs, with_freqs_and_positions}
 use Rattle.definitions.specs.Scoring.{DontFall}
 use Rattle.layouts.specs.Deltas.{IsAscendingFrom}
 use Rattle.layouts.specs.InvertedIndexes.{IsPosting}
@@ -57,11 +57,11 @@ rest_rises : (n : ℕ) (xs : List ℕ) → DontFall (n ∷ xs) → DontFall xs
 rest_rises n [] up = tt
 rest_rises n (x ∷ xs) up = up.1
 
-pub places_stand : (w : Writer) (os : List Occurrence) (t : List ℕ) → Stands w os → ArePlaces w.num_docs (places_of t os)
-places_stand w os t stands = record {
+pub places_stand : (schema : Schema) (w : Writer) (os : List Occurrence) (t : List ℕ) → Stands schema w os → ArePlaces w.num_docs (places_of t os)
+places_stand schema w os t stands = record {
   rising = rest_rises 0 (map (λ p. p.0) (places_of t os)) (rises_on t 0 os (zero_first (docs os) stands.rising));
-  within = all_places (λ p. p.0 < w.num_docs) t os (all_then (IsOccurrence w.schema w.num_docs) (λ o. o.doc < w.num_docs) os (λ o is. is.within) stands.each);
-  placed = all_places (λ p. p.1 < 2 ^ 31) t os (all_then (IsOccurrence w.schema w.num_docs) (λ o. o.position < 2 ^ 31) os (λ o is. is.placed_fit) stands.each);
+  within = all_places (λ p. p.0 < w.num_docs) t os (all_then (IsOccurrence schema w.num_docs) (λ o. o.doc < w.num_docs) os (λ o is. is.within) stands.each);
+  placed = all_places (λ p. p.1 < 2 ^ 31) t os (all_then (IsOccurrence schema w.num_docs) (λ o. o.position < 2 ^ 31) os (λ o is. is.placed_fit) stands.each);
 }
 
 -- ---- by document

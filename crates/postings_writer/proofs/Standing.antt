@@ -3,7 +3,7 @@ use Rattle.std.proofs.Common.{[], ◌++◌, ◌+◌, ◌<◌, ◌^◌, ◌≡◌
 use Rattle.std.specs.List.{AllByRecursion}
 use Rattle.std.proofs.lemmas.Bool.{false_from_ne_true}
 use Rattle.std.proofs.lemmas.Bool.Decides.{nat_tests}
-use Rattle.std.proofs.lemmas.List.{map-append}
+use Rattle.std.proofs.lemmas.List.{length-replicate, length-set, map-append}
 use Rattle.std.proofs.lemmas.List.Elements.{filter-append}
 use Rattle.std.proofs.lemmas.Option.{slice_get_within}
 use Rattle.std.proofs.lemmas.Slice.Eq.{bytes_eq-Decides}
@@ -66,7 +66,7 @@ set_other (y ∷ ys) (suc i) (suc j) x apart = set_other ys i j x (λ same. apar
 more_places : (e : Entry) (terms : Terms) (places others : List ℕ → List (ℕ × ℕ)) → ((key : List ℕ) → places key ≡ others key) → HasPlaces e places terms → HasPlaces e others terms
 more_places e terms places others same has key = has key ∙ ap (λ ps. recorder_of (option_of_key e key) ps) (same key)
 
-module _ (w : Writer) (os : List Occurrence) (t : List ℕ) (doc position : ℕ) (k : IsIndexedTerm w.schema t) where
+module _ (schema : Schema) (w : Writer) (os : List Occurrence) (t : List ℕ) (doc position : ℕ) (k : IsIndexedTerm schema t) where
   abbrev here : Occurrence
   here = record { doc = doc; term = t; position = position }
 
@@ -85,20 +85,21 @@ module _ (w : Writer) (os : List Occurrence) (t : List ℕ) (doc position : ℕ)
       ∙ append_nil (places_of (term_bytes f kind q) os))
 
   -- one occurrence more
-  pub stands_more : (new : Terms) → Stands w os → w.num_docs ≤ doc + 1 → position < 2 ^ 31
+  pub stands_more : (new : Terms) → Stands schema w os → w.num_docs ≤ doc + 1 → position < 2 ^ 31
       → HasPlaces k.entry (with_place k.key (doc, position) (λ q. places_of (term_bytes k.field k.entry.kind q) os)) new
-      → Stands (record { schema = w.schema; fields = set w.fields k.field new; num_docs = doc + 1 }) (os ++ here ∷ [])
+      → Stands schema (record { fields = set w.fields k.field new; num_docs = doc + 1 }) (os ++ here ∷ [])
   stands_more new stands above placed more = record {
     few = stands.few;
-    each = all_more (IsOccurrence w.schema w.num_docs) (IsOccurrence w.schema (doc + 1)) os here (λ o is. record { known = is.known; within = (let within = is.within in omega arith); placed_fit = is.placed_fit }) stands.each (record { known = k; within = omega arith; placed_fit = placed });
-    rising = rises os w.schema w.num_docs here stands.rising stands.each above;
+    fields_are = length-set w.fields k.field new ∙ stands.fields_are;
+    each = all_more (IsOccurrence schema w.num_docs) (IsOccurrence schema (doc + 1)) os here (λ o is. record { known = is.known; within = (let within = is.within in omega arith); placed_fit = is.placed_fit }) stands.each (record { known = k; within = omega arith; placed_fit = placed });
+    rising = rises os schema w.num_docs here stands.rising stands.each above;
     recorded = λ f e at. go f e at (nat_eq f k.field) refl;
   }
     where
-      go : (f : ℕ) (e : Entry) → slice_get w.schema f ≡ Some e → (b : Bool) → nat_eq f k.field ≡ b → HasOccurrences (os ++ here ∷ []) (set w.fields k.field new) (f, e)
+      go : (f : ℕ) (e : Entry) → slice_get schema f ≡ Some e → (b : Bool) → nat_eq f k.field ≡ b → HasOccurrences (os ++ here ∷ []) (set w.fields k.field new) (f, e)
       go f e at true is =
           let same : f ≡ k.field = grind (arith, nat_tests) in
-          let entry : e ≡ k.entry = (let P : Some e ≡ Some k.entry = sym at ∙ ap (slice_get w.schema) same ∙ k.is in cc) in
+          let entry : e ≡ k.entry = (let P : Some e ≡ Some k.entry = sym at ∙ ap (slice_get schema) same ∙ k.is in cc) in
           let old = stands.recorded k.field k.entry k.is in
           let has : HasPlaces k.entry (λ q. places_of (term_bytes k.field k.entry.kind q) (os ++ here ∷ [])) new = more_places k.entry new _ _ (same_field k.entry.kind refl) more in
           let P : ℕ → Type 0 = λ x. HasOccurrences (os ++ here ∷ []) (set w.fields k.field new) (x, k.entry) in
@@ -107,16 +108,17 @@ module _ (w : Writer) (os : List Occurrence) (t : List ℕ) (doc position : ℕ)
       go f e at false is =
           let apart : f ≢ k.field = grind (arith, nat_tests) in
           let old = stands.recorded f e at in
-          let fits : f < 2 ^ 32 = (let inside = slice_get_within w.schema f e at in let few = stands.few in omega arith) in
+          let fits : f < 2 ^ 32 = (let inside = slice_get_within schema f e at in let few = stands.few in omega arith) in
           (old.0, set_other w.fields k.field f new apart ∙ old.1, more_places e old.0 _ _ (other_field f e.kind fits apart) old.2)
 
 abbrev none : Terms
 none = []
 
 -- a writer of which nothing is recorded
-pub stands_none : (schema : Schema) → length schema ≤ max_fields → Stands (record { schema = schema; fields = replicate (length schema) []; num_docs = 0 }) []
+pub stands_none : (schema : Schema) → length schema ≤ max_fields → Stands schema (record { fields = replicate (length schema) []; num_docs = 0 }) []
 stands_none schema few = record {
   few = few;
+  fields_are = length-replicate (length schema) none;
   each = tt;
   rising = tt;
   recorded = λ f e at. ([], nothing schema f e at, λ key. refl);
@@ -154,28 +156,28 @@ pub field_entry : (schema : Schema) (t : List ℕ) (k : IsIndexedTerm schema t) 
 field_entry schema t k e field is at = (let same : Some e ≡ Some k.entry = sym at ∙ ap (slice_get schema) (is ∙ field_of-known schema t k) ∙ k.is in cc)
 
 -- a known term is recorded in a writer: the recorders of its field, and all that they are of
-module _ (w : Writer) (os : List Occurrence) (t : List ℕ) (doc position : ℕ) (k : IsIndexedTerm w.schema t) (e : Entry) (field : ℕ) (key : List ℕ) (old : Terms) where
+module _ (schema : Schema) (w : Writer) (os : List Occurrence) (t : List ℕ) (doc position : ℕ) (k : IsIndexedTerm schema t) (e : Entry) (field : ℕ) (key : List ℕ) (old : Terms) where
   abbrev known_places : List ℕ → List (ℕ × ℕ)
   known_places q = places_of (term_bytes k.field k.entry.kind q) os
 
   -- the recorders that stand there are those of the field's places
-  pub known_has : Stands w os → field ≡ field_of t → slice_get w.schema field ≡ Some e → slice_get w.fields field ≡ Some old → HasPlaces e known_places old
+  pub known_has : Stands schema w os → field ≡ field_of t → slice_get schema field ≡ Some e → slice_get w.fields field ≡ Some old → HasPlaces e known_places old
   known_has stands is at here =
       let s = stands.recorded k.field k.entry k.is in
-      let same : s.0 ≡ old = (let both : Some s.0 ≡ Some old = sym s.1 ∙ ap (slice_get w.fields) (sym (is ∙ field_of-known w.schema t k)) ∙ here in cc) in
+      let same : s.0 ≡ old = (let both : Some s.0 ≡ Some old = sym s.1 ∙ ap (slice_get w.fields) (sym (is ∙ field_of-known schema t k)) ∙ here in cc) in
       let P : Entry → Type 0 = λ x. HasPlaces x known_places old in
       let Q : Terms → Type 0 = λ x. HasPlaces k.entry known_places x in
-      subst P (sym (field_entry w.schema t k e field is at)) (subst Q same s.2)
+      subst P (sym (field_entry schema t k e field is at)) (subst Q same s.2)
 
   pub known_key : key ≡ payload_of t → known_places key ≡ places_of t os
-  known_key is = ap (λ x. places_of x os) (ap (term_bytes k.field k.entry.kind) (is ∙ payload_of-known w.schema t k) ∙ sym k.whole)
+  known_key is = ap (λ x. places_of x os) (ap (term_bytes k.field k.entry.kind) (is ∙ payload_of-known schema t k) ∙ sym k.whole)
 
-  pub known_more : (new : Terms) → Stands w os → field ≡ field_of t → slice_get w.schema field ≡ Some e → key ≡ payload_of t → w.num_docs ≤ doc + 1 → position < 2 ^ 31
+  pub known_more : (new : Terms) → Stands schema w os → field ≡ field_of t → slice_get schema field ≡ Some e → key ≡ payload_of t → w.num_docs ≤ doc + 1 → position < 2 ^ 31
       → HasPlaces e (with_place key (doc, position) known_places) new
-      → Stands (record { schema = w.schema; fields = set w.fields field new; num_docs = doc + 1 }) (os ++ record { doc = doc; term = t; position = position } ∷ [])
+      → Stands schema (record { fields = set w.fields field new; num_docs = doc + 1 }) (os ++ record { doc = doc; term = t; position = position } ∷ [])
   known_more new stands is at key_is above placed has =
       let P : Entry → Type 0 = λ x. HasPlaces x (with_place key (doc, position) known_places) new in
       let Q : List ℕ → Type 0 = λ x. HasPlaces k.entry (with_place x (doc, position) known_places) new in
-      let put : HasPlaces k.entry (with_place k.key (doc, position) known_places) new = subst Q (key_is ∙ payload_of-known w.schema t k) (subst P (field_entry w.schema t k e field is at) has) in
-      let R : ℕ → Type 0 = λ f. Stands (record { schema = w.schema; fields = set w.fields f new; num_docs = doc + 1 }) (os ++ record { doc = doc; term = t; position = position } ∷ []) in
-      subst R (sym (is ∙ field_of-known w.schema t k)) (stands_more w os t doc position k new stands above placed put)
+      let put : HasPlaces k.entry (with_place k.key (doc, position) known_places) new = subst Q (key_is ∙ payload_of-known schema t k) (subst P (field_entry schema t k e field is at) has) in
+      let R : ℕ → Type 0 = λ f. Stands schema (record { fields = set w.fields f new; num_docs = doc + 1 }) (os ++ record { doc = doc; term = t; position = position } ∷ []) in
+      subst R (sym (is ∙ field_of-known schema t k)) (stands_more schema w os t doc position k new stands above placed put)

@@ -5,14 +5,14 @@ use Rattle.std.specs.Map.{lookup}
 use Rattle.std.specs.Option.{option_map_or}
 use Rattle.std.proofs.lemmas.Option.{slice_get-get_or, slice_get_within}
 use Rattle.packed_blocks.specs.UnpackedBlocks.{listed}
-use Rattle.definitions.specs.Schema.{Entry}
+use Rattle.definitions.specs.Schema.{Entry, Schema}
 use Rattle.definitions.specs.Terms.{term_bytes}
 use Rattle.layouts.specs.FieldNorms.{ids_of}
 use Rattle.layouts.specs.InvertedIndexes.{field_ids}
 use Rattle.postings_writer.specs.Fields.{HasPlaces, Terms, option_of_key}
 use Rattle.postings_writer.specs.Occurrences.{Occurrence, places_of, postings_at}
 use Rattle.postings_writer.specs.Serializing.{CanWrite, postings_from}
-use Rattle.postings_writer.specs.Writers.{Stands, Writer}
+use Rattle.postings_writer.specs.Writers.{HasFields, Stands, Writer}
 use Rattle.postings_writer.specs.declared.recorder.Recorder.{Recorder}
 use Rattle.postings_writer.proofs.Bridges.{recorded_postings}
 use Rattle.postings_writer.proofs.KeptRecorders.{recorder_is}
@@ -38,7 +38,7 @@ ids_listed field norms = go (ids_of field norms)
 abbrev pub places_in : ℕ → Entry → List Occurrence → List ℕ → List (ℕ × ℕ)
 places_in field e os key = places_of (term_bytes field e.kind key) os
 
-module _ (w : Writer) (os : List Occurrence) (field : ℕ) (e : Entry) (terms : Terms) (stands : Stands w os) (at : slice_get w.schema field ≡ Some e) (here : slice_get w.fields field ≡ Some terms) where
+module _ (schema : Schema) (w : Writer) (os : List Occurrence) (field : ℕ) (e : Entry) (terms : Terms) (stands : Stands schema w os) (at : slice_get schema field ≡ Some e) (here : slice_get w.fields field ≡ Some terms) where
   -- the recorders of a field are those of its places
   pub field_has : HasPlaces e (places_in field e os) terms
   field_has =
@@ -51,12 +51,12 @@ module _ (w : Writer) (os : List Occurrence) (field : ℕ) (e : Entry) (terms : 
   field_can norms few long key r found =
       let is = recorder_is (option_of_key e key) (places_in field e os key) r (sym (field_has key) ∙ found) in
       let ps : postings_at (option_of_key e key) (places_in field e os key) ≡ postings_from r 0 = sym (recorded_postings (option_of_key e key) (places_in field e os key)) ∙ ap (λ x. postings_from x 0) (sym is) in
-      subst (CanWrite 0 norms) ps (can_write w.num_docs (option_of_key e key) (places_in field e os key) (places_stand w os (term_bytes field e.kind key) stands) norms few long)
+      subst (CanWrite 0 norms) ps (can_write w.num_docs (option_of_key e key) (places_in field e os key) (places_stand schema w os (term_bytes field e.kind key) stands) norms few long)
 
 -- the recorders that stand at a field
-pub recorders_at : (inside w : Writer) (field id : ℕ) (e : Entry) (terms : Terms) → inside ≡ w → length inside.fields ≡ length inside.schema → slice_get w.schema field ≡ Some e → id ≡ field → terms ≡ get_or inside.fields id terms → slice_get w.fields field ≡ Some terms
-recorders_at inside w field id e terms view long at is here =
-    let schema = ap (λ (x : Writer). length x.schema) view in
-    let within = slice_get_within w.schema field e at in
+pub recorders_at : (schema : Schema) (inside w : Writer) (field id : ℕ) (e : Entry) (terms : Terms) → inside ≡ w → HasFields schema w → slice_get schema field ≡ Some e → id ≡ field → terms ≡ get_or inside.fields id terms → slice_get w.fields field ≡ Some terms
+recorders_at schema inside w field id e terms view made at is here =
+    let long = ap (λ (x : Writer). length x.fields) view in
+    let within = slice_get_within schema field e at in
     let P : ℕ → Type 0 = λ n. slice_get inside.fields n ≡ Some terms in
     ap (λ (x : Writer). slice_get x.fields field) (sym view) ∙ subst P is (slice_get-get_or inside.fields id terms (omega arith) ∙ ap Some (sym here))

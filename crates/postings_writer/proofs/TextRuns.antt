@@ -1,11 +1,12 @@
 -- Tokens as they are recorded, one after another.
-use Rattle.std.proofs.Common.{[], ◌++◌, ◌+◌, ◌<◌, ◌^◌, ◌≡◌, ◌≤◌, ◌∙◌, ◌∷◌, ◌⊎◌, Bool, List, Some, ap, append_assoc, arith, cond, drop, inl, inr, length, max, min, nat_le, nat_lt, refl, slice_get, subst, sym, true, false, ℕ}
+use Rattle.std.proofs.Common.{[], ◌++◌, ◌+◌, ◌<◌, ◌^◌, ◌≡◌, ◌≤◌, ◌∙◌, ◌∷◌, ◌⊎◌, Bool, List, Some, ap, append_assoc, arith, cond, drop, inl, inr, length, length-append, max, min, nat_le, nat_lt, refl, slice_get, subst, sym, true, false, ℕ}
 use Rattle.std.proofs.lemmas.Bool.Decides.{nat_tests}
 use Rattle.std.proofs.lemmas.List.{map-append}
 use Rattle.std.proofs.lemmas.List.Elements.{filter-append}
 use Rattle.std.proofs.lemmas.Slice.Eq.{bytes_eq-Decides}
 use Rattle.definitions.specs.Analyzers.{kept, max_token_len}
 use Rattle.definitions.specs.Places.{ends, greatest_from, next_start}
+use Rattle.definitions.specs.Schema.{Schema}
 use Rattle.definitions.specs.Values.{Token}
 use Rattle.definitions.specs.declared.fault.Fault.{Fault}
 use Rattle.postings_writer.specs.Occurrences.{Occurrence, by_document, last_count, places_of}
@@ -68,15 +69,16 @@ one_refused fault os doc prefix gap start t position at (inr limit) = inr (
 -- ---- all tokens
 
 -- these tokens were recorded, of all that are kept
-pub record Indexed (was now : Writer) (doc : ℕ) (prefix : List ℕ) (gap start end : ℕ) (all rest : List Token) : Type 0 where
+pub record Indexed (schema : Schema) (was now : Writer) (doc : ℕ) (prefix : List ℕ) (gap start end num_tokens : ℕ) (all rest : List Token) : Type 0 where
   pub seen : List Token
   pub split : kept all ≡ seen ++ kept rest
-  pub stands : (os : List Occurrence) → Stands was os → Stands now (os ++ text_occurrences doc prefix start seen)
+  pub stands : (os : List Occurrence) → Stands schema was os → Stands schema now (os ++ text_occurrences doc prefix start seen)
   pub end_is : end ≡ greatest_from start (ends start seen)
+  pub counted : num_tokens ≡ min 4294967295 (length seen)
   pub within : AreWithin gap start seen
 
-pub none_indexed : (was : Writer) (doc : ℕ) (prefix : List ℕ) (gap start : ℕ) (all : List Token) → Indexed was was doc prefix gap start start all all
-none_indexed was doc prefix gap start all = record { seen = []; split = refl; stands = λ os stands. subst (Stands was) (sym (append_nil os)) stands; end_is = refl; within = tt }
+pub none_indexed : (schema : Schema) (was : Writer) (doc : ℕ) (prefix : List ℕ) (gap start : ℕ) (all : List Token) → Indexed schema was was doc prefix gap start start 0 all all
+none_indexed schema was doc prefix gap start all = record { seen = []; split = refl; stands = λ os stands. subst (Stands schema was) (sym (append_nil os)) stands; end_is = refl; counted = refl; within = tt }
   where
     append_nil : (xs : List Occurrence) → xs ++ [] ≡ xs
     append_nil [] = refl
@@ -89,15 +91,17 @@ split_more : (all seen rest after : List Token) (t : Token) → kept all ≡ see
 split_more all seen rest after t split is = split ∙ ap (λ ts. seen ++ kept ts) is ∙ ap (λ ts. seen ++ ts) (kept_more t after) ∙ sym (append_assoc seen (kept (t ∷ [])) (kept after))
 
 -- one token more
-pub indexed_more : (was now new : Writer) (doc : ℕ) (prefix : List ℕ) (gap start end token_end greatest : ℕ) (all rest after : List Token) (t : Token) → Indexed was now doc prefix gap start end all rest → rest ≡ t ∷ after
-    → ((os : List Occurrence) → Stands now os → Stands new (os ++ text_occurrences doc prefix start (kept (t ∷ []))))
+pub indexed_more : (schema : Schema) (was now new : Writer) (doc : ℕ) (prefix : List ℕ) (gap start end token_end greatest num_tokens count total : ℕ) (all rest after : List Token) (t : Token) → Indexed schema was now doc prefix gap start end num_tokens all rest → rest ≡ t ∷ after
+    → ((os : List Occurrence) → Stands schema now os → Stands schema new (os ++ text_occurrences doc prefix start (kept (t ∷ []))))
     → token_end ≡ greatest_from start (ends start (kept (t ∷ []))) → AreWithin gap start (kept (t ∷ [])) → greatest ≡ max end token_end
-    → Indexed was new doc prefix gap start greatest all after
-indexed_more was now new doc prefix gap start end token_end greatest all rest after t before is more token_is token_within greatest_is = record {
+    → count ≡ length (kept (t ∷ [])) → total ≡ min 4294967295 (num_tokens + count)
+    → Indexed schema was new doc prefix gap start greatest total all after
+indexed_more schema was now new doc prefix gap start end token_end greatest num_tokens count total all rest after t before is more token_is token_within greatest_is count_is total_is = record {
   seen = before.seen ++ kept (t ∷ []);
   split = split_more all before.seen rest after t before.split is;
-  stands = λ os stands. subst (Stands new) (joined doc prefix start os before.seen (kept (t ∷ []))) (more (os ++ text_occurrences doc prefix start before.seen) (before.stands os stands));
+  stands = λ os stands. subst (Stands schema new) (joined doc prefix start os before.seen (kept (t ∷ []))) (more (os ++ text_occurrences doc prefix start before.seen) (before.stands os stands));
   end_is = greatest_is ∙ ap (λ n. max n token_end) before.end_is ∙ ap (max (greatest_from start (ends start before.seen))) token_is ∙ sym (ends_append start before.seen (kept (t ∷ [])));
+  counted = (let so_far = before.counted in let long = length-append before.seen (kept (t ∷ [])) in omega arith);
   within = within_append gap start before.seen (kept (t ∷ [])) before.within token_within;
 }
 
@@ -107,9 +111,9 @@ token_first [] after t first is = cc
 token_first (x ∷ xs) after t first is = (let same : x ≡ t = cc in ap (λ y. y ∷ xs) same ∙ ap (λ ys. t ∷ ys) (sym is))
 
 -- a token that is refused
-pub indexed_refused : (fault : Fault) (was now : Writer) (os : List Occurrence) (doc : ℕ) (prefix : List ℕ) (gap start end : ℕ) (all rest after : List Token) (t : Token) (before : Indexed was now doc prefix gap start end all rest) → rest ≡ t ∷ after → IsTextRefusal fault (os ++ text_occurrences doc prefix start before.seen) doc prefix gap start (kept (t ∷ [])) → IsTextRefusal fault os doc prefix gap start (kept all)
-indexed_refused fault was now os doc prefix gap start end all rest after t before is (inl memory) = inl memory
-indexed_refused fault was now os doc prefix gap start end all rest after t before is (inr limit) = inr (limit.0, go limit.1)
+pub indexed_refused : (fault : Fault) (schema : Schema) (was now : Writer) (os : List Occurrence) (doc : ℕ) (prefix : List ℕ) (gap start end num_tokens : ℕ) (all rest after : List Token) (t : Token) (before : Indexed schema was now doc prefix gap start end num_tokens all rest) → rest ≡ t ∷ after → IsTextRefusal fault (os ++ text_occurrences doc prefix start before.seen) doc prefix gap start (kept (t ∷ [])) → IsTextRefusal fault os doc prefix gap start (kept all)
+indexed_refused fault schema was now os doc prefix gap start end num_tokens all rest after t before is (inl memory) = inl memory
+indexed_refused fault schema was now os doc prefix gap start end num_tokens all rest after t before is (inr limit) = inr (limit.0, go limit.1)
   where
     whole : kept all ≡ before.seen ++ (kept (t ∷ []) ++ kept after)
     whole = split_more all before.seen rest after t before.split is ∙ append_assoc before.seen (kept (t ∷ [])) (kept after)
@@ -125,13 +129,13 @@ indexed_refused fault was now os doc prefix gap start end all rest after t befor
     })
 
 -- all tokens were recorded
-pub indexed_all : (was now : Writer) (doc : ℕ) (prefix : List ℕ) (gap start end : ℕ) (all rest : List Token) (before : Indexed was now doc prefix gap start end all rest) → length rest ≡ 0 → before.seen ≡ kept all
-indexed_all was now doc prefix gap start end all [] before none = sym (before.split ∙ append_nil before.seen)
+pub indexed_all : (schema : Schema) (was now : Writer) (doc : ℕ) (prefix : List ℕ) (gap start end num_tokens : ℕ) (all rest : List Token) (before : Indexed schema was now doc prefix gap start end num_tokens all rest) → length rest ≡ 0 → before.seen ≡ kept all
+indexed_all schema was now doc prefix gap start end num_tokens all [] before none = sym (before.split ∙ append_nil before.seen)
   where
     append_nil : (xs : List Token) → xs ++ [] ≡ xs
     append_nil [] = refl
     append_nil (x ∷ xs) = ap (λ ys. x ∷ ys) (append_nil xs)
-indexed_all was now doc prefix gap start end all (t ∷ rest) before none = absurd (omega arith)
+indexed_all schema was now doc prefix gap start end num_tokens all (t ∷ rest) before none = absurd (omega arith)
 
 -- ---- a start that was cut
 
@@ -147,12 +151,12 @@ cut gap start real [] is within = go (nat_lt real (2 ^ 31)) refl
     go false e = inr (refl, (let above : 2 ^ 31 ≤ real = grind (arith, nat_tests) in omega arith), grind (arith, nat_tests))
 cut gap start real (t ∷ ts) is within = inl (let w = within.0 in omega arith)
 
-pub cut_stands : (w : Writer) (os : List Occurrence) (doc : ℕ) (prefix : List ℕ) (gap start real : ℕ) (ts : List Token) → start ≡ min (2 ^ 31) real → AreWithin gap start ts → Stands w (os ++ text_occurrences doc prefix start ts) → Stands w (os ++ text_occurrences doc prefix real ts)
-cut_stands w os doc prefix gap start real ts is within stands = go (cut gap start real ts is within)
+pub cut_stands : (schema : Schema) (w : Writer) (os : List Occurrence) (doc : ℕ) (prefix : List ℕ) (gap start real : ℕ) (ts : List Token) → start ≡ min (2 ^ 31) real → AreWithin gap start ts → Stands schema w (os ++ text_occurrences doc prefix start ts) → Stands schema w (os ++ text_occurrences doc prefix real ts)
+cut_stands schema w os doc prefix gap start real ts is within stands = go (cut gap start real ts is within)
   where
-    go : (start ≡ real) ⊎ ((ts ≡ []) × (start ≡ 2 ^ 31) × (2 ^ 31 ≤ real)) → Stands w (os ++ text_occurrences doc prefix real ts)
-    go (inl same) = subst (λ n. Stands w (os ++ text_occurrences doc prefix n ts)) same stands
-    go (inr (empty, _, _)) = subst (λ xs. Stands w (os ++ text_occurrences doc prefix real xs)) (sym empty) (subst (λ xs. Stands w (os ++ text_occurrences doc prefix start xs)) empty stands)
+    go : (start ≡ real) ⊎ ((ts ≡ []) × (start ≡ 2 ^ 31) × (2 ^ 31 ≤ real)) → Stands schema w (os ++ text_occurrences doc prefix real ts)
+    go (inl same) = subst (λ n. Stands schema w (os ++ text_occurrences doc prefix n ts)) same stands
+    go (inr (empty, _, _)) = subst (λ xs. Stands schema w (os ++ text_occurrences doc prefix real xs)) (sym empty) (subst (λ xs. Stands schema w (os ++ text_occurrences doc prefix start xs)) empty stands)
 
 pub cut_within : (gap start real : ℕ) (ts : List Token) → start ≡ min (2 ^ 31) real → AreWithin gap start ts → AreWithin gap real ts
 cut_within gap start real [] is within = tt

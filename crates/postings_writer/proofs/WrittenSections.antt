@@ -154,10 +154,7 @@ indexed_at n (x ∷ xs) (suc i) e at indexed = go (is_indexed x) (indexed_at (n 
     go true later = ap (λ b. nat_eq (n + suc i) n || b) (ap (λ m. list_any (nat_eq m) (map (λ (q : ℕ × Entry). q.0) rest)) (sym up) ∙ later) ∙ or_true (nat_eq (n + suc i) n)
     go false later = ap (λ m. list_any (nat_eq m) (map (λ (q : ℕ × Entry). q.0) rest)) (sym up) ∙ later
 
-module _ (w : Writer) (num_docs : ℕ) (norms : List (ℕ × List ℕ)) (os : List Occurrence) (stands : Stands w os) (le : w.num_docs ≤ num_docs) where
-  abbrev schema : Schema
-  schema = w.schema
-
+module _ (schema : Schema) (w : Writer) (num_docs : ℕ) (norms : List (ℕ × List ℕ)) (os : List Occurrence) (stands : Stands schema w os) (le : w.num_docs ≤ num_docs) where
   -- a term of a field, by all its bytes
   whole : (field : ℕ) (e : Entry) (key : List ℕ) → slice_get schema field ≡ Some e → term_of_key schema field key ≡ term_bytes field e.kind key
   whole field e key at = ap (λ o. option_map_or (λ (x : Entry). term_bytes field x.kind key) o []) at
@@ -174,7 +171,7 @@ module _ (w : Writer) (num_docs : ℕ) (norms : List (ℕ × List ℕ)) (os : Li
     ascend = is.is.ascend;
     tokens_fit = is.is.tokens_fit;
     each = all_then (IsTermOf is.entry (field_ids norms f.field) (places_in f.field is.entry os)) (λ (t : IndexedTerm). IsTerm (option_of_term schema (term_of_key schema f.field t.key)) num_docs (field_ids norms f.field) t) f.terms
-        (λ t term. subst (λ o. IsTerm o num_docs (field_ids norms f.field) t) (sym (option_is f.field is.entry t.key is.at)) (term_stands num_docs is.entry (field_ids norms f.field) (places_in f.field is.entry os) t (λ key. more_docs w.num_docs num_docs (places_in f.field is.entry os key) le (places_stand w os (term_bytes f.field is.entry.kind key) stands)) term))
+        (λ t term. subst (λ o. IsTerm o num_docs (field_ids norms f.field) t) (sym (option_is f.field is.entry t.key is.at)) (term_stands num_docs is.entry (field_ids norms f.field) (places_in f.field is.entry os) t (λ key. more_docs w.num_docs num_docs (places_in f.field is.entry os key) le (places_stand schema w os (term_bytes f.field is.entry.kind key) stands)) term))
         is.is.each;
   }
 

@@ -7,9 +7,8 @@ use Rattle.definitions.specs.Terms.{term_bytes}
 use Rattle.postings_writer.specs.Fields.{HasPlaces, Terms}
 use Rattle.postings_writer.specs.Occurrences.{Occurrence, places_of}
 
--- a writer: its schema, the recorders of each field's terms, and one more than the last document, or 0
+-- a writer: the recorders of each field's terms, and one more than the last document, or 0
 pub record Writer : Type 0 where
-  pub schema : Schema
   pub fields : List Terms
   pub num_docs : ℕ
 
@@ -33,9 +32,14 @@ pub record IsOccurrence (schema : Schema) (num_docs : ℕ) (o : Occurrence) : Ty
 abbrev pub HasOccurrences : List Occurrence → List Terms → ℕ × Entry → Type 0
 HasOccurrences os fields (field, e) = (terms : Terms) × (slice_get fields field ≡ Some terms) × HasPlaces e (λ key. places_of (term_bytes field e.kind key) os) terms
 
--- These occurrences were recorded, in this order, and documents don't fall.
-pub record Stands (w : Writer) (os : List Occurrence) : Type 0 where
-  pub few : length w.schema ≤ max_fields
-  pub each : AllByRecursion (IsOccurrence w.schema w.num_docs) os
+-- it has recorders for each field of the schema
+abbrev pub HasFields : Schema → Writer → Type 0
+HasFields schema w = length w.fields ≡ length schema
+
+-- These occurrences of terms of the schema were recorded, in this order, and documents don't fall.
+pub record Stands (schema : Schema) (w : Writer) (os : List Occurrence) : Type 0 where
+  pub few : length schema ≤ max_fields
+  pub fields_are : HasFields schema w
+  pub each : AllByRecursion (IsOccurrence schema w.num_docs) os
   pub rising : DontFall (map (λ (o : Occurrence). o.doc) os)
-  pub recorded : (field : ℕ) (e : Entry) → slice_get w.schema field ≡ Some e → HasOccurrences os w.fields (field, e)
+  pub recorded : (field : ℕ) (e : Entry) → slice_get schema field ≡ Some e → HasOccurrences os w.fields (field, e)

@@ -1,27 +1,28 @@
 //! Records the tokens of texts.
 
-ghost use Rattle.std.specs.Prelude.{[], ◌++◌, ◌+◌, ◌<◌, ◌^◌, ◌≡◌, ◌≤◌, ◌∷◌, IfErr, IfOk, List, OnOk, min, ℕ};
-ghost use Rattle.common.specs.Token.{token_of};
+ghost use Rattle.std.specs.Prelude.{[], ◌++◌, ◌+◌, ◌<◌, ◌^◌, ◌≡◌, ◌≤◌, ◌∷◌, IfErr, IfOk, List, OnOk, length, min, ℕ};
+ghost use Rattle.common.specs.Buffers.{token_of_ref};
 ghost use Rattle.definitions.specs.Analyzers.{kept};
 ghost use Rattle.definitions.specs.Places.{ends, greatest_from, next_start};
 ghost use Rattle.definitions.specs.Postings.{terminated};
 ghost use Rattle.definitions.specs.declared.fault.Fault.TheVariants as faults;
 ghost use Rattle.postings_writer.specs.Occurrences.{Occurrence};
 ghost use Rattle.postings_writer.specs.Texts.{AreWithin, EndsPast, IsTextRefusal, end_of, text_occurrences};
-ghost use Rattle.postings_writer.specs.Writers.{IsIndexedTerm, Stands};
+ghost use Rattle.postings_writer.specs.Writers.{HasFields, IsIndexedTerm, Stands};
 
 use crate::postings_writer::PostingsWriter;
-use common::{MAX_TOKEN_LEN, Token, TokenStream};
+use common::{MAX_TOKEN_LEN, TokenRef, TokenStream};
 use definitions::Fault;
+use schema::Schema;
 
 /// What every position, with its length and the gap behind it, is below.
 const MAX_POSITION: u32 = 2147483648;
 
 /// The position of a token in a value that begins at a start, and where the token ends. With the gap behind it
 /// the end is below 2147483648.
-fn place_of(start: u32, gap: u32, token: &Token) -> Result<(u32, u32), Fault>
-    ensures ok { IfOk result (λ p. (p.0 ≡ start + token.now.position) × (p.1 ≡ start + token.now.position + token.now.position_length) × (p.1 + gap < 2 ^ 31)) }
-    ensures err { IfErr result (λ fault. (fault ≡ faults.Limit) × (2 ^ 31 ≤ end_of gap start (token_of token.now))) }
+fn place_of(start: u32, gap: u32, token: TokenRef<'_>) -> Result<(u32, u32), Fault>
+    ensures ok { IfOk result (λ p. (p.0 ≡ start + token.entry.position) × (p.1 ≡ start + token.entry.position + token.entry.position_length) × (p.1 + gap < 2 ^ 31)) }
+    ensures err { IfErr result (λ fault. (fault ≡ faults.Limit) × (2 ^ 31 ≤ end_of gap start (token_of_ref token.entry))) }
 {
     let position = below_limit(token.position)?;
     let length = below_limit(token.position_length)?;
@@ -43,85 +44,122 @@ fn below_limit(n: usize) -> Result<u32, Fault>
     Ok(n as u32)
 }
 
-impl<'a> PostingsWriter<'a> {
-    /// Records the tokens of a value that begins at a start, each as the term of its text behind the first bytes
-    /// that the buffer holds, and answers where the next value begins, or 2147483648 where it would begin behind
-    /// that. Tokens over `MAX_TOKEN_LEN` bytes are dropped. A token that doesn't end below 2147483648, with the gap
-    /// behind it, is refused, so a start that was cut to 2147483648 refuses what the real one does.
+/// How a text was recorded.
+#[derive(Clone, Copy, Debug)]
+pub struct IndexedText {
+    /// How many of its tokens were kept, or 4294967295 where they are more.
+    pub num_tokens: u32,
+    /// Where the next text begins, or 2147483648 where it would begin behind that.
+    pub next_start: u32,
+}
+
+impl PostingsWriter {
+    /// Records the tokens of a text that begins at a start, each as the term of its own text behind the first bytes
+    /// that the buffer holds. Tokens over `MAX_TOKEN_LEN` bytes are dropped. A token that doesn't end below
+    /// 2147483648, with the gap behind it, is refused, so a start that was cut to 2147483648 refuses what the real
+    /// one does.
     pub fn index_text<T: TokenStream>(
         &mut self,
+        schema: &Schema,
         doc: u32,
         term_buffer: &mut Vec<u8>,
         stream: &mut T,
         start: u32,
         gap: u32,
-    ) -> Result<u32, Fault>
-        requires known { (text : List ℕ) → IsIndexedTerm self.old.schema (term_buffer.old.items ++ text) }
+    ) -> Result<IndexedText, Fault>
+        requires made { HasFields schema.now self.old }
+        requires known { (text : List ℕ) → IsIndexedTerm schema.now (term_buffer.old.items ++ text) }
         requires next { self.old.num_docs ≤ doc + 1 }
         requires fits { doc < terminated }
         requires small { gap < 2 ^ 31 }
-        ensures ok { (os : List Occurrence) (real : ℕ) → Stands self.old os → start ≡ min (2 ^ 31) real → OnOk result (Stands self.new (os ++ text_occurrences doc term_buffer.old.items real (kept (T.rest stream.old)))) }
-        ensures next { (real : ℕ) → start ≡ min (2 ^ 31) real → IfOk result (λ next. next ≡ min (2 ^ 31) (next_start gap real (kept (T.rest stream.old)))) }
+        ensures ok { (os : List Occurrence) (real : ℕ) → Stands schema.now self.old os → start ≡ min (2 ^ 31) real
+            → OnOk result (Stands schema.now self.new (os ++ text_occurrences doc term_buffer.old.items real (kept (T.rest stream.old)))) }
+        ensures next { (real : ℕ) → start ≡ min (2 ^ 31) real
+            → IfOk result (λ text. text.next_start ≡ min (2 ^ 31) (next_start gap real (kept (T.rest stream.old)))) }
+        ensures num_tokens { IfOk result (λ text. text.num_tokens ≡ min 4294967295 (length (kept (T.rest stream.old)))) }
         ensures within { (real : ℕ) → start ≡ min (2 ^ 31) real → OnOk result (AreWithin gap real (kept (T.rest stream.old))) }
-        ensures same { OnOk result ((self.new.schema ≡ self.old.schema) × (self.new.num_docs ≤ doc + 1) × (term_buffer.new.items ≡ term_buffer.old.items)) }
-        ensures err { (os : List Occurrence) (real : ℕ) → Stands self.old os → start ≡ min (2 ^ 31) real → IfErr result (λ fault. IsTextRefusal fault os doc term_buffer.old.items gap real (kept (T.rest stream.old))) }
+        ensures same { OnOk result (HasFields schema.now self.new × (self.new.num_docs ≤ doc + 1) × (term_buffer.new.items ≡ term_buffer.old.items)) }
+        ensures err { (os : List Occurrence) (real : ℕ) → Stands schema.now self.old os → start ≡ min (2 ^ 31) real
+            → IfErr result (λ fault. IsTextRefusal fault os doc term_buffer.old.items gap real (kept (T.rest stream.old))) }
     {
-        let end = self.index_tokens(doc, term_buffer, stream, start, gap)?;
-        Ok((end.min(MAX_POSITION) + gap).min(MAX_POSITION))
+        let (end, num_tokens) = self.index_tokens(schema, doc, term_buffer, stream, start, gap)?;
+        Ok(IndexedText {
+            num_tokens,
+            next_start: (end.min(MAX_POSITION) + gap).min(MAX_POSITION),
+        })
     }
 
-    /// Records the tokens of a value that begins at a start, and answers where they end.
+    /// Records the tokens of a text that begins at a start, and answers where they end, and how many were kept.
     fn index_tokens<T: TokenStream>(
         &mut self,
+        schema: &Schema,
         doc: u32,
         term_buffer: &mut Vec<u8>,
         stream: &mut T,
         start: u32,
         gap: u32,
-    ) -> Result<u32, Fault>
-        requires known { (text : List ℕ) → IsIndexedTerm self.old.schema (term_buffer.old.items ++ text) }
+    ) -> Result<(u32, u32), Fault>
+        requires made { HasFields schema.now self.old }
+        requires known { (text : List ℕ) → IsIndexedTerm schema.now (term_buffer.old.items ++ text) }
         requires next { self.old.num_docs ≤ doc + 1 }
         requires fits { doc < terminated }
-        ensures ok { (os : List Occurrence) → Stands self.old os → OnOk result (Stands self.new (os ++ text_occurrences doc term_buffer.old.items start (kept (T.rest stream.old)))) }
-        ensures end { IfOk result (λ end. end ≡ greatest_from start (ends start (kept (T.rest stream.old)))) }
+        ensures ok { (os : List Occurrence) → Stands schema.now self.old os
+            → OnOk result (Stands schema.now self.new (os ++ text_occurrences doc term_buffer.old.items start (kept (T.rest stream.old)))) }
+        ensures end { IfOk result (λ p. p.0 ≡ greatest_from start (ends start (kept (T.rest stream.old)))) }
+        ensures num_tokens { IfOk result (λ p. p.1 ≡ min 4294967295 (length (kept (T.rest stream.old)))) }
         ensures within { OnOk result (AreWithin gap start (kept (T.rest stream.old))) }
-        ensures same { OnOk result ((self.new.schema ≡ self.old.schema) × (self.new.num_docs ≤ doc + 1) × (term_buffer.new.items ≡ term_buffer.old.items)) }
-        ensures err { (os : List Occurrence) → Stands self.old os → IfErr result (λ fault. IsTextRefusal fault os doc term_buffer.old.items gap start (kept (T.rest stream.old))) }
+        ensures same { OnOk result (HasFields schema.now self.new × (self.new.num_docs ≤ doc + 1) × (term_buffer.new.items ≡ term_buffer.old.items)) }
+        ensures err { (os : List Occurrence) → Stands schema.now self.old os
+            → IfErr result (λ fault. IsTextRefusal fault os doc term_buffer.old.items gap start (kept (T.rest stream.old))) }
     {
         let mut end = start;
+        let mut num_tokens: u32 = 0;
         while stream.advance() {
-            let token_end = self.index_token(doc, term_buffer, stream.token(), start, gap)?;
+            let (token_end, count) = self.index_token(
+                schema,
+                doc,
+                term_buffer,
+                stream.token(),
+                start,
+                gap,
+            )?;
             end = end.max(token_end);
+            num_tokens = num_tokens.saturating_add(count);
         }
-        Ok(end)
+        Ok((end, num_tokens))
     }
 
-    /// Records a token, unless it is dropped, and answers where it ends, or the start.
+    /// Records a token, unless it is dropped, and answers where it ends, or the start, and how many tokens that is.
     fn index_token(
         &mut self,
+        schema: &Schema,
         doc: u32,
         term_buffer: &mut Vec<u8>,
-        token: &Token,
+        token: TokenRef<'_>,
         start: u32,
         gap: u32,
-    ) -> Result<u32, Fault>
-        requires known { (text : List ℕ) → IsIndexedTerm self.old.schema (term_buffer.old.items ++ text) }
+    ) -> Result<(u32, u32), Fault>
+        requires made { HasFields schema.now self.old }
+        requires known { (text : List ℕ) → IsIndexedTerm schema.now (term_buffer.old.items ++ text) }
         requires next { self.old.num_docs ≤ doc + 1 }
         requires fits { doc < terminated }
-        ensures ok { (os : List Occurrence) → Stands self.old os → OnOk result (Stands self.new (os ++ text_occurrences doc term_buffer.old.items start (kept (token_of token.now ∷ [])))) }
-        ensures end { IfOk result (λ end. end ≡ greatest_from start (ends start (kept (token_of token.now ∷ [])))) }
-        ensures within { OnOk result (AreWithin gap start (kept (token_of token.now ∷ []))) }
-        ensures same { OnOk result ((self.new.schema ≡ self.old.schema) × (self.new.num_docs ≤ doc + 1) × (term_buffer.new.items ≡ term_buffer.old.items)) }
-        ensures err { (os : List Occurrence) → Stands self.old os → IfErr result (λ fault. IsTextRefusal fault os doc term_buffer.old.items gap start (kept (token_of token.now ∷ []))) }
+        ensures ok { (os : List Occurrence) → Stands schema.now self.old os
+            → OnOk result (Stands schema.now self.new (os ++ text_occurrences doc term_buffer.old.items start (kept (token_of_ref token.entry ∷ [])))) }
+        ensures end { IfOk result (λ p. p.0 ≡ greatest_from start (ends start (kept (token_of_ref token.entry ∷ [])))) }
+        ensures count { IfOk result (λ p. p.1 ≡ length (kept (token_of_ref token.entry ∷ []))) }
+        ensures within { OnOk result (AreWithin gap start (kept (token_of_ref token.entry ∷ []))) }
+        ensures same { OnOk result (HasFields schema.now self.new × (self.new.num_docs ≤ doc + 1) × (term_buffer.new.items ≡ term_buffer.old.items)) }
+        ensures err { (os : List Occurrence) → Stands schema.now self.old os
+            → IfErr result (λ fault. IsTextRefusal fault os doc term_buffer.old.items gap start (kept (token_of_ref token.entry ∷ []))) }
     {
         if token.text.len() > MAX_TOKEN_LEN {
-            return Ok(start);
+            return Ok((start, 0));
         }
         let (position, end) = place_of(start, gap, token)?;
         let prefix_len = term_buffer.len();
         term_buffer.extend_from_slice(token.text.as_bytes())?;
-        self.subscribe(doc, term_buffer, position)?;
+        self.subscribe(schema, doc, term_buffer, position)?;
         term_buffer.truncate(prefix_len);
-        Ok(end)
+        Ok((end, 1))
     }
 }

@@ -9,5 +9,6 @@ mod serialize;
 mod serialize_field;
 mod serialize_term;
 
+pub use index_text::IndexedText;
 pub use postings_writer::PostingsWriter;
 pub use recorder::{DocIdRecorder, Recorder, TermFrequencyRecorder, TfAndPositionRecorder};

@@ -5,7 +5,7 @@ ghost use Rattle.definitions.specs.Postings.{terminated};
 ghost use Rattle.definitions.specs.Terms.{field_of, payload_of};
 ghost use Rattle.postings_writer.specs.Occurrences.{Occurrence, places_of};
 ghost use Rattle.postings_writer.specs.Recorders.{IsCountRefusal};
-ghost use Rattle.postings_writer.specs.Writers.{IsIndexedTerm, Stands};
+ghost use Rattle.postings_writer.specs.Writers.{HasFields, IsIndexedTerm, Stands};
 
 use crate::field_postings::FieldPostings;
 use definitions::Fault;
@@ -33,34 +33,33 @@ fn payload_of(term: &[u8]) -> &[u8]
     &term[HEADER_LEN..]
 }
 
-/// Records the terms of documents, document by document, and writes their postings. After a refused call what
-/// was recorded is of no use.
+/// Records the terms of documents, document by document, and writes their postings. Each call is given the schema
+/// that the writer was made for. After a refused call what was recorded is of no use.
 #[derive(Drop)]
-pub struct PostingsWriter<'a> {
+pub struct PostingsWriter {
     pub(crate) alloc: Global,
-    pub(crate) schema: &'a Schema,
     pub(crate) fields: Vec<FieldPostings>,
     // One more than the last document, or 0.
     num_docs: u32,
 }
 
-impl<'a> Model for PostingsWriter<'a> {
-    ghost use Rattle.std.specs.Prelude.{◌≡◌, ◌≤◌, length};
+impl Model for PostingsWriter {
+    ghost use Rattle.std.specs.Prelude.{◌≤◌};
     ghost use Rattle.definitions.specs.Postings.{terminated};
     ghost use Rattle.postings_writer.specs.Writers.{Writer};
 
     ghost Value = { Writer };
 
-    ghost view = { λ w. record { schema = w.schema.now; fields = w.fields.items; num_docs = w.num_docs } };
+    ghost view = { λ w. record { fields = w.fields.items; num_docs = w.num_docs } };
 
-    ghost invariant = { λ w. (length w.fields.items ≡ length w.schema.now) × (w.num_docs ≤ terminated) };
+    ghost invariant = { λ w. w.num_docs ≤ terminated };
 }
 
-impl<'a> PostingsWriter<'a> {
+impl PostingsWriter {
     /// Nothing is recorded yet.
-    pub fn for_schema(alloc: Global, schema: &'a Schema) -> Result<PostingsWriter<'a>, AllocError>
-        ensures value { IfOk result (λ writer. writer ≡ record { schema = schema.now; fields = replicate (length schema.now) []; num_docs = 0 }) }
-        ensures nothing { IfOk result (λ writer. Stands writer []) }
+    pub fn for_schema(alloc: Global, schema: &Schema) -> Result<PostingsWriter, AllocError>
+        ensures value { IfOk result (λ writer. writer ≡ record { fields = replicate (length schema.now) []; num_docs = 0 }) }
+        ensures nothing { IfOk result (λ writer. Stands schema.now writer []) }
     {
         let num_fields = schema.num_fields();
         let mut fields = Vec::with_capacity(alloc, num_fields)?;
@@ -69,7 +68,6 @@ impl<'a> PostingsWriter<'a> {
         }
         Ok(PostingsWriter {
             alloc,
-            schema,
             fields,
             num_docs: 0,
         })
@@ -77,17 +75,26 @@ impl<'a> PostingsWriter<'a> {
 
     /// Records that the term stands in the document, at the position. The document isn't below the last one.
     /// A count of the term in the document that would pass 4294967295 is refused.
-    pub fn subscribe(&mut self, doc: u32, term: &[u8], position: u32) -> Result<(), Fault>
-        requires known { IsIndexedTerm self.old.schema term.now }
+    pub fn subscribe(
+        &mut self,
+        schema: &Schema,
+        doc: u32,
+        term: &[u8],
+        position: u32,
+    ) -> Result<(), Fault>
+        requires made { HasFields schema.now self.old }
+        requires known { IsIndexedTerm schema.now term.now }
         requires next { self.old.num_docs ≤ doc + 1 }
         requires fits { doc < terminated }
         requires placed { position < 2 ^ 31 }
-        ensures ok { (os : List Occurrence) → Stands self.old os → OnOk result (Stands self.new (os ++ record { doc = doc; term = term.now; position = position } ∷ [])) }
-        ensures same { OnOk result ((self.new.schema ≡ self.old.schema) × (self.new.num_docs ≡ doc + 1)) }
-        ensures err { (os : List Occurrence) → Stands self.old os → IfErr result (λ fault. IsCountRefusal fault (places_of term.now os ++ (doc, position) ∷ [])) }
+        ensures ok { (os : List Occurrence) → Stands schema.now self.old os
+            → OnOk result (Stands schema.now self.new (os ++ record { doc = doc; term = term.now; position = position } ∷ [])) }
+        ensures same { OnOk result (HasFields schema.now self.new × (self.new.num_docs ≡ doc + 1)) }
+        ensures err { (os : List Occurrence) → Stands schema.now self.old os
+            → IfErr result (λ fault. IsCountRefusal fault (places_of term.now os ++ (doc, position) ∷ [])) }
     {
         let field = field_of(term);
-        let entry = self.schema.get_field_entry(Field::from_field_id(field));
+        let entry = schema.get_field_entry(Field::from_field_id(field));
         let key = payload_of(term);
         self.fields[field as usize].record(self.alloc, entry, key, doc, position)?;
         self.num_docs = doc + 1;

@@ -2,7 +2,7 @@
 
 ghost use Rattle.std.specs.Prelude.{[], ◌≡◌, ◌≤◌, ◌∷◌, IfErr, IfOk, List, Some, length, slice_get, true, ℕ};
 ghost use Rattle.std.specs.List.{AllByRecursion};
-ghost use Rattle.definitions.specs.Schema.{is_indexed};
+ghost use Rattle.definitions.specs.Schema.{Schema as Fields, is_indexed};
 ghost use Rattle.definitions.specs.Terms.{term_bytes};
 ghost use Rattle.layouts.specs.InvertedIndexes.{AreGiven, AreSections, IndexedField, field_ids, option_of_term};
 ghost use Rattle.postings_writer.specs.Fields.{option_of_key};
@@ -15,28 +15,29 @@ use crate::postings_writer::PostingsWriter;
 use definitions::Fault;
 use fieldnorms::FieldNormReaders;
 use postings_serializer::InvertedIndexSerializer;
-use schema::FieldEntry;
+use schema::{FieldEntry, Schema};
 use terms::Field;
 
-impl<'a> PostingsWriter<'a> {
+impl PostingsWriter {
     /// Writes the terms of the indexed fields, field by field in the order of their numbers, with their postings
     /// and positions. A field that keeps lengths has one for each document that was recorded.
     pub fn serialize(
         &self,
+        schema: &Schema,
         fieldnorm_readers: &FieldNormReaders<'_>,
         mut serializer: InvertedIndexSerializer,
     ) -> Result<InvertedIndexSerializer, Fault>
-        requires stands { (os : List Occurrence) × Stands self.now os }
+        requires stands { (os : List Occurrence) × Stands schema.now self.now os }
         requires lengths { AllByRecursion (λ p. self.now.num_docs ≤ length p.1) fieldnorm_readers.now }
         requires new { serializer ≡ record { terms = 0 ∷ []; postings = []; positions = [] } }
-        ensures ok { (num_docs : ℕ) (os : List Occurrence) → self.now.num_docs ≤ num_docs → Stands self.now os
+        ensures ok { (num_docs : ℕ) (os : List Occurrence) → self.now.num_docs ≤ num_docs → Stands schema.now self.now os
             → IfOk result (λ s. (fields : List IndexedField)
-            × AreSections self.now.schema num_docs fieldnorm_readers.now fields s.terms s.postings s.positions
-            × AreGiven (λ t. postings_in (option_of_term self.now.schema t) t os) self.now.schema fields
-            × AllByRecursion (IsFieldWithin self.now.schema) fields) }
-        ensures err { (os : List Occurrence) → Stands self.now os → IfErr result (λ fault. IsSerializeRefusal fault self.now.schema fieldnorm_readers.now (λ t. postings_in (option_of_term self.now.schema t) t os)) }
+            × AreSections schema.now num_docs fieldnorm_readers.now fields s.terms s.postings s.positions
+            × AreGiven (λ t. postings_in (option_of_term schema.now t) t os) schema.now fields
+            × AllByRecursion (IsFieldWithin schema.now) fields) }
+        ensures err { (os : List Occurrence) → Stands schema.now self.now os → IfErr result (λ fault. IsSerializeRefusal fault schema.now fieldnorm_readers.now (λ t. postings_in (option_of_term schema.now t) t os)) }
     {
-        for (field, entry) in self.schema.fields() {
+        for (field, entry) in schema.fields() {
             if entry.is_indexed() {
                 serializer = self.serialize_field(field, entry, fieldnorm_readers, serializer)?;
             }
@@ -52,12 +53,13 @@ impl<'a> PostingsWriter<'a> {
         fieldnorm_readers: &FieldNormReaders<'_>,
         serializer: InvertedIndexSerializer,
     ) -> Result<InvertedIndexSerializer, Fault>
-        requires stands { (os : List Occurrence) × Stands self.now os }
+        requires stands { (schema : Fields) × (os : List Occurrence) × Stands schema self.now os × (slice_get schema field ≡ Some entry.now) }
         requires lengths { AllByRecursion (λ p. self.now.num_docs ≤ length p.1) fieldnorm_readers.now }
-        requires entry { slice_get self.now.schema field ≡ Some entry.now }
         requires indexed { is_indexed entry.now ≡ true }
-        ensures ok { (os : List Occurrence) → Stands self.now os → IfOk result (λ sections. (f : IndexedField) × (f.field ≡ field) × IsFieldOf entry.now (field_ids fieldnorm_readers.now field) (λ key. places_of (term_bytes field entry.now.kind key) os) f × AreFieldsAdded serializer sections (f ∷ [])) }
-        ensures err { (os : List Occurrence) → Stands self.now os → IfErr result (λ fault. IsFieldRefusal fault (option_of_key entry.now) (field_ids fieldnorm_readers.now field) (λ key. postings_at (option_of_key entry.now key) (places_of (term_bytes field entry.now.kind key) os))) }
+        ensures ok { (schema : Fields) (os : List Occurrence) → Stands schema self.now os → slice_get schema field ≡ Some entry.now
+            → IfOk result (λ sections. (f : IndexedField) × (f.field ≡ field) × IsFieldOf entry.now (field_ids fieldnorm_readers.now field) (λ key. places_of (term_bytes field entry.now.kind key) os) f × AreFieldsAdded serializer sections (f ∷ [])) }
+        ensures err { (schema : Fields) (os : List Occurrence) → Stands schema self.now os → slice_get schema field ≡ Some entry.now
+            → IfErr result (λ fault. IsFieldRefusal fault (option_of_key entry.now) (field_ids fieldnorm_readers.now field) (λ key. postings_at (option_of_key entry.now key) (places_of (term_bytes field entry.now.kind key) os))) }
     {
         let field_id = field.field_id();
         let fieldnorm_reader = fieldnorm_readers.get_field(field_id);

@@ -5,4 +5,4 @@ use Rattle.document_indexer.proofs.index_facet.index_prefixes.Given as goal
 
 -- the prefixes that end before this byte were recorded
 abbrev pub invariant-loop-end : goal.invariant-loop-end
-invariant-loop-end l = Seen l.fn.indexer l.indexer (map (text_term l.field) (cuts (take l.end l.bytes) (drop l.end l.bytes))) (text_term l.field [] ∷ map (text_term l.field) (cuts [] l.bytes))
+invariant-loop-end l = Seen l.schema l.fn.indexer l.indexer (map (text_term l.field) (cuts (take l.end l.bytes) (drop l.end l.bytes))) (text_term l.field [] ∷ map (text_term l.field) (cuts [] l.bytes))

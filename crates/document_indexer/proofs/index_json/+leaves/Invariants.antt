@@ -27,7 +27,7 @@ invariant-index_values-loop-value g l =
     (goal.iterator-index_values-loop-value g).can_next l.value-iterator
     × (goal.iterator-index_values-loop-value g).is_finite l.value-iterator
     × (l.keys.items ≡ l.initial.keys.items)
-    × Seen l.initial.indexer l.indexer (steps (to_values l.value-iterator)) (steps (to_values l.fn.values))
+    × Seen l.json_field.schema.now l.initial.indexer l.indexer (steps (to_values l.value-iterator)) (steps (to_values l.fn.values))
     × (values_nesting (to_values l.value-iterator) ≤ values_nesting (to_values l.fn.values))
 
 -- the same of members
@@ -38,5 +38,5 @@ invariant-index_members-loop-key g l =
     (goal.iterator-index_members-loop-key g).can_next l.key-iterator
     × (goal.iterator-index_members-loop-key g).is_finite l.key-iterator
     × (l.keys.items ≡ l.initial.keys.items)
-    × Seen l.initial.indexer l.indexer (steps (to_members l.key-iterator)) (steps (to_members l.fn.members))
+    × Seen l.json_field.schema.now l.initial.indexer l.indexer (steps (to_members l.key-iterator)) (steps (to_members l.fn.members))
     × (members_nesting (to_members l.key-iterator) ≤ members_nesting (to_members l.fn.members))

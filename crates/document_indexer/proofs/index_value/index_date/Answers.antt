@@ -8,10 +8,10 @@ use Rattle.document_indexer.proofs.index_value.index_date.Goals as goal
 
 pub returns-in-Date-clause-ok : goal.returns-in-Date-clause-ok
 returns-in-Date-clause-ok c =
-    let P : CompactDocValue → Type 0 = λ v. OnOk c.index_fast_value.result (Records c.args.indexer.now c.index_fast_value.new.indexer (plain_steps date_kind c.args.field (value_of v))) in
+    let P : CompactDocValue → Type 0 = λ v. OnOk c.index_fast_value.result (Records c.args.schema.now c.args.indexer.now c.index_fast_value.new.indexer (plain_steps date_kind c.args.field (value_of v))) in
     subst P (sym c.in-Date.is) c.index_fast_value.ensures.ok
 
 pub returns-in-Date-clause-err : goal.returns-in-Date-clause-err
 returns-in-Date-clause-err c =
-    let P : CompactDocValue → Type 0 = λ v. IfErr c.index_fast_value.result (Refuses c.args.indexer.now (plain_steps date_kind c.args.field (value_of v))) in
+    let P : CompactDocValue → Type 0 = λ v. IfErr c.index_fast_value.result (Refuses c.args.schema.now c.args.indexer.now (plain_steps date_kind c.args.field (value_of v))) in
     subst P (sym c.in-Date.is) c.index_fast_value.ensures.err

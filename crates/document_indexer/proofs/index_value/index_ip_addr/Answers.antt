@@ -8,10 +8,10 @@ use Rattle.document_indexer.proofs.index_value.index_ip_addr.Goals as goal
 
 pub returns-in-IpAddr-clause-ok : goal.returns-in-IpAddr-clause-ok
 returns-in-IpAddr-clause-ok c =
-    let P : List Step → Type 0 = λ ss. OnOk c.index_term.result (Records c.args.indexer.now c.index_term.new.self ss) in
+    let P : List Step → Type 0 = λ ss. OnOk c.index_term.result (Records c.args.schema.now c.args.indexer.now c.index_term.new.self ss) in
     subst P (ap (λ bs. term_step (term_bytes c.args.field ip_addr_kind bs) ∷ []) c.to_be_bytes.ensures ∙ ap (λ v. plain_steps ip_addr_kind c.args.field (value_of v)) (sym c.in-IpAddr.is)) c.index_term.ensures.ok
 
 pub returns-in-IpAddr-clause-err : goal.returns-in-IpAddr-clause-err
 returns-in-IpAddr-clause-err c =
-    let P : List Step → Type 0 = λ ss. IfErr c.index_term.result (Refuses c.args.indexer.now ss) in
+    let P : List Step → Type 0 = λ ss. IfErr c.index_term.result (Refuses c.args.schema.now c.args.indexer.now ss) in
     subst P (ap (λ bs. term_step (term_bytes c.args.field ip_addr_kind bs) ∷ []) c.to_be_bytes.ensures ∙ ap (λ v. plain_steps ip_addr_kind c.args.field (value_of v)) (sym c.in-IpAddr.is)) c.index_term.ensures.err

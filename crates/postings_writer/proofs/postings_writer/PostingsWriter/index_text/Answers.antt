@@ -10,7 +10,7 @@ returns-in_err-end-clause-err g c os real stands is =
     rw (p.1, p.2) (cut_refused c.in_err-end.field-0.0 os c.args.doc c.args.term_buffer.now.items c.args.gap c.args.start real (kept (g.T.TokenStream.rest c.args.stream.now)) is (c.in_err-end.ensures.err os stands))
 
 pub returns-clause-ok : goal.returns-clause-ok
-returns-clause-ok g c os real stands is = cut_stands c.index_tokens.new.self os c.args.doc c.args.term_buffer.now.items c.args.gap c.args.start real (kept (g.T.TokenStream.rest c.args.stream.now)) is c.in_ok-end.ensures.within (c.in_ok-end.ensures.ok os stands)
+returns-clause-ok g c os real stands is = cut_stands c.args.schema.now c.index_tokens.new.self os c.args.doc c.args.term_buffer.now.items c.args.gap c.args.start real (kept (g.T.TokenStream.rest c.args.stream.now)) is c.in_ok-end.ensures.within (c.in_ok-end.ensures.ok os stands)
 
 pub returns-clause-next : goal.returns-clause-next
 returns-clause-next g c real is = cut_next c.args.gap c.args.start real c.in_ok-end.end c.min-2.result (kept (g.T.TokenStream.rest c.args.stream.now)) is c.in_ok-end.ensures.within c.in_ok-end.ensures.end (let a = c.min.ensures in let b = c.min-2.ensures in omega arith)

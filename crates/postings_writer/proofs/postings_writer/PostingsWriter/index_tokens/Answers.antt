@@ -1,6 +1,6 @@
 use Rattle.std.proofs.Common.{[], ◌++◌, ◌≡◌, ◌∙◌, ◌∷◌, List, arith, subst, sym, ℕ}
 use Rattle.std.proofs.lemmas.Result.{err_from_is_err_and}
-use Rattle.common.specs.Token.{token_of}
+use Rattle.common.specs.Buffers.{token_of_ref}
 use Rattle.definitions.specs.Analyzers.{kept}
 use Rattle.definitions.specs.Values.{Token}
 use Rattle.postings_writer.specs.Occurrences.{Occurrence}
@@ -12,7 +12,7 @@ use Rattle.postings_writer.proofs.postings_writer.PostingsWriter.index_tokens.Go
 pub loop-self-preserved : goal.loop-self-preserved
 loop-self-preserved g c =
     let inv = c.loop-self.invariant in
-    let t : Token = token_of c.token.result.now in
+    let t : Token = token_of_ref c.token.result in
     let prefix = c.args.term_buffer.now.items in
     let all = g.T.TokenStream.rest c.args.stream.now in
     let rest = g.T.TokenStream.rest c.loop-self.stream in
@@ -20,10 +20,10 @@ loop-self-preserved g c =
     let first : rest ≡ t ∷ after = token_first rest after t (sym c.advance.ensures.reached ∙ sym c.token.ensures) c.advance.ensures.rest in
     let same = c.in_ok-token_end.ensures.same in
     record {
-      indexed = indexed_more c.args.self.now c.loop-self.self c.index_token.new.self c.args.doc prefix c.args.gap c.args.start c.loop-self.end c.in_ok-token_end.token_end c.max-end.result all rest after t inv.indexed first
-          (λ os stands. subst (λ bs. Stands c.index_token.new.self (os ++ text_occurrences c.args.doc bs c.args.start (kept (t ∷ [])))) inv.buffer (c.in_ok-token_end.ensures.ok os stands))
-          c.in_ok-token_end.ensures.end c.in_ok-token_end.ensures.within (let m = c.max-end.ensures in omega arith);
-      schema = same.0 ∙ inv.schema;
+      indexed = indexed_more c.args.schema.now c.args.self.now c.loop-self.self c.index_token.new.self c.args.doc prefix c.args.gap c.args.start c.loop-self.end c.in_ok-token_end.token_end c.max-end.result c.loop-self.num_tokens c.in_ok-token_end.count c.saturating_add-num_tokens.result all rest after t inv.indexed first
+          (λ os stands. subst (λ bs. Stands c.args.schema.now c.index_token.new.self (os ++ text_occurrences c.args.doc bs c.args.start (kept (t ∷ [])))) inv.buffer (c.in_ok-token_end.ensures.ok os stands))
+          c.in_ok-token_end.ensures.end c.in_ok-token_end.ensures.within (let m = c.max-end.ensures in omega arith) c.in_ok-token_end.ensures.count (let m = c.saturating_add-num_tokens.ensures in omega arith);
+      made = same.0;
       docs = same.1;
       buffer = same.2 ∙ inv.buffer;
     }
@@ -31,7 +31,7 @@ loop-self-preserved g c =
 pub returns-in_err-token_end-clause-err : goal.returns-in_err-token_end-clause-err
 returns-in_err-token_end-clause-err g c os stands =
     let inv = c.loop-self.invariant in
-    let t : Token = token_of c.token.result.now in
+    let t : Token = token_of_ref c.token.result in
     let prefix = c.args.term_buffer.now.items in
     let all = g.T.TokenStream.rest c.args.stream.now in
     let rest = g.T.TokenStream.rest c.loop-self.stream in
@@ -40,4 +40,4 @@ returns-in_err-token_end-clause-err g c os stands =
     let so_far : List Occurrence = os ++ text_occurrences c.args.doc prefix c.args.start inv.indexed.seen in
     let p = err_from_is_err_and c.from_residual.result c.from_residual.ensures.1 in
     let P : List ℕ → Type 0 = λ bs. IsTextRefusal c.in_err-token_end.field-0.0 so_far c.args.doc bs c.args.gap c.args.start (kept (t ∷ [])) in
-    rw (p.1, p.2) (indexed_refused c.in_err-token_end.field-0.0 c.args.self.now c.loop-self.self os c.args.doc prefix c.args.gap c.args.start c.loop-self.end all rest after t inv.indexed first (subst P inv.buffer (c.in_err-token_end.ensures.err so_far (inv.indexed.stands os stands))))
+    rw (p.1, p.2) (indexed_refused c.in_err-token_end.field-0.0 c.args.schema.now c.args.self.now c.loop-self.self os c.args.doc prefix c.args.gap c.args.start c.loop-self.end c.loop-self.num_tokens all rest after t inv.indexed first (subst P inv.buffer (c.in_err-token_end.ensures.err so_far (inv.indexed.stands os stands))))

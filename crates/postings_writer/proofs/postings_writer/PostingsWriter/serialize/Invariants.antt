@@ -9,6 +9,6 @@ use Rattle.postings_writer.proofs.postings_writer.PostingsWriter.serialize.Given
 -- the fields so far were written, and each that is left stands at its number
 abbrev pub invariant-loop-field : goal.invariant-loop-field
 invariant-loop-field l = record {
-  written : (os : List Occurrence) → Stands l.self os → AreWrittenOf l.self.schema l.fieldnorm_readers os l.fn.serializer l.serializer (enumerate_from 0 l.self.schema) l.field-iterator;
-  left : AllByRecursion (λ (p : ℕ × Entry). slice_get l.self.schema p.0 ≡ Some p.1) l.field-iterator;
+  written : (os : List Occurrence) → Stands l.schema l.self os → AreWrittenOf l.schema l.fieldnorm_readers os l.fn.serializer l.serializer (enumerate_from 0 l.schema) l.field-iterator;
+  left : AllByRecursion (λ (p : ℕ × Entry). slice_get l.schema p.0 ≡ Some p.1) l.field-iterator;
 }

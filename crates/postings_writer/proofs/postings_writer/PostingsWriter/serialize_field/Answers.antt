@@ -15,36 +15,38 @@ serialize-requires-clause-can c =
     let w : Writer = c.args.self.now in
     let field : ℕ = c.args.field in
     let norms : List (ℕ × List ℕ) = c.args.fieldnorm_readers.now in
-    let inside : Writer = record { schema = c.self.inside.schema.now; fields = c.self.inside.fields.items; num_docs = c.self.inside.num_docs } in
-    let few : w.num_docs ≤ 2147483647 = (let same = ap (λ (x : Writer). x.num_docs) c.self.view_is in let below = c.self.invariant.1 in omega arith) in
-    let here = recorders_at inside w field c.field_id-field_id.result c.args.entry.now c.index-postings.result.now c.self.view_is c.self.invariant.0 c.requires.entry c.field_id-field_id.ensures c.index-postings.ensures in
+    let inside : Writer = record { fields = c.self.inside.fields.items; num_docs = c.self.inside.num_docs } in
+    let few : w.num_docs ≤ 2147483647 = (let same = ap (λ (x : Writer). x.num_docs) c.self.view_is in let below = c.self.invariant in omega arith) in
+    let given = c.requires.stands in
+    let schema = given.0 in
+    let here = recorders_at schema inside w field c.field_id-field_id.result c.args.entry.now c.index-postings.result.now c.self.view_is given.2.fields_are given.3 c.field_id-field_id.ensures c.index-postings.ensures in
     let is : ids_of field norms ≡ c.get_field-fieldnorm_reader.result = ap (λ n. ids_of n norms) (sym c.field_id-field_id.ensures) ∙ sym c.get_field-fieldnorm_reader.ensures in
     let P : Option (List ℕ) → Type 0 = λ o. IfSome o (λ ids. w.num_docs ≤ length ids) in
-    field_can w c.requires.stands.0 field c.args.entry.now c.index-postings.result.now c.requires.stands.1 c.requires.entry here c.get_field-fieldnorm_reader.result few (subst P is (ids_long w.num_docs field norms c.requires.lengths))
+    field_can schema w given.1 field c.args.entry.now c.index-postings.result.now given.2 given.3 here c.get_field-fieldnorm_reader.result few (subst P is (ids_long w.num_docs field norms c.requires.lengths))
 
 pub returns-clause-ok : goal.returns-clause-ok
-returns-clause-ok c os stands =
+returns-clause-ok c schema os stands at =
     let w : Writer = c.args.self.now in
     let e = c.args.entry.now in
     let field : ℕ = c.args.field in
     let norms : List (ℕ × List ℕ) = c.args.fieldnorm_readers.now in
-    let inside : Writer = record { schema = c.self.inside.schema.now; fields = c.self.inside.fields.items; num_docs = c.self.inside.num_docs } in
-    let here = recorders_at inside w field c.field_id-field_id.result e c.index-postings.result.now c.self.view_is c.self.invariant.0 c.requires.entry c.field_id-field_id.ensures c.index-postings.ensures in
-    let has = field_has w os field e c.index-postings.result.now stands c.requires.entry here in
+    let inside : Writer = record { fields = c.self.inside.fields.items; num_docs = c.self.inside.num_docs } in
+    let here = recorders_at schema inside w field c.field_id-field_id.result e c.index-postings.result.now c.self.view_is stands.fields_are at c.field_id-field_id.ensures c.index-postings.ensures in
+    let has = field_has schema w os field e c.index-postings.result.now stands at here in
     let ids : listed c.get_field-fieldnorm_reader.result ≡ field_ids norms field = ap listed (c.get_field-fieldnorm_reader.ensures ∙ ap (λ n. ids_of n norms) c.field_id-field_id.ensures) ∙ ids_listed field norms in
     let P : List ℕ → Type 0 = λ xs. IfOk c.serialize.result (λ s. (f : IndexedField) × (f.field ≡ field) × IsFieldOf e xs (places_in field e os) f × AreFieldsAdded c.args.serializer s (f ∷ [])) in
     let Q : ℕ → Type 0 = λ n. IfOk c.serialize.result (λ s. (f : IndexedField) × (f.field ≡ n) × IsFieldOf e (listed c.get_field-fieldnorm_reader.result) (places_in field e os) f × AreFieldsAdded c.args.serializer s (f ∷ [])) in
     subst P ids (subst Q c.field_id-field_id.ensures (c.serialize.ensures.ok (places_in field e os) has))
 
 pub returns-clause-err : goal.returns-clause-err
-returns-clause-err c os stands =
+returns-clause-err c schema os stands at =
     let w : Writer = c.args.self.now in
     let e = c.args.entry.now in
     let field : ℕ = c.args.field in
     let norms : List (ℕ × List ℕ) = c.args.fieldnorm_readers.now in
-    let inside : Writer = record { schema = c.self.inside.schema.now; fields = c.self.inside.fields.items; num_docs = c.self.inside.num_docs } in
-    let here = recorders_at inside w field c.field_id-field_id.result e c.index-postings.result.now c.self.view_is c.self.invariant.0 c.requires.entry c.field_id-field_id.ensures c.index-postings.ensures in
-    let has = field_has w os field e c.index-postings.result.now stands c.requires.entry here in
+    let inside : Writer = record { fields = c.self.inside.fields.items; num_docs = c.self.inside.num_docs } in
+    let here = recorders_at schema inside w field c.field_id-field_id.result e c.index-postings.result.now c.self.view_is stands.fields_are at c.field_id-field_id.ensures c.index-postings.ensures in
+    let has = field_has schema w os field e c.index-postings.result.now stands at here in
     let ids : listed c.get_field-fieldnorm_reader.result ≡ field_ids norms field = ap listed (c.get_field-fieldnorm_reader.ensures ∙ ap (λ n. ids_of n norms) c.field_id-field_id.ensures) ∙ ids_listed field norms in
     let P : List ℕ → Type 0 = λ xs. IfErr c.serialize.result (λ fault. IsFieldRefusal fault (option_of_key e) xs (λ key. postings_at (option_of_key e key) (places_in field e os key))) in
     subst P ids (c.serialize.ensures.err (places_in field e os) has)

@@ -1,0 +1,29 @@
+use Rattle.std.proofs.Common.{[], List, ap, arith, map, refl, subst, sym, ◌∙◌, ◌≡◌, ℕ}
+use Rattle.definitions.specs.KeptLengths.{norms_of}
+use Rattle.layouts.specs.Deltas.{IsAscendingFrom}
+use Rattle.document_indexer.specs.Contexts.{AreBefore, Positions}
+use Rattle.document_indexer.proofs.KeptLengths.{fields_ascend}
+use Rattle.document_indexer.proofs.document_indexer.DocumentIndexer.for_schema.Goals as goal
+
+abbrev none : List ℕ
+none = []
+
+pub for_fields-requires : goal.for_fields-requires
+for_fields-requires c = subst (IsAscendingFrom 0) (sym (c.deref.ensures.value ∙ c.in_ok-fields.ensures)) (fields_ascend c.args.schema.now)
+
+pub returns : goal.returns
+returns c analyze =
+    let rest = c.in_ok-context.ensures.rest in
+    record {
+      recorded = record {
+        written = record {
+          os = [];
+          stands = c.in_ok-context.ensures.stands;
+          occurrences_are = λ t. refl;
+          few = (let docs = c.in_ok-context.ensures.docs in omega arith);
+        };
+        count = rest.1;
+        before = (let P : Positions → Type 0 = λ ps. AreBefore c.in_ok-context.context.doc ps in subst P (sym rest.0) (λ prefix. tt));
+      };
+      norms_are = c.in_ok-norms.ensures ∙ ap (map (λ field. (field, none))) (c.deref.ensures.value ∙ c.in_ok-fields.ensures);
+    }

@@ -1,0 +1,59 @@
+//! The lengths of fields.
+
+ghost use Rattle.std.specs.Prelude.{◌+◌, ◌<◌, ◌≡◌, ◌≤◌, IfOk, OnOk, length, replicate, set, slice_index_or};
+ghost use Rattle.std.specs.List.{AllByRecursion};
+ghost use Rattle.definitions.specs.KeptLengths.{length_fields};
+ghost use Rattle.definitions.specs.Schema.{max_fields};
+ghost use Rattle.document_indexer.specs.FieldLengths.{cut, with_ids};
+
+use fieldnorms::FieldNormsWriter;
+use schema::Schema;
+use std::alloc::{AllocError, Global};
+use terms::Field;
+
+/// The numbers of the fields that keep lengths.
+pub(crate) fn length_fields(alloc: Global, schema: &Schema) -> Result<Vec<u32>, AllocError>
+    ensures { IfOk result (λ fields. fields.items ≡ length_fields schema.now) }
+{
+    let mut fields = Vec::new(alloc);
+    for (field, entry) in schema.fields() {
+        if entry.has_fieldnorms() {
+            fields.push(field.field_id())?;
+        }
+    }
+    Ok(fields)
+}
+
+/// Leaves a length of 0 for each of so many fields.
+pub(crate) fn begin_lengths(lengths: &mut Vec<u32>, num_fields: usize) -> Result<(), AllocError>
+    ensures { OnOk result (lengths.new.items ≡ replicate num_fields 0) }
+{
+    lengths.clear();
+    lengths.resize(num_fields, 0)
+}
+
+/// Adds to the length of a field. A field that has none keeps none.
+pub(crate) fn add_length(lengths: &mut Vec<u32>, field: Field, len: u32)
+    ensures { lengths.new.items ≡ set lengths.old.items field (cut (slice_index_or lengths.old.items field 0 + len)) }
+{
+    let place = field.field_id() as usize;
+    if place < lengths.len() {
+        lengths[place] = lengths[place].saturating_add(len);
+    }
+}
+
+/// Keeps the lengths of a document behind those of the documents before it.
+pub(crate) fn record_lengths(
+    norms: &mut FieldNormsWriter,
+    doc: u32,
+    lengths: &[u32],
+) -> Result<(), AllocError>
+    requires few { length lengths.now ≤ max_fields }
+    requires kept { AllByRecursion (λ p. (p.0 < length lengths.now) × (length p.1 ≡ doc)) norms.old }
+    ensures { OnOk result (norms.new ≡ with_ids lengths.now norms.old) }
+{
+    for field in 0..lengths.len() {
+        norms.record(doc, field as u32, lengths[field] as usize)?;
+    }
+    Ok(())
+}
