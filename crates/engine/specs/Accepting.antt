@@ -13,11 +13,13 @@ use Rattle.engine.specs.declared.collection.Status.TheVariants as status
 use Rattle.plain.specs.declared.indexed_doc.IndexedDoc.{IndexedDoc}
 
 -- the call adds this document, or it is refused so
-pub record Accepts (c : calls.Configuration) (x : calls.Index) (call : calls.Call) (result : Result Document Fault) : Type 0 where
+pub record Accepts (c : calls.Configuration) (x : calls.Index) (call : calls.Call) (result : Result Document Fault)
+    : Type 0 where
   pub accepted : IfOk result (λ doc. calls.call_fault c x call ≡ None)
   pub added : IfOk result (λ doc. calls.after c x.state call ≡ after_add doc x.state)
   pub refused : IfErr result (λ fault. fault ≢ faults.OutOfMemory → calls.call_fault c x call ≡ Some fault)
-  pub unrefused : IfErr result (λ fault. fault ≡ faults.OutOfMemory → calls.status_fault x.status (calls.only_reads call) ≡ None)
+  pub unrefused :
+      IfErr result (λ fault. fault ≡ faults.OutOfMemory → calls.status_fault x.status (calls.only_reads call) ≡ None)
 
 -- made of the same schema, analyzer and settings
 pub record IsMadeAlike {A : Type 0} (old new : Collection A) : Type 0 where

@@ -28,10 +28,12 @@ last_in bodies = option_map (λ found. (found.0, last_of found.1)) (bodies_in bo
 
 -- a file that says this
 abbrev pub IsFileOf : Schema → Settings → List Document → List ℕ → Type 0
-IsFileOf schema settings docs bytes = (bodies : List (List ℕ)) × IsFile bodies bytes × (last_in bodies ≡ Some ((schema, settings), docs))
+IsFileOf schema settings docs bytes =
+    (bodies : List (List ℕ)) × IsFile bodies bytes × (last_in bodies ≡ Some ((schema, settings), docs))
 
 -- such a file, with its closed gate at a place and nothing after it, all on the disk
-pub record Rests (schema : Schema) (settings : Settings) (docs : List Document) (content : List ℕ) (unsynced : Unsynced) (gate : ℕ) : Type 0 where
+pub record Rests (schema : Schema) (settings : Settings) (docs : List Document) (content : List ℕ) (unsynced : Unsynced)
+    (gate : ℕ) : Type 0 where
   pub bodies : List (List ℕ)
   pub at_rest : IsAtRest content gate bodies
   pub says : last_in bodies ≡ Some ((schema, settings), docs)
@@ -39,14 +41,23 @@ pub record Rests (schema : Schema) (settings : Settings) (docs : List Document) 
 
 -- a file that says this, with its closed gate at a place
 abbrev pub Holds : Schema → Settings → List Document → List ℕ → ℕ → Type 0
-Holds schema settings docs bytes gate = (bodies : List (List ℕ)) × EndsAt bytes gate bodies × (last_in bodies ≡ Some ((schema, settings), docs))
+Holds schema settings docs bytes gate =
+    (bodies : List (List ℕ)) × EndsAt bytes gate bodies × (last_in bodies ≡ Some ((schema, settings), docs))
+
+-- a file of an index with a tokenizer that isn't known
+abbrev pub HasUnknown : (List ℕ → Bool) → List ℕ → Type 0
+HasUnknown knows bytes =
+    (schema : Schema) × (settings : Settings) × (docs : List Document)
+    × IsFileOf schema settings docs bytes × (are_analyzed knows schema ≡ false)
 
 -- why the file of a device isn't opened: no index or damage, or else a tokenizer that isn't known
 abbrev pub IsOpenRefusal : (List ℕ → Bool) → List ℕ → Fault → Type 0
-IsOpenRefusal knows bytes fault = IsRefusal TakesBody bytes fault ⊎ ((fault ≡ faults.UnknownTokenizer) × (schema : Schema) × (settings : Settings) × (docs : List Document) × IsFileOf schema settings docs bytes × (are_analyzed knows schema ≡ false))
+IsOpenRefusal knows bytes fault =
+    IsRefusal TakesBody bytes fault ⊎ ((fault ≡ faults.UnknownTokenizer) × HasUnknown knows bytes)
 
 -- a crash at any moment from the old device to the new one leaves a file of the one or the other documents
-pub record LeavesEither {D : Type 0} (moment : D → ℕ) (left_since : D → ℕ → List ℕ → Type 0) (old new : D) (schema : Schema) (settings : Settings) (one other : List Document) : Type 0 where
+pub record LeavesEither {D : Type 0} (moment : D → ℕ) (left_since : D → ℕ → List ℕ → Type 0) (old new : D)
+    (schema : Schema) (settings : Settings) (one other : List Document) : Type 0 where
   pub first : List (List ℕ)
   pub second : List (List ℕ)
   pub says_one : last_in first ≡ Some ((schema, settings), one)

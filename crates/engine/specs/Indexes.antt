@@ -22,6 +22,7 @@ use Rattle.records.specs.Frames.{frame_bytes}
 module _ {D A : Type 0} {d : devices.Ghosts D} where
   -- ---- what it is made of
 
+  -- what cuts its texts
   abbrev pub analyzer_of : Index D A d → A
   analyzer_of index = index.collection.analyzer
 
@@ -29,6 +30,7 @@ module _ {D A : Type 0} {d : devices.Ghosts D} where
   abbrev pub schema_of : Index D A d → Schema
   schema_of index = index.collection.schema
 
+  -- its numbers for scores and segments
   abbrev pub settings_of : Index D A d → Settings
   settings_of index = index.collection.settings
 
@@ -48,6 +50,7 @@ module _ {D A : Type 0} {d : devices.Ghosts D} where
 
   -- ---- its file
 
+  -- what its file lies on
   abbrev pub device_of : Index D A d → D
   device_of index = index.file.device
 
@@ -61,7 +64,9 @@ module _ {D A : Type 0} {d : devices.Ghosts D} where
 
   -- the file has these documents, its closed gate at its place and nothing after it, and all of it is on the disk
   abbrev pub IndexRests : Index D A d → List Document → Type 0
-  IndexRests index docs = Rests (schema_of index) (settings_of index) docs (d.content (device_of index)) (d.unsynced (device_of index)) (gate_of index)
+  IndexRests index docs =
+      Rests (schema_of index) (settings_of index) docs
+      (d.content (device_of index)) (d.unsynced (device_of index)) (gate_of index)
 
   -- the body of a record that has these documents
   abbrev pub IsBodyOf : Index D A d → List Document → List ℕ → Type 0
@@ -69,26 +74,32 @@ module _ {D A : Type 0} {d : devices.Ghosts D} where
 
   -- over an honest device a ready index rests in its file, with what is committed
   abbrev pub IsInFile : Index D A d → calls.Index → Type 0
-  IsInFile index x = IsTrue (d.honest (device_of index)) → x.status ≡ calls.ready → IndexRests index (committed x.state)
+  IsInFile index x =
+      IsTrue (d.honest (device_of index)) → x.status ≡ calls.ready → IndexRests index (committed x.state)
 
   -- a file with nothing after its closed gate has one record more, and that record has these documents
   abbrev pub AppendsRecord : Index D A d → Index D A d → List Document → Type 0
   AppendsRecord old new docs =
       (bodies : List (List ℕ)) → IsAtRest (d.content (device_of old)) (gate_of old) bodies
-      → (body : List ℕ) × IsBodyOf old docs body × IsAtRest (d.content (device_of new)) (gate_of new) (bodies ++ body ∷ [])
+      → (body : List ℕ) × IsBodyOf old docs body
+      × IsAtRest (d.content (device_of new)) (gate_of new) (bodies ++ body ∷ [])
 
   -- with a record of these documents the file would pass 2^63 bytes
   abbrev pub PassesLimit : Index D A d → List Document → Type 0
-  PassesLimit index docs = (body : List ℕ) × IsBodyOf index docs body × (2 ^ 63 < gate_of index + 1 + length (frame_bytes body))
+  PassesLimit index docs =
+      (body : List ℕ) × IsBodyOf index docs body × (2 ^ 63 < gate_of index + 1 + length (frame_bytes body))
 
   -- a crash at any moment from the old index to the new one leaves a file of the one or the other documents
   abbrev pub CrashLeavesEither : Index D A d → Index D A d → List Document → List Document → Type 0
-  CrashLeavesEither old new one other = LeavesEither d.moment d.left_since (device_of old) (device_of new) (schema_of old) (settings_of old) one other
+  CrashLeavesEither old new one other =
+      LeavesEither d.moment d.left_since (device_of old) (device_of new) (schema_of old) (settings_of old) one other
 
-  -- documents are committed, in whatever groups, and none waits; of an honest device they are its file's, which then rests
+  -- documents are committed, in whatever groups, and none waits; of an honest device they are its file's, which then
+  -- rests
   pub record IsOpened (analyze : A → Analyzer) (analyzer : Analyzer) (device : D) (index : Index D A d) : Type 0 where
     pub docs : List Document
-    pub stands : IsReopened analyze index.collection (configuration_of (schema_of index) analyzer (settings_of index)) docs
+    pub stands :
+        IsReopened analyze index.collection (configuration_of (schema_of index) analyzer (settings_of index)) docs
     pub file : IsTrue (d.honest device) → IsFileOf (schema_of index) (settings_of index) docs (d.content device)
     pub rests : IsTrue (d.honest device) → IndexRests index docs
 

@@ -11,13 +11,15 @@ use Rattle.engine.specs.declared.collection.Collection.{Collection}
 use Rattle.engine.specs.declared.collection.Status.{Status}
 use Rattle.engine.specs.declared.collection.Status.TheVariants as status
 
+-- what may still be done
 abbrev pub status_of : Status → calls.Status
 status_of status.Ready = calls.ready
 status_of status.WriterClosed = calls.writer_closed
 status_of status.Closed = calls.closed
 
 -- the index has this configuration, these documents committed, these waiting, and this status
-pub record Stands {A : Type 0} (analyze : A → Analyzer) (index : Collection A) (c : calls.Configuration) (x : calls.Index) : Type 0 where
+pub record Stands {A : Type 0} (analyze : A → Analyzer) (index : Collection A) (c : calls.Configuration) (x : calls.Index)
+    : Type 0 where
   pub made : c ≡ configuration_of index.schema (analyze index.analyzer) index.settings
   pub seen : states.committed x.state ≡ documents_of index.docs.items
   pub waiting : x.state.pending ≡ map states.added (documents_of index.pending.items)
@@ -28,5 +30,7 @@ pub record Stands {A : Type 0} (analyze : A → Analyzer) (index : Collection A)
   pub sized : 1 ≤ index.settings.docs_per_segment
 
 -- these documents are committed, in whatever groups a file's last record has them, and none waits
-abbrev pub IsReopened : {A : Type 0} → (A → Analyzer) → Collection A → calls.Configuration → List Document → Type 0
-IsReopened analyze index c docs = (groups : List (List Document)) → flat_map (λ group. group) groups ≡ docs → Stands analyze index c (reopened groups)
+abbrev pub IsReopened :
+    {A : Type 0} → (A → Analyzer) → Collection A → calls.Configuration → List Document → Type 0
+IsReopened analyze index c docs =
+    (groups : List (List Document)) → flat_map (λ group. group) groups ≡ docs → Stands analyze index c (reopened groups)

@@ -10,6 +10,7 @@ ghost use Rattle.engine.specs.Files.{Holds, IsOpenRefusal};
 ghost use Rattle.plain.specs.Hits.{Describe, documents_of};
 ghost use Rattle.plain.specs.IndexedDocs.{IsOfSchema};
 ghost use Rattle.records.specs.Kept.{IsKept};
+ghost use Rattle.records.specs.Outcomes.{CountsNoOther};
 
 use crate::body_reader::{BodyReader, Found};
 use crate::collection::are_analyzed;
@@ -39,6 +40,7 @@ pub(crate) fn read_contents<D: Device, A: Analyzer>(
 ) -> Result<Contents, Fault>
     ensures honest { D.honest device.new ≡ D.honest device.old }
     ensures cause { HasCause (D.failed device.old) (D.failed device.new) result }
+    ensures counted { CountsNoOther (D.failed device.old) (D.failed device.new) result }
     ensures kept { IsTrue (D.honest device.old)
         → IsKept D.moment D.left_since D.content D.unsynced device.old device.new }
     ensures file { IsTrue (D.honest device.old)

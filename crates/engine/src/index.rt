@@ -20,6 +20,7 @@ ghost use Rattle.plain.specs.Hits.{Describe, documents_of, hit_of, scored};
 ghost use Rattle.plain.specs.Queries.{query_of};
 ghost use Rattle.records.specs.Frames.{frame_bytes};
 ghost use Rattle.records.specs.Kept.{IsKept, LeavesNow};
+ghost use Rattle.records.specs.Outcomes.{CountsNoOther};
 ghost use Rattle.serde_json.specs.View.{view};
 
 use crate::collection::{Collection, Status, check_making};
@@ -88,6 +89,7 @@ impl<D: Device + Drop, A: Analyzer + Drop> Index<D, A> {
         ensures honest { D.honest (device_after result) ≡ D.honest device }
         ensures analyzer { analyzer_after result ≡ analyzer }
         ensures cause { HasCause (D.failed device) (D.failed (device_after result)) (ending_of result) }
+        ensures counted { CountsNoOther (D.failed device) (D.failed (device_after result)) (ending_of result) }
 
         ensures empty { IsTrue (D.honest device) → OnOk result (D.content device ≡ []) }
         ensures not_empty { IsTrue (D.honest device)
@@ -140,6 +142,7 @@ impl<D: Device + Drop, A: Analyzer + Drop> Index<D, A> {
         ensures honest { D.honest (device_after result) ≡ D.honest device }
         ensures analyzer { analyzer_after result ≡ analyzer }
         ensures cause { HasCause (D.failed device) (D.failed (device_after result)) (ending_of result) }
+        ensures counted { CountsNoOther (D.failed device) (D.failed (device_after result)) (ending_of result) }
         ensures kept { IsTrue (D.honest device) → IfErr result (λ r. r.fault ≢ faults.Device
             → IsKept D.moment D.left_since D.content D.unsynced device r.device) }
 
@@ -251,6 +254,7 @@ impl<D: Device + Drop, A: Analyzer + Drop> Index<D, A> {
 
         ensures honest { D.honest (device_of self.new) ≡ D.honest (device_of self.old) }
         ensures cause { HasCause (D.failed (device_of self.old)) (D.failed (device_of self.new)) result }
+        ensures counted { CountsNoOther (D.failed (device_of self.old)) (D.failed (device_of self.new)) result }
         ensures limit { (c : calls.Configuration) (x : calls.Index) → IndexStands A.analyze self.old c x
             → IsErrOf result faults.Limit
             → PassesLimit self.old (committed (calls.after c x.state calls.commit_pending)) }
@@ -296,6 +300,7 @@ impl<D: Device + Drop, A: Analyzer + Drop> Index<D, A> {
 
         ensures honest { D.honest (device_of self.new) ≡ D.honest (device_of self.old) }
         ensures cause { HasCause (D.failed (device_of self.old)) (D.failed (device_of self.new)) result }
+        ensures counted { CountsNoOther (D.failed (device_of self.old)) (D.failed (device_of self.new)) result }
         ensures limit { IsErrOf result faults.Limit
             → 2 ^ 63 < gate_of self.old + 1 + length (frame_bytes (docs_body (all_documents self.old.collection))) }
         ensures short { OnOk result (gate_of self.new < 2 ^ 63) }
@@ -395,6 +400,7 @@ fn open_file<D: Device + Drop, A: Analyzer + Drop>(
     ensures honest { D.honest (device_after result) ≡ D.honest device }
     ensures analyzer { analyzer_after result ≡ analyzer }
     ensures cause { HasCause (D.failed device) (D.failed (device_after result)) (ending_of result) }
+    ensures counted { CountsNoOther (D.failed device) (D.failed (device_after result)) (ending_of result) }
 
     ensures at_rest { (bodies : List (List ℕ)) → IsTrue (D.honest device)
         → EndsAt (D.content device) contents.gate bodies

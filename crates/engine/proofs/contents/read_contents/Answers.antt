@@ -33,7 +33,7 @@ returns-then-not-are_analyzed-clause-refused g c h =
     let bodies = map (λ b. b.items) c.read_records.new.bodies.bodies.items in
     let says : last_in bodies ≡ Some ((found.schema, found.settings), found.docs.items) = sym c.in_ok-found.ensures.says ∙ ap (option_map told_by) c.in-Some.is in
     let unknown : are_analyzed (g.A.Analyzer.knows_name c.args.analyzer.now) found.schema ≡ false = sym c.are_analyzed.ensures ∙ c.if-not-are_analyzed.true in
-    inr (inr (inr (refl, found.schema, found.settings, found.docs.items, (bodies, (c.in_ok-gate.ensures.file h).file, says), unknown)))
+    inr (inr (inr (refl, (found.schema, found.settings, found.docs.items, (bodies, (c.in_ok-gate.ensures.file h).file, says), unknown))))
 
 pub returns-in_err-docs-clause-cause : goal.returns-in_err-docs-clause-cause
 returns-in_err-docs-clause-cause g c = memory_caused (g.D.Device.failed c.args.device.now) (g.D.Device.failed c.read_records.new.device) c.read_records.result c.from_residual-in_err-docs.result c.read_records.ensures.cause c.from_residual-in_err-docs.ensures.1
