@@ -5,8 +5,7 @@ ghost use Rattle.definitions.specs.Values.{Document};
 ghost use Rattle.document_indexer.specs.Indexers.{HasIndexed};
 
 use crate::times::{nanos_since, now};
-use codes::FieldNormReaders;
-use common::{Analyzer, RawAndDefault};
+use common::{Analyzer, RawAndDefault, TokenBuffer};
 use definitions::Fault;
 use document::CompactDoc;
 use document_indexer::DocumentIndexer;
@@ -85,44 +84,49 @@ fn run_of(rt: &HostRuntime, alloc: Global, text: &str, docs: &[CompactDoc]) -> R
     let begun = now(rt)?;
     let tokens = count_tokens(alloc, text)?;
     let analysis = nanos_since(rt, begun)?;
-    let mut indexer = DocumentIndexer::for_schema(alloc, &schema, &RawAndDefault)?;
+    let mut indexer = DocumentIndexer::for_schema(alloc, &schema)?;
     let begun = now(rt)?;
-    index_all(&mut indexer, docs)?;
+    index_all(&mut indexer, &schema, &RawAndDefault, docs)?;
     let adding = nanos_since(rt, begun)?;
     let begun = now(rt)?;
-    let lengths = FieldNormReaders::open(alloc, &[], indexer.num_docs(), &[])?;
-    let (terms, postings, positions) = indexer.serialize(alloc, &lengths)?;
+    let (terms, postings, positions, lengths) = indexer.serialize(alloc, &schema)?;
     let writing = nanos_since(rt, begun)?;
-    let sizes = [terms.len(), postings.len(), positions.len()];
+    let sizes = [terms.len(), postings.len(), positions.len(), lengths.len()];
     Ok(Row {
         tokens,
         analysis,
         adding,
         writing,
-        bytes: sizes[0].wrapping_add(sizes[1]).wrapping_add(sizes[2]),
+        bytes: sizes[0]
+            .wrapping_add(sizes[1])
+            .wrapping_add(sizes[2])
+            .wrapping_add(sizes[3]),
     })
 }
 
 /// How many tokens the lines of a text have.
 fn count_tokens(alloc: Global, text: &str) -> Result<u64, Fault> {
     let mut tokens = 0u64;
+    let mut found = TokenBuffer::new(alloc);
     for line in text.lines() {
-        let found = RawAndDefault.tokens(alloc, TOKENIZER, line)?;
+        RawAndDefault.tokens_into(alloc, TOKENIZER, line, &mut found)?;
         tokens = tokens.wrapping_add(found.len() as u64);
     }
     Ok(tokens)
 }
 
 /// Indexes documents behind those before.
-fn index_all<'a, A: Analyzer>(
-    indexer: &mut DocumentIndexer<'a, A>,
+fn index_all<A: Analyzer>(
+    indexer: &mut DocumentIndexer,
+    schema: &Schema,
+    analyzer: &A,
     docs: &[CompactDoc],
 ) -> Result<(), Fault>
-    requires { (before : List Document) × HasIndexed A.analyze indexer.old before }
-    ensures { OnOk result ((all : List Document) × HasIndexed A.analyze indexer.new all) }
+    requires { (before : List Document) × HasIndexed schema.now (A.analyze analyzer.now) indexer.old before }
+    ensures { OnOk result ((all : List Document) × HasIndexed schema.now (A.analyze analyzer.now) indexer.new all) }
 {
     for doc in docs {
-        indexer.add(doc)?;
+        indexer.add(schema, analyzer, doc)?;
     }
     Ok(())
 }

@@ -10,6 +10,7 @@ pub use document_indexer::{DocumentIndexer, indexing_laws};
 pub use inverted_index_reader::{InvertedIndexReader, TermDictionary, TermInfo, TermRange};
 pub use postings_serializer::{FieldSerializer, InvertedIndexSerializer, PostingsSerializer};
 pub use postings_writer::{
-    DocIdRecorder, PostingsWriter, Recorder, TermFrequencyRecorder, TfAndPositionRecorder,
+    DocIdRecorder, IndexedText, PostingsWriter, Recorder, TermFrequencyRecorder,
+    TfAndPositionRecorder,
 };
 pub use segment_postings::{BlockSegmentPostings, SegmentPostings};

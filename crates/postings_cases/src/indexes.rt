@@ -1,7 +1,7 @@
 //! Indexes, made of a schema and documents.
 
 use crate::held::Held;
-use crate::sections::{opened, sections_of};
+use crate::sections::{lengths_of, opened, sections_of};
 use case_lines::{Arguments, Refusal, flag, hex, number, triple};
 use document_lines::document_of_values;
 use serde_json::Value;
@@ -58,6 +58,12 @@ pub(crate) fn written(alloc: Global, held: &Held) -> Result<Value, Refusal> {
         postings,
         hex(alloc, &held.sections.positions)?,
     )?)
+}
+
+/// The section of the lengths of the documents.
+pub(crate) fn lengths(alloc: Global, held: &Held) -> Result<Value, Refusal> {
+    let lengths = lengths_of(alloc, &held.schema, &held.docs)?;
+    Ok(hex(alloc, &lengths)?)
 }
 
 /// Whether the sections are opened with other lengths.

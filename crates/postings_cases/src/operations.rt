@@ -15,6 +15,7 @@ impl Operations for Held {
             "schema-built" => made(alloc, &mut self.schema, "built", arguments),
             "documents-none" => indexes::documents_none(alloc, self),
             "documents-added" => indexes::documents_added(alloc, self, arguments),
+            "index-lengths" => indexes::lengths(alloc, self),
             "index-made" => indexes::made(alloc, self, arguments),
             "index-sections" => indexes::written(alloc, self),
             "index-postings-section" => Ok(hex(alloc, &self.sections.postings)?),

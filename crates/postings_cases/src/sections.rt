@@ -13,7 +13,7 @@ use document::CompactDoc;
 use document_indexer::DocumentIndexer;
 use inverted_index_reader::InvertedIndexReader;
 use options::IndexRecordOption;
-use postings::{DocSet, Postings};
+use postings::{DocSet, InvertedIndexSerializer, Postings};
 use schema::{Schema, Term};
 use std::alloc::Global;
 
@@ -30,15 +30,17 @@ pub(crate) struct Sections {
 }
 
 /// Indexes documents behind those before.
-fn index_all<'a, A: Analyzer>(
-    indexer: &mut DocumentIndexer<'a, A>,
+fn index_all<A: Analyzer>(
+    indexer: &mut DocumentIndexer,
+    schema: &Schema,
+    analyzer: &A,
     docs: &[CompactDoc],
 ) -> Result<(), Fault>
-    requires { (before : List Document) × HasIndexed A.analyze indexer.old before }
-    ensures { OnOk result ((all : List Document) × HasIndexed A.analyze indexer.new all) }
+    requires { (before : List Document) × HasIndexed schema.now (A.analyze analyzer.now) indexer.old before }
+    ensures { OnOk result ((all : List Document) × HasIndexed schema.now (A.analyze analyzer.now) indexer.new all) }
 {
     for doc in docs {
-        indexer.add(doc)?;
+        indexer.add(schema, analyzer, doc)?;
     }
     Ok(())
 }
@@ -53,17 +55,31 @@ fn sections_with(
 ) -> Result<Sections, Fault>
     requires { IsAscendingFrom 0 fields.now }
 {
-    let mut indexer = DocumentIndexer::for_schema(alloc, schema, &RawAndDefault)?;
-    index_all(&mut indexer, docs)?;
+    let mut indexer = DocumentIndexer::for_schema(alloc, schema)?;
+    index_all(&mut indexer, schema, &RawAndDefault, docs)?;
     let num_docs = indexer.num_docs();
     let lengths = FieldNormReaders::open(alloc, lengths, num_docs, fields)?;
-    let (terms, postings, positions) = indexer.serialize(alloc, &lengths)?;
+    let serializer = InvertedIndexSerializer::open(alloc)?;
+    let writer = indexer.postings_writer();
+    let (terms, postings, positions) = writer.serialize(schema, &lengths, serializer)?.close();
     Ok(Sections {
         num_docs,
         terms,
         postings,
         positions,
     })
+}
+
+/// The section of the lengths of documents.
+pub(crate) fn lengths_of(
+    alloc: Global,
+    schema: &Schema,
+    docs: &[CompactDoc],
+) -> Result<Vec<u8>, Fault> {
+    let mut indexer = DocumentIndexer::for_schema(alloc, schema)?;
+    index_all(&mut indexer, schema, &RawAndDefault, docs)?;
+    let (_, _, _, lengths) = indexer.serialize(alloc, schema)?;
+    Ok(lengths)
 }
 
 /// The index of sections with the lengths of some fields.

@@ -51,8 +51,8 @@ fn next_start(alloc: Global, schema: &Schema, shapes: &[Shape], start: u32) -> R
     let tokens = tokens_of(alloc, shapes)?;
     let mut stream = PreTokenizedStream::new(&tokens);
     let mut writer = PostingsWriter::for_schema(alloc, schema)?;
-    let next = writer.index_text(0, &mut term_buffer, &mut stream, start, 1)?;
-    Ok(next)
+    let text = writer.index_text(schema, 0, &mut term_buffer, &mut stream, start, 1)?;
+    Ok(text.next_start)
 }
 
 fn texts(alloc: Global) -> Result<Schema, Fault> {

@@ -4,4 +4,4 @@ use Rattle.document_indexer.specs.Indexers.{HasIndexed}
 use Rattle.bench.proofs.texts.index_all.Given as goal
 
 abbrev pub invariant-loop-doc : goal.invariant-loop-doc
-invariant-loop-doc g l = (all : List Document) × HasIndexed g.A.Analyzer.analyze l.indexer all
+invariant-loop-doc g l = (all : List Document) × HasIndexed l.schema (g.A.Analyzer.analyze l.analyzer) l.indexer all

@@ -1,8 +1,26 @@
-use Rattle.std.proofs.Common.{List, length, subst, ◌≡◌, ℕ}
+use Rattle.std.proofs.Common.{[], List, ap, arith, length, subst, sym, ◌≡◌, ◌≤◌, ◌∷◌, ℕ}
 use Rattle.std.specs.List.{AllByRecursion}
+use Rattle.postings_writer.specs.Writers.{Stands, Writer}
 use Rattle.postings_cases.proofs.sections.sections_with.Goals as goal
 
-pub serialize-requires : goal.serialize-requires
-serialize-requires c =
+pub index_all-requires : goal.index_all-requires
+index_all-requires c = ([], c.in_ok-indexer.ensures _)
+
+-- no more documents than a field has lengths
+long : (n m : ℕ) (norms : List (ℕ × List ℕ)) → n ≤ m → AllByRecursion (λ (p : ℕ × List ℕ). length p.1 ≡ m) norms → AllByRecursion (λ (p : ℕ × List ℕ). n ≤ length p.1) norms
+long n m [] few all = tt
+long n m (p ∷ norms) few all = ((let one = all.0 in omega arith), long n m norms few all.1)
+
+pub serialize-requires-clause-stands : goal.serialize-requires-clause-stands
+serialize-requires-clause-stands c =
+    let written = c.in_ok-index_all.ensures.1.recorded.written in
+    let P : Writer → Type 0 = λ w. Stands c.args.schema.now w written.os in
+    (written.os, subst P (sym c.postings_writer-writer.ensures) written.stands)
+
+pub serialize-requires-clause-lengths : goal.serialize-requires-clause-lengths
+serialize-requires-clause-lengths c =
     let all = c.in_ok-index_all.ensures in
-    (all.0, all.1, subst (λ n. AllByRecursion (λ (p : ℕ × List ℕ). length p.1 ≡ n) c.in_ok-lengths.lengths) (c.num_docs-num_docs.ensures all.0 all.1) c.in_ok-lengths.ensures.ok.counts)
+    let few = all.1.recorded.written.few in
+    let docs = c.num_docs-num_docs.ensures c.args.schema.now _ all.0 all.1 in
+    let same = ap (λ (w : Writer). w.num_docs) c.postings_writer-writer.ensures in
+    long c.postings_writer-writer.result.now.num_docs c.num_docs-num_docs.result c.in_ok-lengths.lengths (omega arith) c.in_ok-lengths.ensures.ok.counts

@@ -1,26 +1,26 @@
 use Rattle.std.proofs.Common.{[], IsTrue, List, arith, ap, length, refl, rules, sym, ◌++◌, ◌≡◌, ◌≤◌, ◌∙◌, ◌∷◌, ℕ}
 use Rattle.std.specs.List.{AllByRecursion}
-use Rattle.std.specs.Prelude.{slice_get}
-use Rattle.definitions.specs.Schema.{Kind, Schema, text_kind}
+use Rattle.definitions.specs.Schema.{Kind, text_kind}
 use Rattle.definitions.specs.Terms.{term_bytes}
-use Rattle.postings_writer.specs.Writers.{Writer}
 use Rattle.postings_tests.proofs.written_terms.sections.Goals as goal
 
 spelled : (text : List ℕ) → (0 ∷ 0 ∷ 0 ∷ 0 ∷ 115 ∷ []) ++ text ≡ term_bytes 0 text_kind text
 spelled text = refl
 
+pub index_text-requires-clause-made : goal.index_text-requires-clause-made
+index_text-requires-clause-made c = c.in_ok-writer.ensures.nothing.fields_are
+
 pub index_text-requires-clause-known : goal.index_text-requires-clause-known
 index_text-requires-clause-known c = λ text.
     let begins : IsTrue c.begins_with_a_text_field.result = search rules in
     let e = c.begins_with_a_text_field.ensures begins in
-    let schema_is : c.in_ok-writer.writer.schema ≡ c.args.schema.now = ap (λ (w : Writer). w.schema) c.in_ok-writer.ensures.value in
     let items : c.extend_from_slice.new.self.items ≡ 0 ∷ 0 ∷ 0 ∷ 0 ∷ 115 ∷ [] = search rules in
     record {
       field = 0;
       entry = e.0;
       key = text;
       fits = omega arith;
-      is = ap (λ (s : Schema). slice_get s 0) schema_is ∙ e.1;
+      is = e.1;
       indexed = e.2;
       whole = ap (λ xs. xs ++ text) items ∙ spelled text ∙ ap (λ (k : Kind). term_bytes 0 k text) (sym e.3);
     }
