@@ -2,7 +2,9 @@
 //! input is a case, an operation and its arguments, and the line of standard output with the same number is its answer.
 #![tactic(auto)]
 
+mod combinators;
 mod combined;
+mod given_lists;
 mod leaves;
 mod moves;
 mod operations;

@@ -1,7 +1,9 @@
-//! Moves of a scorer: `doc`, `advance`, `fill`, `count`, `score`, or a number, which is sought.
+//! Moves of a scorer: `doc`, `advance`, `fill`, `count`, `score`, a number, which is sought, or `[number]`, which is
+//! asked for by `seek_danger`.
 
-use case_lines::{Refusal, number, numbers};
+use case_lines::{Refusal, flag, number, numbers};
 use common::TERMINATED;
+use cursors::SeekDangerResult;
 use scorers::Scorer;
 use serde_json::Value;
 use std::alloc::Global;
@@ -24,6 +26,9 @@ fn moved_once<S: Scorer>(alloc: Global, scorer: &mut S, asked: &Value) -> Result
     if let Some(target) = asked.as_u64() {
         return sought(scorer, target);
     }
+    if let Some(target) = asked.get(0) {
+        return found(scorer, target);
+    }
     match asked.as_str().ok_or(Refusal::NotAsked)? {
         "doc" => Ok(number(u64::from(scorer.doc()))),
         "advance" => Ok(number(u64::from(scorer.advance()))),
@@ -41,6 +46,19 @@ fn sought<S: Scorer>(scorer: &mut S, target: u64) -> Result<Value, Refusal> {
         return Err(Refusal::NotAsked);
     }
     Ok(number(u64::from(scorer.seek(target))))
+}
+
+/// Whether a document remains.
+fn found<S: Scorer>(scorer: &mut S, target: &Value) -> Result<Value, Refusal> {
+    let target = target.as_u64().ok_or(Refusal::NotAsked)?;
+    let target = u32::try_from(target).ok().ok_or(Refusal::NotAsked)?;
+    if target >= TERMINATED {
+        return Err(Refusal::NotAsked);
+    }
+    Ok(match scorer.seek_danger(target) {
+        SeekDangerResult::Found => flag(true),
+        SeekDangerResult::SeekLowerBound(_) => flag(false),
+    })
 }
 
 /// The documents that fill a buffer.

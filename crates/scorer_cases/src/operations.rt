@@ -1,11 +1,11 @@
 //! Operations by their names.
 
-use crate::{combined, leaves, terms};
+use crate::{combinators, combined, leaves, terms};
 use case_lines::{Arguments, Operations, Refusal};
 use serde_json::Value;
 use std::alloc::Global;
 
-/// Operations on leaves, combiners and scorers of terms.
+/// Operations on leaves, combiners, combinators and scorers of terms.
 #[derive(Drop)]
 pub(crate) struct ScorerOperations {
     pub(crate) alloc: Global,
@@ -22,6 +22,14 @@ impl Operations for ScorerOperations {
             "set" => leaves::set(alloc, arguments),
             "pairs" => leaves::pairs(alloc, arguments),
             "combined" => combined::combined(alloc, arguments),
+            "union" => combinators::union(alloc, arguments),
+            "disjunction" => combinators::disjunction(alloc, arguments),
+            "disjunction-of-singles" => combinators::disjunction_of_singles(alloc, arguments),
+            "intersection" => combinators::intersection(alloc, arguments),
+            "exclude" => combinators::exclude(alloc, arguments),
+            "exclude-one" => combinators::exclude_one(alloc, arguments),
+            "required-optional" => combinators::required_optional(alloc, arguments),
+            "wrapped" => combinators::wrapped(alloc, arguments),
             "term-scores" => terms::scores(alloc, arguments),
             "term-explained" => terms::explained(alloc, arguments),
             _ => Err(Refusal::NotAsked),
