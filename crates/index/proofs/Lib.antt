@@ -5,4 +5,5 @@ pub mod Causes
 pub mod IndexFiles
 pub mod Answering
 pub mod Stages
+pub mod Leavings
 pub mod SessionSteps

@@ -1,5 +1,5 @@
 -- What a session answers, and what it stands for after it.
-use Rattle.std.proofs.Common.{Bool, Err, IfErr, IfOk, None, Ok, OnOk, Option, Result, Some, ap, cond, false, inl, inr, ok_or, option_and_then, option_map, refl, subst, sym, true, ◌∙◌, ◌≡◌, ◌⊎◌, List, ℕ}
+use Rattle.std.proofs.Common.{Bool, Err, IfErr, IfOk, IsTrue, None, Ok, OnOk, Option, Result, Some, ap, cond, false, inl, inr, ok_or, option_and_then, option_map, refl, subst, sym, true, ◌∙◌, ◌≡◌, ◌≢◌, ◌⊎◌, List, ℕ}
 use Rattle.std.specs.Bool.{⊤}
 use Rattle.std.specs.Prelude.{IsErrAnd, IsErrOf}
 use Rattle.std.specs.Cow.{cow_str_bytes}
@@ -24,14 +24,16 @@ use Rattle.definitions.specs.Disk.{HasCause}
 use Rattle.definitions.specs.State.{State, committed}
 use Rattle.engine.specs.Indexes.{IndexStands, IsInFile, KeepsFile, KeepsMaking, PassesLimit, device_of}
 use Rattle.index.specs.AskedRequests.{index_request_of}
-use Rattle.index.specs.Replying.{Answers, GoesOn, change_text}
-use Rattle.index.specs.Sessions.{CommitPasses, HasHeld, HasStage, IsIndex, IsKnown, LeavesStage, Replies, StandsFor, analysis_of, failures_of, failures_on}
+use Rattle.index.specs.Replying.{Answers, GoesOn, OnlyStops, change_text}
+use Rattle.index.specs.Sessions.{CommitPasses, HasHeld, HasStage, IsIndex, IsKnown, IsLeft, LeavesStage, Replies, StandsFor, analysis_of, failures_of, failures_on, honest_of, honest_on}
 use Rattle.engine.specs.declared.index.Index.{Index}
 use Rattle.index.specs.declared.requests.IndexRequest.{IndexRequest}
 use Rattle.index.specs.declared.requests.IndexRequest.TheVariants.{Add, Commit, Count, Search}
 use Rattle.index.specs.declared.session.Session.{Session}
 use Rattle.index.specs.declared.stage.Stage.TheVariants.{Spare, Standing}
+use Rattle.index.proofs.Answering.{err_weaker}
 use Rattle.index.proofs.Causes.{memory_cause, memory_no_limit, same_cause, same_error}
+use Rattle.index.proofs.Leavings.{error_of_change, index_left}
 use Rattle.index.proofs.Stages.{held_kept}
 use Rattle.serde_json.specs.Read.{read}
 use Rattle.serde_json.specs.View.{view}
@@ -132,21 +134,25 @@ on_three (Err e) P Q R S p q s f = tt
 
 module _ {D A Z : Type 0} {d : devices.Ghosts D} {a : analyzers.Ghosts A} where
   -- the reply to a change
-  pub replied : (s : steps.Session) (old new : Session D A d a) (change : Result ⊤ Fault) (result : Result (CowStr Z) Fault) (p : json.Data × steps.Stage) (r : requests.Request) → steps.stage_step s.analysis s.stage r ≡ p → LeavesStage a.knows_name a.analyze s.analysis new.stage change p → IfOk result (λ text. cow_str_bytes text ≡ change_text change) → OnOk result (GoesOn change)
-      → IfErr result (λ e. change ≡ Err e) → HasCause (failures_of old) (failures_of new) change → ¬ IsErrOf change faults.Limit → Replies old new s (Some r) result
-  replied s old new change result p r is leaves told on same failures no_limit = record {
+  pub replied : (s : steps.Session) (old new : Session D A d a) (change : Result ⊤ Fault) (result : Result (CowStr Z) Fault) (p : json.Data × steps.Stage) (r : requests.Request) → steps.is_ready s.stage ≡ false → steps.stage_step s.analysis s.stage r ≡ p → LeavesStage a.knows_name a.analyze s.analysis (steps.held_by s.stage) new.stage change p → IfOk result (λ text. cow_str_bytes text ≡ change_text change) → OnOk result (GoesOn change)
+      → IfErr result (λ e. change ≡ Err e) → honest_of new ≡ honest_of old → HasCause (failures_of old) (failures_of new) change → ¬ IsErrOf change faults.Limit → Replies old new s (Some r) result
+  replied s old new change result p r not_ready is leaves told on same honest failures no_limit = record {
     text = text result told on;
     state = state result on;
+    honest = honest;
+    left = λ _. error_of_change change result (λ fault. fault ≢ faults.Device → (t : steps.Session) × IsLeft s t × StandsFor new t) same
+        (err_weaker change (λ fault. fault ≢ faults.Device → HasStage a.knows_name a.analyze s.analysis new.stage (steps.no_index (steps.held_by s.stage))) (λ fault. fault ≢ faults.Device → (t : steps.Session) × IsLeft s t × StandsFor new t)
+        (λ fault spare other. (record s { stage = steps.no_index (steps.held_by s.stage) }, (refl, inr (inr (not_ready, refl))), spare other)) leaves.spare);
     failures = same_cause (failures_of old) (failures_of new) change result same failures;
     limit = λ limit. absurd (no_limit (same_error change result faults.Limit same limit));
   }
     where
       text : (result : Result (CowStr Z) Fault) → IfOk result (λ text. cow_str_bytes text ≡ change_text change) → OnOk result (GoesOn change) → IfOk result (λ text. cow_str_bytes text ≡ reply_of ((steps.step s (Some r)).0))
-      text (Ok t) told on = told ∙ (leaves on).0 ∙ ap (λ q. reply_of q.0) (sym is)
+      text (Ok t) told on = told ∙ (leaves.told on).0 ∙ ap (λ q. reply_of q.0) (sym is)
       text (Err e) told on = tt
 
       state : (result : Result (CowStr Z) Fault) → OnOk result (GoesOn change) → OnOk result (StandsFor new ((steps.step s (Some r)).1))
-      state (Ok t) on = subst (λ (q : json.Data × steps.Stage). HasStage a.knows_name a.analyze s.analysis new.stage q.1) (sym is) (leaves on).1
+      state (Ok t) on = subst (λ (q : json.Data × steps.Stage). HasStage a.knows_name a.analyze s.analysis new.stage q.1) (sym is) (leaves.told on).1
       state (Err e) on = tt
 
   -- the reply to a request that is refused
@@ -154,14 +160,18 @@ module _ {D A Z : Type 0} {d : devices.Ghosts D} {a : analyzers.Ghosts A} where
   refused_reply s session fault (Ok text) r stands is told memory = record {
     text = told ∙ error_text fault ∙ ap (λ q. reply_of q.0) (sym is);
     state = subst (λ (q : json.Data × steps.Stage). HasStage a.knows_name a.analyze s.analysis session.stage q.1) (sym is) stands;
+    honest = refl;
     failures = memory_cause (failures_of session) (Ok text) tt;
     limit = λ limit. absurd (memory_no_limit (Ok text) tt limit);
+    left = λ _. tt;
   }
   refused_reply s session fault (Err e) r stands is told memory = record {
     text = tt;
     state = tt;
+    honest = refl;
     failures = memory_cause {T = CowStr Z} (failures_of session) (Err e) memory;
     limit = λ limit. absurd (memory_no_limit {T = CowStr Z} (Err e) memory limit);
+    left = λ _ other. (s, (refl, inl refl), stands);
   }
 
   -- the same of a session with the same stage
@@ -169,8 +179,10 @@ module _ {D A Z : Type 0} {d : devices.Ghosts D} {a : analyzers.Ghosts A} where
   same_stage s old new o result same replies = record {
     text = replies.text;
     state = subst (λ t. OnOk result (HasStage a.knows_name a.analyze ((steps.step s o).1.analysis) t ((steps.step s o).1.stage))) (sym same) replies.state;
+    honest = subst (λ t. honest_on t ≡ honest_of old) (sym same) replies.honest;
     failures = subst (λ t. HasCause (failures_of old) (failures_on t) result) (sym same) replies.failures;
     limit = replies.limit;
+    left = subst (λ o. IsTrue (honest_of old) → IfErr result (λ fault. fault ≢ faults.Device → (t : steps.Session) × IsLeft s t × HasStage a.knows_name a.analyze t.analysis o t.stage)) (sym same) replies.left;
   }
 
   -- the reply where nothing is asked for
@@ -180,18 +192,22 @@ module _ {D A Z : Type 0} {d : devices.Ghosts D} {a : analyzers.Ghosts A} where
       (record {
         text = told ∙ error_text faults.BadRequest;
         state = stands;
+        honest = refl;
         failures = memory_cause (failures_of session) (Ok text) tt;
         limit = λ limit. absurd (memory_no_limit (Ok text) tt limit);
+        left = λ _. tt;
       })
 
   -- and where no memory is found
-  pub memory_reply : (s : steps.Session) (session : Session D A d a) (o : Option requests.Request) (result : Result (CowStr Z) Fault) → IsErrAnd result (λ e. e ≡ faults.OutOfMemory) → Replies session session s o result
-  memory_reply s session o (Ok text) memory = absurd memory
-  memory_reply s session o (Err e) memory = record {
+  pub memory_reply : (s : steps.Session) (session : Session D A d a) (o : Option requests.Request) (result : Result (CowStr Z) Fault) → StandsFor session s → IsErrAnd result (λ e. e ≡ faults.OutOfMemory) → Replies session session s o result
+  memory_reply s session o (Ok text) stands memory = absurd memory
+  memory_reply s session o (Err e) stands memory = record {
     text = tt;
     state = tt;
+    honest = refl;
     failures = memory_cause {T = CowStr Z} (failures_of session) (Err e) memory;
     limit = λ limit. absurd (memory_no_limit {T = CowStr Z} (Err e) memory limit);
+    left = λ _ other. (s, (refl, inl refl), stands);
   }
 
   -- what is asked of the index that stands
@@ -200,10 +216,12 @@ module _ {D A Z : Type 0} {d : devices.Ghosts D} {a : analyzers.Ghosts A} where
       → KeepsMaking old new
       → ((c : calls.Configuration) (x : calls.Index) → IndexStands a.analyze old c x → OnOk result ((x.status ≡ calls.ready) ⊎ KeepsFile old new))
       → ((c : calls.Configuration) (x : calls.Index) → IndexStands a.analyze old c x → IsInFile old x → OnOk result (IsInFile new ((steps.index_step c x (index_request_of r)).1)))
+      → d.honest (device_of new) ≡ d.honest (device_of old)
+      → ((c : calls.Configuration) (x : calls.Index) → IndexStands a.analyze old c x → IfErr result (λ fault. fault ≢ faults.Device → OnlyStops a.analyze old new c x))
       → ((c : calls.Configuration) (x : calls.Index) → IndexStands a.analyze old c x → HasCause (d.failed (device_of old)) (d.failed (device_of new)) result)
       → ((c : calls.Configuration) (x : calls.Index) → IndexStands a.analyze old c x → IsErrOf result faults.Limit → (index_request_of r ≡ requests.commit_all) × PassesLimit old (committed (calls.after c x.state calls.commit_pending)))
       → Replies before after s (Some (index_request_of r)) result
-  index_reply s before after old new r result was is stands answered made kept rests failures limit =
+  index_reply s before after old new r result was is stands answered made kept rests honest left failures limit =
       at s.stage refl (subst (λ o. HasStage a.knows_name a.analyze s.analysis o s.stage) was stands)
     where
       at : (stage : steps.Stage) → s.stage ≡ stage → HasStage a.knows_name a.analyze s.analysis (Some (Standing old)) s.stage → Replies before after s (Some (index_request_of r)) result
@@ -228,6 +246,9 @@ module _ {D A Z : Type 0} {d : devices.Ghosts D} {a : analyzers.Ghosts A} where
                   rests = in_file;
                   known = known_after d.honest d.content (device_of old) (device_of new) c fields numbers x r (elim still [ inl ready ↦ inl ready | inr file ↦ inr file.0 ]) index.known;
                 })));
+            honest = ap honest_on is ∙ honest ∙ sym (ap honest_on was);
+            left = λ is_honest. err_weaker result (λ fault. fault ≢ faults.Device → OnlyStops a.analyze old new c x) (λ fault. fault ≢ faults.Device → (t : steps.Session) × IsLeft s t × StandsFor after t)
+                (λ fault stops other. index_left s after old new fields numbers x same is index made (subst (λ o. IsTrue (honest_on o)) was is_honest) (stops other)) (left c x index.stands);
             failures = subst (λ o. HasCause (failures_on o) (failures_on after.stage) result) (sym was) (subst (λ o. HasCause (d.failed (device_of old)) (failures_on o) result) (sym is) (failures c x index.stands));
             limit = λ met. let why = limit c x index.stands met in
                 (ap Some why.0, subst (λ o. CommitPasses s.analysis o s.stage) (sym was) (subst (λ t. CommitPasses s.analysis (Some (Standing old)) t) (sym same) why.1));

@@ -1,5 +1,5 @@
 -- What stands after an index was made or opened.
-use Rattle.std.proofs.Common.{[], Bool, Err, IfErr, IfOk, IsTrue, List, None, Ok, OnOk, Option, Result, Some, ap, cond, false, inl, inr, refl, subst, sym, true, true≢false, ◌∙◌, ◌≡◌, ◌≢◌, ◌⊎◌, ℕ}
+use Rattle.std.proofs.Common.{[], Bool, Err, IfErr, IfOk, IsTrue, List, None, Ok, OnOk, Option, Result, Some, ap, ap₂, cond, false, inl, inr, refl, subst, sym, true, true≢false, ◌∙◌, ◌≡◌, ◌≢◌, ◌⊎◌, ℕ}
 use Rattle.common.specs.declared.device.Device as devices
 use Rattle.definitions.specs.Analyzers.{Analyzer}
 use Rattle.definitions.specs.Calls as calls
@@ -21,10 +21,11 @@ use Rattle.definitions.proofs.ReplyTexts.{error_text, ok_text}
 use Rattle.engine.specs.Files.{IsCreateRefusal, IsFileOf, IsKept, IsOpenRefusal}
 use Rattle.engine.specs.Indexes.{IndexRests, IndexStands, IsOpened, analyzer_after, analyzer_of, device_after, device_of, ending_of, schema_of, settings_of}
 use Rattle.index.specs.Replying.{change_text}
-use Rattle.index.specs.Sessions.{HasHeld, HasStage, IsIndex, IsSpare, IsStage, LeavesStage, all_of, analysis_of, device_on, left_by, stage_after}
+use Rattle.index.specs.Sessions.{HasHeld, HasStage, IsIndex, IsSpare, IsStage, LeavesStage, all_of, analysis_of, analyzer_on, device_on, left_by, parts_on, stage_after}
 use Rattle.engine.specs.Standing.{IsReopened}
 use Rattle.engine.specs.declared.index.Index.{Index}
 use Rattle.engine.specs.declared.index.Refused.{Refused}
+use Rattle.index.specs.declared.stage.Stage.{Stage}
 use Rattle.index.specs.declared.stage.Stage.TheVariants.{Spare, Standing}
 use Rattle.index.proofs.Answering.{going_on}
 use Rattle.index.proofs.Causes.{error_in, making_goes_on}
@@ -53,24 +54,31 @@ refused_text : {S : Type 0} (fault : Fault) (s : S) (p : json.Data × S) → p �
 refused_text fault s p is = error_text fault ∙ ap (λ q. reply_of q.0) (sym is)
 
 module _ {D A : Type 0} (d : devices.Ghosts D) (knows : A → List ℕ → Bool) (analyze : A → Analyzer) where
+  -- what is told, and what stands
+  abbrev IsTold : steps.Analysis → Option (Stage D A d) → Result ⊤ Fault → json.Data × steps.Stage → Type 0
+  IsTold a stage change p = (change_text change ≡ reply_of p.0) × HasStage knows analyze a stage p.1
+
   -- what stands after a refusal
-  refused_stage : (a : steps.Analysis) (device : D) (analyzer : A) (fault : Fault) (held : steps.Held) (p : json.Data × steps.Stage) → p ≡ steps.refusing fault (steps.no_index held) → IsSpare d.honest d.content knows analyze a device analyzer held → LeavesStage {d = d} knows analyze a (Some (Spare device analyzer)) (Err fault) p
-  refused_stage a device analyzer fault held p is spare on = (refused_text fault (steps.no_index held) p is, subst (λ (q : json.Data × steps.Stage). HasStage {d = d} knows analyze a (Some (Spare device analyzer)) q.1) (sym is) spare)
+  refused_stage : (a : steps.Analysis) (device : D) (analyzer : A) (fault : Fault) (held : steps.Held) (p : json.Data × steps.Stage) → p ≡ steps.refusing fault (steps.no_index held) → IsSpare d.honest d.content knows analyze a device analyzer held → IsTold a (Some (Spare device analyzer)) (Err fault) p
+  refused_stage a device analyzer fault held p is spare = (refused_text fault (steps.no_index held) p is, subst (λ (q : json.Data × steps.Stage). HasStage {d = d} knows analyze a (Some (Spare device analyzer)) q.1) (sym is) spare)
 
   -- and after an answer
-  answered_stage : (a : steps.Analysis) (index : Index D A d) (s : Schema) (u : Settings) (x : calls.Index) (p : json.Data × steps.Stage) → p ≡ (ok_reply, steps.index_of s u x) → IsIndex knows analyze a index s u x → LeavesStage knows analyze a (Some (Standing index)) (Ok tt) p
-  answered_stage a index s u x p is stands on = (sym ok_text ∙ ap (λ q. reply_of q.0) (sym is), subst (λ (q : json.Data × steps.Stage). HasStage knows analyze a (Some (Standing index)) q.1) (sym is) stands)
+  answered_stage : (a : steps.Analysis) (held : steps.Held) (index : Index D A d) (s : Schema) (u : Settings) (x : calls.Index) (p : json.Data × steps.Stage) → p ≡ (ok_reply, steps.index_of s u x) → IsIndex knows analyze a index s u x → LeavesStage knows analyze a held (Some (Standing index)) (Ok tt) p
+  answered_stage a held index s u x p is stands = record {
+    told = λ on. (sym ok_text ∙ ap (λ q. reply_of q.0) (sym is), subst (λ (q : json.Data × steps.Stage). HasStage knows analyze a (Some (Standing index)) q.1) (sym is) stands);
+    spare = tt;
+  }
 
   -- an index was made
   pub made_stage : (a : steps.Analysis) (device : D) (analyzer : A) (held : steps.Held) (s : Schema) (u : Settings) (index : Index D A d) → IsSpare d.honest d.content knows analyze a device analyzer held
       → making_fault (knows analyzer) s u ≡ None → (IsTrue (d.honest device) → d.content device ≡ []) → IndexStands analyze index (steps.configuration_of s (analyze analyzer) u) steps.fresh_index
       → (schema_of index ≡ s) × (settings_of index ≡ u) → analyzer_of index ≡ analyzer → (IsTrue (d.honest device) → IndexRests index [])
-      → LeavesStage knows analyze a (Some (Standing index)) (Ok tt) (steps.created a.knows s u held)
+      → LeavesStage knows analyze a held (Some (Standing index)) (Ok tt) (steps.created a.knows s u held)
   made_stage a device analyzer (steps.file_of t v e) s u index spare none empty stands of by rests = absurd (no_bytes spare.1.1.0 (d.content device) spare.1.1.1 (empty spare.1.0))
   made_stage a device analyzer steps.no_file s u index spare none empty stands of by rests =
       let fault : making_fault a.knows s u ≡ None = subst (λ (b : steps.Analysis). making_fault b.knows s u ≡ None) (sym spare.0) none in
       let step : steps.created a.knows s u steps.no_file ≡ (ok_reply, steps.index_of s u steps.fresh_index) = ap (λ (o : Option Fault). steps.refused_or (option_or o None) (steps.no_index steps.no_file) (ok_reply, steps.index_of s u steps.fresh_index)) fault in
-      answered_stage a index s u steps.fresh_index (steps.created a.knows s u steps.no_file) step
+      answered_stage a steps.no_file index s u steps.fresh_index (steps.created a.knows s u steps.no_file) step
       (record {
         analysis = spare.0 ∙ ap (analysis_of knows analyze) (sym by);
         fields = of.0;
@@ -88,13 +96,15 @@ module _ {D A : Type 0} (d : devices.Ghosts D) (knows : A → List ℕ → Bool)
   pub unmade_stage : (a : steps.Analysis) (device : D) (analyzer : A) (held : steps.Held) (s : Schema) (u : Settings) (r : Refused D A) → IsSpare d.honest d.content knows analyze a device analyzer held
       → (r.fault ≡ faults.OutOfMemory) ⊎ (making_fault (knows analyzer) s u ≡ Some r.fault) ⊎ ((making_fault (knows analyzer) s u ≡ None) × IsCreateRefusal r.fault)
       → r.analyzer ≡ analyzer → d.honest r.device ≡ d.honest device → (IsTrue (d.honest device) → r.fault ≡ faults.NotEmpty → d.content device ≢ []) → (IsTrue (d.honest device) → r.fault ≢ faults.Device → IsKept d.moment d.left_since d.content d.unsynced device r.device)
-      → LeavesStage {d = d} knows analyze a (Some (Spare r.device r.analyzer)) (Err r.fault) (steps.created a.knows s u held)
-  unmade_stage a device analyzer held s u r spare exact returned honest full kept on =
-      let is_honest = held_honest d.honest d.content device held spare.1 in
-      let same = (kept is_honest (going_on r.fault faults.Device on refl)).content_kept in
-      let stays = spare_kept a device r.device analyzer r.analyzer held spare returned honest same in
-      refused_stage a r.device r.analyzer r.fault held (steps.created a.knows s u held) (step held spare.1 exact) stays on
+      → LeavesStage {d = d} knows analyze a held (Some (Spare r.device r.analyzer)) (Err r.fault) (steps.created a.knows s u held)
+  unmade_stage a device analyzer held s u r spare exact returned honest full kept = record {
+    told = λ on. refused_stage a r.device r.analyzer r.fault held (steps.created a.knows s u held) (step on held spare.1 exact) (stays (going_on r.fault faults.Device on refl));
+    spare = stays;
+  }
     where
+      stays : r.fault ≢ faults.Device → IsSpare d.honest d.content knows analyze a r.device r.analyzer held
+      stays other = spare_kept a device r.device analyzer r.analyzer held spare returned honest (kept (held_honest d.honest d.content device held spare.1) other).content_kept
+
       from_analysis : (o : Option Fault) → making_fault (knows analyzer) s u ≡ o → making_fault a.knows s u ≡ o
       from_analysis o is = subst (λ (b : steps.Analysis). making_fault b.knows s u ≡ o) (sym spare.0) is
 
@@ -104,16 +114,16 @@ module _ {D A : Type 0} (d : devices.Ghosts D) (knows : A → List ℕ → Bool)
           ap (λ (o : Option Fault). steps.refused_or (option_or o (Some faults.NotEmpty)) (steps.no_index (steps.file_of t v e)) (ok_reply, steps.index_of s u steps.fresh_index)) none
           ∙ ap (λ (f : Fault). steps.refusing f (steps.no_index (steps.file_of t v e))) (sym is)
 
-      step : (h : steps.Held) → HasHeld d.honest d.content device h → (r.fault ≡ faults.OutOfMemory) ⊎ (making_fault (knows analyzer) s u ≡ Some r.fault) ⊎ ((making_fault (knows analyzer) s u ≡ None) × IsCreateRefusal r.fault) → steps.created a.knows s u h ≡ steps.refusing r.fault (steps.no_index h)
-      step h has (inl memory) = absurd (going_on r.fault faults.OutOfMemory on refl memory)
-      step h has (inr (inl refused)) = ap (λ (o : Option Fault). steps.refused_or (option_or o (steps.if_empty h)) (steps.no_index h) (ok_reply, steps.index_of s u steps.fresh_index)) (from_analysis (Some r.fault) refused)
-      step h has (inr (inr (none, inl is_device))) = absurd (going_on r.fault faults.Device on refl is_device)
-      step h has (inr (inr (none, inr is))) = not_empty h has (from_analysis None none) is
+      step : stops r.fault ≡ false → (h : steps.Held) → HasHeld d.honest d.content device h → (r.fault ≡ faults.OutOfMemory) ⊎ (making_fault (knows analyzer) s u ≡ Some r.fault) ⊎ ((making_fault (knows analyzer) s u ≡ None) × IsCreateRefusal r.fault) → steps.created a.knows s u h ≡ steps.refusing r.fault (steps.no_index h)
+      step on h has (inl memory) = absurd (going_on r.fault faults.OutOfMemory on refl memory)
+      step on h has (inr (inl refused)) = ap (λ (o : Option Fault). steps.refused_or (option_or o (steps.if_empty h)) (steps.no_index h) (ok_reply, steps.index_of s u steps.fresh_index)) (from_analysis (Some r.fault) refused)
+      step on h has (inr (inr (none, inl is_device))) = absurd (going_on r.fault faults.Device on refl is_device)
+      step on h has (inr (inr (none, inr is))) = not_empty h has (from_analysis None none) is
 
   -- an index was opened
   pub opened_stage : (a : steps.Analysis) (device : D) (analyzer : A) (held : steps.Held) (index : Index D A d) → IsSpare d.honest d.content knows analyze a device analyzer held
       → IsOpened analyze (analyze analyzer) device index → are_analyzed (knows analyzer) (schema_of index) ≡ true → analyzer_of index ≡ analyzer
-      → LeavesStage knows analyze a (Some (Standing index)) (Ok tt) (steps.opened a.knows held)
+      → LeavesStage knows analyze a held (Some (Standing index)) (Ok tt) (steps.opened a.knows held)
   opened_stage a device analyzer steps.no_file index spare opened known by = let file = opened.file spare.1.0 in absurd (no_bytes file.0 (d.content device) file.1 spare.1.1)
   opened_stage a device analyzer (steps.file_of s u e) index spare opened known by =
       let is : found (schema_of index) (settings_of index) opened.docs ≡ found s u (all_of e) = one_saying (schema_of index) s (settings_of index) u opened.docs (all_of e) (d.content device) (opened.file spare.1.0) spare.1.1 in
@@ -121,7 +131,7 @@ module _ {D A : Type 0} (d : devices.Ghosts D) (knows : A → List ℕ → Bool)
       let knows_all : are_analyzed a.knows s ≡ true = subst (λ (b : steps.Analysis). are_analyzed b.knows s ≡ true) (sym spare.0) (subst (λ (t : Schema). are_analyzed (knows analyzer) t ≡ true) schema known) in
       let step : steps.opened a.knows (steps.file_of s u e) ≡ (ok_reply, steps.index_of s u (steps.reopened e)) = ap (λ (b : Bool). cond b (ok_reply, steps.index_of s u (steps.reopened e)) (steps.refusing faults.UnknownTokenizer (steps.no_index (steps.file_of s u e)))) knows_all in
       let stands : IndexStands analyze index (steps.configuration_of s (analyze analyzer) u) (steps.reopened e) = subst (λ (f : Found). IsReopened analyze index.collection (steps.configuration_of f.0.0 (analyze analyzer) f.0.1) f.1) is opened.stands e refl in
-      answered_stage a index s u (steps.reopened e) (steps.opened a.knows (steps.file_of s u e)) step
+      answered_stage a (steps.file_of s u e) index s u (steps.reopened e) (steps.opened a.knows (steps.file_of s u e)) step
       (record {
         analysis = spare.0 ∙ ap (analysis_of knows analyze) (sym by);
         fields = schema;
@@ -135,13 +145,18 @@ module _ {D A : Type 0} (d : devices.Ghosts D) (knows : A → List ℕ → Bool)
   pub unopened_stage : (a : steps.Analysis) (device : D) (analyzer : A) (held : steps.Held) (r : Refused D A) → IsSpare d.honest d.content knows analyze a device analyzer held
       → (IsTrue (d.honest device) → (r.fault ≡ faults.Device) ⊎ (r.fault ≡ faults.OutOfMemory) ⊎ IsOpenRefusal (knows analyzer) (d.content device) r.fault)
       → r.analyzer ≡ analyzer → d.honest r.device ≡ d.honest device → (IsTrue (d.honest device) → r.fault ≢ faults.Device → IsKept d.moment d.left_since d.content d.unsynced device r.device)
-      → LeavesStage {d = d} knows analyze a (Some (Spare r.device r.analyzer)) (Err r.fault) (steps.opened a.knows held)
-  unopened_stage a device analyzer held r spare refused returned honest kept on =
-      let is_honest = held_honest d.honest d.content device held spare.1 in
-      let same = (kept is_honest (going_on r.fault faults.Device on refl)).content_kept in
-      let stays = spare_kept a device r.device analyzer r.analyzer held spare returned honest same in
-      refused_stage a r.device r.analyzer r.fault held (steps.opened a.knows held) (step held spare.1 (refused is_honest)) stays on
+      → LeavesStage {d = d} knows analyze a held (Some (Spare r.device r.analyzer)) (Err r.fault) (steps.opened a.knows held)
+  unopened_stage a device analyzer held r spare refused returned honest kept = record {
+    told = λ on. refused_stage a r.device r.analyzer r.fault held (steps.opened a.knows held) (step on held spare.1 (refused is_honest)) (stays (going_on r.fault faults.Device on refl));
+    spare = stays;
+  }
     where
+      is_honest : IsTrue (d.honest device)
+      is_honest = held_honest d.honest d.content device held spare.1
+
+      stays : r.fault ≢ faults.Device → IsSpare d.honest d.content knows analyze a r.device r.analyzer held
+      stays other = spare_kept a device r.device analyzer r.analyzer held spare returned honest (kept is_honest other).content_kept
+
       unknown : (s t : Schema) (u v : Settings) (e : List (List Document)) (f : List Document) → IsFileOf s u (all_of e) (d.content device) → IsFileOf t v f (d.content device) → are_analyzed (knows analyzer) t ≡ false → r.fault ≡ faults.UnknownTokenizer → steps.opened a.knows (steps.file_of s u e) ≡ steps.refusing r.fault (steps.no_index (steps.file_of s u e))
       unknown s t u v e f file other is fault =
           let same : t ≡ s = ap (λ (g : Found). g.0.0) (one_saying t s v u f (all_of e) (d.content device) other file) in
@@ -149,15 +164,15 @@ module _ {D A : Type 0} (d : devices.Ghosts D) (knows : A → List ℕ → Bool)
           ap (λ (b : Bool). cond b (ok_reply, steps.index_of s u (steps.reopened e)) (steps.refusing faults.UnknownTokenizer (steps.no_index (steps.file_of s u e)))) lacks
           ∙ ap (λ (g : Fault). steps.refusing g (steps.no_index (steps.file_of s u e))) (sym fault)
 
-      step : (h : steps.Held) → HasHeld d.honest d.content device h → (r.fault ≡ faults.Device) ⊎ (r.fault ≡ faults.OutOfMemory) ⊎ IsOpenRefusal (knows analyzer) (d.content device) r.fault → steps.opened a.knows h ≡ steps.refusing r.fault (steps.no_index h)
-      step h has (inl is_device) = absurd (going_on r.fault faults.Device on refl is_device)
-      step h has (inr (inl memory)) = absurd (going_on r.fault faults.OutOfMemory on refl memory)
-      step steps.no_file has (inr (inr (inl (inl (is, none))))) = ap (λ (g : Fault). steps.refusing g (steps.no_index steps.no_file)) (sym is)
-      step steps.no_file has (inr (inr (inl (inr (place, is, damaged))))) = absurd (damaged.begins (subst (λ (l : List ℕ). IsNoIndex l) (sym has.1) no_index_yet))
-      step steps.no_file has (inr (inr (inr (is, s, u, e, file, lacks)))) = absurd (no_bytes file.0 (d.content device) file.1 has.1)
-      step (steps.file_of s u e) has (inr (inr (inl (inl (is, none))))) = absurd (file_is_index s u (all_of e) (d.content device) has.1 none)
-      step (steps.file_of s u e) has (inr (inr (inl (inr (place, is, damaged))))) = absurd (file_is_whole s u (all_of e) (d.content device) place has.1 damaged)
-      step (steps.file_of s u e) has (inr (inr (inr (is, t, v, f, file, lacks)))) = unknown s t u v e f has.1 file lacks is
+      step : stops r.fault ≡ false → (h : steps.Held) → HasHeld d.honest d.content device h → (r.fault ≡ faults.Device) ⊎ (r.fault ≡ faults.OutOfMemory) ⊎ IsOpenRefusal (knows analyzer) (d.content device) r.fault → steps.opened a.knows h ≡ steps.refusing r.fault (steps.no_index h)
+      step on h has (inl is_device) = absurd (going_on r.fault faults.Device on refl is_device)
+      step on h has (inr (inl memory)) = absurd (going_on r.fault faults.OutOfMemory on refl memory)
+      step on steps.no_file has (inr (inr (inl (inl (is, none))))) = ap (λ (g : Fault). steps.refusing g (steps.no_index steps.no_file)) (sym is)
+      step on steps.no_file has (inr (inr (inl (inr (place, is, damaged))))) = absurd (damaged.begins (subst (λ (l : List ℕ). IsNoIndex l) (sym has.1) no_index_yet))
+      step on steps.no_file has (inr (inr (inr (is, (s, u, e, file, lacks))))) = absurd (no_bytes file.0 (d.content device) file.1 has.1)
+      step on (steps.file_of s u e) has (inr (inr (inl (inl (is, none))))) = absurd (file_is_index s u (all_of e) (d.content device) has.1 none)
+      step on (steps.file_of s u e) has (inr (inr (inl (inr (place, is, damaged))))) = absurd (file_is_whole s u (all_of e) (d.content device) place has.1 damaged)
+      step on (steps.file_of s u e) has (inr (inr (inr (is, (t, v, f, file, lacks))))) = unknown s t u v e f has.1 file lacks is
 
   -- what a call that makes an index leaves
   pub create_left : (a : steps.Analysis) (device : D) (analyzer : A) (held : steps.Held) (s : Schema) (u : Settings) (outcome : Result (Index D A d) (Refused D A)) → IsSpare d.honest d.content knows analyze a device analyzer held
@@ -169,7 +184,7 @@ module _ {D A : Type 0} (d : devices.Ghosts D) (knows : A → List ℕ → Bool)
       → (IsTrue (d.honest device) → IfErr outcome (λ r. r.fault ≡ faults.NotEmpty → d.content device ≢ []))
       → (IsTrue (d.honest device) → IfErr outcome (λ r. r.fault ≢ faults.Device → IsKept d.moment d.left_since d.content d.unsynced device r.device))
       → (IsTrue (d.honest device) → IfOk outcome (λ index. IndexRests index []))
-      → LeavesStage knows analyze a (Some ((left_by outcome).0)) ((left_by outcome).1) (steps.created a.knows s u held)
+      → LeavesStage knows analyze a held (Some ((left_by outcome).0)) ((left_by outcome).1) (steps.created a.knows s u held)
   create_left a device analyzer held s u (Ok index) spare none empty stands of exact by honest full kept rests = made_stage a device analyzer held s u index spare none empty stands of by rests
   create_left a device analyzer held s u (Err r) spare none empty stands of exact by honest full kept rests = unmade_stage a device analyzer held s u r spare exact by honest full kept
 
@@ -180,14 +195,14 @@ module _ {D A : Type 0} (d : devices.Ghosts D) (knows : A → List ℕ → Bool)
       → (IsTrue (d.honest device) → IfErr outcome (λ r. (r.fault ≡ faults.Device) ⊎ (r.fault ≡ faults.OutOfMemory) ⊎ IsOpenRefusal (knows analyzer) (d.content device) r.fault))
       → analyzer_after outcome ≡ analyzer → d.honest (device_after outcome) ≡ d.honest device
       → (IsTrue (d.honest device) → IfErr outcome (λ r. r.fault ≢ faults.Device → IsKept d.moment d.left_since d.content d.unsynced device r.device))
-      → LeavesStage knows analyze a (Some ((left_by outcome).0)) ((left_by outcome).1) (steps.opened a.knows held)
+      → LeavesStage knows analyze a held (Some ((left_by outcome).0)) ((left_by outcome).1) (steps.opened a.knows held)
   open_left a device analyzer held (Ok index) spare opened known refused by honest kept = opened_stage a device analyzer held index spare opened known by
   open_left a device analyzer held (Err r) spare opened known refused by honest kept = unopened_stage a device analyzer held r spare refused by honest kept
 
   -- ---- the device
 
   -- what an honest device of an index holds
-  index_held : (a : steps.Analysis) (index : Index D A d) (s : Schema) (u : Settings) (x : calls.Index) → IsIndex knows analyze a index s u x → IsTrue (d.honest (device_of index)) → HasHeld d.honest d.content (device_of index) (steps.file_of s u x.state.groups)
+  pub index_held : (a : steps.Analysis) (index : Index D A d) (s : Schema) (u : Settings) (x : calls.Index) → IsIndex knows analyze a index s u x → IsTrue (d.honest (device_of index)) → HasHeld d.honest d.content (device_of index) (steps.file_of s u x.state.groups)
   index_held a index s u x h honest = elim h.known [
     | inl ready ↦ let rests = h.rests honest ready in
         (honest, (rests.bodies, rests.at_rest.file, rests.says ∙ same_saying (schema_of index) s (settings_of index) u (committed x.state) (sym h.fields) (sym h.numbers)))
@@ -212,6 +227,14 @@ pub stage_failures : {D A : Type 0} {d : devices.Ghosts D} (old device : D) (out
 stage_failures {d = d} old device outcome same cause =
     subst (λ e. HasCause (d.failed old) (d.failed e) (ending_of outcome)) (sym (stage_device outcome))
     (subst (λ e. HasCause (d.failed e) (d.failed (device_after outcome)) (ending_of outcome)) same cause)
+
+-- it is as honest as it was
+pub stage_honest : {D A : Type 0} {d : devices.Ghosts D} (old device : D) (outcome : Result (Index D A d) (Refused D A)) → device ≡ old → d.honest (device_after outcome) ≡ d.honest device → d.honest (device_on (stage_after outcome)) ≡ d.honest old
+stage_honest {d = d} old device outcome same honest = ap d.honest (stage_device outcome) ∙ honest ∙ ap d.honest same
+
+-- device and analyzer are handed back
+pub handed_back : {D A : Type 0} {d : devices.Ghosts D} (o : Option (Stage D A d)) (stage : Stage D A d) (parts : D × A) → o ≡ Some stage → parts.0 ≡ device_on stage → parts.1 ≡ analyzer_on stage → parts_on o ≡ Some parts
+handed_back o stage parts is device analyzer = ap parts_on is ∙ ap₂ (λ x y. Some (x, y)) (sym device) (sym analyzer)
 
 no_answer : (fault : Fault) → IsErrOf {T = ⊤} (Ok tt) fault → ⊥
 no_answer fault e = cc

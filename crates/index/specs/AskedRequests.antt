@@ -16,6 +16,7 @@ index_request_of (Count query) = definitions.count_docs (view query.now)
 
 -- what a request that was read asks for
 abbrev pub request_of : Request → definitions.Request
-request_of (Create schema settings) = definitions.create_index (view schema.now) (option_map (λ d. view d.now) settings)
+request_of (Create schema settings) =
+    definitions.create_index (view schema.now) (option_map (λ d. view d.now) settings)
 request_of Open = definitions.open_index
 request_of (Index request) = index_request_of request

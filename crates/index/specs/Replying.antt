@@ -1,5 +1,5 @@
 -- What is replied to requests of an index.
-use Rattle.std.specs.Prelude.{⊤, ◌≡◌, Err, IfOk, List, Ok, OnOk, Result, codes, false, ℕ}
+use Rattle.std.specs.Prelude.{⊤, ◌≡◌, ◌⊎◌, Err, IfOk, List, Ok, OnOk, Result, codes, false, ℕ}
 use Rattle.std.specs.Cow.{cow_str_bytes}
 use Rattle.std.specs.declared.borrow.CowStr.{CowStr}
 use Rattle.common.specs.declared.device.Device as devices
@@ -10,7 +10,7 @@ use Rattle.definitions.specs.Replies.{reply_of}
 use Rattle.definitions.specs.Requests as requests
 use Rattle.definitions.specs.Step as steps
 use Rattle.definitions.specs.declared.fault.Fault.{Fault}
-use Rattle.engine.specs.Indexes.{IndexStands}
+use Rattle.engine.specs.Indexes.{IndexStands, KeepsFile}
 use Rattle.engine.specs.declared.index.Index.{Index}
 use Rattle.definitions.specs.Replying.{stops}
 
@@ -25,6 +25,17 @@ GoesOn (Ok u) = ⊤
 GoesOn (Err fault) = stops fault ≡ false
 
 -- the text is the definitions' reply, and the index stands for what comes after
-pub record Answers {D A Z : Type 0} {d : devices.Ghosts D} (analyze : A → Analyzer) (new : Index D A d) (c : calls.Configuration) (x : calls.Index) (r : requests.Request) (result : Result (CowStr Z) Fault) : Type 0 where
+pub record Answers {D A Z : Type 0} {d : devices.Ghosts D} (analyze : A → Analyzer) (new : Index D A d)
+    (c : calls.Configuration) (x : calls.Index) (r : requests.Request) (result : Result (CowStr Z) Fault) : Type 0 where
   pub text : IfOk result (λ text. cow_str_bytes text ≡ reply_of ((steps.index_step c x r).0))
   pub state : OnOk result (IndexStands analyze new c ((steps.index_step c x r).1))
+
+-- an index without its writer
+abbrev pub closed_writer : calls.Index → calls.Index
+closed_writer x = record { state = x.state; status = calls.writer_closed }
+
+-- device and gate are as they were; what stood stands, or its writer is closed
+pub record OnlyStops {D A : Type 0} {d : devices.Ghosts D} (analyze : A → Analyzer) (old new : Index D A d)
+    (c : calls.Configuration) (x : calls.Index) : Type 0 where
+  pub file : KeepsFile old new
+  pub stands : IndexStands analyze new c x ⊎ IndexStands analyze new c (closed_writer x)

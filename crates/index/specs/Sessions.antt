@@ -1,5 +1,5 @@
 -- What a session stands for, and what it answers.
-use Rattle.std.specs.Prelude.{[], ⊤, ◌≡◌, ◌⊎◌, Bool, Err, IfOk, IsErrOf, IsTrue, List, None, Ok, OnOk, Option, Result, Some, flat_map, ℕ}
+use Rattle.std.specs.Prelude.{[], ⊤, ◌≡◌, ◌≢◌, ◌⊎◌, Bool, Err, IfErr, IfOk, IsErrOf, IsTrue, List, None, Ok, OnOk, Option, Result, Some, false, flat_map, option_map, ℕ}
 use Rattle.std.specs.Cow.{cow_str_bytes}
 use Rattle.std.specs.declared.borrow.CowStr.{CowStr}
 use Rattle.common.specs.declared.analyzer.Analyzer as analyzers
@@ -18,7 +18,7 @@ use Rattle.definitions.specs.declared.fault.Fault.{Fault}
 use Rattle.definitions.specs.declared.fault.Fault.TheVariants as faults
 use Rattle.engine.specs.Files.{IsFileOf}
 use Rattle.engine.specs.Indexes.{IndexStands, IsInFile, PassesLimit, analyzer_of, device_of, ending_of, schema_of, settings_of}
-use Rattle.index.specs.Replying.{GoesOn, change_text}
+use Rattle.index.specs.Replying.{GoesOn, change_text, closed_writer}
 use Rattle.engine.specs.declared.index.Index.{Index}
 use Rattle.engine.specs.declared.index.Refused.{Refused}
 use Rattle.index.specs.declared.session.Session.{Session}
@@ -33,7 +33,8 @@ all_of groups = flat_map (λ group. group) groups
 -- an honest device that holds this: its file tells the documents, in whatever groups they are
 abbrev pub HasHeld : {D : Type 0} → (D → Bool) → (D → List ℕ) → D → steps.Held → Type 0
 HasHeld honest content device steps.no_file = IsTrue (honest device) × (content device ≡ [])
-HasHeld honest content device (steps.file_of schema settings groups) = IsTrue (honest device) × IsFileOf schema settings (all_of groups) (content device)
+HasHeld honest content device (steps.file_of schema settings groups) =
+    IsTrue (honest device) × IsFileOf schema settings (all_of groups) (content device)
 
 -- what an analyzer knows, and how it cuts a text
 abbrev pub analysis_of : {A : Type 0} → (A → List ℕ → Bool) → (A → Analyzer) → A → steps.Analysis
@@ -48,16 +49,22 @@ abbrev pub session_of : steps.Analysis → Schema → Settings → calls.Index �
 session_of a schema settings x = record { analysis = a; stage = steps.index_of schema settings x }
 
 -- an index is ready, or else it is known by the file of its device, which says what is committed
-abbrev pub IsKnown : {D : Type 0} → (D → Bool) → (D → List ℕ) → D → Schema → Settings → calls.Index → Type 0
-IsKnown honest content device schema settings x = (x.status ≡ calls.ready) ⊎ HasHeld honest content device (steps.file_of schema settings x.state.groups)
+abbrev pub IsKnown :
+    {D : Type 0} → (D → Bool) → (D → List ℕ) → D → Schema → Settings → calls.Index → Type 0
+IsKnown honest content device schema settings x =
+    (x.status ≡ calls.ready) ⊎ HasHeld honest content device (steps.file_of schema settings x.state.groups)
 
 -- the device holds this, and the analyzer is the session's
-abbrev pub IsSpare : {D A : Type 0} → (D → Bool) → (D → List ℕ) → (A → List ℕ → Bool) → (A → Analyzer) → steps.Analysis → D → A → steps.Held → Type 0
-IsSpare honest content knows analyze a device analyzer held = (a ≡ analysis_of knows analyze analyzer) × HasHeld honest content device held
+abbrev pub IsSpare :
+    {D A : Type 0} → (D → Bool) → (D → List ℕ) → (A → List ℕ → Bool) → (A → Analyzer)
+    → steps.Analysis → D → A → steps.Held → Type 0
+IsSpare honest content knows analyze a device analyzer held =
+    (a ≡ analysis_of knows analyze analyzer) × HasHeld honest content device held
 
 module _ {D A : Type 0} {d : devices.Ghosts D} (knows : A → List ℕ → Bool) (analyze : A → Analyzer) where
   -- the index is made of these, stands for this one, and has in its file what is committed
-  pub record IsIndex (a : steps.Analysis) (index : Index D A d) (schema : Schema) (settings : Settings) (x : calls.Index) : Type 0 where
+  pub record IsIndex (a : steps.Analysis) (index : Index D A d) (schema : Schema) (settings : Settings) (x : calls.Index)
+      : Type 0 where
     pub analysis : a ≡ analysis_of knows analyze (analyzer_of index)
     pub fields : schema_of index ≡ schema
     pub numbers : settings_of index ≡ settings
@@ -65,19 +72,25 @@ module _ {D A : Type 0} {d : devices.Ghosts D} (knows : A → List ℕ → Bool)
     pub rests : IsInFile index x
     pub known : IsKnown d.honest d.content (device_of index) schema settings x
 
+  -- what stands on a device stands for this
   abbrev pub IsStage : steps.Analysis → Stage D A d → steps.Stage → Type 0
-  IsStage a (Spare device analyzer) (steps.no_index held) = IsSpare d.honest d.content knows analyze a device analyzer held
+  IsStage a (Spare device analyzer) (steps.no_index held) =
+      IsSpare d.honest d.content knows analyze a device analyzer held
   IsStage a (Spare device analyzer) (steps.index_of schema settings x) = ⊥
   IsStage a (Standing index) (steps.no_index held) = ⊥
   IsStage a (Standing index) (steps.index_of schema settings x) = IsIndex a index schema settings x
 
+  -- the same where something stands
   abbrev pub HasStage : steps.Analysis → Option (Stage D A d) → steps.Stage → Type 0
   HasStage a None s = ⊥
   HasStage a (Some stage) s = IsStage a stage s
 
-  -- unless it met a fault that stops, the change is told by this reply, and this is what stands
-  abbrev pub LeavesStage : steps.Analysis → Option (Stage D A d) → Result ⊤ Fault → json.Data × steps.Stage → Type 0
-  LeavesStage a stage change p = GoesOn change → (change_text change ≡ reply_of p.0) × HasStage a stage p.1
+  -- over a device that held this an index was to be made or opened: unless that met a fault that stops, it is told by
+  -- this reply, and this is what stands; after any error but `Device` no index stands, and the device holds what it held
+  pub record LeavesStage (a : steps.Analysis) (held : steps.Held) (stage : Option (Stage D A d)) (change : Result ⊤ Fault)
+      (p : json.Data × steps.Stage) : Type 0 where
+    pub told : GoesOn change → (change_text change ≡ reply_of p.0) × HasStage a stage p.1
+    pub spare : IfErr change (λ fault. fault ≢ faults.Device → HasStage a stage (steps.no_index held))
 
 module _ {D A : Type 0} {d : devices.Ghosts D} where
   -- the device of what stands
@@ -85,10 +98,24 @@ module _ {D A : Type 0} {d : devices.Ghosts D} where
   device_on (Spare device analyzer) = device
   device_on (Standing index) = device_of index
 
-  -- and how often it failed
+  -- how often it failed
   abbrev pub failures_on : Option (Stage D A d) → ℕ
   failures_on None = 0
   failures_on (Some stage) = d.failed (device_on stage)
+
+  -- whether it is honest
+  abbrev pub honest_on : Option (Stage D A d) → Bool
+  honest_on None = false
+  honest_on (Some stage) = d.honest (device_on stage)
+
+  -- the analyzer of what stands
+  abbrev pub analyzer_on : Stage D A d → A
+  analyzer_on (Spare device analyzer) = analyzer
+  analyzer_on (Standing index) = analyzer_of index
+
+  -- device and analyzer
+  abbrev pub parts_on : Option (Stage D A d) → Option (D × A)
+  parts_on stage = option_map (λ s. (device_on s, analyzer_on s)) stage
 
   -- an index stands whose next commit would pass the limit of a file
   abbrev pub CommitPasses : steps.Analysis → Option (Stage D A d) → steps.Stage → Type 0
@@ -96,7 +123,8 @@ module _ {D A : Type 0} {d : devices.Ghosts D} where
   CommitPasses a (Some (Spare device analyzer)) s = ⊥
   CommitPasses a (Some (Standing index)) (steps.no_index held) = ⊥
   CommitPasses a (Some (Standing index)) (steps.index_of schema settings x) =
-      PassesLimit index (committed (calls.after (steps.configuration_of schema a.analyze settings) x.state calls.commit_pending))
+      PassesLimit index
+      (committed (calls.after (steps.configuration_of schema a.analyze settings) x.state calls.commit_pending))
 
   -- what stands after an index was to be made or opened
   abbrev pub stage_after : Result (Index D A d) (Refused D A) → Stage D A d
@@ -108,21 +136,54 @@ module _ {D A : Type 0} {d : devices.Ghosts D} where
   left_by outcome = (stage_after outcome, ending_of outcome)
 
 -- the session has the analyzer, and what it has stands for this
-abbrev pub StandsFor : {D A : Type 0} {d : devices.Ghosts D} {a : analyzers.Ghosts A} → Session D A d a → steps.Session → Type 0
+abbrev pub StandsFor :
+    {D A : Type 0} {d : devices.Ghosts D} {a : analyzers.Ghosts A} → Session D A d a → steps.Session → Type 0
 StandsFor {a = a} session s = HasStage a.knows_name a.analyze s.analysis session.stage s.stage
 
 -- how often the device of a session failed
 abbrev pub failures_of : {D A : Type 0} {d : devices.Ghosts D} {a : analyzers.Ghosts A} → Session D A d a → ℕ
 failures_of session = failures_on session.stage
 
+-- whether that device is honest
+abbrev pub honest_of : {D A : Type 0} {d : devices.Ghosts D} {a : analyzers.Ghosts A} → Session D A d a → Bool
+honest_of session = honest_on session.stage
+
+-- the device and the analyzer of a session
+abbrev pub parts_of :
+    {D A : Type 0} {d : devices.Ghosts D} {a : analyzers.Ghosts A} → Session D A d a → Option (D × A)
+parts_of session = parts_on session.stage
+
 -- the next commit of the index that stands would pass the limit of a file
-abbrev pub PassesByCommit : {D A : Type 0} {d : devices.Ghosts D} {a : analyzers.Ghosts A} → Session D A d a → steps.Session → Type 0
+abbrev pub PassesByCommit :
+    {D A : Type 0} {d : devices.Ghosts D} {a : analyzers.Ghosts A} → Session D A d a → steps.Session → Type 0
 PassesByCommit session s = CommitPasses s.analysis session.stage s.stage
 
--- the reply to what was asked is the definitions', and the session stands for what comes after; `Device` has its cause, and
--- `Limit` is the answer to a commit that would pass the limit
-pub record Replies {D A Z : Type 0} {d : devices.Ghosts D} {a : analyzers.Ghosts A} (old new : Session D A d a) (s : steps.Session) (asked : Option requests.Request) (result : Result (CowStr Z) Fault) : Type 0 where
+-- what stands with its writer closed, if it has one
+abbrev pub without_writer : steps.Stage → steps.Stage
+without_writer (steps.no_index held) = steps.no_index held
+without_writer (steps.index_of schema settings x) = steps.index_of schema settings (closed_writer x)
+
+-- what want of memory or a limit may leave of what stands: all of it, an index with its writer closed, or, where none was
+-- ready, no index over the same file
+abbrev pub IsLeftStage : steps.Stage → steps.Stage → Type 0
+IsLeftStage old new =
+    (new ≡ old) ⊎ (new ≡ without_writer old)
+    ⊎ ((steps.is_ready old ≡ false) × (new ≡ steps.no_index (steps.held_by old)))
+
+-- and of a session
+abbrev pub IsLeft : steps.Session → steps.Session → Type 0
+IsLeft s t = (t.analysis ≡ s.analysis) × IsLeftStage s.stage t.stage
+
+-- the reply to what was asked is the definitions', and the session stands for what comes after; `Device` has its cause,
+-- and `Limit` is the answer to a commit that would pass the limit; over an honest device the session stands for what
+-- other errors leave
+pub record Replies {D A Z : Type 0} {d : devices.Ghosts D} {a : analyzers.Ghosts A} (old new : Session D A d a)
+    (s : steps.Session) (asked : Option requests.Request) (result : Result (CowStr Z) Fault) : Type 0 where
   pub text : IfOk result (λ text. cow_str_bytes text ≡ reply_of ((steps.step s asked).0))
   pub state : OnOk result (StandsFor new ((steps.step s asked).1))
+  pub honest : honest_of new ≡ honest_of old
   pub failures : HasCause (failures_of old) (failures_of new) result
   pub limit : IsErrOf result faults.Limit → (asked ≡ Some requests.commit_all) × PassesByCommit old s
+  pub left :
+      IsTrue (honest_of old)
+      → IfErr result (λ fault. fault ≢ faults.Device → (t : steps.Session) × IsLeft s t × StandsFor new t)

@@ -12,7 +12,7 @@ ghost use Rattle.definitions.specs.State.{committed};
 ghost use Rattle.definitions.specs.Step as steps;
 ghost use Rattle.definitions.specs.declared.fault.Fault.TheVariants as faults;
 ghost use Rattle.index.specs.AskedRequests.{index_request_of};
-ghost use Rattle.index.specs.Replying.{Answers, GoesOn, change_text};
+ghost use Rattle.index.specs.Replying.{Answers, GoesOn, OnlyStops, change_text};
 ghost use Rattle.engine.specs.Indexes.{IndexStands, IsInFile, KeepsFile, KeepsMaking, PassesLimit, device_of};
 ghost use Rattle.plain.specs.Hits.{hit_of, scored};
 ghost use Rattle.definitions.specs.Replying.{stops};
@@ -47,6 +47,9 @@ pub(crate) fn answer<D: Device + Drop, A: Analyzer + Drop>(
         → OnOk result (IsInFile index.new ((steps.index_step c x (index_request_of request.entry)).1)) }
 
     ensures err { IfErr result (λ fault. IsTrue (stops fault)) }
+    ensures honest { D.honest (device_of index.new) ≡ D.honest (device_of index.old) }
+    ensures left { (c : calls.Configuration) (x : calls.Index) → IndexStands A.analyze index.old c x
+        → IfErr result (λ fault. fault ≢ faults.Device → OnlyStops A.analyze index.old index.new c x) }
     ensures failures { (c : calls.Configuration) (x : calls.Index) → IndexStands A.analyze index.old c x
         → HasCause (D.failed (device_of index.old)) (D.failed (device_of index.new)) result }
     ensures limit { (c : calls.Configuration) (x : calls.Index) → IndexStands A.analyze index.old c x

@@ -1,14 +1,14 @@
 //! A run: the lines of an input, each answered by a session. Its functions stand beside no struct with a ghost field,
 //! since what their contracts cite names the session.
 
-ghost use Rattle.std.specs.Prelude.{◌≡◌, IfErr, IfOk, IfSome, IsErrOf, IsTrue, List, OnOk, Some, ℕ};
+ghost use Rattle.std.specs.Prelude.{◌≡◌, ◌≢◌, IfErr, IfOk, IfSome, IsErrOf, IsTrue, List, OnOk, Some, ℕ};
 ghost use Rattle.std.specs.Cow.{cow_str_bytes};
 ghost use Rattle.definitions.specs.Disk.{HasCause};
 ghost use Rattle.definitions.specs.Lines.{lines_of};
 ghost use Rattle.definitions.specs.Requests as requests;
 ghost use Rattle.definitions.specs.Step as steps;
 ghost use Rattle.definitions.specs.declared.fault.Fault.TheVariants as faults;
-ghost use Rattle.index.specs.Sessions.{HasHeld, PassesByCommit, StandsFor, analysis_of, failures_of, session_on};
+ghost use Rattle.index.specs.Sessions.{HasHeld, IsLeft, PassesByCommit, StandsFor, analysis_of, failures_of, honest_of, session_on};
 ghost use Rattle.definitions.specs.Replying.{Writes, stops};
 ghost use Rattle.serve_lines.specs.Serving.{ServesAll};
 
@@ -47,18 +47,19 @@ pub fn run_session<R: BufRead, W: Write, D: Device + Drop, A: Analyzer + Drop>(
     ensures replies { (s : steps.Session) → StandsFor session.old s
         → OnOk result (IfSome (R.remaining reader.old) (λ input.
         Writes steps.answer_of steps.after_line s (lines_of input) (W.contents writer.old) (W.contents writer.new))) }
-    // Unless the reply of a fault that stops is among them, the session stands for what comes after all lines.
+    // Unless the reply of `Device` is among them, the session stands for what comes after all lines, over an honest device
+    // also where memory was wanted or a limit met; so the file has what is committed then.
     ensures stands { (s : steps.Session) → StandsFor session.old s
         → OnOk result (IfSome (R.remaining reader.old) (λ input.
-        ServesAll steps.answer_of steps.after_line (StandsFor session.new) s (lines_of input)
-        (W.contents writer.old) (W.contents writer.new))) }
+        ServesAll steps.answer_of steps.after_line IsLeft (IsTrue (honest_of session.old)) (StandsFor session.new) s
+        (lines_of input) (W.contents writer.old) (W.contents writer.new))) }
 {
     serve_lines::run(session.alloc, reader, writer, session)
 }
 
 /// The reply to one line of JSON, and what the session stands for after it. `OutOfMemory`, `Limit` and `Device` are
-/// the errors: after one the session need not stand for any state. `Device` comes only where the device failed, and
-/// `Limit` only where a commit was asked for whose record would pass the limit of a file.
+/// the errors. `Device` comes only where the device failed, and after it the session need not stand for any state;
+/// `Limit` comes only where a commit was asked for whose record would pass the limit of a file.
 pub fn reply<D: Device + Drop, A: Analyzer + Drop>(
     session: &mut Session<D, A>,
     line: &str,
@@ -73,6 +74,10 @@ pub fn reply<D: Device + Drop, A: Analyzer + Drop>(
     ensures limit { (s : steps.Session) → StandsFor session.old s → IsErrOf result faults.Limit
         → (steps.line_request line.now ≡ Some requests.commit_all) × PassesByCommit session.old s }
     ensures err { IfErr result (λ fault. IsTrue (stops fault)) }
+    // Over an honest device what is committed stays, and stays in the file.
+    ensures left { (s : steps.Session) → StandsFor session.old s → IsTrue (honest_of session.old)
+        → IfErr result (λ fault. fault ≢ faults.Device → (t : steps.Session) × IsLeft s t × StandsFor session.new t) }
+    ensures honest { honest_of session.new ≡ honest_of session.old }
 {
     session.answer_line(line)
 }

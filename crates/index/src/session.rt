@@ -36,12 +36,13 @@ pub struct Session<D: Device, A: Analyzer> {
 }
 
 impl<D: Device + Drop, A: Analyzer + Drop> Session<D, A> {
-    ghost use Rattle.index.specs.Sessions.{HasHeld, IsKnown, IsSpare, StandsFor, analysis_of, session_of, session_on};
+    ghost use Rattle.index.specs.Sessions.{HasHeld, IsKnown, IsSpare, StandsFor, analysis_of, parts_of, session_of, session_on};
 
     /// A session over a device, in which no index stands.
     pub fn new(alloc: Global, device: D, analyzer: A) -> Session<D, A>
-        ensures { (held : steps.Held) → HasHeld D.honest D.content device held
+        ensures stands { (held : steps.Held) → HasHeld D.honest D.content device held
             → StandsFor result (session_on (analysis_of A.knows_name A.analyze analyzer) held) }
+        ensures parts { parts_of result ≡ Some (device, analyzer) }
     {
         Session {
             alloc,
@@ -51,13 +52,14 @@ impl<D: Device + Drop, A: Analyzer + Drop> Session<D, A> {
 
     /// A session in which this index stands.
     pub fn with_index(index: Index<D, A>) -> Session<D, A>
-        ensures { (x : calls.Index)
+        ensures stands { (x : calls.Index)
             → IndexStands A.analyze index
             (steps.configuration_of (schema_of index) (A.analyze (analyzer_of index)) (settings_of index)) x
             → IsInFile index x
             → IsKnown D.honest D.content (device_of index) (schema_of index) (settings_of index) x
             → StandsFor result (session_of (analysis_of A.knows_name A.analyze (analyzer_of index))
             (schema_of index) (settings_of index) x) }
+        ensures parts { parts_of result ≡ Some (device_of index, analyzer_of index) }
     {
         Session {
             alloc: index.alloc(),
@@ -67,8 +69,9 @@ impl<D: Device + Drop, A: Analyzer + Drop> Session<D, A> {
 
     /// The device and the analyzer, whatever stands; what waits is dropped.
     pub fn into_device(self) -> (D, A)
+        ensures parts { parts_of self ≡ Some result }
         // An honest device holds what is committed, so that a session over it, once its index is open, answers the same.
-        ensures { (s : steps.Session) → StandsFor self s → IsTrue (D.honest result.0)
+        ensures held { (s : steps.Session) → StandsFor self s → IsTrue (D.honest result.0)
             → IsSpare D.honest D.content A.knows_name A.analyze s.analysis result.0 result.1 (steps.held_by s.stage) }
     {
         let Session { stage, .. } = self;
@@ -81,7 +84,7 @@ impl<D: Device + Drop, A: Analyzer + Drop> Session<D, A> {
 
 impl<D: Device + Drop, A: Analyzer + Drop> Service for Session<D, A> {
     ghost use Rattle.definitions.specs.Step as steps;
-    ghost use Rattle.index.specs.Sessions.{StandsFor};
+    ghost use Rattle.index.specs.Sessions.{IsLeft, StandsFor, honest_of};
 
     ghost State = { steps.Session };
 
@@ -91,18 +94,23 @@ impl<D: Device + Drop, A: Analyzer + Drop> Service for Session<D, A> {
 
     ghost after = { steps.after_line };
 
+    ghost leaves = { IsLeft };
+
+    ghost lasts = { honest_of };
+
     fn reply(&mut self, line: &str) -> Result<CowStr<'static>, Fault> {
         self.answer_line(line)
     }
 }
 
 impl<D: Device + Drop, A: Analyzer + Drop> Session<D, A> {
-    ghost use Rattle.index.specs.Sessions.{LeavesStage, Replies, StandsFor, failures_of};
+    ghost use Rattle.index.specs.Sessions.{LeavesStage, Replies, StandsFor, failures_of, honest_of};
 
     /// Answers a line.
     pub(crate) fn answer_line(&mut self, line: &str) -> Result<CowStr<'static>, Fault>
         ensures answered { (s : steps.Session) → StandsFor self.old s
             → Replies self.old self.new s (steps.line_request line.now) result }
+        ensures honest { honest_of self.new ≡ honest_of self.old }
         ensures err { IfErr result (λ fault. IsTrue (stops fault)) }
     {
         match parse_line(self.alloc, line)? {
@@ -115,6 +123,7 @@ impl<D: Device + Drop, A: Analyzer + Drop> Session<D, A> {
     fn answer_value(&mut self, json: &Json) -> Result<CowStr<'static>, Fault>
         ensures answered { (s : steps.Session) → StandsFor self.old s
             → Replies self.old self.new s (built_request_in (view json.now)) result }
+        ensures honest { honest_of self.new ≡ honest_of self.old }
         ensures err { IfErr result (λ fault. IsTrue (stops fault)) }
     {
         match request_in(json) {
@@ -127,6 +136,7 @@ impl<D: Device + Drop, A: Analyzer + Drop> Session<D, A> {
     fn answer(&mut self, request: Request<'_>) -> Result<CowStr<'static>, Fault>
         ensures answered { (s : steps.Session) → StandsFor self.old s
             → Replies self.old self.new s (Some (request_of request.entry)) result }
+        ensures honest { honest_of self.new ≡ honest_of self.old }
         ensures err { IfErr result (λ fault. IsTrue (stops fault)) }
     {
         match request {
@@ -141,6 +151,7 @@ impl<D: Device + Drop, A: Analyzer + Drop> Session<D, A> {
         ensures answered { (s : steps.Session) → StandsFor self.old s
             → Replies self.old self.new s
             (Some (requests.create_index (view schema.now) (option_map (λ d. view d.now) settings.entry))) result }
+        ensures honest { honest_of self.new ≡ honest_of self.old }
         ensures err { IfErr result (λ fault. IsTrue (stops fault)) }
     {
         if self.has_ready_index() {
@@ -156,6 +167,7 @@ impl<D: Device + Drop, A: Analyzer + Drop> Session<D, A> {
     fn open(&mut self) -> Result<CowStr<'static>, Fault>
         ensures answered { (s : steps.Session) → StandsFor self.old s
             → Replies self.old self.new s (Some requests.open_index) result }
+        ensures honest { honest_of self.new ≡ honest_of self.old }
         ensures err { IfErr result (λ fault. IsTrue (stops fault)) }
     {
         if self.has_ready_index() {
@@ -168,6 +180,7 @@ impl<D: Device + Drop, A: Analyzer + Drop> Session<D, A> {
     fn ask(&mut self, request: IndexRequest<'_>) -> Result<CowStr<'static>, Fault>
         ensures answered { (s : steps.Session) → StandsFor self.old s
             → Replies self.old self.new s (Some (index_request_of request.entry)) result }
+        ensures honest { honest_of self.new ≡ honest_of self.old }
         ensures err { IfErr result (λ fault. IsTrue (stops fault)) }
     {
         match &mut self.stage {
@@ -180,8 +193,9 @@ impl<D: Device + Drop, A: Analyzer + Drop> Session<D, A> {
     /// Makes an index of these in place of what stands.
     fn make(&mut self, schema: Schema, settings: Settings) -> Result<(), Fault>
         ensures left { (s : steps.Session) → StandsFor self.old s → steps.is_ready s.stage ≡ false
-            → LeavesStage A.knows_name A.analyze s.analysis self.new.stage result
+            → LeavesStage A.knows_name A.analyze s.analysis (steps.held_by s.stage) self.new.stage result
             (steps.created s.analysis.knows schema settings (steps.held_by s.stage)) }
+        ensures honest { honest_of self.new ≡ honest_of self.old }
         ensures failures { HasCause (failures_of self.old) (failures_of self.new) result }
         ensures limit { ¬ IsErrOf result faults.Limit }
     {
@@ -196,8 +210,9 @@ impl<D: Device + Drop, A: Analyzer + Drop> Session<D, A> {
     /// Opens the index of the device's file in place of what stands.
     fn reopen(&mut self) -> Result<(), Fault>
         ensures left { (s : steps.Session) → StandsFor self.old s → steps.is_ready s.stage ≡ false
-            → LeavesStage A.knows_name A.analyze s.analysis self.new.stage result
+            → LeavesStage A.knows_name A.analyze s.analysis (steps.held_by s.stage) self.new.stage result
             (steps.opened s.analysis.knows (steps.held_by s.stage)) }
+        ensures honest { honest_of self.new ≡ honest_of self.old }
         ensures failures { HasCause (failures_of self.old) (failures_of self.new) result }
         ensures limit { (s : steps.Session) → StandsFor self.old s → steps.is_ready s.stage ≡ false
             → ¬ IsErrOf result faults.Limit }

@@ -5,7 +5,7 @@ ghost use Rattle.definitions.specs.Disk.{HasCause};
 ghost use Rattle.definitions.specs.Step as steps;
 ghost use Rattle.definitions.specs.declared.fault.Fault.TheVariants as faults;
 ghost use Rattle.engine.specs.Standing.{status_of};
-ghost use Rattle.index.specs.Sessions.{IsSpare, IsStage, LeavesStage, device_on, left_by};
+ghost use Rattle.index.specs.Sessions.{IsSpare, IsStage, LeavesStage, analyzer_on, device_on, left_by};
 
 use common::{Analyzer, Device};
 use definitions::Fault;
@@ -44,8 +44,9 @@ impl<D: Device + Drop, A: Analyzer + Drop> Stage<D, A> {
     ) -> (Stage<D, A>, Result<(), Fault>)
         ensures left { (a : steps.Analysis) (s : steps.Stage) → IsStage A.knows_name A.analyze a self s
             → steps.is_ready s ≡ false
-            → LeavesStage A.knows_name A.analyze a (Some result.0) result.1
+            → LeavesStage A.knows_name A.analyze a (steps.held_by s) (Some result.0) result.1
             (steps.created a.knows schema settings (steps.held_by s)) }
+        ensures honest { D.honest (device_on result.0) ≡ D.honest (device_on self) }
         ensures failures { HasCause (D.failed (device_on self)) (D.failed (device_on result.0)) result.1 }
         ensures limit { ¬ IsErrOf result.1 faults.Limit }
     {
@@ -57,7 +58,9 @@ impl<D: Device + Drop, A: Analyzer + Drop> Stage<D, A> {
     pub(crate) fn open(self, alloc: Global) -> (Stage<D, A>, Result<(), Fault>)
         ensures left { (a : steps.Analysis) (s : steps.Stage) → IsStage A.knows_name A.analyze a self s
             → steps.is_ready s ≡ false
-            → LeavesStage A.knows_name A.analyze a (Some result.0) result.1 (steps.opened a.knows (steps.held_by s)) }
+            → LeavesStage A.knows_name A.analyze a (steps.held_by s) (Some result.0) result.1
+            (steps.opened a.knows (steps.held_by s)) }
+        ensures honest { D.honest (device_on result.0) ≡ D.honest (device_on self) }
         ensures failures { HasCause (D.failed (device_on self)) (D.failed (device_on result.0)) result.1 }
         ensures limit { (a : steps.Analysis) (s : steps.Stage) → IsStage A.knows_name A.analyze a self s
             → steps.is_ready s ≡ false → ¬ IsErrOf result.1 faults.Limit }
@@ -69,6 +72,7 @@ impl<D: Device + Drop, A: Analyzer + Drop> Stage<D, A> {
     /// The device and the analyzer. An index that stands is dropped, and what waits in it is lost.
     pub(crate) fn into_device(self) -> (D, A)
         ensures device { result.0 ≡ device_on self }
+        ensures analyzer { result.1 ≡ analyzer_on self }
         ensures held { (a : steps.Analysis) (s : steps.Stage) → IsStage A.knows_name A.analyze a self s
             → IsTrue (D.honest result.0)
             → IsSpare D.honest D.content A.knows_name A.analyze a result.0 result.1 (steps.held_by s) }

@@ -1,4 +1,4 @@
-use Rattle.std.proofs.Common.{OnOk, Some, ap, false, inr, refl, subst, sym, ◌≡◌, ◌≢◌, ◌⊎◌}
+use Rattle.std.proofs.Common.{OnOk, Some, ap, false, inl, inr, refl, subst, sym, ◌≡◌, ◌≢◌, ◌⊎◌}
 use Rattle.definitions.specs.Calls as calls
 use Rattle.definitions.specs.Disk.{HasCause}
 use Rattle.definitions.specs.Replying.{stops}
@@ -7,10 +7,11 @@ use Rattle.definitions.specs.Step as steps
 use Rattle.definitions.specs.declared.fault.Fault.TheVariants as faults
 use Rattle.engine.specs.Indexes.{IndexStands, IsInFile, KeepsFile, device_of}
 use Rattle.index.specs.AskedRequests.{index_request_of}
-use Rattle.index.specs.Replying.{Answers}
+use Rattle.index.specs.Replying.{Answers, OnlyStops}
 use Rattle.index.proofs.Answering.{add_refused, change_answers, commit_kept, commit_refused, err_weaker}
 use Rattle.index.proofs.Causes.{any_answer, call_goes_on, change_is_memory, memory_cause, memory_no_limit, same_cause, same_error}
 use Rattle.index.proofs.IndexFiles.{added_same, added_status, commit_in_file, counted_still, in_file_still, searched_still}
+use Rattle.index.proofs.Leavings.{any_error, reply_stops}
 use Rattle.serde_json.specs.View.{view}
 use Rattle.index.proofs.answers.answer.Goals as goal
 
@@ -47,6 +48,15 @@ returns-in-Add-clause-limit g c k x s limit =
     let on = err_weaker c.add_value.result (λ fault. fault ≢ faults.OutOfMemory → calls.call_fault k x call ≡ Some fault) (λ fault. fault ≢ faults.OutOfMemory → stops fault ≡ false) (λ fault refused other. call_goes_on k x call fault (refused other)) (c.add_value.ensures.exact k x s) in
     absurd (memory_no_limit c.answer_change.result (change_is_memory c.add_value.result c.answer_change.result on c.answer_change.ensures.same c.answer_change.ensures.err) limit)
 
+pub returns-in-Add-clause-honest : goal.returns-in-Add-clause-honest
+returns-in-Add-clause-honest g c = ap g.D.Device.honest c.add_value.ensures.file.0
+
+pub returns-in-Add-clause-left : goal.returns-in-Add-clause-left
+returns-in-Add-clause-left g c k x s =
+    let old = c.args.index.now in
+    let new = c.add_value.new.self in
+    reply_stops g.A.Analyzer.analyze new k x old (calls.add_value (view c.in-Add.doc.now)) c.add_value.result c.answer_change.result c.answer_change.ensures.same (c.add_value.ensures.left k x s) (any_error c.add_value.result (KeepsFile old new) c.add_value.ensures.file)
+
 -- ---- a commit
 
 pub returns-in-Commit-clause-answered : goal.returns-in-Commit-clause-answered
@@ -72,6 +82,10 @@ pub returns-in-Commit-clause-limit : goal.returns-in-Commit-clause-limit
 returns-in-Commit-clause-limit g c k x s limit =
     (ap index_request_of c.in-Commit.is, c.commit.ensures.limit k x s (same_error c.commit.result c.answer_change-in-Commit.result faults.Limit c.answer_change-in-Commit.ensures.same limit))
 
+pub returns-in-Commit-clause-left : goal.returns-in-Commit-clause-left
+returns-in-Commit-clause-left g c k x s =
+    reply_stops g.A.Analyzer.analyze c.commit.new.self k x c.args.index.now calls.commit_pending c.commit.result c.answer_change-in-Commit.result c.answer_change-in-Commit.ensures.same (c.commit.ensures.left k x s) c.commit.ensures.kept
+
 -- ---- a search
 
 pub returns-in-Search-clause-kept : goal.returns-in-Search-clause-kept
@@ -90,6 +104,11 @@ returns-in-Search-clause-failures g c k x s = memory_cause (g.D.Device.failed (d
 pub returns-in-Search-clause-limit : goal.returns-in-Search-clause-limit
 returns-in-Search-clause-limit g c k x s limit = absurd (memory_no_limit c.search.result (c.search.ensures.err k x s) limit)
 
+pub returns-in-Search-clause-left : goal.returns-in-Search-clause-left
+returns-in-Search-clause-left g c k x s =
+    let index = c.args.index.now in
+    any_error c.search.result (OnlyStops g.A.Analyzer.analyze index index k x) (record { file = (refl, refl); stands = inl s })
+
 -- ---- a count
 
 pub returns-in-Count-clause-kept : goal.returns-in-Count-clause-kept
@@ -107,3 +126,8 @@ returns-in-Count-clause-failures g c k x s = memory_cause (g.D.Device.failed (de
 
 pub returns-in-Count-clause-limit : goal.returns-in-Count-clause-limit
 returns-in-Count-clause-limit g c k x s limit = absurd (memory_no_limit c.count.result (c.count.ensures.err k x s) limit)
+
+pub returns-in-Count-clause-left : goal.returns-in-Count-clause-left
+returns-in-Count-clause-left g c k x s =
+    let index = c.args.index.now in
+    any_error c.count.result (OnlyStops g.A.Analyzer.analyze index index k x) (record { file = (refl, refl); stands = inl s })

@@ -11,3 +11,6 @@ returns-clause-failures g c s h = (c.answer_line.ensures.answered s h).failures
 
 pub returns-clause-limit : goal.returns-clause-limit
 returns-clause-limit g c s h = (c.answer_line.ensures.answered s h).limit
+
+pub returns-clause-left : goal.returns-clause-left
+returns-clause-left g c s h honest = (c.answer_line.ensures.answered s h).left honest

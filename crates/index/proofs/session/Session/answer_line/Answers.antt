@@ -6,7 +6,7 @@ use Rattle.serde_json.specs.View.{view}
 use Rattle.index.proofs.session.Session.answer_line.Goals as goal
 
 pub returns-in_err-json-clause-answered : goal.returns-in_err-json-clause-answered
-returns-in_err-json-clause-answered g c s h = memory_reply s c.args.self.now (steps.line_request c.args.line.now) c.from_residual.result c.from_residual.ensures.1
+returns-in_err-json-clause-answered g c s h = memory_reply s c.args.self.now (steps.line_request c.args.line.now) c.from_residual.result h c.from_residual.ensures.1
 
 pub returns-in-Some-clause-answered : goal.returns-in-Some-clause-answered
 returns-in-Some-clause-answered g c s h =

@@ -5,7 +5,7 @@ use Rattle.definitions.specs.declared.fault.Fault.TheVariants as faults
 use Rattle.definitions.specs.Replying.{stops}
 use Rattle.index.proofs.Answering.{going_on}
 use Rattle.index.proofs.Causes.{stop_is_memory, unread_goes_on}
-use Rattle.index.proofs.SessionSteps.{already_made, on_map, refused_reply, unread_step}
+use Rattle.index.proofs.SessionSteps.{already_made, created_step, on_map, refused_reply, replied, unread_step}
 use Rattle.serde_json.specs.View.{view}
 use Rattle.index.proofs.session.Session.create.Goals as goal
 
@@ -27,3 +27,11 @@ returns-in-Err-clause-answered g c s h =
     (λ on. unread_step s d more fault not_ready (c.in-Err.ensures.err (going_on fault faults.OutOfMemory on refl))) c.refusal.ensures.on)
     c.refusal.ensures.text
     (stop_is_memory fault c.refusal.result (λ other. unread_goes_on d more fault (c.in-Err.ensures.err other)) c.refusal.ensures.same c.refusal.ensures.err)
+
+pub returns-in-Ok-clause-answered : goal.returns-in-Ok-clause-answered
+returns-in-Ok-clause-answered g c s h =
+    let d = view c.args.schema.now in
+    let more = option_map (λ x. view x.now) c.args.settings in
+    let not_ready : steps.is_ready s.stage ≡ false = sym (c.if-has_ready_index.ensures s h) in
+    replied s c.args.self.now c.make.new.self c.make.result c.answer_change.result _ (requests.create_index d more) not_ready (created_step s d more _ _ not_ready c.in-Ok.ensures.ok.0 c.in-Ok.ensures.ok.1) (c.make.ensures.left s h not_ready)
+    c.answer_change.ensures.text c.answer_change.ensures.on c.answer_change.ensures.same c.make.ensures.honest c.make.ensures.failures c.make.ensures.limit

@@ -1,11 +1,17 @@
-use Rattle.std.proofs.Common.{sym, true, ◌≡◌}
+use Rattle.std.proofs.Common.{false, sym, true, ◌≡◌}
 use Rattle.definitions.specs.Requests as requests
 use Rattle.definitions.specs.Step as steps
 use Rattle.definitions.specs.declared.fault.Fault.TheVariants as faults
-use Rattle.index.proofs.SessionSteps.{already_opened, refused_reply}
+use Rattle.index.proofs.SessionSteps.{already_opened, opened_step, refused_reply, replied}
 use Rattle.index.proofs.session.Session.open.Goals as goal
 
 pub returns-then-has_ready_index-clause-answered : goal.returns-then-has_ready_index-clause-answered
 returns-then-has_ready_index-clause-answered g c s h =
     let ready : steps.is_ready s.stage ≡ true = sym (c.if-has_ready_index.ensures s h) in
     refused_reply s c.args.self.now faults.AlreadyOpen _ requests.open_index h (already_opened s ready) c.reply.ensures tt
+
+pub returns-clause-answered : goal.returns-clause-answered
+returns-clause-answered g c s h =
+    let not_ready : steps.is_ready s.stage ≡ false = sym (c.if-has_ready_index.ensures s h) in
+    replied s c.args.self.now c.reopen.new.self c.reopen.result c.answer_change.result (steps.opened s.analysis.knows (steps.held_by s.stage)) requests.open_index not_ready (opened_step s not_ready) (c.reopen.ensures.left s h not_ready)
+    c.answer_change.ensures.text c.answer_change.ensures.on c.answer_change.ensures.same c.reopen.ensures.honest c.reopen.ensures.failures (c.reopen.ensures.limit s h not_ready)

@@ -5,3 +5,6 @@ returns-clause-text g c s h = (c.answer_line.ensures.answered s h).text
 
 pub returns-clause-state : goal.returns-clause-state
 returns-clause-state g c s h = (c.answer_line.ensures.answered s h).state
+
+pub returns-clause-left : goal.returns-clause-left
+returns-clause-left g c s h honest = (c.answer_line.ensures.answered s h).left honest

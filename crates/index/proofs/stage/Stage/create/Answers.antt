@@ -1,19 +1,25 @@
-use Rattle.std.proofs.Common.{Some, subst, sym}
+use Rattle.std.proofs.Common.{Some, subst, sym, ◌≡◌}
 use Rattle.definitions.specs.Disk.{HasCause}
 use Rattle.definitions.specs.Step as steps
 use Rattle.definitions.specs.declared.fault.Fault.TheVariants as faults
 use Rattle.std.specs.Prelude.{IsErrOf}
 use Rattle.index.specs.Sessions.{LeavesStage, device_on}
-use Rattle.index.proofs.Stages.{create_left, made_no_limit, stage_failures}
+use Rattle.index.proofs.Stages.{create_left, made_no_limit, stage_failures, stage_honest}
 use Rattle.index.proofs.stage.Stage.create.Goals as goal
 
 pub returns-clause-left : goal.returns-clause-left
 returns-clause-left g c a s h not_ready =
     let knows = g.A.Analyzer.knows_name in
     let analyze = g.A.Analyzer.analyze in
-    subst (λ r. LeavesStage knows analyze a (Some r.0) r.1 (steps.created a.knows c.args.schema c.args.settings (steps.held_by s))) (sym c.leave.ensures)
+    subst (λ r. LeavesStage knows analyze a (steps.held_by s) (Some r.0) r.1 (steps.created a.knows c.args.schema c.args.settings (steps.held_by s))) (sym c.leave.ensures)
     (create_left g.D.Device knows analyze a c.into_device-device.result.0 c.into_device-device.result.1 (steps.held_by s) c.args.schema c.args.settings c.create.result (c.into_device-device.ensures.spare a s h not_ready)
     c.create.ensures.made c.create.ensures.empty c.create.ensures.ok c.create.ensures.of c.create.ensures.exact c.create.ensures.analyzer c.create.ensures.honest c.create.ensures.not_empty c.create.ensures.kept c.create.ensures.rests)
+
+pub returns-clause-honest : goal.returns-clause-honest
+returns-clause-honest g c =
+    let d = g.D.Device in
+    subst (λ r. d.honest (device_on r.0) ≡ d.honest (device_on c.args.self)) (sym c.leave.ensures)
+    (stage_honest (device_on c.args.self) c.into_device-device.result.0 c.create.result c.into_device-device.ensures.device c.create.ensures.honest)
 
 pub returns-clause-failures : goal.returns-clause-failures
 returns-clause-failures g c =
