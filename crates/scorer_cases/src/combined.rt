@@ -27,7 +27,7 @@ pub(crate) fn combined(alloc: Global, arguments: &Arguments) -> Result<Value, Re
 }
 
 /// What a combiner that has taken no score makes of scores.
-fn score_of<C: ScoreCombiner>(
+pub(crate) fn score_of<C: ScoreCombiner>(
     alloc: Global,
     combiner: C,
     scores: &[Value],
@@ -48,7 +48,7 @@ fn score_of<C: ScoreCombiner>(
 }
 
 /// Takes the score of a document.
-fn take_score<C: ScoreCombiner>(
+pub(crate) fn take_score<C: ScoreCombiner>(
     alloc: Global,
     combiner: &mut C,
     score: Score,

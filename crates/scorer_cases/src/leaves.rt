@@ -18,7 +18,7 @@ pub(crate) fn all(alloc: Global, arguments: &Arguments) -> Result<Value, Refusal
 }
 
 /// A scorer of all documents below a number.
-fn all_below(max_doc: u32) -> Result<AllScorer, Refusal> {
+pub(crate) fn all_below(max_doc: u32) -> Result<AllScorer, Refusal> {
     if max_doc > TERMINATED {
         return Err(Refusal::NotAsked);
     }
@@ -52,7 +52,7 @@ pub(crate) fn documents(alloc: Global, arguments: &Arguments) -> Result<Value, R
 }
 
 /// Whether documents ascend from one on, below the end.
-fn ascend(docs: &[DocId], least: DocId) -> bool
+pub(crate) fn ascend(docs: &[DocId], least: DocId) -> bool
     requires { least ≤ 2147483647 }
     ensures { result ≡ true → AreScoredFrom least (each_scoring 0 docs.now) }
 {

@@ -2,6 +2,8 @@
 //! input is a case, an operation and its arguments, and the line of standard output with the same number is its answer.
 #![tactic(auto)]
 
+mod asked;
+mod changed;
 mod combinators;
 mod combined;
 mod given_lists;

@@ -1,6 +1,6 @@
 //! Operations by their names.
 
-use crate::{combinators, combined, leaves, terms};
+use crate::{asked, changed, combinators, combined, leaves, terms};
 use case_lines::{Arguments, Operations, Refusal};
 use serde_json::Value;
 use std::alloc::Global;
@@ -30,6 +30,12 @@ impl Operations for ScorerOperations {
             "exclude-one" => combinators::exclude_one(alloc, arguments),
             "required-optional" => combinators::required_optional(alloc, arguments),
             "wrapped" => combinators::wrapped(alloc, arguments),
+            "cleared" => changed::cleared(alloc, arguments),
+            "boosted" => changed::boosted(alloc, arguments),
+            "reason" => changed::reason(alloc, arguments),
+            "alive" => asked::alive(alloc, arguments),
+            "list-len" => asked::list_len(alloc, arguments),
+            "term-moves" => terms::moves(alloc, arguments),
             "term-scores" => terms::scores(alloc, arguments),
             "term-explained" => terms::explained(alloc, arguments),
             _ => Err(Refusal::NotAsked),

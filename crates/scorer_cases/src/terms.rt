@@ -8,6 +8,7 @@ ghost use Rattle.segment_postings.specs.Cursors.{entries_left};
 ghost use Rattle.segment_postings.specs.Reading.{HasPostings};
 ghost use Rattle.term_scorer.specs.ScoredTerms.{scored_left};
 
+use crate::moves::moved;
 use crate::written_terms::{opened, written};
 use case_lines::{Arguments, Refusal, number};
 use common::{MAX_SCORE, Score, TERMINATED};
@@ -26,6 +27,7 @@ const MOST: usize = 1000;
 enum Asked {
     Scores,
     Explanation,
+    Moves,
 }
 
 /// Each document with its count, its length id and its score, and then the greatest score.
@@ -36,6 +38,11 @@ pub(crate) fn scores(alloc: Global, arguments: &Arguments) -> Result<Value, Refu
 /// The explanation of the first document's score.
 pub(crate) fn explained(alloc: Global, arguments: &Arguments) -> Result<Value, Refusal> {
     told(alloc, arguments, Asked::Explanation)
+}
+
+/// What each move of a scorer answers.
+pub(crate) fn moves(alloc: Global, arguments: &Arguments) -> Result<Value, Refusal> {
+    told(alloc, arguments, Asked::Moves)
 }
 
 /// What a scorer tells, made of whether counts are read, documents with counts, their length ids if their field keeps
@@ -64,6 +71,7 @@ fn told(alloc: Global, arguments: &Arguments, asked: Asked) -> Result<Value, Ref
     match asked {
         Asked::Scores => rows(alloc, &mut scorer),
         Asked::Explanation => explanation(alloc, &scorer),
+        Asked::Moves => moved(alloc, &mut scorer, arguments.list(6)?),
     }
 }
 

@@ -1,0 +1,2 @@
+-- Lemmas behind the cases.
+pub mod GreatestOnes
