@@ -58,7 +58,7 @@ fn sections_with(
     let mut indexer = DocumentIndexer::for_schema(alloc, schema)?;
     index_all(&mut indexer, schema, &RawAndDefault, docs)?;
     let num_docs = indexer.num_docs();
-    let lengths = FieldNormReaders::open(alloc, lengths, num_docs, fields)?;
+    let lengths = FieldNormReaders::open(lengths, num_docs, fields)?;
     let serializer = InvertedIndexSerializer::open(alloc)?;
     let writer = indexer.postings_writer();
     let (terms, postings, positions) = writer.serialize(schema, &lengths, serializer)?.close();
@@ -96,7 +96,7 @@ fn opened_with(
     if num_docs > MAX_DOCS {
         return Err(Fault::Limit);
     }
-    let lengths = FieldNormReaders::open(alloc, lengths, num_docs, fields)?;
+    let lengths = FieldNormReaders::open(lengths, num_docs, fields)?;
     InvertedIndexReader::open(
         alloc,
         schema,

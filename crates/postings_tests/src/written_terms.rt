@@ -53,7 +53,7 @@ fn sections(alloc: Global, schema: &Schema, texts: &[&str]) -> Result<Sections, 
     let mut stream = PreTokenizedStream::new(&tokens);
     let mut writer = PostingsWriter::for_schema(alloc, schema)?;
     writer.index_text(schema, 0, &mut term_buffer, &mut stream, 0, 1)?;
-    let readers = FieldNormReaders::open(alloc, &NORMS, 1, &[0])?;
+    let readers = FieldNormReaders::open(&NORMS, 1, &[0])?;
     let serializer = InvertedIndexSerializer::open(alloc)?;
     let serializer = writer.serialize(schema, &readers, serializer)?;
     Ok(serializer.close())
