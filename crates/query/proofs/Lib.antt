@@ -1,0 +1,3 @@
+-- Lemmas on query trees.
+pub mod OffsetOrder
+pub mod Clauses

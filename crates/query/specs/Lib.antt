@@ -1,0 +1,5 @@
+-- What query trees are, as the definitions have them.
+pub mod PhraseTerms
+pub mod QueryCodes
+pub mod Queries
+pub mod QueryDepths
