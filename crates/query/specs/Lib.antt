@@ -3,3 +3,4 @@ pub mod PhraseTerms
 pub mod QueryCodes
 pub mod Queries
 pub mod QueryDepths
+pub mod Ranges
