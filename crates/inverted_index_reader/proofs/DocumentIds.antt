@@ -1,12 +1,11 @@
 -- The length ids of documents, as the fields keep them.
-use Rattle.std.proofs.Common.{[], Bool, List, None, Option, Some, ap, arith, cond, false, filter, find, length, map, option_map, refl, sym, true, zero, suc, ◌+◌, ◌<◌, ◌==◌, ◌/◌, ◌≡◌, ◌∙◌, ◌∷◌, ℕ, slice_get}
+use Rattle.std.proofs.Common.{[], Bool, List, None, Option, Some, ap, arith, cond, false, filter, find, map, option_map, refl, true, zero, suc, ◌+◌, ◌<◌, ◌==◌, ◌≡◌, ◌∙◌, ◌∷◌, ℕ, slice_get}
 use Rattle.std.proofs.lemmas.Bool.Decides.{nat_tests}
 use Rattle.std.specs.List.{enumerate_from}
 use Rattle.std.specs.Option.{option_map_or}
 use Rattle.std.specs.Prelude.{slice_index_or}
 use Rattle.definitions.specs.Analyzers.{Analyzer}
-use Rattle.definitions.specs.Blocks.{block_len}
-use Rattle.definitions.specs.KeptLengths.{length_fields, length_ids, norms_of}
+use Rattle.definitions.specs.KeptLengths.{length_ids, norms_of}
 use Rattle.definitions.specs.Lengths.{fieldnorm_to_id, len_of}
 use Rattle.definitions.specs.Postings.{Posting, postings}
 use Rattle.definitions.specs.Schema.{Entry, IndexRecordOption, Schema, field_has, keeps_length}

@@ -10,7 +10,8 @@ use Rattle.definitions.specs.Schema.{IndexRecordOption, basic, has_freq, has_pos
 use Rattle.layouts.specs.InvertedIndexes.{IsPosting, IsTerm}
 use Rattle.layouts.specs.Positions.{ArePositions, differences, position_numbers}
 use Rattle.layouts.specs.TermPostings.{skip_entries}
-use Rattle.cursors.specs.Entries.{Entry, highest}
+use Rattle.cursors.specs.Entries.{Entry, from, highest}
+use Rattle.cursors.specs.EntryLaws.{from-out}
 use Rattle.segment_postings.specs.Reading.{HasPostings}
 use Rattle.segment_postings.specs.TermEntries.{HasPositions, IsPlaced, entries_of, places, term_entries}
 use Rattle.inverted_index_reader.specs.OpenedTerms.{HasTerm, entries_of_postings, entry_as, positions_asked}
@@ -138,9 +139,9 @@ pub docs_within : (recorded : Bool) (n : ℕ) (ps : List Posting) → AllByRecur
 docs_within recorded n [] all = tt
 docs_within recorded n (p ∷ ps) all = (all.0.within, docs_within recorded n ps all.1)
 
-pub entries_within : (asked : IndexRecordOption) (recorded : Bool) (n : ℕ) (ps : List Posting) → AllByRecursion (IsPosting recorded n) ps → AllByRecursion (λ (e : Entry). e.doc < n) (map (entry_as asked) ps)
-entries_within asked recorded n [] all = tt
-entries_within asked recorded n (p ∷ ps) all = (all.0.within, entries_within asked recorded n ps all.1)
+pub entries_within : (asked : IndexRecordOption) (recorded : Bool) (n : ℕ) (ps : List Posting) → AllByRecursion (IsPosting recorded n) ps → from n (map (entry_as asked) ps) ≡ []
+entries_within asked recorded n [] all = refl
+entries_within asked recorded n (p ∷ ps) all = from-out n (entry_as asked p) (map (entry_as asked) ps) all.0.within ∙ entries_within asked recorded n ps all.1
 
 -- positions as they are put, as many as there are
 many_differences : (before : ℕ) (ns : List ℕ) → length (differences before ns) ≡ length ns

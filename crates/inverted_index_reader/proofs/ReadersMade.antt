@@ -1,6 +1,7 @@
 -- A reader, of what was read and checked.
 use Rattle.std.proofs.Common.{[], List, None, Option, ap, append_assoc, arith, flat_map, length, map, refl, subst, sym, ◌+◌, ◌++◌, ◌<◌, ◌≡◌, ◌≤◌, ◌∙◌, ◌∷◌, ◌^◌, ℕ}
 use Rattle.std.specs.List.{AllByRecursion}
+use Rattle.definitions.specs.Postings.{terminated}
 use Rattle.definitions.specs.Schema.{Schema, max_fields}
 use Rattle.layouts.specs.InvertedIndexes.{AreSections, IndexedField, IndexedTerm, field_terms, indexed_fields}
 use Rattle.layouts.specs.TermSections.{FieldTerms, entry_of_term}
@@ -105,6 +106,18 @@ no_sections schema n norms s lent kinds same shown_are docs a b d none fields ar
 
 pub within_lent : (s : Sections) (lent told : List FieldIndex) → lent ≡ told → AllByRecursion (λ (i : FieldIndex). AllByRecursion (IsWithin s) i.starts.items) told → AllByRecursion (λ (i : FieldIndex). AllByRecursion (IsWithin s) i.starts.items) lent
 within_lent s lent told same all = subst (AllByRecursion (λ (i : FieldIndex). AllByRecursion (IsWithin s) i.starts.items)) (sym same) all
+
+-- ---- sections that are known
+
+abbrev Makes : Schema → List FieldIndex → Sections → Type 0
+Makes schema indexes s = (n : ℕ) (norms : List (ℕ × List ℕ)) (fields : List IndexedField) → n ≤ terminated → AreSections schema n norms fields s.terms s.postings s.positions → IsReader schema n norms fields (record { sections = s; indexes = indexes })
+
+-- what is made of sections that are lent is made of them
+pub known_lent : (schema : Schema) (indexes : List FieldIndex) (terms postings positions lent_terms lent_postings lent_positions : List ℕ) → lent_terms ≡ terms → lent_postings ≡ postings → lent_positions ≡ positions → Makes schema indexes (record { terms = lent_terms; postings = lent_postings; positions = lent_positions }) → Makes schema indexes (record { terms = terms; postings = postings; positions = positions })
+known_lent schema indexes terms postings positions lent_terms lent_postings lent_positions a b d made =
+    subst (λ z. Makes schema indexes (record { terms = terms; postings = postings; positions = z })) d
+    (subst (λ y. Makes schema indexes (record { terms = terms; postings = y; positions = lent_positions })) b
+    (subst (λ x. Makes schema indexes (record { terms = x; postings = lent_postings; positions = lent_positions })) a made))
 
 -- ---- no fields
 

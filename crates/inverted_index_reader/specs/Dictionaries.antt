@@ -1,5 +1,5 @@
 -- Dictionaries: the terms of a field, and where their postings stand.
-use Rattle.std.specs.Prelude.{◌+◌, ◌<◌, ◌^◌, List, map, ℕ}
+use Rattle.std.specs.Prelude.{[], ◌+◌, ◌<◌, ◌^◌, ◌∷◌, List, None, Option, Some, map, ℕ}
 use Rattle.std.specs.List.{AllByRecursion}
 use Rattle.layouts.specs.TermSections.{TermLengths, TermsAscend}
 use Rattle.inverted_index_reader.specs.TakenTerms.{entry_at}
@@ -35,6 +35,24 @@ pub record InfoFits (info : TermInfo) : Type 0 where
 -- terms whose numbers fit
 abbrev pub AllFit : List Placed → Type 0
 AllFit terms = AllByRecursion (λ t. InfoFits t.1) terms
+
+-- a walk over terms: the one on which it stands, if it stands on one, and those that it has before it
+pub record Walked : Type 0 where
+  pub here : Option Placed
+  pub rest : List Placed
+
+-- before the first of these terms
+abbrev pub ahead : List Placed → Walked
+ahead terms = record { here = None; rest = terms }
+
+-- on the first of these terms
+abbrev pub onto : List Placed → Walked
+onto [] = record { here = None; rest = [] }
+onto (t ∷ ts) = record { here = Some t; rest = ts }
+
+-- one term further
+abbrev pub advanced : Walked → Walked
+advanced w = onto w.rest
 
 -- ascending terms, whose numbers fit
 pub record IsDictionary (terms : List Placed) : Type 0 where

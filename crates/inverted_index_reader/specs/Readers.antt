@@ -42,6 +42,14 @@ pub record Contents (r : Reader) : Type 0 where
   pub fields : List IndexedField
   pub is : IsReader schema num_docs norms fields r
 
+-- the sections are in their layout
+pub record AreKnown (schema : Schema) (s : Sections) : Type 0 where
+  pub num_docs : ℕ
+  pub norms : List (ℕ × List ℕ)
+  pub fields : List IndexedField
+  pub docs_few : num_docs ≤ terminated
+  pub are : AreSections schema num_docs norms fields s.terms s.postings s.positions
+
 -- these are the terms of documents, with the lengths that the documents have
 pub record AreOfDocuments (r : Reader) (contents : Contents r) (analyze : Analyzer) (docs : List Document) : Type 0 where
   pub norms_are : contents.norms ≡ norms_of contents.schema analyze docs

@@ -1,10 +1,10 @@
 //! What is kept of fields whose sections were checked whole.
 
-ghost use Rattle.std.specs.Prelude.{◌≡◌, ◌≢◌, ◌≤◌, IfErr, IfOk, List, None, length};
+ghost use Rattle.std.specs.Prelude.{◌≡◌, ◌≢◌, ◌≤◌, IfErr, IfOk, List, None, length, ℕ};
 ghost use Rattle.std.specs.List.{AllByRecursion};
 ghost use Rattle.definitions.specs.Postings.{terminated};
 ghost use Rattle.definitions.specs.declared.fault.Fault.TheVariants as faults;
-ghost use Rattle.inverted_index_reader.specs.Readers.{IsReader};
+ghost use Rattle.inverted_index_reader.specs.Readers.{AreKnown, IsReader};
 ghost use Rattle.layouts.specs.InvertedIndexes.{AreSections, IndexedField};
 
 use crate::checked_terms::check_fields;
@@ -16,7 +16,39 @@ use crate::terms_read::SectionLengths;
 use definitions::Fault;
 use fieldnorms::FieldNormReaders;
 use schema::Schema;
-use std::alloc::Global;
+use std::alloc::{AllocError, Global};
+
+/// What is kept of each field of sections that are known to be in their layout.
+pub(crate) fn known_indexes(
+    alloc: Global,
+    schema: &Schema,
+    terms: &[u8],
+    postings: &[u8],
+    positions: &[u8],
+) -> Result<Vec<FieldIndex>, AllocError>
+    requires { ∥ AreKnown schema.now (record { terms = terms.now; postings = postings.now; positions = positions.now }) ∥₁ }
+    ensures { (num_docs : ℕ) (norms : List (ℕ × List ℕ)) (fields : List IndexedField)
+        → num_docs ≤ terminated
+        → AreSections schema.now num_docs norms fields terms.now postings.now positions.now
+        → IfOk result (λ indexes. IsReader schema.now num_docs norms fields (record { sections = record { terms = terms.now; postings = postings.now; positions = positions.now }; indexes = indexes.items })) }
+{
+    let kinds = field_kinds(alloc, schema)?;
+    let lengths = SectionLengths {
+        postings: postings.len(),
+        positions: positions.len(),
+    };
+    match take_fields(alloc, terms, lengths, &kinds) {
+        Ok(indexes) => Ok(indexes),
+        Err(fault) => Err(want_of_memory(&fault)),
+    }
+}
+
+/// What a refusal is that can be for want of memory alone.
+fn want_of_memory(_fault: &Fault) -> AllocError
+    requires { (_fault.now ≢ faults.OutOfMemory) → ⊥ }
+{
+    AllocError
+}
 
 /// Checks the sections of a segment of so many documents, whose lengths are given, and answers what is kept of
 /// each field.

@@ -1,17 +1,19 @@
 //! An inverted index, read from its sections.
 
-ghost use Rattle.std.specs.Prelude.{[], ◌↔◌, ◌<◌, ◌∷◌, ◌≡◌, ◌≢◌, ◌≤◌, IfErr, IfNone, IfOk, IfSome, IsTrue, List, None, Some, if◌then◌else◌, length, map, option_map, slice_range};
+ghost use Rattle.std.specs.Prelude.{[], ◌↔◌, ◌<◌, ◌∷◌, ◌≡◌, ◌≢◌, ◌≤◌, IfErr, IfNone, IfOk, IfSome, IsTrue, List, None, Some, if◌then◌else◌, length, map, option_map, slice_range, ℕ};
 ghost use Rattle.std.specs.List.{AllByRecursion};
+ghost use Rattle.cursors.specs.Entries.{from};
 ghost use Rattle.definitions.specs.Analyzers.{Analyzer};
 ghost use Rattle.definitions.specs.Postings.{terminated};
 ghost use Rattle.definitions.specs.Schema.{has_freq};
 ghost use Rattle.definitions.specs.Terms.{field_of, payload_of};
 ghost use Rattle.definitions.specs.Values.{Document};
 ghost use Rattle.definitions.specs.declared.fault.Fault.TheVariants as faults;
+ghost use Rattle.inverted_index_reader.specs.Dictionaries.{ahead};
 ghost use Rattle.inverted_index_reader.specs.FieldDictionaries.{IsFound, dictionary_of};
 ghost use Rattle.inverted_index_reader.specs.FieldKinds.{option_in};
 ghost use Rattle.inverted_index_reader.specs.OpenedTerms.{entries_of_postings, entry_as, positions_asked};
-ghost use Rattle.inverted_index_reader.specs.Readers.{AreOfDocuments, Contents, HasKind, IsInfo, IsReader, dictionary_in, full_bounds, index_in, info_in, postings_held, postings_in, term_held, term_in, tokens_held};
+ghost use Rattle.inverted_index_reader.specs.Readers.{AreKnown, AreOfDocuments, Contents, HasKind, IsInfo, IsReader, dictionary_in, full_bounds, index_in, info_in, postings_held, postings_in, term_held, term_in, tokens_held};
 ghost use Rattle.inverted_index_reader.specs.Searching.{between};
 ghost use Rattle.inverted_index_reader.specs.declared.field_index.FieldIndex.{FieldIndex};
 ghost use Rattle.layouts.specs.InvertedIndexes.{AreSections, IndexedField, field_ids, option_of_term, term_of_key};
@@ -22,7 +24,7 @@ ghost use Rattle.terms.specs.Kinds.{kind_of};
 
 use crate::field_index::FieldIndex;
 use crate::field_lookup::index_of;
-use crate::indexes_read::read_indexes;
+use crate::indexes_read::{known_indexes, read_indexes};
 use crate::opened_term::{open_term, open_term_blocks};
 use crate::term_dictionary::TermDictionary;
 use crate::term_info::TermInfo;
@@ -33,7 +35,7 @@ use fieldnorms::FieldNormReaders;
 use options::IndexRecordOption;
 use schema::Schema;
 use segment_postings::{BlockSegmentPostings, SegmentPostings};
-use std::alloc::Global;
+use std::alloc::{AllocError, Global};
 use std::marker::Model;
 use terms::{Field, Term, Type};
 
@@ -69,6 +71,37 @@ impl InvertedIndexReader {
             positions: Bytes::from_static(&[]),
             indexes: Vec::new(alloc),
         }
+    }
+
+    /// The sections of terms, postings and positions of a segment, which are known to be in their layout, since they
+    /// were just written, or checked before. The section of terms is walked once; the others aren't looked at.
+    pub fn new(
+        alloc: Global,
+        schema: &Schema,
+        terms: Bytes,
+        postings: Bytes,
+        positions: Bytes,
+    ) -> Result<InvertedIndexReader, AllocError>
+        requires { ∥ AreKnown schema.now (record { terms = terms; postings = postings; positions = positions }) ∥₁ }
+        ensures sections { IfOk result (λ r. r.sections ≡ record { terms = terms; postings = postings; positions = positions }) }
+        ensures ok { (num_docs : ℕ) (norms : List (ℕ × List ℕ)) (fields : List IndexedField)
+            → num_docs ≤ terminated
+            → AreSections schema.now num_docs norms fields terms postings positions
+            → IfOk result (λ r. IsReader schema.now num_docs norms fields r) }
+    {
+        let indexes = known_indexes(
+            alloc,
+            schema,
+            terms.as_slice(),
+            postings.as_slice(),
+            positions.as_slice(),
+        )?;
+        Ok(InvertedIndexReader {
+            terms,
+            postings,
+            positions,
+            indexes,
+        })
     }
 
     /// Reads the sections of terms, postings and positions of a segment of so many documents, whose lengths are
@@ -125,12 +158,22 @@ impl InvertedIndexReader {
         }
     }
 
-    /// The terms of a field from a start on that stand before an end, if there is one, by their value bytes.
-    pub fn range(&self, field: Field, start: &[u8], end: Option<&[u8]>) -> TermRange<'_>
-        ensures own { result ≡ between start.now (option_map (λ key. key.now) end.entry) (dictionary_in self.now field) }
-        ensures ok { (contents : Contents self.now) → result ≡ between start.now (option_map (λ key. key.now) end.entry) (dictionary_of 0 0 field contents.fields) }
+    /// The terms of a field from a start on that stand before an end, if there is one, by their value bytes. Where
+    /// each key stands whole in its section, as it does today, no memory is taken.
+    pub fn range(
+        &self,
+        alloc: Global,
+        field: Field,
+        start: &[u8],
+        end: Option<&[u8]>,
+    ) -> Result<TermRange<'_>, AllocError>
+        ensures own { IfOk result (λ range. range
+            ≡ ahead (between start.now (option_map (λ key. key.now) end.entry) (dictionary_in self.now field))) }
+        ensures ok { (contents : Contents self.now) → IfOk result (λ range. range
+            ≡ ahead (between start.now (option_map (λ key. key.now) end.entry)
+            (dictionary_of 0 0 field contents.fields))) }
     {
-        self.terms(field).range(start, end)
+        self.terms(field).range(alloc, start, end)
     }
 
     /// Whether a field is indexed, and its values are of that type.
@@ -216,7 +259,7 @@ impl InvertedIndexReader {
         ensures decoded { cursor_blocks_decoded result ≡ 1 }
         ensures doc_freq { cursor_doc_freq result ≡ term_info.now.doc_freq }
         ensures within { (contents : Contents self.now)
-            → AllByRecursion (λ e. e.doc < contents.num_docs) (entries_left result) }
+            → from contents.num_docs (entries_left result) ≡ [] }
         ensures skips { (contents : Contents self.now)
             → skips_left (cursor_blocks result)
             ≡ entries_of_postings
@@ -243,7 +286,7 @@ impl InvertedIndexReader {
         ensures none { (contents : Contents self.now) → IfNone result (postings_held contents.schema contents.fields term.now ≡ []) }
         ensures decoded { IfSome result (λ p. cursor_blocks_decoded p ≡ 1) }
         ensures within { (contents : Contents self.now)
-            → IfSome result (λ p. AllByRecursion (λ e. e.doc < contents.num_docs) (entries_left p)) }
+            → IfSome result (λ p. from contents.num_docs (entries_left p) ≡ []) }
         ensures doc_freq { (contents : Contents self.now)
             → IfSome result (λ p. cursor_doc_freq p ≡ length (postings_held contents.schema contents.fields term.now)) }
         ensures skips { (contents : Contents self.now)

@@ -1,8 +1,8 @@
 //! The terms of a field.
 
-ghost use Rattle.std.specs.Prelude.{◌-◌, ◌≡◌, ◌≤◌, bytes_eq, drop, find, length, option_map, take};
+ghost use Rattle.std.specs.Prelude.{◌-◌, ◌≡◌, ◌≤◌, IfOk, bytes_eq, drop, find, length, option_map, take};
 ghost use Rattle.std.specs.List.{prefix_len};
-ghost use Rattle.inverted_index_reader.specs.Dictionaries.{InfoFits, IsDictionary, info_from, terms_at};
+ghost use Rattle.inverted_index_reader.specs.Dictionaries.{InfoFits, IsDictionary, ahead, info_from, terms_at};
 ghost use Rattle.inverted_index_reader.specs.Searching.{between, is_before, is_below};
 ghost use Rattle.inverted_index_reader.specs.TakenTerms.{entry_at, entry_of};
 
@@ -10,6 +10,7 @@ use crate::term_entry::{TermEntry, entry_at};
 use crate::term_info::TermInfo;
 use crate::term_range::TermRange;
 use crate::term_start::TermStart;
+use std::alloc::{AllocError, Global};
 use std::marker::Model;
 
 /// The terms of a field by their value bytes, in ascending order, lent from the section of terms.
@@ -76,13 +77,19 @@ impl<'a> TermDictionary<'a> {
         }
     }
 
-    /// The terms from a start on that stand before an end, if there is one.
-    pub fn range(&self, start: &[u8], end: Option<&[u8]>) -> TermRange<'a>
-        ensures { result ≡ between start.now (option_map (λ key. key.now) end.entry) self.now }
+    /// The terms from a start on that stand before an end, if there is one. Where each key stands whole in its
+    /// section, as it does today, no memory is taken.
+    pub fn range(
+        &self,
+        _alloc: Global,
+        start: &[u8],
+        end: Option<&[u8]>,
+    ) -> Result<TermRange<'a>, AllocError>
+        ensures { IfOk result (λ range. range ≡ ahead (between start.now (option_map (λ key. key.now) end.entry) self.now)) }
     {
         let first = self.first_from(start);
         let last = self.end_from(end).max(first);
-        TermRange::new(self.section, part(self.starts, first, last))
+        Ok(TermRange::new(self.section, part(self.starts, first, last)))
     }
 }
 

@@ -74,9 +74,12 @@ fn range(
         Value::Null => None,
         _ => Some(arguments.bytes(alloc, 2)?),
     };
+    let field = field_in(arguments.value(0)?)?;
     let mut list = Vec::new(alloc);
-    for (key, info) in reader.range(field_in(arguments.value(0)?)?, &start, end.as_deref()) {
-        list.push(pair(alloc, hex(alloc, key)?, number(u64::from(info.doc_freq)))?)?;
+    let mut terms = reader.range(alloc, field, &start, end.as_deref())?;
+    while terms.advance() {
+        let doc_freq = number(u64::from(terms.value().doc_freq));
+        list.push(pair(alloc, hex(alloc, terms.key())?, doc_freq)?)?;
     }
     Ok(Value::Array(list))
 }

@@ -1,5 +1,5 @@
 -- Slots that are read as documents.
-use Rattle.std.proofs.Common.{◌+◌, ◌-◌, ◌<◌, ◌∷◌, ◌≡◌, ◌∙◌, Bool, List, None, Some, [], ap, arith, cond, false, length, nat_lt, refl, sym, true, ℕ}
+use Rattle.std.proofs.Common.{◌+◌, ◌-◌, ◌<◌, ◌∷◌, ◌≡◌, ◌∙◌, Bool, List, Some, [], ap, arith, cond, false, length, nat_lt, refl, sym, true, ℕ}
 use Rattle.std.proofs.lemmas.Bool.Decides.{nat_tests}
 use Rattle.layouts.specs.Stores.{Block, Hold}
 use Rattle.store.specs.Slots.{place_of}

@@ -1,9 +1,15 @@
 //! Blocks: the documents' bytes one after the other, where each starts, and how many they are.
 
-ghost use Rattle.std.specs.Prelude.{[], ◌+◌, ◌<◌, ◌≡◌, ◌≤◌, ◌↔◌, IsTrue, List, length, slice_index_or, slice_range, ℕ};
+ghost use Rattle.std.specs.Prelude.{[], ◌+◌, ◌<◌, ◌≡◌, ◌≤◌, ◌↔◌, IfErr, IfOk, IsTrue, List, length, slice_index_or, slice_range, ℕ};
 ghost use Rattle.layouts.specs.Stores.{IsBlock};
 ghost use Rattle.store.specs.Reading.{IsBlockOf, are_starts, ascend, number_at, numbers};
+ghost use Rattle.store.specs.Slots.{IsBadBlock, IsOpenBlock};
+ghost use Rattle.store.specs.TakenGroups.{IsDamage};
+ghost use Rattle.store.specs.Writing.{block_in};
 
+use bytes::Bytes;
+use definitions::Fault;
+use layouts::Checkpoint;
 use std::ops::Range;
 
 /// The number of 32 bits at a place.
@@ -52,6 +58,21 @@ pub(crate) fn is_block(bytes: &[u8], count: u32) -> bool
     let (docs, rest) = bytes.split_at(bytes.len() - starts_len - 4);
     let (starts, last) = rest.split_at(starts_len);
     u32_at(last, 0) == count && are_starts(starts, docs.len())
+}
+
+/// The block at a checkpoint, which is checked.
+pub(crate) fn open_block(whole: &Bytes, reach: &Checkpoint) -> Result<Bytes, Fault>
+    requires within { (reach.now.byte_range.start ≤ reach.now.byte_range.end) × (reach.now.byte_range.end ≤ length whole.now) }
+    requires docs { reach.now.doc_range.start ≤ reach.now.doc_range.end }
+    ensures ok { IfOk result (IsOpenBlock (block_in whole.now reach.now)) }
+    ensures err { IfErr result (λ fault. IsDamage fault (IsBadBlock (block_in whole.now reach.now))) }
+{
+    let block = whole.slice(reach.byte_range.start..reach.byte_range.end)?;
+    let count = reach.doc_range.end - reach.doc_range.start;
+    if !is_block(block.as_slice(), count) {
+        return Err(Fault::Damaged(None));
+    }
+    Ok(block)
 }
 
 /// Where a document's bytes stand in its block.

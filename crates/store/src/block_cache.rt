@@ -8,7 +8,7 @@ ghost use Rattle.store.specs.Slots.{IsBadBlock, IsOpenBlock};
 ghost use Rattle.store.specs.TakenGroups.{IsDamage};
 ghost use Rattle.store.specs.Writing.{block_in};
 
-use crate::block::is_block;
+use crate::block::open_block;
 use crate::cache_stats::CacheStats;
 use bytes::Bytes;
 use definitions::Fault;
@@ -121,13 +121,7 @@ impl BlockCache {
         if let Some(block) = self.find(at)? {
             return Ok(block);
         }
-        let block = whole.slice(reach.byte_range.start..reach.byte_range.end)?;
-        if !is_block(
-            block.as_slice(),
-            reach.doc_range.end - reach.doc_range.start,
-        ) {
-            return Err(Fault::Damaged(None));
-        }
+        let block = open_block(whole, reach)?;
         self.keep(at, block.clone()?)?;
         Ok(block)
     }

@@ -9,7 +9,7 @@ ghost use Rattle.store.specs.Walking.{IsRefusedWalk, IsWalked};
 ghost use Rattle.store.specs.TakenGroups.{IsDamage};
 ghost use Rattle.store.specs.Writing.{count_of};
 
-use crate::block::slot_range;
+use crate::block::{open_block, slot_range};
 use crate::block_cache::BlockCache;
 use crate::cache_stats::CacheStats;
 use crate::current_block::{CurrentBlock, open_current};
@@ -138,6 +138,20 @@ impl StoreReader {
             return Err(Fault::InvalidArgument);
         };
         let block = self.cache.open(&self.whole, at, reach)?;
+        Ok(slot_of(block, reach, doc))
+    }
+
+    /// The same without the cache: the block is checked anew, none is kept, and no look-up is counted.
+    pub fn read_document_bytes(&self, doc: u32) -> Result<Bytes, Fault>
+        ensures ok { IfOk result (HasSlot self.now.blocks doc) }
+        ensures err { IfErr result (IsSlotFault self.now.blocks doc) }
+        ensures slot { (slots : List (List ℕ)) → Hold self.now.blocks slots → IfOk result (λ bytes. bytes ≡ slice_index_or slots doc []) }
+        ensures refused { (slots : List (List ℕ)) → Hold self.now.blocks slots → IfErr result (λ fault. IsPast fault doc (length slots)) }
+    {
+        let Some((_, reach)) = self.index.find_block(doc) else {
+            return Err(Fault::InvalidArgument);
+        };
+        let block = open_block(&self.whole, reach)?;
         Ok(slot_of(block, reach, doc))
     }
 

@@ -1,7 +1,6 @@
-use Rattle.std.proofs.Common.{List, ap, subst, sym, ◌<◌, ◌∙◌}
+use Rattle.std.proofs.Common.{[], List, ap, subst, sym, ◌≡◌, ◌∙◌}
 use Rattle.std.proofs.Math.Logic.{∥∥₁_map}
-use Rattle.std.specs.List.{AllByRecursion}
-use Rattle.cursors.specs.Entries.{Entry}
+use Rattle.cursors.specs.Entries.{Entry, from}
 use Rattle.layouts.specs.InvertedIndexes.{field_ids}
 use Rattle.options.specs.RecordOption.{record_option_of}
 use Rattle.inverted_index_reader.proofs.PostingsFound.{has_term, is_info, option_told}
@@ -22,7 +21,7 @@ returns-clause-ok c contents = c.open_term.ensures.entries (postings_in contents
 pub returns-clause-within : goal.returns-clause-within
 returns-clause-within c contents =
     let known = (has_term c.args.self.now c.args.field c.args.value_bytes.now c.args.term_info.now contents (record_option_of c.option_of-recorded.result) c.bytes_of.result.0.now c.bytes_of.result.1.now c.requires c.option_of-recorded.ensures.option c.bytes_of.ensures.postings c.bytes_of.ensures.positions) in
-    let P : List Entry → Type 0 = AllByRecursion (λ (e : Entry). e.doc < contents.num_docs) in
+    let P : List Entry → Type 0 = λ es. from contents.num_docs es ≡ [] in
     subst P (sym (c.open_term.ensures.entries (postings_in contents.fields c.args.field c.args.value_bytes.now) known)) (entries_within (record_option_of c.args.option) _ contents.num_docs (postings_in contents.fields c.args.field c.args.value_bytes.now) known.is.each)
 
 pub returns-clause-skips : goal.returns-clause-skips

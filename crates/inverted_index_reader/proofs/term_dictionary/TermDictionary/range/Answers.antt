@@ -3,7 +3,7 @@ use Rattle.std.proofs.Math.Logic.{∥∥₁_map}
 use Rattle.std.proofs.lemmas.List.{length-map}
 use Rattle.std.proofs.lemmas.List.Sums.{prefix_len-le-length}
 use Rattle.inverted_index_reader.proofs.Ranges.{part_fits, range_found}
-use Rattle.inverted_index_reader.specs.Dictionaries.{AllFit, Placed, term_at, terms_at}
+use Rattle.inverted_index_reader.specs.Dictionaries.{AllFit, Placed, ahead, term_at, terms_at}
 use Rattle.inverted_index_reader.specs.Searching.{is_before, is_below}
 use Rattle.inverted_index_reader.specs.declared.term_start.TermStart.{TermStart}
 use Rattle.inverted_index_reader.proofs.term_dictionary.TermDictionary.range.Goals as goal
@@ -24,5 +24,5 @@ new-requires c = ∥∥₁_map c.self.invariant (λ known. subst (λ (ss : List 
 pub returns : goal.returns
 returns c =
     c.new.ensures
-    ∙ ap (terms_at c.self.inside.section.now) c.part.ensures
-    ∙ range_found c.self.inside.section.now c.self.inside.starts.now c.args.start.now (option_map (λ (key : Bor (List ℕ)). key.now) c.args.end) c.first_from-first.result c.end_from.result c.max-last.result c.args.self.now c.self.view_is c.self.invariant c.first_from-first.ensures c.end_from.ensures c.max-last.ensures
+    ∙ ap (λ (ss : List TermStart). ahead (terms_at c.self.inside.section.now ss)) c.part.ensures
+    ∙ ap ahead (range_found c.self.inside.section.now c.self.inside.starts.now c.args.start.now (option_map (λ (key : Bor (List ℕ)). key.now) c.args.end) c.first_from-first.result c.end_from.result c.max-last.result c.args.self.now c.self.view_is c.self.invariant c.first_from-first.ensures c.end_from.ensures c.max-last.ensures)

@@ -1,6 +1,5 @@
-use Rattle.std.proofs.Common.{Contains, inl, inr, subst, sym, ◌∙◌, ◌-◌}
+use Rattle.std.proofs.Common.{Contains, inl, inr, subst, sym, ◌∙◌}
 use Rattle.store.specs.Caches.{capacity_in, entries_of}
-use Rattle.store.specs.Reading.{IsBlockOf}
 use Rattle.store.proofs.Kept.{among_more, opened_hit}
 use Rattle.store.proofs.block_cache.BlockCache.open.Goals as goal
 
@@ -12,5 +11,5 @@ returns-clause-entries c = λ e h.
     let kept = subst (λ es. Contains es e) c.in_ok-keep.ensures.entries h in
     elim (among_more (capacity_in c.find.new.self.cache) c.args.at c.in_ok-clone.field-0 (entries_of c.find.new.self) e kept) [
       | inl old ↦ inl (c.find.ensures.entries e old)
-      | inr new ↦ inr (new.0, (new.1 ∙ c.in_ok-clone.ensures.cases ∙ c.in_ok-block-2.ensures.ok, subst (IsBlockOf (c.args.reach.now.doc_range.end - c.args.reach.now.doc_range.start)) (c.as_slice.ensures ∙ c.in_ok-block-2.ensures.ok) (c.is_block.ensures.0 c.if-not-is_block.false)))
+      | inr new ↦ inr (new.0, (new.1 ∙ c.in_ok-clone.ensures.cases ∙ c.in_ok-block-2.ensures.ok.0, c.in_ok-block-2.ensures.ok.1))
     ]
