@@ -3,8 +3,10 @@
 
 mod buffered_union;
 mod disjunction;
+mod distinct_positions;
 mod scorer_wrapper;
 mod simple_union;
+mod united_positions;
 mod window;
 
 pub use buffered_union::BufferedUnionScorer;
