@@ -1,3 +1,4 @@
+pub mod Documents
 pub mod Uniting
 pub mod UnitingLaws
 pub mod UnitedRoom

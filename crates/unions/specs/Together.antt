@@ -1,5 +1,5 @@
 -- The document on which a union stands that looks no further.
-use Rattle.std.proofs.Common.{Bool, List, ap, arith, if◌then◌else◌, length, map, subst, sum, sym, true, ◌+◌, ◌<◌, ◌∙◌, ◌∷◌, ◌≡◌, ◌≤◌, ℕ}
+use Rattle.std.proofs.Common.{Bool, List, ap, arith, if◌then◌else◌, map, subst, sum, sym, true, ◌+◌, ◌<◌, ◌∙◌, ◌∷◌, ◌≡◌, ◌≤◌, ℕ}
 use Rattle.std.proofs.Props.{props}
 use Rattle.definitions.specs.Postings.{terminated}
 use Rattle.definitions.specs.Scoring.{max_score}

@@ -1,7 +1,7 @@
 -- Laws of unions of postings.
-use Rattle.std.proofs.Common.{[], Bool, List, ap, append-nil, arith, false, flat_map, if◌then◌else◌, length, map, max, nat_le, refl, subst, suc, sum, sym, take, true, zero, ◌++◌, ◌+◌, ◌-◌, ◌<◌, ◌==◌, ◌^◌, ◌||◌, ◌∙◌, ◌∷◌, ◌≡◌, ◌≤◌, ℕ}
+use Rattle.std.proofs.Common.{[], Bool, List, ap, append-nil, arith, false, if◌then◌else◌, length, map, max, refl, suc, sum, sym, take, true, zero, ◌++◌, ◌+◌, ◌-◌, ◌<◌, ◌==◌, ◌^◌, ◌||◌, ◌∙◌, ◌∷◌, ◌≡◌, ◌≤◌, ℕ}
 use Rattle.std.proofs.lemmas.Bool.Decides.{nat_tests}
-use Rattle.std.proofs.lemmas.List.{append_assoc, length-append, length-map, map-append}
+use Rattle.std.proofs.lemmas.List.{append_assoc, length-append, map-append}
 use Rattle.definitions.specs.Postings.{terminated}
 use Rattle.definitions.specs.Scoring.{DontFall}
 use Rattle.cursors.specs.Entries.{AreSingle, Entry, Rising, first, first_count, first_positions, from, highest, most_positions, single}

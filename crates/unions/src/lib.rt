@@ -1,6 +1,7 @@
 //! Unions of scorers, and the documents that several of them have.
 #![tactic(auto)]
 
+mod bit_set_posting_union;
 mod buffered_union;
 mod disjunction;
 mod distinct_positions;
@@ -9,6 +10,7 @@ mod simple_union;
 mod united_positions;
 mod window;
 
+pub use bit_set_posting_union::BitSetPostingUnion;
 pub use buffered_union::BufferedUnionScorer;
 pub use disjunction::Disjunction;
 pub use scorer_wrapper::ScorerWrapper;

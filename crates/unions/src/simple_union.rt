@@ -110,7 +110,13 @@ impl<S: Postings> Postings for SimpleUnion<S> {
         offset: u32,
         output: &mut Vec<u32>,
     ) -> Result<(), AllocError> {
-        append_united(&mut self.docsets, self.doc, offset, &mut self.positions, output)?;
+        append_united(
+            &mut self.docsets,
+            self.doc,
+            offset,
+            &mut self.positions,
+            output,
+        )?;
         Ok(())
     }
 

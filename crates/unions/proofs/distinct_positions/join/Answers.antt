@@ -1,4 +1,4 @@
-use Rattle.std.proofs.Common.{Err, Ok, OnErr, Result, ap, length, subst, sym, vec_capacity, ◌++◌, ◌<◌, ◌∙◌, ◌≡◌}
+use Rattle.std.proofs.Common.{ap, length, subst, sym, vec_capacity, ◌++◌, ◌<◌, ◌∙◌}
 use Rattle.members.specs.Distinct.{Ascends, distinct}
 use Rattle.members.specs.DistinctLaws.{Ascends-distinct, distinct-right}
 use Rattle.unions.proofs.Calls.{on_err}

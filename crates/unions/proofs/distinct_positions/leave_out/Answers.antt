@@ -1,4 +1,4 @@
-use Rattle.std.proofs.Common.{ap, filter, not, rules, ◌==◌, ◌∙◌, ◌≡◌}
+use Rattle.std.proofs.Common.{ap, not, rules, ◌==◌, ◌∙◌}
 use Rattle.std.proofs.lemmas.Fn.{filter_same}
 use Rattle.std.specs.List.{list_any}
 use Rattle.members.specs.DistinctLaws.{filter-agrees, holds-contains}

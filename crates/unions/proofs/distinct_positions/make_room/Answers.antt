@@ -1,5 +1,5 @@
-use Rattle.std.proofs.Common.{Err, List, Ok, OnErr, Result, ap, arith, filter, length, not, sym, vec_capacity, ◌++◌, ◌+◌, ◌<◌, ◌∙◌, ◌≡◌, ℕ}
-use Rattle.members.specs.Distinct.{Ascends, distinct, holds}
+use Rattle.std.proofs.Common.{List, ap, arith, filter, length, not, vec_capacity, ◌++◌, ◌<◌, ◌∙◌, ◌≡◌, ℕ}
+use Rattle.members.specs.Distinct.{distinct, holds}
 use Rattle.members.specs.DistinctLaws.{distinct-beside, distinct-left, distinct-split, length-distinct}
 use Rattle.unions.proofs.Calls.{on_err}
 use Rattle.unions.proofs.distinct_positions.make_room.Goals as goal

@@ -1,8 +1,6 @@
-use Rattle.std.proofs.Common.{OnErr, OnOk, ap, arith, is_some, length, map, subst, sym, true, vec_capacity, ◌++◌, ◌+◌, ◌<◌, ◌∙◌, ◌≡◌}
-use Rattle.cursors.specs.Entries.{highest}
+use Rattle.std.proofs.Common.{ap, arith, is_some, length, map, subst, true, vec_capacity, ◌++◌, ◌<◌, ◌∙◌, ◌≡◌}
 use Rattle.members.specs.Distinct.{distinct}
 use Rattle.members.specs.Members.{entries_at}
-use Rattle.unions.specs.Uniting.{told_positions}
 use Rattle.unions.specs.UnitingLaws.{highest-told, told-put}
 use Rattle.unions.proofs.Calls.{on_err}
 use Rattle.unions.proofs.united_positions.append_united.Goals as goal

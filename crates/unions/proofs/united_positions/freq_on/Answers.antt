@@ -1,4 +1,4 @@
-use Rattle.std.proofs.Common.{ap, arith, sum, sym, ◌∙◌, ◌≡◌, ◌≢◌}
+use Rattle.std.proofs.Common.{ap, arith, sum, sym, ◌∙◌, ◌≢◌}
 use Rattle.cursors.specs.Entries.{first}
 use Rattle.members.specs.MemberLaws.{entries-off}
 use Rattle.unions.specs.Uniting.{counts_in}

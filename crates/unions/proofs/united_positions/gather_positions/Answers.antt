@@ -1,4 +1,4 @@
-use Rattle.std.proofs.Common.{[], ap, append-nil, append_assoc, arith, drop, get_or, length, map, sym, ◌++◌, ◌+◌, ◌<◌, ◌∙◌, ◌∷◌, ◌≡◌, ◌≤◌}
+use Rattle.std.proofs.Common.{[], ap, append-nil, append_assoc, arith, drop, get_or, length, map, sym, ◌++◌, ◌+◌, ◌<◌, ◌∙◌, ◌∷◌, ◌≡◌}
 use Rattle.std.proofs.Math.Seq.{map-set_same}
 use Rattle.std.proofs.lemmas.List.{drop_all, drop_more, get_or-map, length-append, length-map, map-append}
 use Rattle.cursors.specs.Entries.{first, highest}

@@ -1,4 +1,4 @@
-use Rattle.std.proofs.Common.{[], ap, arith, drop, get_or, map, sym, ◌+◌, ◌∙◌, ◌∷◌, ◌≡◌, ◌≤◌}
+use Rattle.std.proofs.Common.{[], ap, arith, drop, map, sym, ◌+◌, ◌∙◌, ◌∷◌, ◌≤◌}
 use Rattle.std.proofs.lemmas.List.{drop_more, get_or-map, length-map}
 use Rattle.unions.specs.Uniting.{most_sum}
 use Rattle.unions.proofs.united_positions.most_together.Goals as goal

@@ -1,4 +1,4 @@
-use Rattle.std.proofs.Common.{[], ap, append-nil, arith, is_ok, length, map, sym, vec_capacity, ◌++◌, ◌+◌, ◌∙◌, ◌≡◌, ◌≢◌, ◌≤◌, if◌then◌else◌}
+use Rattle.std.proofs.Common.{ap, append-nil, arith, length, map, sym, vec_capacity, ◌++◌, ◌+◌, ◌∙◌, ◌≡◌, ◌≢◌, if◌then◌else◌}
 use Rattle.std.proofs.lemmas.List.{length-map}
 use Rattle.cursors.specs.Entries.{first, first_positions, highest, single}
 use Rattle.members.specs.MemberLaws.{entries-off}
@@ -35,7 +35,7 @@ returns-clause-taken g c =
     let room_for_all = c.requires.room_for_all in
     let call = c.positions_with_offset.ensures in
     let one : c.positions_with_offset.new.output.items ≡ map (λ p. p + c.args.offset) (single (first_positions es)) =
-        must_answer c.positions_with_offset.result (vec_capacity c.args.one.now) (length (single (first_positions es))) call.full (omega (arith, many, room)) call.ok in
+    must_answer c.positions_with_offset.result (vec_capacity c.args.one.now) (length (single (first_positions es))) call.full (omega (arith, many, room)) call.ok in
     let given = c.deref.ensures.value ∙ (one ∙ ap (map (λ p. p + c.args.offset)) (sym on)) in
     let long = ap length given ∙ length-map (positions_in (entries_of c.args.doc es)) (λ p. p + c.args.offset) in
     let ok = must_be_ok c.extend_from_slice.result _ _ c.extend_from_slice.ensures.full (omega (arith, long, room_for_all)) in
