@@ -1,0 +1,9 @@
+-- Lemmas on query trees.
+pub mod OffsetOrder
+pub mod Clauses
+pub mod TermKinds
+pub mod Positions
+pub mod Tests
+pub mod ScaledBounds
+pub mod Depths
+pub mod NodeFaults

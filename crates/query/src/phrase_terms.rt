@@ -1,0 +1,50 @@
+//! Terms of phrases, with their offsets.
+
+ghost use Rattle.std.specs.Prelude.{◌≡◌, IfOk, OnOk, map};
+ghost use Rattle.definitions.specs.Phrases.{by_offset};
+ghost use Rattle.std.specs.List.{enumerate_from};
+
+use std::alloc::{AllocError, Global};
+use terms::Term;
+
+/// Terms one after another, from offset 0 on.
+pub(crate) fn in_a_row(alloc: Global, terms: Vec<Term>) -> Result<Vec<(usize, Term)>, AllocError>
+    ensures { IfOk result (λ placed. placed.items ≡ enumerate_from 0 terms.items) }
+{
+    let mut left = terms;
+    left.reverse();
+    let mut placed = Vec::with_capacity(alloc, left.len())?;
+    while let Some(term) = left.pop() {
+        placed.push((placed.len(), term))?;
+    }
+    Ok(placed)
+}
+
+/// Sorts terms by their offsets; those of one offset stay in their order.
+pub(crate) fn sort_by_offset(terms: &mut Vec<(usize, Term)>) -> Result<(), AllocError>
+    ensures { OnOk result (terms.new.items ≡ by_offset terms.old.items) }
+{
+    terms.sort_by(|a, b| a.0.cmp(&b.0))?;
+    Ok(())
+}
+
+/// Copies of terms, without their offsets.
+pub(crate) fn copied_terms(alloc: Global, terms: &[(usize, Term)]) -> Result<Vec<Term>, AllocError>
+    ensures { IfOk result (λ copies. copies.items ≡ map (λ t. t.1) terms.now) }
+{
+    let mut copies = Vec::with_capacity(alloc, terms.len())?;
+    for (_offset, term) in terms {
+        copies.push(copied(alloc, term)?)?;
+    }
+    Ok(copies)
+}
+
+/// A copy of a term.
+pub(crate) fn copied(alloc: Global, term: &Term) -> Result<Term, AllocError>
+    ensures { IfOk result (λ copy. copy ≡ term.now) }
+{
+    let _type = term.typ();
+    let mut bytes = Vec::new(alloc);
+    bytes.extend_from_slice(term.serialized_term())?;
+    Ok(Term::wrap(bytes).ok().unwrap())
+}
