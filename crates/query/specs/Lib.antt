@@ -4,3 +4,4 @@ pub mod QueryCodes
 pub mod Queries
 pub mod QueryDepths
 pub mod Ranges
+pub mod NeededTerms

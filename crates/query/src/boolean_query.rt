@@ -7,7 +7,10 @@ ghost use Rattle.query.specs.Queries.{clauses_of, each_asks, for_each_term, quer
 ghost use Rattle.query.specs.declared.any_query.AnyQuery.TheVariants as forms;
 
 use crate::any_query::AnyQuery;
+use crate::copies::copied_boolean;
 use crate::occur::Occur;
+use crate::query::{Query, QueryClone};
+use crate::query_terms::push_clauses_terms;
 use crate::term_query::TermQuery;
 use options::IndexRecordOption;
 use std::alloc::{AllocError, Global};
@@ -188,4 +191,20 @@ fn all_should(clauses: &[(Occur, AnyQuery)]) -> bool
         }
     }
     true
+}
+
+impl QueryClone for BooleanQuery {
+    fn try_clone(&self, alloc: Global) -> Result<BooleanQuery, AllocError> {
+        copied_boolean(alloc, self)
+    }
+}
+
+impl Query for BooleanQuery {
+    ghost tree = { λ q. definitions.boolean q.0 q.1 };
+
+    fn query_terms(&self, alloc: Global) -> Result<Vec<(&Term, bool)>, AllocError> {
+        let mut found = Vec::new(alloc);
+        push_clauses_terms(&mut found, self.clauses())?;
+        Ok(found)
+    }
 }

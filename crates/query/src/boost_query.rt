@@ -1,11 +1,16 @@
 //! The query for a query with a boost.
 
 ghost use Rattle.std.specs.Prelude.{◌≡◌, IfOk};
+ghost use Rattle.definitions.specs.Query as definitions;
 ghost use Rattle.query.specs.Queries.{query_of};
 
 use crate::any_query::AnyQuery;
+use crate::copies::copied_boost;
+use crate::query::{Query, QueryClone};
+use crate::query_terms::push_query_terms;
 use std::alloc::{AllocError, Global};
 use std::marker::Model;
+use terms::Term;
 
 /// Documents that match a query, by its score times a boost.
 #[cycle(queries)]
@@ -58,5 +63,21 @@ impl BoostQuery {
         ensures { result ≡ self.now.1 }
     {
         self.boost
+    }
+}
+
+impl QueryClone for BoostQuery {
+    fn try_clone(&self, alloc: Global) -> Result<BoostQuery, AllocError> {
+        copied_boost(alloc, self)
+    }
+}
+
+impl Query for BoostQuery {
+    ghost tree = { λ q. definitions.boost q.1 q.0 };
+
+    fn query_terms(&self, alloc: Global) -> Result<Vec<(&Term, bool)>, AllocError> {
+        let mut found = Vec::new(alloc);
+        push_query_terms(&mut found, self.query())?;
+        Ok(found)
     }
 }

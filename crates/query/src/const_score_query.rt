@@ -1,11 +1,16 @@
 //! The query for a query with one score.
 
 ghost use Rattle.std.specs.Prelude.{◌≡◌, IfOk};
+ghost use Rattle.definitions.specs.Query as definitions;
 ghost use Rattle.query.specs.Queries.{query_of};
 
 use crate::any_query::AnyQuery;
+use crate::copies::copied_const_score;
+use crate::query::{Query, QueryClone};
+use crate::query_terms::push_query_terms;
 use std::alloc::{AllocError, Global};
 use std::marker::Model;
+use terms::Term;
 
 /// Documents that match a query, all by one score.
 #[cycle(queries)]
@@ -58,5 +63,21 @@ impl ConstScoreQuery {
         ensures { result ≡ self.now.1 }
     {
         self.score
+    }
+}
+
+impl QueryClone for ConstScoreQuery {
+    fn try_clone(&self, alloc: Global) -> Result<ConstScoreQuery, AllocError> {
+        copied_const_score(alloc, self)
+    }
+}
+
+impl Query for ConstScoreQuery {
+    ghost tree = { λ q. definitions.const_score q.1 q.0 };
+
+    fn query_terms(&self, alloc: Global) -> Result<Vec<(&Term, bool)>, AllocError> {
+        let mut found = Vec::new(alloc);
+        push_query_terms(&mut found, self.query())?;
+        Ok(found)
     }
 }

@@ -1,10 +1,16 @@
 //! The query for several queries, by their best score.
 
 ghost use Rattle.std.specs.Prelude.{◌≡◌, pos};
+ghost use Rattle.definitions.specs.Query as definitions;
 ghost use Rattle.query.specs.Queries.{queries_of};
 
 use crate::any_query::AnyQuery;
+use crate::copies::copied_max;
+use crate::query::{Query, QueryClone};
+use crate::query_terms::push_disjuncts_terms;
+use std::alloc::{AllocError, Global};
 use std::marker::Model;
+use terms::Term;
 
 /// Documents that match one of several queries at least, by the greatest of their scores, and so many thousandths
 /// of the others.
@@ -67,5 +73,21 @@ impl DisjunctionMaxQuery {
         ensures { result ≡ self.now.1 }
     {
         self.tie_breaker
+    }
+}
+
+impl QueryClone for DisjunctionMaxQuery {
+    fn try_clone(&self, alloc: Global) -> Result<DisjunctionMaxQuery, AllocError> {
+        copied_max(alloc, self)
+    }
+}
+
+impl Query for DisjunctionMaxQuery {
+    ghost tree = { λ q. definitions.disjunction_max q.0 q.1 };
+
+    fn query_terms(&self, alloc: Global) -> Result<Vec<(&Term, bool)>, AllocError> {
+        let mut found = Vec::new(alloc);
+        push_disjuncts_terms(&mut found, self.disjuncts())?;
+        Ok(found)
     }
 }

@@ -1,12 +1,15 @@
 //! The query for terms that stand beside each other, the last of which is known by its first bytes.
 
+ghost use Rattle.definitions.specs.Query as definitions;
 ghost use Rattle.std.specs.Prelude.{◌≡◌, IfOk, map};
 ghost use Rattle.std.specs.List.{enumerate_from};
 ghost use Rattle.definitions.specs.Phrases.{by_offset, whole_terms};
 ghost use Rattle.definitions.specs.Scoring.{phrase_field};
 ghost use Rattle.query.specs.PhraseTerms.{ArePhraseTerms};
 
-use crate::phrase_terms::{copied_terms, in_a_row, sort_by_offset};
+use crate::phrase_terms::{copied_places, copied_terms, in_a_row, sort_by_offset};
+use crate::query::{Query, QueryClone};
+use crate::query_terms::push_with_positions;
 use std::alloc::{AllocError, Global};
 use std::marker::Model;
 use terms::{Field, Term};
@@ -101,5 +104,32 @@ impl PhrasePrefixQuery {
         ensures { result ≡ self.now.1 }
     {
         self.max_expansions
+    }
+
+    /// A copy of the query.
+    pub(crate) fn copied(&self, alloc: Global) -> Result<PhrasePrefixQuery, AllocError>
+        ensures { IfOk result (λ copy. copy ≡ self.now) }
+    {
+        let terms = copied_places(alloc, &self.terms)?;
+        Ok(PhrasePrefixQuery {
+            terms,
+            max_expansions: self.max_expansions,
+        })
+    }
+}
+
+impl QueryClone for PhrasePrefixQuery {
+    fn try_clone(&self, alloc: Global) -> Result<PhrasePrefixQuery, AllocError> {
+        self.copied(alloc)
+    }
+}
+
+impl Query for PhrasePrefixQuery {
+    ghost tree = { λ q. definitions.phrase_prefix q.0 q.1 };
+
+    fn query_terms(&self, alloc: Global) -> Result<Vec<(&Term, bool)>, AllocError> {
+        let mut found = Vec::new(alloc);
+        push_with_positions(&mut found, self.whole_terms())?;
+        Ok(found)
     }
 }

@@ -1,12 +1,15 @@
 //! The query for terms that stand beside each other.
 
+ghost use Rattle.definitions.specs.Query as definitions;
 ghost use Rattle.std.specs.Prelude.{◌≡◌, IfOk, map};
 ghost use Rattle.std.specs.List.{enumerate_from};
 ghost use Rattle.definitions.specs.Phrases.{by_offset};
 ghost use Rattle.definitions.specs.Scoring.{phrase_field};
 ghost use Rattle.query.specs.PhraseTerms.{ArePhraseTerms};
 
-use crate::phrase_terms::{copied_terms, in_a_row, sort_by_offset};
+use crate::phrase_terms::{copied_places, copied_terms, in_a_row, sort_by_offset};
+use crate::query::{Query, QueryClone};
+use crate::query_terms::push_with_positions;
 use std::alloc::{AllocError, Global};
 use std::marker::Model;
 use terms::{Field, Term};
@@ -87,8 +90,36 @@ impl PhraseQuery {
 
     /// The terms with their offsets.
     pub(crate) fn terms(&self) -> &[(usize, Term)]
-        ensures { result.now ≡ self.now.0 }
+        ensures value { result.now ≡ self.now.0 }
+        ensures sorted { by_offset self.now.0 ≡ self.now.0 }
     {
         &self.phrase_terms
+    }
+
+    /// A copy of the query.
+    pub(crate) fn copied(&self, alloc: Global) -> Result<PhraseQuery, AllocError>
+        ensures { IfOk result (λ copy. copy ≡ self.now) }
+    {
+        let phrase_terms = copied_places(alloc, &self.phrase_terms)?;
+        Ok(PhraseQuery {
+            phrase_terms,
+            slop: self.slop,
+        })
+    }
+}
+
+impl QueryClone for PhraseQuery {
+    fn try_clone(&self, alloc: Global) -> Result<PhraseQuery, AllocError> {
+        self.copied(alloc)
+    }
+}
+
+impl Query for PhraseQuery {
+    ghost tree = { λ q. definitions.phrase q.0 q.1 };
+
+    fn query_terms(&self, alloc: Global) -> Result<Vec<(&Term, bool)>, AllocError> {
+        let mut found = Vec::new(alloc);
+        push_with_positions(&mut found, self.terms())?;
+        Ok(found)
     }
 }

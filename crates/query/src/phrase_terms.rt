@@ -39,6 +39,20 @@ pub(crate) fn copied_terms(alloc: Global, terms: &[(usize, Term)]) -> Result<Vec
     Ok(copies)
 }
 
+/// Copies of terms, with their offsets.
+pub(crate) fn copied_places(
+    alloc: Global,
+    terms: &[(usize, Term)],
+) -> Result<Vec<(usize, Term)>, AllocError>
+    ensures { IfOk result (λ copies. copies.items ≡ terms.now) }
+{
+    let mut copies = Vec::with_capacity(alloc, terms.len())?;
+    for (offset, term) in terms {
+        copies.push((*offset, copied(alloc, term)?))?;
+    }
+    Ok(copies)
+}
+
 /// A copy of a term.
 pub(crate) fn copied(alloc: Global, term: &Term) -> Result<Term, AllocError>
     ensures { IfOk result (λ copy. copy ≡ term.now) }

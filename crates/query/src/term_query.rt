@@ -1,9 +1,14 @@
 //! The query for a term.
 
-ghost use Rattle.std.specs.Prelude.{◌≡◌};
+ghost use Rattle.definitions.specs.Query as definitions;
+ghost use Rattle.std.specs.Prelude.{◌≡◌, IfOk};
 ghost use Rattle.options.specs.RecordOption.{record_option_of};
 
+use crate::phrase_terms::copied;
+use crate::query::{Query, QueryClone};
+use crate::query_terms::push_term;
 use options::IndexRecordOption;
+use std::alloc::{AllocError, Global};
 use std::marker::Model;
 use terms::Term;
 
@@ -40,5 +45,29 @@ impl TermQuery {
         ensures { result.now ≡ self.now.0 }
     {
         &self.term
+    }
+
+    /// A copy of the query.
+    pub(crate) fn copied(&self, alloc: Global) -> Result<TermQuery, AllocError>
+        ensures { IfOk result (λ copy. copy ≡ self.now) }
+    {
+        let term = copied(alloc, &self.term)?;
+        Ok(TermQuery::new(term, self.index_record_option))
+    }
+}
+
+impl QueryClone for TermQuery {
+    fn try_clone(&self, alloc: Global) -> Result<TermQuery, AllocError> {
+        self.copied(alloc)
+    }
+}
+
+impl Query for TermQuery {
+    ghost tree = { λ q. definitions.term q.0 q.1 };
+
+    fn query_terms(&self, alloc: Global) -> Result<Vec<(&Term, bool)>, AllocError> {
+        let mut found = Vec::new(alloc);
+        push_term(&mut found, &self.term)?;
+        Ok(found)
     }
 }

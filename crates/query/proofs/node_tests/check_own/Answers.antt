@@ -8,7 +8,7 @@ pub returns-in-Phrase : goal.returns-in-Phrase
 returns-in-Phrase c =
     let schema = c.args.schema.now in
     c.check_phrase.ensures
-    ∙ ap (λ terms. first_fault (term_tests schema (map (λ t. t.1) terms) ++ phrase_tests schema terms)) c.terms.ensures
+    ∙ ap (λ terms. first_fault (term_tests schema (map (λ t. t.1) terms) ++ phrase_tests schema terms)) c.terms.ensures.value
     ∙ ap (λ q. first_fault (own_tests schema (query_of q))) (sym c.in-Phrase.is)
 
 pub returns-in-PhrasePrefix : goal.returns-in-PhrasePrefix
