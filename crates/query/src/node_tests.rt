@@ -6,14 +6,14 @@ ghost use Rattle.std.specs.Result.{result_err};
 ghost use Rattle.definitions.specs.Refusing as refusing;
 ghost use Rattle.definitions.specs.Terms.{is_text_term};
 ghost use Rattle.definitions.specs.declared.fault.Fault.TheVariants as faults;
-ghost use Rattle.query.specs.Queries.{query_of};
+ghost use Rattle.query_trees.specs.Queries.{query_of};
 
-use crate::any_query::AnyQuery;
 use crate::term_tests::{
     has_no_positions, is_mismatched, is_not_indexed, is_text_term, is_unknown,
 };
 use common::Score;
 use definitions::Fault;
+use query_trees::AnyQuery;
 use schema::Schema;
 use terms::Term;
 

@@ -1,7 +1,7 @@
 use Rattle.std.proofs.Common.{drop, ◌*◌, ◌+◌, ◌≡◌}
 use Rattle.definitions.specs.Query.{clauses_depth, depth, queries_depth}
 use Rattle.definitions.specs.Refusing.{clauses_fault, queries_fault}
-use Rattle.query.specs.Queries.{clauses_of, queries_of, query_of}
+use Rattle.query_trees.specs.Queries.{clauses_of, queries_of, query_of}
 use Rattle.query.proofs.checks.+check_tree.Given as goal
 
 -- a query is deeper than what is in it

@@ -1,7 +1,7 @@
 use Rattle.std.proofs.Common.{[], ap, length, map, nat_lt, sym, ◌++◌, ◌∙◌, ◌∷◌}
 use Rattle.definitions.specs.Refusing.{all_expansions, first_fault, own_tests, phrase_tests, term_tests}
 use Rattle.definitions.specs.declared.fault.Fault.TheVariants as faults
-use Rattle.query.specs.Queries.{query_of}
+use Rattle.query_trees.specs.Queries.{query_of}
 use Rattle.query.proofs.node_tests.check_own.Goals as goal
 
 pub returns-in-Phrase : goal.returns-in-Phrase
