@@ -10,6 +10,6 @@ mod term_tests;
 pub use checks::check_query;
 pub use query_trees::{
     AllQuery, AnyQuery, BooleanQuery, BoostQuery, ConstScoreQuery, DisjunctionMaxQuery, EmptyQuery,
-    Occur, PhrasePrefixQuery, PhraseQuery, Query, QueryClone, TermQuery,
+    Occur, PhrasePrefixQuery, PhraseQuery, Query, QueryClone, TermQuery, are_phrase_terms,
 };
 pub use statistics::Statistics;

@@ -1,6 +1,7 @@
 -- A stable sort by offsets is the order of the definitions.
-use Rattle.std.proofs.Common.{[], ⊎_elim, ◌+◌, ◌<◌, ◌∙◌, ◌∷◌, ◌≡◌, ◌≤◌, Bool, IsSortedBy, List, None, Option, Some, ap, arith, cond, false, filter, le_refl, le_trans, leb-false, leb-true, length, ltb-false, take, ◌-◌, nat_le, nat_lt, refl, suc, sym, true, ℕ}
-use Rattle.std.specs.List.{AllByRecursion, enumerate_from}
+use Rattle.std.proofs.Common.{[], ⊎_elim, ◌+◌, ◌<◌, ◌∙◌, ◌∷◌, ◌≡◌, ◌≤◌, Bool, IsSortedBy, List, ap, arith, cond, false, filter, le_refl, le_trans, leb-false, leb-true, length, ltb-false, take, ◌-◌, nat_le, nat_lt, refl, true≢false, ◌&&◌, ◌==◌, suc, sym, true, ℕ}
+use Rattle.std.proofs.lemmas.Bool.{eqb-true}
+use Rattle.std.specs.List.{AllByRecursion, enumerate_from, list_all}
 use Rattle.std.specs.List.Sorted.{IsStableBy, ties}
 use Rattle.std.specs.Bool.{⊤}
 use Rattle.std.specs.Option.{option_map_or}
@@ -10,7 +11,7 @@ use Rattle.definitions.specs.Phrases.{by_offset, insert_by_offset, last_and_rest
 use Rattle.definitions.specs.Query.{Terms}
 use Rattle.definitions.specs.Scoring.{phrase_field}
 use Rattle.definitions.specs.Terms.{field_of}
-use Rattle.query_trees.specs.PhraseTerms.{ArePhraseTerms, AreSortedTerms}
+use Rattle.query_trees.specs.PhraseTerms.{ArePhraseTerms, AreSortedTerms, are_phrase_terms}
 
 abbrev Placed : Type 0
 Placed = ℕ × List ℕ
@@ -197,6 +198,22 @@ rows_rise offset (t ∷ ts) = (rows_above offset (offset + 1) (omega arith) ts, 
 -- terms one after another are in that order
 pub sorted_row : (least : ℕ) (ts : List (List ℕ)) → ArePhraseTerms least (enumerate_from 0 ts) → AreSortedTerms least (enumerate_from 0 ts)
 sorted_row least ts h = record { phrase = h; sorted = by_offset_kept (enumerate_from 0 ts) (rows_rise 0 ts) }
+
+-- ---- what a test of terms tells
+
+both_parts : (a b : Bool) → (a && b) ≡ true → (a ≡ true) × (b ≡ true)
+both_parts true b h = (refl, h)
+both_parts false b h = absurd (true≢false (sym h))
+
+all_told : (field : ℕ) (ts : Terms) → list_all (λ t. field_of t.1 == field) ts ≡ true → AllByRecursion (λ t. field_of t.1 ≡ field) ts
+all_told field [] h = tt
+all_told field (t ∷ ts) h = let parts = both_parts (field_of t.1 == field) (list_all (λ u. field_of u.1 == field) ts) h in (eqb-true (field_of t.1) field parts.0, all_told field ts parts.1)
+
+-- terms that pass the test are those of a phrase
+pub phrase_told : (least : ℕ) (ts : Terms) → are_phrase_terms least ts ≡ true → ArePhraseTerms least ts
+phrase_told least ts h =
+    let parts = both_parts (nat_le least (length ts)) (list_all (λ t. field_of t.1 == phrase_field ts) ts) h in
+    record { enough = leb-true least (length ts) parts.0; one_field = all_told (phrase_field ts) ts parts.1 }
 
 -- ---- the last term
 

@@ -27,5 +27,6 @@ pub use empty_query::EmptyQuery;
 pub use occur::Occur;
 pub use phrase_prefix_query::PhrasePrefixQuery;
 pub use phrase_query::PhraseQuery;
+pub use phrase_terms::are_phrase_terms;
 pub use query::{Query, QueryClone};
 pub use term_query::TermQuery;

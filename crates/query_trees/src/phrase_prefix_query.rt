@@ -1,11 +1,11 @@
 //! The query for terms that stand beside each other, the last of which is known by its first bytes.
 
 ghost use Rattle.definitions.specs.Query as definitions;
-ghost use Rattle.std.specs.Prelude.{◌≡◌, IfOk, map};
+ghost use Rattle.std.specs.Prelude.{◌≡◌, IfOk, map, true};
 ghost use Rattle.std.specs.List.{enumerate_from};
 ghost use Rattle.definitions.specs.Phrases.{by_offset, whole_terms};
 ghost use Rattle.definitions.specs.Scoring.{phrase_field};
-ghost use Rattle.query_trees.specs.PhraseTerms.{ArePhraseTerms};
+ghost use Rattle.query_trees.specs.PhraseTerms.{are_phrase_terms};
 
 use crate::phrase_terms::{copied_places, copied_terms, in_a_row, sort_by_offset};
 use crate::query::{Query, QueryClone};
@@ -40,7 +40,7 @@ impl Model for PhrasePrefixQuery {
 impl PhrasePrefixQuery {
     /// The query for these terms, one after another. The last one is the prefix.
     pub fn new(alloc: Global, terms: Vec<Term>) -> Result<PhrasePrefixQuery, AllocError>
-        requires { ArePhraseTerms 1 (enumerate_from 0 terms.items) }
+        requires { are_phrase_terms 1 (enumerate_from 0 terms.items) ≡ true }
         ensures { IfOk result (λ query. query ≡ (enumerate_from 0 terms.items, 50)) }
     {
         let terms = in_a_row(alloc, terms)?;
@@ -52,7 +52,7 @@ impl PhrasePrefixQuery {
 
     /// The query for terms at offsets. The last one of those with the greatest offset is the prefix.
     pub fn new_with_offset(terms: Vec<(usize, Term)>) -> Result<PhrasePrefixQuery, AllocError>
-        requires { ArePhraseTerms 1 terms.items }
+        requires { are_phrase_terms 1 terms.items ≡ true }
         ensures { IfOk result (λ query. query ≡ (by_offset terms.items, 50)) }
     {
         let mut terms = terms;

@@ -1,11 +1,11 @@
 //! The query for terms that stand beside each other.
 
 ghost use Rattle.definitions.specs.Query as definitions;
-ghost use Rattle.std.specs.Prelude.{◌≡◌, IfOk, map};
+ghost use Rattle.std.specs.Prelude.{◌≡◌, IfOk, map, true};
 ghost use Rattle.std.specs.List.{enumerate_from};
 ghost use Rattle.definitions.specs.Phrases.{by_offset};
 ghost use Rattle.definitions.specs.Scoring.{phrase_field};
-ghost use Rattle.query_trees.specs.PhraseTerms.{ArePhraseTerms};
+ghost use Rattle.query_trees.specs.PhraseTerms.{are_phrase_terms};
 
 use crate::phrase_terms::{copied_places, copied_terms, in_a_row, sort_by_offset};
 use crate::query::{Query, QueryClone};
@@ -36,7 +36,7 @@ impl Model for PhraseQuery {
 impl PhraseQuery {
     /// The phrase of these terms, one after another.
     pub fn new(alloc: Global, terms: Vec<Term>) -> Result<PhraseQuery, AllocError>
-        requires { ArePhraseTerms 2 (enumerate_from 0 terms.items) }
+        requires { are_phrase_terms 2 (enumerate_from 0 terms.items) ≡ true }
         ensures { IfOk result (λ query. query ≡ (enumerate_from 0 terms.items, 0)) }
     {
         let phrase_terms = in_a_row(alloc, terms)?;
@@ -48,7 +48,7 @@ impl PhraseQuery {
 
     /// The phrase of terms at offsets.
     pub fn new_with_offset(terms: Vec<(usize, Term)>) -> Result<PhraseQuery, AllocError>
-        requires { ArePhraseTerms 2 terms.items }
+        requires { are_phrase_terms 2 terms.items ≡ true }
         ensures { IfOk result (λ query. query ≡ (by_offset terms.items, 0)) }
     {
         PhraseQuery::new_with_offset_and_slop(terms, 0)
@@ -59,7 +59,7 @@ impl PhraseQuery {
         terms: Vec<(usize, Term)>,
         slop: u32,
     ) -> Result<PhraseQuery, AllocError>
-        requires { ArePhraseTerms 2 terms.items }
+        requires { are_phrase_terms 2 terms.items ≡ true }
         ensures { IfOk result (λ query. query ≡ (by_offset terms.items, slop)) }
     {
         let mut phrase_terms = terms;

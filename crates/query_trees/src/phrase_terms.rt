@@ -1,11 +1,38 @@
 //! Terms of phrases, with their offsets.
 
-ghost use Rattle.std.specs.Prelude.{◌≡◌, IfOk, OnOk, map};
+ghost use Rattle.std.specs.Prelude.{◌==◌, ◌≡◌, IfOk, OnOk, map};
 ghost use Rattle.definitions.specs.Phrases.{by_offset};
-ghost use Rattle.std.specs.List.{enumerate_from};
+ghost use Rattle.definitions.specs.Scoring.{phrase_field};
+ghost use Rattle.definitions.specs.Terms.{field_of};
+ghost use Rattle.query_trees.specs.PhraseTerms.{are_phrase_terms};
+ghost use Rattle.std.specs.List.{enumerate_from, list_all};
 
 use std::alloc::{AllocError, Global};
-use terms::Term;
+use terms::{Field, Term};
+
+/// Whether these are so many terms at least, all of one field, as phrases ask.
+pub fn are_phrase_terms(least: usize, terms: &[(usize, Term)]) -> bool
+    ensures { result ≡ are_phrase_terms least terms.now }
+{
+    terms.len() >= least && are_of_field(field_of_first(terms), terms)
+}
+
+/// Whether terms are of a field.
+fn are_of_field(field: Field, terms: &[(usize, Term)]) -> bool
+    ensures { result ≡ list_all (λ t. field_of t.1 == field) terms.now }
+{
+    terms.iter().all(|(_offset, term)| term.field().field_id() == field.field_id())
+}
+
+/// The field of the first term, and else the first field.
+fn field_of_first(terms: &[(usize, Term)]) -> Field
+    ensures { result ≡ phrase_field terms.now }
+{
+    match terms.first() {
+        Some((_offset, term)) => term.field(),
+        None => Field::from_field_id(0),
+    }
+}
 
 /// Terms one after another, from offset 0 on.
 pub(crate) fn in_a_row(alloc: Global, terms: Vec<Term>) -> Result<Vec<(usize, Term)>, AllocError>

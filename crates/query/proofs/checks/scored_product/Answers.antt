@@ -1,4 +1,4 @@
-use Rattle.std.proofs.Common.{ap, sym, ◌∙◌}
+use Rattle.std.proofs.Common.{sym, ◌∙◌}
 use Rattle.definitions.specs.Refusing.{bound}
 use Rattle.query_trees.specs.Queries.{query_of}
 use Rattle.query.proofs.NodeFaults.{kept, lost}

@@ -1,9 +1,8 @@
 use Rattle.std.proofs.Common.{ap, ◌∙◌, ◌≡◌}
 use Rattle.definitions.specs.Query as definitions
 use Rattle.query_trees.specs.Queries.{clauses_of, each_asks, queries_of}
-use Rattle.query_trees.specs.declared.any_query.AnyQuery.{AnyQuery}
-use Rattle.query_trees.specs.declared.occur.Occur.TheVariants.{Must, Should}
-use Rattle.query_trees.proofs.Clauses.{each_of, no_minimum}
+use Rattle.query_trees.specs.declared.occur.Occur.TheVariants.{Should}
+use Rattle.query_trees.proofs.Clauses.{each_of}
 use Rattle.query_trees.proofs.boolean_query.BooleanQuery.union.Goals as goal
 
 pub returns : goal.returns

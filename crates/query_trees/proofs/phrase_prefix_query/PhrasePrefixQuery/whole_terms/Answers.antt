@@ -1,4 +1,4 @@
-use Rattle.std.proofs.Common.{ap, length, sym, take, ◌-◌, ◌∙◌}
+use Rattle.std.proofs.Common.{ap, take, ◌-◌, ◌∙◌}
 use Rattle.std.specs.Vec.{vec_len}
 use Rattle.definitions.specs.Phrases.{whole_terms}
 use Rattle.query_trees.proofs.OffsetOrder.{whole_first}
