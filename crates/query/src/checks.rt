@@ -140,8 +140,8 @@ fn check_disjuncts<S: Statistics>(
     requires { boost ≤ max_score }
     ensures { result_err result ≡ refusing.queries_fault schema.now (S.similarity statistics.now).weight boost (queries_of disjuncts.now) }
 {
-    for query in disjuncts {
-        check_tree(schema, statistics, boost, query)?;
+    for disjunct in disjuncts {
+        check_tree(schema, statistics, boost, disjunct)?;
     }
     Ok(())
 }

@@ -24,7 +24,7 @@ const MAX_OFFSET: usize = 1 << 30;
 const ALL_EXPANSIONS: u32 = 4294967295;
 
 /// The greatest tie breaker, in thousandths.
-const MAX_TIE_BREAKER: i64 = 1000;
+const MAX_TIE_BREAKER: Score = 1000;
 
 /// Makes the tests of a node that aren't about its score.
 pub(crate) fn check_own(schema: &Schema, query: &AnyQuery) -> Result<(), Fault>
