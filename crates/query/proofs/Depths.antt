@@ -3,8 +3,8 @@ use Rattle.std.proofs.Common.{arith, false, inl, inr, lt-ltb, nat_lt, suc, sym, 
 use Rattle.std.proofs.lemmas.Bool.Decides.{leb_tells}
 use Rattle.definitions.specs.Query as definitions
 use Rattle.definitions.specs.Query.{clauses_depth, depth, queries_depth}
-use Rattle.query.specs.Queries.{query_of}
-use Rattle.query.specs.declared.any_query.AnyQuery.{AnyQuery}
+use Rattle.query_trees.specs.Queries.{query_of}
+use Rattle.query_trees.specs.declared.any_query.AnyQuery.{AnyQuery}
 
 -- each path has a node
 one_node : (q : definitions.Query) → 0 < depth q

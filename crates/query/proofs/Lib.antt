@@ -1,6 +1,4 @@
 -- Lemmas on query trees.
-pub mod OffsetOrder
-pub mod Clauses
 pub mod TermKinds
 pub mod Positions
 pub mod Tests

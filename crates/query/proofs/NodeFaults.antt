@@ -1,5 +1,5 @@
 -- What a node is refused by, from what its tests tell.
-use Rattle.std.proofs.Common.{[], Bool, List, None, Option, Some, ap, false, if◌then◌else◌, refl, sym, true, ◌++◌, ◌∙◌, ◌∷◌, ◌≡◌, ◌||◌, ℕ}
+use Rattle.std.proofs.Common.{[], Bool, List, None, Option, Some, ap, false, if◌then◌else◌, refl, sym, true, ◌∙◌, ◌∷◌, ◌≡◌, ◌||◌, ℕ}
 use Rattle.std.specs.Option.{option_or}
 use Rattle.definitions.specs.Query.{Query}
 use Rattle.definitions.specs.Refusing.{first_fault, is_score_too_large, node_fault, own_tests}

@@ -1,5 +1,5 @@
 -- Whether a field records positions, from its type.
-use Rattle.std.proofs.Common.{[], Bool, None, Option, Some, ap, cond, false, if◌then◌else◌, is_some, refl, sym, true, true≢false, ◌∙◌, ◌≡◌}
+use Rattle.std.proofs.Common.{[], Bool, None, Option, Some, ap, false, if◌then◌else◌, is_some, refl, sym, true, true≢false, ◌∙◌, ◌≡◌}
 use Rattle.std.specs.Option.{option_map_or}
 use Rattle.definitions.specs.Schema.{Entry, IndexRecordOption, basic, has_positions, is_indexed}
 use Rattle.options.specs.Options.{Indexing}

@@ -1,10 +1,10 @@
 -- Bounds: what one tells that may be out of range, and how a boost scales it.
-use Rattle.std.proofs.Common.{Bool, None, Option, Some, ap, arith, cond, false, if◌then◌else◌, inl, inr, is_some, le-ltb, length, lt-ltb, nat_lt, not, refl, suc, sym, true, ◌*◌, ◌+◌, ◌<◌, ◌==◌, ◌∙◌, ◌≡◌, ◌≤◌, ◌⊎◌, List, ℕ, ℤ}
+use Rattle.std.proofs.Common.{Bool, None, Option, Some, ap, arith, false, if◌then◌else◌, inl, inr, is_some, le-ltb, length, lt-ltb, nat_lt, not, refl, suc, sym, true, ◌*◌, ◌+◌, ◌<◌, ◌==◌, ◌∙◌, ◌≡◌, ◌≤◌, ◌⊎◌, List, ℕ, ℤ}
 use Rattle.std.proofs.Math.Nat.{mul-add, mul-le-mul_right, mul-one, mul-zero, mul_assoc, one-mul, zero-add}
 use Rattle.std.proofs.lemmas.Bool.Decides.{leb_tells}
 use Rattle.definitions.specs.Matching.{is_counted}
 use Rattle.definitions.specs.Phrases.{whole_terms}
-use Rattle.definitions.specs.Query.{Clauses, Occur, Queries, Query, all, boolean, boost, clause, const_score, disjunction_max, empty, must, must_not, no_clauses, no_queries, phrase, phrase_prefix, query, should, term}
+use Rattle.definitions.specs.Query.{Clauses, Queries, Query, all, boolean, boost, clause, const_score, disjunction_max, empty, no_clauses, no_queries, phrase, phrase_prefix, query, term}
 use Rattle.definitions.specs.Refusing.{bound, clauses_bound, queries_bound}
 use Rattle.definitions.specs.Scoring.{max_score, natural, weight_sum}
 use Rattle.query.specs.Ranges.{in_range}

@@ -1,5 +1,5 @@
 -- Tests that are made one after another.
-use Rattle.std.proofs.Common.{[], Bool, Err, List, None, Ok, Option, Result, Some, ap, cond, false, if◌then◌else◌, map, refl, sym, true, ◌++◌, ◌∙◌, ◌∷◌, ◌≡◌, ◌||◌, ℕ}
+use Rattle.std.proofs.Common.{[], Bool, Err, List, Ok, Option, Result, Some, ap, false, map, refl, sym, true, ◌++◌, ◌∙◌, ◌∷◌, ◌≡◌, ◌||◌, ℕ}
 use Rattle.std.specs.List.{list_any}
 use Rattle.std.specs.Option.{option_or}
 use Rattle.std.specs.Result.{IsErrAnd, result_err}

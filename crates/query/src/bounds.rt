@@ -5,13 +5,12 @@ ghost use Rattle.definitions.specs.Matching.{is_counted};
 ghost use Rattle.definitions.specs.Query.{clauses_depth, depth};
 ghost use Rattle.definitions.specs.Refusing as refusing;
 ghost use Rattle.definitions.specs.Scoring.{natural, weight_sum};
-ghost use Rattle.query.specs.Queries.{clauses_of, occur_of, queries_of, query_of};
+ghost use Rattle.query_trees.specs.Queries.{clauses_of, occur_of, queries_of, query_of};
 ghost use Rattle.query.specs.Ranges.{in_range};
 
-use crate::any_query::AnyQuery;
-use crate::occur::Occur;
 use crate::statistics::Statistics;
 use common::{MAX_SCORE, Score};
+use query_trees::{AnyQuery, Occur};
 use terms::Term;
 
 /// A number times a bound; `None` where it is above `MAX_SCORE`, as of a bound.
@@ -58,7 +57,7 @@ pub(crate) fn bound<S: Statistics>(statistics: &S, query: &AnyQuery) -> Option<u
 
 /// The sum of the bounds of clauses.
 #[cycle(bound)]
-#[tactic(auto, using(crate::proofs::Clauses::clause_depth))]
+#[tactic(auto, using(query_trees::proofs::Clauses::clause_depth))]
 fn clauses_bound<S: Statistics>(statistics: &S, clauses: &[(Occur, AnyQuery)]) -> Option<u64>
     ensures { result ≡ in_range (refusing.clauses_bound (S.similarity statistics.now).weight 1 (clauses_of clauses.now)) }
 {
@@ -88,7 +87,7 @@ fn clause_bound<S: Statistics>(statistics: &S, occur: Occur, query: &AnyQuery) -
 
 /// The sum of the bounds of queries.
 #[cycle(bound)]
-#[tactic(auto, using(crate::proofs::Clauses::query_depth))]
+#[tactic(auto, using(query_trees::proofs::Clauses::query_depth))]
 fn disjuncts_bound<S: Statistics>(statistics: &S, disjuncts: &[AnyQuery]) -> Option<u64>
     ensures { result ≡ in_range (refusing.queries_bound (S.similarity statistics.now).weight 1 (queries_of disjuncts.now)) }
 {

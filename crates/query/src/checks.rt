@@ -5,15 +5,14 @@ ghost use Rattle.std.specs.Result.{result_err};
 ghost use Rattle.definitions.specs.Query.{clauses_depth, depth, queries_depth};
 ghost use Rattle.definitions.specs.Refusing as refusing;
 ghost use Rattle.definitions.specs.Scoring.{max_score, natural};
-ghost use Rattle.query.specs.Queries.{clauses_of, queries_of, query_of};
+ghost use Rattle.query_trees.specs.Queries.{clauses_of, queries_of, query_of};
 
-use crate::any_query::AnyQuery;
 use crate::bounds::{bound, times};
 use crate::node_tests::{check_own, is_outside};
-use crate::occur::Occur;
 use crate::statistics::Statistics;
 use common::{MAX_SCORE, Score};
 use definitions::Fault;
+use query_trees::{AnyQuery, Occur};
 use schema::Schema;
 
 /// The most nodes on a path of a query.
@@ -58,7 +57,7 @@ fn is_deeper(query: &AnyQuery, nodes: usize) -> bool
 
 /// Whether a path in clauses has more nodes than that.
 #[cycle(is_deeper)]
-#[tactic(auto, using(crate::proofs::Clauses::clause_depth))]
+#[tactic(auto, using(query_trees::proofs::Clauses::clause_depth))]
 fn any_clause_is_deeper(clauses: &[(Occur, AnyQuery)], nodes: usize) -> bool
     ensures { result ≡ nat_lt nodes (clauses_depth (clauses_of clauses.now)) }
 {
@@ -72,7 +71,7 @@ fn any_clause_is_deeper(clauses: &[(Occur, AnyQuery)], nodes: usize) -> bool
 
 /// Whether a path in queries has more nodes than that.
 #[cycle(is_deeper)]
-#[tactic(auto, using(crate::proofs::Clauses::query_depth))]
+#[tactic(auto, using(query_trees::proofs::Clauses::query_depth))]
 fn any_is_deeper(queries: &[AnyQuery], nodes: usize) -> bool
     ensures { result ≡ nat_lt nodes (queries_depth (queries_of queries.now)) }
 {
@@ -113,7 +112,7 @@ fn check_tree<S: Statistics>(
 
 /// Tests clauses, in order.
 #[cycle(check_tree)]
-#[tactic(auto, using(crate::proofs::Clauses::clause_depth))]
+#[tactic(auto, using(query_trees::proofs::Clauses::clause_depth))]
 fn check_clauses<S: Statistics>(
     schema: &Schema,
     statistics: &S,
@@ -131,7 +130,7 @@ fn check_clauses<S: Statistics>(
 
 /// Tests queries, in order.
 #[cycle(check_tree)]
-#[tactic(auto, using(crate::proofs::Clauses::query_depth))]
+#[tactic(auto, using(query_trees::proofs::Clauses::query_depth))]
 fn check_disjuncts<S: Statistics>(
     schema: &Schema,
     statistics: &S,
@@ -141,8 +140,8 @@ fn check_disjuncts<S: Statistics>(
     requires { boost ≤ max_score }
     ensures { result_err result ≡ refusing.queries_fault schema.now (S.similarity statistics.now).weight boost (queries_of disjuncts.now) }
 {
-    for query in disjuncts {
-        check_tree(schema, statistics, boost, query)?;
+    for disjunct in disjuncts {
+        check_tree(schema, statistics, boost, disjunct)?;
     }
     Ok(())
 }

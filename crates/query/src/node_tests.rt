@@ -6,14 +6,14 @@ ghost use Rattle.std.specs.Result.{result_err};
 ghost use Rattle.definitions.specs.Refusing as refusing;
 ghost use Rattle.definitions.specs.Terms.{is_text_term};
 ghost use Rattle.definitions.specs.declared.fault.Fault.TheVariants as faults;
-ghost use Rattle.query.specs.Queries.{query_of};
+ghost use Rattle.query_trees.specs.Queries.{query_of};
 
-use crate::any_query::AnyQuery;
 use crate::term_tests::{
     has_no_positions, is_mismatched, is_not_indexed, is_text_term, is_unknown,
 };
 use common::Score;
 use definitions::Fault;
+use query_trees::AnyQuery;
 use schema::Schema;
 use terms::Term;
 
@@ -24,7 +24,7 @@ const MAX_OFFSET: usize = 1 << 30;
 const ALL_EXPANSIONS: u32 = 4294967295;
 
 /// The greatest tie breaker, in thousandths.
-const MAX_TIE_BREAKER: i64 = 1000;
+const MAX_TIE_BREAKER: Score = 1000;
 
 /// Makes the tests of a node that aren't about its score.
 pub(crate) fn check_own(schema: &Schema, query: &AnyQuery) -> Result<(), Fault>

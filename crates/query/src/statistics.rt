@@ -1,8 +1,10 @@
 //! What scores follow from, beside documents and queries.
 
 ghost use Rattle.std.specs.Prelude.{◌≡◌, ◌≤◌};
+ghost use Rattle.definitions.specs.Settings.{similarity_of};
 ghost use Rattle.definitions.specs.Scoring.{IsSimilarity, Similarity, max_score};
 
+use settings::Settings;
 use terms::Term;
 
 /// Weights of terms, and norms of lengths. They stay what they are.
@@ -19,4 +21,16 @@ pub trait Statistics {
     fn norms(&self) -> &[u32]
         ensures value { result.now ≡ (similarity self.now).norms }
         ensures similarity { IsSimilarity (similarity self.now) };
+}
+
+impl Statistics for Settings {
+    ghost similarity = { similarity_of };
+
+    fn weight_of(&self, term: &Term) -> u64 {
+        self.weight_of(term)
+    }
+
+    fn norms(&self) -> &[u32] {
+        self.norms()
+    }
 }

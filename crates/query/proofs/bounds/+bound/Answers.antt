@@ -3,7 +3,7 @@ use mir.Val.{SFits}
 use Rattle.std.proofs.lemmas.Int.{to_z-of_z}
 use Rattle.definitions.specs.Refusing.{bound}
 use Rattle.definitions.specs.Scoring.{natural}
-use Rattle.query.specs.Queries.{query_of}
+use Rattle.query_trees.specs.Queries.{query_of}
 use Rattle.query.specs.Ranges.{in_range}
 use Rattle.query.proofs.ScaledBounds.{boost_bound}
 use Rattle.query.proofs.bounds.+bound.Goals as goal

@@ -2,7 +2,7 @@ use Rattle.std.proofs.Common.{drop, ◌*◌, ◌+◌, ◌≡◌, ◌≤◌}
 use Rattle.definitions.specs.Query.{clauses_depth, depth, queries_depth}
 use Rattle.definitions.specs.Refusing.{clauses_bound, queries_bound}
 use Rattle.definitions.specs.Scoring.{max_score}
-use Rattle.query.specs.Queries.{clauses_of, queries_of, query_of}
+use Rattle.query_trees.specs.Queries.{clauses_of, queries_of, query_of}
 use Rattle.query.proofs.bounds.+bound.Given as goal
 
 -- a query is deeper than what is in it

@@ -1,7 +1,7 @@
 use Rattle.std.proofs.Common.{drop, ◌*◌, ◌+◌, ◌≡◌}
 use Rattle.definitions.specs.Query.{clauses_depth, depth, queries_depth}
 use Rattle.definitions.specs.Refusing.{clauses_fault, queries_fault}
-use Rattle.query.specs.Queries.{clauses_of, queries_of, query_of}
+use Rattle.query_trees.specs.Queries.{clauses_of, queries_of, query_of}
 use Rattle.query.proofs.checks.+check_tree.Given as goal
 
 -- a query is deeper than what is in it
@@ -22,7 +22,7 @@ invariant-check_clauses-loop-occur g l =
     let weight = (g.S.Statistics.similarity l.statistics).weight in
     clauses_fault l.schema weight l.boost (clauses_of (drop l._occur-index l.clauses)) ≡ clauses_fault l.schema weight l.boost (clauses_of l.clauses)
 
-abbrev pub invariant-check_disjuncts-loop-query : goal.invariant-check_disjuncts-loop-query
-invariant-check_disjuncts-loop-query g l =
+abbrev pub invariant-check_disjuncts-loop-disjunct : goal.invariant-check_disjuncts-loop-disjunct
+invariant-check_disjuncts-loop-disjunct g l =
     let weight = (g.S.Statistics.similarity l.statistics).weight in
-    queries_fault l.schema weight l.boost (queries_of (drop l.query-index l.disjuncts)) ≡ queries_fault l.schema weight l.boost (queries_of l.disjuncts)
+    queries_fault l.schema weight l.boost (queries_of (drop l.disjunct-index l.disjuncts)) ≡ queries_fault l.schema weight l.boost (queries_of l.disjuncts)

@@ -1,5 +1,5 @@
 use Rattle.std.proofs.Common.{arith}
-use Rattle.query.proofs.Clauses.{clause_depth}
+use Rattle.query_trees.proofs.Clauses.{clause_depth}
 use Rattle.query.proofs.checks.+is_deeper.Goals as goal
 
 pub any_clause_is_deeper-is_deeper-requires : goal.any_clause_is_deeper-is_deeper-requires

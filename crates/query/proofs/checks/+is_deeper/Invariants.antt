@@ -1,6 +1,6 @@
 use Rattle.std.proofs.Common.{drop, nat_lt, ◌*◌, ◌+◌, ◌≡◌}
 use Rattle.definitions.specs.Query.{clauses_depth, depth, queries_depth}
-use Rattle.query.specs.Queries.{clauses_of, queries_of, query_of}
+use Rattle.query_trees.specs.Queries.{clauses_of, queries_of, query_of}
 use Rattle.query.proofs.checks.+is_deeper.Given as goal
 
 -- a query is deeper than what is in it

@@ -1,7 +1,6 @@
 use Rattle.std.proofs.Common.{None, Some, ap, sym, ◌∙◌}
-use Rattle.std.specs.Option.{option_or}
 use Rattle.std.specs.Result.{result_err}
-use Rattle.query.specs.Queries.{query_of}
+use Rattle.query_trees.specs.Queries.{query_of}
 use Rattle.query.proofs.NodeFaults.{fails, node_by, passes}
 use Rattle.query.proofs.Tests.{err_told}
 use Rattle.query.proofs.checks.check_node.Goals as goal

@@ -1,6 +1,6 @@
-use Rattle.std.proofs.Common.{ap, sym, ◌∙◌}
+use Rattle.std.proofs.Common.{sym, ◌∙◌}
 use Rattle.definitions.specs.Refusing.{bound}
-use Rattle.query.specs.Queries.{query_of}
+use Rattle.query_trees.specs.Queries.{query_of}
 use Rattle.query.proofs.NodeFaults.{kept, lost}
 use Rattle.query.proofs.ScaledBounds.{boosted}
 use Rattle.query.proofs.checks.scored_product.Goals as goal

@@ -1,7 +1,0 @@
-use Rattle.std.proofs.Common.{subst, sym}
-use Rattle.query.specs.PhraseTerms.{AreSortedTerms}
-use Rattle.query.proofs.OffsetOrder.{sorted_terms}
-use Rattle.query.proofs.phrase_prefix_query.PhrasePrefixQuery.new_with_offset.Goals as goal
-
-pub invariant_of-result : goal.invariant_of-result
-invariant_of-result c = subst (AreSortedTerms 1) (sym c.in_ok-sort_by_offset.ensures) (sorted_terms 1 c.args.terms.items c.requires)

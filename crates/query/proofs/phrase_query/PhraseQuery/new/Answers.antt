@@ -1,7 +1,0 @@
-use Rattle.std.proofs.Common.{subst, sym}
-use Rattle.query.specs.PhraseTerms.{AreSortedTerms}
-use Rattle.query.proofs.OffsetOrder.{sorted_row}
-use Rattle.query.proofs.phrase_query.PhraseQuery.new.Goals as goal
-
-pub invariant_of-result : goal.invariant_of-result
-invariant_of-result c = subst (AreSortedTerms 2) (sym c.in_ok-phrase_terms.ensures) (sorted_row 2 c.args.terms.items c.requires)
