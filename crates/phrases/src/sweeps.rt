@@ -1,0 +1,36 @@
+//! Costs of positions, from those of the term before.
+
+ghost use Rattle.std.specs.Prelude.{[], ◌≡◌, ◌≤◌, length, map, vec_capacity, vec_len};
+ghost use Rattle.phrases.specs.Costs.{IsTable, below_costs, cheap, nearest_costs};
+ghost use Rattle.phrases.specs.Places.{Ascends};
+
+/// A position and what the terms before it cost.
+pub(crate) type Cost = (u32, u64);
+
+/// Puts positions with the least cost of coming to each from below in place of what an output holds.
+fn sweep_up(table: &[Cost], positions: &[u32], most: u64, output: &mut Vec<Cost>)
+    requires most { most ≤ 4294967296 }
+    requires table { IsTable most 0 table.now }
+    requires ascends { Ascends 0 positions.now }
+    requires room { length positions.now ≤ vec_capacity output.old }
+    ensures items { output.new.items ≡ below_costs most table.now positions.now }
+    ensures room { vec_capacity output.new ≡ vec_capacity output.old }
+{
+    output.clear();
+    let mut best = most;
+    let mut at = 0;
+    let mut i = 0;
+    let mut j = 0;
+    while j < positions.len() {
+        let r = positions[j];
+        best = most.min(best + u64::from(r - at));
+        at = r;
+        if i < table.len() && table[i].0 <= r {
+            best = best.min(table[i].1 + u64::from(r - table[i].0));
+            i += 1;
+        } else {
+            output.push_reserved((r, best));
+            j += 1;
+        }
+    }
+}
