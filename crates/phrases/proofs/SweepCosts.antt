@@ -1,10 +1,11 @@
 -- Laws of costs that two sweeps find.
-use Rattle.std.proofs.Common.{[], Bool, List, ap, arith, drop, false, filter, get_or, if◌then◌else◌, le-leb, length, map, min, nat_le, refl, set, subst, suc, sym, take, true, zero, ◌++◌, ◌+◌, ◌-◌, ◌<◌, ◌==◌, ◌∙◌, ◌∷◌, ◌≡◌, ◌≤◌, ℕ}
+use Rattle.std.proofs.Common.{[], Bool, List, add-one, ap, arith, drop, false, filter, get_or, if◌then◌else◌, le-leb, length, map, min, nat_le, refl, set, subst, suc, sym, take, true, zero, ◌++◌, ◌+◌, ◌-◌, ◌<◌, ◌==◌, ◌∙◌, ◌∷◌, ◌≡◌, ◌≤◌, ℕ}
 use Rattle.std.proofs.lemmas.Bool.{lt-leb}
 use Rattle.std.proofs.lemmas.Bool.Decides.{nat_tests}
-use Rattle.std.proofs.lemmas.List.{drop_more, drop_all}
+use Rattle.std.proofs.lemmas.List.{drop_all, drop_more, get_or-take, length-take-le, take_more}
+use Rattle.std.proofs.Math.Seq.{take-length}
 use Rattle.definitions.specs.Phrases.{distance}
-use Rattle.phrases.specs.Costs.{IsTable, Passed, PassedDown, costs, nearest, nearest_above, nearest_below}
+use Rattle.phrases.specs.Costs.{IsTable, Passed, PassedDown, below_costs, costs, nearest, nearest_above, nearest_below}
 use Rattle.phrases.specs.Places.{Ascends}
 
 -- a position is below a target or it isn't
@@ -61,6 +62,12 @@ min-on most best at r s l h = omega (arith, l, h)
 min-more : (most best p cost r s rest : ℕ) → p ≤ r → r ≤ s → min (min most (best + (s - r))) (min ((s - p) + cost) rest) ≡ min (min most (min best (cost + (r - p)) + (s - r))) rest
 min-more most best p cost r s rest l h = omega (arith, l, h)
 
+min-off : (most best at r s : ℕ) → r ≤ at → s ≤ r → min most (best + (at - s)) ≡ min most (min most (best + (at - r)) + (r - s))
+min-off most best at r s l h = omega (arith, l, h)
+
+min-down : (most best p cost r s rest : ℕ) → r ≤ p → s ≤ r → min (min most (best + (r - s))) (min ((p - s) + cost) rest) ≡ min (min most (min best (cost + (p - r)) + (r - s))) rest
+min-down most best p cost r s rest l h = omega (arith, l, h)
+
 -- ---- the sweep up
 
 -- where the table is above a position nothing is below
@@ -100,3 +107,104 @@ far-next most i r table within t l =
     let m = get_or table i (0, 0) in
     let step = IsTable-step most 0 i table within t in
     ap (λ ls. nearest_below most ls r) (drop_more table i (0, 0) within) ∙ below-far most m.0 r (m ∷ drop (i + 1) table) (omega arith, step.1, step.2) l
+
+-- ---- the sweep down
+
+pub above-small : (most r : ℕ) (ls : List (ℕ × ℕ)) → nearest_above most ls r ≤ most
+above-small most r [] = omega arith
+above-small most r (l ∷ ls) =
+    let ih = above-small most r ls in
+    elim (nat_le r l.0) as (λ b. (if b then min ((l.0 - r) + l.1) (nearest_above most ls r) else nearest_above most ls r) ≤ most) [
+      | true ↦ (let goal : min ((l.0 - r) + l.1) (nearest_above most ls r) ≤ most = omega (arith, ih) in goal)
+      | false ↦ ih
+    ]
+
+-- one more at the end
+above-last : (most r : ℕ) (ls : List (ℕ × ℕ)) (m : ℕ × ℕ) → r ≤ m.0 → nearest_above most (ls ++ m ∷ []) r ≡ min ((m.0 - r) + m.1) (nearest_above most ls r)
+above-last most r [] m h = above-in most r m [] h
+above-last most r (l ∷ ls) m h =
+    let ih = above-last most r ls m h in
+    by_order r l.0 (nearest_above most (l ∷ ls ++ m ∷ []) r ≡ min ((m.0 - r) + m.1) (nearest_above most (l ∷ ls) r))
+    (λ i. (let all = above-in most r l (ls ++ m ∷ []) i in let some = above-in most r l ls i in omega (arith, ih, all, some)))
+    (λ o. (let all = above-out most r l (ls ++ m ∷ []) o in let some = above-out most r l ls o in omega (arith, ih, all, some)))
+
+-- where all are below a position nothing is above
+above-far : (most r : ℕ) (ls : List (ℕ × ℕ)) → ((k : ℕ) → k < length ls → (get_or ls k (0, 0)).0 < r) → nearest_above most ls r ≡ most
+above-far most r [] h = refl
+above-far most r (l ∷ ls) h = above-out most r l ls (h 0 (omega arith)) ∙ above-far most r ls (λ k b. h (suc k) (omega (arith, b)))
+
+-- positions of a table by their places
+pub table-order : (most low i j : ℕ) (ls : List (ℕ × ℕ)) → IsTable most low ls → i ≤ j → j < length ls → (get_or ls i (0, 0)).0 ≤ (get_or ls j (0, 0)).0
+table-order most low i j [] t b l = absurd (omega (arith, l))
+table-order most low zero zero (m ∷ ls) t b l = omega arith
+table-order most low zero (suc j) (m ∷ ls) t b l = table-least most m.0 j ls t.2 (omega (arith, l))
+  where
+    table-least : (most low j : ℕ) (ls : List (ℕ × ℕ)) → IsTable most low ls → j < length ls → low ≤ (get_or ls j (0, 0)).0
+    table-least most low j [] t l = absurd (omega (arith, l))
+    table-least most low zero (m ∷ ls) t l = t.0
+    table-least most low (suc j) (m ∷ ls) t l = (let ih = table-least most m.0 j ls t.2 (omega (arith, l)) in let here = t.0 in omega (arith, ih, here))
+table-order most low (suc i) zero (m ∷ ls) t b l = absurd (omega (arith, b))
+table-order most low (suc i) (suc j) (m ∷ ls) t b l = table-order most m.0 i j ls t.2 (omega (arith, b)) (omega (arith, l))
+
+pub table-cost : (most low i : ℕ) (ls : List (ℕ × ℕ)) → IsTable most low ls → i < length ls → (get_or ls i (0, 0)).1 ≤ most
+table-cost most low i [] t l = absurd (omega (arith, l))
+table-cost most low zero (m ∷ ls) t l = t.1
+table-cost most low (suc i) (m ∷ ls) t l = table-cost most m.0 i ls t.2 (omega (arith, l))
+
+-- the first are as they are
+take-kept : (i k : ℕ) (ls : List (ℕ × ℕ)) → k < i → get_or (take i ls) k (0, 0) ≡ get_or ls k (0, 0)
+take-kept i k ls l = get_or-take i ls k (0, 0) l
+
+pub down-none : (most at : ℕ) (table : List (ℕ × ℕ)) → PassedDown most table (length table) at most
+down-none most at table s l = (let small = above-small most s table in let all = ap (λ ls. nearest_above most ls s) (take-length table) in omega (arith, small, all))
+
+pub down-on : (most i at best r : ℕ) (table : List (ℕ × ℕ)) → r ≤ at → PassedDown most table i at best → PassedDown most table i r (min most (best + (at - r)))
+down-on most i at best r table l p s h = p s (omega (arith, l, h)) ∙ ap (λ n. min n (nearest_above most (take i table) s)) (min-off most best at r s l h)
+
+pub down-more : (most i best r : ℕ) (table : List (ℕ × ℕ)) → i < length table → r ≤ (get_or table i (0, 0)).0 → PassedDown most table (i + 1) r best → PassedDown most table i r (min best ((get_or table i (0, 0)).1 + ((get_or table i (0, 0)).0 - r)))
+down-more most i best r table within l p s h =
+    let m = get_or table i (0, 0) in
+    p s h
+    ∙ ap (λ n. min (min most (best + (r - s))) n) (ap (λ ls. nearest_above most ls s) (take_more table i (0, 0) within) ∙ above-last most s (take i table) m (omega (arith, l, h)))
+    ∙ min-down most best m.0 m.1 r s (nearest_above most (take i table) s) l h
+
+pub down-all : (most i best r : ℕ) (table : List (ℕ × ℕ)) → best ≤ most → nearest_above most (take i table) r ≡ most → PassedDown most table i r best → nearest_above most table r ≡ best
+down-all most i best r table small far p = (let here = p r (omega arith) in omega (arith, here, far, small))
+
+pub down-end : (most r : ℕ) (table : List (ℕ × ℕ)) → nearest_above most (take 0 table) r ≡ most
+down-end most r table = refl
+
+pub down-next : (most i r : ℕ) (table : List (ℕ × ℕ)) → i < length table → IsTable most 0 table → (get_or table i (0, 0)).0 < r → nearest_above most (take (i + 1) table) r ≡ most
+down-next most i r table within t l =
+    let long : length (take (i + 1) table) ≡ i + 1 = length-take-le (i + 1) table (omega (arith, within)) in
+    above-far most r (take (i + 1) table) (λ k b. (let same = ap (λ m. m.0) (take-kept (i + 1) k table (omega (arith, b, long))) in let order = table-order most 0 k i table t (omega (arith, b, long)) within in omega (arith, same, order, l)))
+
+-- ---- what a sweep down writes
+
+pub write-get : (most n : ℕ) (table rest : List (ℕ × ℕ)) (ps : List ℕ) → n < length ps → get_or (below_costs most table (take (n + 1) ps) ++ rest) n (0, 0) ≡ (get_or ps n 0, nearest_below most table (get_or ps n 0))
+write-get most n table rest ps l = rw add-one (go n ps l)
+  where
+    go : (n : ℕ) (ps : List ℕ) → n < length ps → get_or (below_costs most table (take (suc n) ps) ++ rest) n (0, 0) ≡ (get_or ps n 0, nearest_below most table (get_or ps n 0))
+    go n [] l = absurd (omega (arith, l))
+    go zero (p ∷ ps) l = refl
+    go (suc n) (p ∷ ps) l = go n ps (omega (arith, l))
+
+pub write-set : (most n : ℕ) (table rest : List (ℕ × ℕ)) (ps : List ℕ) (x : ℕ × ℕ) → n < length ps → set (below_costs most table (take (n + 1) ps) ++ rest) n x ≡ below_costs most table (take n ps) ++ x ∷ rest
+write-set most n table rest ps x l = rw add-one (go n ps l)
+  where
+    go : (n : ℕ) (ps : List ℕ) → n < length ps → set (below_costs most table (take (suc n) ps) ++ rest) n x ≡ below_costs most table (take n ps) ++ x ∷ rest
+    go n [] l = absurd (omega (arith, l))
+    go zero (p ∷ ps) l = refl
+    go (suc n) (p ∷ ps) l = ap (λ ys. (p, nearest_below most table p) ∷ ys) (go n ps (omega (arith, l)))
+
+pub positions-order : (low i j : ℕ) (ps : List ℕ) → Ascends low ps → i ≤ j → j < length ps → get_or ps i 0 ≤ get_or ps j 0
+positions-order low i j [] t b l = absurd (omega (arith, l))
+positions-order low zero zero (p ∷ ps) t b l = omega arith
+positions-order low zero (suc j) (p ∷ ps) t b l = least p j ps t.1 (omega (arith, l))
+  where
+    least : (low j : ℕ) (ps : List ℕ) → Ascends low ps → j < length ps → low ≤ get_or ps j 0
+    least low j [] t l = absurd (omega (arith, l))
+    least low zero (p ∷ ps) t l = t.0
+    least low (suc j) (p ∷ ps) t l = (let ih = least p j ps t.1 (omega (arith, l)) in let here = t.0 in omega (arith, ih, here))
+positions-order low (suc i) zero (p ∷ ps) t b l = absurd (omega (arith, b))
+positions-order low (suc i) (suc j) (p ∷ ps) t b l = positions-order p i j ps t.1 (omega (arith, b)) (omega (arith, l))

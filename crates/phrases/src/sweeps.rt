@@ -1,7 +1,7 @@
 //! Costs of positions, from those of the term before.
 
 ghost use Rattle.std.specs.Prelude.{[], ◌≡◌, ◌≤◌, length, map, vec_capacity, vec_len};
-ghost use Rattle.phrases.specs.Costs.{IsTable, below_costs, cheap, nearest_costs};
+ghost use Rattle.phrases.specs.Costs.{IsTable, below_costs, nearest_costs};
 ghost use Rattle.phrases.specs.Places.{Ascends};
 
 /// A position and what the terms before it cost.
@@ -31,6 +31,32 @@ fn sweep_up(table: &[Cost], positions: &[u32], most: u64, output: &mut Vec<Cost>
         } else {
             output.push_reserved((r, best));
             j += 1;
+        }
+    }
+}
+
+/// Lowers the costs of positions, which are those from below, to the least cost of coming to each from above.
+fn sweep_down(table: &[Cost], positions: &[u32], most: u64, costs: &mut [Cost])
+    requires most { most ≤ 4294967296 }
+    requires table { IsTable most 0 table.now }
+    requires ascends { Ascends 0 positions.now }
+    requires costs { costs.old ≡ below_costs most table.now positions.now }
+    ensures { costs.new ≡ nearest_costs most table.now positions.now }
+{
+    let mut best = most;
+    let mut at = u32::MAX;
+    let mut i = table.len();
+    let mut j = positions.len();
+    while j > 0 {
+        let r = positions[j - 1];
+        best = most.min(best + u64::from(at - r));
+        at = r;
+        if i > 0 && table[i - 1].0 >= r {
+            best = best.min(table[i - 1].1 + u64::from(table[i - 1].0 - r));
+            i -= 1;
+        } else {
+            costs[j - 1].1 = costs[j - 1].1.min(best);
+            j -= 1;
         }
     }
 }
