@@ -1,7 +1,7 @@
 //! Costs of positions, from those of the term before.
 
 ghost use Rattle.std.specs.Prelude.{[], ◌≡◌, ◌≤◌, length, map, vec_capacity, vec_len};
-ghost use Rattle.phrases.specs.Costs.{IsTable, below_costs, nearest_costs};
+ghost use Rattle.phrases.specs.Costs.{IsTable, below_costs, cheap, nearest_costs};
 ghost use Rattle.phrases.specs.Places.{Ascends};
 
 /// A position and what the terms before it cost.
@@ -57,6 +57,50 @@ fn sweep_down(table: &[Cost], positions: &[u32], most: u64, costs: &mut [Cost])
         } else {
             costs[j - 1].1 = costs[j - 1].1.min(best);
             j -= 1;
+        }
+    }
+}
+
+/// Puts positions with the least cost of coming to each from a table in place of what an output holds.
+pub(crate) fn reach(table: &[Cost], positions: &[u32], most: u64, output: &mut Vec<Cost>)
+    requires most { most ≤ 4294967296 }
+    requires table { IsTable most 0 table.now }
+    requires ascends { Ascends 0 positions.now }
+    requires room { length positions.now ≤ vec_capacity output.old }
+    ensures items { output.new.items ≡ nearest_costs most table.now positions.now }
+    ensures room { vec_capacity output.new ≡ vec_capacity output.old }
+{
+    sweep_up(table, positions, most, output);
+    sweep_down(table, positions, most, output);
+}
+
+/// Puts positions that cost nothing in place of what an output holds.
+pub(crate) fn begin(positions: &[u32], output: &mut Vec<Cost>)
+    requires room { length positions.now ≤ vec_capacity output.old }
+    ensures items { output.new.items ≡ map (λ p. (p, 0)) positions.now }
+    ensures room { vec_capacity output.new ≡ vec_capacity output.old }
+{
+    output.clear();
+    for i in 0..positions.len() {
+        output.push_reserved((positions[i], 0));
+    }
+}
+
+/// Puts the positions of a table within the slop, each once, in place of those that an output holds.
+pub(crate) fn copy_cheap(table: &[Cost], slop: u64, output: &mut Vec<u32>)
+    requires room { length table.now ≤ vec_capacity output.old }
+    ensures items { output.new.items ≡ cheap slop 0 table.now }
+    ensures room { vec_capacity output.new ≡ vec_capacity output.old }
+{
+    output.clear();
+    let mut next: u64 = 0;
+    for i in 0..table.len() {
+        let (p, cost) = table[i];
+        if u64::from(p) >= next {
+            next = u64::from(p) + 1;
+            if cost <= slop {
+                output.push_reserved(p);
+            }
         }
     }
 }
