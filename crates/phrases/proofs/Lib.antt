@@ -1,3 +1,4 @@
 pub mod Merges
 pub mod SweepCosts
 pub mod PlaceLaws
+pub mod PhrasePlaces

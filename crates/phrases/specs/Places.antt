@@ -32,3 +32,8 @@ distinct next (p ∷ ps) = if nat_le next p then p ∷ distinct (p + 1) ps else 
 abbrev pub reached : ℕ → List (List ℕ) → List ℕ
 reached slop [] = []
 reached slop (ps ∷ before) = filter (is_led_to before slop) (distinct 0 ps)
+
+-- each of several columns ascends
+abbrev pub AscendEach : List (List ℕ) → Type 0
+AscendEach [] = ⊤
+AscendEach (ps ∷ columns) = Ascends 0 ps × AscendEach columns
