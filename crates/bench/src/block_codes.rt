@@ -13,7 +13,7 @@ const LEN: usize = 16384;
 /// How many integers a run goes over, at least.
 const INTEGERS: u64 = 1 << 24;
 
-/// The best of so many runs is told.
+/// How many runs the best is taken of.
 const RUNS: u32 = 9;
 
 /// What is measured.

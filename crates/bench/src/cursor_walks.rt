@@ -14,7 +14,7 @@ use std::time::Clock;
 /// How far the targets of seeks are from one another.
 const STEP: u32 = 20000;
 
-/// The best of so many runs is told.
+/// How many runs the best is taken of.
 const RUNS: u32 = 60;
 
 /// What is measured.
@@ -35,7 +35,7 @@ pub(crate) fn measure(rt: &HostRuntime, alloc: Global) -> Result<(), Fault> {
     row(rt, alloc, 1000000)
 }
 
-/// Prints what a term of so many documents takes.
+/// Prints what a term of a given number of documents takes.
 fn row(rt: &HostRuntime, alloc: Global, num_docs: u32) -> Result<(), Fault>
     requires { num_docs ≤ 1000000 }
 {

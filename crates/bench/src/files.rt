@@ -20,7 +20,7 @@ const WORDS_PER_DOC: u32 = 8;
 /// An index whose file is in memory.
 type MemoryIndex = Index<MemoryDevice, RawAndDefault>;
 
-/// What was measured of an index with so many documents: the times in nanoseconds.
+/// What was measured of an index with a given number of documents: the times in nanoseconds.
 #[derive(Clone, Copy)]
 struct Row {
     docs: u32,
@@ -61,7 +61,7 @@ fn measure(rt: &HostRuntime, docs: u32) -> Result<Row, Fault> {
     })
 }
 
-/// An index in which so many documents wait.
+/// An index in which a given number of documents waits.
 fn filled(alloc: Global, docs: u32) -> Result<MemoryIndex, Fault> {
     let mut fields = Schema::builder(alloc);
     fields.add_text_field("title", TEXT | STORED)?;

@@ -16,7 +16,7 @@ use scorers::{Scorer, Similarity, TermScorer};
 use std::alloc::Global;
 use std::time::Clock;
 
-/// The best of so many runs is told.
+/// How many runs the best is taken of.
 const RUNS: u32 = 60;
 
 /// A weight whose product with a count is below 2^32, and one whose product isn't.
@@ -38,7 +38,7 @@ pub(crate) fn measure(rt: &HostRuntime, alloc: Global) -> Result<(), Fault> {
     rows(rt, alloc, 1000000)
 }
 
-/// Prints what a term of so many documents takes, by each weight.
+/// Prints what a term of a given number of documents takes, by each weight.
 fn rows(rt: &HostRuntime, alloc: Global, num_docs: u32) -> Result<(), Fault>
     requires { num_docs ≤ 1000000 }
 {

@@ -43,7 +43,7 @@ fn write_docs(
     Ok(())
 }
 
-/// The bytes of a term of so many documents, which go into the plain list as well.
+/// The bytes of a term of a given number of documents, which go into the plain list as well.
 pub(crate) fn written(
     alloc: Global,
     plain: &mut Vec<(u32, u32)>,

@@ -14,7 +14,7 @@ use schema::{Field, Schema};
 use std::alloc::Global;
 use std::io;
 
-/// The best of so many runs is told.
+/// How many runs the best is taken of.
 const RUNS: u32 = 5;
 
 /// The name of the tokenizer.

@@ -15,7 +15,7 @@ use Rattle.document_values.specs.Docs.{IsGoodPair}
 use Rattle.document.proofs.BinaryForm.{document_back, written}
 use Rattle.document.proofs.HeldPairs.{pair_back, pair_put}
 use Rattle.document.proofs.HeldValues.{held_back}
-use Rattle.document_values.proofs.Many.{IsBack, IsPut, bind_some, bytes_after, many_back, many_put, only_some, parts_are}
+use Rattle.common.proofs.Many.{IsBack, IsPut, bind_some, bytes_after, many_back, many_put, only_some, parts_are}
 use Rattle.document_values.proofs.Skips.{many_of_skip, none_of_skip}
 use Rattle.layouts.specs.DocumentBytes.{document_bytes, pair_bytes}
 use Rattle.layouts.specs.DocumentReading.{deepest, items_at, read_document, skip_many, take_many, take_pair, take_value}

@@ -4,4 +4,3 @@ pub mod DocumentsBack
 pub mod MadeTexts
 pub mod PairsBelow
 pub mod PlainData
-pub mod Taking

@@ -95,7 +95,7 @@ fn split_document(num_fields: usize, bytes: &[u8]) -> Result<(&[u8], &[u8]), Fau
     Ok((document, rest))
 }
 
-/// What follows so many pairs of the first fields.
+/// What follows a given number of pairs of the first fields.
 #[tactic(auto, using(crate::proofs::Taking::skips_on, crate::proofs::Taking::skips_refused, crate::proofs::Taking::skips_end))]
 fn skip_pairs(num_fields: usize, num_pairs: u64, bytes: &[u8]) -> Result<&[u8], Fault>
     ensures ok { IfOk result (λ rest. skip_many (definitions.take_pair_below num_fields) num_pairs bytes.now ≡ Some rest.now) }

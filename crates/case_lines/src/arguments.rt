@@ -9,7 +9,7 @@ use std::alloc::Global;
 pub(crate) enum Damage {
     /// Nothing.
     None,
-    /// Only so many bytes are left.
+    /// Only a given number of bytes is left.
     Cut(usize),
     /// The byte at a place is another one.
     Change(usize, u8),
@@ -143,7 +143,7 @@ fn joined_parts(alloc: Global, parts: &[Value]) -> Result<Vec<u8>, Refusal> {
     Ok(bytes)
 }
 
-/// Appends a byte, or one so many times.
+/// Appends a byte, or one a given number of times.
 fn push_bytes(bytes: &mut Vec<u8>, part: &Value) -> Result<(), Refusal> {
     let (number, times) = run_of(part)?;
     let byte = u8::try_from(number).ok().ok_or(Refusal::NotAsked)?;
@@ -153,7 +153,7 @@ fn push_bytes(bytes: &mut Vec<u8>, part: &Value) -> Result<(), Refusal> {
     Ok(())
 }
 
-/// Appends a number so many times.
+/// Appends a number a given number of times.
 fn push_times(numbers: &mut Vec<u32>, number: u32, times: u32) -> Result<(), Refusal> {
     for _ in 0..times {
         numbers.push(number)?;

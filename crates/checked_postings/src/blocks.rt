@@ -17,7 +17,7 @@ use options::IndexRecordOption;
 use packed_blocks::{COMPRESSION_BLOCK_SIZE, compressed_block_size};
 use skips::SkipReader;
 
-/// The sum of the counts of so many documents, where the bytes are their blocks, of which the skip entries tell.
+/// The sum of the counts of `doc_freq` documents, where the bytes are their blocks, of which the skip entries tell.
 pub(crate) fn checked_blocks(
     bytes: &[u8],
     skips: &mut SkipReader,

@@ -14,7 +14,7 @@ use definitions::Fault;
 use options::IndexRecordOption;
 use packed_blocks::{BlockDecoder, VIntDecoder};
 
-/// The sum of the counts of fewer than 128 documents, where the bytes are so many. The document before them is
+/// The sum of the counts of fewer than 128 documents, where the bytes are theirs. The document before them is
 /// given, or 0 where none stands before.
 pub(crate) fn checked_rest(
     bytes: &[u8],
@@ -36,7 +36,7 @@ pub(crate) fn checked_rest(
     Ok(total)
 }
 
-/// The sum of so many counts up to the end of the bytes.
+/// The sum of a given number of counts up to the end of the bytes.
 fn rest_counts(bytes: &[u8], doc_count: usize, option: IndexRecordOption) -> Result<u64, Fault>
     requires { doc_count < block_len }
     ensures ok { IfOk result (λ total. HasRestCounts (record_option_of option) doc_count bytes.now total × (total ≤ 549755813760)) }
@@ -56,7 +56,7 @@ fn rest_counts(bytes: &[u8], doc_count: usize, option: IndexRecordOption) -> Res
     Ok(total)
 }
 
-/// The sum of so many counts where none is recorded: each is 1.
+/// The sum of a given number of counts where none is recorded: each is 1.
 fn unrecorded_rest(bytes: &[u8], doc_count: usize, option: IndexRecordOption) -> Result<u64, Fault>
     requires few { doc_count < block_len }
     requires unrecorded { has_freq (record_option_of option) ≡ false }

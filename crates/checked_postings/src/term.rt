@@ -14,7 +14,7 @@ use definitions::Fault;
 use fieldnorms::FieldNormReader;
 use options::IndexRecordOption;
 
-/// Checks the postings and positions of a term that so many documents of a segment have, and answers the sum
+/// Checks the postings and positions of a term that `doc_freq` documents of a segment have, and answers the sum
 /// of its counts; each document counts 1 where no counts are recorded. Other bytes are `Damaged`.
 ///
 /// Nothing is copied but a block at a time, and no memory is asked for.

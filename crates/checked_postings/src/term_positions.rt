@@ -103,7 +103,7 @@ fn bounded_end(
     Some(end)
 }
 
-/// Whether the sum of so many numbers from a place on is below 2^31.
+/// Whether the sum of `count` numbers from a place on is below 2^31.
 fn is_bounded(
     reader: &mut PositionReader,
     place: u64,
@@ -128,7 +128,7 @@ fn is_bounded(
     true
 }
 
-/// The sum of so many numbers from a place on.
+/// The sum of `len` numbers from a place on.
 fn sum_at(
     reader: &mut PositionReader,
     place: u64,

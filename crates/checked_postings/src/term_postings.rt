@@ -29,7 +29,7 @@ pub fn recorded_of(option: IndexRecordOption) -> Recorded
     }
 }
 
-/// The sum of the counts of so many documents, where the bytes are their postings.
+/// The sum of the counts of a given number of documents, where the bytes are their postings.
 pub(crate) fn checked_postings(
     bytes: &[u8],
     doc_freq: u32,
@@ -55,7 +55,7 @@ pub(crate) fn checked_postings(
     Ok(total)
 }
 
-/// The skip entries of so many documents, and the blocks behind them.
+/// The skip entries of a given number of documents, and the blocks behind them.
 fn split_entries(bytes: &[u8], doc_freq: u32) -> Result<(&[u8], &[u8]), Fault>
     ensures few { IfOk result (λ p. doc_freq < block_len → (p.0.now ≡ []) × (p.1.now ≡ bytes.now)) }
     ensures many { IfOk result (λ p. block_len ≤ doc_freq → take_bytes bytes.now ≡ Some (p.0.now, p.1.now)) }

@@ -58,7 +58,7 @@ fn of_section(alloc: Global, arguments: &Arguments) -> Result<Value, Refusal> {
     }
 }
 
-/// The lengths of a field's ids, where there are so many documents.
+/// The lengths of a field's ids, for a given number of documents.
 fn reader(alloc: Global, arguments: &Arguments) -> Result<Value, Refusal> {
     let ids = arguments.bytes(alloc, 0)?;
     lengths(

@@ -53,7 +53,7 @@ fn how_many(count: u128) -> Value {
     number(u64::try_from(count).unwrap_or(u64::MAX))
 }
 
-/// How many numbers there are, and so many of them from a place on.
+/// How many numbers there are, and a given number of them from a place on.
 fn read(alloc: Global, arguments: &Arguments) -> Result<Value, Refusal> {
     let bytes = arguments.bytes(alloc, 0)?;
     let offset = arguments.small_number(1)?;
@@ -82,7 +82,7 @@ fn number_at(place: u32) -> u32
     (place.wrapping_mul(2654435761) >> (place % 31)) % 0x8000_0000
 }
 
-/// The positions of a term of so many numbers, each written alone.
+/// The positions of a term, each number written alone.
 fn mixed_positions(alloc: Global, count: u32) -> Result<Vec<u8>, AllocError> {
     let mut serializer = PositionSerializer::new(alloc, Vec::new(alloc));
     for place in 0..count {
@@ -101,7 +101,7 @@ fn agrees(reader: &mut PositionReader, place: u32) -> bool {
     number[0] == number_at(place)
 }
 
-/// Writes so many numbers, and answers how many there are, and how many are read right by one reader: forward,
+/// Writes numbers, and answers how many there are, and how many are read right by one reader: forward,
 /// backward and by steps of 7919.
 fn read_in_orders(alloc: Global, count: u32) -> Result<Value, Refusal> {
     let bytes = mixed_positions(alloc, count)?;

@@ -51,7 +51,7 @@ fn entry_of_positions(alloc: Global, arguments: &Arguments) -> Result<Value, Ref
     Ok(hex(alloc, serializer.data())?)
 }
 
-/// The entries of so many blocks, each of every third document.
+/// The entries of a given number of blocks, each of every third document.
 fn entries(alloc: Global, blocks: u32) -> Result<SkipSerializer, AllocError> {
     let mut serializer = SkipSerializer::new(alloc);
     for block in 0..blocks {
@@ -104,7 +104,7 @@ fn push_place(
     Ok(list.push(place(alloc, reader)?)?)
 }
 
-/// Where a reader of entries, for so many documents, stands at first and after each of so many steps.
+/// Where a reader of entries of `doc_freq` documents stands at first and after each step.
 fn walk(alloc: Global, arguments: &Arguments) -> Result<Value, Refusal> {
     let bytes = arguments.bytes(alloc, 0)?;
     let mut reader = SkipReader::open(&bytes, arguments.small_number(1)?, POSITIONS)?;
@@ -142,7 +142,7 @@ fn target(doc: u32) -> u32
     doc.min(2147483647)
 }
 
-/// Seeks each document from 0 on below a bound, each by a new reader of the entries, for so many documents: the
+/// Seeks each document from 0 on below a bound, each by a new reader of the entries: the
 /// first document of each run with one answer, whether blocks were passed, and where the reader stands then.
 fn sought(alloc: Global, arguments: &Arguments) -> Result<Value, Refusal> {
     let bytes = arguments.bytes(alloc, 0)?;
@@ -177,7 +177,7 @@ fn run(
     triple(alloc, number(u64::from(doc)), flag(passed), at)
 }
 
-/// Whether the first block of entries, for so many documents, ends at document 127 or later.
+/// Whether the first block of entries ends at document 127 or later.
 fn first_block_full(alloc: Global, arguments: &Arguments) -> Result<Value, Refusal> {
     let bytes = arguments.bytes(alloc, 0)?;
     let reader = SkipReader::open(&bytes, arguments.small_number(1)?, POSITIONS)?;

@@ -38,6 +38,15 @@ impl AliveBitSet {
         })
     }
 
+    /// The same set, in memory of its own.
+    pub fn try_clone(&self, alloc: Global) -> Result<AliveBitSet, AllocError>
+        ensures { IfOk result (λ alive. alive ≡ self.now) }
+    {
+        Ok(AliveBitSet {
+            alive: self.alive.try_clone(alloc)?,
+        })
+    }
+
     /// Whether a document is alive.
     #[inline]
     pub fn is_alive(&self, doc: DocId) -> bool

@@ -50,6 +50,19 @@ impl BitSet {
         })
     }
 
+    /// The same set, in memory of its own.
+    pub fn try_clone(&self, alloc: Global) -> Result<BitSet, AllocError>
+        ensures { IfOk result (λ set. set ≡ self.now) }
+    {
+        let mut words = Vec::with_capacity(alloc, self.words.len())?;
+        words.extend_from_slice(&self.words)?;
+        Ok(BitSet {
+            words,
+            len: self.len,
+            max_value: self.max_value,
+        })
+    }
+
     /// Puts a number in.
     #[inline]
     pub fn insert(&mut self, el: u32)

@@ -17,7 +17,7 @@ fn kill(alive: &mut AliveBitSet, doc: u32) {
     }
 }
 
-/// A set of so many documents, of which the dead ones are killed.
+/// A set of a given number of documents, of which the dead ones are killed.
 fn set_of(alloc: Global, max_doc: u32) -> Result<AliveBitSet, Fault> {
     let mut alive = AliveBitSet::for_max_doc(alloc, max_doc)?;
     for doc in 0..max_doc {

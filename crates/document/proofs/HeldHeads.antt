@@ -14,7 +14,7 @@ use Rattle.definitions.specs.Values.{IsValue, Token, Value, array, bool, bytes, 
 use Rattle.document_values.specs.Docs.{IsGood}
 use Rattle.document_values.specs.Held.{IsSized, held_bytes, tokens_bytes}
 use Rattle.layouts.specs.DocumentReading.{Head, array_head, leaf, object_head, steps_in, take_address_leaf, take_bool_leaf, take_bytes_leaf, take_coded, take_head, take_pre_tokenized_leaf, take_text_leaf, take_tokens, take_u64_leaf, taken_map}
-use Rattle.document_values.proofs.Many.{IsBack, IsPut, bind_some, bytes_after, map_some, only_some, parts_are}
+use Rattle.common.proofs.Many.{IsBack, IsPut, bind_some, bytes_after, map_some, only_some, parts_are}
 use Rattle.document_values.proofs.Steps.{encoded_text, steps_are_facet, steps_back, steps_spelled}
 use Rattle.document_values.proofs.Tokens.{tokens_back, tokens_put}
 

@@ -13,7 +13,7 @@ use Rattle.document_values.specs.Docs.{HoldsPairs, IsGood, IsGoodPair, IsHeap, p
 use Rattle.document_values.specs.Held.{held_bytes, held_pair, held_pairs}
 use Rattle.layouts.specs.DocumentReading.{deepest, items_at, read_document, skip_many, take_any, take_held, take_many, take_pair, take_value, taken_map}
 use Rattle.document.proofs.HeldValues.{held_back, held_put}
-use Rattle.document_values.proofs.Many.{IsBack, IsPut, bind_some, bytes_after, many_back, many_put, map_some}
+use Rattle.common.proofs.Many.{IsBack, IsPut, bind_some, bytes_after, many_back, many_put, map_some}
 use Rattle.document_values.proofs.Skips.{many_of_skip, none_of_skip}
 
 pub pair_put : (t : Bool) (d : ℕ) → IsPut (take_pair (take_held t d)) (IsGoodPair t d) held_pair

@@ -39,7 +39,7 @@ fn slot(alloc: Global, number: u32) -> Result<Vec<u8>, AllocError> {
     Ok(bytes)
 }
 
-/// Adds the slots with so many numbers from one on.
+/// Adds a given number of slots, numbered from one on.
 fn add(alloc: Global, writer: &mut StoreWriter, first: u32, count: u32) -> Result<(), Refusal> {
     for i in 0..count {
         writer.store_bytes(&slot(alloc, first.wrapping_add(i))?)?;
@@ -47,7 +47,7 @@ fn add(alloc: Global, writer: &mut StoreWriter, first: u32, count: u32) -> Resul
     Ok(())
 }
 
-/// A writer of the slots with so many numbers from one on.
+/// A writer of a given number of slots, numbered from one on.
 fn writer_of(
     alloc: Global,
     first: u32,
@@ -59,7 +59,7 @@ fn writer_of(
     Ok(writer)
 }
 
-/// The file of the slots with so many numbers from 0 on.
+/// The file of a given number of slots, numbered from 0 on.
 fn file_of(alloc: Global, count: u32, block_size: u64) -> Result<Vec<u8>, Refusal> {
     let writer = writer_of(alloc, 0, count, block_size)?;
     Ok(writer.close(alloc)?)
@@ -100,7 +100,7 @@ fn counts_read(alloc: Global, reader: &mut StoreReader, count: u32) -> Result<[u
     ])
 }
 
-/// Of a store of so many slots, with blocks of a size, read by a reader that keeps so many blocks: how many slots
+/// Of a store of slots, with blocks of a size, read by a reader that keeps some of them: how many slots
 /// there are, how many are read right in each of three orders, how often a block was asked for, and whether slots
 /// past the last are refused, no more blocks are kept than that, and none is found where none is kept.
 fn orders(alloc: Global, arguments: &Arguments) -> Result<Value, Refusal> {
@@ -110,7 +110,7 @@ fn orders(alloc: Global, arguments: &Arguments) -> Result<Value, Refusal> {
     Ok(cells(alloc, &told)?)
 }
 
-/// What `orders` answers of so many slots.
+/// What `orders` answers of a given number of slots.
 fn orders_of_slots(
     alloc: Global,
     count: u32,
@@ -121,7 +121,7 @@ fn orders_of_slots(
     orders_of_file(alloc, &file, count, capacity)
 }
 
-/// What `orders` answers of a file of so many slots.
+/// What `orders` answers of a file of a given number of slots.
 fn orders_of_file(
     alloc: Global,
     file: &[u8],
@@ -178,7 +178,7 @@ fn count_in_order(alloc: Global, reader: &mut StoreReader) -> Result<u32, Refusa
     Ok(right)
 }
 
-/// Of a store of so many slots, with blocks of a size, iterated twice by a reader that keeps all of its blocks or
+/// Of a store of slots, with blocks of a size, iterated twice by a reader that keeps all of its blocks or
 /// none: how many slots come right each time, and whether the first time looks up each block once, and the second
 /// time finds it kept or looks it up again.
 fn iterated(alloc: Global, arguments: &Arguments) -> Result<Value, Refusal> {
@@ -187,7 +187,7 @@ fn iterated(alloc: Global, arguments: &Arguments) -> Result<Value, Refusal> {
     Ok(cells(alloc, &told)?)
 }
 
-/// What `iterated` answers of so many slots, by whether all blocks are kept.
+/// What `iterated` answers of a given number of slots, by whether all blocks are kept.
 fn walks_of_slots(
     alloc: Global,
     count: u32,
@@ -218,7 +218,7 @@ fn told_of_both(
     Ok([first, looked_up, second, found])
 }
 
-/// How many slots come right, and whether so many blocks are then found kept, and the others looked up.
+/// How many slots come right, and whether a given number of blocks are then found kept, and the others looked up.
 fn told_of_walk(
     alloc: Global,
     reader: &mut StoreReader,
@@ -359,7 +359,7 @@ fn counts_of(alloc: Global, file: &[u8], docs: u32) -> Result<[u32; 3], Refusal>
     counts_read(alloc, &mut reader, docs)
 }
 
-/// Stacks a store of so many slots from one on, and adds three slots after it.
+/// Stacks a store of a given number of slots from one on, and adds three slots after it.
 fn stack_other(
     alloc: Global,
     writer: &mut StoreWriter,

@@ -56,7 +56,7 @@ fn of_slots(alloc: Global, arguments: &Arguments) -> Result<Vec<u8>, Refusal> {
     Ok(writer.close(alloc)?)
 }
 
-/// Adds a slot so many times.
+/// Adds a slot a given number of times.
 fn add_times(writer: &mut StoreWriter, bytes: &[u8], times: u64) -> Result<(), Refusal> {
     for _ in 0..times {
         writer.store_bytes(bytes)?;
@@ -74,7 +74,7 @@ fn of_documents(alloc: Global, schema: &Schema, arguments: &Arguments) -> Result
     Ok(writer.close(alloc)?)
 }
 
-/// A reader of a store that keeps so many blocks.
+/// A reader of a store that keeps a given number of blocks.
 pub(crate) fn reader(alloc: Global, bytes: &[u8], capacity: usize) -> Result<StoreReader, Refusal> {
     let shared = Bytes::copy_from_slice(alloc, bytes)?;
     Ok(StoreReader::open(alloc, shared, capacity)?)

@@ -24,7 +24,7 @@ pub(crate) fn length_fields(alloc: Global, schema: &Schema) -> Result<Vec<u32>, 
     Ok(fields)
 }
 
-/// Leaves a length of 0 for each of so many fields.
+/// Leaves a length of 0 for each of a given number of fields.
 pub(crate) fn begin_lengths(lengths: &mut Vec<u32>, num_fields: usize) -> Result<(), AllocError>
     ensures { OnOk result (lengths.new.items ≡ replicate num_fields 0) }
 {

@@ -1,5 +1,4 @@
 pub mod Steps
-pub mod Many
 pub mod Tokens
 pub mod Inside
 pub mod Skips

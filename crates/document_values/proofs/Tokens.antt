@@ -7,7 +7,7 @@ use Rattle.definitions.specs.NumberCodes.{AreBytes, sized_bytes, take_text, take
 use Rattle.definitions.specs.Values.{AreTokens, AreTokensFrom, Token}
 use Rattle.document_values.specs.Held.{AreSizedTokens, token_bytes, tokens_bytes}
 use Rattle.layouts.specs.DocumentReading.{take_token, take_tokens, take_tokens_from, taken_map}
-use Rattle.document_values.proofs.Many.{bind_some, bytes_after, map_some, only_some, parts_are}
+use Rattle.common.proofs.Many.{bind_some, bytes_after, map_some, only_some, parts_are}
 
 -- ---- one token
 

@@ -38,7 +38,7 @@ pub fn value_head(field: Field, code: u8) -> [u8; 5]
     [first, second, third, fourth, code]
 }
 
-/// What stands before a byte string of so many bytes: its field, a code and the count.
+/// What stands before a byte string of a given number of bytes: its field, a code and the count.
 pub fn sized_head(
     alloc: Global,
     field: Field,

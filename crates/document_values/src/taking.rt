@@ -35,7 +35,7 @@ pub(crate) fn take_any(bytes: &[u8]) -> Result<(CompactDocValue<'_>, &[u8]), Fau
     take(true, DEEPEST, bytes)
 }
 
-/// What follows so many pairs of the binary form.
+/// What follows a given number of pairs of the binary form.
 pub fn skip_pairs(count: u64, bytes: &[u8]) -> Result<&[u8], Fault>
     ensures ok { IfOk result (λ rest. skip_many (take_pair take_value) count bytes.now ≡ Some rest.now) }
     ensures err { IfErr result (λ fault. (fault ≡ faults.Damaged None) × (skip_many (take_pair take_value) count bytes.now ≡ None)) }
@@ -88,7 +88,7 @@ fn inner(depth: usize) -> Result<usize, Fault>
     depth.checked_sub(1).ok_or(Fault::Damaged(None))
 }
 
-/// What follows so many values.
+/// What follows a given number of values.
 #[cycle(take)]
 fn skip_values(tokens: bool, depth: usize, count: u64, bytes: &[u8]) -> Result<&[u8], Fault>
     ensures ok { IfOk result (λ rest. skip_many (take_held tokens depth) count bytes.now ≡ Some rest.now) }
@@ -104,7 +104,7 @@ fn skip_values(tokens: bool, depth: usize, count: u64, bytes: &[u8]) -> Result<&
     Ok(rest)
 }
 
-/// What follows so many members.
+/// What follows a given number of members.
 #[cycle(take)]
 fn skip_members(tokens: bool, depth: usize, count: u64, bytes: &[u8]) -> Result<&[u8], Fault>
     ensures ok { IfOk result (λ rest. skip_many (take_member (take_held tokens depth)) count bytes.now ≡ Some rest.now) }

@@ -13,7 +13,7 @@ pub(crate) fn documents_none(alloc: Global, held: &mut Held) -> Result<Value, Re
     Ok(number(0))
 }
 
-/// Adds a list of documents, so many times, and answers how many there are.
+/// Adds a list of documents a given number of times, and answers how many there are.
 pub(crate) fn documents_added(
     alloc: Global,
     held: &mut Held,
@@ -77,7 +77,7 @@ pub(crate) fn opened_with_lengths(
     Ok(flag(true))
 }
 
-/// Whether the sections are opened as those of so many documents; they are so from then on.
+/// Whether the sections are opened as those of a given number of documents; they are so from then on.
 pub(crate) fn opened_of_documents(
     alloc: Global,
     held: &mut Held,

@@ -170,7 +170,7 @@ fn walks(postings: &mut SegmentPostings, num_docs: u32, counted: bool) -> bool
     right
 }
 
-/// Whether a term of so many documents is walked, and counted to its end.
+/// Whether a term of a given number of documents is walked, and counted to its end.
 fn is_walked(alloc: Global, option: IndexRecordOption, num_docs: u32) -> Result<bool, Fault>
     requires { num_docs ≤ 65535 }
 {
@@ -183,7 +183,7 @@ fn is_walked(alloc: Global, option: IndexRecordOption, num_docs: u32) -> Result<
     Ok(walked && counted && postings.doc() == TERMINATED)
 }
 
-/// Whether seeks in steps of so many documents come to theirs.
+/// Whether seeks in steps of a given number of documents come to theirs.
 fn seeks(postings: &mut SegmentPostings, num_docs: u32, stride: u32) -> bool
     requires { num_docs ≤ 65535 }
 {
@@ -205,7 +205,7 @@ fn seeks(postings: &mut SegmentPostings, num_docs: u32, stride: u32) -> bool
     right
 }
 
-/// Whether a term of so many documents is sought in each step.
+/// Whether a term of a given number of documents is sought in each step.
 fn is_sought(alloc: Global, option: IndexRecordOption, num_docs: u32) -> Result<bool, Fault>
     requires { num_docs ≤ 65535 }
 {
@@ -225,7 +225,7 @@ fn is_told(found: SeekDangerResult, target: u32, next: u32) -> bool {
     }
 }
 
-/// Whether each document is told that is asked for in steps of so many, and then sought.
+/// Whether each document is told that is asked for in steps of a given number, and then sought.
 fn asks(docs: &mut impl DocSet, num_docs: u32, stride: u32) -> bool
     requires { num_docs ≤ 65535 }
 {
@@ -246,7 +246,7 @@ fn asks(docs: &mut impl DocSet, num_docs: u32, stride: u32) -> bool
     right
 }
 
-/// Whether a term of so many documents is asked for in each step.
+/// Whether a term of a given number of documents is asked for in each step.
 fn is_asked_for(alloc: Global, option: IndexRecordOption, num_docs: u32) -> Result<bool, Fault>
     requires { num_docs ≤ 65535 }
 {
@@ -362,7 +362,7 @@ fn has_places(postings: &mut impl Postings, output: &mut Vec<u32>) -> Result<boo
     Ok(counted && own && appended && moved)
 }
 
-/// Whether each document has its positions, seeking in steps of so many documents.
+/// Whether each document has its positions, seeking in steps of a given number of documents.
 fn has_all_places(
     alloc: Global,
     postings: &mut impl Postings,
@@ -381,7 +381,7 @@ fn has_all_places(
     Ok(right)
 }
 
-/// Whether the positions of a term of so many documents are read in each step.
+/// Whether the positions of a term of a given number of documents are read in each step.
 fn are_places_read(alloc: Global, num_docs: u32) -> Result<bool, Fault>
     requires { num_docs ≤ 65535 }
 {
@@ -422,7 +422,7 @@ fn holds(blocks: &BlockSegmentPostings, place: u32, num_docs: u32) -> bool
     right
 }
 
-/// Whether the blocks of a term of so many documents come one after another.
+/// Whether the blocks of a term of a given number of documents come one after another.
 fn are_blocks_walked(alloc: Global, num_docs: u32) -> Result<bool, Fault>
     requires { num_docs ≤ 65535 }
 {
@@ -454,7 +454,7 @@ fn is_block_sought(bytes: &[u8], target: u32, num_docs: u32) -> bool
         && blocks.decoded_blocks() == decoded
 }
 
-/// Whether each seek in a term of so many documents does.
+/// Whether each seek in a term of a given number of documents does.
 fn are_blocks_sought(alloc: Global, num_docs: u32) -> Result<bool, Fault>
     requires { num_docs ≤ 65535 }
 {

@@ -32,7 +32,7 @@ fn union_by<C: ScoreCombiner>(
     moved(alloc, &mut scorer, arguments.list(2)?)
 }
 
-/// The documents that at least so many lists have.
+/// The documents that at least a given number of lists have.
 pub(crate) fn disjunction(alloc: Global, arguments: &Arguments) -> Result<Value, Refusal> {
     match arguments.text(1)? {
         "nothing" => disjunction_by(alloc, DoNothingCombiner::default(), arguments),

@@ -4,7 +4,7 @@ use Rattle.std.specs.List.{AllByRecursion}
 use Rattle.common.proofs.AliveSetBytes.{u32_back}
 use Rattle.common.proofs.TakenBack.{u32_put}
 use Rattle.definitions.specs.NumberCodes.{AreBytes, take_u32, u32_bytes}
-use Rattle.document_values.proofs.Many.{bytes_after, many_back, many_put, parts_are}
+use Rattle.common.proofs.Many.{bytes_after, many_back, many_put, parts_are}
 use Rattle.layouts.specs.AliveSets.{alive_bytes}
 use Rattle.layouts.specs.DocumentReading.{take_many}
 use Rattle.segment_layouts.specs.SegmentBodies.{Fits, Part, part_bytes, segments_body}

@@ -6,7 +6,7 @@ use Rattle.std.proofs.lemmas.Nat.{from_le_bytes-to_le_bytes_8}
 use Rattle.std.specs.Int.{from_le_bytes, w64}
 use Rattle.definitions.specs.Json.{◌>>=◌}
 use Rattle.definitions.specs.NumberCodes.{AreBytes, take_count, take_u32, take_u64, u32_bytes, u64_bytes}
-use Rattle.document_values.proofs.Many.{IsBack, IsPut, bind_some, bytes_after, parts_are}
+use Rattle.common.proofs.Many.{IsBack, IsPut, bind_some, bytes_after, parts_are}
 use Rattle.segment_layouts.specs.SegmentBodies.{Fits, Part, fresh, kept, part_bytes}
 use Rattle.segment_bodies.specs.Parts.{fresh_behind, fresh_of, kept_at, take_part}
 

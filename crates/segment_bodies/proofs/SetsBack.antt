@@ -7,7 +7,7 @@ use Rattle.common.proofs.FlagWords.{length-alive_words}
 use Rattle.definitions.specs.NumberCodes.{take_u32, u32_bytes, u64_bytes}
 use Rattle.layouts.specs.AliveSets.{IsAliveSet, alive_bytes, alive_words}
 use Rattle.segment_bodies.specs.Bodies.{IsShort}
-use Rattle.document_values.proofs.Many.{parts_are}
+use Rattle.common.proofs.Many.{parts_are}
 
 -- ---- one set
 

@@ -126,6 +126,7 @@ impl<'a> BlockSegmentPostings<'a> {
     }
 
     /// How many documents have the term.
+    #[inline]
     pub fn doc_freq(&self) -> u32
         ensures { result ≡ doc_freq_of self.now }
     {
@@ -133,6 +134,7 @@ impl<'a> BlockSegmentPostings<'a> {
     }
 
     /// The documents of the block; none behind the last.
+    #[inline]
     pub fn docs(&self) -> &[DocId]
         ensures { result.now ≡ take block_len (docs_left self.now) }
     {
@@ -140,6 +142,7 @@ impl<'a> BlockSegmentPostings<'a> {
     }
 
     /// The document at a place of the block; behind its documents `TERMINATED`.
+    #[inline]
     pub fn doc(&self, place: usize) -> DocId
         requires { place < block_len }
         ensures { result ≡ slice_index_or (docs_left self.now) place terminated }
@@ -148,6 +151,7 @@ impl<'a> BlockSegmentPostings<'a> {
     }
 
     /// How often the term stands in each document of the block; 1 where counts aren't read.
+    #[inline]
     pub fn freqs(&self) -> &[u32]
         ensures { result.now ≡ take block_len (counts_left self.now) }
     {
@@ -155,6 +159,7 @@ impl<'a> BlockSegmentPostings<'a> {
     }
 
     /// The count at a place of the block.
+    #[inline]
     pub fn freq(&self, place: usize) -> u32
         requires block { place < block_len }
         requires within { place < length (docs_left self.now) }
@@ -164,6 +169,7 @@ impl<'a> BlockSegmentPostings<'a> {
     }
 
     /// How many documents the block has.
+    #[inline]
     pub fn block_len(&self) -> usize
         ensures { result ≡ min block_len (length (docs_left self.now)) }
     {
@@ -178,7 +184,7 @@ impl<'a> BlockSegmentPostings<'a> {
         self.skips.position_offset() + sum_of(&self.counts[..place])
     }
 
-    /// A number that no count from the block on is above, where there are so many positions in all.
+    /// A number that no count from the block on is above, where there are a given number of positions in all.
     pub(crate) fn greatest_count(&self, num_positions: u128) -> u32
         ensures above { (counts : List ℕ) → TellCounts num_positions self.now.skips counts
             → (i : ℕ) → slice_index counts i ≤ result }
@@ -188,6 +194,7 @@ impl<'a> BlockSegmentPostings<'a> {
     }
 
     /// How many blocks with documents were decoded, the first among them.
+    #[inline]
     pub fn decoded_blocks(&self) -> u64
         ensures { result ≡ blocks_decoded self.now }
     {
@@ -250,7 +257,7 @@ impl<'a> BlockSegmentPostings<'a> {
     }
 }
 
-/// Counts one more block that was decoded, and has so many documents, unless these are none.
+/// Counts one more block that was decoded, and has a number of documents, unless that is 0.
 fn count_block(decoded: &mut u64, len: usize)
     requires { decoded.old ≤ 4294967296 }
     ensures { decoded.new ≡ decoded.old + min 1 len }
@@ -293,7 +300,7 @@ fn first_from(docs: &[u32; COMPRESSION_BLOCK_SIZE], target: DocId) -> usize
     place
 }
 
-/// The skip entries of so many documents and the blocks behind them, where they are known to stand there.
+/// The skip entries of a given number of documents and the blocks behind them, where they are known to stand there.
 fn split_entries(bytes: &[u8], doc_freq: u32) -> (&[u8], &[u8])
     requires { block_len ≤ doc_freq → IsSome (take_bytes bytes.now) }
     ensures few { doc_freq < block_len → (result.0.now ≡ []) × (result.1.now ≡ bytes.now) }

@@ -7,7 +7,7 @@ ghost use Rattle.segment_postings.specs.TermEntries.{numbers_of, places};
 use positions::PositionReader;
 use std::alloc::AllocError;
 
-/// Puts so many positions from a place on, each plus an offset, behind those that the output holds; none
+/// Puts a given number of positions from a place on, each plus an offset, behind those that the output holds; none
 /// where none are read.
 pub(crate) fn append_positions(
     positions: &mut Option<PositionReader>,

@@ -116,6 +116,7 @@ impl<'a> SegmentPostings<'a> {
     }
 
     /// How many blocks with documents were decoded, the first among them.
+    #[inline]
     pub fn decoded_blocks(&self) -> u64
         ensures { result ≡ cursor_blocks_decoded self.now }
     {
@@ -123,6 +124,7 @@ impl<'a> SegmentPostings<'a> {
     }
 
     /// How many documents have the term.
+    #[inline]
     pub fn doc_freq(&self) -> u32
         ensures { result ≡ cursor_doc_freq self.now }
     {
@@ -140,6 +142,7 @@ impl<'a> DocSet for SegmentPostings<'a> {
 
     ghost entries = { entries_left };
 
+    #[inline]
     fn advance(&mut self) -> DocId
         ensures rest { entries_left self.new ≡ drop 1 (entries_left self.old) }
         ensures at { result ≡ first (entries_left self.new) }
@@ -154,6 +157,7 @@ impl<'a> DocSet for SegmentPostings<'a> {
         self.doc()
     }
 
+    #[inline]
     fn seek(&mut self, target: DocId) -> DocId
         requires ahead { first (entries_left self.old) ≤ target }
         requires small { target ≤ terminated }
@@ -165,6 +169,7 @@ impl<'a> DocSet for SegmentPostings<'a> {
         self.doc()
     }
 
+    #[inline]
     fn seek_danger(&mut self, target: DocId) -> SeekDangerResult
         requires { target < terminated }
         ensures answer { IsDangerAnswer result target (entries_left self.old) (entries_left self.new) }
@@ -183,10 +188,12 @@ impl<'a> DocSet for SegmentPostings<'a> {
         SeekDangerResult::Found
     }
 
+    #[inline]
     fn doc(&self) -> DocId {
         self.blocks.doc(self.cur)
     }
 
+    #[inline]
     fn size_hint(&self) -> u32 {
         self.doc_freq()
     }
@@ -202,6 +209,7 @@ impl<'a> Postings for SegmentPostings<'a> {
 
     ghost joined = { λ held positions. held ++ positions };
 
+    #[inline]
     fn term_freq(&self) -> u32 {
         self.blocks.freq(self.cur)
     }

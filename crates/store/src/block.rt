@@ -14,7 +14,7 @@ pub(crate) fn u32_at(bytes: &[u8], at: usize) -> u32
     u32::from_le_bytes([bytes[at], bytes[at + 1], bytes[at + 2], bytes[at + 3]])
 }
 
-/// Whether the numbers are the starts of documents with so many bytes.
+/// Whether the numbers are the starts of documents with a given number of bytes.
 fn are_starts(starts: &[u8], end: usize) -> bool
     ensures { result ≡ are_starts end (numbers starts.now) }
 {
@@ -41,7 +41,7 @@ fn ascend(starts: &[u8], end: usize) -> bool
     at <= end
 }
 
-/// Whether the bytes are a block of so many documents.
+/// Whether the bytes are a block of a given number of documents.
 pub(crate) fn is_block(bytes: &[u8], count: u32) -> bool
     ensures { IsTrue result ↔ IsBlockOf count bytes.now }
 {

@@ -39,7 +39,7 @@ fn look_up(cache: &mut LruCache<usize, Bytes>, at: usize) -> Result<Option<Bytes
 }
 
 impl BlockCache {
-    /// Without blocks, for so many.
+    /// Without blocks, with room for a given number.
     pub(crate) fn new(alloc: Global, capacity: usize) -> Result<BlockCache, AllocError>
         ensures kept { IfOk result (λ cache. kept_of cache ≡ none_kept capacity) }
         ensures entries { IfOk result (λ cache. entries_of cache ≡ []) }

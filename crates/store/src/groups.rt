@@ -28,7 +28,7 @@ fn take_extent(doc: u32, byte: usize, bytes: &[u8]) -> Result<(Checkpoint, &[u8]
     Ok((reach, rest))
 }
 
-/// Appends so many checkpoints from a document and a byte on, and answers what follows them.
+/// Appends a given number of checkpoints from a document and a byte on, and answers what follows them.
 fn take_extents<'a>(
     out: &mut Vec<Checkpoint>,
     count: u64,

@@ -19,7 +19,7 @@ use std::marker::Model;
 /// The greatest number of documents of a store.
 pub(crate) const MAX_DOCS: u32 = 2147483647;
 
-/// The last of so many numbers, and what follows them.
+/// The last of a given number of numbers, and what follows them.
 fn take_last(count: u64, bytes: &[u8]) -> Result<(u64, &[u8]), Fault>
     ensures ok { IfOk result (λ p. take_last count 0 bytes.now ≡ Some (p.0, p.1.now)) }
     ensures err { IfErr result (λ fault. (fault ≡ faults.Damaged None) × (take_last count 0 bytes.now ≡ None)) }

@@ -10,7 +10,7 @@ use crate::skip_index::doc_end;
 use layouts::Checkpoint;
 use std::alloc::AllocError;
 
-/// A checkpoint so many documents and bytes further on.
+/// A checkpoint moved on by a number of documents and of bytes.
 fn shifted(reach: &Checkpoint, docs: u32, bytes: usize) -> Checkpoint
     requires { FitsShifted docs bytes reach.now }
     ensures { result ≡ shifted docs bytes reach.now }
@@ -21,7 +21,7 @@ fn shifted(reach: &Checkpoint, docs: u32, bytes: usize) -> Checkpoint
     }
 }
 
-/// Appends checkpoints that stand so many documents and bytes further on.
+/// Appends checkpoints moved on by a number of documents and of bytes.
 fn put_shifted(
     out: &mut Vec<Checkpoint>,
     reaches: &[Checkpoint],

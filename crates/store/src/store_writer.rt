@@ -50,7 +50,7 @@ impl StoreWriter {
         self.parts.first_doc + self.parts.starts.len() as u32
     }
 
-    /// Whether a document of so many bytes would pass a limit.
+    /// Whether a document of a given number of bytes would pass a limit.
     fn passes_limit(&self, len: usize) -> bool
         ensures { result ≡ passes_limit self.now len }
     {

@@ -71,7 +71,7 @@ pub(crate) fn parts<'a>(
     text.split(separator).collect(alloc)
 }
 
-/// The number of eight bytes, if there are so many.
+/// The number of eight bytes, if there are eight.
 fn u64_of_bytes(bytes: &[u8]) -> Option<u64>
     ensures { result ≡ only_if (length bytes.now == byte_len w64) (Some (from_be_bytes w64 bytes.now)) }
 {
@@ -79,7 +79,7 @@ fn u64_of_bytes(bytes: &[u8]) -> Option<u64>
     Some(u64::from_be_bytes(bytes))
 }
 
-/// The signed number of eight bytes, if there are so many.
+/// The signed number of eight bytes, if there are eight.
 fn i64_of_bytes(bytes: &[u8]) -> Option<i64>
     ensures { result ≡ only_if (length bytes.now == byte_len w64) (Some (signed_number bytes.now)) }
 {
@@ -87,7 +87,7 @@ fn i64_of_bytes(bytes: &[u8]) -> Option<i64>
     Some(number.wrapping_sub(SIGN_BIT).cast_signed())
 }
 
-/// Whether the number of eight bytes is above 0, if there are so many.
+/// Whether the number of eight bytes is above 0, if there are eight.
 fn bool_of_bytes(bytes: &[u8]) -> Option<bool>
     ensures { result ≡ only_if (length bytes.now == byte_len w64) (Some (nat_lt 0 (from_be_bytes w64 bytes.now))) }
 {
@@ -95,7 +95,7 @@ fn bool_of_bytes(bytes: &[u8]) -> Option<bool>
     Some(number > 0)
 }
 
-/// The date of eight bytes, if there are so many.
+/// The date of eight bytes, if there are eight.
 fn date_of_bytes(bytes: &[u8]) -> Option<DateTime>
     ensures { result ≡ only_if (length bytes.now == byte_len w64) (Some (signed_number bytes.now)) }
 {
@@ -103,7 +103,7 @@ fn date_of_bytes(bytes: &[u8]) -> Option<DateTime>
     Some(DateTime::from_timestamp_nanos(nanos))
 }
 
-/// The number of sixteen bytes, if there are so many.
+/// The number of sixteen bytes, if there are sixteen.
 fn u128_of_bytes(bytes: &[u8]) -> Option<u128>
     ensures { result ≡ only_if (length bytes.now == byte_len w128) (Some (from_be_bytes w128 bytes.now)) }
 {

@@ -1,7 +1,7 @@
 -- What is left decides.
 use Rattle.std.proofs.Common.{◌-◌}
 use Rattle.layouts.specs.RecordBodies.{take_pair_below}
-use Rattle.bodies.proofs.Taking.{Skips}
+use Rattle.common.proofs.Taking.{Skips}
 use Rattle.bodies.proofs.docs_taken.skip_pairs.Given as goal
 
 abbrev pub invariant-loop-i : goal.invariant-loop-i

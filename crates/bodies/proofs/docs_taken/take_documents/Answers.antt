@@ -1,7 +1,7 @@
 -- A document that is refused ends the reading, and one that is read stands behind those before it.
 use Rattle.std.proofs.lemmas.Result.{err_from_is_err_and}
 use Rattle.layouts.specs.RecordBodies.{take_document}
-use Rattle.bodies.proofs.Taking.{runs_pushed, runs_refused}
+use Rattle.common.proofs.Taking.{runs_pushed, runs_refused}
 use Rattle.bodies.proofs.docs_taken.take_documents.Goals as goal
 
 pub returns-in_err-doc-clause-err : goal.returns-in_err-doc-clause-err

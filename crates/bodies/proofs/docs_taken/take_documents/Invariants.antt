@@ -1,7 +1,7 @@
 -- What was read and what is left make the whole.
 use Rattle.std.proofs.Common.{◌-◌}
 use Rattle.layouts.specs.RecordBodies.{take_document}
-use Rattle.bodies.proofs.Taking.{Runs}
+use Rattle.common.proofs.Taking.{Runs}
 use Rattle.bodies.proofs.docs_taken.take_documents.Given as goal
 
 abbrev pub invariant-loop-i : goal.invariant-loop-i

@@ -2,7 +2,7 @@
 use Rattle.std.proofs.Common.{ap, map, ◌∙◌, ◌∷◌, []}
 use Rattle.std.proofs.lemmas.List.{map-append}
 use Rattle.std.proofs.lemmas.Result.{err_from_is_err_and}
-use Rattle.bodies.proofs.Taking.{runs_begin, runs_end, runs_pushed, runs_refused}
+use Rattle.common.proofs.Taking.{runs_begin, runs_end, runs_pushed, runs_refused}
 use Rattle.segment_bodies.specs.Parts.{part_of, take_part}
 use Rattle.segment_bodies.proofs.parts_taken.take_parts.Goals as goal
 

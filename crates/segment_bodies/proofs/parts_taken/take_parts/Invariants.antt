@@ -1,6 +1,6 @@
 -- What was read and what is left make the whole.
 use Rattle.std.proofs.Common.{◌-◌, map}
-use Rattle.bodies.proofs.Taking.{Runs}
+use Rattle.common.proofs.Taking.{Runs}
 use Rattle.segment_bodies.specs.Parts.{part_of, take_part}
 use Rattle.segment_bodies.proofs.parts_taken.take_parts.Given as goal
 

@@ -4,7 +4,7 @@ use Rattle.std.proofs.lemmas.Bool.Decides.{nat_tests}
 use Rattle.std.proofs.lemmas.List.{length-map}
 use Rattle.std.proofs.lemmas.Result.{err_from_is_err_and}
 use Rattle.definitions.specs.NumberCodes.{AreBytes, take_u32}
-use Rattle.document_values.proofs.Many.{bytes_after}
+use Rattle.common.proofs.Many.{bytes_after}
 use Rattle.segment_bodies.proofs.BodiesBack.{body_is, is_body, no_end, no_number, no_parts, no_sets, nothing_left}
 use Rattle.segment_bodies.specs.Bodies.{IsBody}
 use Rattle.segment_bodies.specs.Parts.{part_of}
