@@ -2,3 +2,4 @@ pub mod Merges
 pub mod SweepCosts
 pub mod PlaceLaws
 pub mod PhrasePlaces
+pub mod Columns

@@ -51,3 +51,8 @@ Passed most table i at best = (s : ℕ) → at ≤ s → nearest_below most tabl
 -- the last of a table cost so much at every position up to one
 abbrev pub PassedDown : ℕ → List (ℕ × ℕ) → ℕ → ℕ → ℕ → Type 0
 PassedDown most table i at best = (s : ℕ) → s ≤ at → nearest_above most table s ≡ min (min most (best + (at - s))) (nearest_above most (take i table) s)
+
+-- the last of columns, the first here, with its costs behind the others
+abbrev pub column_costs : ℕ → List (List ℕ) → List (ℕ × ℕ)
+column_costs most [] = []
+column_costs most (ps ∷ before) = costs most ps before

@@ -1,2 +1,4 @@
 pub mod Places
 pub mod Costs
+pub mod PhraseEntries
+pub mod Finders

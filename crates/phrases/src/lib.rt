@@ -2,4 +2,5 @@
 #![tactic(auto)]
 
 mod merging;
+mod place_finder;
 mod sweeps;
