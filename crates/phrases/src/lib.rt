@@ -3,4 +3,8 @@
 
 mod merging;
 mod place_finder;
+mod postings_with_offset;
+mod settling;
 mod sweeps;
+
+pub use postings_with_offset::PostingsWithOffset;
