@@ -1,7 +1,7 @@
 //! Cursors that tell where the term of each of their documents stands.
 
 ghost use Rattle.std.specs.Prelude.{◌<◌, ◌≡◌, ◌≤◌, length, vec_capacity};
-ghost use Rattle.cursors.specs.Entries.{first, first_positions, single};
+ghost use Rattle.cursors.specs.Entries.{first, first_positions, most_positions, single};
 ghost use Rattle.definitions.specs.Postings.{terminated};
 
 use cursors::DocSet;
@@ -18,6 +18,10 @@ pub trait Positioned: DocSet {
         ensures items { output.new.items ≡ single (first_positions (Self.entries self.old)) }
         ensures room { vec_capacity output.old ≤ vec_capacity output.new };
 
-    // Each entry has one column.
+    /// A number of positions that no remaining document has more of.
+    fn most_positions(&self) -> usize
+        ensures { most_positions (Self.entries self.now) ≤ result };
+
+    // Each entry has one column, whose positions don't fall.
     ghost one_column: { (s : Self) → HaveOneColumn (Self.entries s) };
 }
