@@ -1,11 +1,13 @@
 -- The section of the lengths of fields, field by field.
-use Rattle.std.proofs.Common.{Bool, List, None, Option, Some, [], add-one, ap, append_assoc, ap₂, arith, cond, drop, drop-cons, false, find, get_or, length, map, nat_eq, option_map, refl, subst, suc, sym, true, zero, zip, ℕ, ◌++◌, ◌+◌, ◌<◌, ◌^◌, ◌∙◌, ◌∷◌, ◌≡◌, ◌≢◌, ◌≤◌}
+use Rattle.std.proofs.Common.{Bool, List, None, Option, Some, [], add-one, ap, append_assoc, ap₂, arith, cond, drop, drop-cons, false, find, get_or, length, length-append, map, nat_eq, option_map, refl, subst, suc, sym, take, true, zero, zip, ℕ, ◌*◌, ◌++◌, ◌+◌, ◌<◌, ◌^◌, ◌∙◌, ◌∷◌, ◌≡◌, ◌≢◌, ◌≤◌}
+use Rattle.std.proofs.Math.Nat.{mul-le-mul_right, suc-mul}
+use Rattle.std.proofs.Math.Seq.{drop-append_seam, take-append_seam}
 use Rattle.std.proofs.lemmas.Bool.Decides.{nat_tests}
 use Rattle.std.specs.List.{AllByRecursion}
-use Rattle.std.proofs.lemmas.List.{drop_all, get_or-map, length-map}
+use Rattle.std.proofs.lemmas.List.{drop-drop, drop_all, length-map}
 use Rattle.fieldnorms.proofs.Ascending.{ascends_least}
 use Rattle.layouts.specs.Deltas.{IsAscendingFrom}
-use Rattle.fieldnorms.specs.Readers.{take_ids}
+use Rattle.fieldnorms.specs.Readers.{ids_from, norms_in, take_ids}
 use Rattle.common.proofs.TakenBack.{count_back, count_put, u32_put}
 use Rattle.definitions.specs.Json.{only_if, ◌>>=◌}
 use Rattle.definitions.specs.NumberCodes.{AreBytes, take_count, take_u32, u32_bytes}
@@ -151,27 +153,87 @@ all_at P [] i d all inside = absurd (omega arith)
 all_at P (x ∷ xs) zero d all inside = all.0
 all_at P (x ∷ xs) (suc i) d all inside = all_at P xs i d all.1 (omega arith)
 
-pub item_short : {V : Type 0} (f : V → List ℕ) (vs : List V) (i : ℕ) (v : V) → AllByRecursion (λ x. length x < 2 ^ 32) (map f vs) → i < length vs → v ≡ get_or vs i v → length (f v) < 2 ^ 32
-item_short f vs i v all inside item =
-    let here : get_or (map f vs) i [] ≡ f v = get_or-map f vs i v [] inside ∙ ap f (sym item) in
-    let many : length (map f vs) ≡ length vs = length-map vs f in
-    subst (λ x. length x < 2 ^ 32) here (all_at (λ x. length x < 2 ^ 32) (map f vs) i [] all (omega arith))
-
-pub item_ids : {V : Type 0} (f : V → List ℕ) (field : ℕ) (fs : List ℕ) (vs : List V) (i : ℕ) (v : V) → IsAscendingFrom 0 fs → i < length fs → length vs ≡ length fs → get_or fs i 0 ≡ field → v ≡ get_or vs i v → Some (f v) ≡ ids_of field (zip fs (map f vs))
-item_ids f field fs vs i v ascends inside long is item =
-    let here : get_or (map f vs) i [] ≡ f v = get_or-map f vs i v [] (omega arith) ∙ ap f (sym item) in
-    let many : length (map f vs) ≡ length fs = length-map vs f ∙ long in
-    sym (ids_at field 0 fs (map f vs) i ascends inside many is ∙ ap Some here)
-
 pub all_below : (n : ℕ) (xs : List ℕ) → ((i : ℕ) → get_or xs i 0 < n) → AllByRecursion (λ x. x < n) xs
 all_below n [] small = tt
 all_below n (x ∷ xs) small = (small 0, all_below n xs (λ i. small (suc i)))
 
-pub all_short : (n : ℕ) (ids : List (List ℕ)) → n < 2 ^ 32 → AllByRecursion (λ v. length v ≡ n) ids → AllByRecursion (λ v. length v < 2 ^ 32) ids
-all_short n [] few long = tt
-all_short n (v ∷ ids) few long = (let is : length v ≡ n = long.0 in omega arith, all_short n ids few long.1)
+-- ---- a section that is lent
+
+-- the numbers of fields take four bytes
+number_long : (f : ℕ) → length (u32_bytes f) ≡ 4
+number_long f = refl
+
+ids_here : (n f : ℕ) (ids rest : List ℕ) → length ids ≡ n → take n (drop 4 ((u32_bytes f ++ ids) ++ rest)) ≡ ids
+ids_here n f ids rest long =
+    ap (λ xs. take n (drop 4 xs)) (append_assoc (u32_bytes f) ids rest)
+    ∙ ap (take n) (drop-append_seam (u32_bytes f) (ids ++ rest))
+    ∙ ap (λ k. take k (ids ++ rest)) (sym long)
+    ∙ take-append_seam ids rest
+
+rest_here : (n f : ℕ) (ids rest : List ℕ) → length ids ≡ n → drop (4 + n) ((u32_bytes f ++ ids) ++ rest) ≡ rest
+rest_here n f ids rest long =
+    let whole : 4 + n ≡ length (u32_bytes f ++ ids) = omega (arith, length-append (u32_bytes f) ids, number_long f, long) in
+    ap (λ k. drop k ((u32_bytes f ++ ids) ++ rest)) whole ∙ drop-append_seam (u32_bytes f ++ ids) rest
+
+norms_back : (n : ℕ) (norms : List (ℕ × List ℕ)) → AllByRecursion (λ p. length p.1 ≡ n) norms → norms_in n (map (λ p. p.0) norms) (norms_bytes norms) ≡ norms
+norms_back n [] counts = refl
+norms_back n ((f, ids) ∷ norms) counts =
+    let fields = map (λ (p : ℕ × List ℕ). p.0) norms in
+    ap₂ (λ xs bs. (f, xs) ∷ norms_in n fields bs) (ids_here n f ids (norms_bytes norms) counts.0) (rest_here n f ids (norms_bytes norms) counts.0)
+    ∙ ap (λ ps. (f, ids) ∷ ps) (norms_back n norms counts.1)
+
+-- what is lent from a section are its ids
+pub norms_lent : (n : ℕ) (fields bytes : List ℕ) (norms : List (ℕ × List ℕ)) → IsNorms fields n bytes norms → norms_in n fields bytes ≡ norms
+norms_lent n fields bytes norms is = ap₂ (norms_in n) (sym is.names) is.spelled ∙ norms_back n norms is.counts
+
+norms_long : (n : ℕ) (norms : List (ℕ × List ℕ)) → AllByRecursion (λ p. length p.1 ≡ n) norms → length (norms_bytes norms) ≡ length norms * (4 + n)
+norms_long n [] counts = omega arith
+norms_long n ((f, ids) ∷ norms) counts =
+    let rest = norms_long n norms counts.1 in
+    let here = counts.0 in
+    let whole = length-append (u32_bytes f ++ ids) (norms_bytes norms) in
+    let first = length-append (u32_bytes f) ids in
+    omega (arith, rest, here, whole, first, number_long f, suc-mul (length norms) (4 + n))
+
+-- a section is as long as its ids and the numbers of its fields
+pub section_long : (n : ℕ) (fields bytes : List ℕ) (norms : List (ℕ × List ℕ)) → IsNorms fields n bytes norms → length bytes ≡ length fields * (4 + n)
+section_long n fields bytes norms is =
+    ap length is.spelled
+    ∙ norms_long n norms is.counts
+    ∙ ap (λ k. k * (4 + n)) (sym (length-map norms (λ p. p.0)) ∙ ap length is.names)
+
+-- the ids of a field end within the section
+pub field_ends : (n k m : ℕ) → k < m → k * (4 + n) + 4 + n ≤ m * (4 + n)
+field_ends n k m below =
+    let next = suc-mul k (4 + n) in
+    let upto : suc k * (4 + n) ≤ m * (4 + n) = mul-le-mul_right (4 + n) below in
+    omega (arith, next, upto)
+
+-- the ids of a field, by its place
+pub ids_placed : (n : ℕ) (fields bytes : List ℕ) (k : ℕ) → k < length fields → get_or (ids_from n fields bytes) k [] ≡ take n (drop (k * (4 + n) + 4) bytes)
+ids_placed n [] bytes k inside = absurd (omega arith)
+ids_placed n (f ∷ fields) bytes zero inside = (let here : 4 ≡ 0 * (4 + n) + 4 = omega arith in ap (λ j. take n (drop j bytes)) here)
+ids_placed n (f ∷ fields) bytes (suc k) inside =
+    let next : (4 + n) + (k * (4 + n) + 4) ≡ suc k * (4 + n) + 4 = omega (arith, suc-mul k (4 + n)) in
+    ids_placed n fields (drop (4 + n) bytes) k (omega arith)
+    ∙ ap (take n) (drop-drop (k * (4 + n) + 4) (4 + n) bytes ∙ ap (λ j. drop j bytes) next)
+
+pub ids_many : (n : ℕ) (fields bytes : List ℕ) → length (ids_from n fields bytes) ≡ length fields
+ids_many n [] bytes = refl
+ids_many n (f ∷ fields) bytes = ap suc (ids_many n fields (drop (4 + n) bytes))
+
+-- what is lent at a field's place are its ids
+pub placed_ids : (n field : ℕ) (fields bytes : List ℕ) (k : ℕ) (ids : List ℕ) → IsAscendingFrom 0 fields → k < length fields → get_or fields k 0 ≡ field → ids ≡ take n (drop (k * (4 + n) + 4) bytes) → Some ids ≡ ids_of field (norms_in n fields bytes)
+placed_ids n field fields bytes k ids ascends inside is lent =
+    ap Some (lent ∙ sym (ids_placed n fields bytes k inside))
+    ∙ sym (ids_at field 0 fields (ids_from n fields bytes) k ascends inside (ids_many n fields bytes) is)
 
 -- ---- a section that is read
+
+-- nothing is taken yet
+pub nothing_taken : (o : Option (List (List ℕ))) → o ≡ behind [] o
+nothing_taken None = refl
+nothing_taken (Some ids) = refl
 
 pub section_read : (n : ℕ) (fields bytes rest : List ℕ) (ids : List (List ℕ)) (i : ℕ) → take_all_ids n fields bytes ≡ behind ids (take_all_ids n (drop i fields) rest) → length fields ≤ i → length rest ≡ 0 → take_all_ids n fields bytes ≡ Some ids
 section_read n fields bytes rest ids i so_far all empty =

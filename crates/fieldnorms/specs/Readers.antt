@@ -1,5 +1,5 @@
 -- What readers of length ids stand for, and how the ids of a field are taken.
-use Rattle.std.specs.Prelude.{◌==◌, List, Option, replicate, ℕ}
+use Rattle.std.specs.Prelude.{[], ◌+◌, ◌==◌, ◌∷◌, List, Option, drop, replicate, take, zip, ℕ}
 use Rattle.fieldnorms.specs.declared.reader.Norms.{Norms}
 use Rattle.fieldnorms.specs.declared.reader.Norms.TheVariants.{Constant, Ids}
 use Rattle.definitions.specs.Json.{only_if, ◌>>=◌}
@@ -15,3 +15,12 @@ abbrev pub take_ids : ℕ → ℕ → List ℕ → Option (List ℕ × List ℕ)
 take_ids num_docs field bs = do
   p ← take_u32 bs
   only_if (p.0 == field) (take_count num_docs p.1)
+
+-- the ids of fields that stand one after another, each behind the four bytes of its field's number
+abbrev pub ids_from : ℕ → List ℕ → List ℕ → List (List ℕ)
+ids_from num_docs [] bs = []
+ids_from num_docs (field ∷ fields) bs = take num_docs (drop 4 bs) ∷ ids_from num_docs fields (drop (4 + num_docs) bs)
+
+-- these fields with their ids
+abbrev pub norms_in : ℕ → List ℕ → List ℕ → List (ℕ × List ℕ)
+norms_in num_docs fields bs = zip fields (ids_from num_docs fields bs)

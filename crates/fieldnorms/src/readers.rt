@@ -1,6 +1,6 @@
 //! Opens the section that keeps the lengths of fields.
 
-ghost use Rattle.std.specs.Prelude.{length, ◌≡◌, ◌≢◌, IfErr, IfOk, List, None, Some, ℕ};
+ghost use Rattle.std.specs.Prelude.{length, take, drop, ◌*◌, ◌+◌, ◌≡◌, ◌≤◌, IfErr, IfOk, List, None, OnOk, Some, ℕ};
 ghost use Rattle.fieldnorms.specs.Readers.{take_ids};
 ghost use Rattle.definitions.specs.declared.fault.Fault.TheVariants as faults;
 ghost use Rattle.layouts.specs.Deltas.{IsAscendingFrom};
@@ -10,64 +10,105 @@ use crate::places::place_of;
 use crate::reader::FieldNormReader;
 use common::take_u32;
 use definitions::Fault;
-use std::alloc::Global;
 use std::marker::Model;
 
-/// The length ids of all fields that keep lengths, lent from the bytes of their section.
+/// How many bytes a field's number takes.
+const NUMBER_LEN: usize = 4;
+
+/// The length ids of all fields that keep lengths, lent from the bytes of their section. Nothing else is kept, so
+/// one can be made for each use.
 #[derive(Drop)]
 pub struct FieldNormReaders<'a> {
-    fields: Vec<u32>,
-    ids: Vec<&'a [u8]>,
+    bytes: &'a [u8],
+    num_docs: u32,
+    fields: &'a [u32],
 }
 
 impl<'a> Model for FieldNormReaders<'a> {
-    ghost use Rattle.std.specs.Prelude.{List, length, map, zip, ◌<◌, ◌^◌, ◌≡◌, ℕ};
-    ghost use Rattle.std.specs.List.{AllByRecursion};
+    ghost use Rattle.std.specs.Prelude.{List, length, ◌*◌, ◌+◌, ◌≡◌, ℕ};
+    ghost use Rattle.fieldnorms.specs.Readers.{norms_in};
     ghost use Rattle.layouts.specs.Deltas.{IsAscendingFrom};
 
     ghost Value = { List (ℕ × List ℕ) };
 
-    ghost view = { λ r. zip r.fields.items (map (λ v. v.now) r.ids.items) };
+    ghost view = { λ r. norms_in r.num_docs r.fields.now r.bytes.now };
 
-    ghost invariant = { λ r. IsAscendingFrom 0 r.fields.items × (length r.ids.items ≡ length r.fields.items) × AllByRecursion (λ v. length v < 2 ^ 32) (map (λ v. v.now) r.ids.items) };
+    ghost invariant = { λ r. IsAscendingFrom 0 r.fields.now × (length r.bytes.now ≡ length r.fields.now * (4 + r.num_docs)) };
 }
 
 impl<'a> FieldNormReaders<'a> {
+    /// The section of these fields, ascending, which is known to have one length id for each of so many documents.
+    pub fn new(bytes: &'a [u8], num_docs: u32, fields: &'a [u32]) -> FieldNormReaders<'a>
+        requires ascend { IsAscendingFrom 0 fields.now }
+        requires known { ∥ ((norms : List (ℕ × List ℕ)) × IsNorms fields.now num_docs bytes.now norms) ∥₁ }
+        ensures { (norms : List (ℕ × List ℕ)) → IsNorms fields.now num_docs bytes.now norms → result ≡ norms }
+    {
+        FieldNormReaders {
+            bytes,
+            num_docs,
+            fields,
+        }
+    }
+
     /// Reads the section of these fields, ascending, with one length id for each of so many documents.
-    /// Other bytes are `Damaged`. No id is copied.
+    /// Other bytes are `Damaged`.
     pub fn open(
-        alloc: Global,
         bytes: &'a [u8],
         num_docs: u32,
-        fields: &[u32],
+        fields: &'a [u32],
     ) -> Result<FieldNormReaders<'a>, Fault>
         requires { IsAscendingFrom 0 fields.now }
         ensures ok { IfOk result (λ readers. IsNorms fields.now num_docs bytes.now readers) }
-        ensures err { IfErr result (λ fault. fault ≢ faults.OutOfMemory → (fault ≡ faults.Damaged None) × ((norms : List (ℕ × List ℕ)) → IsNorms fields.now num_docs bytes.now norms → ⊥)) }
+        ensures err { IfErr result (λ fault. (fault ≡ faults.Damaged None) × ((norms : List (ℕ × List ℕ)) → IsNorms fields.now num_docs bytes.now norms → ⊥)) }
     {
-        let mut all_ids = Vec::with_capacity(alloc, fields.len())?;
-        let mut rest = bytes;
-        for field in fields {
-            let (ids, after) = take_ids(rest, *field, num_docs)?;
-            all_ids.push(ids)?;
-            rest = after;
+        check_norms(bytes, num_docs, fields)?;
+        Ok(FieldNormReaders::new(bytes, num_docs, fields))
+    }
+
+    /// The same readers once more.
+    pub fn copied(&self) -> FieldNormReaders<'a>
+        ensures { result ≡ self.now }
+    {
+        FieldNormReaders {
+            bytes: self.bytes,
+            num_docs: self.num_docs,
+            fields: self.fields,
         }
-        if !rest.is_empty() {
-            return Err(Fault::Damaged(None));
-        }
-        Ok(FieldNormReaders {
-            fields: Vec::from_slice(alloc, fields)?,
-            ids: all_ids,
-        })
     }
 
     /// The length ids of a field, where it keeps lengths.
     pub fn get_field(&self, field: u32) -> Option<FieldNormReader<'a>>
         ensures { result ≡ ids_of field self.now }
     {
-        let place = place_of(&self.fields, field)?;
-        Some(FieldNormReader::of_ids(self.ids[place]))
+        let place = place_of(self.fields, field)?;
+        let ids = ids_at(self.bytes, place, self.num_docs as usize);
+        Some(FieldNormReader::of_ids(ids))
     }
+}
+
+/// The ids of the field at a place, among fields with so many ids each.
+fn ids_at(bytes: &[u8], place: usize, num_docs: usize) -> &[u8]
+    requires { place * (4 + num_docs) + 4 + num_docs ≤ length bytes.now }
+    ensures { result.now ≡ take num_docs (drop (place * (4 + num_docs) + 4) bytes.now) }
+{
+    let start = place * (NUMBER_LEN + num_docs) + NUMBER_LEN;
+    &bytes[start..start + num_docs]
+}
+
+/// Checks that the bytes are the section of these fields.
+fn check_norms(bytes: &[u8], num_docs: u32, fields: &[u32]) -> Result<(), Fault>
+    ensures ok { OnOk result ((norms : List (ℕ × List ℕ)) × IsNorms fields.now num_docs bytes.now norms) }
+    ensures err { IfErr result (λ fault. (fault ≡ faults.Damaged None) × ((norms : List (ℕ × List ℕ)) → IsNorms fields.now num_docs bytes.now norms → ⊥)) }
+{
+    let mut rest = bytes;
+    for field in fields {
+        let (_, after) = take_ids(rest, *field, num_docs)?;
+        rest = after;
+    }
+    if !rest.is_empty() {
+        return Err(Fault::Damaged(None));
+    }
+    Ok(())
 }
 
 /// The ids of a field, which must stand first, and what follows them.

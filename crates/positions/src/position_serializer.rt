@@ -63,6 +63,13 @@ impl PositionSerializer {
         self.waiting.extend_from_slice(positions_delta)
     }
 
+    /// Takes away what waits of a term; another begins.
+    pub fn clear(&mut self)
+        ensures { self.new ≡ (self.old.0, []) }
+    {
+        self.waiting.clear();
+    }
+
     /// Appends the positions of the term, and begins another.
     pub fn close_term(&mut self) -> Result<(), AllocError>
         ensures ok { OnOk result ((bytes : List ℕ) × ArePositions self.old.1 bytes

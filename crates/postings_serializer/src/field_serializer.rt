@@ -15,8 +15,8 @@ use positions::PositionSerializer;
 use std::alloc::AllocError;
 use std::marker::Model;
 
-/// Writes the terms of a field, one after another. What a refused call began of a term is of no use; where it was to
-/// close the term, parts of that may stand behind the terms before.
+/// Writes the terms of a field, one after another. What a refused call began of a term is of no use, and another term
+/// may begin; where it was to close the term, parts of that may stand behind the terms before.
 #[derive(Drop)]
 pub struct FieldSerializer<'a> {
     pub(crate) terms: TermDictionaryBuilder,
@@ -43,15 +43,15 @@ impl<'a> Model for FieldSerializer<'a> {
 impl<'a> FieldSerializer<'a> {
     /// Begins a term by its value bytes. Of a term whose counts aren't recorded the documents alone are.
     pub fn new_term(&mut self, key: &[u8], record_term_freq: bool) -> Result<(), AllocError>
-        requires { self.old.positions.1 ≡ [] }
         ensures ready { OnOk result (IsOpen self.new [] [] []) }
         ensures key { OnOk result (self.new.key ≡ key.now) }
         ensures option { OnOk result (self.new.writing.option ≡ (if record_term_freq then self.old.writing.mode else basic)) }
-        ensures same { OnOk result ((self.new.field ≡ self.old.field) × (self.new.num_tokens ≡ self.old.num_tokens) × (self.new.terms ≡ self.old.terms) × (self.new.postings ≡ self.old.postings) × (self.new.positions ≡ self.old.positions) × (self.new.writing.mode ≡ self.old.writing.mode) × (self.new.writing.norms ≡ self.old.writing.norms) × (self.new.writing.next ≡ 0)) }
+        ensures same { OnOk result ((self.new.field ≡ self.old.field) × (self.new.num_tokens ≡ self.old.num_tokens) × (self.new.terms ≡ self.old.terms) × (self.new.postings ≡ self.old.postings) × (self.new.positions ≡ (self.old.positions.0, [])) × (self.new.writing.mode ≡ self.old.writing.mode) × (self.new.writing.norms ≡ self.old.writing.norms) × (self.new.writing.next ≡ 0)) }
         ensures refused { OnErr result (AreKept self.old self.new) }
         ensures waiting { OnErr result (self.new.positions.1 ≡ []) }
     {
         self.postings_serializer.new_term(record_term_freq);
+        self.positions_serializer.clear();
         self.doc_freq = 0;
         self.key.clear();
         self.key.extend_from_slice(key)?;
@@ -60,11 +60,10 @@ impl<'a> FieldSerializer<'a> {
 
     /// Begins a term by its value bytes, of which the documents alone are recorded.
     pub fn new_term_without_freq(&mut self, key: &[u8]) -> Result<(), AllocError>
-        requires { self.old.positions.1 ≡ [] }
         ensures ready { OnOk result (IsOpen self.new [] [] []) }
         ensures key { OnOk result (self.new.key ≡ key.now) }
         ensures option { OnOk result (self.new.writing.option ≡ basic) }
-        ensures same { OnOk result ((self.new.field ≡ self.old.field) × (self.new.num_tokens ≡ self.old.num_tokens) × (self.new.terms ≡ self.old.terms) × (self.new.postings ≡ self.old.postings) × (self.new.positions ≡ self.old.positions) × (self.new.writing.mode ≡ self.old.writing.mode) × (self.new.writing.norms ≡ self.old.writing.norms) × (self.new.writing.next ≡ 0)) }
+        ensures same { OnOk result ((self.new.field ≡ self.old.field) × (self.new.num_tokens ≡ self.old.num_tokens) × (self.new.terms ≡ self.old.terms) × (self.new.postings ≡ self.old.postings) × (self.new.positions ≡ (self.old.positions.0, [])) × (self.new.writing.mode ≡ self.old.writing.mode) × (self.new.writing.norms ≡ self.old.writing.norms) × (self.new.writing.next ≡ 0)) }
         ensures refused { OnErr result (AreKept self.old self.new) }
         ensures waiting { OnErr result (self.new.positions.1 ≡ []) }
     {
@@ -147,15 +146,16 @@ impl<'a> FieldSerializer<'a> {
 
     /// Closes the field: its terms stand behind those of the fields before.
     pub fn close(self) -> Result<InvertedIndexSerializer, AllocError>
-        requires { self.positions.1 ≡ [] }
         ensures { IfOk result (λ sections. sections ≡ field_closed self.entry) }
     {
         let mut terms = self.terms;
+        let mut positions_serializer = self.positions_serializer;
+        positions_serializer.clear();
         terms.close_field(self.field, self.num_tokens)?;
         Ok(InvertedIndexSerializer {
             terms,
             postings: self.postings,
-            positions_serializer: self.positions_serializer,
+            positions_serializer,
         })
     }
 }

@@ -173,7 +173,7 @@ entry_in key docs postings positions terms = inserted key (record { doc_freq = l
 
 -- a term that was begun, written and closed
 pub term_written : (was begun full now : FieldWriting) (key : List ℕ) (option : IndexRecordOption) (ps : List Posting) → begun.key ≡ key → begun.writing.option ≡ option
-    → (begun.field ≡ was.field) × (begun.num_tokens ≡ was.num_tokens) × (begun.terms ≡ was.terms) × (begun.postings ≡ was.postings) × (begun.positions ≡ was.positions) × (begun.writing.mode ≡ was.writing.mode) × (begun.writing.norms ≡ was.writing.norms) × (begun.writing.next ≡ 0)
+    → (begun.field ≡ was.field) × (begun.num_tokens ≡ was.num_tokens) × (begun.terms ≡ was.terms) × (begun.postings ≡ was.postings) × (begun.positions ≡ (was.positions.0, [])) × (begun.writing.mode ≡ was.writing.mode) × (begun.writing.norms ≡ was.writing.norms) × (begun.writing.next ≡ 0)
     → IsSame begun full → IsClosed full now (docs_in ps) (counts_in begun ps) (numbers_in ps)
     → (now.field ≡ full.field) × (now.num_tokens ≡ full.num_tokens) × (now.writing.mode ≡ full.writing.mode) × (now.writing.norms ≡ full.writing.norms)
     → IsWrittenTerm was now key option ps
