@@ -65,7 +65,7 @@ impl SegmentWriter {
             → HasWritten schema.now (A.analyze analyzer.now) block_size self.old docs
             → PassesStore schema.now block_size docs doc.now → OnErr result (self.new ≡ self.old) }
     {
-        if self.num_docs() >= TERMINATED {
+        if self.store.num_docs() >= TERMINATED {
             return Err(Fault::Limit);
         }
         self.store.store(self.alloc, doc, schema)?;
@@ -92,7 +92,7 @@ impl SegmentWriter {
             → IfErr result (λ fault. IsSerializeRefusal fault schema.now (norms_of schema.now analyze docs)
             (λ t. postings schema.now analyze t docs)) }
     {
-        let num_docs = self.num_docs();
+        let num_docs = self.store.num_docs();
         let (terms, postings, positions, norms) = self.indexer.serialize(self.alloc, schema)?;
         let sections = Sections {
             terms,
