@@ -1,5 +1,5 @@
 -- What a writer of a segment stands for, and why it refuses a document.
-use Rattle.std.specs.Prelude.{◌+◌, ◌<◌, ◌^◌, ◌×◌, ◌≡◌, ◌≤◌, ◌⊎◌, List, length, ℕ}
+use Rattle.std.specs.Prelude.{◌+◌, ◌^◌, ◌≡◌, ◌≤◌, ◌⊎◌, List, length, ℕ}
 use Rattle.std.specs.List.{AllByRecursion}
 use Rattle.definitions.specs.Analyzers.{Analyzer}
 use Rattle.definitions.specs.Schema.{Schema}

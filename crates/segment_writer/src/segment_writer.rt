@@ -30,7 +30,11 @@ pub struct SegmentWriter {
 
 impl SegmentWriter {
     /// No document yet. A block of the store is closed when its documents' bytes come over the block size.
-    pub fn new(alloc: Global, schema: &Schema, block_size: usize) -> Result<SegmentWriter, AllocError>
+    pub fn new(
+        alloc: Global,
+        schema: &Schema,
+        block_size: usize,
+    ) -> Result<SegmentWriter, AllocError>
         ensures { (analyze : definitions.Analyzer)
             → IfOk result (λ writer. HasWritten schema.now analyze block_size writer []) }
     {
@@ -69,7 +73,8 @@ impl SegmentWriter {
             return Err(Fault::Limit);
         }
         self.store.store(self.alloc, doc, schema)?;
-        self.indexer.add(schema, analyzer, doc)
+        self.indexer.add(schema, analyzer, doc)?;
+        Ok(())
     }
 
     /// How many documents were added.
