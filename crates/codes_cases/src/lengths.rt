@@ -51,7 +51,8 @@ fn of_section(alloc: Global, arguments: &Arguments) -> Result<Value, Refusal> {
     let bytes = arguments.bytes(alloc, 0)?;
     let field = arguments.small_number(2)?;
     let docs = arguments.small_number(1)?;
-    let readers = FieldNormReaders::open(alloc, &bytes, docs, &[field])?;
+    let fields = [field];
+    let readers = FieldNormReaders::open(&bytes, docs, &fields)?;
     match readers.get_field(field) {
         Some(reader) => lengths(alloc, &reader),
         None => Ok(Value::Null),

@@ -12,7 +12,6 @@ use Rattle.definitions.specs.Schema.{Entry, Schema, field_has, has_lengths, is_i
 use Rattle.definitions.specs.Scoring.{length_id}
 use Rattle.definitions.specs.Values.{Document}
 use Rattle.fieldnorms.specs.FieldNorms.{padded, with_length}
-use Rattle.fieldnorms.proofs.Sections.{section_is_taken}
 use Rattle.layouts.specs.Deltas.{IsAscendingFrom}
 use Rattle.layouts.specs.FieldNorms.{IsNorms, norms_bytes}
 use Rattle.postings_writer.proofs.WrittenSections.{entries_at}
@@ -187,38 +186,6 @@ module _ (schema : Schema) (analyze : Analyzer) (docs : List Document) where
 
 -- ---- as they are written
 
-pairs_same : (xs ys : Norms) → map (λ (p : ℕ × List ℕ). p.0) xs ≡ map (λ (p : ℕ × List ℕ). p.0) ys → map (λ (p : ℕ × List ℕ). p.1) xs ≡ map (λ (p : ℕ × List ℕ). p.1) ys → xs ≡ ys
-pairs_same [] [] names ids = refl
-pairs_same [] (y ∷ ys) names ids = cc
-pairs_same (x ∷ xs) [] names ids = cc
-pairs_same (x ∷ xs) (y ∷ ys) names ids =
-    let first : x ≡ y = (let a : x.0 ≡ y.0 = cc in let b : x.1 ≡ y.1 = cc in ap₂ (λ n ns. (n, ns)) a b) in
-    let names_later : map (λ (p : ℕ × List ℕ). p.0) xs ≡ map (λ (p : ℕ × List ℕ). p.0) ys = cc in
-    let ids_later : map (λ (p : ℕ × List ℕ). p.1) xs ≡ map (λ (p : ℕ × List ℕ). p.1) ys = cc in
-    let later : xs ≡ ys = pairs_same xs ys names_later ids_later in
-    ap₂ (λ p ps. p ∷ ps) first later
-
-all_small : (n : ℕ) (fields : List ℕ) → n ≤ 2 ^ 32 → AllByRecursion (λ field. field < n) fields → AllByRecursion (λ field. field < 2 ^ 32) fields
-all_small n [] few below = tt
-all_small n (f ∷ fs) few below = ((let first = below.0 in omega arith), all_small n fs few below.1)
-
-fields_below : (schema : Schema) → AllByRecursion (λ field. field < length schema) (length_fields schema)
-fields_below schema = go (length_fields schema) (fields_keep schema)
-  where
-    go : (fields : List ℕ) → AllByRecursion (λ field. field_has keeps_length schema field ≡ true) fields → AllByRecursion (λ field. field < length schema) fields
-    go [] has = tt
-    go (f ∷ fs) has = (field_within schema keeps_length f has.0, go fs has.1)
-
--- one section is of one list of lengths
-pub lengths_read : (schema : Schema) (fields bytes : List ℕ) (n : ℕ) (norms others : Norms) → length schema ≤ max_fields → fields ≡ length_fields schema → IsNorms fields n bytes norms → IsNorms (length_fields schema) n bytes others → norms ≡ others
-lengths_read schema fields bytes n norms others few fields_are is other =
-    let small : AllByRecursion (λ field. field < 2 ^ 32) (length_fields schema) = all_small (length schema) (length_fields schema) (omega arith) (fields_below schema) in
-    let own : IsNorms (length_fields schema) n bytes norms = subst (λ fs. IsNorms fs n bytes norms) fields_are is in
-    let a = section_is_taken n (length_fields schema) bytes norms own small in
-    let b = section_is_taken n (length_fields schema) bytes others other small in
-    let ids : map (λ (p : ℕ × List ℕ). p.1) norms ≡ map (λ (p : ℕ × List ℕ). p.1) others = (let both : Some (map (λ (p : ℕ × List ℕ). p.1) norms) ≡ Some (map (λ (p : ℕ × List ℕ). p.1) others) = sym a ∙ b in cc) in
-    pairs_same norms others (own.names ∙ sym other.names) ids
-
 -- what is written of the lengths of documents is their section
 pub lengths_written : (schema : Schema) (analyze : Analyzer) (docs : List Document) (bytes : List ℕ) → bytes ≡ norms_bytes (norms_of schema analyze docs) → IsNorms (length_fields schema) (length docs) bytes (norms_of schema analyze docs)
 lengths_written schema analyze docs bytes is = record { names = go (length_fields schema); counts = counts (norms_of schema analyze docs) (norms_kept schema analyze docs); spelled = is }
@@ -230,3 +197,8 @@ lengths_written schema analyze docs bytes is = record { names = go (length_field
     counts : (norms : Norms) → AreKept (length schema) (length docs) norms → AllByRecursion (λ (p : ℕ × List ℕ). length p.1 ≡ length docs) norms
     counts [] kept = tt
     counts (p ∷ ps) kept = (kept.0.1, counts ps kept.1)
+
+-- the same by the fields and the number of documents that a call is given
+pub lengths_known : (schema : Schema) (analyze : Analyzer) (docs : List Document) (fields bytes : List ℕ) (n : ℕ) → fields ≡ length_fields schema → n ≡ length docs → bytes ≡ norms_bytes (norms_of schema analyze docs) → IsNorms fields n bytes (norms_of schema analyze docs)
+lengths_known schema analyze docs fields bytes n fields_are many is =
+    subst (λ fs. IsNorms fs n bytes (norms_of schema analyze docs)) (sym fields_are) (subst (λ k. IsNorms (length_fields schema) k bytes (norms_of schema analyze docs)) (sym many) (lengths_written schema analyze docs bytes is))

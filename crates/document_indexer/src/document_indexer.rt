@@ -134,10 +134,7 @@ impl DocumentIndexer {
             → IfErr result (λ fault. IsSerializeRefusal fault schema.now (norms_of schema.now analyze docs) (λ t. postings schema.now analyze t docs)) }
     {
         let fields = length_fields(alloc, schema)?;
-        // The lengths were just written, so they are refused for want of memory alone.
-        let Ok(readers) = FieldNormReaders::open(alloc, norms, self.num_docs(), &fields) else {
-            return Err(Fault::OutOfMemory);
-        };
+        let readers = FieldNormReaders::new(norms, self.num_docs(), &fields);
         let serializer = InvertedIndexSerializer::open(alloc)?;
         let writer = self.postings_writer();
         let serializer = writer.serialize(schema, &readers, serializer)?;

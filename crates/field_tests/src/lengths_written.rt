@@ -37,8 +37,8 @@ fn section_of_two(alloc: Global) -> Result<Vec<u8>, Fault> {
 }
 
 /// Whether field 1 of that section has its lengths, and field 2 none.
-fn are_lengths_read(alloc: Global) -> Result<bool, Fault> {
-    let readers = FieldNormReaders::open(alloc, TWO_FIELDS, 3, &[1, 258])?;
+fn are_lengths_read() -> Result<bool, Fault> {
+    let readers = FieldNormReaders::open(TWO_FIELDS, 3, &[1, 258])?;
     let Some(reader) = readers.get_field(1) else {
         return Ok(false);
     };
@@ -49,6 +49,6 @@ fn are_lengths_read(alloc: Global) -> Result<bool, Fault> {
 #[test]
 fn documents_without_a_field_have_length_0(rt: HostRuntime) -> Result<(), Fail> {
     let bytes = section_of_two(rt.alloc())?;
-    assert!(rt; bytes.as_slice() == TWO_FIELDS && are_lengths_read(rt.alloc())?);
+    assert!(rt; bytes.as_slice() == TWO_FIELDS && are_lengths_read()?);
     Ok(())
 }
