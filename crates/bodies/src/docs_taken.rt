@@ -50,7 +50,7 @@ fn take_docs_body(alloc: Global, num_fields: usize, body: &[u8]) -> Result<Vec<C
 }
 
 /// So many documents, and what follows them.
-#[tactic(auto, using(crate::proofs::Taking::runs_begin, crate::proofs::Taking::runs_refused, crate::proofs::Taking::runs_end))]
+#[tactic(auto, using(common::proofs::Taking::runs_begin, common::proofs::Taking::runs_refused, common::proofs::Taking::runs_end))]
 fn take_documents<'a>(
     alloc: Global,
     num_fields: usize,
@@ -96,7 +96,7 @@ fn split_document(num_fields: usize, bytes: &[u8]) -> Result<(&[u8], &[u8]), Fau
 }
 
 /// What follows a given number of pairs of the first fields.
-#[tactic(auto, using(crate::proofs::Taking::skips_on, crate::proofs::Taking::skips_refused, crate::proofs::Taking::skips_end))]
+#[tactic(auto, using(common::proofs::Taking::skips_on, common::proofs::Taking::skips_refused, common::proofs::Taking::skips_end))]
 fn skip_pairs(num_fields: usize, num_pairs: u64, bytes: &[u8]) -> Result<&[u8], Fault>
     ensures ok { IfOk result (λ rest. skip_many (definitions.take_pair_below num_fields) num_pairs bytes.now ≡ Some rest.now) }
     ensures err { IfErr result (λ fault. (fault ≡ faults.Damaged None) × (skip_many (definitions.take_pair_below num_fields) num_pairs bytes.now ≡ None)) }

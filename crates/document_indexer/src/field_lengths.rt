@@ -12,7 +12,7 @@ use std::alloc::{AllocError, Global};
 use terms::Field;
 
 /// The numbers of the fields that keep lengths.
-pub(crate) fn length_fields(alloc: Global, schema: &Schema) -> Result<Vec<u32>, AllocError>
+pub fn length_fields(alloc: Global, schema: &Schema) -> Result<Vec<u32>, AllocError>
     ensures { IfOk result (λ fields. fields.items ≡ length_fields schema.now) }
 {
     let mut fields = Vec::new(alloc);

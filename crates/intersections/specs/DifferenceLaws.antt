@@ -1,5 +1,5 @@
 -- Laws of differences.
-use Rattle.std.proofs.Common.{[], Bool, List, ap, arith, drop, false, if◌then◌else◌, length, le-leb, map, max, nat_le, refl, suc, sym, true, ◌+◌, ◌<◌, ◌∙◌, ◌∷◌, ◌≡◌, ◌≤◌, ℕ}
+use Rattle.std.proofs.Common.{[], Bool, List, ap, arith, drop, false, if◌then◌else◌, length, le-leb, max, nat_le, refl, sym, true, ◌+◌, ◌<◌, ◌∙◌, ◌∷◌, ◌≡◌, ◌≤◌, ℕ}
 use Rattle.std.proofs.Props.{props}
 use Rattle.definitions.specs.Postings.{terminated}
 use Rattle.cursors.specs.Danger.{Missed}

@@ -1,5 +1,5 @@
 -- Laws of several lists whose documents are left out.
-use Rattle.std.proofs.Common.{Bool, List, ap, arith, false, length, nat_le, refl, sym, true, ◌+◌, ◌<◌, ◌∙◌, ◌≡◌, ◌≤◌, ℕ}
+use Rattle.std.proofs.Common.{Bool, List, ap, arith, false, refl, sym, true, ◌+◌, ◌<◌, ◌∙◌, ◌≡◌, ◌≤◌, ℕ}
 use Rattle.definitions.specs.Postings.{terminated}
 use Rattle.definitions.specs.Scoring.{max_score}
 use Rattle.cursors.specs.Entries.{Entry, Rising, first, from}

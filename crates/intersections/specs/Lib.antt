@@ -3,5 +3,7 @@ pub mod DifferenceLaws
 pub mod ExclusionLaws
 pub mod Optionals
 pub mod OptionalLaws
+pub mod Columns
 pub mod Meetings
 pub mod MeetingLaws
+pub mod ColumnLaws

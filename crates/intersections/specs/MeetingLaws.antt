@@ -1,12 +1,12 @@
 -- Laws of lists that go on together.
-use Rattle.std.proofs.Common.{[], List, ap, arith, drop, false, get_or, le-leb, length, map, nat_le, refl, set, subst, suc, sum, sym, true, zero, ◌+◌, ◌<◌, ◌∙◌, ◌∷◌, ◌≡◌, ◌≤◌, ℕ}
+use Rattle.std.proofs.Common.{[], List, ap, arith, get_or, le-leb, length, map, nat_le, refl, set, subst, suc, sum, sym, zero, ◌+◌, ◌<◌, ◌∙◌, ◌∷◌, ◌≡◌, ◌≤◌, ℕ}
 use Rattle.std.proofs.Props.{props}
 use Rattle.std.proofs.Math.Seq.{map-set_same}
 use Rattle.std.proofs.lemmas.List.{get_or-map, length-map, length-set, map-set}
 use Rattle.definitions.specs.Postings.{terminated}
 use Rattle.definitions.specs.Scoring.{max_score}
 use Rattle.cursors.specs.Entries.{Entry, Rising, first, first_score, from}
-use Rattle.cursors.specs.EntryLaws.{Rising-from, Rising-prop, first_at_most, from-first, from-from}
+use Rattle.cursors.specs.EntryLaws.{Rising-from, Rising-prop, first_at_most, from-from}
 use Rattle.leaf_scorers.specs.ScoredEntryLaws.{by_place}
 use Rattle.members.specs.AtLeastLaws.{too_few}
 use Rattle.members.specs.MemberLaws.{Rising-listed, entries-kept, entries-least, entries-low, from-listed, listed-end, listed-found, listed-same, listed-skip, listed-stands, one-lacks, same-from, sum-greatest}

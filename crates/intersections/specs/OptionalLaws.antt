@@ -1,10 +1,10 @@
 -- Laws of a required list with an optional one.
-use Rattle.std.proofs.Common.{[], List, ap, arith, refl, sum, sym, ◌+◌, ◌<◌, ◌∙◌, ◌∷◌, ◌≡◌, ◌≤◌, ℕ}
+use Rattle.std.proofs.Common.{[], List, ap, arith, refl, sum, ◌+◌, ◌<◌, ◌∙◌, ◌∷◌, ◌≡◌, ◌≤◌, ℕ}
 use Rattle.definitions.specs.Postings.{terminated}
 use Rattle.definitions.specs.Scoring.{max_score}
 use Rattle.cursors.specs.Entries.{Entry, Rising, first, first_score, from}
 use Rattle.leaf_scorers.specs.CombiningLaws.{sum-cons}
-use Rattle.leaf_scorers.specs.ScoredEntries.{greatest_score, rescored_by}
+use Rattle.leaf_scorers.specs.ScoredEntries.{greatest_score}
 use Rattle.leaf_scorers.specs.ScoredEntryLaws.{Rising-rescored}
 use Rattle.members.specs.MemberLaws.{entries-kept, sum-before}
 use Rattle.members.specs.Members.{entries_of, scores_in}

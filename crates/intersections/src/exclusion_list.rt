@@ -6,9 +6,9 @@ ghost use Rattle.definitions.specs.Postings.{terminated};
 ghost use Rattle.intersections.specs.Differences.{has, unscored};
 ghost use Rattle.members.specs.Members.{at_least, enough, least};
 
-use common::{DocId, TERMINATED};
+use common::DocId;
 use cursors::DocSet;
-use members::lead;
+use members::{advance_any, seek_any};
 
 /// The documents that one of several cursors has, without scores: a set to leave out.
 #[derive(Drop)]
@@ -27,7 +27,7 @@ impl<D: DocSet> ExclusionList<D> {
             ≡ enough 1 (map D.entries docsets.items) d }
     {
         let mut docsets = docsets;
-        let doc = lead(&mut docsets, 0).doc;
+        let doc = seek_any(&mut docsets, 0);
         ExclusionList { docsets, doc }
     }
 }
@@ -38,15 +38,12 @@ impl<D: DocSet> DocSet for ExclusionList<D> {
     ghost entries = { λ s. at_least 1 unscored (map D.entries s.docsets.items) };
 
     fn advance(&mut self) -> DocId {
-        if self.doc == TERMINATED {
-            return TERMINATED;
-        }
-        self.doc = lead(&mut self.docsets, self.doc + 1).doc;
+        self.doc = advance_any(&mut self.docsets, self.doc);
         self.doc
     }
 
     fn seek(&mut self, target: DocId) -> DocId {
-        self.doc = lead(&mut self.docsets, target).doc;
+        self.doc = seek_any(&mut self.docsets, target);
         self.doc
     }
 

@@ -1,13 +1,15 @@
 //! The documents that all scorers have.
 
-ghost use Rattle.std.specs.Prelude.{◌<◌, ◌≡◌, ◌≤◌, length, map};
-ghost use Rattle.cursors.specs.Entries.{first};
+ghost use Rattle.std.specs.Prelude.{[], ◌<◌, ◌≡◌, ◌≤◌, length, map, slice_index_or, vec_capacity};
+ghost use Rattle.cursors.specs.Entries.{first, first_positions};
+ghost use Rattle.definitions.specs.Postings.{terminated};
 ghost use Rattle.definitions.specs.Scoring.{max_score};
 ghost use Rattle.intersections.specs.MeetingLaws.{IsMeeting-prop};
 ghost use Rattle.intersections.specs.Meetings.{IsMeeting, meeting};
 ghost use Rattle.members.specs.Members.{greatest_sum};
 
 use crate::meeting::{cheapest, next_match};
+use crate::positioned::Positioned;
 use common::{DocId, Score, TERMINATED};
 use cursors::DocSet;
 use leaf_scorers::{ScoreCombiner, Scorer, SumCombiner};
@@ -35,6 +37,30 @@ impl<S: DocSet> Intersection<S> {
         let lead = cheapest(&docsets);
         let doc = next_match(&mut docsets, lead, 0);
         Intersection { docsets, lead, doc }
+    }
+}
+
+impl<S: Positioned> Intersection<S> {
+    /// How many columns of positions the current document has: one for each cursor.
+    pub fn num_columns(&self) -> usize
+        requires { first (⟦<Intersection<S> as DocSet>⟧.entries self.now) < terminated }
+        ensures { result ≡ length (first_positions (⟦<Intersection<S> as DocSet>⟧.entries self.now)) }
+    {
+        self.docsets.len()
+    }
+
+    /// Puts one column of the current document in place of the positions that the output holds, which has the room.
+    pub fn column(&mut self, place: usize, output: &mut Vec<u32>)
+        requires on { first (⟦<Intersection<S> as DocSet>⟧.entries self.old) < terminated }
+        requires within { place < length (first_positions (⟦<Intersection<S> as DocSet>⟧.entries self.old)) }
+        requires room { length (slice_index_or (first_positions (⟦<Intersection<S> as DocSet>⟧.entries self.old)) place [])
+            ≤ vec_capacity output.old }
+        ensures same { ⟦<Intersection<S> as DocSet>⟧.entries self.new ≡ ⟦<Intersection<S> as DocSet>⟧.entries self.old }
+        ensures items { output.new.items
+            ≡ slice_index_or (first_positions (⟦<Intersection<S> as DocSet>⟧.entries self.old)) place [] }
+        ensures room { vec_capacity output.old ≤ vec_capacity output.new }
+    {
+        self.docsets[place].positions(output);
     }
 }
 

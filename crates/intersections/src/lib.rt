@@ -6,10 +6,12 @@ mod exclusion_list;
 mod exclusion_set;
 mod intersection;
 mod meeting;
+mod positioned;
 mod required_optional_scorer;
 
 pub use exclude::Exclude;
 pub use exclusion_list::ExclusionList;
 pub use exclusion_set::ExclusionSet;
 pub use intersection::Intersection;
+pub use positioned::Positioned;
 pub use required_optional_scorer::RequiredOptionalScorer;

@@ -1,12 +1,13 @@
 -- Laws of the documents that enough lists have.
-use Rattle.std.proofs.Common.{[], Bool, List, ap, arith, false, if◌then◌else◌, le-leb, length, map, max, nat_le, refl, suc, sum, sym, true, zero, ◌++◌, ◌+◌, ◌-◌, ◌<◌, ◌∙◌, ◌∷◌, ◌≡◌, ◌≤◌, ℕ}
+use Rattle.std.proofs.Common.{[], Bool, List, ap, arith, drop, false, if◌then◌else◌, le-leb, length, map, max, nat_le, refl, suc, sum, sym, true, zero, ◌++◌, ◌+◌, ◌-◌, ◌<◌, ◌∙◌, ◌∷◌, ◌≡◌, ◌≤◌, ℕ}
 use Rattle.std.proofs.lemmas.Bool.{lt-leb}
 use Rattle.definitions.specs.Postings.{terminated}
 use Rattle.cursors.specs.Entries.{Entry, Rising, first, from}
+use Rattle.cursors.specs.EntryLaws.{none_left}
 use Rattle.leaf_scorers.specs.ScoredEntries.{greatest_score}
 use Rattle.leaf_scorers.specs.ScoredEntryLaws.{by_place}
 use Rattle.members.specs.Members.{at_document, at_least, combining, enough, entries_at, greatest_sum, joining, least, listed, walk}
-use Rattle.members.specs.MemberLaws.{entries-least, entries_at-cut, entries_at-kept, from-listed, has-least, least-small, listed-end, listed-found, listed-same, listed-skip, sum-greatest}
+use Rattle.members.specs.MemberLaws.{entries-least, entries_at-cut, entries_at-kept, from-listed, has-least, least-both, least-small, listed-end, listed-found, listed-same, listed-skip, sum-greatest}
 
 pub too_few : (minimum : ℕ) (ess : List (List Entry)) (d : ℕ) → length (entries_at d ess) < minimum → enough minimum ess d ≡ false
 too_few minimum ess d l = lt-leb minimum (length (entries_at d ess)) l
@@ -53,6 +54,29 @@ union-first entries rising make xs =
     by_place terminated (least ess) (first (at_least 1 make ess) ≡ least ess)
     (λ i. (let end : least ess ≡ terminated = omega (arith, i, small) in ap first (chosen-end 1 make ess (omega arith) end (λ d l. entries-least entries rising d xs l)) ∙ sym end))
     (λ o. (let some = has-least entries rising xs o in ap first (chosen-here 1 make ess (omega arith) o (λ d l. entries-least entries rising d xs l) (omega (arith, some)))))
+
+-- those that come after the least document
+pub union-next : {X : Type 0} (entries : X → List Entry) → ((x : X) → Rising 0 (entries x)) → (make : ℕ → List Entry → Entry) (xs : List X) → least (map entries xs) < terminated → from (least (map entries xs) + 1) (at_least 1 make (map entries xs)) ≡ drop 1 (at_least 1 make (map entries xs))
+union-next entries rising make xs l =
+    let ess : List (List Entry) = map entries xs in
+    let some = has-least entries rising xs l in
+    from-listed (enough 1 ess) (λ d. make d (entries_at d ess)) 0 (least ess + 1) (omega arith) (omega (arith, l))
+    ∙ sym (ap (drop 1) (chosen-here 1 make ess (omega arith) l (λ d b. entries-least entries rising d xs b) (omega (arith, some))))
+
+-- a union at its end
+pub union-ended : {X : Type 0} (entries : X → List Entry) → ((x : X) → Rising 0 (entries x)) → (make : ℕ → List Entry → Entry) (xs : List X) → terminated ≤ least (map entries xs) → at_least 1 make (map entries xs) ≡ drop 1 (at_least 1 make (map entries xs))
+union-ended entries rising make xs l =
+    let small = least-small entries rising xs in
+    let none = chosen-end 1 make (map entries xs) (omega arith) (omega (arith, l, small)) (λ d b. entries-least entries rising d xs b) in
+    none ∙ sym (ap (drop 1) none)
+
+-- nothing is left to cut there
+pub ended-same : {X : Type 0} (entries : X → List Entry) → ((x : X) → Rising 0 (entries x)) → (t : ℕ) (xs : List X) → terminated ≤ least (map entries xs) → map entries xs ≡ map (from t) (map entries xs)
+ended-same entries rising t [] l = refl
+ended-same entries rising t (x ∷ xs) l =
+    let both = least-both (entries x) (map entries xs) in
+    let none = none_left 0 (entries x) (rising x) (omega (arith, l, both.0)) in
+    ap (λ es. es ∷ map entries xs) (none ∙ sym (ap (from t) none)) ∙ ap (λ ess. from t (entries x) ∷ ess) (ended-same entries rising t xs (omega (arith, l, both.1)))
 
 -- ---- the greatest score
 

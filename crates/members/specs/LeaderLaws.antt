@@ -1,5 +1,5 @@
 -- The least document of several lists, and how many have it, with one list more.
-use Rattle.std.proofs.Common.{[], List, ap, arith, length, map, min, refl, sym, ◌++◌, ◌+◌, ◌<◌, ◌∙◌, ◌∷◌, ◌≡◌, ◌≤◌, ℕ}
+use Rattle.std.proofs.Common.{[], List, ap, arith, length, map, min, sym, ◌++◌, ◌+◌, ◌<◌, ◌∙◌, ◌∷◌, ◌≡◌, ℕ}
 use Rattle.std.proofs.lemmas.List.{append-nil, append_assoc, length-append}
 use Rattle.definitions.specs.Postings.{terminated}
 use Rattle.cursors.specs.Entries.{Entry, Rising, first}

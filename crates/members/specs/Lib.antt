@@ -3,3 +3,6 @@ pub mod MemberLaws
 pub mod AtLeastLaws
 pub mod LeaderLaws
 pub mod ChangedLists
+pub mod Distinct
+pub mod DistinctLaws
+pub mod DefinedLaws

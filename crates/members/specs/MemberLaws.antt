@@ -1,5 +1,5 @@
 -- Laws of several lists of entries as one.
-use Rattle.std.proofs.Common.{[], Bool, List, ap, arith, drop, false, get_or, if◌then◌else◌, length, map, max, min, nat_le, refl, subst, suc, sum, sym, take, true, zero, ◌++◌, ◌+◌, ◌-◌, ◌<◌, ◌==◌, ◌∙◌, ◌∷◌, ◌≡◌, ◌≢◌, ◌≤◌, ℕ}
+use Rattle.std.proofs.Common.{[], Bool, List, ap, arith, drop, false, get_or, if◌then◌else◌, length, map, max, min, refl, subst, suc, sum, sym, take, true, zero, ◌++◌, ◌+◌, ◌-◌, ◌<◌, ◌==◌, ◌∙◌, ◌∷◌, ◌≡◌, ◌≢◌, ◌≤◌, ℕ}
 use Rattle.std.proofs.lemmas.Bool.Decides.{nat_tests}
 use Rattle.std.proofs.lemmas.List.{append_assoc, length-append, map-append}
 use Rattle.std.proofs.lemmas.List.Sums.{sum_by-append}
@@ -10,7 +10,7 @@ use Rattle.cursors.specs.EntryLaws.{Rising-lower, first-from, from-in, from-out}
 use Rattle.leaf_scorers.specs.CombiningLaws.{sum-cons}
 use Rattle.leaf_scorers.specs.ScoredEntries.{greatest_score}
 use Rattle.leaf_scorers.specs.ScoredEntryLaws.{by_place}
-use Rattle.members.specs.Members.{at_document, at_least, enough, entries_at, entries_of, greatest_sum, least, listed, scores_in, walk}
+use Rattle.members.specs.Members.{at_document, entries_at, entries_of, greatest_sum, least, listed, scores_in, walk}
 
 -- ---- walks
 

@@ -9,6 +9,7 @@ mod combined;
 mod given_lists;
 mod leaves;
 mod moves;
+mod nested;
 mod operations;
 mod terms;
 mod written_terms;

@@ -1,6 +1,6 @@
 //! Operations by their names.
 
-use crate::{asked, changed, combinators, combined, leaves, terms};
+use crate::{asked, changed, combinators, combined, leaves, nested, terms};
 use case_lines::{Arguments, Operations, Refusal};
 use serde_json::Value;
 use std::alloc::Global;
@@ -30,6 +30,10 @@ impl Operations for ScorerOperations {
             "exclude-one" => combinators::exclude_one(alloc, arguments),
             "required-optional" => combinators::required_optional(alloc, arguments),
             "wrapped" => combinators::wrapped(alloc, arguments),
+            "union-of-meetings" => nested::union_of_meetings(alloc, arguments),
+            "simple-union-of-meetings" => nested::simple_union_of_meetings(alloc, arguments),
+            "two-of-meetings" => nested::two_of_meetings(alloc, arguments),
+            "meeting-of-differences" => nested::meeting_of_differences(alloc, arguments),
             "cleared" => changed::cleared(alloc, arguments),
             "boosted" => changed::boosted(alloc, arguments),
             "reason" => changed::reason(alloc, arguments),

@@ -49,7 +49,7 @@ impl<'a> Similarity<'a> {
 
     /// The score that a count earns in a document of this length id.
     #[inline]
-    pub(crate) fn score(&self, fieldnorm_id: u8, term_freq: u32) -> Score
+    pub fn score(&self, fieldnorm_id: u8, term_freq: u32) -> Score
         ensures { result ≡ pos (score_by (similarity_data self.now) fieldnorm_id term_freq) }
     {
         let norm = self.norms[fieldnorm_id as usize];

@@ -1,5 +1,5 @@
 -- The document on which a disjunction stands.
-use Rattle.std.proofs.Common.{[], List, ap, arith, length, map, sum, sym, ◌+◌, ◌<◌, ◌∙◌, ◌≡◌, ◌≤◌, ℕ}
+use Rattle.std.proofs.Common.{[], List, ap, arith, sum, sym, ◌+◌, ◌<◌, ◌∙◌, ◌≡◌, ◌≤◌, ℕ}
 use Rattle.std.proofs.Props.{props}
 use Rattle.definitions.specs.Postings.{terminated}
 use Rattle.definitions.specs.Scoring.{max_score}

@@ -1,6 +1,5 @@
 -- Laws of unions that stand in a window.
-use Rattle.std.proofs.Common.{[], Bool, List, ap, arith, false, get_or, if◌then◌else◌, le-leb, length, map, min, nat_le, refl, slice_index_or, subst, sum, sym, true, ◌++◌, ◌+◌, ◌-◌, ◌<◌, ◌||◌, ◌∙◌, ◌∷◌, ◌≡◌, ◌≤◌, ℕ}
-use Rattle.std.proofs.Math.Bool.{or-false}
+use Rattle.std.proofs.Common.{[], Bool, List, ap, arith, false, if◌then◌else◌, le-leb, length, map, min, nat_le, slice_index_or, subst, sum, sym, true, ◌++◌, ◌+◌, ◌-◌, ◌<◌, ◌||◌, ◌∙◌, ◌∷◌, ◌≡◌, ◌≤◌, ℕ}
 use Rattle.std.proofs.Props.{props}
 use Rattle.std.proofs.lemmas.Bool.{or_from}
 use Rattle.std.proofs.lemmas.List.{append-nil, get_or_past}
@@ -8,7 +7,7 @@ use Rattle.definitions.specs.Postings.{terminated}
 use Rattle.definitions.specs.Scoring.{max_score}
 use Rattle.cursors.specs.Entries.{Entry, Rising, first, first_score, from}
 use Rattle.leaf_scorers.specs.ScoredEntryLaws.{by_place}
-use Rattle.members.specs.Members.{at_least, combining, enough, entries_at, least, listed, scores_in, with_score}
+use Rattle.members.specs.Members.{at_least, combining, enough, entries_at, least, scores_in, with_score}
 use Rattle.members.specs.MemberLaws.{Rising-listed, least-cut, listed-end, listed-found, listed-same, listed-skip, listed-stands, entries_at-cut, entries_at-kept}
 use Rattle.unions.specs.Windows.{IsFilling, IsStanding, IsWindow, entry_ahead, held, is_ahead, score_ahead, windowed}
 

@@ -1,3 +1,7 @@
+pub mod Documents
+pub mod Uniting
+pub mod UnitingLaws
+pub mod UnitedRoom
 pub mod Windows
 pub mod WindowLaws
 pub mod Fillings

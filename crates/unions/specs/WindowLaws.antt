@@ -1,12 +1,12 @@
 -- Laws of windows.
-use Rattle.std.proofs.Common.{[], Bool, List, ap, arith, drop, false, get_or, if◌then◌else◌, le-leb, length, map, min, nat_le, refl, set, slice_index_or, slice_set, subst, suc, sum, sym, true, zero, ◌++◌, ◌+◌, ◌-◌, ◌<◌, ◌==◌, ◌||◌, ◌∙◌, ◌∷◌, ◌≡◌, ◌≢◌, ◌≤◌, ℕ}
+use Rattle.std.proofs.Common.{[], Bool, List, ap, arith, drop, false, get_or, if◌then◌else◌, le-leb, length, nat_le, refl, set, slice_index_or, subst, suc, sum, sym, true, ◌++◌, ◌+◌, ◌-◌, ◌<◌, ◌==◌, ◌||◌, ◌∙◌, ◌∷◌, ◌≡◌, ◌≢◌, ◌≤◌, ℕ}
 use Rattle.std.proofs.Math.Bool.{or-true}
 use Rattle.std.proofs.lemmas.Bool.Decides.{nat_tests}
-use Rattle.std.proofs.lemmas.List.{get_or-set_other, get_or-set_same, length-append, length-set}
+use Rattle.std.proofs.lemmas.List.{get_or-set_other, get_or-set_same, length-set}
 use Rattle.definitions.specs.Postings.{terminated}
-use Rattle.cursors.specs.Entries.{Entry, Rising, first, first_score, from}
+use Rattle.cursors.specs.Entries.{Entry, Rising, first, first_score}
 use Rattle.leaf_scorers.specs.CombiningLaws.{sum-cons}
-use Rattle.members.specs.MemberLaws.{entries-before, scores-then, sum-scores}
+use Rattle.members.specs.MemberLaws.{scores-then, sum-scores}
 use Rattle.members.specs.Members.{entries_at, entries_of, scores_in}
 use Rattle.unions.specs.Windows.{Moves, held}
 

@@ -1,12 +1,16 @@
 //! Unions of scorers, and the documents that several of them have.
 #![tactic(auto)]
 
+mod bit_set_posting_union;
 mod buffered_union;
 mod disjunction;
+mod distinct_positions;
 mod scorer_wrapper;
 mod simple_union;
+mod united_positions;
 mod window;
 
+pub use bit_set_posting_union::BitSetPostingUnion;
 pub use buffered_union::BufferedUnionScorer;
 pub use disjunction::Disjunction;
 pub use scorer_wrapper::ScorerWrapper;

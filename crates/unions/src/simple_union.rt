@@ -1,14 +1,18 @@
-//! The union of scorers, which looks no further than their documents.
+//! The union of cursors, which looks no further than their documents.
 
-ghost use Rattle.std.specs.Prelude.{◌≡◌, ◌≤◌, map, sum};
+ghost use Rattle.std.specs.Prelude.{◌++◌, ◌≡◌, ◌≤◌, IfOk, false, is_some, map, sum, true, ℕ};
 ghost use Rattle.definitions.specs.Scoring.{max_score};
-ghost use Rattle.members.specs.Members.{at_least, combining, greatest_sum};
+ghost use Rattle.members.specs.Members.{at_least, entries_at, greatest_sum};
 ghost use Rattle.unions.specs.Together.{IsTogether, IsTogether-prop};
+ghost use Rattle.unions.specs.UnitedRoom.{HasRoom, HasRoom-prop};
+ghost use Rattle.unions.specs.Uniting.{counts_in, uniting};
 
-use common::{DocId, Score, TERMINATED};
-use cursors::DocSet;
+use crate::united_positions::{PositionRoom, append_united, freq_at, most_together};
+use common::{DocId, Score};
+use cursors::{DocSet, Postings};
 use leaf_scorers::{ScoreCombiner, Scorer, SumCombiner};
-use members::{combine_at, lead};
+use members::{advance_any, combine_at, seek_any};
+use std::alloc::{AllocError, Global};
 
 /// The documents of several cursors, each once, with their scores added up. It is the one to choose where most
 /// documents are passed by seeks.
@@ -16,35 +20,59 @@ use members::{combine_at, lead};
 pub struct SimpleUnion<S: DocSet> {
     docsets: Vec<S>,
     doc: DocId,
-    ghost together: { IsTogether (map S.entries docsets.items) doc } by { IsTogether-prop (map S.entries docsets.items) doc },
+    positions: Option<PositionRoom>,
+    ghost together: { IsTogether (is_some positions) (map S.entries docsets.items) doc } by { IsTogether-prop (is_some positions) (map S.entries docsets.items) doc },
+    ghost room: { HasRoom positions (map S.entries docsets.items) } by { HasRoom-prop positions (map S.entries docsets.items) },
+}
+
+impl<S: Postings + Drop> SimpleUnion<S> {
+    /// The union of cursors over postings. It takes memory for all positions that they have in one document.
+    pub fn build(alloc: Global, docsets: Vec<S>) -> Result<SimpleUnion<S>, AllocError>
+        requires scores { greatest_sum (map S.entries docsets.items) ≤ max_score }
+        requires counts { (d : ℕ) → sum (counts_in (entries_at d (map S.entries docsets.items))) ≤ 4294967295 }
+        ensures { IfOk result (λ union. ⟦<SimpleUnion<S> as DocSet>⟧.entries union
+            ≡ at_least 1 (uniting true) (map S.entries docsets.items)) }
+    {
+        let most = most_together(&docsets)?;
+        let positions = PositionRoom::new(alloc, most)?;
+        let mut docsets = docsets;
+        let doc = seek_any(&mut docsets, 0);
+        Ok(SimpleUnion {
+            docsets,
+            doc,
+            positions: Some(positions),
+        })
+    }
 }
 
 impl<S: DocSet> SimpleUnion<S> {
-    /// The union of cursors.
-    pub fn build(docsets: Vec<S>) -> SimpleUnion<S>
+    /// The union of cursors, which tells no count and no position.
+    pub fn without_positions(docsets: Vec<S>) -> SimpleUnion<S>
         requires { greatest_sum (map S.entries docsets.items) ≤ max_score }
         ensures { ⟦<SimpleUnion<S> as DocSet>⟧.entries result
-            ≡ at_least 1 (combining sum) (map S.entries docsets.items) }
+            ≡ at_least 1 (uniting false) (map S.entries docsets.items) }
     {
         let mut docsets = docsets;
-        let doc = lead(&mut docsets, 0).doc;
-        SimpleUnion { docsets, doc }
+        let doc = seek_any(&mut docsets, 0);
+        SimpleUnion {
+            docsets,
+            doc,
+            positions: None,
+        }
     }
 }
 
 impl<S: DocSet> DocSet for SimpleUnion<S> {
-    ghost entries = { λ s. at_least 1 (combining sum) (map S.entries s.docsets.items) };
+    ghost entries = { λ s. at_least 1 (uniting (is_some s.positions)) (map S.entries s.docsets.items) };
 
+    #[inline]
     fn advance(&mut self) -> DocId {
-        if self.doc == TERMINATED {
-            return TERMINATED;
-        }
-        self.doc = lead(&mut self.docsets, self.doc + 1).doc;
+        self.doc = advance_any(&mut self.docsets, self.doc);
         self.doc
     }
 
     fn seek(&mut self, target: DocId) -> DocId {
-        self.doc = lead(&mut self.docsets, target).doc;
+        self.doc = seek_any(&mut self.docsets, target);
         self.doc
     }
 
@@ -62,6 +90,46 @@ impl<S: DocSet> DocSet for SimpleUnion<S> {
     }
 
     ghost rising = { λ s. s.together.rises };
+}
+
+impl<S: Postings> Postings for SimpleUnion<S> {
+    ghost use Rattle.members.specs.Distinct.{distinct};
+    ghost use Rattle.unions.specs.UnitingLaws.{AreSingle-united, united-alone};
+
+    ghost joined = { λ held positions. distinct (held ++ positions) };
+
+    fn term_freq(&self) -> u32 {
+        if self.positions.is_none() {
+            return 0;
+        }
+        freq_at(&self.docsets, self.doc)
+    }
+
+    fn append_positions_with_offset(
+        &mut self,
+        offset: u32,
+        output: &mut Vec<u32>,
+    ) -> Result<(), AllocError> {
+        append_united(
+            &mut self.docsets,
+            self.doc,
+            offset,
+            &mut self.positions,
+            output,
+        )?;
+        Ok(())
+    }
+
+    fn most_positions(&self) -> usize {
+        match &self.positions {
+            Some(room) => room.most(),
+            None => 0,
+        }
+    }
+
+    ghost of_one_term = { λ s. AreSingle-united S.entries S.of_one_term (is_some s.positions) s.docsets.items };
+
+    ghost alone = { λ s offset. united-alone (is_some s.positions) (map S.entries s.docsets.items) offset };
 }
 
 impl<S: Scorer> Scorer for SimpleUnion<S> {

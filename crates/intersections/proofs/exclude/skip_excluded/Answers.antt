@@ -1,4 +1,4 @@
-use Rattle.std.proofs.Common.{ap, arith, drop, sym, true, ◌∙◌, ◌≡◌, ◌≤◌}
+use Rattle.std.proofs.Common.{ap, arith, drop, sym, true, ◌∙◌, ◌≡◌}
 use Rattle.cursors.specs.Entries.{first}
 use Rattle.cursors.specs.EntryLaws.{Rising-drop}
 use Rattle.intersections.specs.DifferenceLaws.{without-first, without-later}

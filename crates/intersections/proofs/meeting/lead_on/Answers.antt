@@ -1,4 +1,4 @@
-use Rattle.std.proofs.Common.{[], ap, arith, get_or, map, set, sym, ◌∙◌, ◌≡◌}
+use Rattle.std.proofs.Common.{[], ap, arith, get_or, map, sym, ◌∙◌}
 use Rattle.std.proofs.lemmas.List.{get_or-set_same, length-map, map-set}
 use Rattle.cursors.specs.Entries.{first, from}
 use Rattle.cursors.specs.EntryLaws.{first-from, from-from}

@@ -1,7 +1,6 @@
-use Rattle.std.proofs.Common.{[], List, ap, arith, length, map, slice_set, sym, take, ◌++◌, ◌+◌, ◌<◌, ◌∙◌, ◌∷◌, ◌≡◌, ◌≤◌}
-use Rattle.std.proofs.lemmas.List.{length-map, map-append, take_more_set}
-use Rattle.definitions.specs.Postings.{terminated}
-use Rattle.cursors.specs.Entries.{Entry, from}
+use Rattle.std.proofs.Common.{[], List, ap, arith, length, map, slice_set, take, ◌++◌, ◌+◌, ◌∙◌, ◌∷◌, ◌≡◌}
+use Rattle.std.proofs.lemmas.List.{map-append, take_more_set}
+use Rattle.cursors.specs.Entries.{Entry}
 use Rattle.intersections.specs.MeetingLaws.{Passes-on, kept-passes, kept-within, one-passes, set-kept}
 use Rattle.members.specs.LeaderLaws.{count-last, least-last, one-on}
 use Rattle.members.specs.Members.{entries_at, least}

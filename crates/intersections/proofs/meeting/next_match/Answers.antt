@@ -1,10 +1,8 @@
-use Rattle.std.proofs.Common.{[], ap, arith, length, map, subst, sym, ◌<◌, ◌∙◌, ◌≡◌, ◌≤◌, ℕ}
+use Rattle.std.proofs.Common.{ap, arith, map, sym, ◌∙◌, ◌≡◌}
 use Rattle.std.proofs.lemmas.List.{length-map}
 use Rattle.definitions.specs.Postings.{terminated}
 use Rattle.cursors.specs.Entries.{first}
 use Rattle.intersections.specs.MeetingLaws.{Passes-on, few-before, few-led, meeting-end, meeting-first, meeting-same, passes-within}
-use Rattle.intersections.specs.Meetings.{Passes, meeting}
-use Rattle.members.specs.Members.{entries_at}
 use Rattle.intersections.proofs.meeting.next_match.Goals as goal
 
 pub returns-then-bound-candidate-clause-same : goal.returns-then-bound-candidate-clause-same

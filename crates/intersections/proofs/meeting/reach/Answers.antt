@@ -1,5 +1,4 @@
-use Rattle.std.proofs.Common.{arith, ◌≡◌, ◌≤◌}
-use Rattle.definitions.specs.Postings.{terminated}
+use Rattle.std.proofs.Common.{arith}
 use Rattle.cursors.specs.DangerLaws.{danger-kept}
 use Rattle.cursors.specs.Entries.{from}
 use Rattle.cursors.specs.EntryLaws.{Rising-from, first_at_most}

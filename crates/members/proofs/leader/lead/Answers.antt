@@ -1,7 +1,7 @@
-use Rattle.std.proofs.Common.{[], List, add-one, ap, arith, drop, get_or, length, map, set, slice_set, subst, sym, take, ◌++◌, ◌+◌, ◌<◌, ◌∙◌, ◌∷◌, ◌≡◌, ◌≤◌, ℕ}
+use Rattle.std.proofs.Common.{[], add-one, ap, arith, drop, get_or, length, map, set, slice_set, sym, take, ◌++◌, ◌+◌, ◌<◌, ◌∙◌, ◌∷◌, ◌≡◌}
 use Rattle.std.proofs.lemmas.List.{get_or-map, length-map, map-append, map-set, take_more_set}
 use Rattle.definitions.specs.Postings.{terminated}
-use Rattle.cursors.specs.Entries.{Entry, first, from}
+use Rattle.cursors.specs.Entries.{from}
 use Rattle.members.specs.ChangedLists.{changed-get, changed-length, changed-set}
 use Rattle.members.specs.Members.{entries_at, least}
 use Rattle.members.specs.LeaderLaws.{leader-next}

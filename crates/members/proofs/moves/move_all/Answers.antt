@@ -1,4 +1,4 @@
-use Rattle.std.proofs.Common.{[], add-one, ap, arith, drop, get_or, length, map, set, sym, take, ◌++◌, ◌+◌, ◌∙◌, ◌≡◌, ◌≤◌, ◌<◌}
+use Rattle.std.proofs.Common.{[], add-one, ap, arith, drop, get_or, length, map, set, sym, take, ◌++◌, ◌∙◌, ◌≡◌, ◌<◌}
 use Rattle.std.proofs.lemmas.List.{get_or-map, length-map, map-set}
 use Rattle.cursors.specs.Entries.{from}
 use Rattle.members.specs.ChangedLists.{changed-all, changed-get, changed-length, changed-set}

@@ -1,4 +1,4 @@
-use Rattle.std.proofs.Common.{ap, arith, drop, sym, ◌+◌, ◌∙◌, ◌≡◌, ◌≤◌}
+use Rattle.std.proofs.Common.{ap, arith, sym, ◌+◌, ◌∙◌, ◌≡◌}
 use Rattle.cursors.specs.Entries.{first, from}
 use Rattle.cursors.specs.EntryLaws.{drop-one, from-first}
 use Rattle.members.proofs.moves.move_to.Goals as goal

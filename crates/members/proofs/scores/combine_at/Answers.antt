@@ -1,9 +1,9 @@
-use Rattle.std.proofs.Common.{[], List, ap, arith, drop, get_or, length, map, sum, sym, ◌++◌, ◌+◌, ◌∙◌, ◌∷◌, ◌≡◌, ◌≤◌, ◌<◌}
+use Rattle.std.proofs.Common.{[], ap, arith, drop, get_or, length, map, sum, sym, ◌++◌, ◌+◌, ◌∙◌, ◌∷◌, ◌≡◌, ◌<◌}
 use Rattle.std.proofs.Math.Seq.{map-set_same}
 use Rattle.std.proofs.lemmas.List.{drop_all, drop_more, get_or-map, length-map}
 use Rattle.members.specs.MemberLaws.{scores-then, sum-scores}
-use Rattle.cursors.specs.Entries.{Entry, first}
-use Rattle.members.specs.Members.{entries_at, entries_of, least, scores_in}
+use Rattle.cursors.specs.Entries.{first}
+use Rattle.members.specs.Members.{entries_at, entries_of, scores_in}
 use Rattle.members.specs.MemberLaws.{least-get}
 use Rattle.members.proofs.scores.combine_at.Given.{Over}
 use Rattle.members.proofs.scores.combine_at.Goals.{After-index_mut}

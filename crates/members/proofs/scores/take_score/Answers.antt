@@ -1,4 +1,4 @@
-use Rattle.std.proofs.Common.{ap, arith, sym, ◌++◌, ◌∙◌, ◌≡◌, ◌≢◌}
+use Rattle.std.proofs.Common.{ap, arith, sym, ◌++◌, ◌∙◌, ◌≢◌}
 use Rattle.cursors.specs.Entries.{first}
 use Rattle.members.specs.MemberLaws.{entries-off, scores-on}
 use Rattle.members.specs.Members.{scores_in}

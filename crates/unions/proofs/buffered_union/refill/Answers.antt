@@ -1,12 +1,11 @@
-use Rattle.std.proofs.Common.{[], List, ap, arith, false, length, map, min, replicate, rules, slice_index_or, sum, sym, ◌+◌, ◌∙◌, ◌≡◌, ◌≤◌, ◌<◌, ℕ}
+use Rattle.std.proofs.Common.{ap, arith, false, length, map, replicate, slice_index_or, ◌∙◌, ◌≡◌, ◌<◌, ℕ}
 use Rattle.std.proofs.lemmas.List.{get_or-replicate, get_or_past, length-replicate}
-use Rattle.cursors.specs.Entries.{Entry}
 use Rattle.definitions.specs.Postings.{terminated}
 use Rattle.leaf_scorers.specs.ScoredEntryLaws.{by_place}
 use Rattle.unions.specs.Fillings.{ended, filled}
-use Rattle.members.specs.Members.{at_least, least, entries_at}
+use Rattle.members.specs.Members.{least, entries_at}
 use Rattle.members.specs.MemberLaws.{has-least, least-small, entries-least}
-use Rattle.unions.specs.Windows.{IsFilling, IsStanding, windowed}
+use Rattle.unions.specs.Windows.{IsFilling}
 use Rattle.unions.proofs.buffered_union.refill.Given.{Over}
 use Rattle.unions.proofs.buffered_union.refill.Goals.{After-collect_all}
 use Rattle.unions.proofs.buffered_union.refill.Goals as goal

@@ -1,4 +1,4 @@
-use Rattle.std.proofs.Common.{arith, map, sym, ◌∙◌, ◌≡◌, ◌≤◌, ◌-◌}
+use Rattle.std.proofs.Common.{arith, map, sym, ◌∙◌, ◌-◌}
 use Rattle.unions.specs.Fillings.{window-empty, window-found}
 use Rattle.members.specs.MemberLaws.{entries-least}
 use Rattle.unions.proofs.buffered_union.settle.Goals as goal

@@ -1,4 +1,4 @@
-use Rattle.std.proofs.Common.{ap, arith, map, ◌∙◌, ◌≡◌, ◌≤◌}
+use Rattle.std.proofs.Common.{ap, arith, map, ◌∙◌}
 use Rattle.unions.specs.Fillings.{window-moved, windowed-moved}
 use Rattle.members.specs.Members.{least}
 use Rattle.members.specs.MemberLaws.{least-cut}

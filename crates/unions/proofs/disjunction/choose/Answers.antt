@@ -1,6 +1,6 @@
-use Rattle.std.proofs.Common.{[], List, ap, arith, length, map, sum, sym, ◌+◌, ◌<◌, ◌∙◌, ◌≡◌, ◌≤◌, ℕ}
+use Rattle.std.proofs.Common.{ap, arith, length, map, sum, sym, ◌+◌, ◌<◌, ◌∙◌, ◌≡◌, ℕ}
 use Rattle.definitions.specs.Postings.{terminated}
-use Rattle.cursors.specs.Entries.{Entry, first}
+use Rattle.cursors.specs.Entries.{first}
 use Rattle.leaf_scorers.specs.ScoredEntryLaws.{by_place}
 use Rattle.members.specs.AtLeastLaws.{chosen-end, chosen-from, chosen-here, chosen-past}
 use Rattle.members.specs.Members.{at_least, entries_at, least, scores_in}

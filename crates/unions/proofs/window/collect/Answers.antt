@@ -1,5 +1,5 @@
-use Rattle.std.proofs.Common.{[], ap, arith, drop, length, sym, ◌∙◌, ◌∷◌, ◌≡◌, ◌≤◌}
-use Rattle.cursors.specs.Entries.{Entry, first, first_score, from}
+use Rattle.std.proofs.Common.{[], ap, arith, drop, length, sym, ◌∙◌, ◌∷◌, ◌≡◌}
+use Rattle.cursors.specs.Entries.{first, first_score, from}
 use Rattle.cursors.specs.EntryLaws.{from-first, from-step}
 use Rattle.members.specs.Members.{entries_of}
 use Rattle.members.specs.MemberLaws.{first-next, entries-low}

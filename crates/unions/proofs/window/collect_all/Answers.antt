@@ -1,11 +1,11 @@
-use Rattle.std.proofs.Common.{[], List, add-one, ap, arith, drop, get_or, length, map, set, subst, suc, sum, sym, take, ◌++◌, ◌+◌, ◌∙◌, ◌∷◌, ◌≡◌, ◌≤◌, ◌<◌, ◌-◌, ℕ}
+use Rattle.std.proofs.Common.{[], List, add-one, ap, arith, drop, get_or, length, map, set, subst, sum, sym, take, ◌++◌, ◌+◌, ◌∙◌, ◌∷◌, ◌≡◌, ◌<◌}
 use Rattle.std.proofs.lemmas.List.{drop_all, drop_more, get_or-map, length-map, map-set}
 use Rattle.members.specs.MemberLaws.{sum-scores}
 use Rattle.cursors.specs.Entries.{Entry, first, from}
-use Rattle.members.specs.Members.{entries_at, entries_of, least, scores_in}
+use Rattle.members.specs.Members.{entries_at, entries_of, scores_in}
 use Rattle.members.specs.ChangedLists.{changed-all, changed-get, changed-length, changed-set}
 use Rattle.members.specs.MemberLaws.{least-get}
-use Rattle.unions.specs.Windows.{Moves, held}
+use Rattle.unions.specs.Windows.{Moves}
 use Rattle.unions.specs.WindowLaws.{Moves-list, Moves-on}
 use Rattle.unions.proofs.window.collect_all.Given.{Over}
 use Rattle.unions.proofs.window.collect_all.Goals.{After-index_mut}

@@ -1,4 +1,4 @@
-use Rattle.std.proofs.Common.{drop, map, take, ◌++◌, ◌≡◌, ◌≤◌}
+use Rattle.std.proofs.Common.{drop, map, take, ◌++◌, ◌≡◌}
 use Rattle.cursors.specs.Entries.{from}
 use Rattle.members.specs.Members.{entries_at}
 use Rattle.unions.specs.Windows.{Moves}

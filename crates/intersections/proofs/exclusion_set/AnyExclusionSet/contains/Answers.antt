@@ -1,4 +1,4 @@
-use Rattle.std.proofs.Common.{false, sym, true, ◌≡◌, ◌≤◌}
+use Rattle.std.proofs.Common.{sym}
 use Rattle.cursors.specs.DangerLaws.{danger-kept}
 use Rattle.cursors.specs.declared.seek_danger_result.SeekDangerResult.TheVariants.{Found}
 use Rattle.intersections.specs.DifferenceLaws.{has-found, has-kept, has-missed}

@@ -1,4 +1,4 @@
-use Rattle.std.proofs.Common.{arith, length, map, ◌<◌, ◌∙◌, ◌≡◌}
+use Rattle.std.proofs.Common.{arith, map, ◌∙◌}
 use Rattle.intersections.specs.MeetingLaws.{Rising-meeting, meets-on}
 use Rattle.intersections.specs.Meetings.{meeting}
 use Rattle.members.specs.MemberLaws.{from-zero}

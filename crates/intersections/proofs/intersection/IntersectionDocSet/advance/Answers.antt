@@ -1,4 +1,4 @@
-use Rattle.std.proofs.Common.{ap, arith, drop, length, map, sym, ◌+◌, ◌<◌, ◌∙◌, ◌≡◌}
+use Rattle.std.proofs.Common.{ap, arith, map, sym, ◌+◌, ◌∙◌}
 use Rattle.cursors.specs.Entries.{from}
 use Rattle.cursors.specs.EntryLaws.{drop-one}
 use Rattle.intersections.specs.MeetingLaws.{meets-on}

@@ -1,4 +1,4 @@
-use Rattle.std.proofs.Common.{arith, length, map, ◌<◌, ◌≡◌}
+use Rattle.std.proofs.Common.{arith, map}
 use Rattle.intersections.specs.MeetingLaws.{meets-on}
 use Rattle.intersections.proofs.intersection.IntersectionDocSet.seek.Goals as goal
 

@@ -1,4 +1,4 @@
-use Rattle.std.proofs.Common.{ap, arith, min, sym, ◌+◌, ◌∙◌, ◌≤◌}
+use Rattle.std.proofs.Common.{ap, arith, min, sym, ◌∙◌}
 use Rattle.leaf_scorers.specs.ScoredEntries.{rescored_by}
 use Rattle.leaf_scorers.specs.ScoredEntryLaws.{docs-taken, drop-rescored, greatest-rest, length-rescored}
 use Rattle.intersections.specs.Optionals.{score_with}

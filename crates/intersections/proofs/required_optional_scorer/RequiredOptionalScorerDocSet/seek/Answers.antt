@@ -1,4 +1,4 @@
-use Rattle.std.proofs.Common.{ap, arith, sym, ◌+◌, ◌∙◌, ◌≤◌}
+use Rattle.std.proofs.Common.{ap, arith, sym, ◌∙◌}
 use Rattle.cursors.specs.EntryLaws.{IsRest-from}
 use Rattle.leaf_scorers.specs.ScoredEntries.{rescored_by}
 use Rattle.leaf_scorers.specs.ScoredEntryLaws.{IsRest-along, from-rescored, greatest-rest}

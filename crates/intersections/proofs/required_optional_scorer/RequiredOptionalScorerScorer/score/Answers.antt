@@ -1,4 +1,4 @@
-use Rattle.std.proofs.Common.{[], List, ap, arith, of_z, pos, sum, sym, to_z, ◌++◌, ◌+◌, ◌<◌, ◌∙◌, ◌∷◌, ◌≡◌, ◌≤◌, ℕ}
+use Rattle.std.proofs.Common.{[], List, ap, arith, of_z, pos, sum, sym, to_z, ◌+◌, ◌<◌, ◌∙◌, ◌∷◌, ◌≡◌, ◌≤◌, ℕ}
 use Rattle.std.proofs.lemmas.Int.{ints, to_z-of_z}
 use Rattle.std.proofs.lemmas.List.{append-nil}
 use Rattle.definitions.specs.Postings.{terminated}

@@ -1,4 +1,4 @@
-use Rattle.std.proofs.Common.{ap, arith, drop, map, sym, ◌∙◌, ◌≡◌, ◌≤◌}
+use Rattle.std.proofs.Common.{ap, arith, drop, map, sym, ◌∙◌}
 use Rattle.unions.specs.Fillings.{standing-first}
 use Rattle.members.specs.MemberLaws.{listed-end}
 use Rattle.unions.specs.Windows.{is_ahead, entry_ahead}

@@ -1,4 +1,4 @@
-use Rattle.std.proofs.Common.{arith, map, sym, ◌∙◌, ◌≡◌, ◌≤◌}
+use Rattle.std.proofs.Common.{arith, map, sym, ◌∙◌}
 use Rattle.members.specs.MemberLaws.{from-listed}
 use Rattle.unions.specs.Windows.{is_ahead, entry_ahead}
 use Rattle.unions.proofs.buffered_union.BufferedUnionScorerDocSet.seek.Goals as goal

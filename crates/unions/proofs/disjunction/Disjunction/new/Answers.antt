@@ -1,4 +1,4 @@
-use Rattle.std.proofs.Common.{ap, arith, map, ◌∙◌, ◌≡◌, ◌≤◌}
+use Rattle.std.proofs.Common.{ap, arith, map, ◌∙◌}
 use Rattle.members.specs.MemberLaws.{from-zero, least-small, sum-greatest}
 use Rattle.members.specs.Members.{at_least, combining, scores_in, with_score}
 use Rattle.members.specs.AtLeastLaws.{same-making}

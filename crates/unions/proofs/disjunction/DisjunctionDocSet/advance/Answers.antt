@@ -1,8 +1,8 @@
-use Rattle.std.proofs.Common.{ap, arith, drop, map, sum, sym, ◌+◌, ◌∙◌, ◌≡◌, ◌≤◌}
+use Rattle.std.proofs.Common.{ap, arith, drop, map, sym, ◌+◌, ◌∙◌}
 use Rattle.cursors.specs.Entries.{from}
 use Rattle.cursors.specs.EntryLaws.{drop-one}
 use Rattle.members.specs.AtLeastLaws.{chosen-end}
-use Rattle.members.specs.Members.{at_least, combining, entries_at}
+use Rattle.members.specs.Members.{at_least, combining}
 use Rattle.members.specs.MemberLaws.{entries-least, least-small}
 use Rattle.unions.specs.Choices.{Rising-chosen}
 use Rattle.unions.proofs.disjunction.DisjunctionDocSet.advance.Goals as goal

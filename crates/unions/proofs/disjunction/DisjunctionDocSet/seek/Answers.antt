@@ -1,10 +1,6 @@
-use Rattle.std.proofs.Common.{ap, arith, drop, map, sum, sym, ◌+◌, ◌∙◌, ◌≡◌, ◌≤◌}
-use Rattle.cursors.specs.Entries.{from}
-use Rattle.cursors.specs.EntryLaws.{drop-one}
-use Rattle.members.specs.AtLeastLaws.{chosen-end}
-use Rattle.members.specs.Members.{at_least, combining, entries_at}
-use Rattle.members.specs.MemberLaws.{entries-least, least-small}
-use Rattle.unions.specs.Choices.{Rising-chosen}
+use Rattle.std.proofs.Common.{arith}
+use Rattle.members.specs.Members.{combining}
+use Rattle.members.specs.MemberLaws.{least-small}
 use Rattle.unions.proofs.disjunction.DisjunctionDocSet.seek.Goals as goal
 
 pub invariant_of-self : goal.invariant_of-self

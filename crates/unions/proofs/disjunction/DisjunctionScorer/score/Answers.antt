@@ -1,4 +1,4 @@
-use Rattle.std.proofs.Common.{[], ap, arith, map, pos, sum, sym, of_z, to_z, ◌++◌, ◌+◌, ◌∙◌, ◌≡◌, ◌≤◌, ℕ}
+use Rattle.std.proofs.Common.{[], ap, arith, map, pos, sym, of_z, to_z, ◌∙◌, ◌≡◌, ◌≤◌, ℕ}
 use Rattle.std.proofs.lemmas.Int.{ints, to_z-of_z}
 use Rattle.std.proofs.lemmas.List.{append-nil}
 use Rattle.unions.specs.Choices.{chosen-score}

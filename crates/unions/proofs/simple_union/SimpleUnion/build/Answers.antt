@@ -1,17 +1,25 @@
-use Rattle.std.proofs.Common.{ap, arith, map, sum, ◌∙◌}
-use Rattle.members.specs.AtLeastLaws.{chosen-from}
-use Rattle.members.specs.Members.{at_least, combining}
+use Rattle.std.proofs.Common.{ap, arith, map, true, ◌∙◌}
+use Rattle.members.specs.Members.{at_least}
 use Rattle.members.specs.MemberLaws.{from-zero}
-use Rattle.unions.specs.Together.{Rising-summed, together-on}
+use Rattle.unions.specs.Together.{together-first}
+use Rattle.unions.specs.Uniting.{most_sum, uniting}
+use Rattle.unions.specs.UnitingLaws.{most_sum-cut}
 use Rattle.unions.proofs.simple_union.SimpleUnion.build.Goals as goal
 
 pub invariant_of-result : goal.invariant_of-result
 invariant_of-result g c =
     let entries = g.S.DocSet.entries in
-    let items = c.args.docsets.items in
-    record { together = together-on (map entries items) (map entries c.lead-doc.new.docsets.items) 0 c.lead-doc.result.doc (omega arith) (Rising-summed entries g.met.S.DocSet.rising items c.requires) c.lead-doc.ensures.moved c.lead-doc.ensures.least }
+    let moved = c.seek_any-doc.ensures.moved in
+    let less = most_sum-cut 0 (map entries c.args.docsets.items) in
+    let same = ap most_sum moved in
+    let bound = c.in_ok-most.ensures in
+    let room = c.in_ok-positions.ensures in
+    let one = room.0 in
+    let all = room.1 in
+    record {
+      together = together-first entries g.met.S.DocSet.rising true c.args.docsets.items (map entries c.seek_any-doc.new.docsets.items) c.seek_any-doc.result c.requires.scores (λ e. c.requires.counts) moved c.seek_any-doc.ensures.least;
+      room = (omega (arith, less, same, bound, one), omega (arith, less, same, bound, all));
+    }
 
 pub returns : goal.returns
-returns g c =
-    let ess = map g.S.DocSet.entries c.args.docsets.items in
-    ap (at_least 1 (combining sum)) c.lead-doc.ensures.moved ∙ (chosen-from 1 (combining sum) ess 0 (omega arith) (omega arith) ∙ from-zero (at_least 1 (combining sum) ess))
+returns g c = c.seek_any-doc.ensures.rest (uniting true) ∙ from-zero (at_least 1 (uniting true) (map g.S.DocSet.entries c.args.docsets.items))

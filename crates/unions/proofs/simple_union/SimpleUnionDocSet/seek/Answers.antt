@@ -1,26 +1,26 @@
-use Rattle.std.proofs.Common.{ap, arith, drop, map, sum, sym, ◌+◌, ◌∙◌, ◌≡◌, ◌≤◌}
-use Rattle.definitions.specs.Postings.{terminated}
-use Rattle.cursors.specs.Entries.{first, from}
-use Rattle.cursors.specs.EntryLaws.{drop-one}
-use Rattle.members.specs.AtLeastLaws.{chosen-from, union-first}
-use Rattle.members.specs.Members.{at_least, combining}
-use Rattle.members.specs.MemberLaws.{least-small}
+use Rattle.std.proofs.Common.{is_some, map, subst, sym}
+use Rattle.cursors.specs.Entries.{Rising}
+use Rattle.cursors.specs.EntryLaws.{Rising-from}
+use Rattle.members.specs.Members.{at_least}
 use Rattle.unions.specs.Together.{together-on}
+use Rattle.unions.specs.UnitedRoom.{room-on}
+use Rattle.unions.specs.Uniting.{uniting}
 use Rattle.unions.proofs.simple_union.SimpleUnionDocSet.seek.Goals as goal
 
 pub invariant_of-self : goal.invariant_of-self
 invariant_of-self g c =
     let s = c.args.self.now in
-    let entries = g.S.DocSet.entries in
-    let leads = s.together.leads in
-    let small = least-small entries g.met.S.DocSet.rising s.docsets.items in
-    record { together = together-on (map entries s.docsets.items) (map entries c.lead.new.docsets.items) c.args.target c.lead.result.doc (c.requires.small) s.together.rises c.lead.ensures.moved c.lead.ensures.least }
+    let ess = map g.S.DocSet.entries s.docsets.items in
+    let next = c.seek_any-self in
+    let make = uniting (is_some s.positions) in
+    let moved = map g.S.DocSet.entries next.new.docsets.items in
+    record {
+      together = together-on (is_some s.positions) ess moved c.args.target s.doc next.result s.together (subst (Rising 0) (sym (next.ensures.rest make)) (Rising-from c.args.target 0 (at_least 1 make ess) s.together.rises)) next.ensures.moved next.ensures.least;
+      room = room-on s.positions ess moved c.args.target s.room next.ensures.moved;
+    }
 
 pub returns-clause-rest : goal.returns-clause-rest
-returns-clause-rest g c =
-    let s = c.args.self.now in
-    let ess = map g.S.DocSet.entries s.docsets.items in
-    ap (at_least 1 (combining sum)) c.lead.ensures.moved ∙ chosen-from 1 (combining sum) ess c.args.target (omega arith) c.requires.small
+returns-clause-rest g c = c.seek_any-self.ensures.rest (uniting (is_some c.args.self.now.positions))
 
 pub returns-clause-at : goal.returns-clause-at
-returns-clause-at g c = c.lead.ensures.least ∙ sym (union-first g.S.DocSet.entries g.met.S.DocSet.rising (combining sum) c.lead.new.docsets.items)
+returns-clause-at g c = c.seek_any-self.ensures.at (uniting (is_some c.args.self.now.positions))

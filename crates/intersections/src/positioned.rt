@@ -1,0 +1,27 @@
+//! Cursors that tell where the term of each of their documents stands.
+
+ghost use Rattle.std.specs.Prelude.{◌<◌, ◌≡◌, ◌≤◌, length, vec_capacity};
+ghost use Rattle.cursors.specs.Entries.{first, first_positions, most_positions, single};
+ghost use Rattle.definitions.specs.Postings.{terminated};
+
+use cursors::DocSet;
+
+/// A cursor whose documents have one list of positions each.
+pub trait Positioned: DocSet {
+    ghost use Rattle.intersections.specs.Columns.{HaveOneColumn};
+
+    /// Puts the positions in the current document in place of those that the output holds, which has the room.
+    fn positions(&mut self, output: &mut Vec<u32>)
+        requires on { first (Self.entries self.old) < terminated }
+        requires room { length (single (first_positions (Self.entries self.old))) ≤ vec_capacity output.old }
+        ensures same { Self.entries self.new ≡ Self.entries self.old }
+        ensures items { output.new.items ≡ single (first_positions (Self.entries self.old)) }
+        ensures room { vec_capacity output.old ≤ vec_capacity output.new };
+
+    /// A number of positions that no remaining document has more of.
+    fn most_positions(&self) -> usize
+        ensures { most_positions (Self.entries self.now) ≤ result };
+
+    // Each entry has one column, whose positions don't fall.
+    ghost one_column: { (s : Self) → HaveOneColumn (Self.entries s) };
+}

@@ -1,0 +1,5 @@
+pub mod Merges
+pub mod SweepCosts
+pub mod PlaceLaws
+pub mod PhrasePlaces
+pub mod Columns

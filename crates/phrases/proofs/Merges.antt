@@ -1,0 +1,117 @@
+-- Laws of positions that two terms share.
+use Rattle.std.proofs.Common.{[], Bool, List, ap, arith, drop, false, filter, get_or, if◌then◌else◌, le-leb, length, map, nat_le, refl, set, subst, suc, sym, take, true, zero, ◌&&◌, ◌++◌, ◌+◌, ◌<◌, ◌==◌, ◌∙◌, ◌∷◌, ◌||◌, ◌≡◌, ◌≤◌, ℕ}
+use Rattle.std.specs.List.{list_any}
+use Rattle.std.proofs.lemmas.Bool.{lt-leb}
+use Rattle.std.proofs.lemmas.Bool.Decides.{nat_tests}
+use Rattle.std.proofs.lemmas.List.{append_assoc, drop-set-lt, drop_more, drop_all, take_more_set}
+use Rattle.phrases.specs.Places.{Ascends, Rises, distinct, has}
+
+-- ---- orders
+
+pub Ascends-lower : (low high : ℕ) (ps : List ℕ) → low ≤ high → Ascends high ps → Ascends low ps
+Ascends-lower low high [] l a = tt
+Ascends-lower low high (p ∷ ps) l a = (omega (arith, l, a.0), a.1)
+
+pub Rises-lower : (low high : ℕ) (ps : List ℕ) → low ≤ high → Rises high ps → Rises low ps
+Rises-lower low high [] l r = tt
+Rises-lower low high (p ∷ ps) l r = (omega (arith, l, r.0), r.1)
+
+-- what is left of ascending positions, one step on
+pub Ascends-step : (low i : ℕ) (ps : List ℕ) → i < length ps → Ascends low (drop i ps) → (low ≤ get_or ps i 0) × Ascends (get_or ps i 0) (drop (i + 1) ps)
+Ascends-step low i ps l a = let split : Ascends low (get_or ps i 0 ∷ drop (i + 1) ps) = subst (Ascends low) (drop_more ps i 0 l) a in (split.0, split.1)
+
+pub Rises-step : (low i : ℕ) (ps : List ℕ) → i < length ps → Rises low (drop i ps) → (low ≤ get_or ps i 0) × Rises (get_or ps i 0 + 1) (drop (i + 1) ps)
+Rises-step low i ps l r = let split : Rises low (get_or ps i 0 ∷ drop (i + 1) ps) = subst (Rises low) (drop_more ps i 0 l) r in (split.0, split.1)
+
+-- ---- distinct positions
+
+-- a position that isn't below the next is copied
+pub distinct-in : (next i : ℕ) (ps : List ℕ) → i < length ps → next ≤ get_or ps i 0 → distinct next (drop i ps) ≡ get_or ps i 0 ∷ distinct (get_or ps i 0 + 1) (drop (i + 1) ps)
+distinct-in next i ps l in_place =
+    ap (distinct next) (drop_more ps i 0 l)
+    ∙ ap (λ b. if b then get_or ps i 0 ∷ distinct (get_or ps i 0 + 1) (drop (i + 1) ps) else distinct next (drop (i + 1) ps)) (le-leb next (get_or ps i 0) in_place)
+
+-- one that is below is not
+pub distinct-out : (next i : ℕ) (ps : List ℕ) → i < length ps → get_or ps i 0 < next → distinct next (drop i ps) ≡ distinct next (drop (i + 1) ps)
+distinct-out next i ps l out =
+    ap (distinct next) (drop_more ps i 0 l)
+    ∙ ap (λ b. if b then get_or ps i 0 ∷ distinct (get_or ps i 0 + 1) (drop (i + 1) ps) else distinct next (drop (i + 1) ps)) (lt-leb next (get_or ps i 0) out)
+
+-- they rise
+pub Rises-distinct : (next : ℕ) (ps : List ℕ) → Rises next (distinct next ps)
+Rises-distinct next [] = tt
+Rises-distinct next (p ∷ ps) =
+    (elim (nat_le next p) as (λ b. nat_le next p ≡ b → Rises next (if b then p ∷ distinct (p + 1) ps else distinct next ps)) [
+      | true ↦ (λ e. (grind (arith, nat_tests, e), Rises-distinct (p + 1) ps))
+      | false ↦ (λ e. Rises-distinct next ps)
+    ]) refl
+
+-- and are no more
+pub length-distinct : (next : ℕ) (ps : List ℕ) → length (distinct next ps) ≤ length ps
+length-distinct next [] = omega arith
+length-distinct next (p ∷ ps) =
+    let ih = length-distinct next ps in
+    let further = length-distinct (p + 1) ps in
+    elim (nat_le next p) as (λ b. length (if b then p ∷ distinct (p + 1) ps else distinct next ps) ≤ length (p ∷ ps)) [
+      | true ↦ (let goal : length (p ∷ distinct (p + 1) ps) ≤ length (p ∷ ps) = omega (arith, further) in goal)
+      | false ↦ (let goal : length (distinct next ps) ≤ length (p ∷ ps) = omega (arith, ih) in goal)
+    ]
+
+-- ---- what is shared
+
+-- ascending positions haven't one below them
+pub has-low : (low p : ℕ) (ps : List ℕ) → Ascends low ps → p < low → has ps p ≡ false
+has-low low p [] a l = refl
+has-low low p (q ∷ qs) a l =
+    let rest = has-low q p qs a.1 (omega (arith, a.0, l)) in
+    let apart : (q == p) ≡ false = grind (arith, nat_tests, a.0, l) in
+    ap (λ b. b || has qs p) apart ∙ rest
+
+-- tests that agree on what rises keep alike
+pub filter-rising : (f g : ℕ → Bool) (low : ℕ) (xs : List ℕ) → Rises low xs → ((x : ℕ) → low ≤ x → f x ≡ g x) → filter f xs ≡ filter g xs
+filter-rising f g low [] r same = refl
+filter-rising f g low (x ∷ xs) r same =
+    ap (λ b. if b then x ∷ filter f xs else filter f xs) (same x r.0)
+    ∙ ap (λ ys. if g x then x ∷ ys else ys) (filter-rising f g (x + 1) xs r.1 (λ y l. same y (omega (arith, l, r.0))))
+
+-- a position that is kept, and one that isn't
+filter-in : (f : ℕ → Bool) (x : ℕ) (xs : List ℕ) → f x ≡ true → filter f (x ∷ xs) ≡ x ∷ filter f xs
+filter-in f x xs e = ap (λ b. if b then x ∷ filter f xs else filter f xs) e
+
+filter-out : (f : ℕ → Bool) (x : ℕ) (xs : List ℕ) → f x ≡ false → filter f (x ∷ xs) ≡ filter f xs
+filter-out f x xs e = ap (λ b. if b then x ∷ filter f xs else filter f xs) e
+
+filter-none : (xs : List ℕ) → filter (has []) xs ≡ []
+filter-none [] = refl
+filter-none (x ∷ xs) = filter-none xs
+
+-- ---- a merge, step by step: l and r are the first positions left
+
+-- a left position before all right ones goes
+pub merge-left : (i j : ℕ) (left right : List ℕ) → i < length left → j < length right → Ascends 0 (drop j right) → get_or left i 0 < get_or right j 0 → filter (has (drop j right)) (drop i left) ≡ filter (has (drop j right)) (drop (i + 1) left)
+merge-left i j left right li lj a l =
+    let rises : Ascends (get_or right j 0) (get_or right j 0 ∷ drop (j + 1) right) = (omega arith, (Ascends-step 0 j right lj a).1) in
+    ap (filter (has (drop j right))) (drop_more left i 0 li)
+    ∙ filter-out (has (drop j right)) (get_or left i 0) (drop (i + 1) left) (has-low (get_or right j 0) (get_or left i 0) (drop j right) (subst (Ascends (get_or right j 0)) (sym (drop_more right j 0 lj)) rises) l)
+
+-- a right position before all left ones is passed
+pub merge-right : (i j : ℕ) (left right : List ℕ) → i < length left → j < length right → Rises 0 (drop i left) → get_or right j 0 < get_or left i 0 → filter (has (drop j right)) (drop i left) ≡ filter (has (drop (j + 1) right)) (drop i left)
+merge-right i j left right li lj r l =
+    let rises : Rises (get_or left i 0) (get_or left i 0 ∷ drop (i + 1) left) = (omega arith, (Rises-step 0 i left li r).1) in
+    ap (λ ps. filter (has ps) (drop i left)) (drop_more right j 0 lj)
+    ∙ filter-rising (has (get_or right j 0 ∷ drop (j + 1) right)) (has (drop (j + 1) right)) (get_or left i 0) (drop i left) (subst (Rises (get_or left i 0)) (sym (drop_more left i 0 li)) rises)
+    (λ x b. let apart : (get_or right j 0 == x) ≡ false = grind (arith, nat_tests, l, b) in ap (λ t. t || has (drop (j + 1) right) x) apart)
+
+-- a shared one stays
+pub merge-both : (i j : ℕ) (left right : List ℕ) → i < length left → j < length right → get_or left i 0 ≡ get_or right j 0 → filter (has (drop j right)) (drop i left) ≡ get_or left i 0 ∷ filter (has (drop j right)) (drop (i + 1) left)
+merge-both i j left right li lj e =
+    let here : (get_or right j 0 == get_or left i 0) ≡ true = grind (arith, nat_tests, e) in
+    ap (filter (has (drop j right))) (drop_more left i 0 li)
+    ∙ filter-in (has (drop j right)) (get_or left i 0) (drop (i + 1) left) (ap (λ ps. has ps (get_or left i 0)) (drop_more right j 0 lj) ∙ ap (λ b. b || has (drop (j + 1) right) (get_or left i 0)) here)
+
+-- at an end nothing is left to keep
+pub merge-end : (i j : ℕ) (left right : List ℕ) → length left ≤ i → filter (has (drop j right)) (drop i left) ≡ []
+merge-end i j left right l = ap (filter (has (drop j right))) (drop_all i left l)
+
+pub merge-over : (i j : ℕ) (left right : List ℕ) → length right ≤ j → filter (has (drop j right)) (drop i left) ≡ []
+merge-over i j left right l = ap (λ ps. filter (has ps) (drop i left)) (drop_all j right l) ∙ filter-none (drop i left)

@@ -1,0 +1,77 @@
+use Rattle.std.proofs.Common.{[], List, ap, arith, filter, get_or, length, map, refl, reverse, subst, sym, take, vec_capacity, ◌+◌, ◌<◌, ◌∙◌, ◌≡◌, ◌≤◌, ℕ}
+use Rattle.cursors.specs.Entries.{first_positions}
+use Rattle.intersections.specs.Meetings.{meeting}
+use Rattle.phrases.specs.Finders.{HasRoom}
+use Rattle.phrases.specs.PhraseEntries.{AreColumns, longest}
+use Rattle.phrases.specs.Places.{Ascends, Rises, distinct, has, reached}
+use Rattle.phrases.proofs.Columns.{column-ascends, column-length, shared-all, shared-first, shared-next}
+use Rattle.phrases.proofs.PlaceLaws.{Rises-reached}
+use Rattle.phrases.proofs.place_finder.PlaceFinder.find_shared.Goals as goal
+
+pub loop-i-init : goal.loop-i-init
+loop-i-init g c =
+    let columns : List (List ℕ) = first_positions (meeting (map g.S.DocSet.entries c.args.terms.now.docsets.items)) in
+    let positions = c.column.ensures.room in
+    let places = c.copy_distinct.ensures.room in
+    record {
+      same = c.column.ensures.same;
+      slop = refl;
+      places = c.copy_distinct.ensures.items ∙ (ap (distinct 0) (c.deref.ensures.value ∙ c.column.ensures.items) ∙ shared-first columns c.requires.some);
+      room = λ n h. (let in_places = h.places in let in_positions = h.positions in record {
+        places = omega (arith, places, in_places);
+        positions = omega (arith, positions, in_positions);
+        costs = h.costs;
+        further_costs = h.further_costs;
+      });
+    }
+
+pub column-requires-in-loop-i-clause-room : goal.column-requires-in-loop-i-clause-room
+column-requires-in-loop-i-clause-room g c =
+    let columns : List (List ℕ) = first_positions (meeting (map g.S.DocSet.entries c.args.terms.now.docsets.items)) in
+    let room = (c.loop-i.invariant.room (longest columns) c.requires.room).positions in
+    let small = column-length columns c.loop-i.i in
+    let same = ap (λ es. length (get_or (first_positions es) c.loop-i.i [])) c.loop-i.invariant.same in
+    let goal : length (get_or (first_positions (meeting (map g.S.DocSet.entries c.loop-i.terms.docsets.items))) c.loop-i.i []) ≤ vec_capacity c.loop-i.self.positions = omega (arith, same, small, room) in goal
+
+pub intersection-requires-clause-rises : goal.intersection-requires-clause-rises
+intersection-requires-clause-rises g c = subst (Rises 0) (sym c.loop-i.invariant.places) (Rises-reached 0 (reverse (take c.loop-i.i (first_positions (meeting (map g.S.DocSet.entries c.args.terms.now.docsets.items))))))
+
+pub intersection-requires-clause-ascends : goal.intersection-requires-clause-ascends
+intersection-requires-clause-ascends g c =
+    let columns : List (List ℕ) = first_positions (meeting (map g.S.DocSet.entries c.args.terms.now.docsets.items)) in
+    let count = c.num_columns-i-end.ensures in
+    let same = ap (λ es. length (first_positions es)) c.column.ensures.same in
+    let column = c.deref-in-loop-i.ensures.value ∙ (c.column-in-loop-i.ensures.items ∙ ap (λ es. get_or (first_positions es) c.loop-i.i []) c.loop-i.invariant.same) in
+    subst (Ascends 0) (sym column) (column-ascends columns c.loop-i.i c.requires.columns (omega (arith, count, same, c.loop-i-test.true)))
+
+pub loop-i-preserved : goal.loop-i-preserved
+loop-i-preserved g c =
+    let columns : List (List ℕ) = first_positions (meeting (map g.S.DocSet.entries c.args.terms.now.docsets.items)) in
+    let inv = c.loop-i.invariant in
+    let i = c.loop-i.i in
+    let count = c.num_columns-i-end.ensures in
+    let same = ap (λ es. length (first_positions es)) c.column.ensures.same in
+    let begun = c.loop-i.auto.i in
+    let column = c.deref-in-loop-i.ensures.value ∙ (c.column-in-loop-i.ensures.items ∙ ap (λ es. get_or (first_positions es) i []) inv.same) in
+    let positions = c.column-in-loop-i.ensures.room in
+    let places = c.intersection.ensures.room in
+    record {
+      same = c.column-in-loop-i.ensures.same ∙ inv.same;
+      slop = inv.slop;
+      places = c.intersection.ensures.items ∙ (ap (λ ps. filter (has ps) c.loop-i.self.places.items) column ∙ (ap (filter (has (get_or columns i []))) inv.places ∙ shared-next columns i c.requires.columns (omega (arith, begun)) (omega (arith, count, same, c.loop-i-test.true))));
+      room = λ n h. (let was = inv.room n h in let in_places = was.places in let in_positions = was.positions in record {
+        places = omega (arith, places, in_places);
+        positions = omega (arith, positions, in_positions);
+        costs = was.costs;
+        further_costs = was.further_costs;
+      });
+    }
+
+pub returns-clause-places : goal.returns-clause-places
+returns-clause-places g c =
+    let columns : List (List ℕ) = first_positions (meeting (map g.S.DocSet.entries c.args.terms.now.docsets.items)) in
+    let count = c.num_columns-i-end.ensures in
+    let same = ap (λ es. length (first_positions es)) c.column.ensures.same in
+    let end = c.loop-i.auto.i-end in
+    let some = c.requires.some in
+    c.loop-i.invariant.places ∙ shared-all columns c.loop-i.i 0 c.requires.columns (omega (arith, count, same, end, some, c.loop-i-test.false))

@@ -1,0 +1,47 @@
+//! Positions that two terms share.
+
+ghost use Rattle.std.specs.Prelude.{[], ◌≡◌, ◌≤◌, filter, length, vec_capacity};
+ghost use Rattle.phrases.specs.Places.{Ascends, Rises, distinct, has};
+
+/// Puts positions, each once, in place of those that an output holds.
+pub(crate) fn copy_distinct(positions: &[u32], output: &mut Vec<u32>)
+    requires ascends { Ascends 0 positions.now }
+    requires room { length positions.now ≤ vec_capacity output.old }
+    ensures items { output.new.items ≡ distinct 0 positions.now }
+    ensures room { vec_capacity output.new ≡ vec_capacity output.old }
+{
+    output.clear();
+    let mut next: u64 = 0;
+    for i in 0..positions.len() {
+        let p = u64::from(positions[i]);
+        if p >= next {
+            output.push_reserved(positions[i]);
+            next = p + 1;
+        }
+    }
+}
+
+/// Takes out of rising positions those that aren't among others.
+pub(crate) fn intersection(left: &mut Vec<u32>, right: &[u32])
+    requires rises { Rises 0 left.old.items }
+    requires ascends { Ascends 0 right.now }
+    ensures items { left.new.items ≡ filter (has right.now) left.old.items }
+    ensures room { vec_capacity left.new ≡ vec_capacity left.old }
+{
+    let mut count = 0;
+    let mut i = 0;
+    let mut j = 0;
+    while i < left.len() && j < right.len() {
+        let (l, r) = (left[i], right[j]);
+        if l < r {
+            i += 1;
+        } else if r < l {
+            j += 1;
+        } else {
+            left[count] = l;
+            count += 1;
+            i += 1;
+        }
+    }
+    left.truncate(count);
+}

@@ -1,0 +1,106 @@
+//! The places of a phrase in one document, found in buffers whose room was made before.
+
+ghost use Rattle.std.specs.Prelude.{[], ◌<◌, ◌≡◌, ◌≤◌, IfOk, length, ℕ};
+ghost use Rattle.cursors.specs.Entries.{first, first_positions};
+ghost use Rattle.definitions.specs.Postings.{terminated};
+ghost use Rattle.phrases.specs.PhraseEntries.{AreColumns, longest};
+ghost use Rattle.phrases.specs.Places.{places_of};
+ghost use Rattle.phrases.specs.Finders.{HasRoom};
+
+use crate::merging::{copy_distinct, intersection};
+use crate::sweeps::{Cost, begin, copy_cheap, reach};
+use cursors::DocSet;
+use intersections::{Intersection, Positioned};
+use std::alloc::{AllocError, Global};
+use std::mem::swap;
+
+/// A slop, the places that were found last, and room for columns and for their costs.
+#[derive(Drop)]
+pub(crate) struct PlaceFinder {
+    pub(crate) slop: u32,
+    pub(crate) places: Vec<u32>,
+    pub(crate) positions: Vec<u32>,
+    pub(crate) costs: Vec<Cost>,
+    pub(crate) further_costs: Vec<Cost>,
+}
+
+impl PlaceFinder {
+    /// Has room for columns of so many positions.
+    pub(crate) fn new(alloc: Global, slop: u32, room: usize) -> Result<PlaceFinder, AllocError>
+        ensures slop { IfOk result (λ finder. finder.slop ≡ slop) }
+        ensures room { IfOk result (λ finder. HasRoom finder room) }
+    {
+        let costs_room = if slop == 0 { 0 } else { room };
+        Ok(PlaceFinder {
+            slop,
+            places: Vec::with_capacity(alloc, room)?,
+            positions: Vec::with_capacity(alloc, room)?,
+            costs: Vec::with_capacity(alloc, costs_room)?,
+            further_costs: Vec::with_capacity(alloc, costs_room)?,
+        })
+    }
+
+    /// Finds the places in the current document.
+    pub(crate) fn find<S: Positioned>(&mut self, terms: &mut Intersection<S>)
+        requires on { first (⟦<Intersection<S> as DocSet>⟧.entries terms.old) < terminated }
+        requires some { 0 < length (first_positions (⟦<Intersection<S> as DocSet>⟧.entries terms.old)) }
+        requires columns { AreColumns (first_positions (⟦<Intersection<S> as DocSet>⟧.entries terms.old)) }
+        requires room { HasRoom self.old (longest (first_positions (⟦<Intersection<S> as DocSet>⟧.entries terms.old))) }
+        ensures same { ⟦<Intersection<S> as DocSet>⟧.entries terms.new ≡ ⟦<Intersection<S> as DocSet>⟧.entries terms.old }
+        ensures slop { self.new.slop ≡ self.old.slop }
+        ensures places { self.new.places.items
+            ≡ places_of self.old.slop (first_positions (⟦<Intersection<S> as DocSet>⟧.entries terms.old)) }
+        ensures room { (n : ℕ) → HasRoom self.old n → HasRoom self.new n }
+    {
+        if self.slop == 0 {
+            self.find_shared(terms);
+        } else {
+            self.find_near(terms);
+        }
+    }
+
+    /// Finds the places without slop: a term after the other keeps those where it stands.
+    fn find_shared<S: Positioned>(&mut self, terms: &mut Intersection<S>)
+        requires none { self.old.slop ≡ 0 }
+        requires on { first (⟦<Intersection<S> as DocSet>⟧.entries terms.old) < terminated }
+        requires some { 0 < length (first_positions (⟦<Intersection<S> as DocSet>⟧.entries terms.old)) }
+        requires columns { AreColumns (first_positions (⟦<Intersection<S> as DocSet>⟧.entries terms.old)) }
+        requires room { HasRoom self.old (longest (first_positions (⟦<Intersection<S> as DocSet>⟧.entries terms.old))) }
+        ensures same { ⟦<Intersection<S> as DocSet>⟧.entries terms.new ≡ ⟦<Intersection<S> as DocSet>⟧.entries terms.old }
+        ensures slop { self.new.slop ≡ self.old.slop }
+        ensures places { self.new.places.items
+            ≡ places_of 0 (first_positions (⟦<Intersection<S> as DocSet>⟧.entries terms.old)) }
+        ensures room { (n : ℕ) → HasRoom self.old n → HasRoom self.new n }
+    {
+        terms.column(0, &mut self.positions);
+        copy_distinct(&self.positions, &mut self.places);
+        for i in 1..terms.num_columns() {
+            terms.column(i, &mut self.positions);
+            intersection(&mut self.places, &self.positions);
+        }
+    }
+
+    /// Finds the places within a slop: a term after the other gives each of its positions the least cost.
+    fn find_near<S: Positioned>(&mut self, terms: &mut Intersection<S>)
+        requires some_slop { 0 < self.old.slop }
+        requires on { first (⟦<Intersection<S> as DocSet>⟧.entries terms.old) < terminated }
+        requires some { 0 < length (first_positions (⟦<Intersection<S> as DocSet>⟧.entries terms.old)) }
+        requires columns { AreColumns (first_positions (⟦<Intersection<S> as DocSet>⟧.entries terms.old)) }
+        requires room { HasRoom self.old (longest (first_positions (⟦<Intersection<S> as DocSet>⟧.entries terms.old))) }
+        ensures same { ⟦<Intersection<S> as DocSet>⟧.entries terms.new ≡ ⟦<Intersection<S> as DocSet>⟧.entries terms.old }
+        ensures slop { self.new.slop ≡ self.old.slop }
+        ensures places { self.new.places.items
+            ≡ places_of self.old.slop (first_positions (⟦<Intersection<S> as DocSet>⟧.entries terms.old)) }
+        ensures room { (n : ℕ) → HasRoom self.old n → HasRoom self.new n }
+    {
+        let most = u64::from(self.slop) + 1;
+        terms.column(0, &mut self.positions);
+        begin(&self.positions, &mut self.costs);
+        for i in 1..terms.num_columns() {
+            terms.column(i, &mut self.positions);
+            reach(&self.costs, &self.positions, most, &mut self.further_costs);
+            swap(&mut self.costs, &mut self.further_costs);
+        }
+        copy_cheap(&self.costs, u64::from(self.slop), &mut self.places);
+    }
+}

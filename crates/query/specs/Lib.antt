@@ -1,0 +1,2 @@
+-- What query trees are, as the definitions have them.
+pub mod Ranges

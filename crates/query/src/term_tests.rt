@@ -1,0 +1,140 @@
+//! Tests of a term: its field, and what the codes in its bytes say.
+
+ghost use Rattle.std.specs.Prelude.{[], ◌&&◌, ◌==◌, ◌∷◌, ◌≡◌, bytes_eq, false, find, is_none, is_some, option_map, slice_get, take};
+ghost use Rattle.std.specs.List.{after_first};
+ghost use Rattle.std.specs.Option.{option_map_or};
+ghost use Rattle.definitions.specs.Refusing as refusing;
+ghost use Rattle.definitions.specs.Schema.{has_positions, is_text, json_kind};
+ghost use Rattle.definitions.specs.Terms.{field_of, has_kind, inner_kind, is_text_term, leaf_kinds, type_code};
+ghost use Rattle.terms.specs.Kinds.{kind_of};
+
+use schema::{FieldEntry, Schema};
+use terms::{Term, Type};
+
+/// Whether the schema lacks the field of a term.
+pub(crate) fn is_unknown(schema: &Schema, term: &Term) -> bool
+    ensures { result ≡ refusing.is_unknown schema.now term.now }
+{
+    term.field().field_id() as usize >= schema.num_fields()
+}
+
+/// Whether the field of a term is not indexed.
+pub(crate) fn is_not_indexed(schema: &Schema, term: &Term) -> bool
+    ensures { result ≡ refusing.is_not_indexed schema.now term.now }
+{
+    match entry_of(schema, term) {
+        Some(entry) => !entry.is_indexed(),
+        None => true,
+    }
+}
+
+/// Whether a term is of another type than its field, or a JSON term without the code of a leaf behind its path.
+pub(crate) fn is_mismatched(schema: &Schema, term: &Term) -> bool
+    ensures { result ≡ refusing.is_mismatched schema.now term.now }
+{
+    match entry_of(schema, term) {
+        Some(entry) => !has_type(term, entry.value_type()) || lacks_leaf(term),
+        None => true,
+    }
+}
+
+/// Whether the field of a term records no positions.
+pub(crate) fn has_no_positions(schema: &Schema, term: &Term) -> bool
+    ensures { result ≡ refusing.has_no_positions schema.now term.now }
+{
+    match entry_of(schema, term) {
+        Some(entry) => !records_positions(entry),
+        None => true,
+    }
+}
+
+/// Whether the term is of a text field, or of a text in a JSON field.
+pub(crate) fn is_text_term(term: &Term) -> bool
+    ensures { result ≡ is_text_term term.now }
+{
+    has_type(term, Type::Str)
+        || has_type(term, Type::Json) && has_text_code(term.serialized_value_bytes())
+}
+
+/// The field of a term, where the schema has it.
+fn entry_of<'a>(schema: &'a Schema, term: &Term) -> Option<&'a FieldEntry>
+    ensures { option_map (λ entry. entry.now) result ≡ slice_get schema.now (field_of term.now) }
+{
+    if is_unknown(schema, term) {
+        return None;
+    }
+    Some(schema.get_field_entry(term.field()))
+}
+
+/// Whether positions are recorded of the field's terms.
+fn records_positions(entry: &FieldEntry) -> bool
+    ensures { result ≡ has_positions entry.now.record_option }
+{
+    match entry.field_type().get_index_record_option() {
+        Some(option) => option.has_positions(),
+        None => false,
+    }
+}
+
+/// Whether the term is a JSON term without the code of a leaf behind its path.
+fn lacks_leaf(term: &Term) -> bool
+    ensures { result ≡ (has_kind json_kind term.now && is_none (inner_kind term.now)) }
+{
+    has_type(term, Type::Json) && !has_leaf_code(term.serialized_value_bytes())
+}
+
+/// Whether the term is of that type, by their codes.
+fn has_type(term: &Term, value_type: Type) -> bool
+    ensures { result ≡ has_kind (kind_of value_type) term.now }
+{
+    term.typ().to_code() == value_type.to_code()
+}
+
+/// Whether the byte behind the first U+0000 is the code of a leaf.
+fn has_leaf_code(bytes: &[u8]) -> bool
+    ensures { result ≡ is_some (find (λ kind. bytes_eq (take 1 (after_first (◌==◌ 0) bytes.now)) (type_code kind)) leaf_kinds) }
+{
+    match behind_path(bytes).first() {
+        Some(code) => is_leaf_code(*code),
+        None => false,
+    }
+}
+
+/// Whether the byte behind the first U+0000 is the code of a text.
+fn has_text_code(bytes: &[u8]) -> bool
+    ensures { result ≡ option_map_or is_text (find (λ kind. bytes_eq (take 1 (after_first (◌==◌ 0) bytes.now)) (type_code kind)) leaf_kinds) false }
+{
+    match behind_path(bytes).first() {
+        Some(code) => is_text_code(*code),
+        None => false,
+    }
+}
+
+/// What stands behind the first U+0000.
+#[tactic(auto, using(crate::proofs::TermKinds::behind_first, crate::proofs::TermKinds::behind_other))]
+fn behind_path(bytes: &[u8]) -> &[u8]
+    ensures { result.now ≡ after_first (◌==◌ 0) bytes.now }
+{
+    let mut rest = bytes;
+    while let Some((byte, behind)) = rest.split_first() {
+        rest = behind;
+        if *byte == 0 {
+            break;
+        }
+    }
+    rest
+}
+
+/// Whether leaves of some type have this code.
+fn is_leaf_code(code: u8) -> bool
+    ensures { result ≡ is_some (find (λ kind. bytes_eq (code ∷ []) (type_code kind)) leaf_kinds) }
+{
+    matches!(code, b's' | b'u' | b'i' | b'o' | b'd')
+}
+
+/// Whether the code is that of a text.
+fn is_text_code(code: u8) -> bool
+    ensures { result ≡ option_map_or is_text (find (λ kind. bytes_eq (code ∷ []) (type_code kind)) leaf_kinds) false }
+{
+    code == b's'
+}

@@ -1,0 +1,2 @@
+pub mod OffsetOrder
+pub mod Clauses

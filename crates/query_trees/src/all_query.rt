@@ -1,0 +1,25 @@
+//! The query that every document matches.
+
+ghost use Rattle.definitions.specs.Query as definitions;
+
+use crate::query::{Query, QueryClone};
+use std::alloc::{AllocError, Global};
+use terms::Term;
+
+/// Every document.
+#[derive(Clone, Copy, Debug)]
+pub struct AllQuery;
+
+impl QueryClone for AllQuery {
+    fn try_clone(&self, _alloc: Global) -> Result<AllQuery, AllocError> {
+        Ok(*self)
+    }
+}
+
+impl Query for AllQuery {
+    ghost tree = { λ q. definitions.all };
+
+    fn query_terms(&self, alloc: Global) -> Result<Vec<(&Term, bool)>, AllocError> {
+        Ok(Vec::new(alloc))
+    }
+}

@@ -1,0 +1,58 @@
+//! Queries of any form.
+
+ghost use Rattle.query_trees.specs.Queries.{query_of};
+
+use crate::all_query::AllQuery;
+use crate::boolean_query::BooleanQuery;
+use crate::boost_query::BoostQuery;
+use crate::const_score_query::ConstScoreQuery;
+use crate::copies::copied_query;
+use crate::disjunction_max_query::DisjunctionMaxQuery;
+use crate::empty_query::EmptyQuery;
+use crate::phrase_prefix_query::PhrasePrefixQuery;
+use crate::phrase_query::PhraseQuery;
+use crate::query::{Query, QueryClone};
+use crate::query_terms::push_query_terms;
+use crate::term_query::TermQuery;
+use std::alloc::{AllocError, Global};
+use terms::Term;
+
+/// A query of any form.
+#[cycle(queries)]
+#[derive(Drop)]
+pub enum AnyQuery {
+    /// Every document.
+    All(AllQuery),
+    /// No document.
+    Empty(EmptyQuery),
+    /// Documents that hold a term.
+    Term(TermQuery),
+    /// Documents where terms stand beside each other.
+    Phrase(PhraseQuery),
+    /// Documents where terms stand beside each other, the last of which is known by its first bytes.
+    PhrasePrefix(PhrasePrefixQuery),
+    /// Documents that match clauses.
+    Boolean(BooleanQuery),
+    /// Documents that match one of several queries, by the best score.
+    DisjunctionMax(DisjunctionMaxQuery),
+    /// Documents that match a query, by its score times a factor.
+    Boost(BoostQuery),
+    /// Documents that match a query, by one score.
+    ConstScore(ConstScoreQuery),
+}
+
+impl QueryClone for AnyQuery {
+    fn try_clone(&self, alloc: Global) -> Result<AnyQuery, AllocError> {
+        copied_query(alloc, self)
+    }
+}
+
+impl Query for AnyQuery {
+    ghost tree = { query_of };
+
+    fn query_terms(&self, alloc: Global) -> Result<Vec<(&Term, bool)>, AllocError> {
+        let mut found = Vec::new(alloc);
+        push_query_terms(&mut found, self)?;
+        Ok(found)
+    }
+}

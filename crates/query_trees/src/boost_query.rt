@@ -1,0 +1,83 @@
+//! The query for a query with a boost.
+
+ghost use Rattle.std.specs.Prelude.{◌≡◌, IfOk};
+ghost use Rattle.definitions.specs.Query as definitions;
+ghost use Rattle.query_trees.specs.Queries.{query_of};
+
+use crate::any_query::AnyQuery;
+use crate::copies::copied_boost;
+use crate::query::{Query, QueryClone};
+use crate::query_terms::push_query_terms;
+use std::alloc::{AllocError, Global};
+use std::marker::Model;
+use terms::Term;
+
+/// Documents that match a query, by its score times a boost.
+#[cycle(queries)]
+#[derive(Drop)]
+pub struct BoostQuery {
+    query: Box<AnyQuery>,
+    boost: i64,
+}
+
+impl Model for BoostQuery {
+    ghost use Rattle.std.specs.Prelude.{ℤ};
+    ghost use Rattle.definitions.specs.Query as definitions;
+
+    ghost Value = { definitions.Query × ℤ };
+
+    ghost use Rattle.std.specs.Coded.{codes, coded_ℤ, coded×};
+    ghost use Rattle.query_trees.specs.QueryCodes.{query_code};
+
+    ghost coded = { coded× (query_code (Prim.hlevel codes)) coded_ℤ };
+
+    ghost use Rattle.query_trees.specs.Queries.{query_of};
+
+    ghost view = { λ q. (query_of q.query.value, q.boost) };
+
+    ghost size = { λ v. definitions.depth v.0 };
+
+    ghost use Rattle.query_trees.specs.QueryDepths.{query_below};
+
+    ghost size_decreases = { λ q h. query_below q.query.value };
+}
+
+impl BoostQuery {
+    /// The query with this boost. `check_query` refuses one that is negative, or above `MAX_SCORE`.
+    pub fn new(alloc: Global, query: AnyQuery, boost: i64) -> Result<BoostQuery, AllocError>
+        ensures { IfOk result (λ made. made ≡ (query_of query, boost)) }
+    {
+        let query = Box::new(alloc, query)?;
+        Ok(BoostQuery { query, boost })
+    }
+
+    /// The query whose scores are multiplied.
+    pub fn query(&self) -> &AnyQuery
+        ensures { query_of result.now ≡ self.now.0 }
+    {
+        &self.query
+    }
+
+    /// What its scores are multiplied by.
+    pub fn boost(&self) -> i64
+        ensures { result ≡ self.now.1 }
+    {
+        self.boost
+    }
+}
+
+impl QueryClone for BoostQuery {
+    fn try_clone(&self, alloc: Global) -> Result<BoostQuery, AllocError> {
+        copied_boost(alloc, self)
+    }
+}
+
+impl Query for BoostQuery {
+    ghost tree = { λ q. definitions.boost q.1 q.0 };
+
+    fn query_terms(&self, alloc: Global) -> Result<Vec<(&Term, bool)>, AllocError> {
+        let mut found = Vec::new(alloc);
+        push_query_terms(&mut found, self.query())?;
+        Ok(found)
+    }
+}

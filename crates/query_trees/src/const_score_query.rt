@@ -1,0 +1,83 @@
+//! The query for a query with one score.
+
+ghost use Rattle.std.specs.Prelude.{◌≡◌, IfOk};
+ghost use Rattle.definitions.specs.Query as definitions;
+ghost use Rattle.query_trees.specs.Queries.{query_of};
+
+use crate::any_query::AnyQuery;
+use crate::copies::copied_const_score;
+use crate::query::{Query, QueryClone};
+use crate::query_terms::push_query_terms;
+use std::alloc::{AllocError, Global};
+use std::marker::Model;
+use terms::Term;
+
+/// Documents that match a query, all by one score.
+#[cycle(queries)]
+#[derive(Drop)]
+pub struct ConstScoreQuery {
+    query: Box<AnyQuery>,
+    score: i64,
+}
+
+impl Model for ConstScoreQuery {
+    ghost use Rattle.std.specs.Prelude.{ℤ};
+    ghost use Rattle.definitions.specs.Query as definitions;
+
+    ghost Value = { definitions.Query × ℤ };
+
+    ghost use Rattle.std.specs.Coded.{codes, coded_ℤ, coded×};
+    ghost use Rattle.query_trees.specs.QueryCodes.{query_code};
+
+    ghost coded = { coded× (query_code (Prim.hlevel codes)) coded_ℤ };
+
+    ghost use Rattle.query_trees.specs.Queries.{query_of};
+
+    ghost view = { λ q. (query_of q.query.value, q.score) };
+
+    ghost size = { λ v. definitions.depth v.0 };
+
+    ghost use Rattle.query_trees.specs.QueryDepths.{query_below};
+
+    ghost size_decreases = { λ q h. query_below q.query.value };
+}
+
+impl ConstScoreQuery {
+    /// The query with this score. `check_query` refuses one that is negative, or above `MAX_SCORE`.
+    pub fn new(alloc: Global, query: AnyQuery, score: i64) -> Result<ConstScoreQuery, AllocError>
+        ensures { IfOk result (λ made. made ≡ (query_of query, score)) }
+    {
+        let query = Box::new(alloc, query)?;
+        Ok(ConstScoreQuery { query, score })
+    }
+
+    /// The query whose documents they are.
+    pub fn query(&self) -> &AnyQuery
+        ensures { query_of result.now ≡ self.now.0 }
+    {
+        &self.query
+    }
+
+    /// The score of each document.
+    pub fn score(&self) -> i64
+        ensures { result ≡ self.now.1 }
+    {
+        self.score
+    }
+}
+
+impl QueryClone for ConstScoreQuery {
+    fn try_clone(&self, alloc: Global) -> Result<ConstScoreQuery, AllocError> {
+        copied_const_score(alloc, self)
+    }
+}
+
+impl Query for ConstScoreQuery {
+    ghost tree = { λ q. definitions.const_score q.1 q.0 };
+
+    fn query_terms(&self, alloc: Global) -> Result<Vec<(&Term, bool)>, AllocError> {
+        let mut found = Vec::new(alloc);
+        push_query_terms(&mut found, self.query())?;
+        Ok(found)
+    }
+}

@@ -1,0 +1,93 @@
+//! The query for several queries, by their best score.
+
+ghost use Rattle.std.specs.Prelude.{◌≡◌, pos};
+ghost use Rattle.definitions.specs.Query as definitions;
+ghost use Rattle.query_trees.specs.Queries.{queries_of};
+
+use crate::any_query::AnyQuery;
+use crate::copies::copied_max;
+use crate::query::{Query, QueryClone};
+use crate::query_terms::push_disjuncts_terms;
+use std::alloc::{AllocError, Global};
+use std::marker::Model;
+use terms::Term;
+
+/// Documents that match one of several queries at least, by the greatest of their scores, and so many thousandths
+/// of the others.
+#[cycle(queries)]
+#[derive(Drop)]
+pub struct DisjunctionMaxQuery {
+    disjuncts: Vec<AnyQuery>,
+    tie_breaker: i64,
+}
+
+impl Model for DisjunctionMaxQuery {
+    ghost use Rattle.std.specs.Prelude.{ℤ};
+    ghost use Rattle.definitions.specs.Query as definitions;
+
+    ghost Value = { definitions.Queries × ℤ };
+
+    ghost use Rattle.std.specs.Coded.{codes, coded_ℤ, coded×};
+    ghost use Rattle.query_trees.specs.QueryCodes.{queries_code};
+
+    ghost coded = { coded× (queries_code (Prim.hlevel codes)) coded_ℤ };
+
+    ghost use Rattle.query_trees.specs.Queries.{queries_of};
+
+    ghost view = { λ q. (queries_of q.disjuncts.items, q.tie_breaker) };
+
+    ghost size = { λ v. definitions.queries_depth v.0 };
+
+    ghost use Rattle.query_trees.specs.QueryDepths.{queries_below};
+
+    ghost size_decreases = { λ q h. queries_below q.disjuncts.items };
+}
+
+impl DisjunctionMaxQuery {
+    /// The query for these queries, of whose scores the greatest counts alone.
+    pub fn new(disjuncts: Vec<AnyQuery>) -> DisjunctionMaxQuery
+        ensures { result ≡ (queries_of disjuncts.items, pos 0) }
+    {
+        DisjunctionMaxQuery::with_tie_breaker(disjuncts, 0)
+    }
+
+    /// The query for these queries, with a tie breaker in thousandths.
+    pub fn with_tie_breaker(disjuncts: Vec<AnyQuery>, tie_breaker: i64) -> DisjunctionMaxQuery
+        ensures { result ≡ (queries_of disjuncts.items, tie_breaker) }
+    {
+        DisjunctionMaxQuery {
+            disjuncts,
+            tie_breaker,
+        }
+    }
+
+    /// The queries, in order.
+    pub fn disjuncts(&self) -> &[AnyQuery]
+        ensures { queries_of result.now ≡ self.now.0 }
+    {
+        &self.disjuncts
+    }
+
+    /// How many thousandths of the other scores count.
+    pub fn tie_breaker(&self) -> i64
+        ensures { result ≡ self.now.1 }
+    {
+        self.tie_breaker
+    }
+}
+
+impl QueryClone for DisjunctionMaxQuery {
+    fn try_clone(&self, alloc: Global) -> Result<DisjunctionMaxQuery, AllocError> {
+        copied_max(alloc, self)
+    }
+}
+
+impl Query for DisjunctionMaxQuery {
+    ghost tree = { λ q. definitions.disjunction_max q.0 q.1 };
+
+    fn query_terms(&self, alloc: Global) -> Result<Vec<(&Term, bool)>, AllocError> {
+        let mut found = Vec::new(alloc);
+        push_disjuncts_terms(&mut found, self.disjuncts())?;
+        Ok(found)
+    }
+}

@@ -1,0 +1,32 @@
+//! Query trees: how they are made, copied and read.
+#![tactic(auto)]
+
+mod all_query;
+mod any_query;
+mod boolean_query;
+mod boost_query;
+mod const_score_query;
+mod copies;
+mod disjunction_max_query;
+mod empty_query;
+mod occur;
+mod phrase_prefix_query;
+mod phrase_query;
+mod phrase_terms;
+mod query;
+mod query_terms;
+mod term_query;
+
+pub use all_query::AllQuery;
+pub use any_query::AnyQuery;
+pub use boolean_query::BooleanQuery;
+pub use boost_query::BoostQuery;
+pub use const_score_query::ConstScoreQuery;
+pub use disjunction_max_query::DisjunctionMaxQuery;
+pub use empty_query::EmptyQuery;
+pub use occur::Occur;
+pub use phrase_prefix_query::PhrasePrefixQuery;
+pub use phrase_query::PhraseQuery;
+pub use phrase_terms::are_phrase_terms;
+pub use query::{Query, QueryClone};
+pub use term_query::TermQuery;

@@ -1,0 +1,91 @@
+//! Terms of phrases, with their offsets.
+
+ghost use Rattle.std.specs.Prelude.{◌==◌, ◌≡◌, IfOk, OnOk, map};
+ghost use Rattle.definitions.specs.Phrases.{by_offset};
+ghost use Rattle.definitions.specs.Scoring.{phrase_field};
+ghost use Rattle.definitions.specs.Terms.{field_of};
+ghost use Rattle.query_trees.specs.PhraseTerms.{are_phrase_terms};
+ghost use Rattle.std.specs.List.{enumerate_from, list_all};
+
+use std::alloc::{AllocError, Global};
+use terms::{Field, Term};
+
+/// Whether these are so many terms at least, all of one field, as phrases ask.
+pub fn are_phrase_terms(least: usize, terms: &[(usize, Term)]) -> bool
+    ensures { result ≡ are_phrase_terms least terms.now }
+{
+    terms.len() >= least && are_of_field(field_of_first(terms), terms)
+}
+
+/// Whether terms are of a field.
+fn are_of_field(field: Field, terms: &[(usize, Term)]) -> bool
+    ensures { result ≡ list_all (λ t. field_of t.1 == field) terms.now }
+{
+    terms.iter().all(|(_offset, term)| term.field().field_id() == field.field_id())
+}
+
+/// The field of the first term, and else the first field.
+fn field_of_first(terms: &[(usize, Term)]) -> Field
+    ensures { result ≡ phrase_field terms.now }
+{
+    match terms.first() {
+        Some((_offset, term)) => term.field(),
+        None => Field::from_field_id(0),
+    }
+}
+
+/// Terms one after another, from offset 0 on.
+pub(crate) fn in_a_row(alloc: Global, terms: Vec<Term>) -> Result<Vec<(usize, Term)>, AllocError>
+    ensures { IfOk result (λ placed. placed.items ≡ enumerate_from 0 terms.items) }
+{
+    let mut left = terms;
+    left.reverse();
+    let mut placed = Vec::with_capacity(alloc, left.len())?;
+    while let Some(term) = left.pop() {
+        placed.push((placed.len(), term))?;
+    }
+    Ok(placed)
+}
+
+/// Sorts terms by their offsets; those of one offset stay in their order.
+pub(crate) fn sort_by_offset(terms: &mut Vec<(usize, Term)>) -> Result<(), AllocError>
+    ensures { OnOk result (terms.new.items ≡ by_offset terms.old.items) }
+{
+    terms.sort_by(|a, b| a.0.cmp(&b.0))?;
+    Ok(())
+}
+
+/// Copies of terms, without their offsets.
+pub(crate) fn copied_terms(alloc: Global, terms: &[(usize, Term)]) -> Result<Vec<Term>, AllocError>
+    ensures { IfOk result (λ copies. copies.items ≡ map (λ t. t.1) terms.now) }
+{
+    let mut copies = Vec::with_capacity(alloc, terms.len())?;
+    for (_offset, term) in terms {
+        copies.push(copied(alloc, term)?)?;
+    }
+    Ok(copies)
+}
+
+/// Copies of terms, with their offsets.
+pub(crate) fn copied_places(
+    alloc: Global,
+    terms: &[(usize, Term)],
+) -> Result<Vec<(usize, Term)>, AllocError>
+    ensures { IfOk result (λ copies. copies.items ≡ terms.now) }
+{
+    let mut copies = Vec::with_capacity(alloc, terms.len())?;
+    for (offset, term) in terms {
+        copies.push((*offset, copied(alloc, term)?))?;
+    }
+    Ok(copies)
+}
+
+/// A copy of a term.
+pub(crate) fn copied(alloc: Global, term: &Term) -> Result<Term, AllocError>
+    ensures { IfOk result (λ copy. copy ≡ term.now) }
+{
+    let _type = term.typ();
+    let mut bytes = Vec::new(alloc);
+    bytes.extend_from_slice(term.serialized_term())?;
+    Ok(Term::wrap(bytes).ok().unwrap())
+}

@@ -1,0 +1,2 @@
+-- Lemmas behind segments.
+pub mod SectionsBack

@@ -1,0 +1,88 @@
+//! A segment, opened.
+
+ghost use Rattle.std.specs.Prelude.{◌≡◌, ◌≢◌, IfErr, IfOk, List, None, ℕ};
+ghost use Rattle.definitions.specs.declared.fault.Fault.TheVariants as faults;
+ghost use Rattle.segment.specs.Opened.{IsOpened, bytes_of, index_of, num_docs_of};
+ghost use Rattle.segment_layouts.specs.Segments.{IsSegment};
+
+use crate::checks::{checked_norms, open_store};
+use crate::sections::Sections;
+use bytes::Bytes;
+use definitions::Fault;
+use fieldnorms::FieldNormReaders;
+use inverted_index_reader::InvertedIndexReader;
+use schema::Schema;
+use std::alloc::{AllocError, Global};
+use store::StoreReader;
+
+/// A segment, opened: its terms, the lengths of its fields, and its store, which share its bytes.
+#[derive(Drop)]
+pub struct Segment {
+    bytes: Bytes,
+    num_docs: u32,
+    inverted_index: InvertedIndexReader,
+    // The fields that keep lengths, and their section.
+    length_fields: Vec<u32>,
+    norms: Bytes,
+    store: StoreReader,
+}
+
+impl Segment {
+    /// Opens a segment of documents of the schema. All of it is checked but for the blocks of the store; bytes that
+    /// aren't a segment are `Damaged`. No part of it is copied. The store keeps as many blocks as the cache has room for.
+    pub fn open(
+        alloc: Global,
+        schema: &Schema,
+        bytes: Bytes,
+        cache_num_blocks: usize,
+    ) -> Result<Segment, Fault>
+        ensures ok { IfOk result (IsOpened schema.now) }
+        ensures bytes { IfOk result (λ segment. bytes_of segment ≡ bytes) }
+        ensures err { IfErr result (λ fault. fault ≢ faults.OutOfMemory → (fault ≡ faults.Damaged None)
+            × ((num_docs : ℕ) → ¬ IsSegment schema.now num_docs bytes)) }
+    {
+        let Sections {
+            num_docs,
+            terms,
+            postings,
+            positions,
+            norms,
+            store,
+        } = Sections::of_bytes(bytes.clone()?)?;
+        let length_fields = checked_norms(alloc, schema, norms.as_slice(), num_docs)?;
+        let readers = FieldNormReaders::new(norms.as_slice(), num_docs, &length_fields);
+        let inverted_index = InvertedIndexReader::open(
+            alloc, schema, &readers, num_docs, terms, postings, positions,
+        )?;
+        let store = open_store(alloc, store, num_docs, cache_num_blocks)?;
+        Ok(Segment {
+            bytes,
+            num_docs,
+            inverted_index,
+            length_fields,
+            norms,
+            store,
+        })
+    }
+
+    /// The bytes of the segment, which are shared.
+    pub fn to_bytes(&self) -> Result<Bytes, AllocError>
+        ensures { IfOk result (λ bytes. bytes ≡ bytes_of self.now) }
+    {
+        self.bytes.clone()
+    }
+
+    /// How many documents there are, dead or alive.
+    pub fn num_docs(&self) -> u32
+        ensures { result ≡ num_docs_of self.now }
+    {
+        self.num_docs
+    }
+
+    /// The terms of the documents.
+    pub fn inverted_index(&self) -> &InvertedIndexReader
+        ensures { result.now ≡ index_of self.now }
+    {
+        &self.inverted_index
+    }
+}

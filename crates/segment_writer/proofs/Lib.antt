@@ -1,0 +1,2 @@
+-- Lemmas behind the writing of segments.
+pub mod Adding
