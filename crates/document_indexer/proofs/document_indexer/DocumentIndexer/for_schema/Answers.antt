@@ -1,4 +1,5 @@
-use Rattle.std.proofs.Common.{[], List, ap, arith, map, refl, subst, sym, ◌∙◌, ℕ}
+use Rattle.std.proofs.Common.{[], List, ap, arith, map, refl, subst, sym, ◌∙◌, ◌≡◌, ℕ}
+use Rattle.definitions.specs.KeptLengths.{norms_of}
 use Rattle.layouts.specs.Deltas.{IsAscendingFrom}
 use Rattle.document_indexer.specs.Contexts.{AreBefore, Positions}
 use Rattle.document_indexer.proofs.KeptLengths.{fields_ascend}
