@@ -3,7 +3,7 @@
 use crate::given_terms::weighted_terms;
 use crate::parts::items;
 use crate::steps::query;
-use case_lines::{Arguments, Cell, Operations, Refusal, cells, flag, hex, number, pair};
+use case_lines::{Arguments, Cell, Operations, Refusal, cells, flag, hex, number, pair, text};
 use query::{AnyQuery, Query, QueryClone, check_query};
 use schema::Schema;
 use serde_json::Value;
@@ -67,10 +67,12 @@ fn settings(alloc: Global, arguments: &Arguments) -> Result<Settings, Refusal> {
 }
 
 /// What a query tells: `terms` the terms that it reads, `copied` those of a copy, `clauses` the minimum of a bool,
-/// the one that is set in its place, and how many clauses it has, `phrase` the field and the terms of a phrase.
+/// the one that is set in its place, and how many clauses it has, `phrase` the field and the terms of a phrase,
+/// `shown` how it is shown.
 fn told(alloc: Global, operation: &str, query: &AnyQuery) -> Result<Value, Refusal> {
     match (operation, query) {
         ("terms", query) => read_terms(alloc, &query.query_terms(alloc)?),
+        ("shown", query) => Ok(text(alloc, &format!(in alloc; "{query:?}")?)?),
         ("copied", query) => {
             let copy = query.try_clone(alloc)?;
             read_terms(alloc, &copy.query_terms(alloc)?)
