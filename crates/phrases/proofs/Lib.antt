@@ -3,3 +3,6 @@ pub mod SweepCosts
 pub mod PlaceLaws
 pub mod PhrasePlaces
 pub mod Columns
+pub mod Greatest
+pub mod MeetingEntries
+pub mod PlaceCounts
