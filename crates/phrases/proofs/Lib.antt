@@ -4,5 +4,6 @@ pub mod PlaceLaws
 pub mod PhrasePlaces
 pub mod Columns
 pub mod Greatest
+pub mod Adjusted
 pub mod MeetingEntries
 pub mod PlaceCounts

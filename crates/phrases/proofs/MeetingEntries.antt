@@ -52,6 +52,7 @@ all-meeting P Q entries xs some h made =
     here-of : (d : ℕ) (es : List Entry) → AllByRecursion (λ e. e.doc ≡ d) (entries_of d es)
     here-of d [] = tt
     here-of d (e ∷ es) = (elim (d == e.doc) as (λ b. (d == e.doc) ≡ b → AllByRecursion (λ e. e.doc ≡ d) (if b then e ∷ entries_of d es else entries_of d es)) [ true ↦ (λ h. (grind (arith, nat_tests, h), here-of d es)) | false ↦ (λ h. here-of d es) ]) refl
+
     here-at : (d : ℕ) (ess : List (List Entry)) → AllByRecursion (λ e. e.doc ≡ d) (entries_at d ess)
     here-at d [] = tt
     here-at d (es ∷ ess) = all-append (λ e. e.doc ≡ d) (entries_of d es) (entries_at d ess) (here-of d es) (here-at d ess)

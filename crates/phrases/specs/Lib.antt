@@ -6,5 +6,7 @@ pub mod Finders
 pub mod Settled
 pub mod PhraseScores
 pub mod PhraseScoreLaws
+pub mod PrefixEntries
+pub mod PrefixEntryLaws
 pub mod Standings
 pub mod StandingLaws

@@ -116,11 +116,11 @@ from-phrased score slop t (e ∷ es) =
     let places : List ℕ = places_of slop e.positions in
     by_place t e.doc (from t (phrased score slop (e ∷ es)) ≡ phrased score slop (from t (e ∷ es)))
     (λ i. by_place 1 (length places) (from t (phrased score slop (e ∷ es)) ≡ phrased score slop (from t (e ∷ es)))
-        (λ some. ap (from t) (phrased-some score slop e es (omega (arith, some))) ∙ (from-in t (phrase_at score e places) (phrased score slop es) i ∙ (ap (λ xs. phrase_at score e places ∷ xs) ih ∙ sym (ap (phrased score slop) (from-in t e es i) ∙ phrased-some score slop e (from t es) (omega (arith, some))))))
-        (λ none. ap (from t) (phrased-none score slop e es (omega (arith, none))) ∙ (ih ∙ sym (ap (phrased score slop) (from-in t e es i) ∙ phrased-none score slop e (from t es) (omega (arith, none))))))
+    (λ some. ap (from t) (phrased-some score slop e es (omega (arith, some))) ∙ (from-in t (phrase_at score e places) (phrased score slop es) i ∙ (ap (λ xs. phrase_at score e places ∷ xs) ih ∙ sym (ap (phrased score slop) (from-in t e es i) ∙ phrased-some score slop e (from t es) (omega (arith, some))))))
+    (λ none. ap (from t) (phrased-none score slop e es (omega (arith, none))) ∙ (ih ∙ sym (ap (phrased score slop) (from-in t e es i) ∙ phrased-none score slop e (from t es) (omega (arith, none))))))
     (λ o. by_place 1 (length places) (from t (phrased score slop (e ∷ es)) ≡ phrased score slop (from t (e ∷ es)))
-        (λ some. ap (from t) (phrased-some score slop e es (omega (arith, some))) ∙ (from-out t (phrase_at score e places) (phrased score slop es) o ∙ (ih ∙ sym (ap (phrased score slop) (from-out t e es o)))))
-        (λ none. ap (from t) (phrased-none score slop e es (omega (arith, none))) ∙ (ih ∙ sym (ap (phrased score slop) (from-out t e es o)))))
+    (λ some. ap (from t) (phrased-some score slop e es (omega (arith, some))) ∙ (from-out t (phrase_at score e places) (phrased score slop es) o ∙ (ih ∙ sym (ap (phrased score slop) (from-out t e es o)))))
+    (λ none. ap (from t) (phrased-none score slop e es (omega (arith, none))) ∙ (ih ∙ sym (ap (phrased score slop) (from-out t e es o)))))
 
 pub Rising-phrased : (score : ℕ → ℕ → ℕ) (slop low : ℕ) (es : List Entry) → ((d n : ℕ) → score d n ≤ max_score) → Rising low es → Rising low (phrased score slop es)
 Rising-phrased score slop low [] small r = tt

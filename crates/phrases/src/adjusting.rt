@@ -32,7 +32,9 @@ pub(crate) fn adjusted<P: Postings + Drop>(
 {
     let greatest = greatest_offset(&term_postings);
     let mut docsets = Vec::with_capacity(alloc, term_postings.len())?;
-    for (offset, postings) in term_postings {
+    let mut left = term_postings;
+    while !left.is_empty() {
+        let (offset, postings) = left.remove(0);
         let moved = greatest.saturating_sub(offset) as u32;
         docsets.push(PostingsWithOffset::new(postings, moved))?;
     }

@@ -3,6 +3,7 @@
 
 mod adjusting;
 mod merging;
+pub mod phrase_laws;
 mod phrase_scorer;
 mod place_finder;
 mod postings_with_offset;

@@ -13,8 +13,8 @@ ghost use Rattle.phrases.specs.Settled.{IsSettled};
 ghost use Rattle.phrases.specs.Standings.{IsStanding};
 ghost use Rattle.phrases.specs.StandingLaws.{IsStanding-prop};
 
-use crate::place_finder::PlaceFinder;
 use crate::adjusting::{adjusted, most_of};
+use crate::place_finder::PlaceFinder;
 use crate::postings_with_offset::PostingsWithOffset;
 use crate::settling::settle;
 use common::{DocId, Score};
@@ -54,7 +54,13 @@ impl<'a, P: Postings + Drop> PhraseScorer<'a, PostingsWithOffset<P>> {
             (adjusted_terms (map (λ t. (t.0, P.entries t.1)) term_postings.items))) }
     {
         let docsets = adjusted(alloc, term_postings)?;
-        PhraseScorer::over(alloc, docsets, similarity_weight_opt, fieldnorm_reader, slop)
+        PhraseScorer::over(
+            alloc,
+            docsets,
+            similarity_weight_opt,
+            fieldnorm_reader,
+            slop,
+        )
     }
 }
 
