@@ -4,6 +4,8 @@ pub mod PlaceLaws
 pub mod PhrasePlaces
 pub mod Columns
 pub mod Greatest
+pub mod Counts
 pub mod Adjusted
 pub mod MeetingEntries
+pub mod SuffixCounts
 pub mod PlaceCounts

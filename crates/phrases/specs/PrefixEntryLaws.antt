@@ -1,7 +1,7 @@
 -- Laws of the entries of phrase prefixes.
-use Rattle.std.proofs.Common.{[], Bool, List, ap, arith, drop, false, if◌then◌else◌, length, map, nat_le, nat_lt, refl, subst, suc, sym, true, zero, ◌+◌, ◌<◌, ◌∙◌, ◌∷◌, ◌≡◌, ◌≤◌, ℕ}
+use Rattle.std.proofs.Common.{[], Bool, List, ap, arith, drop, false, if◌then◌else◌, length, map, max, nat_le, nat_lt, refl, subst, suc, sym, true, zero, ◌+◌, ◌<◌, ◌∙◌, ◌∷◌, ◌≡◌, ◌≤◌, ℕ}
 use Rattle.std.proofs.lemmas.Bool.Decides.{nat_tests}
-use Rattle.cursors.specs.Entries.{Entry, IsRest, Rising, first, first_count, first_positions, first_score, from, single}
+use Rattle.cursors.specs.Entries.{Entry, IsRest, Rising, first, first_count, first_positions, first_score, from, most_positions, single}
 use Rattle.cursors.specs.EntryLaws.{Rising-lower, from-in, from-out}
 use Rattle.definitions.specs.Postings.{terminated}
 use Rattle.definitions.specs.Scoring.{max_score}
@@ -70,3 +70,8 @@ prefixed-cut moved ess t (e ∷ es) r =
     let same : follows moved (map (from t) ess) e ≡ follows moved ess e = ap (continued_by moved (single e.positions)) (entries_at-kept e.doc t ess r.0) in
     ap (λ xs. if nat_lt 0 (follows moved (map (from t) ess) e) then counted e (follows moved (map (from t) ess) e) ∷ xs else xs) (prefixed-cut moved ess t es (Rising-lower t (e.doc + 1) es (omega (arith, r.0)) r.3))
     ∙ ap (λ n. if nat_lt 0 n then counted e n ∷ prefixed moved ess es else prefixed moved ess es) same
+
+-- the greatest number of positions that an entry of some list has
+abbrev pub most_suffix_positions : List (List Entry) → ℕ
+most_suffix_positions [] = 0
+most_suffix_positions (es ∷ ess) = max (most_positions es) (most_suffix_positions ess)

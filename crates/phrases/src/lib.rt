@@ -9,6 +9,7 @@ mod place_finder;
 mod postings_with_offset;
 mod settling;
 mod sink;
+mod suffixes;
 mod sweeps;
 
 pub use phrase_scorer::PhraseScorer;
