@@ -94,7 +94,7 @@ sections_short n s bytes are =
     let parts = length-append (u32_bytes n) (flat_map section_bytes (listed s)) in
     omega (arith, short, whole, parts)
 
-sections_found : (n : ℕ) (s : Sections) (bytes : List ℕ) → AreWritten n s bytes → five (flat_map section_bytes (listed s)) ≡ Some (listed s, [])
+pub sections_found : (n : ℕ) (s : Sections) (bytes : List ℕ) → AreWritten n s bytes → five (flat_map section_bytes (listed s)) ≡ Some (listed s, [])
 sections_found n s bytes are =
     ap five (sym (append-nil (flat_map section_bytes (listed s))))
     ∙ many_back take_section IsShort section_bytes section_back (listed s) [] (all_short (listed s) (sections_short n s bytes are))
