@@ -1,5 +1,5 @@
 -- The lengths of a document's fields, as they are counted value by value.
-use Rattle.std.proofs.Common.{[], ◌+◌, ◌<◌, ◌==◌, ◌≡◌, ◌≢◌, ◌≤◌, ◌∙◌, ◌∷◌, Bool, List, None, Option, Some, ap, arith, cond, false, filter, filter_map, length, map, min, refl, replicate, set, slice_get, subst, suc, sum_by, sym, true, zero, ℕ}
+use Rattle.std.proofs.Common.{[], ◌+◌, ◌<◌, ◌==◌, ◌≡◌, ◌≢◌, ◌≤◌, ◌∙◌, ◌∷◌, Bool, List, None, Option, Some, ap, arith, cond, false, filter, filter_map, length, map, refl, replicate, set, slice_get, subst, suc, sum_by, sym, true, zero, ℕ}
 use Rattle.std.specs.List.{cons_option}
 use Rattle.std.specs.Option.{option_map_or}
 use Rattle.std.specs.Prelude.{slice_index_or}

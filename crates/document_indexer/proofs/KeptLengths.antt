@@ -1,5 +1,5 @@
 -- The lengths of documents, as they are kept document by document.
-use Rattle.std.proofs.Common.{[], ◌&&◌, ◌++◌, ◌+◌, ◌-◌, ◌<◌, ◌==◌, ◌≡◌, ◌≢◌, ◌≤◌, ◌^◌, ◌∙◌, ◌∷◌, Bool, List, None, Option, Some, ap, ap₂, arith, cond, false, filter, get_or, length, map, min, nat_le, nat_lt, refl, replicate, slice_get, subst, sym, true, ℕ}
+use Rattle.std.proofs.Common.{[], ◌&&◌, ◌++◌, ◌+◌, ◌-◌, ◌<◌, ◌==◌, ◌≡◌, ◌≢◌, ◌≤◌, ◌∙◌, ◌∷◌, Bool, List, None, Option, Some, ap, ap₂, arith, cond, false, filter, length, map, nat_le, nat_lt, refl, replicate, slice_get, subst, sym, true, ℕ}
 use Rattle.std.specs.List.{AllByRecursion, enumerate_from}
 use Rattle.std.specs.Option.{option_map_or}
 use Rattle.std.specs.Prelude.{slice_index_or}
@@ -8,7 +8,7 @@ use Rattle.std.proofs.lemmas.List.{length-map, map-append}
 use Rattle.definitions.specs.Analyzers.{Analyzer}
 use Rattle.definitions.specs.KeptLengths.{length_fields, length_ids, norms_of}
 use Rattle.definitions.specs.Lengths.{fieldnorm_to_id, greatest_id, len_of}
-use Rattle.definitions.specs.Schema.{Entry, Schema, field_has, has_lengths, is_indexed, keeps_length, max_fields}
+use Rattle.definitions.specs.Schema.{Entry, Schema, field_has, has_lengths, is_indexed, keeps_length}
 use Rattle.definitions.specs.Scoring.{length_id}
 use Rattle.definitions.specs.Values.{Document}
 use Rattle.fieldnorms.specs.FieldNorms.{padded, with_length}

@@ -3,3 +3,9 @@ pub mod SweepCosts
 pub mod PlaceLaws
 pub mod PhrasePlaces
 pub mod Columns
+pub mod Greatest
+pub mod Counts
+pub mod Adjusted
+pub mod MeetingEntries
+pub mod SuffixCounts
+pub mod PlaceCounts

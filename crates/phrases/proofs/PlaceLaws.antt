@@ -164,6 +164,7 @@ has-distinct low next q (p ∷ ps) a =
       | false ↦ (λ o. absurd (true≢false (h (grind (arith, nat_tests, o)))))
     ]) refl
     first-in p next q false e h = grind (arith, nat_tests, e)
+
     first-out : (p next q : ℕ) (b : Bool) → nat_le next p ≡ false → (nat_le next q && b) ≡ (nat_le next q && ((p == q) || b))
     first-out p next q b e = grind (arith, nat_tests, e)
 
@@ -195,10 +196,10 @@ reached-next ps ls before a b =
     (Rises-filter (is_led_to (ls ∷ before) 0) 0 (distinct 0 ps) (Rises-distinct 0 ps))
     (Rises-filter (has ps) 0 (reached 0 (ls ∷ before)) (Rises-filter (is_led_to before 0) 0 (distinct 0 ls) (Rises-distinct 0 ls)))
     (λ q. has-filter (is_led_to (ls ∷ before) 0) (distinct 0 ps) q
-        ∙ (ap (λ t. t && has (distinct 0 ps) q) (led-zero ls before q)
-        ∙ (ap (λ t. (has ls q && is_led_to before 0 q) && t) (has-distinct 0 0 q ps a)
-        ∙ (turned (has ls q) (is_led_to before 0 q) (has ps q) (nat_le 0 q) (le-leb 0 q (omega arith))
-        ∙ sym (has-filter (has ps) (reached 0 (ls ∷ before)) q ∙ (ap (λ t. has ps q && t) (has-filter (is_led_to before 0) (distinct 0 ls) q ∙ ap (λ t. is_led_to before 0 q && t) (has-distinct 0 0 q ls b))))))))
+    ∙ (ap (λ t. t && has (distinct 0 ps) q) (led-zero ls before q)
+    ∙ (ap (λ t. (has ls q && is_led_to before 0 q) && t) (has-distinct 0 0 q ps a)
+    ∙ (turned (has ls q) (is_led_to before 0 q) (has ps q) (nat_le 0 q) (le-leb 0 q (omega arith))
+    ∙ sym (has-filter (has ps) (reached 0 (ls ∷ before)) q ∙ (ap (λ t. has ps q && t) (has-filter (is_led_to before 0) (distinct 0 ls) q ∙ ap (λ t. is_led_to before 0 q && t) (has-distinct 0 0 q ls b))))))))
   where
     turned : (l t p z : Bool) → z ≡ true → ((l && t) && (z && p)) ≡ (p && (t && (z && l)))
     turned true true true true e = refl

@@ -31,12 +31,12 @@ split most r (l ∷ ls) =
     let ih = split most r ls in
     by_order l.0 r (nearest most (l ∷ ls) r ≡ min (nearest_below most (l ∷ ls) r) (nearest_above most (l ∷ ls) r))
     (λ i. let below = below-in most r l ls i in
-        by_order r l.0 (nearest most (l ∷ ls) r ≡ min (nearest_below most (l ∷ ls) r) (nearest_above most (l ∷ ls) r))
-        (λ j. (let above = above-in most r l ls j in omega (arith, ih, below, above, i, j)))
-        (λ o. (let above = above-out most r l ls o in omega (arith, ih, below, above, i, o))))
+    by_order r l.0 (nearest most (l ∷ ls) r ≡ min (nearest_below most (l ∷ ls) r) (nearest_above most (l ∷ ls) r))
+    (λ j. (let above = above-in most r l ls j in omega (arith, ih, below, above, i, j)))
+    (λ o. (let above = above-out most r l ls o in omega (arith, ih, below, above, i, o))))
     (λ o. let below = below-out most r l ls o in
-        let above = above-in most r l ls (omega (arith, o)) in
-        omega (arith, ih, below, above, o))
+    let above = above-in most r l ls (omega (arith, o)) in
+    omega (arith, ih, below, above, o))
 
 -- no cost is above the most
 pub below-small : (most r : ℕ) (ls : List (ℕ × ℕ)) → nearest_below most ls r ≤ most

@@ -4,3 +4,9 @@ pub mod PhraseEntries
 pub mod PhraseEntryLaws
 pub mod Finders
 pub mod Settled
+pub mod PhraseScores
+pub mod PhraseScoreLaws
+pub mod PrefixEntries
+pub mod PrefixEntryLaws
+pub mod Standings
+pub mod StandingLaws

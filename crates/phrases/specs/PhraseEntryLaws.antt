@@ -1,15 +1,16 @@
 -- Laws of the entries of phrases.
 use Rattle.std.proofs.Common.{[], Bool, List, ap, arith, cond, drop, false, if◌then◌else◌, length, map, max, nat_le, nat_lt, refl, slice_index, subst, suc, sym, true, zero, ◌*◌, ◌+◌, ◌-◌, ◌<◌, ◌∙◌, ◌∷◌, ◌≡◌, ◌≤◌, ℕ}
 use Rattle.std.proofs.lemmas.Bool.Decides.{nat_tests}
-use Rattle.std.proofs.lemmas.List.{drop-drop}
+use Rattle.std.proofs.lemmas.List.{drop-drop, length-map}
 use Rattle.cursors.specs.Danger.{IsDangerAnswer, Missed}
 use Rattle.cursors.specs.declared.seek_danger_result.SeekDangerResult.{SeekDangerResult}
 use Rattle.cursors.specs.declared.seek_danger_result.SeekDangerResult.TheVariants.{Found, SeekLowerBound}
-use Rattle.cursors.specs.Entries.{Entry, IsRest, Rising, first, first_count, first_positions, first_score, from, single}
+use Rattle.cursors.specs.Entries.{AreSingle, Entry, IsRest, Rising, first, first_count, first_positions, first_score, from, highest, most_positions, single}
 use Rattle.cursors.specs.EntryLaws.{Rising-lower, from-in, from-out}
+use Rattle.leaf_scorers.specs.ScoredEntries.{greatest_score}
 use Rattle.leaf_scorers.specs.ScoredEntryLaws.{by_place}
 use Rattle.definitions.specs.Postings.{terminated}
-use Rattle.definitions.specs.Scoring.{max_score}
+use Rattle.definitions.specs.Scoring.{DontFall, max_score}
 use Rattle.intersections.specs.Columns.{HaveOneColumn}
 use Rattle.phrases.specs.PhraseEntries.{AreColumns, HaveColumns, longest, longest_column, phrased, placed}
 use Rattle.phrases.specs.Places.{places_of}
@@ -20,9 +21,29 @@ pub Rising-placed : (o low : ℕ) (es : List Entry) → Rising low es → Rising
 Rising-placed o low [] r = tt
 Rising-placed o low (e ∷ es) r = (r.0, r.1, omega arith, Rising-placed o (e.doc + 1) es r.3)
 
-pub one_column-placed : (o : ℕ) (es : List Entry) → HaveOneColumn (placed o es)
-one_column-placed o [] = tt
-one_column-placed o (e ∷ es) = (refl, one_column-placed o es)
+-- positions plus an offset don't fall either
+DontFall-more : (o : ℕ) (ps : List ℕ) → DontFall ps → DontFall (map (λ p. p + o) ps)
+DontFall-more o [] f = tt
+DontFall-more o (p ∷ []) f = tt
+DontFall-more o (p ∷ q ∷ ps) f = (omega (arith, f.0), DontFall-more o (q ∷ ps) f.1)
+
+highest-more : (o : ℕ) (ps : List ℕ) → highest (map (λ p. p + o) ps) ≤ highest ps + o
+highest-more o [] = omega arith
+highest-more o (p ∷ ps) = (let ih = highest-more o ps in omega (arith, ih))
+
+pub one_column-placed : (o : ℕ) (es : List Entry) → o ≤ 1073741824 → AreSingle es → HaveOneColumn (placed o es)
+one_column-placed o [] small s = tt
+one_column-placed o (e ∷ es) small s = (let more = highest-more o (single e.positions) in (refl, DontFall-more o (single e.positions) s.1, omega (arith, more, small, s.2), one_column-placed o es small s.3))
+
+-- nor are they more
+pub most-placed : (o : ℕ) (es : List Entry) → most_positions (placed o es) ≡ most_positions es
+most-placed o [] = refl
+most-placed o (e ∷ es) = (let ih = most-placed o es in let long : length (map (λ p. p + o) (single e.positions)) ≡ length (single e.positions) = length-map (single e.positions) (λ p. p + o) in omega (arith, ih, long))
+
+-- and they have no scores
+pub greatest-placed : (o : ℕ) (es : List Entry) → greatest_score (placed o es) ≡ 0
+greatest-placed o [] = refl
+greatest-placed o (e ∷ es) = (let ih = greatest-placed o es in omega (arith, ih))
 
 pub first-placed : (o : ℕ) (es : List Entry) → first (placed o es) ≡ first es
 first-placed o [] = refl
@@ -95,11 +116,11 @@ from-phrased score slop t (e ∷ es) =
     let places : List ℕ = places_of slop e.positions in
     by_place t e.doc (from t (phrased score slop (e ∷ es)) ≡ phrased score slop (from t (e ∷ es)))
     (λ i. by_place 1 (length places) (from t (phrased score slop (e ∷ es)) ≡ phrased score slop (from t (e ∷ es)))
-        (λ some. ap (from t) (phrased-some score slop e es (omega (arith, some))) ∙ (from-in t (phrase_at score e places) (phrased score slop es) i ∙ (ap (λ xs. phrase_at score e places ∷ xs) ih ∙ sym (ap (phrased score slop) (from-in t e es i) ∙ phrased-some score slop e (from t es) (omega (arith, some))))))
-        (λ none. ap (from t) (phrased-none score slop e es (omega (arith, none))) ∙ (ih ∙ sym (ap (phrased score slop) (from-in t e es i) ∙ phrased-none score slop e (from t es) (omega (arith, none))))))
+    (λ some. ap (from t) (phrased-some score slop e es (omega (arith, some))) ∙ (from-in t (phrase_at score e places) (phrased score slop es) i ∙ (ap (λ xs. phrase_at score e places ∷ xs) ih ∙ sym (ap (phrased score slop) (from-in t e es i) ∙ phrased-some score slop e (from t es) (omega (arith, some))))))
+    (λ none. ap (from t) (phrased-none score slop e es (omega (arith, none))) ∙ (ih ∙ sym (ap (phrased score slop) (from-in t e es i) ∙ phrased-none score slop e (from t es) (omega (arith, none))))))
     (λ o. by_place 1 (length places) (from t (phrased score slop (e ∷ es)) ≡ phrased score slop (from t (e ∷ es)))
-        (λ some. ap (from t) (phrased-some score slop e es (omega (arith, some))) ∙ (from-out t (phrase_at score e places) (phrased score slop es) o ∙ (ih ∙ sym (ap (phrased score slop) (from-out t e es o)))))
-        (λ none. ap (from t) (phrased-none score slop e es (omega (arith, none))) ∙ (ih ∙ sym (ap (phrased score slop) (from-out t e es o)))))
+    (λ some. ap (from t) (phrased-some score slop e es (omega (arith, some))) ∙ (from-out t (phrase_at score e places) (phrased score slop es) o ∙ (ih ∙ sym (ap (phrased score slop) (from-out t e es o)))))
+    (λ none. ap (from t) (phrased-none score slop e es (omega (arith, none))) ∙ (ih ∙ sym (ap (phrased score slop) (from-out t e es o)))))
 
 pub Rising-phrased : (score : ℕ → ℕ → ℕ) (slop low : ℕ) (es : List Entry) → ((d n : ℕ) → score d n ≤ max_score) → Rising low es → Rising low (phrased score slop es)
 Rising-phrased score slop low [] small r = tt

@@ -1,10 +1,17 @@
 //! Phrases: scorers of phrases and of phrase prefixes, and sinks that take what scorers give.
 #![tactic(auto)]
 
+mod adjusting;
 mod merging;
+pub mod phrase_laws;
+mod phrase_scorer;
 mod place_finder;
 mod postings_with_offset;
 mod settling;
+mod sink;
+mod suffixes;
 mod sweeps;
 
+pub use phrase_scorer::PhraseScorer;
 pub use postings_with_offset::PostingsWithOffset;
+pub use sink::{BlockSink, Sink, for_each_pruning_scorer, offer};

@@ -2,6 +2,7 @@
 
 ghost use Rattle.std.specs.Prelude.{[], ◌≡◌, ◌≤◌, filter, length, vec_capacity};
 ghost use Rattle.phrases.specs.Places.{Ascends, Rises, distinct, has};
+ghost use Rattle.phrases.specs.PrefixEntries.{continued};
 
 /// Puts positions, each once, in place of those that an output holds.
 pub(crate) fn copy_distinct(positions: &[u32], output: &mut Vec<u32>)
@@ -44,4 +45,28 @@ pub(crate) fn intersection(left: &mut Vec<u32>, right: &[u32])
         }
     }
     left.truncate(count);
+}
+
+/// At how many ascending places one of ascending positions stands, moved on by some places.
+pub(crate) fn count_continued(places: &[u32], moved: u32, positions: &[u32]) -> usize
+    requires places { Ascends 0 places.now }
+    requires positions { Ascends 0 positions.now }
+    ensures { result ≡ continued moved places.now positions.now }
+{
+    let mut count = 0;
+    let mut i = 0;
+    let mut j = 0;
+    while i < places.len() && j < positions.len() {
+        let place = u64::from(places[i]) + u64::from(moved);
+        let position = u64::from(positions[j]);
+        if place < position {
+            i += 1;
+        } else if position < place {
+            j += 1;
+        } else {
+            count += 1;
+            i += 1;
+        }
+    }
+    count
 }

@@ -71,5 +71,9 @@ impl<P: Postings> Positioned for PostingsWithOffset<P> {
         let _ = self.postings.positions_with_offset(self.offset, output);
     }
 
-    ghost one_column = { λ s. one_column-placed s.offset (P.entries s.postings) };
+    fn most_positions(&self) -> usize {
+        self.postings.most_positions()
+    }
+
+    ghost one_column = { λ s. one_column-placed s.offset (P.entries s.postings) s.small (P.of_one_term s.postings) };
 }

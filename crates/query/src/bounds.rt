@@ -59,7 +59,8 @@ pub(crate) fn bound<S: Statistics>(statistics: &S, query: &AnyQuery) -> Option<u
 #[cycle(bound)]
 #[tactic(auto, using(query_trees::proofs::Clauses::clause_depth))]
 fn clauses_bound<S: Statistics>(statistics: &S, clauses: &[(Occur, AnyQuery)]) -> Option<u64>
-    ensures { result ≡ in_range (refusing.clauses_bound (S.similarity statistics.now).weight 1 (clauses_of clauses.now)) }
+    ensures { result ≡ in_range
+        (refusing.clauses_bound (S.similarity statistics.now).weight 1 (clauses_of clauses.now)) }
 {
     let mut sum = 0;
     for (occur, query) in clauses {
@@ -77,7 +78,8 @@ fn clauses_bound<S: Statistics>(statistics: &S, clauses: &[(Occur, AnyQuery)]) -
 /// The bound of a clause, which is 0 where it gives no score.
 #[cycle(bound)]
 fn clause_bound<S: Statistics>(statistics: &S, occur: Occur, query: &AnyQuery) -> Option<u64>
-    ensures { result ≡ in_range (if is_counted (occur_of occur) then refusing.bound (S.similarity statistics.now).weight 1 (query_of query.now) else 0) }
+    ensures { result ≡ in_range (if is_counted (occur_of occur)
+        then refusing.bound (S.similarity statistics.now).weight 1 (query_of query.now) else 0) }
 {
     match occur {
         Occur::Must | Occur::Should => bound(statistics, query),
@@ -89,7 +91,8 @@ fn clause_bound<S: Statistics>(statistics: &S, occur: Occur, query: &AnyQuery) -
 #[cycle(bound)]
 #[tactic(auto, using(query_trees::proofs::Clauses::query_depth))]
 fn disjuncts_bound<S: Statistics>(statistics: &S, disjuncts: &[AnyQuery]) -> Option<u64>
-    ensures { result ≡ in_range (refusing.queries_bound (S.similarity statistics.now).weight 1 (queries_of disjuncts.now)) }
+    ensures { result ≡ in_range
+        (refusing.queries_bound (S.similarity statistics.now).weight 1 (queries_of disjuncts.now)) }
 {
     let mut sum = 0;
     for query in disjuncts {
@@ -121,7 +124,8 @@ fn weights<S: Statistics>(statistics: &S, terms: &[(usize, Term)]) -> Option<u64
 
 /// The sum of the weights of whole terms, and 1 for one of them.
 fn weights_of_whole<S: Statistics>(statistics: &S, terms: &[(usize, Term)]) -> Option<u64>
-    ensures { result ≡ in_range (if nat_eq (length terms.now) 1 then 1 else weight_sum (S.similarity statistics.now).weight terms.now) }
+    ensures { result ≡ in_range (if nat_eq (length terms.now) 1
+        then 1 else weight_sum (S.similarity statistics.now).weight terms.now) }
 {
     if terms.len() == 1 {
         Some(1)

@@ -25,7 +25,8 @@ pub fn check_query<S: Statistics>(
     statistics: &S,
     query: &AnyQuery,
 ) -> Result<(), Fault>
-    ensures { result_err result ≡ refusing.refusal schema.now (S.similarity statistics.now).weight (query_of query.now) }
+    ensures { result_err result
+        ≡ refusing.refusal schema.now (S.similarity statistics.now).weight (query_of query.now) }
 {
     if is_deeper(query, MAX_DEPTH) {
         return Err(Fault::TooDeep);
@@ -92,7 +93,8 @@ fn check_tree<S: Statistics>(
     query: &AnyQuery,
 ) -> Result<(), Fault>
     requires { boost ≤ max_score }
-    ensures { result_err result ≡ refusing.tree_fault schema.now (S.similarity statistics.now).weight boost (query_of query.now) }
+    ensures { result_err result
+        ≡ refusing.tree_fault schema.now (S.similarity statistics.now).weight boost (query_of query.now) }
 {
     let boost = check_node(schema, statistics, boost, query)?;
     match query {
@@ -120,7 +122,8 @@ fn check_clauses<S: Statistics>(
     clauses: &[(Occur, AnyQuery)],
 ) -> Result<(), Fault>
     requires { boost ≤ max_score }
-    ensures { result_err result ≡ refusing.clauses_fault schema.now (S.similarity statistics.now).weight boost (clauses_of clauses.now) }
+    ensures { result_err result
+        ≡ refusing.clauses_fault schema.now (S.similarity statistics.now).weight boost (clauses_of clauses.now) }
 {
     for (_occur, query) in clauses {
         check_tree(schema, statistics, boost, query)?;
@@ -138,7 +141,8 @@ fn check_disjuncts<S: Statistics>(
     disjuncts: &[AnyQuery],
 ) -> Result<(), Fault>
     requires { boost ≤ max_score }
-    ensures { result_err result ≡ refusing.queries_fault schema.now (S.similarity statistics.now).weight boost (queries_of disjuncts.now) }
+    ensures { result_err result
+        ≡ refusing.queries_fault schema.now (S.similarity statistics.now).weight boost (queries_of disjuncts.now) }
 {
     for disjunct in disjuncts {
         check_tree(schema, statistics, boost, disjunct)?;
@@ -154,7 +158,8 @@ fn check_node<S: Statistics>(
     query: &AnyQuery,
 ) -> Result<u64, Fault>
     requires { boost ≤ max_score }
-    ensures fault { result_err result ≡ refusing.node_fault schema.now (S.similarity statistics.now).weight boost (query_of query.now) }
+    ensures fault { result_err result
+        ≡ refusing.node_fault schema.now (S.similarity statistics.now).weight boost (query_of query.now) }
     ensures product { IfOk result (λ product. product ≡ refusing.product boost (query_of query.now)) }
     ensures within { IfOk result (λ product. product ≤ max_score) }
 {
@@ -168,7 +173,9 @@ fn check_node<S: Statistics>(
 /// The product of the boosts down to a node; `None` where a factor, the product or the node's bound is too large.
 fn scored_product<S: Statistics>(statistics: &S, boost: u64, query: &AnyQuery) -> Option<u64>
     requires { boost ≤ max_score }
-    ensures { result ≡ (if refusing.is_score_too_large (S.similarity statistics.now).weight boost (query_of query.now) then None else Some (refusing.product boost (query_of query.now))) }
+    ensures { let q = query_of query.now
+        in result ≡ (if refusing.is_score_too_large (S.similarity statistics.now).weight boost q
+        then None else Some (refusing.product boost q)) }
 {
     let product = product(boost, query)?;
     times(boost, bound(statistics, query))?;
@@ -178,7 +185,9 @@ fn scored_product<S: Statistics>(statistics: &S, boost: u64, query: &AnyQuery) -
 /// The product of the boosts down to a node; `None` where it or a factor is too large.
 fn product(boost: u64, query: &AnyQuery) -> Option<u64>
     requires { boost ≤ max_score }
-    ensures { result ≡ (if refusing.is_bad_factor (query_of query.now) || nat_lt max_score (refusing.product boost (query_of query.now)) then None else Some (refusing.product boost (query_of query.now))) }
+    ensures { let q = query_of query.now
+        in result ≡ (if refusing.is_bad_factor q || nat_lt max_score (refusing.product boost q)
+        then None else Some (refusing.product boost q)) }
 {
     match query {
         AnyQuery::Boost(query) => product_with(boost, query.boost()),
@@ -196,7 +205,9 @@ fn product(boost: u64, query: &AnyQuery) -> Option<u64>
 /// The product of boosts and one more; `None` where it or that one is too large.
 fn product_with(boost: u64, factor: Score) -> Option<u64>
     requires { boost ≤ max_score }
-    ensures { result ≡ (if refusing.is_outside max_score factor || nat_lt max_score (boost * natural factor) then None else Some (boost * natural factor)) }
+    ensures { let product = boost * natural factor
+        in result ≡ (if refusing.is_outside max_score factor || nat_lt max_score product
+        then None else Some product) }
 {
     if is_outside(MAX_SCORE, factor) {
         return None;
@@ -207,7 +218,8 @@ fn product_with(boost: u64, factor: Score) -> Option<u64>
 /// The product of boosts beside a constant; `None` where the constant is too large.
 fn beside(boost: u64, constant: Score) -> Option<u64>
     requires { boost ≤ max_score }
-    ensures { result ≡ (if refusing.is_outside max_score constant || nat_lt max_score boost then None else Some boost) }
+    ensures { result ≡ (if refusing.is_outside max_score constant || nat_lt max_score boost
+        then None else Some boost) }
 {
     if is_outside(MAX_SCORE, constant) {
         return None;

@@ -70,7 +70,8 @@ fn check_term(schema: &Schema, term: &Term) -> Result<(), Fault>
 
 /// Tests the terms of a phrase, each test over all of them.
 fn check_phrase(schema: &Schema, terms: &[(usize, Term)]) -> Result<(), Fault>
-    ensures { result_err result ≡ refusing.first_fault (refusing.term_tests schema.now (map (λ t. t.1) terms.now) ++ refusing.phrase_tests schema.now terms.now) }
+    ensures { result_err result ≡ refusing.first_fault
+        (refusing.term_tests schema.now (map (λ t. t.1) terms.now) ++ refusing.phrase_tests schema.now terms.now) }
 {
     check_terms(schema, terms)?;
     check_places(schema, terms)
@@ -82,7 +83,10 @@ fn check_phrase_prefix(
     terms: &[(usize, Term)],
     max_expansions: u32,
 ) -> Result<(), Fault>
-    ensures { result_err result ≡ refusing.first_fault (refusing.term_tests schema.now (map (λ t. t.1) terms.now) ++ refusing.phrase_tests schema.now terms.now ++ ((nat_lt (length terms.now) 2, faults.NoWholeTerm) ∷ (nat_lt max_expansions refusing.all_expansions, faults.PartialExpansion) ∷ [])) }
+    ensures { result_err result ≡ refusing.first_fault
+        (refusing.term_tests schema.now (map (λ t. t.1) terms.now) ++ refusing.phrase_tests schema.now terms.now
+        ++ ((nat_lt (length terms.now) 2, faults.NoWholeTerm)
+        ∷ (nat_lt max_expansions refusing.all_expansions, faults.PartialExpansion) ∷ [])) }
 {
     check_phrase(schema, terms)?;
     if terms.len() < 2 {
@@ -96,7 +100,8 @@ fn check_phrase_prefix(
 
 /// Tests a tie breaker.
 fn check_tie_breaker(tie_breaker: Score) -> Result<(), Fault>
-    ensures { result_err result ≡ refusing.first_fault ((refusing.is_outside 1000 tie_breaker, faults.BadTieBreaker) ∷ []) }
+    ensures { result_err result
+        ≡ refusing.first_fault ((refusing.is_outside 1000 tie_breaker, faults.BadTieBreaker) ∷ []) }
 {
     if is_outside(MAX_TIE_BREAKER, tie_breaker) {
         return Err(Fault::BadTieBreaker);

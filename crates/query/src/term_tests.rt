@@ -92,7 +92,8 @@ fn has_type(term: &Term, value_type: Type) -> bool
 
 /// Whether the byte behind the first U+0000 is the code of a leaf.
 fn has_leaf_code(bytes: &[u8]) -> bool
-    ensures { result ≡ is_some (find (λ kind. bytes_eq (take 1 (after_first (◌==◌ 0) bytes.now)) (type_code kind)) leaf_kinds) }
+    ensures { let code = take 1 (after_first (◌==◌ 0) bytes.now)
+        in result ≡ is_some (find (λ kind. bytes_eq code (type_code kind)) leaf_kinds) }
 {
     match behind_path(bytes).first() {
         Some(code) => is_leaf_code(*code),
@@ -102,7 +103,8 @@ fn has_leaf_code(bytes: &[u8]) -> bool
 
 /// Whether the byte behind the first U+0000 is the code of a text.
 fn has_text_code(bytes: &[u8]) -> bool
-    ensures { result ≡ option_map_or is_text (find (λ kind. bytes_eq (take 1 (after_first (◌==◌ 0) bytes.now)) (type_code kind)) leaf_kinds) false }
+    ensures { let code = take 1 (after_first (◌==◌ 0) bytes.now)
+        in result ≡ option_map_or is_text (find (λ kind. bytes_eq code (type_code kind)) leaf_kinds) false }
 {
     match behind_path(bytes).first() {
         Some(code) => is_text_code(*code),
@@ -134,7 +136,8 @@ fn is_leaf_code(code: u8) -> bool
 
 /// Whether the code is that of a text.
 fn is_text_code(code: u8) -> bool
-    ensures { result ≡ option_map_or is_text (find (λ kind. bytes_eq (code ∷ []) (type_code kind)) leaf_kinds) false }
+    ensures { result
+        ≡ option_map_or is_text (find (λ kind. bytes_eq (code ∷ []) (type_code kind)) leaf_kinds) false }
 {
     code == b's'
 }

@@ -19,7 +19,7 @@ use terms::Term;
 
 /// A query of any form.
 #[cycle(queries)]
-#[derive(Drop)]
+#[derive(Debug, Drop)]
 pub enum AnyQuery {
     /// Every document.
     All(AllQuery),

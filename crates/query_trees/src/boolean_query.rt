@@ -19,7 +19,7 @@ use terms::Term;
 
 /// Documents that match clauses.
 #[cycle(queries)]
-#[derive(Drop)]
+#[derive(Debug, Drop)]
 pub struct BooleanQuery {
     subqueries: Vec<(Occur, AnyQuery)>,
     minimum_number_should_match: usize,
@@ -52,7 +52,8 @@ impl BooleanQuery {
     /// The query for these clauses. Where there is one, and documents may match each, they have to match one at
     /// least.
     pub fn new(subqueries: Vec<(Occur, AnyQuery)>) -> BooleanQuery
-        ensures { let clauses = clauses_of subqueries.items in result ≡ (clauses, definitions.default_minimum clauses) }
+        ensures { let clauses = clauses_of subqueries.items
+            in result ≡ (clauses, definitions.default_minimum clauses) }
     {
         let minimum_number_should_match = default_minimum(&subqueries);
         BooleanQuery::with_minimum_required_clauses(subqueries, minimum_number_should_match)
@@ -139,7 +140,8 @@ impl BooleanQuery {
 }
 
 impl From<Vec<(Occur, AnyQuery)>> for BooleanQuery {
-    ghost from_gives = { λ subqueries query. let clauses = clauses_of subqueries.items in query ≡ (clauses, definitions.default_minimum clauses) };
+    ghost from_gives = { λ subqueries query.
+        let clauses = clauses_of subqueries.items in query ≡ (clauses, definitions.default_minimum clauses) };
 
     fn from(subqueries: Vec<(Occur, AnyQuery)>) -> BooleanQuery {
         BooleanQuery::new(subqueries)

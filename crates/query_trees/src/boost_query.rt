@@ -14,7 +14,7 @@ use terms::Term;
 
 /// Documents that match a query, by its score times a boost.
 #[cycle(queries)]
-#[derive(Drop)]
+#[derive(Debug, Drop)]
 pub struct BoostQuery {
     query: Box<AnyQuery>,
     boost: i64,

@@ -14,7 +14,7 @@ use terms::Term;
 
 /// Documents that match a query, all by one score.
 #[cycle(queries)]
-#[derive(Drop)]
+#[derive(Debug, Drop)]
 pub struct ConstScoreQuery {
     query: Box<AnyQuery>,
     score: i64,

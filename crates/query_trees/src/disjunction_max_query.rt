@@ -15,7 +15,7 @@ use terms::Term;
 /// Documents that match one of several queries at least, by the greatest of their scores, and so many thousandths
 /// of the others.
 #[cycle(queries)]
-#[derive(Drop)]
+#[derive(Debug, Drop)]
 pub struct DisjunctionMaxQuery {
     disjuncts: Vec<AnyQuery>,
     tie_breaker: i64,

@@ -7,10 +7,11 @@ ghost use Rattle.definitions.specs.Phrases.{by_offset, whole_terms};
 ghost use Rattle.definitions.specs.Scoring.{phrase_field};
 ghost use Rattle.query_trees.specs.PhraseTerms.{are_phrase_terms};
 
-use crate::phrase_terms::{copied_places, copied_terms, in_a_row, sort_by_offset};
+use crate::phrase_terms::{copied_places, copied_terms, in_a_row, show_terms, sort_by_offset};
 use crate::query::{Query, QueryClone};
 use crate::query_terms::push_with_positions;
 use std::alloc::{AllocError, Global};
+use std::fmt;
 use std::marker::Model;
 use terms::{Field, Term};
 
@@ -131,5 +132,13 @@ impl Query for PhrasePrefixQuery {
         let mut found = Vec::new(alloc);
         push_with_positions(&mut found, self.whole_terms())?;
         Ok(found)
+    }
+}
+
+impl fmt::Debug for PhrasePrefixQuery {
+    fn fmt<W: fmt::Write>(&self, f: &mut fmt::Formatter<W>) -> fmt::Result {
+        f.write_str("PhrasePrefixQuery(")?;
+        show_terms(f, &self.terms)?;
+        write!(f, "max_expansions={})", self.max_expansions)
     }
 }

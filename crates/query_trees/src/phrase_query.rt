@@ -7,10 +7,11 @@ ghost use Rattle.definitions.specs.Phrases.{by_offset};
 ghost use Rattle.definitions.specs.Scoring.{phrase_field};
 ghost use Rattle.query_trees.specs.PhraseTerms.{are_phrase_terms};
 
-use crate::phrase_terms::{copied_places, copied_terms, in_a_row, sort_by_offset};
+use crate::phrase_terms::{copied_places, copied_terms, in_a_row, show_terms, sort_by_offset};
 use crate::query::{Query, QueryClone};
 use crate::query_terms::push_with_positions;
 use std::alloc::{AllocError, Global};
+use std::fmt;
 use std::marker::Model;
 use terms::{Field, Term};
 
@@ -121,5 +122,13 @@ impl Query for PhraseQuery {
         let mut found = Vec::new(alloc);
         push_with_positions(&mut found, self.terms())?;
         Ok(found)
+    }
+}
+
+impl fmt::Debug for PhraseQuery {
+    fn fmt<W: fmt::Write>(&self, f: &mut fmt::Formatter<W>) -> fmt::Result {
+        f.write_str("PhraseQuery(")?;
+        show_terms(f, &self.phrase_terms)?;
+        write!(f, "slop={})", self.slop)
     }
 }

@@ -8,6 +8,7 @@ ghost use Rattle.query_trees.specs.PhraseTerms.{are_phrase_terms};
 ghost use Rattle.std.specs.List.{enumerate_from, list_all};
 
 use std::alloc::{AllocError, Global};
+use std::fmt;
 use terms::{Field, Term};
 
 /// Whether these are so many terms at least, all of one field, as phrases ask.
@@ -88,4 +89,15 @@ pub(crate) fn copied(alloc: Global, term: &Term) -> Result<Term, AllocError>
     let mut bytes = Vec::new(alloc);
     bytes.extend_from_slice(term.serialized_term())?;
     Ok(Term::wrap(bytes).ok().unwrap())
+}
+
+/// Writes each term's offset and bytes.
+pub(crate) fn show_terms<W: fmt::Write>(
+    f: &mut fmt::Formatter<W>,
+    terms: &[(usize, Term)],
+) -> fmt::Result {
+    for (offset, term) in terms {
+        write!(f, "{offset}: {:?}, ", term.serialized_term())?;
+    }
+    Ok(())
 }

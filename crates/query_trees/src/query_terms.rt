@@ -16,7 +16,8 @@ pub(crate) fn push_query_terms<'a>(
     found: &mut Vec<(&'a Term, bool)>,
     query: &'a AnyQuery,
 ) -> Result<(), AllocError>
-    ensures { OnOk result (map needed found.new.items ≡ map needed found.old.items ++ definitions.query_terms (query_of query.now)) }
+    ensures { OnOk result (map needed found.new.items
+        ≡ map needed found.old.items ++ definitions.query_terms (query_of query.now)) }
 {
     match query {
         AnyQuery::Term(query) => push_term(found, query.term()),
@@ -37,7 +38,8 @@ pub(crate) fn push_clauses_terms<'a>(
     found: &mut Vec<(&'a Term, bool)>,
     clauses: &'a [(Occur, AnyQuery)],
 ) -> Result<(), AllocError>
-    ensures { OnOk result (map needed found.new.items ≡ map needed found.old.items ++ definitions.clauses_terms (clauses_of clauses.now)) }
+    ensures { OnOk result (map needed found.new.items
+        ≡ map needed found.old.items ++ definitions.clauses_terms (clauses_of clauses.now)) }
 {
     for (_occur, query) in clauses {
         push_query_terms(found, query)?;
@@ -52,7 +54,8 @@ pub(crate) fn push_disjuncts_terms<'a>(
     found: &mut Vec<(&'a Term, bool)>,
     disjuncts: &'a [AnyQuery],
 ) -> Result<(), AllocError>
-    ensures { OnOk result (map needed found.new.items ≡ map needed found.old.items ++ definitions.queries_terms (queries_of disjuncts.now)) }
+    ensures { OnOk result (map needed found.new.items
+        ≡ map needed found.old.items ++ definitions.queries_terms (queries_of disjuncts.now)) }
 {
     for query in disjuncts {
         push_query_terms(found, query)?;
@@ -76,7 +79,8 @@ pub(crate) fn push_with_positions<'a>(
     found: &mut Vec<(&'a Term, bool)>,
     terms: &'a [(usize, Term)],
 ) -> Result<(), AllocError>
-    ensures { OnOk result (map needed found.new.items ≡ map needed found.old.items ++ definitions.with_positions terms.now) }
+    ensures { OnOk result (map needed found.new.items
+        ≡ map needed found.old.items ++ definitions.with_positions terms.now) }
 {
     for (_offset, term) in terms {
         found.push((term, true))?;

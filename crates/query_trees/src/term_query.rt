@@ -9,6 +9,7 @@ use crate::query::{Query, QueryClone};
 use crate::query_terms::push_term;
 use options::IndexRecordOption;
 use std::alloc::{AllocError, Global};
+use std::fmt;
 use std::marker::Model;
 use terms::Term;
 
@@ -69,5 +70,11 @@ impl Query for TermQuery {
         let mut found = Vec::new(alloc);
         push_term(&mut found, &self.term)?;
         Ok(found)
+    }
+}
+
+impl fmt::Debug for TermQuery {
+    fn fmt<W: fmt::Write>(&self, f: &mut fmt::Formatter<W>) -> fmt::Result {
+        write!(f, "TermQuery({:?})", self.term.serialized_term())
     }
 }

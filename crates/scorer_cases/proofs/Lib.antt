@@ -1,2 +1,3 @@
 -- Lemmas behind the cases.
 pub mod GreatestOnes
+pub mod NestedScores

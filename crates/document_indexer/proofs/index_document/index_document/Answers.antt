@@ -1,4 +1,4 @@
-use Rattle.std.proofs.Common.{◌∙◌, ◌∷◌, ◌≡◌, List, ap, flat_map, refl, rules, subst, sym, [], ℕ}
+use Rattle.std.proofs.Common.{◌∙◌, ◌∷◌, ◌≡◌, List, ap, flat_map, rules, subst, sym, ℕ}
 use Rattle.std.proofs.lemmas.Result.{err_from_is_err_and}
 use Rattle.definitions.specs.Values.{Document, Value}
 use Rattle.document_values.specs.Shown.{value_of}

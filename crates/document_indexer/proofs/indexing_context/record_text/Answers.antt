@@ -1,4 +1,4 @@
-use Rattle.std.proofs.Common.{◌∙◌, ◌++◌, ◌^◌, ◌≡◌, List, Some, ap, bytes_eq, cond, map, min, subst, ℕ}
+use Rattle.std.proofs.Common.{◌∙◌, ◌++◌, ◌^◌, ◌≡◌, List, Some, ap, bytes_eq, cond, min, subst, ℕ}
 use Rattle.std.proofs.lemmas.Result.{err_from_is_err_and}
 use Rattle.std.specs.Map.{lookup}
 use Rattle.definitions.specs.Analyzers.{kept}

@@ -1,5 +1,4 @@
-use Rattle.std.proofs.Common.{[], List, ap, arith, map, refl, subst, sym, ◌∙◌, ◌≡◌, ℕ}
-use Rattle.definitions.specs.KeptLengths.{norms_of}
+use Rattle.std.proofs.Common.{[], List, ap, arith, map, refl, subst, sym, ◌∙◌, ℕ}
 use Rattle.layouts.specs.Deltas.{IsAscendingFrom}
 use Rattle.document_indexer.specs.Contexts.{AreBefore, Positions}
 use Rattle.document_indexer.proofs.KeptLengths.{fields_ascend}

@@ -2,7 +2,7 @@ use Rattle.std.proofs.Common.{[], List, ap, arith, length, subst, sym, ◌∙◌
 use Rattle.std.proofs.lemmas.Grind.{merely}
 use Rattle.std.proofs.lemmas.Result.{err_from_is_err_and}
 use Rattle.std.specs.List.{AllByRecursion}
-use Rattle.definitions.specs.KeptLengths.{length_fields, norms_of}
+use Rattle.definitions.specs.KeptLengths.{norms_of}
 use Rattle.definitions.specs.Postings.{postings}
 use Rattle.layouts.specs.Deltas.{IsAscendingFrom}
 use Rattle.layouts.specs.FieldNorms.{norms_bytes}

@@ -1,4 +1,4 @@
-use Rattle.std.proofs.Common.{[], ◌∷◌, ◌≡◌, IfErr, List, OnOk, map, rules, subst, sym, ℕ}
+use Rattle.std.proofs.Common.{[], ◌∷◌, ◌≡◌, IfErr, List, OnOk, rules, subst, sym, ℕ}
 use Rattle.definitions.specs.Analyzers.{kept}
 use Rattle.definitions.specs.Schema.{text_kind}
 use Rattle.definitions.specs.Terms.{term_bytes}

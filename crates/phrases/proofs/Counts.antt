@@ -1,0 +1,59 @@
+-- Laws of how often positions stand at places that are moved on.
+use Rattle.std.proofs.Common.{[], Bool, List, ap, arith, drop, false, filter, get_or, if◌then◌else◌, length, map, refl, subst, suc, sum_by, sym, true, zero, ◌+◌, ◌<◌, ◌==◌, ◌∙◌, ◌∷◌, ◌||◌, ◌≡◌, ◌≤◌, ℕ}
+use Rattle.std.proofs.lemmas.Bool.Decides.{nat_tests}
+use Rattle.std.proofs.lemmas.List.{drop_all, drop_more}
+use Rattle.phrases.specs.Places.{Ascends, has}
+use Rattle.phrases.specs.PrefixEntries.{continued}
+use Rattle.phrases.proofs.Merges.{Ascends-step, has-low}
+
+-- tests that agree on what ascends keep alike
+filter-ascending : (f g : ℕ → Bool) (low : ℕ) (xs : List ℕ) → Ascends low xs → ((x : ℕ) → low ≤ x → f x ≡ g x) → filter f xs ≡ filter g xs
+filter-ascending f g low [] r same = refl
+filter-ascending f g low (x ∷ xs) r same =
+    ap (λ b. if b then x ∷ filter f xs else filter f xs) (same x r.0)
+    ∙ ap (λ ys. if g x then x ∷ ys else ys) (filter-ascending f g x xs r.1 (λ y l. same y (let up = r.0 in omega (arith, l, up))))
+
+continued-none : (moved : ℕ) (places : List ℕ) → continued moved places [] ≡ 0
+continued-none moved [] = refl
+continued-none moved (p ∷ ps) = continued-none moved ps
+
+-- a place before all positions left
+pub count-left : (moved i j : ℕ) (places positions : List ℕ) → i < length places → j < length positions → Ascends 0 (drop j positions) → get_or places i 0 + moved < get_or positions j 0 → continued moved (drop i places) (drop j positions) ≡ continued moved (drop (i + 1) places) (drop j positions)
+count-left moved i j places positions li lj a l =
+    let rises : Ascends (get_or positions j 0) (get_or positions j 0 ∷ drop (j + 1) positions) = (omega arith, (Ascends-step 0 j positions lj a).1) in
+    let out = has-low (get_or positions j 0) (get_or places i 0 + moved) (drop j positions) (subst (Ascends (get_or positions j 0)) (sym (drop_more positions j 0 lj)) rises) l in
+    ap (λ xs. continued moved xs (drop j positions)) (drop_more places i 0 li)
+    ∙ ap (λ b. length (if b then get_or places i 0 ∷ filter (λ x. has (drop j positions) (x + moved)) (drop (i + 1) places) else filter (λ x. has (drop j positions) (x + moved)) (drop (i + 1) places))) out
+
+-- a position before all places left
+pub count-right : (moved i j : ℕ) (places positions : List ℕ) → i < length places → j < length positions → Ascends 0 (drop i places) → get_or positions j 0 < get_or places i 0 + moved → continued moved (drop i places) (drop j positions) ≡ continued moved (drop i places) (drop (j + 1) positions)
+count-right moved i j places positions li lj r l =
+    let rises : Ascends (get_or places i 0) (get_or places i 0 ∷ drop (i + 1) places) = (omega arith, (Ascends-step 0 i places li r).1) in
+    ap (continued moved (drop i places)) (drop_more positions j 0 lj)
+    ∙ ap length (filter-ascending (λ x. has (get_or positions j 0 ∷ drop (j + 1) positions) (x + moved)) (λ x. has (drop (j + 1) positions) (x + moved)) (get_or places i 0) (drop i places) (subst (Ascends (get_or places i 0)) (sym (drop_more places i 0 li)) rises)
+    (λ x b. let apart : (get_or positions j 0 == x + moved) ≡ false = grind (arith, nat_tests, l, b) in ap (λ t. t || has (drop (j + 1) positions) (x + moved)) apart))
+
+-- a place where a position stands
+pub count-both : (moved i j : ℕ) (places positions : List ℕ) → i < length places → j < length positions → get_or places i 0 + moved ≡ get_or positions j 0 → continued moved (drop i places) (drop j positions) ≡ suc (continued moved (drop (i + 1) places) (drop j positions))
+count-both moved i j places positions li lj e =
+    let here : (get_or positions j 0 == get_or places i 0 + moved) ≡ true = grind (arith, nat_tests, e) in
+    let found : has (drop j positions) (get_or places i 0 + moved) ≡ true = ap (λ ps. has ps (get_or places i 0 + moved)) (drop_more positions j 0 lj) ∙ ap (λ b. b || has (drop (j + 1) positions) (get_or places i 0 + moved)) here in
+    ap (λ xs. continued moved xs (drop j positions)) (drop_more places i 0 li)
+    ∙ ap (λ b. length (if b then get_or places i 0 ∷ filter (λ x. has (drop j positions) (x + moved)) (drop (i + 1) places) else filter (λ x. has (drop j positions) (x + moved)) (drop (i + 1) places))) found
+
+-- at an end
+pub count-end : (moved i j : ℕ) (places positions : List ℕ) → length places ≤ i → continued moved (drop i places) (drop j positions) ≡ 0
+count-end moved i j places positions l = ap (λ xs. continued moved xs (drop j positions)) (drop_all i places l)
+
+pub count-over : (moved i j : ℕ) (places positions : List ℕ) → length positions ≤ j → continued moved (drop i places) (drop j positions) ≡ 0
+count-over moved i j places positions l = ap (continued moved (drop i places)) (drop_all j positions l) ∙ continued-none moved (drop i places)
+
+-- no more than there are places
+pub continued-few : (moved : ℕ) (places positions : List ℕ) → continued moved places positions ≤ length places
+continued-few moved [] positions = omega arith
+continued-few moved (p ∷ ps) positions =
+    let ih = continued-few moved ps positions in
+    elim (has positions (p + moved)) as (λ b. length (if b then p ∷ filter (λ x. has positions (x + moved)) ps else filter (λ x. has positions (x + moved)) ps) ≤ length (p ∷ ps)) [
+      | true ↦ (let goal : length (p ∷ filter (λ x. has positions (x + moved)) ps) ≤ length (p ∷ ps) = omega (arith, ih) in goal)
+      | false ↦ (let goal : length (filter (λ x. has positions (x + moved)) ps) ≤ length (p ∷ ps) = omega (arith, ih) in goal)
+    ]

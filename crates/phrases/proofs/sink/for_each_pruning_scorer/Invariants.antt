@@ -1,0 +1,19 @@
+use Rattle.std.proofs.Common.{length, ◌+◌, ◌-◌, ◌≡◌, ◌≤◌}
+use Rattle.cursors.specs.Entries.{first}
+use Rattle.definitions.specs.Postings.{terminated}
+use Rattle.definitions.specs.Sinks.{fed}
+use Rattle.leaf_scorers.specs.ScoredEntries.{pairs_of}
+use Rattle.phrases.proofs.sink.for_each_pruning_scorer.Given as goal
+
+-- what the sink has come to and what is left to feed make what all make
+abbrev pub invariant-loop-doc : goal.invariant-loop-doc
+invariant-loop-doc g l = record {
+  at : l.doc ≡ first (g.S.DocSet.entries l.scorer);
+  limit : l.threshold ≡ g.K.Sink.limit (g.K.Sink.state l.sink);
+  left : length (g.S.DocSet.entries l.scorer) ≤ g.K.Sink.room l.sink;
+  room : g.K.Sink.room l.fn.sink + length (g.S.DocSet.entries l.scorer) ≤ g.K.Sink.room l.sink + length (g.S.DocSet.entries l.fn.scorer);
+  fed : fed g.K.Sink.limit g.K.Sink.taken (g.K.Sink.state l.sink) (pairs_of (g.S.DocSet.entries l.scorer)) ≡ fed g.K.Sink.limit g.K.Sink.taken (g.K.Sink.state l.fn.sink) (pairs_of (g.S.DocSet.entries l.fn.scorer));
+}
+
+abbrev pub decreases-loop-doc : goal.decreases-loop-doc
+decreases-loop-doc g l = length (g.S.DocSet.entries l.scorer)

@@ -1,0 +1,77 @@
+-- Laws of the entries of phrase prefixes.
+use Rattle.std.proofs.Common.{[], Bool, List, ap, arith, drop, false, if◌then◌else◌, length, map, max, nat_le, nat_lt, refl, subst, suc, sym, true, zero, ◌+◌, ◌<◌, ◌∙◌, ◌∷◌, ◌≡◌, ◌≤◌, ℕ}
+use Rattle.std.proofs.lemmas.Bool.Decides.{nat_tests}
+use Rattle.cursors.specs.Entries.{Entry, IsRest, Rising, first, first_count, first_positions, first_score, from, most_positions, single}
+use Rattle.cursors.specs.EntryLaws.{Rising-lower, from-in, from-out}
+use Rattle.definitions.specs.Postings.{terminated}
+use Rattle.definitions.specs.Scoring.{max_score}
+use Rattle.leaf_scorers.specs.ScoredEntryLaws.{by_place}
+use Rattle.members.specs.MemberLaws.{entries_at-kept}
+use Rattle.members.specs.Members.{entries_at}
+use Rattle.phrases.specs.PrefixEntries.{continued_by, prefixed}
+
+-- how often suffixes follow an entry
+abbrev follows : ℕ → List (List Entry) → Entry → ℕ
+follows moved ess e = continued_by moved (single e.positions) (entries_at e.doc ess)
+
+abbrev counted : Entry → ℕ → Entry
+counted e n = record e { count = n }
+
+prefixed-none : (moved : ℕ) (ess : List (List Entry)) (e : Entry) (es : List Entry) → follows moved ess e ≡ 0 → prefixed moved ess (e ∷ es) ≡ prefixed moved ess es
+prefixed-none moved ess e es none = ap (λ n. if nat_lt 0 n then counted e n ∷ prefixed moved ess es else prefixed moved ess es) none
+
+prefixed-some : (moved : ℕ) (ess : List (List Entry)) (e : Entry) (es : List Entry) → 0 < follows moved ess e → prefixed moved ess (e ∷ es) ≡ counted e (follows moved ess e) ∷ prefixed moved ess es
+prefixed-some moved ess e es some = (let b : nat_lt 0 (follows moved ess e) ≡ true = grind (arith, nat_tests, some) in ap (λ b. if b then counted e (follows moved ess e) ∷ prefixed moved ess es else prefixed moved ess es) b)
+
+-- how often they follow the first
+abbrev pub first_follows : ℕ → List (List Entry) → List Entry → ℕ
+first_follows moved ess es = continued_by moved (single (first_positions es)) (entries_at (first es) ess)
+
+-- where none follows the first document it can be passed
+pub prefixed-pass : (moved : ℕ) (ess : List (List Entry)) (es : List Entry) → first_follows moved ess es ≡ 0 → prefixed moved ess (drop 1 es) ≡ prefixed moved ess es
+prefixed-pass moved ess [] none = refl
+prefixed-pass moved ess (e ∷ es) none = sym (prefixed-none moved ess e es none)
+
+-- where some do it is the first
+pub prefixed-stands : (moved : ℕ) (ess : List (List Entry)) (es : List Entry) → (first es < terminated → 0 < first_follows moved ess es) → Rising 0 es → (first (prefixed moved ess es) ≡ first es) × (prefixed moved ess (drop 1 es) ≡ drop 1 (prefixed moved ess es))
+prefixed-stands moved ess [] some r = (refl, refl)
+prefixed-stands moved ess (e ∷ es) some r = (let is = prefixed-some moved ess e es (some r.1) in (ap first is, sym (ap (drop 1) is)))
+
+pub prefixed-first : (moved : ℕ) (ess : List (List Entry)) (es : List Entry) → first es < terminated → 0 < first_follows moved ess es → (first_count (prefixed moved ess es) ≡ first_follows moved ess es) × (first_score (prefixed moved ess es) ≡ first_score es)
+prefixed-first moved ess [] l some = absurd (omega (arith, l))
+prefixed-first moved ess (e ∷ es) l some = (let is = prefixed-some moved ess e es some in (ap first_count is, ap first_score is))
+
+pub from-prefixed : (moved : ℕ) (ess : List (List Entry)) (t : ℕ) (es : List Entry) → from t (prefixed moved ess es) ≡ prefixed moved ess (from t es)
+from-prefixed moved ess t [] = refl
+from-prefixed moved ess t (e ∷ es) =
+    let ih = from-prefixed moved ess t es in
+    let n : ℕ = follows moved ess e in
+    by_place t e.doc (from t (prefixed moved ess (e ∷ es)) ≡ prefixed moved ess (from t (e ∷ es)))
+    (λ i. by_place 1 n (from t (prefixed moved ess (e ∷ es)) ≡ prefixed moved ess (from t (e ∷ es)))
+    (λ some. ap (from t) (prefixed-some moved ess e es (omega (arith, some))) ∙ (from-in t (counted e n) (prefixed moved ess es) i ∙ (ap (λ xs. counted e n ∷ xs) ih ∙ sym (ap (prefixed moved ess) (from-in t e es i) ∙ prefixed-some moved ess e (from t es) (omega (arith, some))))))
+    (λ none. ap (from t) (prefixed-none moved ess e es (omega (arith, none))) ∙ (ih ∙ sym (ap (prefixed moved ess) (from-in t e es i) ∙ prefixed-none moved ess e (from t es) (omega (arith, none))))))
+    (λ o. by_place 1 n (from t (prefixed moved ess (e ∷ es)) ≡ prefixed moved ess (from t (e ∷ es)))
+    (λ some. ap (from t) (prefixed-some moved ess e es (omega (arith, some))) ∙ (from-out t (counted e n) (prefixed moved ess es) o ∙ (ih ∙ sym (ap (prefixed moved ess) (from-out t e es o)))))
+    (λ none. ap (from t) (prefixed-none moved ess e es (omega (arith, none))) ∙ (ih ∙ sym (ap (prefixed moved ess) (from-out t e es o)))))
+
+pub Rising-prefixed : (moved : ℕ) (ess : List (List Entry)) (low : ℕ) (es : List Entry) → Rising low es → Rising low (prefixed moved ess es)
+Rising-prefixed moved ess low [] r = tt
+Rising-prefixed moved ess low (e ∷ es) r =
+    let rest = Rising-prefixed moved ess (e.doc + 1) es r.3 in
+    elim (nat_lt 0 (follows moved ess e)) as (λ b. Rising low (if b then counted e (follows moved ess e) ∷ prefixed moved ess es else prefixed moved ess es)) [
+      | true ↦ (r.0, r.1, r.2, rest)
+      | false ↦ Rising-lower low (e.doc + 1) (prefixed moved ess es) (omega (arith, r.0)) rest
+    ]
+
+-- suffixes can be cut up to where the documents begin
+pub prefixed-cut : (moved : ℕ) (ess : List (List Entry)) (t : ℕ) (es : List Entry) → Rising t es → prefixed moved (map (from t) ess) es ≡ prefixed moved ess es
+prefixed-cut moved ess t [] r = refl
+prefixed-cut moved ess t (e ∷ es) r =
+    let same : follows moved (map (from t) ess) e ≡ follows moved ess e = ap (continued_by moved (single e.positions)) (entries_at-kept e.doc t ess r.0) in
+    ap (λ xs. if nat_lt 0 (follows moved (map (from t) ess) e) then counted e (follows moved (map (from t) ess) e) ∷ xs else xs) (prefixed-cut moved ess t es (Rising-lower t (e.doc + 1) es (omega (arith, r.0)) r.3))
+    ∙ ap (λ n. if nat_lt 0 n then counted e n ∷ prefixed moved ess es else prefixed moved ess es) same
+
+-- the greatest number of positions that an entry of some list has
+abbrev pub most_suffix_positions : List (List Entry) → ℕ
+most_suffix_positions [] = 0
+most_suffix_positions (es ∷ ess) = max (most_positions es) (most_suffix_positions ess)

@@ -1,0 +1,95 @@
+//! What takes documents: those whose scores are above a threshold, or blocks of documents without scores.
+
+ghost use Rattle.std.specs.Prelude.{[], ◌+◌, ◌∷◌, ◌≡◌, ◌≤ℤ◌, ◌≤◌, length, pos};
+ghost use Rattle.definitions.specs.Scoring.{natural};
+ghost use Rattle.definitions.specs.Sinks.{fed};
+ghost use Rattle.leaf_scorers.specs.ScoredEntries.{pairs_of};
+
+use common::{DocId, Score, TERMINATED};
+use cursors::DocSet;
+use leaf_scorers::Scorer;
+
+/// Takes documents whose scores are above its threshold, which may rise as it takes them.
+pub trait Sink {
+    ghost use Rattle.std.specs.Prelude.{ℕ, ℤ};
+
+    /// What it has come to. No value of it is made.
+    type State;
+
+    // What it has come to.
+    ghost state: { Self → Self.State };
+
+    // Scores up to this one aren't taken.
+    ghost limit: { Self.State → ℤ };
+
+    // What it comes to with one more document and its score.
+    ghost taken: { Self.State → ℕ × ℕ → Self.State };
+
+    // How many documents it can take without wanting memory.
+    ghost room: { Self → ℕ };
+
+    /// The score that a document has to exceed.
+    fn threshold(&self) -> Score
+        ensures { result ≡ limit (state self.now) };
+
+    /// Takes a document with its score, and answers the next threshold.
+    fn collect(&mut self, doc: DocId, score: Score) -> Score
+        requires room { 1 ≤ room self.old }
+        requires positive { pos 0 ≤ℤ score }
+        ensures state { state self.new ≡ taken (state self.old) (doc, natural score) }
+        ensures next { result ≡ limit (state self.new) }
+        ensures room { room self.old ≤ room self.new + 1 };
+}
+
+/// Takes blocks of documents, without scores.
+pub trait BlockSink {
+    ghost use Rattle.std.specs.Prelude.{List, ℕ};
+
+    /// What it has come to. No value of it is made.
+    type State;
+
+    // What it has come to.
+    ghost state: { Self → Self.State };
+
+    // What it comes to with one more block.
+    ghost taken: { Self.State → List ℕ → Self.State };
+
+    /// Takes the documents of a block, one at least.
+    fn collect_block(&mut self, docs: &[DocId])
+        requires { 1 ≤ length docs.now }
+        ensures { state self.new ≡ taken (state self.old) docs.now };
+}
+
+/// Gives a sink a document, where its score is above the threshold, which is the sink's. Answers the next one.
+#[inline]
+pub fn offer<K: Sink>(sink: &mut K, threshold: Score, doc: DocId, score: Score) -> Score
+    requires threshold { threshold ≡ K.limit (K.state sink.old) }
+    requires room { 1 ≤ K.room sink.old }
+    requires positive { pos 0 ≤ℤ score }
+    ensures state { K.state sink.new ≡ fed K.limit K.taken (K.state sink.old) ((doc, natural score) ∷ []) }
+    ensures next { result ≡ K.limit (K.state sink.new) }
+    ensures room { K.room sink.old ≤ K.room sink.new + 1 }
+{
+    if score > threshold {
+        return sink.collect(doc, score);
+    }
+    threshold
+}
+
+/// Gives a sink each document of a scorer with its score, in order, where the score is above the sink's threshold as it
+/// comes.
+pub fn for_each_pruning_scorer<S: Scorer, K: Sink>(scorer: &mut S, threshold: Score, sink: &mut K)
+    requires threshold { threshold ≡ K.limit (K.state sink.old) }
+    requires room { length (S.entries scorer.old) ≤ K.room sink.old }
+    ensures state { K.state sink.new ≡ fed K.limit K.taken (K.state sink.old) (pairs_of (S.entries scorer.old)) }
+    ensures done { S.entries scorer.new ≡ [] }
+    ensures room { K.room sink.old ≤ K.room sink.new + length (S.entries scorer.old) }
+{
+    let mut threshold = threshold;
+    let mut doc = scorer.doc();
+    while doc != TERMINATED {
+        let score = scorer.score();
+        threshold = offer(sink, threshold, doc, score);
+        doc = scorer.advance();
+    }
+}

@@ -1,0 +1,123 @@
+//! Operations by their names.
+
+use crate::given_terms::weighted_terms;
+use crate::parts::items;
+use crate::steps::query;
+use case_lines::{Arguments, Cell, Operations, Refusal, cells, flag, hex, number, pair, text};
+use query::{AnyQuery, Query, QueryClone, check_query};
+use schema::Schema;
+use serde_json::Value;
+use settings::Settings;
+use std::alloc::{AllocError, Global};
+use terms::Term;
+
+/// Operations on queries.
+#[derive(Drop)]
+pub(crate) struct QueryOperations {
+    alloc: Global,
+    /// The schema that was read last.
+    schema: Schema,
+    /// The settings that were made last.
+    settings: Settings,
+}
+
+impl QueryOperations {
+    /// The operations, about a schema with no field and the settings where none are given.
+    pub(crate) fn new(alloc: Global) -> Result<QueryOperations, AllocError> {
+        Ok(QueryOperations {
+            alloc,
+            schema: Schema::builder(alloc).build(),
+            settings: Settings::default(alloc)?,
+        })
+    }
+}
+
+impl Operations for QueryOperations {
+    fn answer(&mut self, operation: &str, arguments: &Arguments) -> Result<Value, Refusal> {
+        let alloc = self.alloc;
+        match operation {
+            "schema" => {
+                self.schema = Schema::from_json_value(alloc, arguments.value(0)?)?;
+                Ok(number(self.schema.num_fields() as u64))
+            }
+            "weights" => {
+                self.settings = settings(alloc, arguments)?;
+                Ok(flag(true))
+            }
+            "refusal" => {
+                let query = query(alloc, items(arguments.value(0)?)?)?;
+                check_query(&self.schema, &self.settings, &query)?;
+                Ok(flag(true))
+            }
+            _ => told(
+                alloc,
+                operation,
+                &query(alloc, items(arguments.value(0)?)?)?,
+            ),
+        }
+    }
+}
+
+/// Settings with a default weight and the weights of terms.
+fn settings(alloc: Global, arguments: &Arguments) -> Result<Settings, Refusal> {
+    let default_weight = arguments.number(0)?;
+    let weights = weighted_terms(alloc, arguments.value(1)?)?;
+    let norms = Vec::from_elem(alloc, 1, 256)?;
+    Ok(Settings::new(alloc, 1, 1, 1, default_weight, weights, norms)?)
+}
+
+/// What a query tells: `terms` the terms that it reads, `copied` those of a copy, `clauses` the minimum of a bool,
+/// the one that is set in its place, and how many clauses it has, `phrase` the field and the terms of a phrase,
+/// `shown` how it is shown.
+fn told(alloc: Global, operation: &str, query: &AnyQuery) -> Result<Value, Refusal> {
+    match (operation, query) {
+        ("terms", query) => read_terms(alloc, &query.query_terms(alloc)?),
+        ("shown", query) => Ok(text(alloc, &format!(in alloc; "{query:?}")?)?),
+        ("copied", query) => {
+            let copy = query.try_clone(alloc)?;
+            read_terms(alloc, &copy.query_terms(alloc)?)
+        }
+        ("clauses", AnyQuery::Boolean(query)) => {
+            let mut changed = query.try_clone(alloc)?;
+            changed.set_minimum_number_should_match(7);
+            Ok(cells(
+                alloc,
+                &[
+                    Cell::Number(query.get_minimum_number_should_match() as u64),
+                    Cell::Number(changed.get_minimum_number_should_match() as u64),
+                    Cell::Number(query.clauses().len() as u64),
+                ],
+            )?)
+        }
+        ("phrase", AnyQuery::Phrase(query)) => phrase(
+            alloc,
+            query.field().field_id(),
+            &query.phrase_terms(alloc)?,
+        ),
+        ("phrase", AnyQuery::PhrasePrefix(query)) => phrase(
+            alloc,
+            query.field().field_id(),
+            &query.phrase_terms(alloc)?,
+        ),
+        _ => Err(Refusal::NotAsked),
+    }
+}
+
+/// Each term, and whether its positions are needed.
+fn read_terms(alloc: Global, terms: &[(&Term, bool)]) -> Result<Value, Refusal> {
+    let mut list = Vec::new(alloc);
+    for (term, positions) in terms {
+        let bytes = hex(alloc, term.serialized_term())?;
+        list.push(pair(alloc, bytes, flag(*positions))?)?;
+    }
+    Ok(Value::Array(list))
+}
+
+/// A field, and each term.
+fn phrase(alloc: Global, field: u32, terms: &[Term]) -> Result<Value, Refusal> {
+    let mut list = Vec::new(alloc);
+    for term in terms {
+        list.push(hex(alloc, term.serialized_term())?)?;
+    }
+    Ok(pair(alloc, number(u64::from(field)), Value::Array(list))?)
+}
