@@ -1,5 +1,5 @@
 -- A segment has one number of documents and one list of sections, so that what its parts are is told by those that are found.
-use Rattle.std.proofs.Common.{[], ◌≡◌, ◌∙◌, List, ap, flat_map, get_or, subst, sum_by, sym, ℕ}
+use Rattle.std.proofs.Common.{[], ◌<◌, ◌^◌, ◌≡◌, ◌∙◌, List, ap, flat_map, get_or, length, subst, sum_by, sym, ℕ}
 use Rattle.common.proofs.Many.{parts_are}
 use Rattle.definitions.specs.KeptLengths.{length_fields}
 use Rattle.definitions.specs.Schema.{Schema}
@@ -7,7 +7,7 @@ use Rattle.layouts.specs.FieldNorms.{IsNorms}
 use Rattle.layouts.specs.InvertedIndexes.{AreSections, IndexedField}
 use Rattle.layouts.specs.Stores.{AreBlocks, Block, store_bytes}
 use Rattle.segment_layouts.specs.Segments.{AreWritten, IsSegment, Sections, section_bytes}
-use Rattle.segment.proofs.SectionsBack.{five, listed, number_found, sections_found}
+use Rattle.segment.proofs.SectionsBack.{all_short, five, listed, number_found, sections_found, sections_short}
 
 abbrev of_listed : List (List ℕ) → Sections
 of_listed xs = record { terms = get_or xs 0 []; postings = get_or xs 1 []; positions = get_or xs 2 []; norms = get_or xs 3 []; store = get_or xs 4 [] }
@@ -34,3 +34,10 @@ parts_told schema m n s bytes a is =
     let one = one_segment m n s is.sections bytes a is.written in
     let theirs : AreParts schema n is.sections = record { norms = is.norms; fields = is.fields; blocks = is.blocks; norms_are = is.norms_are; terms_are = is.terms_are; store_is = is.store_is; blocks_are = is.blocks_are; counted = is.counted } in
     subst (λ (t : Sections). AreParts schema m t) (sym one.1) (subst (λ k. AreParts schema k is.sections) (sym one.0) theirs)
+
+-- the section of lengths by other names of the fields and of the bytes
+pub norms_over : (schema : Schema) (num_docs : ℕ) (fields bytes others : List ℕ) (norms : List (ℕ × List ℕ)) → fields ≡ length_fields schema → others ≡ bytes → IsNorms (length_fields schema) num_docs bytes norms → IsNorms fields num_docs others norms
+norms_over schema num_docs fields bytes others norms named same is = subst (λ fs. IsNorms fs num_docs others norms) (sym named) (subst (λ bs. IsNorms (length_fields schema) num_docs bs norms) (sym same) is)
+
+pub store_short : (num_docs : ℕ) (s : Sections) (bytes : List ℕ) → AreWritten num_docs s bytes → length s.store < 2 ^ 64
+store_short num_docs s bytes are = (all_short (listed s) (sections_short num_docs s bytes are)).1.1.1.1.0
