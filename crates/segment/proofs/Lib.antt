@@ -1,2 +1,3 @@
 -- Lemmas behind segments.
 pub mod SectionsBack
+pub mod Opening

@@ -7,7 +7,7 @@ use Rattle.common.proofs.AliveSetBytes.{u32_back}
 use Rattle.common.proofs.Many.{IsBack, IsPut, bind_some, bytes_after, many_back, many_put, parts_are}
 use Rattle.common.proofs.TakenBack.{count_back, count_put, u32_put, u64_put}
 use Rattle.definitions.specs.Json.{◌>>=◌}
-use Rattle.definitions.specs.NumberCodes.{AreBytes, take_count, take_u32, take_u64, u32_bytes, u64_bytes}
+use Rattle.definitions.specs.NumberCodes.{AreBytes, take_u32, take_u64, u32_bytes, u64_bytes}
 use Rattle.layouts.specs.DocumentReading.{take_many, taken_map}
 use Rattle.layouts.specs.Stores.{max_docs}
 use Rattle.segment_layouts.specs.Segments.{AreWritten, Sections, section_bytes, segment_bytes}
@@ -74,7 +74,7 @@ all_behind a b c d e f =
 bytes_listed : (n : ℕ) (s : Sections) → segment_bytes n s ≡ u32_bytes n ++ flat_map section_bytes (listed s)
 bytes_listed n s = all_behind (u32_bytes n) (section_bytes s.terms) (section_bytes s.postings) (section_bytes s.positions) (section_bytes s.norms) (section_bytes s.store)
 
-all_short : (xs : List (List ℕ)) → length (flat_map section_bytes xs) < 2 ^ 64 → AllByRecursion IsShort xs
+pub all_short : (xs : List (List ℕ)) → length (flat_map section_bytes xs) < 2 ^ 64 → AllByRecursion IsShort xs
 all_short [] short = tt
 all_short (x ∷ xs) short =
     let whole = length-append (section_bytes x) (flat_map section_bytes xs) in
@@ -87,14 +87,14 @@ number_found n s bytes are =
     let few = are.few in
     ap take_u32 (are.whole ∙ bytes_listed n s) ∙ u32_back n (flat_map section_bytes (listed s)) (omega (arith, few))
 
-sections_short : (n : ℕ) (s : Sections) (bytes : List ℕ) → AreWritten n s bytes → length (flat_map section_bytes (listed s)) < 2 ^ 64
+pub sections_short : (n : ℕ) (s : Sections) (bytes : List ℕ) → AreWritten n s bytes → length (flat_map section_bytes (listed s)) < 2 ^ 64
 sections_short n s bytes are =
     let short = are.short in
     let whole = ap length (are.whole ∙ bytes_listed n s) in
     let parts = length-append (u32_bytes n) (flat_map section_bytes (listed s)) in
     omega (arith, short, whole, parts)
 
-sections_found : (n : ℕ) (s : Sections) (bytes : List ℕ) → AreWritten n s bytes → five (flat_map section_bytes (listed s)) ≡ Some (listed s, [])
+pub sections_found : (n : ℕ) (s : Sections) (bytes : List ℕ) → AreWritten n s bytes → five (flat_map section_bytes (listed s)) ≡ Some (listed s, [])
 sections_found n s bytes are =
     ap five (sym (append-nil (flat_map section_bytes (listed s))))
     ∙ many_back take_section IsShort section_bytes section_back (listed s) [] (all_short (listed s) (sections_short n s bytes are))

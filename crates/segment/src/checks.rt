@@ -38,6 +38,7 @@ pub(crate) fn open_store(
     num_docs: u32,
     cache_num_blocks: usize,
 ) -> Result<StoreReader, Fault>
+    requires { length bytes < 2 ^ 64 }
     ensures blocks { IfOk result (λ store. AreBlocks store.blocks × (bytes ≡ store_bytes store.blocks)) }
     ensures counted { IfOk result (λ store. sum_by (λ (b : Block). b.count) store.blocks ≡ num_docs) }
     ensures err { IfErr result (λ fault. fault ≢ faults.OutOfMemory → (fault ≡ faults.Damaged None)

@@ -41,20 +41,21 @@ impl Segment {
         ensures err { IfErr result (λ fault. fault ≢ faults.OutOfMemory → (fault ≡ faults.Damaged None)
             × ((num_docs : ℕ) → ¬ IsSegment schema.now num_docs bytes)) }
     {
-        let Sections {
-            num_docs,
-            terms,
-            postings,
-            positions,
-            norms,
-            store,
-        } = Sections::of_bytes(bytes.clone()?)?;
+        let sections = Sections::of_bytes(bytes.clone()?)?;
+        let num_docs = sections.num_docs;
+        let norms = sections.norms;
         let length_fields = checked_norms(alloc, schema, norms.as_slice(), num_docs)?;
         let readers = FieldNormReaders::new(norms.as_slice(), num_docs, &length_fields);
         let inverted_index = InvertedIndexReader::open(
-            alloc, schema, &readers, num_docs, terms, postings, positions,
+            alloc,
+            schema,
+            &readers,
+            num_docs,
+            sections.terms,
+            sections.postings,
+            sections.positions,
         )?;
-        let store = open_store(alloc, store, num_docs, cache_num_blocks)?;
+        let store = open_store(alloc, sections.store, num_docs, cache_num_blocks)?;
         Ok(Segment {
             bytes,
             num_docs,
