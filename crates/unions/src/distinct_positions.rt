@@ -39,7 +39,8 @@ fn leave_out(numbers: &mut Vec<u32>, held: &[u32])
 fn make_room(output: &mut Vec<u32>, numbers: &mut Vec<u32>) -> Result<(), AllocError>
     requires { Ascends 0 numbers.old.items }
     ensures fits { OnOk result (length output.new.items + length numbers.new.items ≤ vec_capacity output.new) }
-    ensures same { OnOk result (distinct (output.new.items ++ numbers.new.items) ≡ distinct (output.old.items ++ numbers.old.items)) }
+    ensures same { OnOk result (distinct (output.new.items ++ numbers.new.items)
+        ≡ distinct (output.old.items ++ numbers.old.items)) }
     ensures err { OnErr result (output.new.items ≡ output.old.items) }
     ensures full { OnErr result (vec_capacity output.old < length (distinct (output.old.items ++ numbers.old.items))) }
     ensures room { vec_capacity output.old ≤ vec_capacity output.new }
@@ -58,7 +59,8 @@ fn make_room(output: &mut Vec<u32>, numbers: &mut Vec<u32>) -> Result<(), AllocE
     Ok(())
 }
 
-/// Puts numbers into an output, which is sorted, and has repeats dropped. Memory is wanted only where it hasn't the room.
+/// Puts numbers into an output, which is sorted, and has repeats dropped. Memory is wanted only where it hasn't the
+/// room.
 pub(crate) fn join(output: &mut Vec<u32>, numbers: &mut Vec<u32>) -> Result<(), AllocError>
     ensures ok { OnOk result (output.new.items ≡ distinct (output.old.items ++ numbers.old.items)) }
     ensures err { OnErr result (output.new.items ≡ output.old.items) }

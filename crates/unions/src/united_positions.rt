@@ -128,8 +128,8 @@ pub(crate) fn append_united<P: Postings>(
 ) -> Result<(), AllocError>
     requires leads { doc ≤ least (map P.entries docsets.old.items) }
     requires on { doc < terminated }
-    requires fits { highest (told_positions (is_some room.old) (entries_at doc (map P.entries docsets.old.items))) + offset
-        ≤ 4294967295 }
+    requires fits { highest (told_positions (is_some room.old) (entries_at doc (map P.entries docsets.old.items)))
+        + offset ≤ 4294967295 }
     requires room { HasRoom room.old (map P.entries docsets.old.items) }
     ensures same { map P.entries docsets.new.items ≡ map P.entries docsets.old.items }
     ensures told { is_some room.new ≡ is_some room.old }
