@@ -8,5 +8,6 @@ pub mod PhraseScores
 pub mod PhraseScoreLaws
 pub mod PrefixEntries
 pub mod PrefixEntryLaws
+pub mod Following
 pub mod Standings
 pub mod StandingLaws
