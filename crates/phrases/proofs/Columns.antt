@@ -8,7 +8,7 @@ use Rattle.phrases.specs.Finders.{HasRoom}
 use Rattle.phrases.specs.PhraseEntries.{AreColumns, longest}
 use Rattle.phrases.specs.Places.{AscendEach, Ascends, Rises, distinct, has, places_of, reached}
 use Rattle.phrases.proofs.PhrasePlaces.{earlier-next, places-reached}
-use Rattle.phrases.proofs.PlaceLaws.{IsTable-costs, cheap-led, reached-next, reached-one}
+use Rattle.phrases.specs.PlaceLaws.{IsTable-costs, cheap-led, reached-next, reached-one}
 use Rattle.phrases.proofs.SweepCosts.{nearest-small}
 use Rattle.phrases.specs.declared.place_finder.PlaceFinder.{PlaceFinder}
 

@@ -11,7 +11,7 @@ use Rattle.definitions.specs.Scoring.{greatest_of}
 use Rattle.definitions.specs.Walking.{is_led_to}
 use Rattle.definitions.proofs.Walks.{reached_is_led}
 use Rattle.phrases.specs.Places.{AscendEach, Ascends, distinct, places_of, reached}
-use Rattle.phrases.proofs.PlaceLaws.{distinct-once}
+use Rattle.phrases.specs.PlaceLaws.{distinct-once}
 
 -- of columns with a last one
 pub places-last : (slop : ℕ) (before : List (List ℕ)) (last : List ℕ) → places_of slop (before ++ last ∷ []) ≡ filter (is_reached before slop) (once ◌==◌ last)

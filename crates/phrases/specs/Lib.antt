@@ -1,11 +1,15 @@
 pub mod Places
 pub mod Costs
+pub mod MergeLaws
+pub mod PlaceLaws
 pub mod PhraseEntries
 pub mod PhraseEntryLaws
 pub mod Finders
 pub mod Settled
 pub mod PhraseScores
 pub mod PhraseScoreLaws
+pub mod PlaceCounts
+pub mod PlacesLaws
 pub mod PrefixEntries
 pub mod PrefixEntryLaws
 pub mod Following

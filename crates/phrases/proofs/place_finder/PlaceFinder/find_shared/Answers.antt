@@ -5,7 +5,7 @@ use Rattle.phrases.specs.Finders.{HasRoom}
 use Rattle.phrases.specs.PhraseEntries.{AreColumns, longest}
 use Rattle.phrases.specs.Places.{Ascends, Rises, distinct, has, reached}
 use Rattle.phrases.proofs.Columns.{column-ascends, column-length, shared-all, shared-first, shared-next}
-use Rattle.phrases.proofs.PlaceLaws.{Rises-reached}
+use Rattle.phrases.specs.PlaceLaws.{Rises-reached}
 use Rattle.phrases.proofs.place_finder.PlaceFinder.find_shared.Goals as goal
 
 pub loop-i-init : goal.loop-i-init
