@@ -10,7 +10,7 @@ use Rattle.intersections.specs.Columns.{HaveOneColumn}
 use Rattle.intersections.specs.Meetings.{meeting}
 use Rattle.members.specs.Members.{at_document, enough, entries_at, entries_of, joining, listed, walk}
 use Rattle.phrases.specs.PhraseEntries.{AreColumns, HaveColumns, longest, longest_column}
-use Rattle.phrases.specs.Places.{Ascends}
+use Rattle.phrases.specs.MergeLaws.{ascends-from}
 use Rattle.term_scorer.specs.TermScoreLaws.{bound-of}
 use Rattle.term_scorer.specs.TermScores.{documents_bound}
 
@@ -73,14 +73,6 @@ columns-joined (e ∷ es) h = columns-append e.positions (flat_map (λ e. e.posi
 columns-some : (es : List Entry) → 0 < length es → AllByRecursion HasColumn es → 0 < length (flat_map (λ e. e.positions) es)
 columns-some [] l h = absurd (omega (arith, l))
 columns-some (e ∷ es) l h = (let both = length-append e.positions (flat_map (λ e. e.positions) es) in let one = h.0.0 in omega (arith, both, one))
-
-ascends-here : (low p : ℕ) (ps : List ℕ) → low ≤ p → DontFall (p ∷ ps) → Ascends low (p ∷ ps)
-ascends-here low p [] l f = (l, tt)
-ascends-here low p (q ∷ qs) l f = (l, ascends-here p q qs f.0 f.1)
-
-pub ascends-from : (ps : List ℕ) → DontFall ps → Ascends 0 ps
-ascends-from [] f = tt
-ascends-from (p ∷ ps) f = ascends-here 0 p ps (omega arith) f
 
 columns-each : (es : List Entry) → HaveOneColumn es → AllByRecursion HasColumn es
 columns-each [] c = tt

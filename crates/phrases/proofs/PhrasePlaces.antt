@@ -3,6 +3,7 @@ use Rattle.std.proofs.Common.{[], Bool, List, None, Option, Some, add-one, ap, a
 use Rattle.std.proofs.lemmas.Bool.Decides.{nat_tests}
 use Rattle.std.proofs.lemmas.Grind.{reverse_onto}
 use Rattle.std.proofs.lemmas.List.{length-append, map-append, reverse-append, take_more}
+use Rattle.std.specs.Option.{option_map_or}
 use Rattle.std.proofs.Math.Seq.{get_or-append_seam, take-append_seam}
 use Rattle.definitions.specs.JsonLeaves.{once}
 use Rattle.definitions.specs.Phrases.{adjusted, by_offset, insert_by_offset, is_reached, last_and_rest, last_offset, ordered_places, phrase_places}
@@ -105,3 +106,16 @@ ordered-places positions slop (t ∷ ts) o =
 
 pub phrase-places : (positions : List ℕ → List ℕ) (terms : Terms) (slop : ℕ) → places_of slop (map (adjusted positions (greatest_of (map (λ t. t.0) terms))) (by_offset terms)) ≡ phrase_places positions terms slop
 phrase-places positions terms slop = ap (λ n. places_of slop (map (adjusted positions n) (by_offset terms))) (sym (greatest-sorted terms)) ∙ ordered-places positions slop (by_offset terms) (sorted-ordered terms)
+
+-- the last offset is the greatest
+ordered-last : (ts : Terms) → Ordered 0 ts → option_map_or (λ p. p.0.0) (last_and_rest ts) 0 ≡ greatest_of (map (λ t. t.0) ts)
+ordered-last [] o = refl
+ordered-last (t ∷ ts) o =
+    let e = ends t ts in
+    let g = (last-greatest 0 e.0 e.1 (subst (Ordered 0) e.2 o)).0 in
+    ap (λ us. option_map_or (λ p. p.0.0) (last_and_rest us) 0) e.2
+    ∙ (ap (λ o. option_map_or (λ p. p.0.0) o 0) (last-of e.0 e.1)
+    ∙ (sym g ∙ sym (ap (λ us. greatest_of (map (λ u. u.0) us)) e.2)))
+
+pub last-offset : (terms : Terms) → last_offset terms ≡ greatest_of (map (λ t. t.0) terms)
+last-offset terms = ordered-last (by_offset terms) (sorted-ordered terms) ∙ greatest-sorted terms

@@ -10,7 +10,7 @@ use Rattle.members.specs.Members.{entries_at, entries_of}
 use Rattle.phrases.specs.Places.{Ascends}
 use Rattle.phrases.specs.PrefixEntries.{continued, continued_by, prefixed}
 use Rattle.phrases.specs.PrefixEntryLaws.{Rising-first, first_follows, most_suffix_positions, prefixed-cut}
-use Rattle.phrases.proofs.MeetingEntries.{ascends-from}
+use Rattle.phrases.specs.MergeLaws.{ascends-from}
 
 -- the positions on which a cursor of one term stands ascend
 pub single-ascends : (es : List Entry) → AreSingle es → first es < terminated → Ascends 0 (single (first_positions es))

@@ -12,6 +12,7 @@ pub mod PlaceCounts
 pub mod PlacesLaws
 pub mod PrefixEntries
 pub mod PrefixEntryLaws
+pub mod OneTermLaws
 pub mod Following
 pub mod Standings
 pub mod StandingLaws

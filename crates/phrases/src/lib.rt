@@ -4,6 +4,7 @@
 mod adjusting;
 mod following;
 mod merging;
+mod one_term_phrase;
 pub mod phrase_laws;
 mod phrase_prefix_scorer;
 mod phrase_scorer;
@@ -14,6 +15,7 @@ mod sink;
 mod suffixes;
 mod sweeps;
 
+pub use one_term_phrase::OneTermPhrase;
 pub use phrase_prefix_scorer::PhrasePrefixScorer;
 pub use phrase_scorer::PhraseScorer;
 pub use postings_with_offset::PostingsWithOffset;
