@@ -1,11 +1,11 @@
 -- Laws of the documents that several cursors have, from laws of each of their entries.
-use Rattle.std.proofs.Common.{[], Bool, List, ap, arith, drop, false, flat_map, if◌then◌else◌, leb-true, length, map, max, nat_le, refl, subst, suc, sym, true, zero, ◌++◌, ◌+◌, ◌-◌, ◌<◌, ◌==◌, ◌∙◌, ◌∷◌, ◌≡◌, ◌≤◌, ℕ}
+use Rattle.std.proofs.Common.{[], Bool, List, ap, arith, false, flat_map, if◌then◌else◌, leb-true, length, map, max, refl, subst, suc, sym, true, zero, ◌++◌, ◌+◌, ◌-◌, ◌<◌, ◌==◌, ◌∷◌, ◌≡◌, ◌≤◌, ℕ}
 use Rattle.std.specs.List.{AllByRecursion}
 use Rattle.std.proofs.lemmas.Bool.Decides.{nat_tests}
 use Rattle.std.proofs.lemmas.List.{length-append, length-map}
-use Rattle.cursors.specs.Entries.{Entry, Rising, from, highest, most_positions, single}
+use Rattle.cursors.specs.Entries.{Entry, from, most_positions, single}
 use Rattle.definitions.specs.Postings.{terminated}
-use Rattle.definitions.specs.Scoring.{DontFall, greatest_of}
+use Rattle.definitions.specs.Scoring.{greatest_of}
 use Rattle.intersections.specs.Columns.{HaveOneColumn}
 use Rattle.intersections.specs.Meetings.{meeting}
 use Rattle.members.specs.Members.{at_document, enough, entries_at, entries_of, joining, listed, walk}

@@ -1,7 +1,6 @@
 -- Laws of the places of a phrase: those of columns in the order of offsets.
-use Rattle.std.proofs.Common.{[], Bool, List, None, Option, Some, add-one, ap, arith, drop, false, filter, get_or, if◌then◌else◌, length, map, max, nat_le, refl, reverse, subst, suc, sym, take, true, zero, ◌++◌, ◌+◌, ◌-◌, ◌<◌, ◌==◌, ◌∙◌, ◌∷◌, ◌≡◌, ◌≤◌, ℕ}
+use Rattle.std.proofs.Common.{[], Bool, List, None, Some, ap, arith, false, filter, get_or, if◌then◌else◌, length, map, max, nat_le, refl, reverse, subst, sym, take, true, ◌++◌, ◌+◌, ◌-◌, ◌<◌, ◌==◌, ◌∙◌, ◌∷◌, ◌≡◌, ◌≤◌, ℕ}
 use Rattle.std.proofs.lemmas.Bool.Decides.{nat_tests}
-use Rattle.std.proofs.lemmas.Grind.{reverse_onto}
 use Rattle.std.proofs.lemmas.List.{length-append, map-append, reverse-append, take_more}
 use Rattle.std.specs.Option.{option_map_or}
 use Rattle.std.proofs.Math.Seq.{get_or-append_seam, take-append_seam}
@@ -11,7 +10,7 @@ use Rattle.definitions.specs.Query.{Terms}
 use Rattle.definitions.specs.Scoring.{greatest_of}
 use Rattle.definitions.specs.Walking.{is_led_to}
 use Rattle.definitions.proofs.Walks.{reached_is_led}
-use Rattle.phrases.specs.Places.{AscendEach, Ascends, distinct, places_of, reached}
+use Rattle.phrases.specs.Places.{AscendEach, Ascends, places_of, reached}
 use Rattle.phrases.specs.PlaceLaws.{distinct-once}
 
 -- of columns with a last one

@@ -1,5 +1,5 @@
 -- Laws of how often suffixes follow a phrase.
-use Rattle.std.proofs.Common.{[], List, ap, arith, get_or, length, map, max, subst, suc, sum_by, sym, take, zero, ◌++◌, ◌+◌, ◌<◌, ◌∙◌, ◌∷◌, ◌≡◌, ◌≤◌, ℕ}
+use Rattle.std.proofs.Common.{[], List, ap, arith, get_or, length, map, max, subst, suc, sym, take, zero, ◌++◌, ◌+◌, ◌<◌, ◌∙◌, ◌∷◌, ◌≡◌, ◌≤◌, ℕ}
 use Rattle.std.proofs.lemmas.List.{take_more}
 use Rattle.std.proofs.lemmas.List.Sums.{sum_by-append, sum_by-cons}
 use Rattle.cursors.specs.Entries.{AreSingle, Entry, Rising, first, first_positions, from, most_positions, single}

@@ -1,9 +1,8 @@
 -- Laws of positions that two terms share.
-use Rattle.std.proofs.Common.{[], Bool, List, ap, arith, drop, false, filter, get_or, if◌then◌else◌, le-leb, length, map, nat_le, refl, set, subst, suc, sym, take, true, zero, ◌&&◌, ◌++◌, ◌+◌, ◌<◌, ◌==◌, ◌∙◌, ◌∷◌, ◌||◌, ◌≡◌, ◌≤◌, ℕ}
-use Rattle.std.specs.List.{list_any}
+use Rattle.std.proofs.Common.{[], Bool, List, ap, arith, drop, false, filter, get_or, if◌then◌else◌, le-leb, length, nat_le, refl, subst, sym, true, ◌+◌, ◌<◌, ◌==◌, ◌∙◌, ◌∷◌, ◌||◌, ◌≡◌, ◌≤◌, ℕ}
 use Rattle.std.proofs.lemmas.Bool.{lt-leb}
 use Rattle.std.proofs.lemmas.Bool.Decides.{nat_tests}
-use Rattle.std.proofs.lemmas.List.{append_assoc, drop-set-lt, drop_more, drop_all, take_more_set}
+use Rattle.std.proofs.lemmas.List.{drop_more, drop_all}
 use Rattle.definitions.specs.Scoring.{DontFall}
 use Rattle.phrases.specs.Places.{Ascends, Rises, distinct, has}
 

@@ -1,16 +1,14 @@
 -- Laws of places: what the sweeps and the merge find are those of the definitions.
-use Rattle.std.proofs.Common.{[], Bool, List, ap, arith, drop, false, filter, get_or, if◌then◌else◌, le-leb, length, map, min, nat_le, not, refl, reverse, set, subst, suc, sym, take, true, zero, ◌&&◌, ◌++◌, ◌+◌, ◌-◌, ◌<◌, ◌==◌, ◌∙◌, ◌∷◌, ◌||◌, ◌≡◌, ◌≤◌, ℕ}
-use Rattle.std.specs.List.{list_any}
+use Rattle.std.proofs.Common.{[], Bool, List, ap, arith, false, filter, if◌then◌else◌, le-leb, min, nat_le, not, refl, subst, sym, true, ◌&&◌, ◌+◌, ◌-◌, ◌<◌, ◌==◌, ◌∙◌, ◌∷◌, ◌||◌, ◌≡◌, ◌≤◌, ℕ}
 use Rattle.std.proofs.lemmas.Bool.{lt-leb, true≢false}
 use Rattle.std.proofs.lemmas.Map.Views.{any-filter_same}
 use Rattle.std.proofs.lemmas.Bool.Decides.{nat_tests}
 use Rattle.definitions.specs.JsonLeaves.{once}
-use Rattle.definitions.specs.Phrases.{distance, is_reached}
+use Rattle.definitions.specs.Phrases.{distance}
 use Rattle.definitions.specs.Walking.{is_led_to}
-use Rattle.definitions.proofs.Walks.{reached_is_led}
 use Rattle.phrases.specs.MergeLaws.{Rises-distinct, Rises-lower, has-low}
-use Rattle.phrases.specs.Costs.{IsTable, cheap, costs, least_cost, nearest}
-use Rattle.phrases.specs.Places.{Ascends, Rises, distinct, has, places_of, reached}
+use Rattle.phrases.specs.Costs.{IsTable, cheap, costs, least_cost}
+use Rattle.phrases.specs.Places.{Ascends, Rises, distinct, has, reached}
 
 -- ---- costs
 

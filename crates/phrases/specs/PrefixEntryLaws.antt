@@ -1,10 +1,9 @@
 -- Laws of the entries of phrase prefixes.
-use Rattle.std.proofs.Common.{[], Bool, List, ap, arith, drop, false, if◌then◌else◌, length, map, max, nat_le, nat_lt, refl, subst, suc, sym, true, zero, ◌+◌, ◌<◌, ◌∙◌, ◌∷◌, ◌≡◌, ◌≤◌, ℕ}
+use Rattle.std.proofs.Common.{[], List, ap, arith, drop, false, if◌then◌else◌, map, max, nat_lt, refl, sym, true, ◌+◌, ◌<◌, ◌∙◌, ◌∷◌, ◌≡◌, ◌≤◌, ℕ}
 use Rattle.std.proofs.lemmas.Bool.Decides.{nat_tests}
 use Rattle.cursors.specs.Entries.{Entry, IsRest, Rising, first, first_count, first_positions, first_score, from, most_positions, single}
 use Rattle.cursors.specs.EntryLaws.{Rising-lower, from-in, from-out, most-drop, most-from}
 use Rattle.definitions.specs.Postings.{terminated}
-use Rattle.definitions.specs.Scoring.{max_score}
 use Rattle.leaf_scorers.specs.ScoredEntryLaws.{by_place}
 use Rattle.members.specs.MemberLaws.{entries_at-kept}
 use Rattle.members.specs.Members.{entries_at}

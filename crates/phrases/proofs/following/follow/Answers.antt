@@ -1,7 +1,6 @@
-use Rattle.std.proofs.Common.{List, ap, arith, drop, length, map, subst, sym, ◌+◌, ◌<◌, ◌∙◌, ◌≡◌, ◌≤◌, ℕ}
+use Rattle.std.proofs.Common.{List, ap, arith, drop, length, map, subst, sym, ◌∙◌}
 use Rattle.std.proofs.lemmas.List.{length-map}
-use Rattle.cursors.specs.Entries.{Entry, IsRest, first, first_positions, from, most_positions, single}
-use Rattle.definitions.specs.Postings.{terminated}
+use Rattle.cursors.specs.Entries.{Entry, from}
 use Rattle.members.specs.MemberLaws.{least-cut}
 use Rattle.members.specs.Members.{least}
 use Rattle.phrases.specs.PhraseEntryLaws.{IsRest-on}

@@ -1,4 +1,4 @@
-use Rattle.std.proofs.Common.{List, arith, drop, get_or, length, suc, ◌+◌, ◌<◌, ◌≡◌, ◌≤◌, ℕ}
+use Rattle.std.proofs.Common.{arith, drop, get_or, length, ◌+◌, ◌<◌}
 use Rattle.phrases.proofs.Counts.{count-both, count-left, count-over, count-right}
 use Rattle.phrases.specs.MergeLaws.{Ascends-lower, Ascends-step}
 use Rattle.phrases.proofs.merging.count_continued.Goals as goal

@@ -1,6 +1,5 @@
-use Rattle.std.proofs.Common.{List, ap, map, sum_by, sym, ◌-◌, ◌≡◌, ℕ}
+use Rattle.std.proofs.Common.{ap, sum_by, sym, ◌-◌}
 use Rattle.definitions.specs.Phrases.{phrase_places}
-use Rattle.definitions.specs.Prefixes.{suffixes_count}
 use Rattle.phrases.specs.PrefixEntries.{continued}
 use Rattle.phrases.proofs.PhrasePlaces.{last-offset}
 use Rattle.phrases.proofs.phrase_laws.suffixes_are_those_of_definitions.Goals as goal

@@ -1,4 +1,4 @@
-use Rattle.std.proofs.Common.{ap, arith, sym, ◌∙◌, ◌≤◌}
+use Rattle.std.proofs.Common.{ap, arith, sym, ◌∙◌}
 use Rattle.cursors.specs.EntryLaws.{most-from}
 use Rattle.cursors.specs.Entries.{most_positions}
 use Rattle.phrases.specs.OneTermLaws.{from-one_term}

@@ -1,9 +1,9 @@
-use Rattle.std.proofs.Common.{[], List, ap, arith, length, subst, sym, ◌<◌, ◌∙◌, ◌∷◌, ◌≡◌, ◌≤◌, ℕ}
+use Rattle.std.proofs.Common.{[], List, ap, arith, length, subst, sym, ◌<◌, ◌∙◌, ◌∷◌, ◌≡◌, ℕ}
 use Rattle.cursors.specs.Entries.{AreSingle, Entry, first, first_positions, single}
 use Rattle.definitions.specs.Postings.{terminated}
 use Rattle.phrases.specs.OneTermLaws.{first-one_term, positions-one_term}
 use Rattle.phrases.specs.PlaceLaws.{reached-one}
-use Rattle.phrases.specs.Places.{Ascends, distinct, places_of}
+use Rattle.phrases.specs.Places.{Ascends, distinct}
 use Rattle.phrases.specs.PrefixEntries.{one_term}
 use Rattle.phrases.proofs.PhrasePlaces.{places-reached}
 use Rattle.phrases.proofs.SuffixCounts.{single-ascends}

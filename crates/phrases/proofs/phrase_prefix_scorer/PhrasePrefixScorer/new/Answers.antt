@@ -1,7 +1,5 @@
-use Rattle.std.proofs.Common.{arith, length, map, vec_capacity, ◌≡◌, ◌≤◌}
-use Rattle.cursors.specs.Entries.{most_positions}
+use Rattle.std.proofs.Common.{arith, length, map, vec_capacity}
 use Rattle.phrases.specs.Following.{follows-on}
-use Rattle.phrases.specs.PrefixEntryLaws.{most_suffix_positions}
 use Rattle.phrases.proofs.phrase_prefix_scorer.PhrasePrefixScorer.new.Goals as goal
 
 pub invariant_of-result : goal.invariant_of-result

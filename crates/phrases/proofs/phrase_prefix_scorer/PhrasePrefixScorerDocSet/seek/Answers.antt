@@ -1,6 +1,6 @@
-use Rattle.std.proofs.Common.{ap, arith, length, map, sym, vec_capacity, ◌∙◌, ◌≡◌, ◌≤◌}
+use Rattle.std.proofs.Common.{ap, arith, length, map, sym, vec_capacity, ◌∙◌}
 use Rattle.cursors.specs.EntryLaws.{IsRest-from}
-use Rattle.cursors.specs.Entries.{from, most_positions}
+use Rattle.cursors.specs.Entries.{from}
 use Rattle.leaf_scorers.specs.ScoredEntryLaws.{IsRest-along}
 use Rattle.phrases.specs.Following.{follows-on}
 use Rattle.phrases.specs.PhraseEntryLaws.{IsRest-on}

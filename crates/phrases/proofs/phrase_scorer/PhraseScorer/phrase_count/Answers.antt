@@ -1,4 +1,4 @@
-use Rattle.std.proofs.Common.{List, ap, arith, length, map, ◌<◌, ◌∙◌, ◌≡◌, ◌≤◌, ℕ}
+use Rattle.std.proofs.Common.{List, ap, arith, length, map, ◌<◌}
 use Rattle.cursors.specs.Entries.{Entry, first, first_positions}
 use Rattle.definitions.specs.Postings.{terminated}
 use Rattle.intersections.specs.Meetings.{meeting}

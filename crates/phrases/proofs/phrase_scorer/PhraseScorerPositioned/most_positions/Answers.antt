@@ -1,5 +1,4 @@
-use Rattle.std.proofs.Common.{List, arith, map, vec_capacity, ◌≤◌, ℕ}
-use Rattle.cursors.specs.Entries.{Entry, most_positions}
+use Rattle.std.proofs.Common.{arith, map}
 use Rattle.intersections.specs.Meetings.{meeting}
 use Rattle.phrases.specs.PhraseScores.{phrase_score_by}
 use Rattle.phrases.specs.PlacesLaws.{most-phrased}
