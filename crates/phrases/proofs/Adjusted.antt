@@ -1,5 +1,5 @@
 -- Laws of the terms of a phrase, moved by their places in the phrase.
-use Rattle.std.proofs.Common.{[], List, ap, arith, map, max, refl, subst, sum, sym, ◌+◌, ◌-◌, ◌∙◌, ◌∷◌, ◌≡◌, ℕ}
+use Rattle.std.proofs.Common.{[], List, ap, arith, map, max, refl, subst, sym, ◌-◌, ◌∙◌, ◌∷◌, ◌≡◌, ℕ}
 use Rattle.std.specs.List.{AllByRecursion}
 use Rattle.cursors.specs.Entries.{Entry, from}
 use Rattle.definitions.specs.Scoring.{greatest_of}

@@ -1,16 +1,13 @@
 -- Laws of columns, one after another.
-use Rattle.std.proofs.Common.{[], List, ap, arith, filter, get_or, length, map, max, refl, reverse, subst, suc, sym, take, zero, ◌+◌, ◌-◌, ◌<◌, ◌∙◌, ◌∷◌, ◌≡◌, ◌≤◌, ℕ}
+use Rattle.std.proofs.Common.{[], List, ap, arith, filter, get_or, length, map, refl, reverse, subst, suc, sym, take, zero, ◌+◌, ◌-◌, ◌<◌, ◌∙◌, ◌∷◌, ◌≡◌, ◌≤◌, ℕ}
 use Rattle.std.proofs.lemmas.List.{length-map}
 use Rattle.std.proofs.Math.Seq.{take-length}
-use Rattle.cursors.specs.Entries.{highest}
 use Rattle.phrases.specs.Costs.{IsTable, cheap, column_costs, costs, least_cost, nearest_costs}
-use Rattle.phrases.specs.Finders.{HasRoom}
 use Rattle.phrases.specs.PhraseEntries.{AreColumns, longest}
-use Rattle.phrases.specs.Places.{AscendEach, Ascends, Rises, distinct, has, places_of, reached}
+use Rattle.phrases.specs.Places.{AscendEach, Ascends, distinct, has, places_of, reached}
 use Rattle.phrases.proofs.PhrasePlaces.{earlier-next, places-reached}
-use Rattle.phrases.proofs.PlaceLaws.{IsTable-costs, cheap-led, reached-next, reached-one}
+use Rattle.phrases.specs.PlaceLaws.{IsTable-costs, cheap-led, reached-next, reached-one}
 use Rattle.phrases.proofs.SweepCosts.{nearest-small}
-use Rattle.phrases.specs.declared.place_finder.PlaceFinder.{PlaceFinder}
 
 pub columns-ascend : (columns : List (List ℕ)) → AreColumns columns → AscendEach columns
 columns-ascend [] c = tt

@@ -1,10 +1,10 @@
 -- Laws of how often positions stand at places that are moved on.
-use Rattle.std.proofs.Common.{[], Bool, List, ap, arith, drop, false, filter, get_or, if◌then◌else◌, length, map, refl, subst, suc, sum_by, sym, true, zero, ◌+◌, ◌<◌, ◌==◌, ◌∙◌, ◌∷◌, ◌||◌, ◌≡◌, ◌≤◌, ℕ}
+use Rattle.std.proofs.Common.{[], Bool, List, ap, arith, drop, false, filter, get_or, if◌then◌else◌, length, refl, subst, suc, sym, true, ◌+◌, ◌<◌, ◌==◌, ◌∙◌, ◌∷◌, ◌||◌, ◌≡◌, ◌≤◌, ℕ}
 use Rattle.std.proofs.lemmas.Bool.Decides.{nat_tests}
 use Rattle.std.proofs.lemmas.List.{drop_all, drop_more}
 use Rattle.phrases.specs.Places.{Ascends, has}
 use Rattle.phrases.specs.PrefixEntries.{continued}
-use Rattle.phrases.proofs.Merges.{Ascends-step, has-low}
+use Rattle.phrases.specs.MergeLaws.{Ascends-step, has-low}
 
 -- tests that agree on what ascends keep alike
 filter-ascending : (f g : ℕ → Bool) (low : ℕ) (xs : List ℕ) → Ascends low xs → ((x : ℕ) → low ≤ x → f x ≡ g x) → filter f xs ≡ filter g xs

@@ -1,6 +1,4 @@
-pub mod Merges
 pub mod SweepCosts
-pub mod PlaceLaws
 pub mod PhrasePlaces
 pub mod Columns
 pub mod Greatest
@@ -8,4 +6,3 @@ pub mod Counts
 pub mod Adjusted
 pub mod MeetingEntries
 pub mod SuffixCounts
-pub mod PlaceCounts

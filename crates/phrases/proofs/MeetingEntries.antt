@@ -1,16 +1,16 @@
 -- Laws of the documents that several cursors have, from laws of each of their entries.
-use Rattle.std.proofs.Common.{[], Bool, List, ap, arith, drop, false, flat_map, if◌then◌else◌, leb-true, length, map, max, nat_le, refl, subst, suc, sym, true, zero, ◌++◌, ◌+◌, ◌-◌, ◌<◌, ◌==◌, ◌∙◌, ◌∷◌, ◌≡◌, ◌≤◌, ℕ}
+use Rattle.std.proofs.Common.{[], Bool, List, ap, arith, false, flat_map, if◌then◌else◌, leb-true, length, map, max, refl, subst, suc, sym, true, zero, ◌++◌, ◌+◌, ◌-◌, ◌<◌, ◌==◌, ◌∷◌, ◌≡◌, ◌≤◌, ℕ}
 use Rattle.std.specs.List.{AllByRecursion}
 use Rattle.std.proofs.lemmas.Bool.Decides.{nat_tests}
 use Rattle.std.proofs.lemmas.List.{length-append, length-map}
-use Rattle.cursors.specs.Entries.{Entry, Rising, from, highest, most_positions, single}
+use Rattle.cursors.specs.Entries.{Entry, from, most_positions, single}
 use Rattle.definitions.specs.Postings.{terminated}
-use Rattle.definitions.specs.Scoring.{DontFall, greatest_of}
+use Rattle.definitions.specs.Scoring.{greatest_of}
 use Rattle.intersections.specs.Columns.{HaveOneColumn}
 use Rattle.intersections.specs.Meetings.{meeting}
 use Rattle.members.specs.Members.{at_document, enough, entries_at, entries_of, joining, listed, walk}
 use Rattle.phrases.specs.PhraseEntries.{AreColumns, HaveColumns, longest, longest_column}
-use Rattle.phrases.specs.Places.{Ascends}
+use Rattle.phrases.specs.MergeLaws.{ascends-from}
 use Rattle.term_scorer.specs.TermScoreLaws.{bound-of}
 use Rattle.term_scorer.specs.TermScores.{documents_bound}
 
@@ -73,14 +73,6 @@ columns-joined (e ∷ es) h = columns-append e.positions (flat_map (λ e. e.posi
 columns-some : (es : List Entry) → 0 < length es → AllByRecursion HasColumn es → 0 < length (flat_map (λ e. e.positions) es)
 columns-some [] l h = absurd (omega (arith, l))
 columns-some (e ∷ es) l h = (let both = length-append e.positions (flat_map (λ e. e.positions) es) in let one = h.0.0 in omega (arith, both, one))
-
-ascends-here : (low p : ℕ) (ps : List ℕ) → low ≤ p → DontFall (p ∷ ps) → Ascends low (p ∷ ps)
-ascends-here low p [] l f = (l, tt)
-ascends-here low p (q ∷ qs) l f = (l, ascends-here p q qs f.0 f.1)
-
-pub ascends-from : (ps : List ℕ) → DontFall ps → Ascends 0 ps
-ascends-from [] f = tt
-ascends-from (p ∷ ps) f = ascends-here 0 p ps (omega arith) f
 
 columns-each : (es : List Entry) → HaveOneColumn es → AllByRecursion HasColumn es
 columns-each [] c = tt

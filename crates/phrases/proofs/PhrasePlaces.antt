@@ -1,8 +1,8 @@
 -- Laws of the places of a phrase: those of columns in the order of offsets.
-use Rattle.std.proofs.Common.{[], Bool, List, None, Option, Some, add-one, ap, arith, drop, false, filter, get_or, if◌then◌else◌, length, map, max, nat_le, refl, reverse, subst, suc, sym, take, true, zero, ◌++◌, ◌+◌, ◌-◌, ◌<◌, ◌==◌, ◌∙◌, ◌∷◌, ◌≡◌, ◌≤◌, ℕ}
+use Rattle.std.proofs.Common.{[], Bool, List, None, Some, ap, arith, false, filter, get_or, if◌then◌else◌, length, map, max, nat_le, refl, reverse, subst, sym, take, true, ◌++◌, ◌+◌, ◌-◌, ◌<◌, ◌==◌, ◌∙◌, ◌∷◌, ◌≡◌, ◌≤◌, ℕ}
 use Rattle.std.proofs.lemmas.Bool.Decides.{nat_tests}
-use Rattle.std.proofs.lemmas.Grind.{reverse_onto}
 use Rattle.std.proofs.lemmas.List.{length-append, map-append, reverse-append, take_more}
+use Rattle.std.specs.Option.{option_map_or}
 use Rattle.std.proofs.Math.Seq.{get_or-append_seam, take-append_seam}
 use Rattle.definitions.specs.JsonLeaves.{once}
 use Rattle.definitions.specs.Phrases.{adjusted, by_offset, insert_by_offset, is_reached, last_and_rest, last_offset, ordered_places, phrase_places}
@@ -10,8 +10,8 @@ use Rattle.definitions.specs.Query.{Terms}
 use Rattle.definitions.specs.Scoring.{greatest_of}
 use Rattle.definitions.specs.Walking.{is_led_to}
 use Rattle.definitions.proofs.Walks.{reached_is_led}
-use Rattle.phrases.specs.Places.{AscendEach, Ascends, distinct, places_of, reached}
-use Rattle.phrases.proofs.PlaceLaws.{distinct-once}
+use Rattle.phrases.specs.Places.{AscendEach, Ascends, places_of, reached}
+use Rattle.phrases.specs.PlaceLaws.{distinct-once}
 
 -- of columns with a last one
 pub places-last : (slop : ℕ) (before : List (List ℕ)) (last : List ℕ) → places_of slop (before ++ last ∷ []) ≡ filter (is_reached before slop) (once ◌==◌ last)
@@ -105,3 +105,16 @@ ordered-places positions slop (t ∷ ts) o =
 
 pub phrase-places : (positions : List ℕ → List ℕ) (terms : Terms) (slop : ℕ) → places_of slop (map (adjusted positions (greatest_of (map (λ t. t.0) terms))) (by_offset terms)) ≡ phrase_places positions terms slop
 phrase-places positions terms slop = ap (λ n. places_of slop (map (adjusted positions n) (by_offset terms))) (sym (greatest-sorted terms)) ∙ ordered-places positions slop (by_offset terms) (sorted-ordered terms)
+
+-- the last offset is the greatest
+ordered-last : (ts : Terms) → Ordered 0 ts → option_map_or (λ p. p.0.0) (last_and_rest ts) 0 ≡ greatest_of (map (λ t. t.0) ts)
+ordered-last [] o = refl
+ordered-last (t ∷ ts) o =
+    let e = ends t ts in
+    let g = (last-greatest 0 e.0 e.1 (subst (Ordered 0) e.2 o)).0 in
+    ap (λ us. option_map_or (λ p. p.0.0) (last_and_rest us) 0) e.2
+    ∙ (ap (λ o. option_map_or (λ p. p.0.0) o 0) (last-of e.0 e.1)
+    ∙ (sym g ∙ sym (ap (λ us. greatest_of (map (λ u. u.0) us)) e.2)))
+
+pub last-offset : (terms : Terms) → last_offset terms ≡ greatest_of (map (λ t. t.0) terms)
+last-offset terms = ordered-last (by_offset terms) (sorted-ordered terms) ∙ greatest-sorted terms

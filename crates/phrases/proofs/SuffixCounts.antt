@@ -1,15 +1,16 @@
 -- Laws of how often suffixes follow a phrase.
-use Rattle.std.proofs.Common.{[], List, ap, arith, get_or, length, map, max, suc, sum_by, take, zero, ◌++◌, ◌+◌, ◌<◌, ◌∙◌, ◌∷◌, ◌≡◌, ◌≤◌, ℕ}
+use Rattle.std.proofs.Common.{[], List, ap, arith, get_or, length, map, max, subst, suc, sym, take, zero, ◌++◌, ◌+◌, ◌<◌, ◌∙◌, ◌∷◌, ◌≡◌, ◌≤◌, ℕ}
 use Rattle.std.proofs.lemmas.List.{take_more}
 use Rattle.std.proofs.lemmas.List.Sums.{sum_by-append, sum_by-cons}
-use Rattle.cursors.specs.Entries.{AreSingle, Entry, first, first_positions, most_positions, single}
+use Rattle.cursors.specs.Entries.{AreSingle, Entry, Rising, first, first_positions, from, most_positions, single}
 use Rattle.definitions.specs.Postings.{terminated}
+use Rattle.intersections.specs.Columns.{HaveOneColumn}
 use Rattle.members.specs.LeaderLaws.{entries-last}
 use Rattle.members.specs.Members.{entries_at, entries_of}
 use Rattle.phrases.specs.Places.{Ascends}
-use Rattle.phrases.specs.PrefixEntries.{continued, continued_by}
-use Rattle.phrases.specs.PrefixEntryLaws.{most_suffix_positions}
-use Rattle.phrases.proofs.MeetingEntries.{ascends-from}
+use Rattle.phrases.specs.PrefixEntries.{continued, continued_by, prefixed}
+use Rattle.phrases.specs.PrefixEntryLaws.{Rising-first, first_follows, most_suffix_positions, prefixed-cut}
+use Rattle.phrases.specs.MergeLaws.{ascends-from}
 
 -- the positions on which a cursor of one term stands ascend
 pub single-ascends : (es : List Entry) → AreSingle es → first es < terminated → Ascends 0 (single (first_positions es))
@@ -36,3 +37,28 @@ pub most-get : (ess : List (List Entry)) (i : ℕ) → i < length ess → most_p
 most-get [] i l = absurd (omega (arith, l))
 most-get (es ∷ ess) zero l = omega arith
 most-get (es ∷ ess) (suc i) l = (let ih = most-get ess i (omega (arith, l)) in omega (arith, ih))
+
+-- one list more
+most-last : (ess : List (List Entry)) (es : List Entry) → most_suffix_positions (ess ++ es ∷ []) ≡ max (most_suffix_positions ess) (most_positions es)
+most-last [] es = omega arith
+most-last (xs ∷ ess) es = (let ih = most-last ess es in omega (arith, ih))
+
+pub most-take : (ess : List (List Entry)) (i : ℕ) → i < length ess → most_suffix_positions (take (i + 1) ess) ≡ max (most_suffix_positions (take i ess)) (most_positions (get_or ess i []))
+most-take ess i l = ap most_suffix_positions (take_more ess i [] l) ∙ most-last (take i ess) (get_or ess i [])
+
+-- the positions on which a cursor with one column stands ascend
+pub column-rises : (es : List Entry) → HaveOneColumn es → first es < terminated → Ascends 0 (single (first_positions es))
+column-rises [] c l = absurd (omega (arith, l))
+column-rises (e ∷ es) c l = ascends-from (single e.positions) c.1
+
+-- suffixes that went on to the first document follow as before
+pub follow-same : (moved doc : ℕ) (ess fss gss : List (List Entry)) (es fs : List Entry) → gss ≡ fss → fss ≡ map (from doc) ess → fs ≡ es → doc ≡ first es → Rising 0 es → prefixed moved gss fs ≡ prefixed moved ess es
+follow-same moved doc ess fss gss es fs same cut kept at r =
+    ap (λ xss. prefixed moved xss fs) (same ∙ cut)
+    ∙ (ap (prefixed moved (map (from doc) ess)) kept
+    ∙ prefixed-cut moved ess doc es (subst (λ d. Rising d es) (sym at) (Rising-first 0 es r)))
+
+pub follow-none : (moved doc count : ℕ) (places : List ℕ) (fss gss : List (List Entry)) (es fs : List Entry) → gss ≡ fss → fs ≡ es → doc ≡ first es → places ≡ single (first_positions es) → count ≡ continued_by moved places (entries_at doc fss) → count ≤ 0 → first_follows moved gss fs ≡ 0
+follow-none moved doc count places fss gss es fs same kept at is counted none =
+    let all : first_follows moved gss fs ≡ count = ap (λ xss. first_follows moved xss fs) same ∙ (ap (first_follows moved fss) kept ∙ (ap (λ d. continued_by moved (single (first_positions es)) (entries_at d fss)) (sym at) ∙ (ap (λ ps. continued_by moved ps (entries_at doc fss)) (sym is) ∙ sym counted))) in
+    omega (arith, all, none)

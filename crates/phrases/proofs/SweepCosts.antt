@@ -1,11 +1,10 @@
 -- Laws of costs that two sweeps find.
-use Rattle.std.proofs.Common.{[], Bool, List, add-one, ap, arith, drop, false, filter, get_or, if◌then◌else◌, le-leb, length, map, min, nat_le, refl, set, subst, suc, sym, take, true, zero, ◌++◌, ◌+◌, ◌-◌, ◌<◌, ◌==◌, ◌∙◌, ◌∷◌, ◌≡◌, ◌≤◌, ℕ}
+use Rattle.std.proofs.Common.{[], List, add-one, ap, arith, drop, false, get_or, if◌then◌else◌, le-leb, length, min, nat_le, refl, set, subst, suc, take, true, zero, ◌++◌, ◌+◌, ◌-◌, ◌<◌, ◌∙◌, ◌∷◌, ◌≡◌, ◌≤◌, ℕ}
 use Rattle.std.proofs.lemmas.Bool.{lt-leb}
 use Rattle.std.proofs.lemmas.Bool.Decides.{nat_tests}
 use Rattle.std.proofs.lemmas.List.{drop_all, drop_more, get_or-take, length-take-le, take_more}
 use Rattle.std.proofs.Math.Seq.{take-length}
-use Rattle.definitions.specs.Phrases.{distance}
-use Rattle.phrases.specs.Costs.{IsTable, Passed, PassedDown, below_costs, costs, nearest, nearest_above, nearest_below}
+use Rattle.phrases.specs.Costs.{IsTable, Passed, PassedDown, below_costs, nearest, nearest_above, nearest_below}
 use Rattle.phrases.specs.Places.{Ascends}
 
 -- a position is below a target or it isn't

@@ -1,5 +1,5 @@
 -- Laws of the entries of phrases.
-use Rattle.std.proofs.Common.{[], Bool, List, ap, arith, cond, drop, false, if◌then◌else◌, length, map, max, nat_le, nat_lt, refl, slice_index, subst, suc, sym, true, zero, ◌*◌, ◌+◌, ◌-◌, ◌<◌, ◌∙◌, ◌∷◌, ◌≡◌, ◌≤◌, ℕ}
+use Rattle.std.proofs.Common.{[], List, ap, arith, drop, false, if◌then◌else◌, length, map, nat_le, nat_lt, refl, subst, suc, sym, true, zero, ◌+◌, ◌<◌, ◌∙◌, ◌∷◌, ◌≡◌, ◌≤◌, ℕ}
 use Rattle.std.proofs.lemmas.Bool.Decides.{nat_tests}
 use Rattle.std.proofs.lemmas.List.{drop-drop, length-map}
 use Rattle.cursors.specs.Danger.{IsDangerAnswer, Missed}

@@ -1,10 +1,9 @@
 -- Laws of the entries of phrase prefixes.
-use Rattle.std.proofs.Common.{[], Bool, List, ap, arith, drop, false, if◌then◌else◌, length, map, max, nat_le, nat_lt, refl, subst, suc, sym, true, zero, ◌+◌, ◌<◌, ◌∙◌, ◌∷◌, ◌≡◌, ◌≤◌, ℕ}
+use Rattle.std.proofs.Common.{[], List, ap, arith, drop, false, if◌then◌else◌, map, max, nat_lt, refl, sym, true, ◌+◌, ◌<◌, ◌∙◌, ◌∷◌, ◌≡◌, ◌≤◌, ℕ}
 use Rattle.std.proofs.lemmas.Bool.Decides.{nat_tests}
 use Rattle.cursors.specs.Entries.{Entry, IsRest, Rising, first, first_count, first_positions, first_score, from, most_positions, single}
-use Rattle.cursors.specs.EntryLaws.{Rising-lower, from-in, from-out}
+use Rattle.cursors.specs.EntryLaws.{Rising-lower, from-in, from-out, most-drop, most-from}
 use Rattle.definitions.specs.Postings.{terminated}
-use Rattle.definitions.specs.Scoring.{max_score}
 use Rattle.leaf_scorers.specs.ScoredEntryLaws.{by_place}
 use Rattle.members.specs.MemberLaws.{entries_at-kept}
 use Rattle.members.specs.Members.{entries_at}
@@ -75,3 +74,16 @@ prefixed-cut moved ess t (e ∷ es) r =
 abbrev pub most_suffix_positions : List (List Entry) → ℕ
 most_suffix_positions [] = 0
 most_suffix_positions (es ∷ ess) = max (most_positions es) (most_suffix_positions ess)
+
+-- a cut leaves no more
+pub most_suffix-cut : (t : ℕ) (ess : List (List Entry)) → most_suffix_positions (map (from t) ess) ≤ most_suffix_positions ess
+most_suffix-cut t [] = omega arith
+most_suffix-cut t (es ∷ ess) = (let ih = most_suffix-cut t ess in let here = most-from t es in omega (arith, ih, here))
+
+pub most-rest : (rest es : List Entry) → IsRest rest es → most_positions rest ≤ most_positions es
+most-rest rest es is = (let le = most-drop is.0 es in let same = ap most_positions is.1 in omega (arith, le, same))
+
+-- what rises rises from its first
+pub Rising-first : (low : ℕ) (es : List Entry) → Rising low es → Rising (first es) es
+Rising-first low [] r = tt
+Rising-first low (e ∷ es) r = (omega arith, r.1, r.2, r.3)

@@ -1,8 +1,8 @@
 -- Laws of finders over the documents that all terms of a phrase have.
-use Rattle.std.proofs.Common.{[], List, arith, length, ◌<◌, ◌∷◌, ◌≡◌, ◌≤◌, ℕ}
+use Rattle.std.proofs.Common.{[], List, arith, ◌∷◌, ◌≤◌, ℕ}
 use Rattle.std.specs.Coded.{Unit-prop}
 use Rattle.std.proofs.Props.{props}
-use Rattle.cursors.specs.Entries.{Entry, IsRest, highest}
+use Rattle.cursors.specs.Entries.{Entry, IsRest}
 use Rattle.phrases.specs.Finders.{HasRoom}
 use Rattle.phrases.specs.PhraseEntries.{AreColumns, HaveColumns, longest_column}
 use Rattle.phrases.specs.PhraseEntryLaws.{HaveColumns-rest, longest-rest}

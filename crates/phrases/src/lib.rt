@@ -2,8 +2,11 @@
 #![tactic(auto)]
 
 mod adjusting;
+mod following;
 mod merging;
+mod one_term_phrase;
 pub mod phrase_laws;
+mod phrase_prefix_scorer;
 mod phrase_scorer;
 mod place_finder;
 mod postings_with_offset;
@@ -12,6 +15,8 @@ mod sink;
 mod suffixes;
 mod sweeps;
 
+pub use one_term_phrase::OneTermPhrase;
+pub use phrase_prefix_scorer::PhrasePrefixScorer;
 pub use phrase_scorer::PhraseScorer;
 pub use postings_with_offset::PostingsWithOffset;
 pub use sink::{BlockSink, Sink, for_each_pruning_scorer, offer};

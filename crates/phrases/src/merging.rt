@@ -70,3 +70,15 @@ pub(crate) fn count_continued(places: &[u32], moved: u32, positions: &[u32]) -> 
     }
     count
 }
+
+/// Puts positions in place of those that an output holds.
+pub(crate) fn copy_all(positions: &[u32], output: &mut Vec<u32>)
+    requires { length positions.now ≤ vec_capacity output.old }
+    ensures items { output.new.items ≡ positions.now }
+    ensures room { vec_capacity output.new ≡ vec_capacity output.old }
+{
+    output.clear();
+    for i in 0..positions.len() {
+        output.push_reserved(positions[i]);
+    }
+}

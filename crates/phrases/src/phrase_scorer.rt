@@ -14,6 +14,7 @@ ghost use Rattle.phrases.specs.Standings.{IsStanding};
 ghost use Rattle.phrases.specs.StandingLaws.{IsStanding-prop};
 
 use crate::adjusting::{adjusted, most_of};
+use crate::merging::copy_all;
 use crate::place_finder::PlaceFinder;
 use crate::postings_with_offset::PostingsWithOffset;
 use crate::settling::settle;
@@ -150,4 +151,21 @@ impl<'a, S: Positioned> Scorer for PhraseScorer<'a, S> {
             None => 1,
         }
     }
+}
+
+impl<'a, S: Positioned> Positioned for PhraseScorer<'a, S> {
+    ghost use Rattle.std.specs.Prelude.{map};
+    ghost use Rattle.intersections.specs.Meetings.{meeting};
+    ghost use Rattle.phrases.specs.PhraseScores.{phrase_score_by};
+    ghost use Rattle.phrases.specs.PlacesLaws.{one_column-phrased};
+
+    fn positions(&mut self, output: &mut Vec<u32>) {
+        copy_all(&self.finder.places, output);
+    }
+
+    fn most_positions(&self) -> usize {
+        self.finder.places.capacity()
+    }
+
+    ghost one_column = { λ s. one_column-phrased (phrase_score_by s.similarity_weight_opt s.fieldnorm_reader) s.finder.slop (meeting (map S.entries s.intersection_docset.docsets.items)) s.standing.columns };
 }

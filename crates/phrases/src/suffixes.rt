@@ -26,7 +26,13 @@ pub(crate) fn read_positions<P: Postings>(postings: &mut P, output: &mut Vec<u32
 
 /// How often a suffix stands at the places of a document, moved on, where the suffix has the document.
 #[inline]
-fn count_suffix<P: Postings>(suffix: &mut P, doc: DocId, places: &[u32], moved: u32, positions: &mut Vec<u32>) -> u64
+fn count_suffix<P: Postings>(
+    suffix: &mut P,
+    doc: DocId,
+    places: &[u32],
+    moved: u32,
+    positions: &mut Vec<u32>,
+) -> u64
     requires leads { doc ≤ first (P.entries suffix.old) }
     requires on { doc < terminated }
     requires places { Ascends 0 places.now }

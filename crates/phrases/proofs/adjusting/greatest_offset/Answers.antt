@@ -1,5 +1,4 @@
-use Rattle.std.proofs.Common.{arith, get_or, length, map, max, sym, take, ◌+◌, ◌<◌, ◌≡◌}
-use Rattle.definitions.specs.Scoring.{greatest_of}
+use Rattle.std.proofs.Common.{arith}
 use Rattle.phrases.proofs.Greatest.{greatest-take}
 use Rattle.phrases.proofs.adjusting.greatest_offset.Goals as goal
 

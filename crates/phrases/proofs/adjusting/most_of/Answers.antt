@@ -1,6 +1,5 @@
-use Rattle.std.proofs.Common.{arith, get_or, length, map, max, sym, take, ◌+◌, ◌<◌, ◌≡◌, ◌≤◌}
+use Rattle.std.proofs.Common.{arith}
 use Rattle.cursors.specs.Entries.{most_positions}
-use Rattle.definitions.specs.Scoring.{greatest_of}
 use Rattle.phrases.proofs.Greatest.{greatest-take}
 use Rattle.phrases.proofs.adjusting.most_of.Goals as goal
 

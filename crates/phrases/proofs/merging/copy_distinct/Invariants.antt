@@ -1,4 +1,4 @@
-use Rattle.std.proofs.Common.{drop, length, vec_capacity, vec_len, ◌++◌, ◌<◌, ◌≡◌, ◌≤◌, ◌^◌}
+use Rattle.std.proofs.Common.{drop, vec_capacity, vec_len, ◌++◌, ◌≡◌, ◌≤◌}
 use Rattle.phrases.specs.Places.{Ascends, distinct}
 use Rattle.phrases.proofs.merging.copy_distinct.Given as goal
 

@@ -1,6 +1,6 @@
-use Rattle.std.proofs.Common.{List, arith, drop, get_or, length, suc, ◌+◌, ◌<◌, ◌≡◌, ◌≤◌, ℕ}
+use Rattle.std.proofs.Common.{arith, drop, get_or, length, ◌+◌, ◌<◌}
 use Rattle.phrases.proofs.Counts.{count-both, count-left, count-over, count-right}
-use Rattle.phrases.proofs.Merges.{Ascends-lower, Ascends-step}
+use Rattle.phrases.specs.MergeLaws.{Ascends-lower, Ascends-step}
 use Rattle.phrases.proofs.merging.count_continued.Goals as goal
 
 pub loop-i-preserved-then-place-position : goal.loop-i-preserved-then-place-position

@@ -1,7 +1,7 @@
-use Rattle.std.proofs.Common.{[], List, ap, arith, drop, filter, get_or, length, set, subst, sym, take, ◌++◌, ◌+◌, ◌<◌, ◌∙◌, ◌∷◌, ◌≡◌, ◌≤◌, ℕ}
+use Rattle.std.proofs.Common.{[], ap, arith, drop, filter, get_or, length, set, subst, sym, take, ◌++◌, ◌+◌, ◌<◌, ◌∙◌, ◌∷◌, ◌≡◌, ℕ}
 use Rattle.std.proofs.lemmas.List.{append_assoc, append-nil, drop-set-lt, get_or_read, length-set, take_more_set}
-use Rattle.phrases.specs.Places.{Ascends, Rises, has}
-use Rattle.phrases.proofs.Merges.{Ascends-lower, Ascends-step, Rises-lower, Rises-step, merge-both, merge-end, merge-left, merge-over, merge-right}
+use Rattle.phrases.specs.Places.{Rises, has}
+use Rattle.phrases.specs.MergeLaws.{Ascends-lower, Ascends-step, Rises-lower, Rises-step, merge-both, merge-end, merge-left, merge-over, merge-right}
 use Rattle.phrases.proofs.merging.intersection.Goals as goal
 use Rattle.phrases.proofs.merging.intersection.Goals.{else-loop-i-test, then-loop-i-test+else-j-right}
 

@@ -1,4 +1,4 @@
-use Rattle.std.proofs.Common.{drop, filter, length, take, vec_capacity, vec_len, ◌+◌, ◌-◌, ◌++◌, ◌≡◌, ◌≤◌}
+use Rattle.std.proofs.Common.{drop, filter, length, take, vec_capacity, ◌+◌, ◌-◌, ◌++◌, ◌≡◌, ◌≤◌}
 use Rattle.phrases.specs.Places.{Ascends, Rises, has}
 use Rattle.phrases.proofs.merging.intersection.Given as goal
 

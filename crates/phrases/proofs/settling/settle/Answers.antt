@@ -1,9 +1,7 @@
-use Rattle.std.proofs.Common.{List, ap, arith, drop, length, map, subst, sym, vec_len, ◌+◌, ◌<◌, ◌∙◌, ◌≡◌, ◌≤◌, ℕ}
+use Rattle.std.proofs.Common.{List, ap, arith, drop, length, map, sym, vec_len, ◌∙◌, ◌≡◌}
 use Rattle.std.proofs.lemmas.Bool.Decides.{nat_tests}
-use Rattle.definitions.specs.Postings.{terminated}
-use Rattle.cursors.specs.Entries.{Entry, IsRest, first, first_positions}
+use Rattle.cursors.specs.Entries.{Entry, first_positions}
 use Rattle.intersections.specs.Meetings.{meeting}
-use Rattle.phrases.specs.Finders.{HasRoom}
 use Rattle.phrases.specs.PhraseEntries.{longest, longest_column, phrased}
 use Rattle.phrases.specs.PhraseEntryLaws.{HaveColumns-rest, IsRest-on, first-columns, longest-first, longest-rest, phrased-pass}
 use Rattle.phrases.specs.Places.{places_of}

@@ -1,6 +1,5 @@
-use Rattle.std.proofs.Common.{length, ◌+◌, ◌-◌, ◌≡◌, ◌≤◌}
+use Rattle.std.proofs.Common.{length, ◌+◌, ◌≡◌, ◌≤◌}
 use Rattle.cursors.specs.Entries.{first}
-use Rattle.definitions.specs.Postings.{terminated}
 use Rattle.definitions.specs.Sinks.{fed}
 use Rattle.leaf_scorers.specs.ScoredEntries.{pairs_of}
 use Rattle.phrases.proofs.sink.for_each_pruning_scorer.Given as goal

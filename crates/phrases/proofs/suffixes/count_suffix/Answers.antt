@@ -1,6 +1,5 @@
-use Rattle.std.proofs.Common.{List, ap, arith, length, subst, sym, ◌<◌, ◌∙◌, ◌≡◌, ◌≤◌, ℕ}
-use Rattle.cursors.specs.Entries.{first, first_positions, single}
-use Rattle.definitions.specs.Postings.{terminated}
+use Rattle.std.proofs.Common.{ap, arith, subst, sym, ◌∙◌, ◌≡◌}
+use Rattle.cursors.specs.Entries.{first}
 use Rattle.members.specs.MemberLaws.{entries-off, entries-on}
 use Rattle.phrases.specs.Places.{Ascends}
 use Rattle.phrases.specs.PrefixEntries.{continued, continued_by}

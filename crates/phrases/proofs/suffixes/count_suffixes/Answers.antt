@@ -1,9 +1,9 @@
-use Rattle.std.proofs.Common.{[], List, ap, arith, get_or, length, map, set, sym, take, ◌*◌, ◌+◌, ◌<◌, ◌∙◌, ◌≡◌, ◌≤◌, ℕ}
+use Rattle.std.proofs.Common.{[], List, ap, arith, get_or, length, map, sym, ◌<◌, ◌∙◌, ◌≡◌}
 use Rattle.std.proofs.Math.Seq.{map-set_same}
 use Rattle.std.proofs.lemmas.List.{get_or-map, length-map}
 use Rattle.cursors.specs.Entries.{Entry, first, most_positions}
 use Rattle.members.specs.MemberLaws.{least-get}
-use Rattle.members.specs.Members.{entries_of, least}
+use Rattle.members.specs.Members.{entries_of}
 use Rattle.phrases.specs.PrefixEntries.{continued_by}
 use Rattle.phrases.proofs.SuffixCounts.{continued-more, most-get}
 use Rattle.phrases.proofs.suffixes.count_suffixes.Given.{Over}

@@ -1,4 +1,4 @@
-use Rattle.std.proofs.Common.{length, map, take, vec_capacity, ◌*◌, ◌≡◌, ◌≤◌}
+use Rattle.std.proofs.Common.{map, take, vec_capacity, ◌*◌, ◌≡◌, ◌≤◌}
 use Rattle.members.specs.Members.{entries_at}
 use Rattle.phrases.specs.PrefixEntries.{continued_by}
 use Rattle.phrases.proofs.suffixes.count_suffixes.Given as goal

@@ -1,7 +1,7 @@
-use Rattle.std.proofs.Common.{[], List, ap, arith, drop, get_or, length, min, refl, set, subst, sym, take, ◌++◌, ◌+◌, ◌-◌, ◌<◌, ◌∙◌, ◌∷◌, ◌≡◌, ◌≤◌, ℕ}
+use Rattle.std.proofs.Common.{List, ap, arith, drop, get_or, length, min, set, subst, sym, take, ◌++◌, ◌+◌, ◌-◌, ◌<◌, ◌∙◌, ◌∷◌, ◌≡◌, ℕ}
 use Rattle.std.proofs.Math.Seq.{take-length}
 use Rattle.std.proofs.lemmas.List.{append-nil, drop_all, drop_more}
-use Rattle.phrases.specs.Costs.{IsTable, PassedDown, below_costs, nearest, nearest_above, nearest_below, nearest_costs}
+use Rattle.phrases.specs.Costs.{PassedDown, below_costs, nearest, nearest_above, nearest_below, nearest_costs}
 use Rattle.phrases.proofs.SweepCosts.{down-all, down-end, down-more, down-next, down-none, down-on, positions-order, split, table-cost, write-get, write-set}
 use Rattle.phrases.proofs.sweeps.sweep_down.Goals as goal
 use Rattle.phrases.proofs.sweeps.sweep_down.Goals.{else-i-gt0-via-else-i-gt0, else-i-gt0-via-then-i-gt0+else-table-i}

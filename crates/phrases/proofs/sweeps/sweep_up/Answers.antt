@@ -1,8 +1,8 @@
-use Rattle.std.proofs.Common.{[], List, ap, arith, drop, get_or, length, min, refl, subst, sym, vec_capacity, vec_len, ◌++◌, ◌+◌, ◌-◌, ◌<◌, ◌∙◌, ◌∷◌, ◌≡◌, ◌≤◌, ℕ}
+use Rattle.std.proofs.Common.{[], ap, arith, drop, get_or, length, min, subst, sym, ◌++◌, ◌+◌, ◌-◌, ◌<◌, ◌∙◌, ◌∷◌, ◌≡◌, ℕ}
 use Rattle.std.proofs.lemmas.List.{append_assoc, drop_more}
-use Rattle.phrases.specs.Costs.{IsTable, Passed, below_costs, nearest_below}
+use Rattle.phrases.specs.Costs.{Passed, below_costs, nearest_below}
 use Rattle.phrases.specs.Places.{Ascends}
-use Rattle.phrases.proofs.Merges.{Ascends-step}
+use Rattle.phrases.specs.MergeLaws.{Ascends-step}
 use Rattle.phrases.proofs.SweepCosts.{IsTable-lower, IsTable-step, far-end, far-next, passed-all, passed-more, passed-none, passed-on}
 use Rattle.phrases.proofs.sweeps.sweep_up.Goals as goal
 use Rattle.phrases.proofs.sweeps.sweep_up.Goals.{else-i-table-via-else-i-table, else-i-table-via-then-i-table+else-table-i}

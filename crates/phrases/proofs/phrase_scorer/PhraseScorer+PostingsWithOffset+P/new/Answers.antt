@@ -1,6 +1,5 @@
-use Rattle.std.proofs.Common.{[], List, ap, arith, length, map, ◌-◌, ◌∙◌, ◌≡◌, ◌≤◌, ℕ}
+use Rattle.std.proofs.Common.{ap, arith, length, map, ◌∙◌, ℕ}
 use Rattle.std.proofs.lemmas.Result.{IfOk-weaker}
-use Rattle.cursors.specs.Entries.{Entry, from}
 use Rattle.definitions.specs.Scoring.{greatest_of}
 use Rattle.intersections.specs.Meetings.{meeting}
 use Rattle.members.specs.Members.{greatest_sum}

@@ -1,4 +1,4 @@
-use Rattle.std.proofs.Common.{List, arith, length, map, subst, sym, ◌<◌, ◌≡◌, ◌≤◌}
+use Rattle.std.proofs.Common.{List, arith, length, map, subst, sym, ◌≤◌}
 use Rattle.cursors.specs.Entries.{Entry}
 use Rattle.intersections.specs.Meetings.{meeting}
 use Rattle.phrases.specs.Finders.{HasRoom}

@@ -1,4 +1,4 @@
-use Rattle.std.proofs.Common.{List, drop, length, map, ◌≡◌}
+use Rattle.std.proofs.Common.{List, length, map}
 use Rattle.cursors.specs.Entries.{Entry}
 use Rattle.intersections.specs.Meetings.{meeting}
 use Rattle.phrases.specs.PhraseEntryLaws.{IsRest-on}

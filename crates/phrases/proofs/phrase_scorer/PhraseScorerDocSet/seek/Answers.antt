@@ -1,6 +1,6 @@
-use Rattle.std.proofs.Common.{List, ap, length, map, sym, ◌∙◌, ◌≡◌, ◌≤◌, ℕ}
+use Rattle.std.proofs.Common.{List, ap, length, map, sym, ◌∙◌, ℕ}
 use Rattle.cursors.specs.EntryLaws.{IsRest-from}
-use Rattle.cursors.specs.Entries.{Entry, IsRest, from}
+use Rattle.cursors.specs.Entries.{Entry, from}
 use Rattle.intersections.specs.Meetings.{meeting}
 use Rattle.leaf_scorers.specs.ScoredEntryLaws.{IsRest-along}
 use Rattle.phrases.specs.PhraseEntries.{longest_column, phrased}

@@ -1,11 +1,10 @@
-use Rattle.std.proofs.Common.{[], List, ap, arith, get_or, length, map, refl, reverse, subst, sym, take, vec_capacity, ◌+◌, ◌<◌, ◌∙◌, ◌≡◌, ◌≤◌, ℕ}
+use Rattle.std.proofs.Common.{[], List, ap, arith, get_or, length, map, reverse, subst, sym, take, vec_capacity, ◌+◌, ◌∙◌, ◌≡◌, ◌≤◌, ℕ}
 use Rattle.cursors.specs.Entries.{first_positions}
 use Rattle.intersections.specs.Meetings.{meeting}
 use Rattle.phrases.specs.Costs.{IsTable, cheap, column_costs, nearest_costs}
-use Rattle.phrases.specs.Finders.{HasRoom}
-use Rattle.phrases.specs.PhraseEntries.{AreColumns, longest}
+use Rattle.phrases.specs.PhraseEntries.{longest}
 use Rattle.phrases.specs.Places.{Ascends}
-use Rattle.phrases.proofs.Columns.{column-ascends, column-length, near-all, near-first, near-length, near-next, near-table}
+use Rattle.phrases.proofs.Columns.{column-ascends, column-length, near-all, near-length, near-next, near-table}
 use Rattle.phrases.proofs.place_finder.PlaceFinder.find_near.Goals as goal
 
 pub column-requires-in-loop-i-clause-room : goal.column-requires-in-loop-i-clause-room

@@ -1,11 +1,10 @@
-use Rattle.std.proofs.Common.{[], List, ap, arith, filter, get_or, length, map, refl, reverse, subst, sym, take, vec_capacity, ◌+◌, ◌<◌, ◌∙◌, ◌≡◌, ◌≤◌, ℕ}
+use Rattle.std.proofs.Common.{[], List, ap, arith, filter, get_or, length, map, refl, reverse, subst, sym, take, vec_capacity, ◌∙◌, ◌≤◌, ℕ}
 use Rattle.cursors.specs.Entries.{first_positions}
 use Rattle.intersections.specs.Meetings.{meeting}
-use Rattle.phrases.specs.Finders.{HasRoom}
-use Rattle.phrases.specs.PhraseEntries.{AreColumns, longest}
-use Rattle.phrases.specs.Places.{Ascends, Rises, distinct, has, reached}
+use Rattle.phrases.specs.PhraseEntries.{longest}
+use Rattle.phrases.specs.Places.{Ascends, Rises, distinct, has}
 use Rattle.phrases.proofs.Columns.{column-ascends, column-length, shared-all, shared-first, shared-next}
-use Rattle.phrases.proofs.PlaceLaws.{Rises-reached}
+use Rattle.phrases.specs.PlaceLaws.{Rises-reached}
 use Rattle.phrases.proofs.place_finder.PlaceFinder.find_shared.Goals as goal
 
 pub loop-i-init : goal.loop-i-init

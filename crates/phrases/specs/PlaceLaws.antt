@@ -1,16 +1,14 @@
 -- Laws of places: what the sweeps and the merge find are those of the definitions.
-use Rattle.std.proofs.Common.{[], Bool, List, ap, arith, drop, false, filter, get_or, if◌then◌else◌, le-leb, length, map, min, nat_le, not, refl, reverse, set, subst, suc, sym, take, true, zero, ◌&&◌, ◌++◌, ◌+◌, ◌-◌, ◌<◌, ◌==◌, ◌∙◌, ◌∷◌, ◌||◌, ◌≡◌, ◌≤◌, ℕ}
-use Rattle.std.specs.List.{list_any}
+use Rattle.std.proofs.Common.{[], Bool, List, ap, arith, false, filter, if◌then◌else◌, le-leb, min, nat_le, not, refl, subst, sym, true, ◌&&◌, ◌+◌, ◌-◌, ◌<◌, ◌==◌, ◌∙◌, ◌∷◌, ◌||◌, ◌≡◌, ◌≤◌, ℕ}
 use Rattle.std.proofs.lemmas.Bool.{lt-leb, true≢false}
 use Rattle.std.proofs.lemmas.Map.Views.{any-filter_same}
 use Rattle.std.proofs.lemmas.Bool.Decides.{nat_tests}
 use Rattle.definitions.specs.JsonLeaves.{once}
-use Rattle.definitions.specs.Phrases.{distance, is_reached}
+use Rattle.definitions.specs.Phrases.{distance}
 use Rattle.definitions.specs.Walking.{is_led_to}
-use Rattle.definitions.proofs.Walks.{reached_is_led}
-use Rattle.phrases.proofs.Merges.{Rises-distinct, Rises-lower, has-low}
-use Rattle.phrases.specs.Costs.{IsTable, cheap, costs, least_cost, nearest}
-use Rattle.phrases.specs.Places.{Ascends, Rises, distinct, has, places_of, reached}
+use Rattle.phrases.specs.MergeLaws.{Rises-distinct, Rises-lower, has-low}
+use Rattle.phrases.specs.Costs.{IsTable, cheap, costs, least_cost}
+use Rattle.phrases.specs.Places.{Ascends, Rises, distinct, has, reached}
 
 -- ---- costs
 
@@ -168,7 +166,7 @@ has-distinct low next q (p ∷ ps) a =
     first-out : (p next q : ℕ) (b : Bool) → nat_le next p ≡ false → (nat_le next q && b) ≡ (nat_le next q && ((p == q) || b))
     first-out p next q b e = grind (arith, nat_tests, e)
 
-Rises-filter : (f : ℕ → Bool) (low : ℕ) (xs : List ℕ) → Rises low xs → Rises low (filter f xs)
+pub Rises-filter : (f : ℕ → Bool) (low : ℕ) (xs : List ℕ) → Rises low xs → Rises low (filter f xs)
 Rises-filter f low [] r = tt
 Rises-filter f low (x ∷ xs) r = (let rest = Rises-filter f (x + 1) xs r.1 in elim (f x) as (λ b. Rises low (if b then x ∷ filter f xs else filter f xs)) [ true ↦ (r.0, rest) | false ↦ Rises-lower low (x + 1) (filter f xs) (omega (arith, r.0)) rest ])
 

@@ -1,9 +1,9 @@
 -- Laws of positions that two terms share.
-use Rattle.std.proofs.Common.{[], Bool, List, ap, arith, drop, false, filter, get_or, if◌then◌else◌, le-leb, length, map, nat_le, refl, set, subst, suc, sym, take, true, zero, ◌&&◌, ◌++◌, ◌+◌, ◌<◌, ◌==◌, ◌∙◌, ◌∷◌, ◌||◌, ◌≡◌, ◌≤◌, ℕ}
-use Rattle.std.specs.List.{list_any}
+use Rattle.std.proofs.Common.{[], Bool, List, ap, arith, drop, false, filter, get_or, if◌then◌else◌, le-leb, length, nat_le, refl, subst, sym, true, ◌+◌, ◌<◌, ◌==◌, ◌∙◌, ◌∷◌, ◌||◌, ◌≡◌, ◌≤◌, ℕ}
 use Rattle.std.proofs.lemmas.Bool.{lt-leb}
 use Rattle.std.proofs.lemmas.Bool.Decides.{nat_tests}
-use Rattle.std.proofs.lemmas.List.{append_assoc, drop-set-lt, drop_more, drop_all, take_more_set}
+use Rattle.std.proofs.lemmas.List.{drop_more, drop_all}
+use Rattle.definitions.specs.Scoring.{DontFall}
 use Rattle.phrases.specs.Places.{Ascends, Rises, distinct, has}
 
 -- ---- orders
@@ -22,6 +22,15 @@ Ascends-step low i ps l a = let split : Ascends low (get_or ps i 0 ∷ drop (i +
 
 pub Rises-step : (low i : ℕ) (ps : List ℕ) → i < length ps → Rises low (drop i ps) → (low ≤ get_or ps i 0) × Rises (get_or ps i 0 + 1) (drop (i + 1) ps)
 Rises-step low i ps l r = let split : Rises low (get_or ps i 0 ∷ drop (i + 1) ps) = subst (Rises low) (drop_more ps i 0 l) r in (split.0, split.1)
+
+-- positions that don't fall ascend
+ascends-here : (low p : ℕ) (ps : List ℕ) → low ≤ p → DontFall (p ∷ ps) → Ascends low (p ∷ ps)
+ascends-here low p [] l f = (l, tt)
+ascends-here low p (q ∷ qs) l f = (l, ascends-here p q qs f.0 f.1)
+
+pub ascends-from : (ps : List ℕ) → DontFall ps → Ascends 0 ps
+ascends-from [] f = tt
+ascends-from (p ∷ ps) f = ascends-here 0 p ps (omega arith) f
 
 -- ---- distinct positions
 

@@ -1,0 +1,139 @@
+//! The documents where a phrase stands that one of several terms follows.
+
+ghost use Rattle.std.specs.Prelude.{◌<◌, ◌≡◌, ◌≤◌, IfOk, length, map, vec_capacity};
+ghost use Rattle.cursors.specs.Entries.{first, first_count, most_positions};
+ghost use Rattle.definitions.specs.Postings.{terminated};
+ghost use Rattle.phrases.specs.PrefixEntryLaws.{most_suffix_positions};
+ghost use Rattle.phrases.specs.Following.{IsFollowing, IsFollowing-prop};
+ghost use Rattle.phrases.specs.PrefixEntries.{prefixed};
+
+use crate::following::follow;
+use common::{DocId, Score};
+use cursors::{DocSet, Postings};
+use intersections::Positioned;
+use leaf_scorers::Scorer;
+use std::alloc::{AllocError, Global};
+
+/// The documents where a phrase stands at whose places some of the suffixes stand, moved on, with the scores of the
+/// phrase.
+#[derive(Drop)]
+pub struct PhrasePrefixScorer<W: Scorer + Positioned, P: Postings> {
+    phrase_scorer: W,
+    suffixes: Vec<P>,
+    suffix_offset: u32,
+    phrase_count: u64,
+    places: Vec<u32>,
+    positions: Vec<u32>,
+    ghost following: { IsFollowing suffix_offset phrase_count (vec_capacity places) (vec_capacity positions) (length suffixes.items) (map P.entries suffixes.items) (W.entries phrase_scorer) } by { IsFollowing-prop suffix_offset phrase_count (vec_capacity places) (vec_capacity positions) (length suffixes.items) (map P.entries suffixes.items) (W.entries phrase_scorer) },
+}
+
+/// A number of positions that no document of any of the cursors has more of.
+fn most_of_suffixes<P: Postings>(suffixes: &Vec<P>) -> usize
+    ensures { most_suffix_positions (map P.entries suffixes.now.items) ≤ result }
+{
+    let mut most: usize = 0;
+    for i in 0..suffixes.len() {
+        most = most.max(suffixes[i].most_positions());
+    }
+    most
+}
+
+impl<W: Scorer + Positioned + Drop, P: Postings + Drop> PhrasePrefixScorer<W, P> {
+    /// The documents of a phrase that some of the suffixes, fewer than 2^32, follow: the offset is how far they stand
+    /// behind the last term of the phrase. No document has 2^32 places of the phrase.
+    pub fn new(
+        alloc: Global,
+        phrase_scorer: W,
+        suffixes: Vec<P>,
+        suffix_offset: u32,
+    ) -> Result<PhrasePrefixScorer<W, P>, AllocError>
+        requires few_places { most_positions (W.entries phrase_scorer) ≤ 4294967295 }
+        requires few_suffixes { length suffixes.items < 4294967296 }
+        ensures { IfOk result (λ scorer. ⟦<PhrasePrefixScorer<W, P> as DocSet>⟧.entries scorer
+            ≡ prefixed suffix_offset (map P.entries suffixes.items) (W.entries phrase_scorer)) }
+    {
+        let mut phrase_scorer = phrase_scorer;
+        let mut suffixes = suffixes;
+        let mut places = Vec::with_capacity(alloc, phrase_scorer.most_positions())?;
+        let mut positions = Vec::with_capacity(alloc, most_of_suffixes(&suffixes))?;
+        let phrase_count = follow(
+            &mut phrase_scorer,
+            &mut suffixes,
+            suffix_offset,
+            &mut places,
+            &mut positions,
+        );
+        Ok(PhrasePrefixScorer {
+            phrase_scorer,
+            suffixes,
+            suffix_offset,
+            phrase_count,
+            places,
+            positions,
+        })
+    }
+}
+
+impl<W: Scorer + Positioned, P: Postings> PhrasePrefixScorer<W, P> {
+    /// How often the suffixes follow the phrase in the current document: at each of its places, each suffix that does.
+    #[inline]
+    pub fn phrase_count(&self) -> u64
+        requires { first (⟦<PhrasePrefixScorer<W, P> as DocSet>⟧.entries self.now) < terminated }
+        ensures { result ≡ first_count (⟦<PhrasePrefixScorer<W, P> as DocSet>⟧.entries self.now) }
+    {
+        self.phrase_count
+    }
+}
+
+impl<W: Scorer + Positioned, P: Postings> DocSet for PhrasePrefixScorer<W, P> {
+    ghost use Rattle.std.specs.Prelude.{map};
+    ghost use Rattle.phrases.specs.PrefixEntries.{prefixed};
+    ghost use Rattle.phrases.specs.PrefixEntryLaws.{Rising-prefixed};
+
+    ghost entries = { λ s. prefixed s.suffix_offset (map P.entries s.suffixes.items) (W.entries s.phrase_scorer) };
+
+    fn advance(&mut self) -> DocId {
+        self.phrase_scorer.advance();
+        self.phrase_count = follow(
+            &mut self.phrase_scorer,
+            &mut self.suffixes,
+            self.suffix_offset,
+            &mut self.places,
+            &mut self.positions,
+        );
+        self.phrase_scorer.doc()
+    }
+
+    fn seek(&mut self, target: DocId) -> DocId {
+        self.phrase_scorer.seek(target);
+        self.phrase_count = follow(
+            &mut self.phrase_scorer,
+            &mut self.suffixes,
+            self.suffix_offset,
+            &mut self.places,
+            &mut self.positions,
+        );
+        self.phrase_scorer.doc()
+    }
+
+    #[inline]
+    fn doc(&self) -> DocId {
+        self.phrase_scorer.doc()
+    }
+
+    fn size_hint(&self) -> u32 {
+        self.phrase_scorer.size_hint()
+    }
+
+    fn cost(&self) -> u64 {
+        self.phrase_scorer.cost()
+    }
+
+    ghost rising = { λ s. Rising-prefixed s.suffix_offset (map P.entries s.suffixes.items) 0 (W.entries s.phrase_scorer) (W.rising s.phrase_scorer) };
+}
+
+impl<W: Scorer + Positioned, P: Postings> Scorer for PhrasePrefixScorer<W, P> {
+    fn score(&mut self) -> Score {
+        self.phrase_scorer.score()
+    }
+}
