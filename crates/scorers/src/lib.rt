@@ -11,4 +11,6 @@ pub use leaf_scorers::{
     EmptyScorer, ListScorer, ScoreCombiner, Scorer, SumCombiner, VecDocSet, leaf_laws,
 };
 pub use term_scorer::{Explanation, Similarity, TermScorer};
-pub use unions::{BufferedUnionScorer, Disjunction, ScorerWrapper, SimpleUnion};
+pub use unions::{
+    BitSetPostingUnion, BufferedUnionScorer, Disjunction, ScorerWrapper, SimpleUnion,
+};
