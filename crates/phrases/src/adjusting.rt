@@ -28,7 +28,8 @@ pub(crate) fn adjusted<P: Postings + Drop>(
 ) -> Result<Vec<PostingsWithOffset<P>>, AllocError>
     requires { greatest_of (map (λ t. t.0) term_postings.items) ≤ 1073741824 }
     ensures { IfOk result (λ docsets. map ⟦<PostingsWithOffset<P> as DocSet>⟧.entries docsets.items
-        ≡ map (λ t. placed (greatest_of (map (λ u. u.0) term_postings.items) - t.0) (P.entries t.1)) term_postings.items) }
+        ≡ map (λ t. placed (greatest_of (map (λ u. u.0) term_postings.items) - t.0) (P.entries t.1))
+        term_postings.items) }
 {
     let greatest = greatest_offset(&term_postings);
     let mut docsets = Vec::with_capacity(alloc, term_postings.len())?;

@@ -13,7 +13,8 @@ use intersections::Positioned;
 use leaf_scorers::Scorer;
 use std::alloc::{AllocError, Global};
 
-/// The documents of one whole term before a prefix: its places are its positions, each once, and each score is the boost.
+/// The documents of one whole term before a prefix: its places are its positions, each once, and each score is the
+/// boost.
 #[derive(Drop)]
 pub struct OneTermPhrase<P: Postings> {
     postings: P,

@@ -37,8 +37,8 @@ pub struct PhraseScorer<'a, S: Positioned> {
 }
 
 impl<'a, P: Postings + Drop> PhraseScorer<'a, PostingsWithOffset<P>> {
-    /// The documents where a phrase stands. Each of its terms, two at least, has its offset, which is at most 2^30; they
-    /// are in the order of their offsets. Each document has a length id. Without a weight each score is 1.
+    /// The documents where a phrase stands. Each of its terms, two at least, has its offset, which is at most 2^30;
+    /// they are in the order of their offsets. Each document has a length id. Without a weight each score is 1.
     pub fn new(
         alloc: Global,
         term_postings: Vec<(usize, P)>,

@@ -45,8 +45,10 @@ impl PlaceFinder {
         requires on { first (⟦<Intersection<S> as DocSet>⟧.entries terms.old) < terminated }
         requires some { 0 < length (first_positions (⟦<Intersection<S> as DocSet>⟧.entries terms.old)) }
         requires columns { AreColumns (first_positions (⟦<Intersection<S> as DocSet>⟧.entries terms.old)) }
-        requires room { HasRoom self.old (longest (first_positions (⟦<Intersection<S> as DocSet>⟧.entries terms.old))) }
-        ensures same { ⟦<Intersection<S> as DocSet>⟧.entries terms.new ≡ ⟦<Intersection<S> as DocSet>⟧.entries terms.old }
+        requires room { HasRoom self.old
+            (longest (first_positions (⟦<Intersection<S> as DocSet>⟧.entries terms.old))) }
+        ensures same { ⟦<Intersection<S> as DocSet>⟧.entries terms.new
+            ≡ ⟦<Intersection<S> as DocSet>⟧.entries terms.old }
         ensures slop { self.new.slop ≡ self.old.slop }
         ensures places { self.new.places.items
             ≡ places_of self.old.slop (first_positions (⟦<Intersection<S> as DocSet>⟧.entries terms.old)) }
@@ -65,8 +67,10 @@ impl PlaceFinder {
         requires on { first (⟦<Intersection<S> as DocSet>⟧.entries terms.old) < terminated }
         requires some { 0 < length (first_positions (⟦<Intersection<S> as DocSet>⟧.entries terms.old)) }
         requires columns { AreColumns (first_positions (⟦<Intersection<S> as DocSet>⟧.entries terms.old)) }
-        requires room { HasRoom self.old (longest (first_positions (⟦<Intersection<S> as DocSet>⟧.entries terms.old))) }
-        ensures same { ⟦<Intersection<S> as DocSet>⟧.entries terms.new ≡ ⟦<Intersection<S> as DocSet>⟧.entries terms.old }
+        requires room { HasRoom self.old
+            (longest (first_positions (⟦<Intersection<S> as DocSet>⟧.entries terms.old))) }
+        ensures same { ⟦<Intersection<S> as DocSet>⟧.entries terms.new
+            ≡ ⟦<Intersection<S> as DocSet>⟧.entries terms.old }
         ensures slop { self.new.slop ≡ self.old.slop }
         ensures places { self.new.places.items
             ≡ places_of 0 (first_positions (⟦<Intersection<S> as DocSet>⟧.entries terms.old)) }
@@ -86,8 +90,10 @@ impl PlaceFinder {
         requires on { first (⟦<Intersection<S> as DocSet>⟧.entries terms.old) < terminated }
         requires some { 0 < length (first_positions (⟦<Intersection<S> as DocSet>⟧.entries terms.old)) }
         requires columns { AreColumns (first_positions (⟦<Intersection<S> as DocSet>⟧.entries terms.old)) }
-        requires room { HasRoom self.old (longest (first_positions (⟦<Intersection<S> as DocSet>⟧.entries terms.old))) }
-        ensures same { ⟦<Intersection<S> as DocSet>⟧.entries terms.new ≡ ⟦<Intersection<S> as DocSet>⟧.entries terms.old }
+        requires room { HasRoom self.old
+            (longest (first_positions (⟦<Intersection<S> as DocSet>⟧.entries terms.old))) }
+        ensures same { ⟦<Intersection<S> as DocSet>⟧.entries terms.new
+            ≡ ⟦<Intersection<S> as DocSet>⟧.entries terms.old }
         ensures slop { self.new.slop ≡ self.old.slop }
         ensures places { self.new.places.items
             ≡ places_of self.old.slop (first_positions (⟦<Intersection<S> as DocSet>⟧.entries terms.old)) }
