@@ -1,0 +1,2 @@
+-- Lemmas behind readers of segments.
+pub mod AliveCounts
