@@ -2,6 +2,7 @@
 
 ghost use Rattle.std.specs.Prelude.{◌≡◌, ◌≤◌, nat_lt, option_map};
 ghost use Rattle.definitions.specs.Postings.{terminated};
+ghost use Rattle.segment_reader.specs.Together.{AreTogether};
 ghost use Rattle.segment_reader.specs.Flags.{HasFlags, HasFlags-prop};
 
 use common::{AliveBitSet, DocId};
@@ -15,6 +16,7 @@ pub struct SegmentReader<'a> {
     inverted_index: &'a InvertedIndexReader,
     fieldnorms_readers: FieldNormReaders<'a>,
     alive_bitset: Option<&'a AliveBitSet>,
+    ghost together: { ∥ AreTogether max_doc fieldnorms_readers inverted_index.now ∥₁ },
     ghost few: { max_doc ≤ terminated },
     ghost flagged: { HasFlags max_doc (option_map (λ flags. flags.now) alive_bitset) } by { HasFlags-prop max_doc (option_map (λ flags. flags.now) alive_bitset) },
 }
@@ -22,14 +24,14 @@ pub struct SegmentReader<'a> {
 impl<'a> SegmentReader<'a> {
     ghost use Rattle.segment_reader.specs.SegmentReaders.{alive_in, index_of, lengths_of, max_doc_of, num_alive};
 
-    /// A segment of so many documents, all of which are alive where no set tells otherwise.
+    /// A segment of so many documents with their terms and their lengths, all of which are alive where no set tells otherwise.
     pub fn new(
         max_doc: DocId,
         inverted_index: &'a InvertedIndexReader,
         fieldnorms_readers: FieldNormReaders<'a>,
         alive_bitset: Option<&'a AliveBitSet>,
     ) -> SegmentReader<'a>
-        requires few { max_doc ≤ terminated }
+        requires together { ∥ AreTogether max_doc fieldnorms_readers inverted_index.now ∥₁ }
         requires flagged { HasFlags max_doc (option_map (λ flags. flags.now) alive_bitset) }
         ensures max_doc { max_doc_of result ≡ max_doc }
         ensures index { index_of result ≡ inverted_index.now }
