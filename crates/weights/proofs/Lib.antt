@@ -1,0 +1,3 @@
+-- Lemmas behind weights.
+pub mod PrefixEnds
+pub mod TermAnswers
