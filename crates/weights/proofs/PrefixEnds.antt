@@ -1,5 +1,5 @@
 -- Where prefixes end, by their last bytes.
-use Rattle.std.proofs.Common.{[], List, None, Option, Some, ap, if◌then◌else◌, nat_lt, refl, ◌++◌, ◌+◌, ◌<◌, ◌≡◌, ◌∙◌, ◌∷◌, ℕ}
+use Rattle.std.proofs.Common.{[], List, None, Option, Some, ap, if◌then◌else◌, nat_lt, refl, ◌++◌, ◌+◌, ◌<◌, ◌≡◌, ◌∷◌, ℕ}
 use Rattle.std.proofs.lemmas.Bool.{lt-ltb}
 use Rattle.definitions.specs.Prefixes.{prefix_end}
 

@@ -1,20 +1,19 @@
 -- The scored postings of a term are what its query answers.
-use Rattle.std.proofs.Common.{[], Bool, List, None, Option, Some, ap, arith, false, filter_map, if◌then◌else◌, map, refl, slice_get, slice_index, subst, suc, sym, true, zero, ◌*◌, ◌+◌, ◌≡◌, ◌∙◌, ◌∷◌, ℕ}
+use Rattle.std.proofs.Common.{[], Bool, List, None, Some, ap, arith, false, filter_map, if◌then◌else◌, map, refl, slice_get, slice_index, suc, true, ◌*◌, ◌+◌, ◌≡◌, ◌∙◌, ◌∷◌, ℕ}
 use Rattle.std.specs.List.{cons_option, enumerate_from}
-use Rattle.cursors.specs.Entries.{Entry}
 use Rattle.definitions.specs.Analyzers.{Analyzer}
 use Rattle.definitions.specs.Answers.{answer_at, answers}
 use Rattle.definitions.specs.Postings.{posting_of, postings}
 use Rattle.definitions.specs.Query.{term}
 use Rattle.definitions.specs.Recorded.{count_of, holds, positions_of}
-use Rattle.definitions.specs.Schema.{IndexRecordOption, Schema, has_freq}
-use Rattle.definitions.specs.ScoredLists.{ScoredList}
+use Rattle.definitions.specs.Schema.{IndexRecordOption, Schema}
 use Rattle.definitions.specs.Scoring.{Similarity, length_id, part, query_count, score}
 use Rattle.definitions.specs.Terms.{field_of}
 use Rattle.definitions.specs.Values.{Document}
 use Rattle.inverted_index_reader.specs.OpenedTerms.{entry_as}
 use Rattle.leaf_scorers.specs.ScoredEntries.{pairs_of}
 use Rattle.term_scorer.specs.TermScores.{TermSimilarity, term_scored}
+use Rattle.weights.specs.LengthIds.{AreIds}
 
 -- the length id of each document stands at its place, counted from a number
 abbrev pub AreIdsFrom : (Document → ℕ) → ℕ → List Document → List ℕ → Type 0
@@ -47,6 +46,6 @@ module _ (schema : Schema) (analyze : Analyzer) (sim : Similarity) (b : ℕ) (t 
       go false rest scored = rest
 
   -- the postings of a term with their scores are the documents that match it with theirs
-  pub term_answers : (docs : List Document) (ids : List ℕ) → AreIdsFrom (length_id schema analyze (field_of t)) 0 docs ids
+  pub term_answers : (docs : List Document) (ids : List ℕ) → AreIds (length_id schema analyze (field_of t)) docs ids
       → pairs_of (term_scored by_term ids (map (entry_as option) (postings schema analyze t docs))) ≡ answers schema analyze sim b (term t option) docs
-  term_answers docs ids are = scored_from 0 docs ids are
+  term_answers docs ids are = scored_from 0 docs ids (λ place doc is. ap (slice_index ids) (let same : 0 + place ≡ place = omega arith in same) ∙ are place doc is)

@@ -2,5 +2,7 @@
 #![tactic(auto)]
 
 mod prefixes;
+mod term_weight;
 
 pub use prefixes::prefix_end;
+pub use term_weight::TermWeight;

@@ -1,4 +1,4 @@
-use Rattle.std.proofs.Common.{List, None, Option, Some, ap, arith, refl, rules, subst, sym, ◌++◌, ◌+◌, ◌<◌, ◌≡◌, ◌∙◌, ◌∷◌, [], ℕ}
+use Rattle.std.proofs.Common.{Some, ap, rules, sym, ◌++◌, ◌≡◌, ◌∙◌, ◌∷◌, []}
 use Rattle.definitions.specs.Prefixes.{prefix_end}
 use Rattle.weights.proofs.PrefixEnds.{ends_before, ends_here}
 use Rattle.weights.proofs.prefixes.prefix_end.Goals as goal
