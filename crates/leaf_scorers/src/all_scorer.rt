@@ -47,6 +47,7 @@ impl DocSet for AllScorer {
 
     ghost entries = { λ s. all_from s.doc (s.max_doc - s.doc) };
 
+    #[inline]
     fn advance(&mut self) -> DocId {
         if self.doc == TERMINATED {
             return TERMINATED;
@@ -55,6 +56,7 @@ impl DocSet for AllScorer {
         self.doc
     }
 
+    #[inline]
     fn seek(&mut self, target: DocId) -> DocId {
         self.doc = within(target, self.max_doc);
         self.doc

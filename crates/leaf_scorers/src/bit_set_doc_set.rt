@@ -47,6 +47,7 @@ impl DocSet for BitSetDocSet {
 
     ghost entries = { λ s. from s.doc (set_entries s.docs) };
 
+    #[inline]
     fn advance(&mut self) -> DocId {
         if self.doc == TERMINATED {
             return TERMINATED;
@@ -55,6 +56,7 @@ impl DocSet for BitSetDocSet {
         self.doc
     }
 
+    #[inline]
     fn seek(&mut self, target: DocId) -> DocId {
         self.doc = first_document(&self.docs, target);
         self.doc

@@ -59,17 +59,20 @@ impl ScoreCombiner for DisjunctionMaxCombiner {
     ghost anew = { λ c xs. best_and_tie c.tie_breaker xs };
 
     #[tactic(auto, using(crate::specs::CombiningLaws::tie_further))]
+    #[inline]
     fn update<S: Scorer>(&mut self, scorer: &mut S) {
         let score = scorer.score() as u64;
         self.max = self.max.max(score);
         self.sum += score;
     }
 
+    #[inline]
     fn clear(&mut self) {
         self.max = 0;
         self.sum = 0;
     }
 
+    #[inline]
     fn score(&self) -> Score {
         (self.max + (self.sum - self.max) * self.tie_breaker / 1000) as i64
     }

@@ -26,10 +26,13 @@ impl ScoreCombiner for DoNothingCombiner {
 
     ghost anew = { λ c xs. no_score xs };
 
+    #[inline]
     fn update<S: Scorer>(&mut self, _scorer: &mut S) {}
 
+    #[inline]
     fn clear(&mut self) {}
 
+    #[inline]
     fn score(&self) -> Score {
         1
     }

@@ -29,10 +29,12 @@ impl DocSet for EmptyScorer {
 
     ghost entries = { λ s. ⟦<AllScorer as DocSet>⟧.entries s.none };
 
+    #[inline]
     fn advance(&mut self) -> DocId {
         self.none.advance()
     }
 
+    #[inline]
     fn doc(&self) -> DocId {
         self.none.doc()
     }
@@ -45,6 +47,7 @@ impl DocSet for EmptyScorer {
 }
 
 impl Scorer for EmptyScorer {
+    #[inline]
     fn score(&mut self) -> Score {
         self.none.score()
     }

@@ -33,14 +33,17 @@ impl ScoreCombiner for SumCombiner {
     ghost anew = { λ c xs. sum xs };
 
     #[tactic(auto, using(crate::specs::CombiningLaws::sum_further))]
+    #[inline]
     fn update<S: Scorer>(&mut self, scorer: &mut S) {
         self.sum += scorer.score() as u64;
     }
 
+    #[inline]
     fn clear(&mut self) {
         self.sum = 0;
     }
 
+    #[inline]
     fn score(&self) -> Score {
         self.sum as i64
     }

@@ -39,6 +39,7 @@ impl HasLen for VecDocSet {
 impl DocSet for VecDocSet {
     ghost entries = { λ s. scored (each_scoring 0 (drop s.cursor s.doc_ids.items)) };
 
+    #[inline]
     fn advance(&mut self) -> DocId {
         if self.cursor >= self.doc_ids.len() {
             return TERMINATED;
@@ -47,6 +48,7 @@ impl DocSet for VecDocSet {
         self.doc()
     }
 
+    #[inline]
     fn doc(&self) -> DocId {
         if self.cursor < self.doc_ids.len() {
             return self.doc_ids[self.cursor];
