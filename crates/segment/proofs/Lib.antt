@@ -1,3 +1,4 @@
 -- Lemmas behind segments.
 pub mod SectionsBack
 pub mod Opening
+pub mod Reading

@@ -12,7 +12,7 @@ use Rattle.segment.proofs.SectionsBack.{all_short, five, listed, number_found, s
 abbrev of_listed : List (List ℕ) → Sections
 of_listed xs = record { terms = get_or xs 0 []; postings = get_or xs 1 []; positions = get_or xs 2 []; norms = get_or xs 3 []; store = get_or xs 4 [] }
 
-one_segment : (m n : ℕ) (s t : Sections) (bytes : List ℕ) → AreWritten m s bytes → AreWritten n t bytes → (m ≡ n) × (s ≡ t)
+pub one_segment : (m n : ℕ) (s t : Sections) (bytes : List ℕ) → AreWritten m s bytes → AreWritten n t bytes → (m ≡ n) × (s ≡ t)
 one_segment m n s t bytes a b =
     let same = parts_are (m, flat_map section_bytes (listed s)) n (flat_map section_bytes (listed t)) (sym (number_found m s bytes a) ∙ number_found n t bytes b) in
     let lists = parts_are (listed s, []) (listed t) [] (sym (sections_found m s bytes a) ∙ ap five same.1 ∙ sections_found n t bytes b) in

@@ -1,17 +1,24 @@
 //! A segment, opened.
 
-ghost use Rattle.std.specs.Prelude.{◌≡◌, ◌≢◌, IfErr, IfOk, List, None, ℕ};
+ghost use Rattle.std.specs.Prelude.{◌≡◌, ◌≢◌, IfErr, IfOk, List, None, option_map, ℕ};
+ghost use Rattle.definitions.specs.Analyzers.{Analyzer};
+ghost use Rattle.definitions.specs.Schema as schemas;
+ghost use Rattle.definitions.specs.Values.{Document};
 ghost use Rattle.definitions.specs.declared.fault.Fault.TheVariants as faults;
-ghost use Rattle.segment.specs.Opened.{IsOpened, bytes_of, index_of, num_docs_of};
+ghost use Rattle.segment.specs.Opened.{IsOpened, StandsFor, bytes_of, index_of, num_docs_of};
 ghost use Rattle.segment_layouts.specs.Segments.{IsSegment};
+ghost use Rattle.segment_reader.specs.Flags.{HasFlags};
+ghost use Rattle.segment_reader.specs.SegmentReaders as readers;
 
 use crate::checks::{checked_norms, open_store};
 use crate::sections::Sections;
 use bytes::Bytes;
+use common::AliveBitSet;
 use definitions::Fault;
 use fieldnorms::FieldNormReaders;
 use inverted_index_reader::InvertedIndexReader;
 use schema::Schema;
+use segment_reader::SegmentReader;
 use std::alloc::{AllocError, Global};
 use store::StoreReader;
 
@@ -78,6 +85,22 @@ impl Segment {
         ensures { result ≡ num_docs_of self.now }
     {
         self.num_docs
+    }
+
+    /// The segment as queries see it, with all of its documents alive where no set tells otherwise.
+    pub fn reader<'a>(&'a self, alive_bitset: Option<&'a AliveBitSet>) -> SegmentReader<'a>
+        requires flagged { HasFlags (num_docs_of self.now) (option_map (λ flags. flags.now) alive_bitset) }
+        requires opened { ∥ ((schema : schemas.Schema) × IsOpened schema self.now) ∥₁ }
+        ensures stands { (schema : schemas.Schema) (analyze : Analyzer) (docs : List Document)
+            → StandsFor schema analyze docs self.now → readers.StandsFor schema analyze docs result }
+        ensures alive { readers.alive_in result ≡ option_map (λ flags. flags.now) alive_bitset.entry }
+    {
+        let lengths = FieldNormReaders::new(
+            self.norms.as_slice(),
+            self.num_docs,
+            &self.length_fields,
+        );
+        SegmentReader::new(self.num_docs, &self.inverted_index, lengths, alive_bitset)
     }
 
     /// The terms of the documents.

@@ -1,0 +1,58 @@
+-- A segment that stands for documents gives a reader that stands for them.
+use Rattle.std.proofs.Props.{props}
+use Rattle.std.proofs.Common.{[], ◌∷◌, ◌+◌, List, length, subst, sym, ◌∙◌, ◌≡◌, ℕ}
+use Rattle.definitions.specs.Analyzers.{Analyzer}
+use Rattle.definitions.specs.KeptLengths.{length_fields, norms_of}
+use Rattle.definitions.specs.Schema.{Schema}
+use Rattle.definitions.specs.Values.{Document}
+use Rattle.inverted_index_reader.specs.Readers.{IsReader}
+use Rattle.layouts.specs.Deltas.{IsAscendingFrom}
+use Rattle.layouts.specs.FieldNorms.{IsNorms}
+use Rattle.layouts.specs.InvertedIndexes.{AreSections}
+use Rattle.segment_layouts.specs.Segments.{Sections}
+use Rattle.segment_reader.specs.SegmentReaders as readers
+use Rattle.segment_reader.specs.declared.segment_reader.SegmentReader.{SegmentReader}
+use Rattle.segment.proofs.Opening.{norms_over, one_segment}
+use Rattle.segment.specs.Opened.{IsOpened, StandsFor}
+use Rattle.segment.specs.declared.segment.Segment.{Segment}
+
+-- that numbers ascend is a proposition
+pub IsAscendingFrom-prop : (n : ℕ) (xs : List ℕ) → IsProp (IsAscendingFrom n xs)
+IsAscendingFrom-prop n [] = hlevel props
+IsAscendingFrom-prop n (x ∷ xs) = (let rest : IsProp (IsAscendingFrom (x + 1) xs) = IsAscendingFrom-prop (x + 1) xs in hlevel (props, rest))
+
+-- the lengths that were found when it was opened, by other names of the fields and of their bytes
+pub opened_norms : (schema : Schema) (s : Segment) (o : IsOpened schema s) (fields bytes : List ℕ) → fields ≡ s.length_fields.items → bytes ≡ s.norms → IsNorms fields s.num_docs bytes o.norms
+opened_norms schema s o fields bytes named same = norms_over schema s.num_docs fields o.sections.norms bytes o.norms (named ∙ o.fields_are) (same ∙ o.lengths_are) o.norms_are
+
+module _ (schema : Schema) (analyze : Analyzer) (docs : List Document) (s : Segment) (stands : StandsFor schema analyze docs s) where
+  one : (s.num_docs ≡ length docs) × (stands.opened.sections ≡ stands.bytes_are.sections)
+  one = one_segment s.num_docs (length docs) stands.opened.sections stands.bytes_are.sections s.bytes stands.opened.written stands.bytes_are.written
+
+  -- the documents' lengths are in its section
+  pub documents_norms : (fields bytes : List ℕ) → fields ≡ s.length_fields.items → bytes ≡ s.norms → IsNorms fields s.num_docs bytes (norms_of schema analyze docs)
+  documents_norms fields bytes named same =
+      let many = subst (λ n. IsNorms (length_fields schema) n stands.bytes_are.sections.norms (norms_of schema analyze docs)) (sym one.0) stands.bytes_are.norms_are in
+      let here = subst (λ (t : Sections). IsNorms (length_fields schema) s.num_docs t.norms (norms_of schema analyze docs)) (sym one.1) many in
+      norms_over schema s.num_docs fields stands.opened.sections.norms bytes (norms_of schema analyze docs) (named ∙ stands.opened.fields_are) (same ∙ stands.opened.lengths_are) here
+
+  -- the documents' terms are in its sections
+  documents_terms : stands.opened.norms ≡ norms_of schema analyze docs → AreSections schema s.num_docs stands.opened.norms stands.bytes_are.fields stands.opened.sections.terms stands.opened.sections.postings stands.opened.sections.positions
+  documents_terms norms_are =
+      let many = subst (λ n. AreSections schema n (norms_of schema analyze docs) stands.bytes_are.fields stands.bytes_are.sections.terms stands.bytes_are.sections.postings stands.bytes_are.sections.positions) (sym one.0) stands.bytes_are.terms_are in
+      let here = subst (λ (t : Sections). AreSections schema s.num_docs (norms_of schema analyze docs) stands.bytes_are.fields t.terms t.postings t.positions) (sym one.1) many in
+      subst (λ ns. AreSections schema s.num_docs ns stands.bytes_are.fields stands.opened.sections.terms stands.opened.sections.postings stands.opened.sections.positions) (sym norms_are) here
+
+  pub reader_stands : (r : SegmentReader) (lengths : List (ℕ × List ℕ)) → readers.max_doc_of r ≡ s.num_docs → readers.index_of r ≡ s.inverted_index → readers.lengths_of r ≡ lengths → lengths ≡ stands.opened.norms → lengths ≡ norms_of schema analyze docs → readers.StandsFor schema analyze docs r
+  reader_stands r lengths many index lent found documents =
+      let norms_are = sym found ∙ documents in
+      let own = stands.opened.reads stands.bytes_are.fields (documents_terms norms_are) in
+      let counted = subst (λ n. IsReader schema n stands.opened.norms stands.bytes_are.fields s.inverted_index) one.0 own in
+      let measured = subst (λ ns. IsReader schema (length docs) ns stands.bytes_are.fields s.inverted_index) norms_are counted in
+      record {
+        many = sym (many ∙ one.0);
+        lengths_are = lent ∙ documents;
+        fields = stands.bytes_are.fields;
+        reads = subst (IsReader schema (length docs) (norms_of schema analyze docs) stands.bytes_are.fields) (sym index) measured;
+        indexed = stands.bytes_are.indexed;
+      }
