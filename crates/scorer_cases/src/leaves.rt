@@ -64,15 +64,25 @@ pub(crate) fn ascend(docs: &[DocId], least: DocId) -> bool
 
 /// A set of documents below a number, each with score 1.
 pub(crate) fn set(alloc: Global, arguments: &Arguments) -> Result<Value, Refusal> {
-    let mut docs = BitSet::with_max_value(alloc, arguments.small_number(0)?)?;
-    for doc in &arguments.numbers(alloc, 1)? {
-        put(&mut docs, *doc)?;
-    }
+    let docs = set_of(
+        alloc,
+        arguments.small_number(0)?,
+        &arguments.numbers(alloc, 1)?,
+    )?;
     if docs.max_value() > TERMINATED {
         return Err(Refusal::NotAsked);
     }
     let mut scorer = ConstScorer::from(BitSetDocSet::from(docs));
     moved(alloc, &mut scorer, arguments.list(2)?)
+}
+
+/// A set of documents below a number.
+pub(crate) fn set_of(alloc: Global, bound: u32, docs: &[DocId]) -> Result<BitSet, Refusal> {
+    let mut set = BitSet::with_max_value(alloc, bound)?;
+    for doc in docs {
+        put(&mut set, *doc)?;
+    }
+    Ok(set)
 }
 
 /// Puts a document into a set.

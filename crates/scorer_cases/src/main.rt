@@ -11,7 +11,9 @@ mod leaves;
 mod moves;
 mod nested;
 mod operations;
-mod terms;
+mod placed_terms;
+mod posting_unions;
+mod scored_terms;
 mod written_terms;
 
 use case_lines::answers;

@@ -3,7 +3,7 @@
 
 use case_lines::{Refusal, flag, number, numbers};
 use common::TERMINATED;
-use cursors::SeekDangerResult;
+use cursors::{DocSet, SeekDangerResult};
 use scorers::Scorer;
 use serde_json::Value;
 use std::alloc::Global;
@@ -23,48 +23,59 @@ pub(crate) fn moved<S: Scorer>(
 
 /// What a move answers.
 fn moved_once<S: Scorer>(alloc: Global, scorer: &mut S, asked: &Value) -> Result<Value, Refusal> {
+    if asked.as_str() == Some("score") {
+        return score(scorer);
+    }
+    walked(alloc, scorer, asked)
+}
+
+/// What a move of a cursor answers.
+pub(crate) fn walked<D: DocSet>(
+    alloc: Global,
+    cursor: &mut D,
+    asked: &Value,
+) -> Result<Value, Refusal> {
     if let Some(target) = asked.as_u64() {
-        return sought(scorer, target);
+        return sought(cursor, target);
     }
     if let Some(target) = asked.get(0) {
-        return found(scorer, target);
+        return found(cursor, target);
     }
     match asked.as_str().ok_or(Refusal::NotAsked)? {
-        "doc" => Ok(number(u64::from(scorer.doc()))),
-        "advance" => Ok(number(u64::from(scorer.advance()))),
-        "count" => Ok(number(u64::from(scorer.count_including_deleted()))),
-        "fill" => filled(alloc, scorer),
-        "score" => score(scorer),
+        "doc" => Ok(number(u64::from(cursor.doc()))),
+        "advance" => Ok(number(u64::from(cursor.advance()))),
+        "count" => Ok(number(u64::from(cursor.count_including_deleted()))),
+        "fill" => filled(alloc, cursor),
         _ => Err(Refusal::NotAsked),
     }
 }
 
 /// The document at which a seek ends.
-fn sought<S: Scorer>(scorer: &mut S, target: u64) -> Result<Value, Refusal> {
+fn sought<D: DocSet>(cursor: &mut D, target: u64) -> Result<Value, Refusal> {
     let target = u32::try_from(target).ok().ok_or(Refusal::NotAsked)?;
-    if scorer.doc() > target || target > TERMINATED {
+    if cursor.doc() > target || target > TERMINATED {
         return Err(Refusal::NotAsked);
     }
-    Ok(number(u64::from(scorer.seek(target))))
+    Ok(number(u64::from(cursor.seek(target))))
 }
 
 /// Whether a document remains.
-fn found<S: Scorer>(scorer: &mut S, target: &Value) -> Result<Value, Refusal> {
+fn found<D: DocSet>(cursor: &mut D, target: &Value) -> Result<Value, Refusal> {
     let target = target.as_u64().ok_or(Refusal::NotAsked)?;
     let target = u32::try_from(target).ok().ok_or(Refusal::NotAsked)?;
     if target >= TERMINATED {
         return Err(Refusal::NotAsked);
     }
-    Ok(match scorer.seek_danger(target) {
+    Ok(match cursor.seek_danger(target) {
         SeekDangerResult::Found => flag(true),
         SeekDangerResult::SeekLowerBound(_) => flag(false),
     })
 }
 
 /// The documents that fill a buffer.
-fn filled<S: Scorer>(alloc: Global, scorer: &mut S) -> Result<Value, Refusal> {
+fn filled<D: DocSet>(alloc: Global, cursor: &mut D) -> Result<Value, Refusal> {
     let mut buffer = [0; 64];
-    let filled = scorer.fill_buffer(&mut buffer);
+    let filled = cursor.fill_buffer(&mut buffer);
     Ok(numbers(alloc, &buffer[..filled])?)
 }
 

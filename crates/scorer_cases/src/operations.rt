@@ -1,6 +1,6 @@
 //! Operations by their names.
 
-use crate::{asked, changed, combinators, combined, leaves, nested, terms};
+use crate::{asked, changed, combinators, combined, leaves, nested, posting_unions, scored_terms};
 use case_lines::{Arguments, Operations, Refusal};
 use serde_json::Value;
 use std::alloc::Global;
@@ -34,14 +34,16 @@ impl Operations for ScorerOperations {
             "simple-union-of-meetings" => nested::simple_union_of_meetings(alloc, arguments),
             "two-of-meetings" => nested::two_of_meetings(alloc, arguments),
             "meeting-of-differences" => nested::meeting_of_differences(alloc, arguments),
+            "union-of-terms" => posting_unions::union_of_terms(alloc, arguments),
+            "union-beside-set" => posting_unions::union_beside_set(alloc, arguments),
             "cleared" => changed::cleared(alloc, arguments),
             "boosted" => changed::boosted(alloc, arguments),
             "reason" => changed::reason(alloc, arguments),
             "alive" => asked::alive(alloc, arguments),
             "list-len" => asked::list_len(alloc, arguments),
-            "term-moves" => terms::moves(alloc, arguments),
-            "term-scores" => terms::scores(alloc, arguments),
-            "term-explained" => terms::explained(alloc, arguments),
+            "term-moves" => scored_terms::moves(alloc, arguments),
+            "term-scores" => scored_terms::scores(alloc, arguments),
+            "term-explained" => scored_terms::explained(alloc, arguments),
             _ => Err(Refusal::NotAsked),
         }
     }

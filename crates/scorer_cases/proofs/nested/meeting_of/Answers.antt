@@ -1,4 +1,4 @@
-use Rattle.std.proofs.Common.{arith, length, map}
+use Rattle.std.proofs.Common.{length, map}
 use Rattle.intersections.specs.Meetings.{meeting}
 use Rattle.scorer_cases.proofs.NestedScores.{joined-bound}
 use Rattle.scorer_cases.proofs.nested.meeting_of.Goals as goal

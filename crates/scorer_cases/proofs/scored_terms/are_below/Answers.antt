@@ -2,7 +2,7 @@ use Rattle.std.proofs.Common.{arith, sym, ◌∙◌}
 use Rattle.cursors.specs.EntryLaws.{none_left}
 use Rattle.segment_postings.specs.Cursors.{entries_left, rising_left}
 use borrow.Author.Tests.{eqb-true}
-use Rattle.scorer_cases.proofs.terms.are_below.Goals as goal
+use Rattle.scorer_cases.proofs.scored_terms.are_below.Goals as goal
 
 pub returns : goal.returns
 returns c = λ e.

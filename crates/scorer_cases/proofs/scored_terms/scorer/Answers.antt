@@ -1,7 +1,7 @@
 use Rattle.std.proofs.Common.{ap, length, sym, ◌∙◌}
 use Rattle.cursors.specs.Entries.{from}
 use Rattle.segment_postings.specs.Cursors.{entries_left}
-use Rattle.scorer_cases.proofs.terms.scorer.Goals as goal
+use Rattle.scorer_cases.proofs.scored_terms.scorer.Goals as goal
 
 pub new-requires : goal.new-requires
 new-requires c =
