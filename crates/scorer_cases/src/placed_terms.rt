@@ -162,7 +162,8 @@ pub(crate) fn all_opened_twice<'a>(
 ) -> Result<(Vec<SegmentPostings<'a>>, Vec<SegmentPostings<'a>>), Refusal>
     ensures same { IfOk result (λ both. map entries_left both.1.items ≡ map entries_left both.0.items) }
     ensures unscored { IfOk result (λ both. greatest_sum (map entries_left both.0.items) ≡ 0) }
-    ensures few { IfOk result (λ both. (d : ℕ) → sum (counts_in (entries_at d (map entries_left both.0.items))) ≤ 1000000) }
+    ensures few { IfOk result (λ both. (d : ℕ)
+        → sum (counts_in (entries_at d (map entries_left both.0.items))) ≤ 1000000) }
 {
     if terms.len() > MOST_TERMS {
         return Err(Refusal::NotAsked);
