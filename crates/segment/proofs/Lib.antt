@@ -2,3 +2,5 @@
 pub mod SectionsBack
 pub mod Opening
 pub mod Reading
+pub mod KilledFlags
+pub mod StruckRows

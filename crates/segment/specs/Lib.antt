@@ -1,3 +1,4 @@
 -- Words of the contracts.
 pub mod Sections
 pub mod Opened
+pub mod Killed
