@@ -4,3 +4,5 @@ pub mod Opening
 pub mod Reading
 pub mod KilledFlags
 pub mod StruckRows
+pub mod StoredBack
+pub mod Fetching

@@ -2,3 +2,4 @@
 pub mod Sections
 pub mod Opened
 pub mod Killed
+pub mod SlotDocuments

@@ -1,8 +1,9 @@
-//! Segments: their bytes checked whole but for the blocks of the store, and opened, with deletions of their documents.
+//! Segments: their bytes checked whole but for the blocks of the store, and opened; their documents read and deleted.
 #![tactic(auto)]
 
 mod checks;
 mod deleting;
+mod documents;
 mod sections;
 mod segment;
 
