@@ -13,7 +13,8 @@ use std::alloc::Global;
 /// The document of the schema's fields that a slot is; `Damaged` where it is none.
 pub(crate) fn read_slot(alloc: Global, schema: &Schema, slot: &[u8]) -> Result<CompactDoc, Fault>
     ensures ok { IfOk result (λ read. IsSlotOf schema.now slot.now read) }
-    ensures err { IfErr result (λ fault. (fault ≡ faults.OutOfMemory) ⊎ ((fault ≡ faults.Damaged None) × IsNoDocument schema.now slot.now)) }
+    ensures err { IfErr result (λ fault. (fault ≡ faults.OutOfMemory)
+        ⊎ ((fault ≡ faults.Damaged None) × IsNoDocument schema.now slot.now)) }
     ensures short { length slot.now < 2 ^ 64 }
 {
     let doc = CompactDoc::deserialize(alloc, slot)?;

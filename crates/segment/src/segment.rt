@@ -108,8 +108,9 @@ impl Segment {
         SegmentReader::new(self.num_docs, &self.inverted_index, lengths, alive_bitset)
     }
 
-    /// The stored pairs of a document, pre-tokenised texts as texts. A number past the last is `InvalidArgument`; a damaged
-    /// block, and a slot that is no document of the schema's fields, are `Damaged`. The cache of the store keeps the block.
+    /// The stored pairs of a document, pre-tokenised texts as texts. A number past the last is `InvalidArgument`; a
+    /// damaged block, and a slot that is no document of the schema's fields, are `Damaged`. The store's cache keeps the
+    /// block.
     pub fn document(
         &mut self,
         alloc: Global,
