@@ -1,9 +1,10 @@
-//! Documents, read from their slots.
+//! Documents: which of them an add takes, and what is read of them from their slots.
 
-ghost use Rattle.std.specs.Prelude.{◌<◌, ◌^◌, ◌≡◌, ◌⊎◌, IfErr, IfOk, List, None, length};
+ghost use Rattle.std.specs.Prelude.{◌<◌, ◌^◌, ◌≡◌, ◌⊎◌, ◌↔◌, IfErr, IfOk, IsTrue, List, None, length};
 ghost use Rattle.definitions.specs.Calls.{has_unknown_field};
 ghost use Rattle.definitions.specs.declared.fault.Fault.TheVariants as faults;
 ghost use Rattle.segment.specs.SlotDocuments.{IsNoDocument, IsSlotOf};
+ghost use Rattle.segment_layouts.specs.Segments.{IsTaken};
 
 use definitions::Fault;
 use document::CompactDoc;
@@ -22,6 +23,14 @@ pub(crate) fn read_slot(alloc: Global, schema: &Schema, slot: &[u8]) -> Result<C
         return Err(Fault::Damaged(None));
     }
     Ok(doc)
+}
+
+/// Whether an add takes a document: the schema has its fields, and each of its values can be indexed.
+pub fn is_taken(schema: &Schema, doc: &CompactDoc) -> bool
+    ensures { IsTrue result ↔ IsTaken schema.now doc.now }
+{
+    let _pairs = doc.len();
+    !has_unknown_field(schema, doc) && doc.indexable(schema)
 }
 
 /// Whether there is a value of a field that the schema doesn't have.

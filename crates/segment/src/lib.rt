@@ -8,4 +8,5 @@ mod sections;
 mod segment;
 
 pub use deleting::delete_in;
+pub use documents::is_taken;
 pub use segment::Segment;
