@@ -1,13 +1,15 @@
 //! `bench`: how fast the crates work, measured at their public calls.
 //!
-//! With one word it prints a table: `blocks`, `cursors`, `scores`, `texts` (which reads them from standard input) or `files`. Without
-//! a word it prints nothing.
+//! With one word it prints a table: `blocks`, `cursors`, `scores`, `texts` and `segments` (which read them from standard
+//! input), or `files`. Without a word it prints nothing.
 #![tactic(auto)]
 
 mod block_codes;
 mod cursor_walks;
 mod files;
 mod score_walks;
+mod segment_steps;
+mod segments;
 mod spread_terms;
 mod texts;
 mod times;
@@ -25,6 +27,7 @@ enum Bench {
     Scores,
     Texts,
     Files,
+    Segments,
 }
 
 fn main(rt: HostRuntime) -> ExitCode {
@@ -43,6 +46,7 @@ fn measure(rt: &HostRuntime, bench: Bench) -> Result<(), Fault> {
         Bench::Scores => score_walks::measure(rt, rt.alloc()),
         Bench::Texts => texts::measure_input(rt, rt.alloc()),
         Bench::Files => files::measure_all(rt),
+        Bench::Segments => segments::measure_input(rt, rt.alloc()),
     }
 }
 
@@ -65,6 +69,7 @@ fn bench_of(word: &str) -> Bench {
         "scores" => Bench::Scores,
         "texts" => Bench::Texts,
         "files" => Bench::Files,
+        "segments" => Bench::Segments,
         _ => Bench::Nothing,
     }
 }

@@ -116,7 +116,7 @@ fn count_tokens(alloc: Global, text: &str) -> Result<u64, Fault> {
 }
 
 /// Indexes documents behind those before.
-fn index_all<A: Analyzer>(
+pub(crate) fn index_all<A: Analyzer>(
     indexer: &mut DocumentIndexer,
     schema: &Schema,
     analyzer: &A,

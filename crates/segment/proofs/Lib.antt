@@ -2,3 +2,7 @@
 pub mod SectionsBack
 pub mod Opening
 pub mod Reading
+pub mod KilledFlags
+pub mod StruckRows
+pub mod StoredBack
+pub mod Fetching

@@ -1,11 +1,14 @@
 -- A segment that stands for documents gives a reader that stands for them.
 use Rattle.std.proofs.Props.{props}
-use Rattle.std.proofs.Common.{[], ◌∷◌, ◌+◌, List, length, subst, sym, ◌∙◌, ◌≡◌, ℕ}
+use Rattle.std.proofs.Common.{[], ◌∷◌, ◌+◌, List, length, refl, subst, sym, ◌∙◌, ◌≡◌, ℕ}
 use Rattle.definitions.specs.Analyzers.{Analyzer}
 use Rattle.definitions.specs.KeptLengths.{length_fields, norms_of}
+use Rattle.definitions.specs.Postings.{postings}
 use Rattle.definitions.specs.Schema.{Schema}
 use Rattle.definitions.specs.Values.{Document}
-use Rattle.inverted_index_reader.specs.Readers.{IsReader}
+use Rattle.fieldnorms.proofs.Sections.{norms_lent}
+use Rattle.inverted_index_reader.proofs.GivenPostings.{given_held}
+use Rattle.inverted_index_reader.specs.Readers.{Contents, IsReader, postings_held}
 use Rattle.layouts.specs.Deltas.{IsAscendingFrom}
 use Rattle.layouts.specs.FieldNorms.{IsNorms}
 use Rattle.layouts.specs.InvertedIndexes.{AreSections}
@@ -36,6 +39,10 @@ module _ (schema : Schema) (analyze : Analyzer) (docs : List Document) (s : Segm
       let here = subst (λ (t : Sections). IsNorms (length_fields schema) s.num_docs t.norms (norms_of schema analyze docs)) (sym one.1) many in
       norms_over schema s.num_docs fields stands.opened.sections.norms bytes (norms_of schema analyze docs) (named ∙ stands.opened.fields_are) (same ∙ stands.opened.lengths_are) here
 
+  -- the lengths that were found when it was opened are the documents'
+  one_norms : stands.opened.norms ≡ norms_of schema analyze docs
+  one_norms = sym (norms_lent s.num_docs s.length_fields.items s.norms stands.opened.norms (opened_norms schema s stands.opened s.length_fields.items s.norms refl refl)) ∙ norms_lent s.num_docs s.length_fields.items s.norms (norms_of schema analyze docs) (documents_norms s.length_fields.items s.norms refl refl)
+
   -- the documents' terms are in its sections
   documents_terms : stands.opened.norms ≡ norms_of schema analyze docs → AreSections schema s.num_docs stands.opened.norms stands.bytes_are.fields stands.opened.sections.terms stands.opened.sections.postings stands.opened.sections.positions
   documents_terms norms_are =
@@ -56,3 +63,26 @@ module _ (schema : Schema) (analyze : Analyzer) (docs : List Document) (s : Segm
         reads = subst (IsReader schema (length docs) (norms_of schema analyze docs) stands.bytes_are.fields) (sym index) measured;
         indexed = stands.bytes_are.indexed;
       }
+
+  pub documents_read : IsReader schema s.num_docs stands.opened.norms stands.bytes_are.fields s.inverted_index
+  documents_read = stands.opened.reads stands.bytes_are.fields (documents_terms one_norms)
+
+  -- its terms are what documents hold
+  abbrev pub documents_contents : Contents s.inverted_index
+  documents_contents = record {
+    schema = schema;
+    num_docs = s.num_docs;
+    norms = stands.opened.norms;
+    fields = stands.bytes_are.fields;
+    is = documents_read;
+  }
+
+  pub documents_held : (t : List ℕ) → postings_held schema stands.bytes_are.fields t ≡ postings schema analyze t docs
+  documents_held t = given_held (λ u. postings schema analyze u docs) schema stands.bytes_are.fields t stands.bytes_are.indexed
+
+  pub documents_many : s.num_docs ≡ length docs
+  documents_many = one.0
+
+-- the terms that were found when it was opened
+abbrev pub opened_contents : (schema : Schema) (s : Segment) → IsOpened schema s → Contents s.inverted_index
+opened_contents schema s o = record { schema = schema; num_docs = s.num_docs; norms = o.norms; fields = o.fields; is = o.reads o.fields o.terms_are }

@@ -1,3 +1,5 @@
 -- Words of the contracts.
 pub mod Sections
 pub mod Opened
+pub mod Killed
+pub mod SlotDocuments

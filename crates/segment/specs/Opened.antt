@@ -23,6 +23,10 @@ num_docs_of s = s.num_docs
 abbrev pub index_of : Segment → Reader
 index_of s = s.inverted_index
 
+-- the blocks of its store
+abbrev pub blocks_of : Segment → List Block
+blocks_of s = s.store.blocks
+
 -- it was opened under that schema: its parts are those of its bytes
 pub record IsOpened (schema : Schema) (s : Segment) : Type 0 where
   pub sections : Sections

@@ -1,20 +1,25 @@
 //! A segment, opened.
 
-ghost use Rattle.std.specs.Prelude.{◌≡◌, ◌≢◌, IfErr, IfOk, List, None, option_map, ℕ};
+ghost use Rattle.std.specs.Prelude.{◌≡◌, ◌≢◌, IfErr, IfOk, List, None, Some, length, option_map, slice_get, ℕ};
 ghost use Rattle.definitions.specs.Analyzers.{Analyzer};
 ghost use Rattle.definitions.specs.Schema as schemas;
+ghost use Rattle.definitions.specs.Stored.{stored_pairs, stored_values};
 ghost use Rattle.definitions.specs.Values.{Document};
 ghost use Rattle.definitions.specs.declared.fault.Fault.TheVariants as faults;
-ghost use Rattle.segment.specs.Opened.{IsOpened, StandsFor, bytes_of, index_of, num_docs_of};
+ghost use Rattle.segment.specs.Opened.{IsOpened, StandsFor, blocks_of, bytes_of, index_of, num_docs_of};
+ghost use Rattle.segment.specs.SlotDocuments.{HoldsDocument, IsDocumentFault};
 ghost use Rattle.segment_layouts.specs.Segments.{IsSegment};
 ghost use Rattle.segment_reader.specs.Flags.{HasFlags};
 ghost use Rattle.segment_reader.specs.SegmentReaders as readers;
+ghost use Rattle.store.specs.Slots.{IsPast};
 
 use crate::checks::{checked_norms, open_store};
+use crate::documents::read_slot;
 use crate::sections::Sections;
 use bytes::Bytes;
-use common::AliveBitSet;
+use common::{AliveBitSet, DocId};
 use definitions::Fault;
+use document::CompactDoc;
 use fieldnorms::FieldNormReaders;
 use inverted_index_reader::InvertedIndexReader;
 use schema::Schema;
@@ -101,6 +106,37 @@ impl Segment {
             &self.length_fields,
         );
         SegmentReader::new(self.num_docs, &self.inverted_index, lengths, alive_bitset)
+    }
+
+    /// The stored pairs of a document, pre-tokenised texts as texts. A number past the last is `InvalidArgument`; a
+    /// damaged block, and a slot that is no document of the schema's fields, are `Damaged`. The store's cache keeps the
+    /// block.
+    pub fn document(
+        &mut self,
+        alloc: Global,
+        schema: &Schema,
+        doc: DocId,
+    ) -> Result<CompactDoc, Fault>
+        ensures ok { IfOk result (λ read. HoldsDocument schema.now (blocks_of self.old) doc read) }
+        ensures err { IfErr result (λ fault. IsDocumentFault schema.now (blocks_of self.old) doc fault) }
+        ensures stored { (analyze : Analyzer) (docs : List Document)
+            → StandsFor schema.now analyze docs self.old
+            → IfOk result (λ read. option_map (stored_pairs schema.now) (slice_get docs doc) ≡ Some read) }
+        ensures shown { (analyze : Analyzer) (docs : List Document)
+            → StandsFor schema.now analyze docs self.old
+            → IfOk result (λ read. option_map (stored_values schema.now) (slice_get docs doc)
+            ≡ Some (stored_values schema.now read)) }
+        ensures refused { (analyze : Analyzer) (docs : List Document)
+            → StandsFor schema.now analyze docs self.old
+            → IfErr result (λ fault. IsPast fault doc (length docs)) }
+        ensures opened { (schema : schemas.Schema) → IsOpened schema self.old → IsOpened schema self.new }
+        ensures stands { (schema : schemas.Schema) (analyze : Analyzer) (docs : List Document)
+            → StandsFor schema analyze docs self.old → StandsFor schema analyze docs self.new }
+        ensures same { (bytes_of self.new ≡ bytes_of self.old) × (num_docs_of self.new ≡ num_docs_of self.old)
+            × (index_of self.new ≡ index_of self.old) × (blocks_of self.new ≡ blocks_of self.old) }
+    {
+        let slot = self.store.get_document_bytes(doc)?;
+        read_slot(alloc, schema, slot.as_slice())
     }
 
     /// The terms of the documents.

@@ -1,12 +1,15 @@
-//! `segment_cases`: answers worked cases on the records that list segments. Each line of standard input is a case, an
-//! operation and its arguments, and the line of standard output with the same number is its answer.
+//! `segment_cases`: answers worked cases on segments and on the records that list them. Each line of standard input is a
+//! case, an operation and its arguments, and the line of standard output with the same number is its answer.
 #![tactic(auto)]
 
+mod held;
 mod operations;
 mod record_bodies;
+mod segments;
+mod written_segments;
 
 use case_lines::answers;
-use operations::SegmentOperations;
+use held::Held;
 use std::io;
 use std::process::ExitCode;
 
@@ -15,7 +18,7 @@ fn main(rt: HostRuntime) -> ExitCode {
     let Ok(text) = io::read_to_string(alloc, rt.reader()) else {
         return ExitCode::FAILURE;
     };
-    let Ok(answers) = answers(alloc, &mut SegmentOperations { alloc }, &text) else {
+    let Ok(answers) = answers(alloc, &mut Held::empty(alloc), &text) else {
         return ExitCode::FAILURE;
     };
     match print!(rt; "{answers}") {

@@ -1,24 +1,20 @@
 //! Operations by their names.
 
-use crate::record_bodies;
+use crate::held::Held;
+use crate::{record_bodies, segments};
 use case_lines::{Arguments, Operations, Refusal};
+use document_lines::made;
 use serde_json::Value;
-use std::alloc::Global;
 
-/// Operations on bodies of segments.
-#[derive(Drop)]
-pub(crate) struct SegmentOperations {
-    pub(crate) alloc: Global,
-}
-
-impl Operations for SegmentOperations {
+impl Operations for Held {
     fn answer(&mut self, operation: &str, arguments: &Arguments) -> Result<Value, Refusal> {
         let alloc = self.alloc;
         match operation {
+            "schema-built" => made(alloc, &mut self.schema, "built", arguments),
             "put-body" => record_bodies::put(alloc, arguments),
             "read-body" => record_bodies::read(alloc, arguments),
             "places-follow" => record_bodies::follow(alloc, arguments),
-            _ => Err(Refusal::NotAsked),
+            _ => segments::answer(self, operation, arguments),
         }
     }
 }

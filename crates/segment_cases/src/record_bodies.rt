@@ -76,7 +76,7 @@ fn alive_sets(alloc: Global, list: &[Value]) -> Result<Vec<AliveBitSet>, Refusal
 }
 
 /// The alive set of a text.
-fn alive_set(alloc: Global, flags: &str) -> Result<AliveBitSet, Refusal> {
+pub(crate) fn alive_set(alloc: Global, flags: &str) -> Result<AliveBitSet, Refusal> {
     let num_docs = u32::try_from(flags.len()).ok().ok_or(Refusal::NotAsked)?;
     let mut set = AliveBitSet::for_max_doc(alloc, num_docs)?;
     for (doc, byte) in flags.as_bytes().iter().enumerate() {
@@ -104,7 +104,7 @@ fn shown(alloc: Global, body: &SegmentsBody<'_>) -> Result<Value, AllocError> {
 }
 
 /// An alive set as a text.
-fn shown_set(alloc: Global, set: &AliveBitSet) -> Result<Value, AllocError> {
+pub(crate) fn shown_set(alloc: Global, set: &AliveBitSet) -> Result<Value, AllocError> {
     let mut flags = String::new(alloc);
     for doc in 0..set.len() {
         flags.push(if set.is_alive(doc as u32) { '1' } else { '0' })?;

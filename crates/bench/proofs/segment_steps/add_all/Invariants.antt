@@ -1,0 +1,7 @@
+use Rattle.std.proofs.Common.{List, ℕ}
+use Rattle.definitions.specs.Values.{Document}
+use Rattle.segment_writer.specs.Writers.{HasWritten}
+use Rattle.bench.proofs.segment_steps.add_all.Given as goal
+
+abbrev pub invariant-loop-doc : goal.invariant-loop-doc
+invariant-loop-doc g l = (block_size : ℕ) × (all : List Document) × HasWritten l.schema (g.A.Analyzer.analyze l.analyzer) block_size l.writer all

@@ -1,0 +1,46 @@
+//! Documents: which of them an add takes, and what is read of them from their slots.
+
+ghost use Rattle.std.specs.Prelude.{◌<◌, ◌^◌, ◌≡◌, ◌⊎◌, ◌↔◌, IfErr, IfOk, IsTrue, List, None, length};
+ghost use Rattle.definitions.specs.Calls.{has_unknown_field};
+ghost use Rattle.definitions.specs.declared.fault.Fault.TheVariants as faults;
+ghost use Rattle.segment.specs.SlotDocuments.{IsNoDocument, IsSlotOf};
+ghost use Rattle.segment_layouts.specs.Segments.{IsTaken};
+
+use definitions::Fault;
+use document::CompactDoc;
+use schema::Schema;
+use std::alloc::Global;
+
+/// The document of the schema's fields that a slot is; `Damaged` where it is none.
+pub(crate) fn read_slot(alloc: Global, schema: &Schema, slot: &[u8]) -> Result<CompactDoc, Fault>
+    ensures ok { IfOk result (λ read. IsSlotOf schema.now slot.now read) }
+    ensures err { IfErr result (λ fault. (fault ≡ faults.OutOfMemory)
+        ⊎ ((fault ≡ faults.Damaged None) × IsNoDocument schema.now slot.now)) }
+    ensures short { length slot.now < 2 ^ 64 }
+{
+    let doc = CompactDoc::deserialize(alloc, slot)?;
+    if has_unknown_field(schema, &doc) {
+        return Err(Fault::Damaged(None));
+    }
+    Ok(doc)
+}
+
+/// Whether an add takes a document: the schema has its fields, and each of its values can be indexed.
+pub fn is_taken(schema: &Schema, doc: &CompactDoc) -> bool
+    ensures { IsTrue result ↔ IsTaken schema.now doc.now }
+{
+    let _pairs = doc.len();
+    !has_unknown_field(schema, doc) && doc.indexable(schema)
+}
+
+/// Whether there is a value of a field that the schema doesn't have.
+fn has_unknown_field(schema: &Schema, doc: &CompactDoc) -> bool
+    ensures { result ≡ has_unknown_field schema.now doc.now }
+{
+    for (field, _) in doc.field_values() {
+        if field.field_id() as usize >= schema.num_fields() {
+            return true;
+        }
+    }
+    false
+}
