@@ -1,4 +1,4 @@
-use Rattle.std.proofs.Common.{arith, length, ◌≤◌}
+use Rattle.std.proofs.Common.{arith}
 use Rattle.phrase_cases.proofs.Covered.{first-most}
 use Rattle.phrase_cases.proofs.phrase_rows.places_here.Goals as goal
 

@@ -1,4 +1,4 @@
-use Rattle.std.proofs.Common.{arith, length, ◌≤◌}
+use Rattle.std.proofs.Common.{arith}
 use Rattle.cursors.specs.EntryLaws.{few}
 use Rattle.phrase_cases.proofs.sinks.feed.Goals as goal
 
