@@ -1,0 +1,7 @@
+use Rattle.std.proofs.Common.{subst, sym}
+use Rattle.definitions.specs.Scoring.{DontFall}
+use Rattle.phrase_cases.proofs.Covered.{same-norms}
+use Rattle.phrase_cases.proofs.phrase_rows.similarity.Goals as goal
+
+pub new-requires-clause-rises : goal.new-requires-clause-rises
+new-requires-clause-rises c = subst DontFall (sym c.requires) (same-norms 256 1)
