@@ -1,4 +1,4 @@
-//! Weights of queries: in each segment, the documents that match with their scores.
+//! The weight of a term: in each segment, the documents that hold it with their scores.
 #![tactic(auto)]
 
 mod prefixes;

@@ -1,6 +1,6 @@
 use Rattle.std.proofs.Common.{length, ◌≡◌}
 use Rattle.definitions.specs.Prefixes.{prefix_end}
-use Rattle.weights.proofs.prefixes.prefix_end.Given as goal
+use Rattle.term_weight.proofs.prefixes.prefix_end.Given as goal
 
 -- what was taken away ends nowhere
 abbrev pub invariant-loop-last : goal.invariant-loop-last

@@ -21,8 +21,8 @@ use Rattle.segment_reader.specs.SegmentReaders.{StandsFor, index_of, known_toget
 use Rattle.segment_reader.specs.Together.{AreTogether}
 use Rattle.segment_reader.specs.declared.segment_reader.SegmentReader.{SegmentReader}
 use Rattle.term_scorer.specs.TermScores.{TermSimilarity, term_scored}
-use Rattle.weights.proofs.TermAnswers.{by_term, term_answers}
-use Rattle.weights.specs.LengthIds.{AreIds}
+use Rattle.term_weight.proofs.TermAnswers.{by_term, term_answers}
+use Rattle.term_weight.specs.LengthIds.{AreIds}
 
 -- ---- no document is past the end of the segment
 

@@ -15,7 +15,7 @@ use Rattle.layouts.specs.FieldNorms.{ids_of}
 use Rattle.layouts.specs.TermPostings.{id_of}
 use Rattle.segment_reader.specs.SegmentReaders.{StandsFor, known_together, lengths_of, max_doc_of}
 use Rattle.segment_reader.specs.declared.segment_reader.SegmentReader.{SegmentReader}
-use Rattle.weights.specs.LengthIds.{AreIds}
+use Rattle.term_weight.specs.LengthIds.{AreIds}
 
 -- a field whose ids are found has one for each document
 found_length : (field n : ℕ) (lengths : List (ℕ × List ℕ)) (ids : List ℕ) → AllByRecursion (λ p. length p.1 ≡ n) lengths → ids_of field lengths ≡ Some ids → length ids ≡ n

@@ -13,7 +13,7 @@ use Rattle.definitions.specs.Values.{Document}
 use Rattle.inverted_index_reader.specs.OpenedTerms.{entry_as}
 use Rattle.leaf_scorers.specs.ScoredEntries.{pairs_of}
 use Rattle.term_scorer.specs.TermScores.{TermSimilarity, term_scored}
-use Rattle.weights.specs.LengthIds.{AreIds}
+use Rattle.term_weight.specs.LengthIds.{AreIds}
 
 -- the length id of each document stands at its place, counted from a number
 abbrev pub AreIdsFrom : (Document → ℕ) → ℕ → List Document → List ℕ → Type 0

@@ -14,7 +14,7 @@ ghost use Rattle.leaf_scorers.specs.ScoredEntries.{pairs_of};
 ghost use Rattle.options.specs.RecordOption.{record_option_of};
 ghost use Rattle.segment_reader.specs.SegmentReaders.{StandsFor, max_doc_of};
 ghost use Rattle.term_scorer.specs.ScoredTerms.{scored_left};
-ghost use Rattle.weights.specs.LengthIds.{AreIds};
+ghost use Rattle.term_weight.specs.LengthIds.{AreIds};
 
 use common::{DocId, Score};
 use fieldnorms::FieldNormReader;
@@ -37,7 +37,7 @@ pub struct TermWeight<'a> {
 }
 
 impl<'a> TermWeight<'a> {
-    ghost use Rattle.weights.specs.TermWeights.{ScoresBy, option_asked, term_of, weight_in};
+    ghost use Rattle.term_weight.specs.TermWeights.{ScoresBy, option_asked, term_of, weight_in};
 
     /// A term, what is read of its postings, its weight, which is at most `MAX_SCORE`, and 256 norms, which don't fall.
     pub fn new(

@@ -3,7 +3,7 @@ use Rattle.std.specs.Prelude.{◌≡◌, List, ℕ}
 use Rattle.definitions.specs.Schema.{IndexRecordOption}
 use Rattle.definitions.specs.Scoring.{Similarity}
 use Rattle.options.specs.RecordOption.{record_option_of}
-use Rattle.weights.specs.declared.term_weight.TermWeight.{TermWeight}
+use Rattle.term_weight.specs.declared.term_weight.TermWeight.{TermWeight}
 
 -- its term
 abbrev pub term_of : TermWeight → List ℕ

@@ -1,9 +1,9 @@
 use Rattle.std.proofs.Common.{None, Some, ap, replicate, subst, sym, ◌∙◌}
 use Rattle.definitions.specs.Scoring.{length_id}
 use Rattle.definitions.specs.Terms.{field_of}
-use Rattle.weights.specs.LengthIds.{AreIds}
-use Rattle.weights.proofs.FieldLengths.{constant_ids, kept_ids, lent_ids, one_for_each}
-use Rattle.weights.proofs.term_weight.TermWeight.lengths.Goals as goal
+use Rattle.term_weight.specs.LengthIds.{AreIds}
+use Rattle.term_weight.proofs.FieldLengths.{constant_ids, kept_ids, lent_ids, one_for_each}
+use Rattle.term_weight.proofs.term_weight.TermWeight.lengths.Goals as goal
 
 -- src/term_weight.rt:72:5
 pub returns-in-Some-clause-each : goal.returns-in-Some-clause-each

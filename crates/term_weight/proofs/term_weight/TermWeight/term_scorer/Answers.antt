@@ -6,9 +6,9 @@ use Rattle.definitions.specs.Scoring.{natural}
 use Rattle.leaf_scorers.specs.ScoredEntries.{pairs_of}
 use Rattle.segment_postings.specs.Cursors.{entries_left}
 use Rattle.term_scorer.specs.Similarities.{similarity_data}
-use Rattle.weights.specs.TermWeights.{option_asked, term_of}
-use Rattle.weights.proofs.TermsFound.{all_within, if_none, none_found, scored_found, weighed}
-use Rattle.weights.proofs.term_weight.TermWeight.term_scorer.Goals as goal
+use Rattle.term_weight.specs.TermWeights.{option_asked, term_of}
+use Rattle.term_weight.proofs.TermsFound.{all_within, if_none, none_found, scored_found, weighed}
+use Rattle.term_weight.proofs.term_weight.TermWeight.term_scorer.Goals as goal
 
 -- src/term_weight.rt:103:24
 pub returns-in_err-postings-clause-none : goal.returns-in_err-postings-clause-none
