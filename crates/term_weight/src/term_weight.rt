@@ -5,19 +5,17 @@ ghost use Rattle.definitions.specs.Analyzers.{Analyzer};
 ghost use Rattle.definitions.specs.Answers.{answers, living_count};
 ghost use Rattle.definitions.specs.Query.{term};
 ghost use Rattle.definitions.specs.Schema.{Schema};
-ghost use Rattle.definitions.specs.Scoring.{DontFall, length_id, max_score, natural};
+ghost use Rattle.definitions.specs.Scoring.{DontFall, max_score, natural};
 ghost use Rattle.definitions.specs.Scoring as scoring;
-ghost use Rattle.definitions.specs.Terms.{field_of};
 ghost use Rattle.definitions.specs.Values.{Document};
 ghost use Rattle.cursors.specs.EntryLaws.{DontFall-prop};
 ghost use Rattle.leaf_scorers.specs.ScoredEntries.{pairs_of};
 ghost use Rattle.options.specs.RecordOption.{record_option_of};
-ghost use Rattle.segment_reader.specs.SegmentReaders.{StandsFor, max_doc_of};
+ghost use Rattle.segment_reader.specs.SegmentReaders.{StandsFor};
 ghost use Rattle.term_scorer.specs.ScoredTerms.{scored_left};
-ghost use Rattle.term_weight.specs.LengthIds.{AreIds};
 
+use crate::field_lengths::lengths_of_field;
 use common::{DocId, Score};
-use fieldnorms::FieldNormReader;
 use options::IndexRecordOption;
 use segment_reader::SegmentReader;
 use std::alloc::{AllocError, Global};
@@ -69,22 +67,6 @@ impl<'a> TermWeight<'a> {
         self.term
     }
 
-    /// The length ids of the term's field; that of length 1 for each document where the field keeps none.
-    fn lengths(&self, reader: &SegmentReader<'a>) -> FieldNormReader<'a>
-        ensures each { length result ≡ max_doc_of reader.now }
-        ensures ids { (schema : Schema) (analyze : Analyzer) (docs : List Document)
-            → StandsFor schema analyze docs reader.now
-            → AreIds (length_id schema analyze (field_of (term_of self.now))) docs result }
-    {
-        match reader
-            .fieldnorms_readers()
-            .get_field(self.term.field().field_id())
-        {
-            Some(ids) => ids,
-            None => FieldNormReader::constant(reader.max_doc(), 1),
-        }
-    }
-
     /// The documents of a segment that hold the term, with their scores under a boost; none where no document holds it.
     pub fn term_scorer(&self, reader: &SegmentReader<'a>, boost: Score) -> Option<TermScorer<'a>>
         requires positive { pos 0 ≤ℤ boost }
@@ -102,6 +84,10 @@ impl<'a> TermWeight<'a> {
         let index = reader.inverted_index();
         let postings = index.read_postings(self.term, self.index_record_option)?;
         let similarity = Similarity::new(self.weight as i64, boost, self.norms);
-        Some(TermScorer::new(postings, self.lengths(reader), similarity))
+        Some(TermScorer::new(
+            postings,
+            lengths_of_field(reader, self.term.field()),
+            similarity,
+        ))
     }
 }
