@@ -62,7 +62,7 @@ module _ (schema : Schema) (analyze : Analyzer) (docs : List Document) (r : Segm
   abbrev pub contents_of : Contents (index_of r)
   contents_of = record { schema = schema; num_docs = length docs; norms = norms_of schema analyze docs; fields = stands.fields; is = stands.reads }
 
-  held : (t : List ℕ) → postings_held schema stands.fields t ≡ postings schema analyze t docs
+  pub held : (t : List ℕ) → postings_held schema stands.fields t ≡ postings schema analyze t docs
   held t = given_held (λ u. postings schema analyze u docs) schema stands.fields t stands.indexed
 
   -- the scored postings that the index holds are the answers

@@ -1,0 +1,7 @@
+-- Lemmas behind the weights of phrases.
+pub mod NoPlaces
+pub mod TermsTogether
+pub mod PhraseAnswers
+pub mod TermsRead
+pub mod PhraseEntriesRead
+pub mod PhraseScores

@@ -1,0 +1,3 @@
+-- Words of the contracts.
+pub mod ReadTerms
+pub mod PhraseWeights

@@ -1,0 +1,7 @@
+//! The weights of phrases: in each segment, the documents where a phrase stands with their scores.
+#![tactic(auto)]
+
+mod phrase_weight;
+mod read_terms;
+
+pub use phrase_weight::PhraseWeight;
