@@ -5,3 +5,6 @@ pub mod PhraseAnswers
 pub mod TermsRead
 pub mod PhraseEntriesRead
 pub mod PhraseScores
+pub mod AnyLaws
+pub mod PrefixMatches
+pub mod PrefixAnswers

@@ -1,5 +1,5 @@
 -- The documents where a phrase stands are what its query answers.
-use Rattle.std.proofs.Common.{[], Bool, List, None, Some, ap, arith, bytes_eq, false, filter, filter_map, if◌then◌else◌, le-leb, length, map, nat_le, nat_lt, refl, slice_get, slice_index, subst, suc, sym, true, true≢false, ◌&&◌, ◌||◌, ◌*◌, ◌+◌, ◌-◌, ◌<◌, ◌≡◌, ◌≤◌, ◌∙◌, ◌∷◌, get_or, zero, ℕ}
+use Rattle.std.proofs.Common.{[], Bool, List, None, Option, Some, ap, arith, bytes_eq, false, filter, filter_map, if◌then◌else◌, le-leb, length, map, nat_le, nat_lt, refl, slice_get, slice_index, subst, suc, sym, true, true≢false, ◌&&◌, ◌||◌, ◌*◌, ◌+◌, ◌-◌, ◌<◌, ◌≡◌, ◌≤◌, ◌∙◌, ◌∷◌, get_or, zero, ℕ}
 use Rattle.std.proofs.lemmas.Bool.{lt-leb}
 use Rattle.std.proofs.lemmas.List.{length-map}
 use Rattle.std.proofs.lemmas.Simd.{map-map}
@@ -26,13 +26,16 @@ use Rattle.phrases.specs.Places.{places_of}
 use Rattle.phrase_weights.proofs.NoPlaces.{HasEmpty, empty-first, empty-later, no-places}
 use Rattle.phrase_weights.proofs.TermsTogether.{all_here, at_first, at_later, at_none, columns_here, entry_in, few_here, holds_all, lists_from, read_from}
 
--- what a document counts for by its places
-pairs_next : (score : ℕ → ℕ → ℕ) (slop : ℕ) (e : Entry) (es : List Entry) (places : List ℕ) → places_of slop e.positions ≡ places → pairs_of (phrased score slop (e ∷ es)) ≡ cons_option (if nat_lt 0 (length places) then Some (e.doc, score e.doc (length places)) else None) (pairs_of (phrased score slop es))
-pairs_next score slop e es places are =
-    ap (λ ps. pairs_of (if nat_lt 0 (length ps) then record { doc = e.doc; score = score e.doc (length ps); count = length ps; positions = ps ∷ [] } ∷ phrased score slop es else phrased score slop es)) are
+-- a document with the places of a phrase, where there are some
+abbrev pub with_places : (ℕ → ℕ → ℕ) → ℕ → List ℕ → Entry
+with_places earns n places = record { doc = n; score = earns n (length places); count = length places; positions = places ∷ [] }
+
+entries_next : (earns : ℕ → ℕ → ℕ) (slop : ℕ) (e : Entry) (es : List Entry) (places : List ℕ) → places_of slop e.positions ≡ places → phrased earns slop (e ∷ es) ≡ cons_option (if nat_lt 0 (length places) then Some (with_places earns e.doc places) else None) (phrased earns slop es)
+entries_next earns slop e es places are =
+    ap (λ ps. if nat_lt 0 (length ps) then with_places earns e.doc ps ∷ phrased earns slop es else phrased earns slop es) are
     ∙ go (nat_lt 0 (length places))
   where
-    go : (b : Bool) → pairs_of (if b then record { doc = e.doc; score = score e.doc (length places); count = length places; positions = places ∷ [] } ∷ phrased score slop es else phrased score slop es) ≡ cons_option (if b then Some (e.doc, score e.doc (length places)) else None) (pairs_of (phrased score slop es))
+    go : (b : Bool) → (if b then with_places earns e.doc places ∷ phrased earns slop es else phrased earns slop es) ≡ cons_option (if b then Some (with_places earns e.doc places) else None) (phrased earns slop es)
     go true = refl
     go false = refl
 
@@ -53,7 +56,7 @@ module _ (schema : Schema) (analyze : Analyzer) where
   abbrev columns_in : ℕ → Document → Terms → List (List ℕ)
   columns_in g doc ts = map (adjusted (positions_in doc) g) ts
 
-  none_held : (t : List ℕ) (doc : Document) → holds schema analyze t doc ≡ false → positions_of schema analyze t doc ≡ []
+  pub none_held : (t : List ℕ) (doc : Document) → holds schema analyze t doc ≡ false → positions_of schema analyze t doc ≡ []
   none_held t doc none = go (is_recorded has_positions schema t) (ap (map (λ (p : Placed). p.1)) (filter_no (λ (p : Placed). bytes_eq p.0 t) (terms_of schema analyze doc) none))
     where
       go : (b : Bool) → occurrences schema analyze t doc ≡ [] → (if b then ascending (occurrences schema analyze t doc) else []) ≡ []
@@ -75,13 +78,19 @@ module _ (schema : Schema) (analyze : Analyzer) where
     places_are : (doc : Document) → places_of slop (columns_in greatest doc terms) ≡ phrase_places (positions_in doc) terms slop
     places_are doc = ap (λ ts. places_of slop (columns_in greatest doc ts)) (sym sorted) ∙ phrase-places (positions_in doc) terms slop
 
-    -- a document that lacks a term doesn't match
-    pub lacking : (n : ℕ) (doc : Document) (rest : ScoredList) → holds_all schema analyze doc terms ≡ false → cons_option (answer_at schema analyze sim b (phrase terms slop) (n, doc)) rest ≡ rest
-    lacking n doc rest few =
-        let none = sym (places_are doc) ∙ no-places slop (columns_in greatest doc terms) (empty_column greatest doc terms few) in
-        ap (λ ps. cons_option (if nat_lt 0 (length ps) then Some (n, score schema analyze sim doc b (phrase terms slop)) else None) rest) none
+    -- a document that lacks a term has none
+    no_place : (doc : Document) → holds_all schema analyze doc terms ≡ false → phrase_places (positions_in doc) terms slop ≡ []
+    no_place doc few = sym (places_are doc) ∙ no-places slop (columns_in greatest doc terms) (empty_column greatest doc terms few)
 
-    -- the earns of each document by how often the phrase stands in it, counted from a number
+    -- and doesn't match
+    lacking : (n : ℕ) (doc : Document) (rest : ScoredList) → holds_all schema analyze doc terms ≡ false → cons_option (answer_at schema analyze sim b (phrase terms slop) (n, doc)) rest ≡ rest
+    lacking n doc rest few = ap (λ ps. cons_option (if nat_lt 0 (length ps) then Some (n, score schema analyze sim doc b (phrase terms slop)) else None) rest) (no_place doc few)
+
+    -- a document where the phrase stands, with its places
+    abbrev pub phrase_entry : (ℕ → ℕ → ℕ) → ℕ × Document → Option Entry
+    phrase_entry earns (n, doc) = if nat_lt 0 (phrase_count schema analyze terms slop doc) then Some (with_places earns n (phrase_places (positions_in doc) terms slop)) else None
+
+    -- the score of each document by how often the phrase stands in it, counted from a number
     abbrev pub AreScores : (ℕ → ℕ → ℕ) → ℕ → List Document → Type 0
     AreScores earns n docs = (place : ℕ) (doc : Document) (count : ℕ) → slice_get docs place ≡ Some doc → earns (n + place) count ≡ b * part (weight_sum sim.weight terms) count (slice_index sim.norms (length_id schema analyze (phrase_field terms) doc))
 
@@ -92,25 +101,24 @@ module _ (schema : Schema) (analyze : Analyzer) where
     abbrev together : ℕ → List (List Entry) → List Entry
     together n ess = listed (enough (length terms) ess) (λ d. joining d (entries_at d ess)) n
 
-    answers_from : (earns : ℕ → ℕ → ℕ) (n : ℕ) (docs : List Document) → 0 < length terms → n + length docs ≤ terminated → AreScores earns n docs → pairs_of (phrased earns slop (together n (lists_from schema analyze greatest n docs terms))) ≡ filter_map (answer_at schema analyze sim b (phrase terms slop)) (enumerate_from n docs)
-    answers_from earns n [] some fits are =
+    entries_from : (earns : ℕ → ℕ → ℕ) (n : ℕ) (docs : List Document) → 0 < length terms → n + length docs ≤ terminated → phrased earns slop (together n (lists_from schema analyze greatest n docs terms)) ≡ filter_map (phrase_entry earns) (enumerate_from n docs)
+    entries_from earns n [] some fits =
         let ess : List (List Entry) = lists_from schema analyze greatest n [] terms in
         let entry : ℕ → Entry = λ d. joining d (entries_at d ess) in
-        ap (λ es. pairs_of (phrased earns slop es)) (listed-skip (enough (length terms) ess) entry n terminated (omega (arith, fits)) (omega arith) (λ d l h. ap (λ es. nat_le (length terms) (length es)) (at_none schema analyze greatest d n terms) ∙ lt-leb (length terms) 0 some) ∙ listed-end (enough (length terms) ess) entry terminated (omega arith))
-    answers_from earns n (doc ∷ docs) some fits are =
+        ap (phrased earns slop) (listed-skip (enough (length terms) ess) entry n terminated (omega (arith, fits)) (omega arith) (λ d l h. ap (λ es. nat_le (length terms) (length es)) (at_none schema analyze greatest d n terms) ∙ lt-leb (length terms) 0 some) ∙ listed-end (enough (length terms) ess) entry terminated (omega arith))
+    entries_from earns n (doc ∷ docs) some fits =
         let ess : List (List Entry) = lists_from schema analyze greatest n (doc ∷ docs) terms in
         let next : List (List Entry) = lists_from schema analyze greatest (n + 1) docs terms in
-        let rest = answers_from earns (n + 1) docs some (omega (arith, fits)) (scores_next earns n doc docs are) in
+        let rest = entries_from earns (n + 1) docs some (omega (arith, fits)) in
         let on : together (n + 1) ess ≡ together (n + 1) next = listed-same (enough (length terms) ess) (enough (length terms) next) (λ d. joining d (entries_at d ess)) (λ d. joining d (entries_at d next)) (n + 1)
         (λ d l h. ap (λ es. nat_le (length terms) (length es)) (at_later schema analyze greatest d n doc docs terms (omega (arith, l))))
         (λ d l h. ap (joining d) (at_later schema analyze greatest d n doc docs terms (omega (arith, l)))) in
-        go (holds_all schema analyze doc terms) refl on rest
+        go (holds_all schema analyze doc terms) refl (ap (phrased earns slop) on ∙ rest)
       where
         go : (all : Bool) → holds_all schema analyze doc terms ≡ all
-            → together (n + 1) (lists_from schema analyze greatest n (doc ∷ docs) terms) ≡ together (n + 1) (lists_from schema analyze greatest (n + 1) docs terms)
-            → pairs_of (phrased earns slop (together (n + 1) (lists_from schema analyze greatest (n + 1) docs terms))) ≡ filter_map (answer_at schema analyze sim b (phrase terms slop)) (enumerate_from (n + 1) docs)
-            → pairs_of (phrased earns slop (together n (lists_from schema analyze greatest n (doc ∷ docs) terms))) ≡ cons_option (answer_at schema analyze sim b (phrase terms slop) (n, doc)) (filter_map (answer_at schema analyze sim b (phrase terms slop)) (enumerate_from (n + 1) docs))
-        go true all on rest =
+            → phrased earns slop (together (n + 1) (lists_from schema analyze greatest n (doc ∷ docs) terms)) ≡ filter_map (phrase_entry earns) (enumerate_from (n + 1) docs)
+            → phrased earns slop (together n (lists_from schema analyze greatest n (doc ∷ docs) terms)) ≡ cons_option (phrase_entry earns (n, doc)) (filter_map (phrase_entry earns) (enumerate_from (n + 1) docs))
+        go true all rest =
             let ess : List (List Entry) = lists_from schema analyze greatest n (doc ∷ docs) terms in
             let here = at_first schema analyze greatest n doc docs terms ∙ all_here schema analyze greatest n doc terms all in
             let many : length (map (entry_in schema analyze greatest n doc) terms) ≡ length terms = length-map terms (entry_in schema analyze greatest n doc) in
@@ -119,31 +127,46 @@ module _ (schema : Schema) (analyze : Analyzer) where
             let joined : Entry = joining n (entries_at n ess) in
             let columns : joined.positions ≡ columns_in greatest doc terms = ap (λ es. (joining n es).positions) here ∙ columns_here schema analyze greatest n doc terms in
             let places = ap (places_of slop) columns ∙ places_are doc in
-            let same : n + 0 ≡ n = omega arith in
-            let earned = sym (ap (λ k. earns k (phrase_count schema analyze terms slop doc)) same) ∙ are 0 doc (phrase_count schema analyze terms slop doc) refl in
-            ap (λ es. pairs_of (phrased earns slop es)) first
-            ∙ pairs_next earns slop (at_document n joined) (together (n + 1) ess) (phrase_places (positions_in doc) terms slop) places
-            ∙ ap (λ s. cons_option (if nat_lt 0 (phrase_count schema analyze terms slop doc) then Some (n, s) else None) (pairs_of (phrased earns slop (together (n + 1) ess)))) earned
-            ∙ ap (cons_option (answer_at schema analyze sim b (phrase terms slop) (n, doc))) (ap (λ es. pairs_of (phrased earns slop es)) on ∙ rest)
-        go false few on rest =
+            ap (phrased earns slop) first
+            ∙ entries_next earns slop (at_document n joined) (together (n + 1) ess) (phrase_places (positions_in doc) terms slop) places
+            ∙ ap (cons_option (phrase_entry earns (n, doc))) rest
+        go false few rest =
             let ess : List (List Entry) = lists_from schema analyze greatest n (doc ∷ docs) terms in
             let less = few_here schema analyze greatest n doc terms few in
             let here = ap length (at_first schema analyze greatest n doc docs terms) in
             let flag : enough (length terms) ess n ≡ false = lt-leb (length terms) (length (entries_at n ess)) (omega (arith, less, here)) in
-            ap (λ es. pairs_of (phrased earns slop es)) (listed-out (enough (length terms) ess) (λ d. joining d (entries_at d ess)) n (omega (arith, fits)) flag ∙ on)
+            ap (phrased earns slop) (listed-out (enough (length terms) ess) (λ d. joining d (entries_at d ess)) n (omega (arith, fits)) flag)
             ∙ rest
-            ∙ sym (lacking n doc (filter_map (answer_at schema analyze sim b (phrase terms slop)) (enumerate_from (n + 1) docs)) few)
+            ∙ sym (ap (λ ps. cons_option (if nat_lt 0 (length ps) then Some (with_places earns n ps) else None) (filter_map (phrase_entry earns) (enumerate_from (n + 1) docs))) (no_place doc few))
 
-    -- the documents that all terms have and where the phrase stands are its answers
-    pub phrase_answers : (earns : ℕ → ℕ → ℕ) (docs : List Document) → 0 < length terms → length docs ≤ terminated → AreScores earns 0 docs → pairs_of (phrased earns slop (adjusted_terms (map (λ t. (t.0, read_from schema analyze 0 docs t.1)) terms))) ≡ answers schema analyze sim b (phrase terms slop) docs
-    phrase_answers earns docs some fits are =
+    -- the documents that all terms have and where the phrase stands, with its places
+    pub phrase_entries : (earns : ℕ → ℕ → ℕ) (docs : List Document) → 0 < length terms → length docs ≤ terminated → phrased earns slop (adjusted_terms (map (λ t. (t.0, read_from schema analyze 0 docs t.1)) terms)) ≡ filter_map (phrase_entry earns) (enumerate_from 0 docs)
+    phrase_entries earns docs some fits =
         let same = map-map (λ (t : ℕ × List Entry). placed (greatest - t.0) t.1) (λ (t : ℕ × List ℕ). (t.0, read_from schema analyze 0 docs t.1)) terms in
         let offsets = map-map (λ (t : ℕ × List Entry). t.0) (λ (t : ℕ × List ℕ). (t.0, read_from schema analyze 0 docs t.1)) terms in
         let many = length-map terms (λ (t : ℕ × List ℕ). placed (greatest - t.0) (read_from schema analyze 0 docs t.1)) in
-        ap (λ ns. pairs_of (phrased earns slop (meeting (map (λ (t : ℕ × List Entry). placed (greatest_of ns - t.0) t.1) (map (λ (t : ℕ × List ℕ). (t.0, read_from schema analyze 0 docs t.1)) terms))))) offsets
-        ∙ ap (λ ess. pairs_of (phrased earns slop (meeting ess))) same
-        ∙ ap (λ k. pairs_of (phrased earns slop (at_least k joining (lists_from schema analyze greatest 0 docs terms)))) many
-        ∙ answers_from earns 0 docs some (omega (arith, fits)) are
+        ap (λ ns. phrased earns slop (meeting (map (λ (t : ℕ × List Entry). placed (greatest_of ns - t.0) t.1) (map (λ (t : ℕ × List ℕ). (t.0, read_from schema analyze 0 docs t.1)) terms)))) offsets
+        ∙ ap (λ ess. phrased earns slop (meeting ess)) same
+        ∙ ap (λ k. phrased earns slop (at_least k joining (lists_from schema analyze greatest 0 docs terms))) many
+        ∙ entries_from earns 0 docs some (omega (arith, fits))
+
+    pairs_from : (earns : ℕ → ℕ → ℕ) (n : ℕ) (docs : List Document) → AreScores earns n docs → pairs_of (filter_map (phrase_entry earns) (enumerate_from n docs)) ≡ filter_map (answer_at schema analyze sim b (phrase terms slop)) (enumerate_from n docs)
+    pairs_from earns n [] are = refl
+    pairs_from earns n (doc ∷ docs) are =
+        let same : n + 0 ≡ n = omega arith in
+        let earned = sym (ap (λ k. earns k (phrase_count schema analyze terms slop doc)) same) ∙ are 0 doc (phrase_count schema analyze terms slop doc) refl in
+        go (nat_lt 0 (phrase_count schema analyze terms slop doc)) earned (pairs_from earns (n + 1) docs (scores_next earns n doc docs are))
+      where
+        go : (h : Bool)
+            → earns n (phrase_count schema analyze terms slop doc) ≡ score schema analyze sim doc b (phrase terms slop)
+            → pairs_of (filter_map (phrase_entry earns) (enumerate_from (n + 1) docs)) ≡ filter_map (answer_at schema analyze sim b (phrase terms slop)) (enumerate_from (n + 1) docs)
+            → pairs_of (cons_option (if h then Some (with_places earns n (phrase_places (positions_in doc) terms slop)) else None) (filter_map (phrase_entry earns) (enumerate_from (n + 1) docs))) ≡ cons_option (if h then Some (n, score schema analyze sim doc b (phrase terms slop)) else None) (filter_map (answer_at schema analyze sim b (phrase terms slop)) (enumerate_from (n + 1) docs))
+        go true earned rest = ap (λ s. (n, s) ∷ pairs_of (filter_map (phrase_entry earns) (enumerate_from (n + 1) docs))) earned ∙ ap (λ ps. (n, score schema analyze sim doc b (phrase terms slop)) ∷ ps) rest
+        go false earned rest = rest
+
+    -- the documents that all terms have and where the phrase stands are its answers
+    pub phrase_answers : (earns : ℕ → ℕ → ℕ) (docs : List Document) → 0 < length terms → length docs ≤ terminated → AreScores earns 0 docs → pairs_of (phrased earns slop (adjusted_terms (map (λ t. (t.0, read_from schema analyze 0 docs t.1)) terms))) ≡ answers schema analyze sim b (phrase terms slop) docs
+    phrase_answers earns docs some fits are = ap pairs_of (phrase_entries earns docs some fits) ∙ pairs_from earns 0 docs are
 
     lacks : (doc : Document) (ts : Terms) (i : ℕ) (d : ℕ × List ℕ) → i < length ts → holds schema analyze (get_or ts i d).1 doc ≡ false → holds_all schema analyze doc ts ≡ false
     lacks doc [] i d within none = absurd (omega (arith, within))
