@@ -8,3 +8,5 @@ pub mod PhraseScores
 pub mod AnyLaws
 pub mod PrefixMatches
 pub mod PrefixAnswers
+pub mod RangesRead
+pub mod PrefixTerms

@@ -1,3 +1,4 @@
 -- Words of the contracts.
 pub mod ReadTerms
 pub mod PhraseWeights
+pub mod Suffixes

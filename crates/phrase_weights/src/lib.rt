@@ -2,6 +2,7 @@
 #![tactic(auto)]
 
 mod phrase_weight;
+mod read_suffixes;
 mod read_terms;
 
 pub use phrase_weight::PhraseWeight;
