@@ -10,3 +10,4 @@ pub mod PrefixMatches
 pub mod PrefixAnswers
 pub mod RangesRead
 pub mod PrefixTerms
+pub mod PrefixHeld
