@@ -6,3 +6,4 @@ pub mod Counts
 pub mod Adjusted
 pub mod MeetingEntries
 pub mod SuffixCounts
+pub mod BlockLaws

@@ -16,3 +16,4 @@ pub mod OneTermLaws
 pub mod Following
 pub mod Standings
 pub mod StandingLaws
+pub mod Blocks

@@ -2,9 +2,11 @@
 #![tactic(auto)]
 
 mod adjusting;
+mod block_sink;
 mod following;
 mod merging;
 mod one_term_phrase;
+mod phrase_kind;
 pub mod phrase_laws;
 mod phrase_prefix_scorer;
 mod phrase_scorer;
@@ -15,8 +17,10 @@ mod sink;
 mod suffixes;
 mod sweeps;
 
+pub use block_sink::{BlockSink, for_each_docset_buffered};
 pub use one_term_phrase::OneTermPhrase;
+pub use phrase_kind::PhraseKind;
 pub use phrase_prefix_scorer::PhrasePrefixScorer;
 pub use phrase_scorer::PhraseScorer;
 pub use postings_with_offset::PostingsWithOffset;
-pub use sink::{BlockSink, Sink, for_each_pruning_scorer, offer};
+pub use sink::{Sink, for_each_pruning_scorer, offer};

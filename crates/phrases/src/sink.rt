@@ -1,4 +1,4 @@
-//! What takes documents: those whose scores are above a threshold, or blocks of documents without scores.
+//! What takes documents whose scores are above a threshold.
 
 ghost use Rattle.std.specs.Prelude.{[], ◌+◌, ◌∷◌, ◌≡◌, ◌≤ℤ◌, ◌≤◌, length, pos};
 ghost use Rattle.definitions.specs.Scoring.{natural};
@@ -39,25 +39,6 @@ pub trait Sink {
         ensures state { state self.new ≡ taken (state self.old) (doc, natural score) }
         ensures next { result ≡ limit (state self.new) }
         ensures room { room self.old ≤ room self.new + 1 };
-}
-
-/// Takes blocks of documents, without scores.
-pub trait BlockSink {
-    ghost use Rattle.std.specs.Prelude.{List, ℕ};
-
-    /// What it has come to. No value of it is made.
-    type State;
-
-    // What it has come to.
-    ghost state: { Self → Self.State };
-
-    // What it comes to with one more block.
-    ghost taken: { Self.State → List ℕ → Self.State };
-
-    /// Takes the documents of a block, one at least.
-    fn collect_block(&mut self, docs: &[DocId])
-        requires { 1 ≤ length docs.now }
-        ensures { state self.new ≡ taken (state self.old) docs.now };
 }
 
 /// Gives a sink a document, where its score is above the threshold, which is the sink's. Answers the next one.

@@ -1,0 +1,38 @@
+//! What takes documents in blocks, without scores.
+
+ghost use Rattle.std.specs.Prelude.{[], ◌≡◌, ◌≤◌, length, map};
+ghost use Rattle.phrases.specs.Blocks.{IsFedInBlocks};
+
+use common::{DocId, TERMINATED};
+use cursors::{COLLECT_BLOCK_BUFFER_LEN, DocSet};
+
+/// Takes blocks of documents, without scores.
+pub trait BlockSink {
+    ghost use Rattle.std.specs.Prelude.{List, ℕ};
+
+    /// What it has come to. No value of it is made.
+    type State;
+
+    // What it has come to.
+    ghost state: { Self → Self.State };
+
+    // What it comes to with one more block.
+    ghost taken: { Self.State → List ℕ → Self.State };
+
+    /// Takes the documents of a block, one at least.
+    fn collect_block(&mut self, docs: &[DocId])
+        requires { 1 ≤ length docs.now }
+        ensures { state self.new ≡ taken (state self.old) docs.now };
+}
+
+/// Gives a sink all documents of a cursor, in order, in blocks of 64 at most.
+pub fn for_each_docset_buffered<D: DocSet, K: BlockSink>(docset: &mut D, sink: &mut K)
+    ensures fed { IsFedInBlocks K.taken (K.state sink.old) (map (λ e. e.doc) (D.entries docset.old)) (K.state sink.new) }
+    ensures done { D.entries docset.new ≡ [] }
+{
+    let mut buffer = [0; COLLECT_BLOCK_BUFFER_LEN];
+    while docset.doc() != TERMINATED {
+        let filled = docset.fill_buffer(&mut buffer);
+        sink.collect_block(&buffer[..filled]);
+    }
+}
