@@ -11,3 +11,4 @@ pub mod PrefixAnswers
 pub mod RangesRead
 pub mod PrefixTerms
 pub mod PrefixHeld
+pub mod PrefixRecorded
