@@ -14,7 +14,7 @@ use Rattle.definitions.specs.Query.{Terms, phrase}
 use Rattle.definitions.specs.Indexing.{Placed, terms_of}
 use Rattle.definitions.specs.Recorded.{ascending, count_of, holds, is_recorded, occurrences, positions_of}
 use Rattle.definitions.specs.Schema.{Schema, has_positions}
-use Rattle.definitions.specs.Scoring.{Similarity, greatest_of, length_id, part, phrase_field, score, weight_sum}
+use Rattle.definitions.specs.Scoring.{Similarity, greatest_of, length_id, part, phrase_field, phrase_score, score, weight_sum}
 use Rattle.definitions.specs.Values.{Document}
 use Rattle.intersections.specs.Meetings.{meeting}
 use Rattle.leaf_scorers.specs.ScoredEntries.{pairs_of}
@@ -23,6 +23,7 @@ use Rattle.members.specs.Members.{at_document, at_least, enough, entries_at, joi
 use Rattle.phrases.proofs.PhrasePlaces.{phrase-places}
 use Rattle.phrases.specs.PhraseEntries.{adjusted_terms, phrased, placed}
 use Rattle.phrases.specs.Places.{places_of}
+use Rattle.phrase_weights.specs.PlacedAnswers.{placed_answers, placed_at, placed_entry}
 use Rattle.phrase_weights.proofs.NoPlaces.{HasEmpty, empty-first, empty-later, no-places}
 use Rattle.phrase_weights.proofs.TermsTogether.{all_here, at_first, at_later, at_none, columns_here, entry_in, few_here, holds_all, lists_from, read_from}
 
@@ -149,6 +150,24 @@ module _ (schema : Schema) (analyze : Analyzer) where
         ∙ ap (λ ess. phrased earns slop (meeting ess)) same
         ∙ ap (λ k. phrased earns slop (at_least k joining (lists_from schema analyze greatest 0 docs terms))) many
         ∙ entries_from earns 0 docs some (omega (arith, fits))
+
+    placed_from : (earns : ℕ → ℕ → ℕ) (n : ℕ) (docs : List Document) → AreScores earns n docs → filter_map (phrase_entry earns) (enumerate_from n docs) ≡ filter_map (placed_at schema analyze sim b terms slop) (enumerate_from n docs)
+    placed_from earns n [] are = refl
+    placed_from earns n (doc ∷ docs) are =
+        let same : n + 0 ≡ n = omega arith in
+        let earned = sym (ap (λ k. earns k (phrase_count schema analyze terms slop doc)) same) ∙ are 0 doc (phrase_count schema analyze terms slop doc) refl in
+        go (nat_lt 0 (phrase_count schema analyze terms slop doc)) earned (placed_from earns (n + 1) docs (scores_next earns n doc docs are))
+      where
+        go : (h : Bool)
+            → earns n (phrase_count schema analyze terms slop doc) ≡ b * phrase_score schema analyze sim doc terms slop
+            → filter_map (phrase_entry earns) (enumerate_from (n + 1) docs) ≡ filter_map (placed_at schema analyze sim b terms slop) (enumerate_from (n + 1) docs)
+            → cons_option (if h then Some (with_places earns n (phrase_places (positions_in doc) terms slop)) else None) (filter_map (phrase_entry earns) (enumerate_from (n + 1) docs)) ≡ cons_option (if h then Some (placed_entry schema analyze terms slop n doc (b * phrase_score schema analyze sim doc terms slop)) else None) (filter_map (placed_at schema analyze sim b terms slop) (enumerate_from (n + 1) docs))
+        go true earned rest = ap (λ s. placed_entry schema analyze terms slop n doc s ∷ filter_map (phrase_entry earns) (enumerate_from (n + 1) docs)) earned ∙ ap (λ es. placed_entry schema analyze terms slop n doc (b * phrase_score schema analyze sim doc terms slop) ∷ es) rest
+        go false earned rest = rest
+
+    -- the documents that all terms have and where the phrase stands, each with its places and its score
+    pub phrase_places_answer : (earns : ℕ → ℕ → ℕ) (docs : List Document) → 0 < length terms → length docs ≤ terminated → AreScores earns 0 docs → phrased earns slop (adjusted_terms (map (λ t. (t.0, read_from schema analyze 0 docs t.1)) terms)) ≡ placed_answers schema analyze sim b terms slop docs
+    phrase_places_answer earns docs some fits are = phrase_entries earns docs some fits ∙ placed_from earns 0 docs are
 
     pairs_from : (earns : ℕ → ℕ → ℕ) (n : ℕ) (docs : List Document) → AreScores earns n docs → pairs_of (filter_map (phrase_entry earns) (enumerate_from n docs)) ≡ filter_map (answer_at schema analyze sim b (phrase terms slop)) (enumerate_from n docs)
     pairs_from earns n [] are = refl

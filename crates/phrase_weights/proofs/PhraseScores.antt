@@ -9,7 +9,8 @@ use Rattle.definitions.specs.Schema.{Schema}
 use Rattle.definitions.specs.Scoring.{Similarity, length_id, phrase_field, weight_sum}
 use Rattle.definitions.specs.Values.{Document}
 use Rattle.leaf_scorers.specs.ScoredEntries.{pairs_of}
-use Rattle.phrase_weights.proofs.PhraseAnswers.{AreScores, no_answers, phrase_answers}
+use Rattle.phrase_weights.proofs.PhraseAnswers.{AreScores, no_answers, phrase_answers, phrase_places_answer}
+use Rattle.phrase_weights.specs.PlacedAnswers.{placed_answers}
 use Rattle.phrase_weights.specs.ReadTerms.{HasMissing, placed_entries}
 use Rattle.phrases.specs.PhraseEntries.{adjusted_terms, phrased}
 use Rattle.term_scorer.specs.TermScores.{TermSimilarity, score_by}
@@ -33,3 +34,6 @@ module _ (schema : Schema) (analyze : Analyzer) (sim : Similarity) (b : ℕ) (te
 
   pub missing-answers : (docs : List Document) → HasMissing (λ t. postings schema analyze t docs) terms → answers schema analyze sim b (phrase terms slop) docs ≡ []
   missing-answers docs m = no_answers schema analyze sim b terms slop sorted m.place (0, []) docs m.within m.none
+
+  pub scores-placed : (by : TermSimilarity) (ids : List ℕ) (docs : List Document) → 0 < length terms → length docs ≤ terminated → by ≡ by_sum → AreIds (length_id schema analyze (phrase_field terms)) docs ids → phrased (λ doc count. score_by by (slice_index ids doc) count) slop (adjusted_terms (placed_entries (λ t. postings schema analyze t docs) terms)) ≡ placed_answers schema analyze sim b terms slop docs
+  scores-placed by ids docs some fits weighs are = phrase_places_answer schema analyze sim b terms slop sorted (λ doc count. score_by by (slice_index ids doc) count) docs some fits (scores-are by ids docs weighs are)

@@ -2,3 +2,4 @@
 pub mod ReadTerms
 pub mod PhraseWeights
 pub mod Suffixes
+pub mod PlacedAnswers

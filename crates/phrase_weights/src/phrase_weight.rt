@@ -12,6 +12,7 @@ ghost use Rattle.definitions.specs.Scoring.{DontFall, greatest_of, max_score, na
 ghost use Rattle.definitions.specs.Scoring as scoring;
 ghost use Rattle.definitions.specs.Values.{Document};
 ghost use Rattle.leaf_scorers.specs.ScoredEntries.{greatest_score, pairs_of};
+ghost use Rattle.phrase_weights.specs.PlacedAnswers.{placed_answers};
 ghost use Rattle.segment_reader.specs.SegmentReaders.{StandsFor, max_doc_of};
 
 use crate::read_terms::read_terms;
@@ -88,6 +89,12 @@ impl<'a> PhraseWeight<'a> {
             → IfOk result (λ found. IfSome found (λ scorer. pairs_of
             (⟦<PhraseScorer<'a, PostingsWithOffset<SegmentPostings<'a>>> as DocSet>⟧.entries scorer)
             ≡ answers schema analyze sim (natural boost) (phrase (terms_of self.now) (slop_of self.now)) docs)) }
+        ensures places { (schema : Schema) (analyze : Analyzer) (sim : scoring.Similarity) (docs : List Document)
+            → StandsFor schema analyze docs reader.now
+            → ScoresBy sim self.now
+            → IfOk result (λ found. IfSome found (λ scorer.
+            ⟦<PhraseScorer<'a, PostingsWithOffset<SegmentPostings<'a>>> as DocSet>⟧.entries scorer
+            ≡ placed_answers schema analyze sim (natural boost) (terms_of self.now) (slop_of self.now) docs)) }
         ensures none { (schema : Schema) (analyze : Analyzer) (sim : scoring.Similarity) (docs : List Document)
             → StandsFor schema analyze docs reader.now
             → IfOk result (λ found. IfNone found
@@ -97,7 +104,7 @@ impl<'a> PhraseWeight<'a> {
         ensures bounded { IfOk result (λ found. IfSome found (λ scorer. greatest_score
             (⟦<PhraseScorer<'a, PostingsWithOffset<SegmentPostings<'a>>> as DocSet>⟧.entries scorer)
             ≤ natural boost * weight_in self.now)) }
-        ensures places { IfOk result (λ found. IfSome found (λ scorer. most_positions
+        ensures few_places { IfOk result (λ found. IfSome found (λ scorer. most_positions
             (⟦<PhraseScorer<'a, PostingsWithOffset<SegmentPostings<'a>>> as DocSet>⟧.entries scorer)
             ≤ 4294967295)) }
     {

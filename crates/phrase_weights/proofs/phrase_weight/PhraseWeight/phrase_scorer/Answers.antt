@@ -8,7 +8,7 @@ use Rattle.definitions.specs.Postings.{postings}
 use Rattle.definitions.specs.Scoring.{length_id, natural}
 use Rattle.leaf_scorers.specs.ScoredEntries.{greatest_score, pairs_of}
 use Rattle.phrase_weights.proofs.PhraseEntriesRead.{as-many, few-places, first-field, phrase-bounded, phrase-within}
-use Rattle.phrase_weights.proofs.PhraseScores.{missing-answers, scores-answer}
+use Rattle.phrase_weights.proofs.PhraseScores.{missing-answers, scores-answer, scores-placed}
 use Rattle.phrase_weights.specs.ReadTerms.{HasMissing, placed_entries, placed_left}
 use Rattle.phrases.specs.PhraseEntries.{adjusted_terms, phrased}
 use Rattle.phrases.specs.PhraseScores.{phrase_score_by}
@@ -53,6 +53,21 @@ returns-clause-some c schema analyze sim docs stands scores =
     ∙ ap (λ ts. pairs_of (phrased (λ doc count. score_by (similarity_data c.new-similarity.result) (slice_index c.lengths_of_field-lengths.result doc) count) c.args.self.now.slop (adjusted_terms ts))) read
     ∙ scores-answer schema analyze sim (natural c.args.boost) c.args.self.now.terms.now c.args.self.now.slop c.args.self.now.sorted (similarity_data c.new-similarity.result) c.lengths_of_field-lengths.result docs (omega (arith, several)) (omega (arith, many, few)) (c.new-similarity.ensures ∙ weighed _ _ _ _ _ _ weight boost (sym scores.norms_are)) (subst (λ f. AreIds (length_id schema analyze f) docs c.lengths_of_field-lengths.result) field (c.lengths_of_field-lengths.ensures.ids schema analyze docs stands))
 
+pub returns-clause-places : goal.returns-clause-places
+returns-clause-places c schema analyze sim docs stands scores =
+    let small = c.args.self.now.small in
+    let weight : natural (to_z w64 c.args.self.now.weight) ≡ _ = ap natural (to_z_pos w64 c.args.self.now.weight (omega (arith, small))) ∙ sym scores.weight_is in
+    let fits : SFits w64 c.args.boost = search rules in
+    let boost : natural (to_z w64 (of_z w64 c.args.boost)) ≡ natural c.args.boost = ap natural (to_z-of_z w64 c.args.boost fits) in
+    let read = subst (λ o. IfSome o (λ read. placed_left read.items ≡ placed_entries (λ t. postings schema analyze t docs) c.args.self.now.terms.now)) c.in-Some.is (c.in_ok-term_postings.ensures.some schema analyze docs stands) in
+    let several = c.args.self.now.several in
+    let many = stands.many in
+    let few = c.args.reader.now.few in
+    let field = c.field.ensures ∙ first-field c.args.self.now.terms.now c.index-self-0.result (omega (arith, several)) in
+    c.in_ok-scorer.ensures
+    ∙ ap (λ ts. phrased (λ doc count. score_by (similarity_data c.new-similarity.result) (slice_index c.lengths_of_field-lengths.result doc) count) c.args.self.now.slop (adjusted_terms ts)) read
+    ∙ scores-placed schema analyze sim (natural c.args.boost) c.args.self.now.terms.now c.args.self.now.slop c.args.self.now.sorted (similarity_data c.new-similarity.result) c.lengths_of_field-lengths.result docs (omega (arith, several)) (omega (arith, many, few)) (c.new-similarity.ensures ∙ weighed _ _ _ _ _ _ weight boost (sym scores.norms_are)) (subst (λ f. AreIds (length_id schema analyze f) docs c.lengths_of_field-lengths.result) field (c.lengths_of_field-lengths.ensures.ids schema analyze docs stands))
+
 pub returns-clause-within : goal.returns-clause-within
 returns-clause-within c =
     let several = c.args.self.now.several in
@@ -72,5 +87,5 @@ returns-clause-bounded c =
     let least = phrase-bounded (λ doc count. score_by (similarity_data c.new-similarity.result) (slice_index c.lengths_of_field-lengths.result doc) count) c.args.self.now.slop ((similarity_data c.new-similarity.result).boost * (similarity_data c.new-similarity.result).weight) (adjusted_terms (placed_left c.in-Some.term_postings.items)) (λ doc count. score-below (similarity_data c.new-similarity.result) (slice_index c.lengths_of_field-lengths.result doc) count) in
     omega (arith, is, least, most)
 
-pub returns-clause-places : goal.returns-clause-places
-returns-clause-places c = few-places (phrase_score_by c.in_ok-scorer.scorer.similarity_weight_opt c.in_ok-scorer.scorer.fieldnorm_reader) c.in_ok-scorer.scorer.finder.slop _ c.in_ok-scorer.scorer.standing.columns
+pub returns-clause-few_places : goal.returns-clause-few_places
+returns-clause-few_places c = few-places (phrase_score_by c.in_ok-scorer.scorer.similarity_weight_opt c.in_ok-scorer.scorer.fieldnorm_reader) c.in_ok-scorer.scorer.finder.slop _ c.in_ok-scorer.scorer.standing.columns
