@@ -12,3 +12,5 @@ pub mod RangesRead
 pub mod PrefixTerms
 pub mod PrefixHeld
 pub mod PrefixRecorded
+pub mod WholeTerms
+pub mod PrefixWhole

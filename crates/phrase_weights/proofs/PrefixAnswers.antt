@@ -47,7 +47,7 @@ module _ (schema : Schema) (analyze : Analyzer) (sim : Similarity) (b : ℕ) (wh
   parts : last_and_rest (by_offset terms) ≡ Some ((offset, prefix), whole)
   parts = ap last_and_rest sorted ∙ last-of whole (offset, prefix)
 
-  answer_is : (n : ℕ) (doc : Document) → answer_at schema analyze sim b (phrase_prefix terms limit) (n, doc) ≡ (if prefix_follows schema analyze doc whole (offset, prefix) then Some (n, b * prefix_score schema analyze sim doc whole) else None)
+  pub answer_is : (n : ℕ) (doc : Document) → answer_at schema analyze sim b (phrase_prefix terms limit) (n, doc) ≡ (if prefix_follows schema analyze doc whole (offset, prefix) then Some (n, b * prefix_score schema analyze sim doc whole) else None)
   answer_is n doc = ap (λ (o : Option ((ℕ × List ℕ) × Terms)). if elim o [ None ↦ false | Some p ↦ prefix_follows schema analyze doc p.1 p.0 ] then Some (n, b * prefix_score schema analyze sim doc (option_map_or (λ p. p.1) o [])) else None) parts
 
   -- what stands before the prefix: the documents that are shown, each with its places and its score, and no others have places

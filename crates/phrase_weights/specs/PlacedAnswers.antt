@@ -24,6 +24,10 @@ placed_answers schema analyze sim b terms slop docs = filter_map (placed_at sche
 
 -- ---- before a prefix
 
+-- what whole terms weigh: one earns the boost alone
+abbrev pub whole_weight : Terms → ℕ → ℕ
+whole_weight whole weight = if length whole == 1 then 1 else weight
+
 -- whether whole terms stand in a document: one where it is held
 abbrev pub stands_whole : Schema → Analyzer → Terms → Document → Bool
 stands_whole schema analyze whole doc = if length whole == 1 then list_all (λ t. holds schema analyze t.1 doc) whole else nat_lt 0 (phrase_count schema analyze whole 0 doc)

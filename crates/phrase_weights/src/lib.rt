@@ -4,5 +4,7 @@
 mod phrase_weight;
 mod read_suffixes;
 mod read_terms;
+mod whole_phrase;
 
 pub use phrase_weight::PhraseWeight;
+pub use whole_phrase::WholePhrase;
