@@ -14,3 +14,4 @@ pub mod PrefixHeld
 pub mod PrefixRecorded
 pub mod WholeTerms
 pub mod PrefixWhole
+pub mod SuffixesRead
