@@ -15,3 +15,4 @@ pub mod PrefixRecorded
 pub mod WholeTerms
 pub mod PrefixWhole
 pub mod SuffixesRead
+pub mod PrefixWeighed
