@@ -1,5 +1,5 @@
 -- The scorer of a phrase prefix answers its query.
-use Rattle.std.proofs.Common.{[], Bool, List, None, Option, Some, ap, arith, bytes_eq, drop, false, get_or, if◌then◌else◌, length, map, max, nat_lt, refl, slice_get, subst, suc, sym, take, true, true≢false, zero, ◌*◌, ◌++◌, ◌+◌, ◌-◌, ◌<◌, ◌^◌, ◌≡◌, ◌≤◌, ◌∙◌, ◌∷◌, ℕ}
+use Rattle.std.proofs.Common.{[], Bool, IfSome, List, None, Option, Some, ap, arith, bytes_eq, drop, false, get_or, if◌then◌else◌, length, map, max, nat_lt, refl, slice_get, subst, suc, sym, take, true, true≢false, zero, ◌*◌, ◌++◌, ◌+◌, ◌-◌, ◌<◌, ◌^◌, ◌≡◌, ◌≤◌, ◌∙◌, ◌∷◌, ℕ}
 use Rattle.std.proofs.lemmas.Slice.Eq.{bytes_eq-Decides}
 use Rattle.std.specs.Int.{to_be_bytes, w32}
 use Rattle.std.specs.List.{AllByRecursion}
@@ -154,3 +154,11 @@ prefixed-bounded moved ess (e ∷ es) = go (nat_lt 0 (continued_by moved (single
     go : (h : Bool) → greatest_score (prefixed moved ess es) ≤ greatest_score es → greatest_score (if h then record e { count = continued_by moved (single e.positions) (entries_at e.doc ess) } ∷ prefixed moved ess es else prefixed moved ess es) ≤ max e.score (greatest_score es)
     go true rest = omega (arith, rest)
     go false rest = omega (arith, rest)
+
+-- what is said of what is there
+pub some_is : {A : Type 0} (P : A → Type 0) (o : Option A) (x : A) → o ≡ Some x → IfSome o P → P x
+some_is P o x is p = subst (λ q. IfSome q P) is p
+
+-- no more than the phrase earns
+pub bounded-on : (scorer phrase : List Entry) (moved : ℕ) (ess : List (List Entry)) (most asked : ℕ) → scorer ≡ prefixed moved ess phrase → greatest_score phrase ≤ most → most ≡ asked → greatest_score scorer ≤ asked
+bounded-on scorer phrase moved ess most asked is small same = (let less = prefixed-bounded moved ess phrase in let equal = ap greatest_score is in omega (arith, less, equal, small, same))

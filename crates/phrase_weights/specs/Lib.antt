@@ -3,3 +3,4 @@ pub mod ReadTerms
 pub mod PhraseWeights
 pub mod Suffixes
 pub mod PlacedAnswers
+pub mod PhrasePrefixWeights
