@@ -1,7 +1,6 @@
 -- Whether some element of a list passes a test.
-use Rattle.std.proofs.Common.{[], Bool, List, ap, arith, false, filter, if◌then◌else◌, length, map, nat_lt, refl, sum_by, sym, true, ◌&&◌, ◌+◌, ◌<◌, ◌||◌, ◌≡◌, ◌∙◌, ◌∷◌, ℕ}
+use Rattle.std.proofs.Common.{[], Bool, List, ap, arith, false, filter, if◌then◌else◌, length, map, nat_lt, refl, sym, true, ◌&&◌, ◌+◌, ◌||◌, ◌≡◌, ◌∙◌, ◌∷◌, ℕ}
 use Rattle.std.proofs.lemmas.Bool.Decides.{nat_tests}
-use Rattle.std.proofs.lemmas.List.Sums.{sum_by-cons}
 use Rattle.std.specs.List.{AllByRecursion, list_any}
 
 or_swap : (a b c d : Bool) → ((a || b) || (c || d)) ≡ ((a || c) || (b || d))

@@ -1,12 +1,12 @@
 -- The documents where terms that begin with a prefix follow a phrase are what its query answers.
-use Rattle.std.proofs.Common.{[], Bool, List, None, Option, Some, ap, arith, bytes_eq, false, filter_map, if◌then◌else◌, length, map, nat_eq, nat_lt, refl, slice_get, subst, suc, sym, true, zero, ◌&&◌, ◌*◌, ◌++◌, ◌+◌, ◌-◌, ◌<◌, ◌==◌, ◌≡◌, ◌∙◌, ◌∷◌, ℕ}
-use Rattle.std.specs.List.{AllByRecursion, cons_option, enumerate_from, list_any, starts_with}
+use Rattle.std.proofs.Common.{[], Bool, List, None, Option, Some, ap, arith, false, filter_map, if◌then◌else◌, map, nat_lt, refl, slice_get, suc, sym, true, ◌*◌, ◌++◌, ◌+◌, ◌-◌, ◌≡◌, ◌∙◌, ◌∷◌, ℕ}
+use Rattle.std.specs.List.{cons_option, enumerate_from, list_any}
 use Rattle.std.specs.Option.{option_map_or}
 use Rattle.cursors.specs.Entries.{Entry, single}
 use Rattle.definitions.specs.Analyzers.{Analyzer}
 use Rattle.definitions.specs.Answers.{answer_at, answers}
-use Rattle.definitions.specs.Indexing.{Placed, terms_of}
-use Rattle.definitions.specs.Phrases.{by_offset, last_and_rest, last_offset, phrase_places, prefix_follows, prefix_stands, whole_terms}
+use Rattle.definitions.specs.Indexing.{terms_of}
+use Rattle.definitions.specs.Phrases.{by_offset, last_and_rest, last_offset, phrase_places, prefix_follows, prefix_stands}
 use Rattle.definitions.specs.Query.{Terms, phrase_prefix}
 use Rattle.definitions.specs.Recorded.{positions_of}
 use Rattle.definitions.specs.Schema.{Schema}

@@ -1,5 +1,5 @@
 -- The terms of a segment that begin with a prefix are those of its documents.
-use Rattle.std.proofs.Common.{[], Bool, List, None, Option, Some, ap, arith, bytes_eq, cond, drop, false, filter, filter_map, find, if◌then◌else◌, length, map, nat_eq, option_map, refl, slice_get, subst, suc, sym, take, true, true≢false, zero, ◌&&◌, ◌++◌, ◌+◌, ◌<◌, ◌||◌, ◌^◌, ◌≡◌, ◌∙◌, ◌∷◌, ℕ}
+use Rattle.std.proofs.Common.{[], Bool, List, None, Option, Some, ap, arith, bytes_eq, drop, false, filter_map, find, if◌then◌else◌, length, map, nat_eq, option_map, refl, slice_get, suc, sym, true, true≢false, zero, ◌&&◌, ◌++◌, ◌+◌, ◌<◌, ◌||◌, ◌^◌, ◌≡◌, ◌∙◌, ◌∷◌, ℕ}
 use Rattle.std.proofs.lemmas.Bool.Decides.{nat_tests}
 use Rattle.std.proofs.lemmas.List.{append_assoc}
 use Rattle.std.proofs.lemmas.Slice.Eq.{bytes_eq-Decides}
@@ -8,20 +8,20 @@ use Rattle.std.specs.List.{AllByRecursion, cons_option, enumerate_from, list_any
 use Rattle.std.specs.Option.{option_map_or}
 use Rattle.definitions.specs.Analyzers.{Analyzer}
 use Rattle.definitions.specs.Indexing.{Placed, terms_of}
-use Rattle.definitions.specs.Postings.{Posting, posting_of, postings}
+use Rattle.definitions.specs.Postings.{posting_of}
 use Rattle.definitions.specs.Recorded.{count_of, holds, positions_of}
 use Rattle.definitions.specs.Schema.{Kind, Schema}
 use Rattle.definitions.specs.Terms.{field_of, payload_of, term_bytes, type_code}
 use Rattle.definitions.specs.Values.{Document}
-use Rattle.inverted_index_reader.proofs.ReaderCalls.{info_of_held, none_found}
+use Rattle.inverted_index_reader.proofs.ReaderCalls.{info_of_held}
 use Rattle.inverted_index_reader.proofs.TermsHeld.{none_held}
 use Rattle.inverted_index_reader.specs.Dictionaries as dictionaries
 use Rattle.inverted_index_reader.specs.FieldDictionaries.{IsFound}
-use Rattle.inverted_index_reader.specs.Readers.{Contents, HasKind, dictionary_in, info_in, postings_held, term_held}
+use Rattle.inverted_index_reader.specs.Readers.{Contents, dictionary_in, info_in, term_held}
 use Rattle.inverted_index_reader.specs.declared.term_info.TermInfo.{TermInfo}
 use Rattle.definitions.specs.KeptLengths.{norms_of}
 use Rattle.layouts.specs.InvertedIndexes.{IndexedTerm, term_of_key}
-use Rattle.phrase_weights.proofs.AnyLaws.{any_and, any_each, any_filter, any_same}
+use Rattle.phrase_weights.proofs.AnyLaws.{any_and, any_filter, any_same}
 use Rattle.phrase_weights.proofs.PrefixMatches.{AreSuffixes}
 use Rattle.phrase_weights.specs.Suffixes.{suffix_places}
 use Rattle.segment_reader.specs.SegmentReaders.{StandsFor, index_of}

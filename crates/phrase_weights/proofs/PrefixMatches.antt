@@ -1,5 +1,5 @@
 -- Whether terms that begin with a prefix follow a phrase in a document, by the postings of these terms.
-use Rattle.std.proofs.Common.{[], Bool, List, None, Option, Some, ap, arith, bytes_eq, false, filter, filter_map, if◌then◌else◌, length, map, nat_eq, nat_le, nat_lt, refl, slice_get, suc, sum_by, sym, true, zero, ◌&&◌, ◌++◌, ◌+◌, ◌<◌, ◌==◌, ◌||◌, ◌≡◌, ◌∙◌, ◌∷◌, ℕ}
+use Rattle.std.proofs.Common.{[], Bool, List, None, Option, Some, ap, arith, bytes_eq, false, filter_map, if◌then◌else◌, map, nat_eq, nat_le, nat_lt, refl, slice_get, suc, sym, true, zero, ◌&&◌, ◌+◌, ◌<◌, ◌==◌, ◌||◌, ◌≡◌, ◌∙◌, ◌∷◌, ℕ}
 use Rattle.std.proofs.lemmas.Bool.Decides.{nat_tests}
 use Rattle.std.proofs.lemmas.List.Sums.{sum_by-append}
 use Rattle.std.specs.List.{AllByRecursion, cons_option, enumerate_from, list_any, starts_with}
@@ -8,7 +8,7 @@ use Rattle.cursors.specs.Entries.{Entry, single}
 use Rattle.definitions.specs.Analyzers.{Analyzer}
 use Rattle.definitions.specs.Indexing.{Placed, terms_of}
 use Rattle.definitions.specs.Phrases.{prefix_stands}
-use Rattle.definitions.specs.Postings.{Posting, posting_of}
+use Rattle.definitions.specs.Postings.{posting_of}
 use Rattle.definitions.specs.Recorded.{ascending, count_of, holds, insert_ascending, is_recorded, occurrences, positions_of}
 use Rattle.definitions.specs.Schema.{Schema, has_positions}
 use Rattle.definitions.specs.Values.{Document}

@@ -1,7 +1,7 @@
 -- Terms that begin with a text's are a text's, and have their positions where their field records them.
-use Rattle.std.proofs.Common.{[], Bool, List, ap, arith, bytes_eq, drop, false, filter, if◌then◌else◌, length, map, nat_eq, not, refl, subst, suc, sym, take, true, true≢false, zero, ◌&&◌, ◌++◌, ◌+◌, ◌<◌, ◌==◌, ◌^◌, ◌≡◌, ◌∙◌, ◌∷◌, ℕ}
+use Rattle.std.proofs.Common.{[], Bool, List, ap, arith, bytes_eq, drop, false, filter, if◌then◌else◌, length, map, nat_eq, not, refl, subst, suc, sym, take, true, true≢false, ◌&&◌, ◌++◌, ◌+◌, ◌<◌, ◌==◌, ◌^◌, ◌≡◌, ◌∙◌, ◌∷◌, ℕ}
 use Rattle.std.proofs.lemmas.Slice.Eq.{bytes_eq-Decides}
-use Rattle.std.specs.List.{AllByRecursion, after_first, prefix_len, starts_with}
+use Rattle.std.specs.List.{after_first, prefix_len, starts_with}
 use Rattle.std.specs.Prelude.{codes}
 use Rattle.definitions.specs.Analyzers.{Analyzer}
 use Rattle.definitions.specs.Recorded.{is_recorded}

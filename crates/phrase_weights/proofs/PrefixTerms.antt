@@ -1,5 +1,5 @@
 -- The terms of a dictionary that begin with a prefix.
-use Rattle.std.proofs.Common.{[], Bool, Err, IfOk, Ok, Result, List, None, Option, Some, ap, arith, false, filter, find, get_or, if◌then◌else◌, map, nat_eq, nat_lt, not, option_map, refl, sym, suc, take, true, true≢false, zero, ◌&&◌, ◌+◌, ◌<◌, ◌==◌, ◌≡◌, ◌∙◌, ◌∷◌, bytes_eq, cond, subst, ℕ}
+use Rattle.std.proofs.Common.{[], Bool, Err, IfOk, Ok, Result, List, None, Option, Some, ap, arith, false, filter, find, if◌then◌else◌, map, nat_eq, nat_lt, not, option_map, refl, sym, suc, take, true, true≢false, zero, ◌&&◌, ◌+◌, ◌<◌, ◌==◌, ◌≡◌, ◌∙◌, ◌∷◌, bytes_eq, cond, subst, ℕ}
 use Rattle.std.proofs.Math.Logic.{∥∥₁_elim}
 use Rattle.std.proofs.lemmas.Bool.{le-ltb, lt-ltb}
 use Rattle.std.proofs.lemmas.Bool.Decides.{nat_tests}
@@ -21,7 +21,6 @@ use Rattle.inverted_index_reader.specs.Dictionaries.{Placed, Walked, ahead}
 use Rattle.inverted_index_reader.specs.Readers.{Contents, Reader, dictionary_in, info_in}
 use Rattle.inverted_index_reader.specs.Searching as searching
 use Rattle.inverted_index_reader.specs.Searching.{between, is_below}
-use Rattle.inverted_index_reader.specs.declared.term_info.TermInfo.{TermInfo}
 use Rattle.layouts.specs.InvertedIndexes.{IndexedField}
 use Rattle.layouts.specs.TermSections.{TermsAscend}
 use Rattle.phrase_weights.specs.Suffixes.{HaveBytes, read_places}

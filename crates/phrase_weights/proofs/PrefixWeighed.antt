@@ -1,5 +1,5 @@
 -- The scorer of a phrase prefix answers its query.
-use Rattle.std.proofs.Common.{[], Bool, IfSome, List, None, Option, Some, ap, arith, bytes_eq, drop, false, get_or, if◌then◌else◌, length, map, max, nat_lt, refl, slice_get, subst, suc, sym, take, true, true≢false, zero, ◌*◌, ◌++◌, ◌+◌, ◌-◌, ◌<◌, ◌^◌, ◌≡◌, ◌≤◌, ◌∙◌, ◌∷◌, ℕ}
+use Rattle.std.proofs.Common.{[], Bool, IfSome, List, None, Option, Some, ap, arith, drop, false, get_or, if◌then◌else◌, length, map, max, nat_lt, refl, slice_get, subst, suc, sym, take, true, true≢false, zero, ◌++◌, ◌-◌, ◌<◌, ◌^◌, ◌≡◌, ◌≤◌, ◌∙◌, ◌∷◌, ℕ}
 use Rattle.std.proofs.lemmas.Slice.Eq.{bytes_eq-Decides}
 use Rattle.std.specs.Int.{to_be_bytes, w32}
 use Rattle.std.specs.List.{AllByRecursion}
@@ -17,7 +17,6 @@ use Rattle.definitions.specs.Values.{Document}
 use Rattle.inverted_index_reader.specs.Readers.{dictionary_in}
 use Rattle.layouts.specs.InvertedIndexes.{term_of_key}
 use Rattle.leaf_scorers.specs.ScoredEntries.{greatest_score, pairs_of}
-use Rattle.leaf_scorers.specs.ScoredEntryLaws.{by_place}
 use Rattle.members.specs.Members.{entries_at}
 use Rattle.phrase_weights.proofs.PrefixHeld.{prefix_suffixes, suffixes}
 use Rattle.phrase_weights.proofs.PrefixRecorded.{all_recorded}

@@ -1,27 +1,24 @@
 -- A phrase prefix over the whole terms that stand before it.
-use Rattle.std.proofs.Common.{[], Bool, List, None, Option, Some, ap, arith, drop, false, filter_map, get_or, if◌then◌else◌, length, map, max, nat_eq, nat_le, nat_lt, refl, slice_get, subst, suc, sym, take, true, true≢false, zero, ◌&&◌, ◌*◌, ◌++◌, ◌+◌, ◌-◌, ◌<◌, ◌==◌, ◌≡◌, ◌≤◌, ◌∙◌, ◌∷◌, ◌^◌, ℕ}
-use Rattle.std.proofs.lemmas.Bool.{lt-leb}
+use Rattle.std.proofs.Common.{[], List, None, Option, Some, ap, arith, false, filter_map, get_or, if◌then◌else◌, length, map, nat_le, refl, slice_get, subst, suc, sym, take, true, ◌*◌, ◌++◌, ◌+◌, ◌-◌, ◌≡◌, ◌≤◌, ◌∙◌, ◌∷◌, ℕ}
 use Rattle.std.proofs.lemmas.Bool.Decides.{nat_tests}
-use Rattle.std.proofs.lemmas.List.{take_more}
-use Rattle.std.specs.List.{AllByRecursion, cons_option, enumerate_from, list_all, list_any}
+use Rattle.std.specs.List.{AllByRecursion, cons_option, enumerate_from, list_any}
 use Rattle.std.specs.Option.{option_map_or}
-use Rattle.cursors.specs.Entries.{Entry, from, single}
+use Rattle.cursors.specs.Entries.{Entry, from}
 use Rattle.definitions.specs.Analyzers.{Analyzer}
 use Rattle.definitions.specs.Answers.{answer_at, answers}
 use Rattle.definitions.specs.Indexing.{terms_of}
-use Rattle.definitions.specs.Phrases.{by_offset, insert_by_offset, last_and_rest, last_offset, phrase_count, phrase_places, prefix_follows, prefix_stands, whole_terms}
+use Rattle.definitions.specs.Phrases.{by_offset, insert_by_offset, last_and_rest, last_offset, phrase_count, phrase_places, prefix_stands, whole_terms}
 use Rattle.definitions.specs.Query.{Terms, phrase_prefix}
-use Rattle.definitions.specs.Recorded.{holds, positions_of}
+use Rattle.definitions.specs.Recorded.{positions_of}
 use Rattle.definitions.specs.Schema.{Schema}
-use Rattle.definitions.specs.Scoring.{Similarity, greatest_of, prefix_score}
+use Rattle.definitions.specs.Scoring.{Similarity, prefix_score}
 use Rattle.definitions.specs.Values.{Document}
-use Rattle.leaf_scorers.specs.ScoredEntries.{greatest_score, pairs_of}
-use Rattle.phrase_weights.proofs.PhraseAnswers.{none_held}
+use Rattle.leaf_scorers.specs.ScoredEntries.{pairs_of}
 use Rattle.phrase_weights.proofs.PrefixAnswers.{answer_is, moved, prefix_answers}
 use Rattle.phrase_weights.proofs.PrefixMatches.{AreRecorded, AreSuffixes}
 use Rattle.phrase_weights.proofs.TermsTogether.{read_from}
 use Rattle.phrase_weights.proofs.WholeTerms.{no_whole_places}
-use Rattle.phrase_weights.specs.PlacedAnswers.{placed_entry, stands_whole, whole_answers, whole_at}
+use Rattle.phrase_weights.specs.PlacedAnswers.{placed_entry, stands_whole, whole_answers}
 use Rattle.phrases.proofs.PhrasePlaces.{last-of, sorted-ordered}
 use Rattle.phrases.specs.PrefixEntries.{prefixed}
 use Rattle.phrases.specs.PrefixEntryLaws.{from-prefixed}

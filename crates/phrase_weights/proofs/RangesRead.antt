@@ -1,9 +1,8 @@
 -- Ranges of terms, read one term after another.
-use Rattle.std.proofs.Common.{[], List, None, Option, Some, ap, arith, length, map, option_map, subst, suc, sym, take, ◌++◌, ◌+◌, ◌-◌, ◌<◌, ◌≡◌, ◌∙◌, ◌∷◌, ℕ}
+use Rattle.std.proofs.Common.{[], List, None, Option, Some, ap, arith, map, option_map, subst, suc, sym, take, ◌++◌, ◌-◌, ◌<◌, ◌≡◌, ◌∙◌, ◌∷◌, ℕ}
 use Rattle.std.proofs.lemmas.List.{append_assoc, map-append}
 use Rattle.std.specs.Option.{option_map_or}
 use Rattle.std.specs.Prelude.{slice_index}
-use Rattle.cursors.specs.Entries.{Entry}
 use Rattle.inverted_index_reader.specs.Dictionaries.{Placed, Walked, advanced}
 use Rattle.inverted_index_reader.specs.Readers.{postings_in}
 use Rattle.inverted_index_reader.specs.declared.term_info.TermInfo.{TermInfo}

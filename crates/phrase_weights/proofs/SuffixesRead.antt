@@ -1,5 +1,5 @@
 -- What is read of the terms that begin with a prefix, where a reader stands for documents.
-use Rattle.std.proofs.Common.{[], Bool, List, None, Option, Some, ap, arith, bytes_eq, false, filter, find, if◌then◌else◌, length, map, nat_eq, option_map, refl, subst, suc, sym, take, true, zero, ◌+◌, ◌<◌, ◌==◌, ◌^◌, ◌≡◌, ◌≤◌, ◌∙◌, ◌∷◌, ℕ}
+use Rattle.std.proofs.Common.{[], Bool, List, None, Option, Some, ap, arith, bytes_eq, false, if◌then◌else◌, length, map, nat_eq, refl, subst, suc, sym, take, true, zero, ◌==◌, ◌≡◌, ◌≤◌, ◌∙◌, ◌∷◌, ℕ}
 use Rattle.std.proofs.lemmas.Bool.Decides.{nat_tests}
 use Rattle.std.proofs.lemmas.Slice.Eq.{bytes_eq-Decides}
 use Rattle.std.specs.List.{AllByRecursion, starts_with}

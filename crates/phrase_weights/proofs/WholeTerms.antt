@@ -1,21 +1,21 @@
 -- Whole terms before a prefix: one term, or several.
-use Rattle.std.proofs.Common.{[], Bool, List, None, Option, Some, ap, arith, false, filter_map, if◌then◌else◌, length, map, max, nat_lt, refl, subst, suc, sym, true, true≢false, zero, ◌&&◌, ◌*◌, ◌+◌, ◌-◌, ◌<◌, ◌==◌, ◌≡◌, ◌≤◌, ◌∙◌, ◌∷◌, get_or, ℕ}
+use Rattle.std.proofs.Common.{[], Bool, List, None, Option, Some, ap, arith, false, filter_map, if◌then◌else◌, length, map, max, nat_lt, refl, subst, sym, true, true≢false, ◌&&◌, ◌*◌, ◌+◌, ◌-◌, ◌==◌, ◌≡◌, ◌≤◌, ◌∙◌, ◌∷◌, get_or, ℕ}
 use Rattle.std.proofs.lemmas.Bool.Decides.{nat_tests}
 use Rattle.std.specs.List.{AllByRecursion, cons_option, enumerate_from, list_all}
 use Rattle.cursors.specs.Entries.{AreSingle, Entry, from, most_positions, single}
 use Rattle.definitions.specs.Analyzers.{Analyzer}
 use Rattle.definitions.specs.Answers.{answer_at, answers}
-use Rattle.definitions.specs.Phrases.{adjusted, by_offset, phrase_count, phrase_places}
-use Rattle.definitions.specs.Postings.{Posting, posting_of, postings}
+use Rattle.definitions.specs.Phrases.{phrase_count, phrase_places}
+use Rattle.definitions.specs.Postings.{posting_of, postings}
 use Rattle.definitions.specs.Query.{Terms, phrase}
 use Rattle.definitions.specs.Recorded.{count_of, holds, positions_of}
 use Rattle.definitions.specs.Schema.{Schema}
-use Rattle.definitions.specs.Scoring.{Similarity, greatest_of, phrase_score, score}
+use Rattle.definitions.specs.Scoring.{Similarity, phrase_score, score}
 use Rattle.definitions.specs.Values.{Document}
 use Rattle.leaf_scorers.specs.ScoredEntries.{greatest_score}
 use Rattle.phrase_weights.proofs.PhraseAnswers.{none_held}
 use Rattle.phrase_weights.proofs.TermsTogether.{read_entry, read_from}
-use Rattle.phrase_weights.specs.PlacedAnswers.{placed_answers, placed_at, placed_entry, stands_whole, whole_answers, whole_at, whole_weight}
+use Rattle.phrase_weights.specs.PlacedAnswers.{placed_answers, placed_entry, stands_whole, whole_answers, whole_at}
 use Rattle.phrases.proofs.PhrasePlaces.{phrase-places}
 use Rattle.phrases.specs.MergeLaws.{ascends-from}
 use Rattle.phrases.specs.OneTermLaws.{from-one_term}

@@ -1,4 +1,4 @@
-//! The weights of phrases: in each segment, the documents where a phrase stands with their scores.
+//! The weights of phrases and of phrase prefixes: in each segment, the documents that match with their scores.
 #![tactic(auto)]
 
 mod phrase_prefix_weight;

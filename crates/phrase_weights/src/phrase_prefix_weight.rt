@@ -108,7 +108,8 @@ impl<'a> PhrasePrefixWeight<'a> {
         let terms = self.terms;
         let last = terms.len() - 1;
         let whole = &terms[..last];
-        let Some(phrase) = whole_phrase(alloc, reader, whole, self.weight, self.norms, boost)? else {
+        let Some(phrase) = whole_phrase(alloc, reader, whole, self.weight, self.norms, boost)?
+        else {
             return Ok(None);
         };
         let prefix = &terms[last].1;

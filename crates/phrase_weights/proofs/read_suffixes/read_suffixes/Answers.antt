@@ -1,8 +1,8 @@
-use Rattle.std.proofs.Common.{IfOk, Some, map, take, subst, sym, ◌≡◌}
+use Rattle.std.proofs.Common.{IfOk, map, take, subst, ◌≡◌}
 use Rattle.inverted_index_reader.specs.Readers.{Contents}
 use Rattle.definitions.specs.Terms.{field_of, payload_of}
 use Rattle.phrase_weights.proofs.PrefixTerms.{both_ok, range_held, read_found}
-use Rattle.phrase_weights.specs.Suffixes.{HaveBytes, read_places}
+use Rattle.phrase_weights.specs.Suffixes.{read_places}
 use Rattle.segment_postings.specs.Cursors.{entries_left}
 use Rattle.segment_reader.specs.SegmentReaders.{index_of}
 use Rattle.phrase_weights.proofs.read_suffixes.read_suffixes.Goals as goal

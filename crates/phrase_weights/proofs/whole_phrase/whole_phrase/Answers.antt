@@ -1,4 +1,4 @@
-use Rattle.std.proofs.Common.{[], IfNone, IfSome, List, Some, ap, arith, false, if◌then◌else◌, length, map, nat_eq, of_z, rules, subst, sym, to_z, true, ◌*◌, ◌==◌, ◌≡◌, ◌≤◌, ◌∙◌, ℕ}
+use Rattle.std.proofs.Common.{[], IfNone, IfSome, ap, arith, false, if◌then◌else◌, length, map, of_z, rules, subst, sym, to_z, true, ◌*◌, ◌==◌, ◌≡◌, ◌∙◌}
 use Rattle.std.proofs.lemmas.Bool.Decides.{nat_tests}
 use Rattle.std.proofs.lemmas.Int.{to_z-of_z}
 use mir.Syntax.{w64}

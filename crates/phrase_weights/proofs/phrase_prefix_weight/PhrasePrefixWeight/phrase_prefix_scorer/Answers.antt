@@ -1,10 +1,10 @@
-use Rattle.std.proofs.Common.{[], IfNone, List, Some, ap, arith, length, map, of_z, rules, subst, sym, take, to_z, ◌*◌, ◌-◌, ◌≡◌, ◌≤◌, ◌∙◌, ℕ}
+use Rattle.std.proofs.Common.{IfNone, ap, arith, length, map, of_z, rules, subst, sym, take, to_z, ◌*◌, ◌-◌, ◌≡◌, ◌∙◌}
 use Rattle.std.proofs.lemmas.Int.{to_z-of_z}
 use Rattle.std.specs.List.{AllByRecursion}
 use mir.Syntax.{w64}
 use mir.Val.{SFits}
 use Rattle.cursors.specs.Entries.{from}
-use Rattle.definitions.specs.Phrases.{phrase_count, whole_terms}
+use Rattle.definitions.specs.Phrases.{phrase_count}
 use Rattle.definitions.specs.Scoring.{natural, weight_sum}
 use Rattle.phrase_weights.proofs.PrefixWeighed.{bounded-on, greatest_get, greatest_taken, prefix_none, prefix_some, some_is, sorted_whole, whole_is}
 use Rattle.phrase_weights.proofs.PrefixWhole.{prefixed-within}
