@@ -29,7 +29,7 @@ pub type WholePhrase<'a> = PhraseKind<
     PhraseScorer<'a, PostingsWithOffset<SegmentPostings<'a>>>,
 >;
 
-/// The documents where whole terms stand, with what they earn before a prefix; none where one of them is in no document.
+/// The documents where whole terms stand, with what they earn before a prefix; none where one is in no document.
 pub(crate) fn whole_phrase<'a>(
     alloc: Global,
     reader: &SegmentReader<'a>,
