@@ -1,0 +1,18 @@
+-- Lemmas behind the weights of phrases.
+pub mod NoPlaces
+pub mod TermsTogether
+pub mod PhraseAnswers
+pub mod TermsRead
+pub mod PhraseEntriesRead
+pub mod PhraseScores
+pub mod AnyLaws
+pub mod PrefixMatches
+pub mod PrefixAnswers
+pub mod RangesRead
+pub mod PrefixTerms
+pub mod PrefixHeld
+pub mod PrefixRecorded
+pub mod WholeTerms
+pub mod PrefixWhole
+pub mod SuffixesRead
+pub mod PrefixWeighed

@@ -1,0 +1,12 @@
+//! The weights of phrases and of phrase prefixes: in each segment, the documents that match with their scores.
+#![tactic(auto)]
+
+mod phrase_prefix_weight;
+mod phrase_weight;
+mod read_suffixes;
+mod read_terms;
+mod whole_phrase;
+
+pub use phrase_prefix_weight::PhrasePrefixWeight;
+pub use phrase_weight::PhraseWeight;
+pub use whole_phrase::WholePhrase;

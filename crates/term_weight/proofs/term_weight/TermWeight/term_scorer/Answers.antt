@@ -1,0 +1,31 @@
+use Rattle.std.proofs.Common.{ap, arith, of_z, rules, subst, sym, to_z, ◌≡◌, ◌∙◌}
+use Rattle.std.proofs.lemmas.Int.{to_z-of_z, to_z_pos}
+use mir.Syntax.{w64}
+use mir.Val.{SFits}
+use Rattle.definitions.specs.Scoring.{length_id, natural}
+use Rattle.leaf_scorers.specs.ScoredEntries.{pairs_of}
+use Rattle.segment_postings.specs.Cursors.{entries_left}
+use Rattle.term_scorer.specs.Similarities.{similarity_data}
+use Rattle.term_weight.specs.LengthIds.{AreIds}
+use Rattle.term_weight.specs.TermWeights.{option_asked, term_of}
+use Rattle.term_weight.proofs.TermsFound.{all_within, if_none, none_found, scored_found, weighed}
+use Rattle.term_weight.proofs.term_weight.TermWeight.term_scorer.Goals as goal
+
+-- src/term_weight.rt:103:24
+pub returns-in_err-postings-clause-none : goal.returns-in_err-postings-clause-none
+returns-in_err-postings-clause-none c schema analyze sim docs stands =
+    if_none c.from_residual.result (none_found schema analyze docs c.args.reader.now stands sim (natural c.args.boost) (term_of c.args.self.now) (option_asked c.args.self.now) c.inverted_index-index.result.now c.inverted_index-index.ensures c.in_err-postings.ensures.none)
+
+-- src/term_weight.rt:105:14
+pub new-requires : goal.new-requires
+new-requires c = all_within c.args.reader.now c.inverted_index-index.result.now _ (entries_left c.in_ok-postings.postings) c.inverted_index-index.ensures c.lengths_of_field.ensures.each c.in_ok-postings.ensures.within
+
+-- src/term_weight.rt:89:5
+pub returns-clause-some : goal.returns-clause-some
+returns-clause-some c schema analyze sim docs stands scores =
+    let small = c.args.self.now.small in
+    let weight : natural (to_z w64 c.args.self.now.weight) ≡ sim.weight c.args.self.now.term.now = ap natural (to_z_pos w64 c.args.self.now.weight (omega (arith, small))) ∙ sym scores.weight_is in
+    let fits : SFits w64 c.args.boost = search rules in
+    let boost : natural (to_z w64 (of_z w64 c.args.boost)) ≡ natural c.args.boost = ap natural (to_z-of_z w64 c.args.boost fits) in
+    ap pairs_of c.new.ensures.entries
+    ∙ scored_found schema analyze docs c.args.reader.now stands sim (natural c.args.boost) (term_of c.args.self.now) (option_asked c.args.self.now) c.inverted_index-index.result.now (similarity_data c.new-similarity.result) c.lengths_of_field.result (entries_left c.in_ok-postings.postings) c.inverted_index-index.ensures (c.new-similarity.ensures ∙ weighed _ _ _ _ _ _ weight boost (sym scores.norms_are)) (subst (λ field. AreIds (length_id schema analyze field) docs c.lengths_of_field.result) c.field.ensures (c.lengths_of_field.ensures.ids schema analyze docs stands)) c.in_ok-postings.ensures.some

@@ -1,0 +1,93 @@
+//! The weight of a term.
+
+ghost use Rattle.std.specs.Prelude.{[], ◌*◌, ◌≡◌, ◌≤ℤ◌, ◌≤◌, IfNone, IfOk, IfSome, List, Some, length, map, option_map, pos, ℕ};
+ghost use Rattle.definitions.specs.Analyzers.{Analyzer};
+ghost use Rattle.definitions.specs.Answers.{answers, living_count};
+ghost use Rattle.definitions.specs.Query.{term};
+ghost use Rattle.definitions.specs.Schema.{Schema};
+ghost use Rattle.definitions.specs.Scoring.{DontFall, max_score, natural};
+ghost use Rattle.definitions.specs.Scoring as scoring;
+ghost use Rattle.definitions.specs.Values.{Document};
+ghost use Rattle.cursors.specs.EntryLaws.{DontFall-prop};
+ghost use Rattle.leaf_scorers.specs.ScoredEntries.{pairs_of};
+ghost use Rattle.options.specs.RecordOption.{record_option_of};
+ghost use Rattle.segment_reader.specs.SegmentReaders.{StandsFor};
+ghost use Rattle.term_scorer.specs.ScoredTerms.{scored_left};
+
+use crate::field_lengths::lengths_of_field;
+use common::{DocId, Score};
+use options::IndexRecordOption;
+use segment_reader::SegmentReader;
+use std::alloc::{AllocError, Global};
+use term_scorer::{Similarity, TermScorer};
+use terms::Term;
+
+/// Documents that hold a term, by its weight and the norms of their lengths. Both are lent, and so is the term.
+#[derive(Drop)]
+pub struct TermWeight<'a> {
+    term: &'a Term,
+    index_record_option: IndexRecordOption,
+    weight: u64,
+    norms: &'a [u32],
+    ghost small: { weight ≤ max_score },
+    ghost norm_for_each: { length norms.now ≡ 256 },
+    ghost rises: { DontFall norms.now } by { DontFall-prop norms.now },
+}
+
+impl<'a> TermWeight<'a> {
+    ghost use Rattle.term_weight.specs.TermWeights.{ScoresBy, option_asked, term_of, weight_in};
+
+    /// A term, what is read of its postings, its weight, which is at most `MAX_SCORE`, and 256 norms, which don't fall.
+    pub fn new(
+        term: &'a Term,
+        index_record_option: IndexRecordOption,
+        weight: u64,
+        norms: &'a [u32],
+    ) -> TermWeight<'a>
+        requires small { weight ≤ max_score }
+        requires norm_for_each { length norms.now ≡ 256 }
+        requires rises { DontFall norms.now }
+        ensures term { term_of result ≡ term.now }
+        ensures option { option_asked result ≡ record_option_of index_record_option }
+        ensures weight { weight_in result ≡ weight }
+        ensures scores { (sim : scoring.Similarity) → sim.weight term.now ≡ weight → sim.norms ≡ norms.now → ScoresBy sim result }
+    {
+        TermWeight {
+            term,
+            index_record_option,
+            weight,
+            norms,
+        }
+    }
+
+    /// The term.
+    pub fn term(&self) -> &'a Term
+        ensures { result.now ≡ term_of self.now }
+    {
+        self.term
+    }
+
+    /// The documents of a segment that hold the term, with their scores under a boost; none where no document holds it.
+    pub fn term_scorer(&self, reader: &SegmentReader<'a>, boost: Score) -> Option<TermScorer<'a>>
+        requires positive { pos 0 ≤ℤ boost }
+        requires fits { natural boost * weight_in self.now ≤ max_score }
+        ensures some { (schema : Schema) (analyze : Analyzer) (sim : scoring.Similarity) (docs : List Document)
+            → StandsFor schema analyze docs reader.now
+            → ScoresBy sim self.now
+            → IfSome result (λ scorer. pairs_of (scored_left scorer)
+            ≡ answers schema analyze sim (natural boost) (term (term_of self.now) (option_asked self.now)) docs) }
+        ensures none { (schema : Schema) (analyze : Analyzer) (sim : scoring.Similarity) (docs : List Document)
+            → StandsFor schema analyze docs reader.now
+            → IfNone result
+            (answers schema analyze sim (natural boost) (term (term_of self.now) (option_asked self.now)) docs ≡ []) }
+    {
+        let index = reader.inverted_index();
+        let postings = index.read_postings(self.term, self.index_record_option)?;
+        let similarity = Similarity::new(self.weight as i64, boost, self.norms);
+        Some(TermScorer::new(
+            postings,
+            lengths_of_field(reader, self.term.field()),
+            similarity,
+        ))
+    }
+}
