@@ -17,10 +17,11 @@ use Rattle.inverted_index_reader.proofs.GivenPostings.{given_held}
 use Rattle.inverted_index_reader.specs.OpenedTerms.{entry_as}
 use Rattle.inverted_index_reader.specs.Readers.{Contents, Reader, postings_held}
 use Rattle.leaf_scorers.specs.ScoredEntries.{pairs_of}
+use Rattle.leaf_scorers.specs.ScoredEntryLaws.{from-rescored}
 use Rattle.segment_reader.specs.SegmentReaders.{StandsFor, index_of, known_together, lengths_of, max_doc_of}
 use Rattle.segment_reader.specs.Together.{AreTogether}
 use Rattle.segment_reader.specs.declared.segment_reader.SegmentReader.{SegmentReader}
-use Rattle.term_scorer.specs.TermScores.{TermSimilarity, term_scored}
+use Rattle.term_scorer.specs.TermScores.{TermSimilarity, entry_score, term_scored}
 use Rattle.term_weight.proofs.TermAnswers.{by_term, term_answers}
 use Rattle.term_weight.specs.LengthIds.{AreIds}
 
@@ -36,6 +37,10 @@ all_within r index n es lent many within =
     (let here : Contents (index_of r) = record { schema = together.schema; num_docs = max_doc_of r; norms = lengths_of r; fields = together.fields; is = together.reads } in
     let lent_here = subst (λ i. ((contents : Contents i) → from contents.num_docs es ≡ [])) lent within in
     ap (λ k. length (from k es)) many ∙ ap length (lent_here here))))
+
+-- scores leave the documents as they are
+pub scored_within : (n : ℕ) (sim : TermSimilarity) (ids : List ℕ) (es : List Entry) → from n es ≡ [] → from n (term_scored sim ids es) ≡ []
+scored_within n sim ids es within = from-rescored (entry_score sim ids) n es ∙ ap (term_scored sim ids) within
 
 -- ---- what is weighed
 

@@ -8,10 +8,11 @@ ghost use Rattle.definitions.specs.Schema.{Schema};
 ghost use Rattle.definitions.specs.Scoring.{DontFall, max_score, natural};
 ghost use Rattle.definitions.specs.Scoring as scoring;
 ghost use Rattle.definitions.specs.Values.{Document};
+ghost use Rattle.cursors.specs.Entries.{from};
 ghost use Rattle.cursors.specs.EntryLaws.{DontFall-prop};
-ghost use Rattle.leaf_scorers.specs.ScoredEntries.{pairs_of};
+ghost use Rattle.leaf_scorers.specs.ScoredEntries.{greatest_score, pairs_of};
 ghost use Rattle.options.specs.RecordOption.{record_option_of};
-ghost use Rattle.segment_reader.specs.SegmentReaders.{StandsFor};
+ghost use Rattle.segment_reader.specs.SegmentReaders.{StandsFor, max_doc_of};
 ghost use Rattle.term_scorer.specs.ScoredTerms.{scored_left};
 
 use crate::field_lengths::lengths_of_field;
@@ -80,6 +81,8 @@ impl<'a> TermWeight<'a> {
             → StandsFor schema analyze docs reader.now
             → IfNone result
             (answers schema analyze sim (natural boost) (term (term_of self.now) (option_asked self.now)) docs ≡ []) }
+        ensures within { IfSome result (λ scorer. from (max_doc_of reader.now) (scored_left scorer) ≡ []) }
+        ensures bounded { IfSome result (λ scorer. greatest_score (scored_left scorer) ≤ natural boost * weight_in self.now) }
     {
         let index = reader.inverted_index();
         let postings = index.read_postings(self.term, self.index_record_option)?;

@@ -1,14 +1,17 @@
-use Rattle.std.proofs.Common.{ap, arith, of_z, rules, subst, sym, to_z, ◌≡◌, ◌∙◌}
+use Rattle.std.proofs.Common.{ap, arith, of_z, refl, rules, subst, sym, to_z, ◌*◌, ◌≡◌, ◌∙◌}
 use Rattle.std.proofs.lemmas.Int.{to_z-of_z, to_z_pos}
 use mir.Syntax.{w64}
 use mir.Val.{SFits}
+use Rattle.cursors.specs.Entries.{from}
 use Rattle.definitions.specs.Scoring.{length_id, natural}
-use Rattle.leaf_scorers.specs.ScoredEntries.{pairs_of}
+use Rattle.leaf_scorers.specs.ScoredEntries.{greatest_score, pairs_of}
 use Rattle.segment_postings.specs.Cursors.{entries_left}
+use Rattle.segment_reader.specs.SegmentReaders.{max_doc_of}
 use Rattle.term_scorer.specs.Similarities.{similarity_data}
 use Rattle.term_weight.specs.LengthIds.{AreIds}
+use Rattle.term_scorer.specs.TermScoreLaws.{greatest-below}
 use Rattle.term_weight.specs.TermWeights.{option_asked, term_of}
-use Rattle.term_weight.proofs.TermsFound.{all_within, if_none, none_found, scored_found, weighed}
+use Rattle.term_weight.proofs.TermsFound.{all_within, if_none, none_found, scored_found, scored_within, weighed}
 use Rattle.term_weight.proofs.term_weight.TermWeight.term_scorer.Goals as goal
 
 -- src/term_weight.rt:103:24
@@ -29,3 +32,23 @@ returns-clause-some c schema analyze sim docs stands scores =
     let boost : natural (to_z w64 (of_z w64 c.args.boost)) ≡ natural c.args.boost = ap natural (to_z-of_z w64 c.args.boost fits) in
     ap pairs_of c.new.ensures.entries
     ∙ scored_found schema analyze docs c.args.reader.now stands sim (natural c.args.boost) (term_of c.args.self.now) (option_asked c.args.self.now) c.inverted_index-index.result.now (similarity_data c.new-similarity.result) c.lengths_of_field.result (entries_left c.in_ok-postings.postings) c.inverted_index-index.ensures (c.new-similarity.ensures ∙ weighed _ _ _ _ _ _ weight boost (sym scores.norms_are)) (subst (λ field. AreIds (length_id schema analyze field) docs c.lengths_of_field.result) c.field.ensures (c.lengths_of_field.ensures.ids schema analyze docs stands)) c.in_ok-postings.ensures.some
+
+-- src/term_weight.rt:90:5
+pub returns-clause-within : goal.returns-clause-within
+returns-clause-within c =
+    let n = max_doc_of c.args.reader.now in
+    let es = entries_left c.in_ok-postings.postings in
+    ap (from n) c.new.ensures.entries
+    ∙ scored_within n (similarity_data c.new-similarity.result) c.lengths_of_field.result es (all_within c.args.reader.now c.inverted_index-index.result.now n es c.inverted_index-index.ensures refl c.in_ok-postings.ensures.within)
+
+-- src/term_weight.rt:90:5
+pub returns-clause-bounded : goal.returns-clause-bounded
+returns-clause-bounded c =
+    let small = c.args.self.now.small in
+    let weight : natural (to_z w64 c.args.self.now.weight) ≡ c.args.self.now.weight = ap natural (to_z_pos w64 c.args.self.now.weight (omega (arith, small))) in
+    let fits : SFits w64 c.args.boost = search rules in
+    let boost : natural (to_z w64 (of_z w64 c.args.boost)) ≡ natural c.args.boost = ap natural (to_z-of_z w64 c.args.boost fits) in
+    let product = ap (λ s. s.boost * s.weight) c.new-similarity.ensures ∙ (ap (λ b. b * natural (to_z w64 c.args.self.now.weight)) boost ∙ ap (λ w. natural c.args.boost * w) weight) in
+    let same = ap greatest_score c.new.ensures.entries in
+    let below = greatest-below (similarity_data c.new-similarity.result) c.lengths_of_field.result (entries_left c.in_ok-postings.postings) in
+    omega (arith, same, below, product)
