@@ -5,7 +5,7 @@ ghost use Rattle.std.specs.Prelude.{◌≡◌, IfOk, map, true};
 ghost use Rattle.std.specs.List.{enumerate_from};
 ghost use Rattle.definitions.specs.Phrases.{by_offset};
 ghost use Rattle.definitions.specs.Scoring.{phrase_field};
-ghost use Rattle.query_trees.specs.PhraseTerms.{are_phrase_terms};
+ghost use Rattle.query_trees.specs.PhraseTerms.{ArePhraseTerms, are_phrase_terms};
 
 use crate::phrase_terms::{copied_places, copied_terms, in_a_row, show_terms, sort_by_offset};
 use crate::query::{Query, QueryClone};
@@ -92,9 +92,17 @@ impl PhraseQuery {
     /// The terms with their offsets.
     pub fn terms(&self) -> &[(usize, Term)]
         ensures value { result.now ≡ self.now.0 }
+        ensures phrase { ArePhraseTerms 2 self.now.0 }
         ensures sorted { by_offset self.now.0 ≡ self.now.0 }
     {
         &self.phrase_terms
+    }
+
+    /// How many places off the terms may be together.
+    pub fn slop(&self) -> u32
+        ensures { result ≡ self.now.1 }
+    {
+        self.slop
     }
 
     /// A copy of the query.

@@ -48,6 +48,13 @@ impl TermQuery {
         &self.term
     }
 
+    /// What is read of its postings.
+    pub fn index_record_option(&self) -> IndexRecordOption
+        ensures { record_option_of result ≡ self.now.1 }
+    {
+        self.index_record_option
+    }
+
     /// A copy of the query.
     pub(crate) fn copied(&self, alloc: Global) -> Result<TermQuery, AllocError>
         ensures { IfOk result (λ copy. copy ≡ self.now) }
