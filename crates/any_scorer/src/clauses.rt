@@ -1,0 +1,146 @@
+//! The scorer of clauses.
+
+ghost use Rattle.std.specs.Prelude.{[], ◌+◌, ◌<◌, ◌∷◌, ◌≡◌, ◌≤◌, IfOk, length, map, max, sum, ℕ};
+ghost use Rattle.any_scorer.specs.Clauses.{by_clauses, by_number, scores_at, scores_of};
+ghost use Rattle.cursors.specs.Entries.{Rising};
+ghost use Rattle.definitions.specs.Postings.{terminated};
+ghost use Rattle.definitions.specs.Scoring.{max_score};
+ghost use Rattle.leaf_scorers.specs.ScoredEntries.{greatest_score};
+ghost use Rattle.members.specs.Members.{greatest_sum};
+
+use crate::either_scorer::EitherScorer;
+use crate::intersecting::intersect_scorers;
+use crate::listing::listed;
+use cursors::DocSet;
+use intersections::{Exclude, ExclusionList, Intersection, RequiredOptionalScorer};
+use leaf_scorers::{ListScorer, Scorer, SumCombiner};
+use std::alloc::{AllocError, Global};
+use unions::{BufferedUnionScorer, Disjunction};
+
+/// A scorer of the documents that one of several has, or that at least so many have.
+type SomeScorer<S> = EitherScorer<BufferedUnionScorer<S, SumCombiner>, Disjunction<S, SumCombiner>>;
+
+/// The documents that match clauses, each with the scores of those that it must and should have added up, walked
+/// whole. The number of documents is a hint.
+pub fn boolean_scorer<S: Scorer + Drop>(
+    alloc: Global,
+    musts: Vec<S>,
+    shoulds: Vec<S>,
+    must_nots: Vec<S>,
+    minimum_number_should_match: usize,
+    num_docs: u32,
+) -> Result<ListScorer, AllocError>
+    requires fits { greatest_sum (map S.entries musts.items) + greatest_sum (map S.entries shoulds.items) ≤ max_score }
+    ensures scores { IfOk result (λ list. (d : ℕ) → d < terminated
+        → scores_of d (⟦<ListScorer as DocSet>⟧.entries list)
+        ≡ by_clauses minimum_number_should_match (map S.entries musts.items) (map S.entries shoulds.items)
+        (map S.entries must_nots.items) d) }
+    ensures bounded { IfOk result (λ list. greatest_score (⟦<ListScorer as DocSet>⟧.entries list)
+        ≤ greatest_sum (map S.entries musts.items) + greatest_sum (map S.entries shoulds.items)) }
+    ensures rises { IfOk result (λ list. Rising 0 (⟦<ListScorer as DocSet>⟧.entries list)) }
+{
+    let counted = counted_scorer(alloc, musts, shoulds, minimum_number_should_match, num_docs)?;
+    if must_nots.is_empty() {
+        return Ok(counted);
+    }
+    listed(alloc, Exclude::new(counted, ExclusionList::new(must_nots)))
+}
+
+/// The same where there is nothing that documents must not have. It is led by what they must have.
+fn counted_scorer<S: Scorer + Drop>(
+    alloc: Global,
+    musts: Vec<S>,
+    shoulds: Vec<S>,
+    minimum: usize,
+    num_docs: u32,
+) -> Result<ListScorer, AllocError>
+    requires fits { greatest_sum (map S.entries musts.items) + greatest_sum (map S.entries shoulds.items) ≤ max_score }
+    ensures { IfOk result (λ list. (d : ℕ) → d < terminated → scores_of d (⟦<ListScorer as DocSet>⟧.entries list)
+        ≡ by_clauses minimum (map S.entries musts.items) (map S.entries shoulds.items) [] d) }
+{
+    if musts.is_empty() {
+        let some = some_scorer(alloc, shoulds, minimum, num_docs)?;
+        return listed(alloc, some);
+    }
+    let required = intersect_scorers(alloc, musts)?;
+    if minimum == 0 {
+        return optional_scorer(alloc, required, shoulds, num_docs);
+    }
+    let some = some_scorer(alloc, shoulds, minimum, num_docs)?;
+    both_scorer(alloc, required, some)
+}
+
+/// The documents that so many of the scorers have, one at least, with the sums of their scores.
+fn some_scorer<S: Scorer + Drop>(
+    alloc: Global,
+    shoulds: Vec<S>,
+    minimum: usize,
+    num_docs: u32,
+) -> Result<SomeScorer<S>, AllocError>
+    requires fits { greatest_sum (map S.entries shoulds.items) ≤ max_score }
+    ensures scores { IfOk result (λ some. (d : ℕ) → d < terminated
+        → scores_of d (⟦<SomeScorer<S> as DocSet>⟧.entries some)
+        ≡ by_number (max 1 minimum) (map S.entries shoulds.items) d) }
+    ensures bounded { IfOk result (λ some. greatest_score (⟦<SomeScorer<S> as DocSet>⟧.entries some)
+        ≤ greatest_sum (map S.entries shoulds.items)) }
+{
+    let combiner = SumCombiner::default();
+    if minimum >= 2 {
+        return Ok(EitherScorer::Right(Disjunction::new(shoulds, combiner, minimum)));
+    }
+    let union = BufferedUnionScorer::build(alloc, shoulds, combiner, num_docs)?;
+    Ok(EitherScorer::Left(union))
+}
+
+/// The documents of the required scorer, each with its score and those that it has in the optional ones.
+fn optional_scorer<S: Scorer + Drop>(
+    alloc: Global,
+    required: ListScorer,
+    shoulds: Vec<S>,
+    num_docs: u32,
+) -> Result<ListScorer, AllocError>
+    requires fits { greatest_score (⟦<ListScorer as DocSet>⟧.entries required)
+        + greatest_sum (map S.entries shoulds.items) ≤ max_score }
+    ensures { IfOk result (λ list. (d : ℕ) → d < terminated → scores_of d (⟦<ListScorer as DocSet>⟧.entries list)
+        ≡ map (λ s. s + sum (scores_at d (map S.entries shoulds.items)))
+        (scores_of d (⟦<ListScorer as DocSet>⟧.entries required))) }
+{
+    if shoulds.is_empty() {
+        return Ok(required);
+    }
+    let some = some_scorer(alloc, shoulds, 1, num_docs)?;
+    listed(
+        alloc,
+        RequiredOptionalScorer::new(required, some, SumCombiner::default()),
+    )
+}
+
+/// The documents that both scorers have, with the sums of their scores.
+fn both_scorer<A: Scorer + Drop, B: Scorer + Drop>(
+    alloc: Global,
+    left: A,
+    right: B,
+) -> Result<ListScorer, AllocError>
+    requires fits { greatest_score (A.entries left) + greatest_score (B.entries right) ≤ max_score }
+    ensures { IfOk result (λ list. (d : ℕ) → d < terminated → scores_of d (⟦<ListScorer as DocSet>⟧.entries list)
+        ≡ by_number 2 (A.entries left ∷ B.entries right ∷ []) d) }
+{
+    let both = pair_of(alloc, left, right)?;
+    listed(alloc, Intersection::new(both))
+}
+
+/// Two scorers, one after the other.
+fn pair_of<A: Scorer + Drop, B: Scorer + Drop>(
+    alloc: Global,
+    left: A,
+    right: B,
+) -> Result<Vec<EitherScorer<A, B>>, AllocError>
+    ensures entries { IfOk result (λ both. map ⟦<EitherScorer<A, B> as DocSet>⟧.entries both.items
+        ≡ A.entries left ∷ B.entries right ∷ []) }
+    ensures len { IfOk result (λ both. length both.items ≡ 2) }
+{
+    let mut both = Vec::with_capacity(alloc, 2)?;
+    both.push(EitherScorer::Left(left))?;
+    both.push(EitherScorer::Right(right))?;
+    Ok(both)
+}

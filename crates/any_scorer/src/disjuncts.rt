@@ -1,0 +1,39 @@
+//! The scorer of the best of several queries.
+
+ghost use Rattle.std.specs.Prelude.{◌<◌, ◌≡◌, ◌≤ℤ◌, ◌≤◌, IfOk, map, pos, ℕ};
+ghost use Rattle.any_scorer.specs.Clauses.{by_best, scores_of};
+ghost use Rattle.cursors.specs.Entries.{Rising};
+ghost use Rattle.definitions.specs.Postings.{terminated};
+ghost use Rattle.definitions.specs.Scoring.{max_score, natural};
+ghost use Rattle.leaf_scorers.specs.ScoredEntries.{greatest_score};
+ghost use Rattle.members.specs.Members.{greatest_sum};
+
+use crate::listing::listed;
+use common::Score;
+use cursors::DocSet;
+use leaf_scorers::{DisjunctionMaxCombiner, ListScorer, Scorer};
+use std::alloc::{AllocError, Global};
+use unions::BufferedUnionScorer;
+
+/// The documents that some scorer has, each with its best score and so many thousandths of the others, walked whole.
+/// The number of documents is a hint.
+pub fn disjunction_max_scorer<S: Scorer + Drop>(
+    alloc: Global,
+    disjuncts: Vec<S>,
+    tie_breaker: Score,
+    num_docs: u32,
+) -> Result<ListScorer, AllocError>
+    requires positive { pos 0 ≤ℤ tie_breaker }
+    requires share { tie_breaker ≤ℤ pos 1000 }
+    requires fits { greatest_sum (map S.entries disjuncts.items) ≤ max_score }
+    ensures scores { IfOk result (λ list. (d : ℕ) → d < terminated
+        → scores_of d (⟦<ListScorer as DocSet>⟧.entries list)
+        ≡ by_best (natural tie_breaker) (map S.entries disjuncts.items) d) }
+    ensures bounded { IfOk result (λ list. greatest_score (⟦<ListScorer as DocSet>⟧.entries list)
+        ≤ greatest_sum (map S.entries disjuncts.items)) }
+    ensures rises { IfOk result (λ list. Rising 0 (⟦<ListScorer as DocSet>⟧.entries list)) }
+{
+    let combiner = DisjunctionMaxCombiner::with_tie_breaker(tie_breaker);
+    let union = BufferedUnionScorer::build(alloc, disjuncts, combiner, num_docs)?;
+    listed(alloc, union)
+}
