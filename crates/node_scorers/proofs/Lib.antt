@@ -1,0 +1,9 @@
+-- Lemmas behind the scorers of queries.
+pub mod AllDocuments
+pub mod AllScores
+pub mod Bounds
+pub mod Combined
+pub mod ConstantScores
+pub mod Earned
+pub mod EarnedByClauses
+pub mod Results

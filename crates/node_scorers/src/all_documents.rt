@@ -1,0 +1,22 @@
+//! The scorer of every document.
+
+ghost use Rattle.std.specs.Prelude.{◌≤ℤ◌, ◌≤◌, pos};
+ghost use Rattle.definitions.specs.Query.{all};
+ghost use Rattle.definitions.specs.Scoring as scoring;
+ghost use Rattle.definitions.specs.Scoring.{max_score, natural};
+ghost use Rattle.node_scorers.specs.Scores.{Scores};
+
+use common::Score;
+use cursors::DocSet;
+use leaf_scorers::{AllScorer, BoostScorer};
+use segment_reader::SegmentReader;
+
+/// Every document of a segment, by the boost.
+pub fn all_scorer(reader: &SegmentReader<'_>, boost: Score) -> BoostScorer<AllScorer>
+    requires positive { pos 0 ≤ℤ boost }
+    requires fits { natural boost ≤ max_score }
+    ensures { (sim : scoring.Similarity) → Scores sim (natural boost) all reader.now
+        (⟦<BoostScorer<AllScorer> as DocSet>⟧.entries result) }
+{
+    BoostScorer::new(AllScorer::new(reader.max_doc()), boost)
+}
