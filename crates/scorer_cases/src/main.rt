@@ -4,6 +4,7 @@
 
 mod asked;
 mod changed;
+mod clauses;
 mod combinators;
 mod combined;
 mod given_lists;

@@ -1,6 +1,8 @@
 //! Operations by their names.
 
-use crate::{asked, changed, combinators, combined, leaves, nested, posting_unions, scored_terms};
+use crate::{
+    asked, changed, clauses, combinators, combined, leaves, nested, posting_unions, scored_terms,
+};
 use case_lines::{Arguments, Operations, Refusal};
 use serde_json::Value;
 use std::alloc::Global;
@@ -34,6 +36,8 @@ impl Operations for ScorerOperations {
             "simple-union-of-meetings" => nested::simple_union_of_meetings(alloc, arguments),
             "two-of-meetings" => nested::two_of_meetings(alloc, arguments),
             "meeting-of-differences" => nested::meeting_of_differences(alloc, arguments),
+            "clauses" => clauses::clauses(alloc, arguments),
+            "best" => clauses::best(alloc, arguments),
             "union-of-terms" => posting_unions::union_of_terms(alloc, arguments),
             "union-beside-set" => posting_unions::union_beside_set(alloc, arguments),
             "cleared" => changed::cleared(alloc, arguments),
