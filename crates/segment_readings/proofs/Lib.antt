@@ -1,0 +1,4 @@
+-- Lemmas behind readings.
+pub mod BlockReadings
+pub mod TermReadings
+pub mod SegmentReadings
