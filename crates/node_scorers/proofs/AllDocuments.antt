@@ -46,7 +46,7 @@ pub all_score : (sim : Similarity) (b : ℕ) (r : SegmentReader) (es : List Entr
 all_score sim b r es is =
     let n = max_doc_of r in
     record {
-      answers_are = λ schema analyze docs stands. ap pairs_of is ∙ (ap (λ k. pairs_of (rescored_by (λ e. b * e.score) (all_from 0 k))) (sym stands.many) ∙ all_answered schema analyze sim b 0 docs);
+      answers_are = λ schema analyze docs stands passes. ap pairs_of is ∙ (ap (λ k. pairs_of (rescored_by (λ e. b * e.score) (all_from 0 k))) (sym stands.many) ∙ all_answered schema analyze sim b 0 docs);
       within = ap (from n) is ∙ all_within b n;
       bounded = (let most = greatest_boosted b 0 n in let same = ap greatest_score is in omega (arith, most, same));
     }

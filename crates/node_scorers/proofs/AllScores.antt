@@ -1,11 +1,12 @@
 -- Cursors of several queries together.
-use Rattle.std.proofs.Common.{[], List, Some, ap, arith, flat_map, length, refl, slice_get, sym, ◌++◌, ◌+◌, ◌∙◌, ◌∷◌, ◌≡◌, ◌≤◌, ℕ}
+use Rattle.std.proofs.Common.{[], List, None, Some, ap, arith, flat_map, length, refl, slice_get, sym, ◌++◌, ◌+◌, ◌∙◌, ◌∷◌, ◌≡◌, ◌≤◌, ℕ}
 use Rattle.std.proofs.lemmas.List.{length-map}
+use Rattle.std.specs.List.{AllByRecursion}
 use Rattle.any_scorer.specs.Clauses.{scores_at}
 use Rattle.cursors.specs.Entries.{Entry}
 use Rattle.definitions.specs.Analyzers.{Analyzer}
 use Rattle.definitions.specs.Query.{Query}
-use Rattle.definitions.specs.Refusing.{bound}
+use Rattle.definitions.specs.Refusing.{bound, tree_fault}
 use Rattle.definitions.specs.Schema.{Schema}
 use Rattle.definitions.specs.Scoring.{Similarity}
 use Rattle.definitions.specs.Values.{Document}
@@ -51,14 +52,14 @@ module _ (sim : Similarity) (b : ℕ) (r : SegmentReader) where
       ∙ none_behind d l qs ess all.1
 
   -- what a document earns from each
-  pub all_earned : (schema : Schema) (analyze : Analyzer) (docs : List Document) → StandsFor schema analyze docs r → (d : ℕ) (doc : Document) → slice_get docs d ≡ Some doc → (qs : List Query) (ess : List (List Entry)) → AllScore sim b r qs ess → scores_at d ess ≡ flat_map (earned schema analyze sim b doc) qs
-  all_earned schema analyze docs stands d doc is [] [] all = refl
-  all_earned schema analyze docs stands d doc is [] (es ∷ ess) all = absurd all
-  all_earned schema analyze docs stands d doc is (q ∷ qs) [] all = absurd all
-  all_earned schema analyze docs stands d doc is (q ∷ qs) (es ∷ ess) all =
+  pub all_earned : (schema : Schema) (analyze : Analyzer) (docs : List Document) → StandsFor schema analyze docs r → (d : ℕ) (doc : Document) → slice_get docs d ≡ Some doc → (qs : List Query) (ess : List (List Entry)) → AllByRecursion (λ q. tree_fault schema sim.weight b q ≡ None) qs → AllScore sim b r qs ess → scores_at d ess ≡ flat_map (earned schema analyze sim b doc) qs
+  all_earned schema analyze docs stands d doc is [] [] passed all = refl
+  all_earned schema analyze docs stands d doc is [] (es ∷ ess) passed all = absurd all
+  all_earned schema analyze docs stands d doc is (q ∷ qs) [] passed all = absurd all
+  all_earned schema analyze docs stands d doc is (q ∷ qs) (es ∷ ess) passed all =
       scores-append (entries_of d es) (entries_at d ess)
-      ∙ (ap (λ xs. xs ++ scores_at d ess) (earned_there schema analyze sim b q docs es (all.0.answers_are schema analyze docs stands) d doc is)
-      ∙ ap (λ xs. earned schema analyze sim b doc q ++ xs) (all_earned schema analyze docs stands d doc is qs ess all.1))
+      ∙ (ap (λ xs. xs ++ scores_at d ess) (earned_there schema analyze sim b q docs es (all.0.answers_are schema analyze docs stands passed.0) d doc is)
+      ∙ ap (λ xs. earned schema analyze sim b doc q ++ xs) (all_earned schema analyze docs stands d doc is qs ess passed.1 all.1))
 
 -- as many scores as entries
 pub as_many_scores : (d : ℕ) (ess : List (List Entry)) → length (entries_at d ess) ≡ length (scores_at d ess)

@@ -6,6 +6,7 @@ use Rattle.any_scorer.proofs.ByClauses.{length_both, sum_both}
 use Rattle.any_scorer.specs.Clauses.{by_best, by_clauses, scores_at, scores_of}
 use Rattle.cursors.specs.Entries.{Entry, Rising, from}
 use Rattle.cursors.specs.EntryLaws.{from-out}
+use Rattle.definitions.proofs.Bounds.{accepted_clauses, accepted_queries}
 use Rattle.definitions.specs.Analyzers.{Analyzer}
 use Rattle.definitions.specs.Postings.{terminated}
 use Rattle.definitions.specs.Query.{Clauses, Queries, Query, boolean, disjunction_max, must, must_not, should}
@@ -18,6 +19,7 @@ use Rattle.members.specs.Members.{entries_at, greatest_sum, scores_in}
 use Rattle.segment_reader.specs.SegmentReaders.{max_doc_of}
 use Rattle.segment_reader.specs.declared.segment_reader.SegmentReader.{SegmentReader}
 use Rattle.node_scorers.proofs.AllScores.{all_earned, as_many, as_many_scores, greatest_within, none_behind}
+use Rattle.node_scorers.proofs.AskedPass.{asked_pass, queries_pass}
 use Rattle.node_scorers.proofs.Bounds.{clauses_total, queries_total}
 use Rattle.node_scorers.proofs.Earned.{answered, earned}
 use Rattle.node_scorers.proofs.EarnedByClauses.{earned_by_best, earned_by_clauses}
@@ -84,14 +86,14 @@ module _ (sim : Similarity) (b : ℕ) (r : SegmentReader) (few : max_doc_of r �
       ∙ (ap (λ es. by_numbers minimum n [] (scores_in es) (scores_at d must_nots)) (none_behind sim b r d l (asked should cs) shoulds all_shoulds)
       ∙ numbers_of_none minimum n (scores_at d must_nots)))) in
       record {
-        answers_are = λ schema analyze docs stands. answered schema analyze sim b (boolean cs minimum) docs list rises (ap (λ k. from k list) stands.many ∙ within) (λ d doc is.
+        answers_are = λ schema analyze docs stands passes. (let each = accepted_clauses schema sim.weight b cs minimum passes in answered schema analyze sim b (boolean cs minimum) docs list rises (ap (λ k. from k list) stands.many ∙ within) (λ d doc is.
             (let inside = slice_get_within docs d doc is in
             let as_long = stands.many in
             numbers d (omega (arith, inside, as_long, few))
-            ∙ (ap (λ xs. by_numbers minimum n xs (scores_at d shoulds) (scores_at d must_nots)) (all_earned sim b r schema analyze docs stands d doc is (asked must cs) musts all_musts)
-            ∙ (ap (λ xs. by_numbers minimum n (earned_of schema analyze doc (asked must cs)) xs (scores_at d must_nots)) (all_earned sim b r schema analyze docs stands d doc is (asked should cs) shoulds all_shoulds)
-            ∙ (ap (λ xs. by_numbers minimum n (earned_of schema analyze doc (asked must cs)) (earned_of schema analyze doc (asked should cs)) xs) (all_earned sim b r schema analyze docs stands d doc is (asked must_not cs) must_nots all_nots)
-            ∙ shown schema analyze doc cs minimum)))));
+            ∙ (ap (λ xs. by_numbers minimum n xs (scores_at d shoulds) (scores_at d must_nots)) (all_earned sim b r schema analyze docs stands d doc is (asked must cs) musts (asked_pass schema sim.weight b must cs each) all_musts)
+            ∙ (ap (λ xs. by_numbers minimum n (earned_of schema analyze doc (asked must cs)) xs (scores_at d must_nots)) (all_earned sim b r schema analyze docs stands d doc is (asked should cs) shoulds (asked_pass schema sim.weight b should cs each) all_shoulds)
+            ∙ (ap (λ xs. by_numbers minimum n (earned_of schema analyze doc (asked must cs)) (earned_of schema analyze doc (asked should cs)) xs) (all_earned sim b r schema analyze docs stands d doc is (asked must_not cs) must_nots (asked_pass schema sim.weight b must_not cs each) all_nots)
+            ∙ shown schema analyze doc cs minimum))))));
         within = within;
         bounded = (let first = greatest_within sim b r (asked must cs) musts all_musts in let second = greatest_within sim b r (asked should cs) shoulds all_shoulds in let total = clauses_total sim.weight b cs in omega (arith, first, second, total, bounded));
       }
@@ -102,12 +104,12 @@ module _ (sim : Similarity) (b : ℕ) (r : SegmentReader) (few : max_doc_of r �
       let numbers : (d : ℕ) → d < terminated → scores_of d list ≡ made (scores_at d ess) = λ d l. are d l ∙ best_numbered (natural tie) d ess in
       let within : from (max_doc_of r) list ≡ [] = none_from (max_doc_of r) 0 list rises (λ d l t. numbers d t ∙ ap (λ es. made (scores_in es)) (none_behind sim b r d l (each_query qs) ess all)) in
       record {
-        answers_are = λ schema analyze docs stands. answered schema analyze sim b (disjunction_max qs tie) docs list rises (ap (λ k. from k list) stands.many ∙ within) (λ d doc is.
+        answers_are = λ schema analyze docs stands passes. (let each = accepted_queries schema sim.weight b qs tie passes in answered schema analyze sim b (disjunction_max qs tie) docs list rises (ap (λ k. from k list) stands.many ∙ within) (λ d doc is.
             (let inside = slice_get_within docs d doc is in
             let as_long = stands.many in
             numbers d (omega (arith, inside, as_long, few))
-            ∙ (ap made (all_earned sim b r schema analyze docs stands d doc is (each_query qs) ess all)
-            ∙ earned_by_best schema analyze sim b doc qs tie)));
+            ∙ (ap made (all_earned sim b r schema analyze docs stands d doc is (each_query qs) ess (queries_pass schema sim.weight b qs each) all)
+            ∙ earned_by_best schema analyze sim b doc qs tie))));
         within = within;
         bounded = (let most = greatest_within sim b r (each_query qs) ess all in let total = queries_total sim.weight b qs in omega (arith, most, total, bounded));
       }

@@ -2,6 +2,7 @@
 use Rattle.std.proofs.Common.{[], List, None, Some, ap, arith, false, filter_map, if◌then◌else◌, max, refl, true, ◌*◌, ◌+◌, ◌∙◌, ◌∷◌, ◌≡◌, ◌≤◌, ℕ, ℤ}
 use Rattle.std.specs.List.{cons_option, enumerate_from}
 use Rattle.cursors.specs.Entries.{Entry, from}
+use Rattle.definitions.proofs.Bounds.{accepted_const}
 use Rattle.definitions.specs.Analyzers.{Analyzer}
 use Rattle.definitions.specs.Answers.{answer_at}
 use Rattle.definitions.specs.Matching.{matches}
@@ -33,7 +34,7 @@ greatest_constant n (e ∷ es) = let ih = greatest_constant n es in let goal : m
 
 pub constant_scores : (sim : Similarity) (b n : ℕ) (constant : ℤ) (q : Query) (r : SegmentReader) (es fs : List Entry) → n ≡ b * natural constant → fs ≡ rescored_by (λ e. n) es → Scores sim b q r es → Scores sim b (const_score constant q) r fs
 constant_scores sim b n constant q r es fs same is scores = record {
-  answers_are = λ schema analyze docs stands. ap pairs_of is ∙ (pairs-rescored n es ∙ (ap (rescored n) (scores.answers_are schema analyze docs stands) ∙ (ap (λ m. rescored m (filter_map (answer_at schema analyze sim b q) (enumerate_from 0 docs))) same ∙ rescored_answers schema analyze sim b constant q 0 docs)));
+  answers_are = λ schema analyze docs stands passes. ap pairs_of is ∙ (pairs-rescored n es ∙ (ap (rescored n) (scores.answers_are schema analyze docs stands (accepted_const schema sim.weight b constant q passes)) ∙ (ap (λ m. rescored m (filter_map (answer_at schema analyze sim b q) (enumerate_from 0 docs))) same ∙ rescored_answers schema analyze sim b constant q 0 docs)));
   within = ap (from (max_doc_of r)) is ∙ (from-rescored (λ e. n) (max_doc_of r) es ∙ ap (rescored_by (λ e. n)) scores.within);
   bounded = (let most = greatest_constant n es in let at = ap greatest_score is in omega (arith, most, at, same));
 }

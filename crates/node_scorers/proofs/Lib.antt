@@ -1,6 +1,7 @@
 -- Lemmas behind the scorers of queries.
 pub mod AllDocuments
 pub mod AllScores
+pub mod AskedPass
 pub mod Bounds
 pub mod Combined
 pub mod ConstantScores

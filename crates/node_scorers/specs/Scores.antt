@@ -1,10 +1,10 @@
 -- What scorers of queries have in a segment.
-use Rattle.std.specs.Prelude.{[], ⊤, ◌∷◌, ◌≡◌, ◌≤◌, List, ℕ}
+use Rattle.std.specs.Prelude.{[], ⊤, ◌∷◌, ◌≡◌, ◌≤◌, List, None, ℕ}
 use Rattle.cursors.specs.Entries.{Entry, from}
 use Rattle.definitions.specs.Analyzers.{Analyzer}
 use Rattle.definitions.specs.Answers.{answers}
 use Rattle.definitions.specs.Query.{Query}
-use Rattle.definitions.specs.Refusing.{bound}
+use Rattle.definitions.specs.Refusing.{bound, tree_fault}
 use Rattle.definitions.specs.Schema.{Schema}
 use Rattle.definitions.specs.Scoring.{Similarity}
 use Rattle.definitions.specs.Values.{Document}
@@ -12,10 +12,11 @@ use Rattle.leaf_scorers.specs.ScoredEntries.{greatest_score, pairs_of}
 use Rattle.segment_reader.specs.SegmentReaders.{StandsFor, max_doc_of}
 use Rattle.segment_reader.specs.declared.segment_reader.SegmentReader.{SegmentReader}
 
--- a cursor has what a query answers in a segment under a boost: for all documents that the segment stands for, those that
--- match with their scores; no document is past the segment's last, and no score above the query's bound
+-- a cursor has what a query answers in a segment under a boost: for all documents that the segment stands for, under each
+-- schema that doesn't refuse the query, those that match with their scores; no document is past the segment's last, and no
+-- score above the query's bound
 pub record Scores (sim : Similarity) (b : ℕ) (q : Query) (r : SegmentReader) (es : List Entry) : Type 0 where
-  pub answers_are : (schema : Schema) (analyze : Analyzer) (docs : List Document) → StandsFor schema analyze docs r → pairs_of es ≡ answers schema analyze sim b q docs
+  pub answers_are : (schema : Schema) (analyze : Analyzer) (docs : List Document) → StandsFor schema analyze docs r → tree_fault schema sim.weight b q ≡ None → pairs_of es ≡ answers schema analyze sim b q docs
   pub within : from (max_doc_of r) es ≡ []
   pub bounded : greatest_score es ≤ bound sim.weight b q
 
