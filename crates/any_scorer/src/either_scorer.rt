@@ -14,10 +14,9 @@ pub enum EitherScorer<A: Scorer, B: Scorer> {
 }
 
 impl<A: Scorer, B: Scorer> DocSet for EitherScorer<A, B> {
-    ghost use Rattle.cursors.specs.Entries.{Rising};
     ghost use Rattle.any_scorer.specs.declared.either_scorer.EitherScorer.TheVariants as forms;
 
-    ghost entries = { λ s. elim s [ forms.Left x ↦ A.entries x | forms.Right x ↦ B.entries x ] };
+    ghost entries = { elim [ forms.Left x ↦ A.entries x | forms.Right x ↦ B.entries x ] };
 
     #[inline]
     fn advance(&mut self) -> DocId {
@@ -86,7 +85,7 @@ impl<A: Scorer, B: Scorer> DocSet for EitherScorer<A, B> {
         }
     }
 
-    ghost rising = { λ s. elim s as (λ s. Rising 0 (elim s [ forms.Left x ↦ A.entries x | forms.Right x ↦ B.entries x ])) [ forms.Left x ↦ A.rising x | forms.Right x ↦ B.rising x ] };
+    ghost rising = { elim [ forms.Left x ↦ A.rising x | forms.Right x ↦ B.rising x ] };
 }
 
 impl<A: Scorer, B: Scorer> Scorer for EitherScorer<A, B> {

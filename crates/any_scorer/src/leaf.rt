@@ -21,10 +21,15 @@ pub enum Leaf<A: Scorer, T: Scorer, P: Scorer, X: Scorer, L: Scorer> {
 }
 
 impl<A: Scorer, T: Scorer, P: Scorer, X: Scorer, L: Scorer> DocSet for Leaf<A, T, P, X, L> {
-    ghost use Rattle.cursors.specs.Entries.{Rising};
     ghost use Rattle.any_scorer.specs.declared.leaf.Leaf.TheVariants as forms;
 
-    ghost entries = { λ s. elim s [ forms.All x ↦ A.entries x | forms.Term x ↦ T.entries x | forms.Phrase x ↦ P.entries x | forms.PhrasePrefix x ↦ X.entries x | forms.List x ↦ L.entries x ] };
+    ghost entries = { elim [
+      | forms.All x ↦ A.entries x
+      | forms.Term x ↦ T.entries x
+      | forms.Phrase x ↦ P.entries x
+      | forms.PhrasePrefix x ↦ X.entries x
+      | forms.List x ↦ L.entries x
+    ] };
 
     #[inline]
     fn advance(&mut self) -> DocId {
@@ -120,7 +125,13 @@ impl<A: Scorer, T: Scorer, P: Scorer, X: Scorer, L: Scorer> DocSet for Leaf<A, T
         }
     }
 
-    ghost rising = { λ s. elim s as (λ s. Rising 0 (elim s [ forms.All x ↦ A.entries x | forms.Term x ↦ T.entries x | forms.Phrase x ↦ P.entries x | forms.PhrasePrefix x ↦ X.entries x | forms.List x ↦ L.entries x ])) [ forms.All x ↦ A.rising x | forms.Term x ↦ T.rising x | forms.Phrase x ↦ P.rising x | forms.PhrasePrefix x ↦ X.rising x | forms.List x ↦ L.rising x ] };
+    ghost rising = { elim [
+      | forms.All x ↦ A.rising x
+      | forms.Term x ↦ T.rising x
+      | forms.Phrase x ↦ P.rising x
+      | forms.PhrasePrefix x ↦ X.rising x
+      | forms.List x ↦ L.rising x
+    ] };
 }
 
 impl<A: Scorer, T: Scorer, P: Scorer, X: Scorer, L: Scorer> Scorer for Leaf<A, T, P, X, L> {

@@ -51,7 +51,8 @@ impl<'a> TermWeight<'a> {
         ensures term { term_of result ≡ term.now }
         ensures option { option_asked result ≡ record_option_of index_record_option }
         ensures weight { weight_in result ≡ weight }
-        ensures scores { (sim : scoring.Similarity) → sim.weight term.now ≡ weight → sim.norms ≡ norms.now → ScoresBy sim result }
+        ensures scores { (sim : scoring.Similarity) → sim.weight term.now ≡ weight → sim.norms ≡ norms.now
+            → ScoresBy sim result }
     {
         TermWeight {
             term,
@@ -82,7 +83,8 @@ impl<'a> TermWeight<'a> {
             → IfNone result
             (answers schema analyze sim (natural boost) (term (term_of self.now) (option_asked self.now)) docs ≡ []) }
         ensures within { IfSome result (λ scorer. from (max_doc_of reader.now) (scored_left scorer) ≡ []) }
-        ensures bounded { IfSome result (λ scorer. greatest_score (scored_left scorer) ≤ natural boost * weight_in self.now) }
+        ensures bounded { IfSome result (λ scorer. greatest_score (scored_left scorer)
+            ≤ natural boost * weight_in self.now) }
     {
         let index = reader.inverted_index();
         let postings = index.read_postings(self.term, self.index_record_option)?;
