@@ -1,0 +1,67 @@
+//! Files, opened.
+
+use bytes::Bytes;
+use case_lines::{Refusal, number, pair, text};
+use common::AliveBitSet;
+use definitions::Fault;
+use segment_files::{Member, SegmentFile};
+use serde_json::Value;
+use std::alloc::{AllocError, Global};
+
+/// The place of the closed gate, and of each segment after the last record how many documents it has and which of them
+/// are dead; of a damaged file the refusal, and the gate from which on it is damaged.
+pub(crate) fn opened(alloc: Global, bytes: &[u8]) -> Result<Value, Refusal> {
+    let bytes = Bytes::copy_from_slice(alloc, bytes)?;
+    match SegmentFile::open(alloc, bytes) {
+        Ok(file) => Ok(shown(alloc, &file)?),
+        Err(Fault::Damaged(Some(gate))) => Ok(pair(alloc, text(alloc, "Damaged")?, number(gate))?),
+        Err(Fault::NoIndex) => Ok(text(alloc, "NoIndex")?),
+        Err(fault) => Err(Refusal::Fault(fault)),
+    }
+}
+
+/// The stored values of the living documents of each segment after the last record.
+pub(crate) fn documents(alloc: Global, bytes: &[u8]) -> Result<Value, Refusal> {
+    let mut file = SegmentFile::open(alloc, Bytes::copy_from_slice(alloc, bytes)?)?;
+    let mut lists = Vec::new(alloc);
+    for member in &mut file.members {
+        let mut list = Vec::new(alloc);
+        for doc in 0..member.segment.num_docs() {
+            if (doc as usize) < member.alive.len() && member.alive.is_alive(doc) {
+                let doc = member.segment.document(alloc, &file.schema, doc)?;
+                list.push(doc.to_named_doc(alloc, &file.schema)?.to_json_value(alloc)?)?;
+            }
+        }
+        lists.push(Value::Array(list))?;
+    }
+    Ok(Value::Array(lists))
+}
+
+/// A gate and members.
+fn shown(alloc: Global, file: &SegmentFile) -> Result<Value, AllocError> {
+    let mut list = Vec::new(alloc);
+    for member in &file.members {
+        list.push(shown_member(alloc, member)?)?;
+    }
+    pair(alloc, number(file.gate as u64), Value::Array(list))
+}
+
+/// How many documents a member has, and which of them are dead.
+fn shown_member(alloc: Global, member: &Member) -> Result<Value, AllocError> {
+    pair(
+        alloc,
+        number(u64::from(member.segment.num_docs())),
+        Value::Array(dead_of(alloc, &member.alive)?),
+    )
+}
+
+/// The documents that are dead.
+fn dead_of(alloc: Global, alive: &AliveBitSet) -> Result<Vec<Value>, AllocError> {
+    let mut dead = Vec::new(alloc);
+    for doc in 0..alive.len() {
+        if !alive.is_alive(doc as u32) {
+            dead.push(number(doc as u64))?;
+        }
+    }
+    Ok(dead)
+}

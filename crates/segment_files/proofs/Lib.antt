@@ -1,0 +1,5 @@
+pub mod OpenedSegments
+pub mod PartsTaken
+pub mod ListsMade
+pub mod BodiesTaken
+pub mod FilesRead

@@ -1,0 +1,3 @@
+-- The list of segments that a file's last record leaves.
+pub mod Lists
+pub mod Reading
