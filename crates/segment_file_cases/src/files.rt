@@ -4,6 +4,7 @@ use bytes::Bytes;
 use case_lines::{Refusal, number, pair, text};
 use common::AliveBitSet;
 use definitions::Fault;
+use schema::Schema;
 use segment_files::{Member, SegmentFile};
 use serde_json::Value;
 use std::alloc::{AllocError, Global};
@@ -22,19 +23,30 @@ pub(crate) fn opened(alloc: Global, bytes: &[u8]) -> Result<Value, Refusal> {
 
 /// The stored values of the living documents of each segment after the last record.
 pub(crate) fn documents(alloc: Global, bytes: &[u8]) -> Result<Value, Refusal> {
-    let mut file = SegmentFile::open(alloc, Bytes::copy_from_slice(alloc, bytes)?)?;
+    let bytes = Bytes::copy_from_slice(alloc, bytes)?;
+    let SegmentFile {
+        schema,
+        members,
+        ..
+    } = SegmentFile::open(alloc, bytes)?;
     let mut lists = Vec::new(alloc);
-    for member in &mut file.members {
-        let mut list = Vec::new(alloc);
-        for doc in 0..member.segment.num_docs() {
-            if (doc as usize) < member.alive.len() && member.alive.is_alive(doc) {
-                let doc = member.segment.document(alloc, &file.schema, doc)?;
-                list.push(doc.to_named_doc(alloc, &file.schema)?.to_json_value(alloc)?)?;
-            }
-        }
-        lists.push(Value::Array(list))?;
+    for member in members {
+        lists.push(living(alloc, &schema, member)?)?;
     }
     Ok(Value::Array(lists))
+}
+
+/// The stored values of the living documents of a segment.
+fn living(alloc: Global, schema: &Schema, member: Member) -> Result<Value, Refusal> {
+    let Member { mut segment, alive } = member;
+    let mut list = Vec::new(alloc);
+    for doc in 0..segment.num_docs() {
+        if (doc as usize) < alive.len() && alive.is_alive(doc) {
+            let doc = segment.document(alloc, schema, doc)?;
+            list.push(doc.to_named_doc(alloc, schema)?.to_json_value(alloc)?)?;
+        }
+    }
+    Ok(Value::Array(list))
 }
 
 /// A gate and members.

@@ -49,10 +49,17 @@ fn push_once(outcomes: &mut Vec<Value>, outcome: Value) -> Result<(), AllocError
     Ok(())
 }
 
-/// Outcomes one after the other, and how often each came in a row.
+/// An outcome, and how often it came in a row.
+#[derive(Drop)]
+struct Run {
+    outcome: Value,
+    count: u64,
+}
+
+/// Outcomes one after the other.
 #[derive(Drop)]
 struct Runs {
-    runs: Vec<(Value, u64)>,
+    runs: Vec<Run>,
 }
 
 impl Runs {
@@ -65,20 +72,19 @@ impl Runs {
 
     /// Appends an outcome.
     fn add(&mut self, outcome: Value) -> Result<(), AllocError> {
-        if let Some((last, count)) = self.runs.last_mut() {
-            if *last == outcome {
-                *count = count.saturating_add(1);
-                return Ok(());
-            }
+        let len = self.runs.len();
+        if len > 0 && self.runs[len - 1].outcome == outcome {
+            self.runs[len - 1].count = self.runs[len - 1].count.saturating_add(1);
+            return Ok(());
         }
-        Ok(self.runs.push((outcome, 1))?)
+        Ok(self.runs.push(Run { outcome, count: 1 })?)
     }
 
     /// The outcomes, each with how often it came.
     fn into_value(self, alloc: Global) -> Result<Value, AllocError> {
         let mut list = Vec::new(alloc);
-        for (outcome, count) in self.runs {
-            list.push(pair(alloc, outcome, number(count))?)?;
+        for run in self.runs {
+            list.push(pair(alloc, run.outcome, number(run.count))?)?;
         }
         Ok(Value::Array(list))
     }

@@ -1,9 +1,11 @@
 -- What a reader of a file knows between two of its records.
 use Rattle.std.proofs.Common.{[], ◌++◌, ◌-◌, ◌<◌, ◌≤◌, ◌^◌, ◌∙◌, ◌∷◌, ◌≡◌, ◌≢◌, ◌⊎◌, List, None, Option, Some, ap, arith, drop, get_or, inl, inr, length, length-append, refl, subst, sym, true, ℕ}
-use Rattle.std.specs.List.{last_or}
+use Rattle.std.specs.List.{AllZip, last_or}
 use Rattle.std.proofs.lemmas.List.{length-drop}
+use Rattle.definitions.specs.Analyzers.{Analyzer}
 use Rattle.definitions.specs.Schema.{Schema}
 use Rattle.definitions.specs.Settings.{Settings}
+use Rattle.definitions.specs.Values.{Document}
 use Rattle.definitions.specs.declared.fault.Fault.{Fault}
 use Rattle.definitions.specs.declared.fault.Fault.TheVariants as faults
 use Rattle.layouts.specs.RecordBodies.{first_in}
@@ -11,9 +13,9 @@ use Rattle.layouts.specs.RecordFiles.{HasRecord, IsDamaged, sized_body}
 use Rattle.records.proofs.Scanned.{IsScanned, scan_breaks, scan_ends, scan_goes_on, scan_starts}
 use Rattle.records.specs.Outcomes.{IsRefusal}
 use Rattle.segment_layouts.specs.SegmentBodies.{Makes, Member}
-use Rattle.segment_layouts.specs.SegmentFiles.{AreMade, TakesSegments}
+use Rattle.segment_layouts.specs.SegmentFiles.{AreMade, IsGroup, LeavesGroups, TakesSegments}
 use Rattle.segment_layouts.specs.Segments.{IsSegment}
-use Rattle.segment_layouts.proofs.OneList.{bodies_taken, one_list}
+use Rattle.segment_layouts.proofs.OneList.{bodies_taken, one_list, same_lists}
 use Rattle.segment_files.specs.Lists.{LeavesList}
 use Rattle.segment_files.specs.Reading.{HasFirst, HasList, IsReadUpTo}
 
@@ -147,3 +149,25 @@ shorter schema before after bytes rest has =
 
 pub first_shorter : (made : Schema × Settings) (bytes rest : List ℕ) → HasFirst made bytes rest → length rest < length bytes
 first_shorter made bytes rest has = omega (arith, ap length has.whole, length-append (sized_body has.body) rest, length-drop 1 bytes, has.more)
+
+-- ---- the groups of a file
+
+some_is : {X : Type 0} (x y : X) → Some x ≡ Some y → x ≡ y
+some_is x y e = cc
+
+last_zip : {X Y : Type 0} (R : X → Y → Type 0) (x a : X) (y b : Y) (xs : List X) (ys : List Y) → R x y → AllZip R xs ys → last_or (Some x) xs ≡ Some a → last_or (Some y) ys ≡ Some b → R a b
+last_zip R x a y b [] [] here are last other = subst (λ p. R p b) (some_is x a last) (subst (R x) (some_is y b other) here)
+last_zip R x a y b [] (z ∷ zs) here are last other = absurd are
+last_zip R x a y b (w ∷ ws) [] here are last other = absurd are
+last_zip R x a y b (w ∷ ws) (z ∷ zs) here are last other = last_zip R w a z b ws zs are.0 are.1 last other
+
+-- the members are segments of the documents of which a file leaves groups
+pub groups_left : (schema : Schema) (settings : Settings) (analyze : Analyzer) (bytes : List ℕ) (gate : ℕ) (members : List Member) (groups : List (List Document)) → LeavesList schema settings bytes gate members → LeavesGroups schema settings analyze bytes groups
+    → AllZip (IsGroup schema analyze) members groups
+groups_left schema settings analyze bytes gate members groups left (lists, file, last) =
+    let same : left.lists ≡ file.members = same_lists schema bytes left.first file.first left.bodies file.bodies left.lists file.members left.ends.file file.file left.follow file.follow in
+    go lists (subst (λ ms. AllZip (AllZip (IsGroup schema analyze)) ([] ∷ ms) lists) (sym same) file.groups) last
+  where
+    go : (lists : List (List (List Document))) → AllZip (AllZip (IsGroup schema analyze)) ([] ∷ left.lists) lists → last_or None lists ≡ Some groups → AllZip (IsGroup schema analyze) members groups
+    go [] are last = absurd are
+    go (first ∷ lists) are last = last_zip (AllZip (IsGroup schema analyze)) [] members first groups left.lists lists are.0 are.1 left.last last

@@ -1,8 +1,10 @@
 //! The file of an index over segments, opened.
 
 ghost use Rattle.std.specs.Prelude.{[], ◌++◌, ◌<◌, ◌^◌, ◌∷◌, ◌≡◌, ◌≢◌, ◌≤◌, ◌⊎◌, IfErr, IfOk, List, None, Some, drop, length, map, ℕ};
-ghost use Rattle.std.specs.List.{AllByRecursion};
+ghost use Rattle.std.specs.List.{AllByRecursion, AllZip};
+ghost use Rattle.definitions.specs.Analyzers.{Analyzer};
 ghost use Rattle.definitions.specs.Settings as definitions;
+ghost use Rattle.definitions.specs.Values.{Document};
 ghost use Rattle.definitions.specs.declared.fault.Fault.TheVariants as faults;
 ghost use Rattle.layouts.specs.RecordBodies.{first_in};
 ghost use Rattle.layouts.specs.RecordFiles.{IsDamaged, sized_body};
@@ -11,7 +13,7 @@ ghost use Rattle.segment_files.specs.Lists.{IsListed, LeavesList, member_of};
 ghost use Rattle.segment_files.specs.Reading.{HasFirst, HasList, IsReadUpTo};
 ghost use Rattle.segment_layouts.specs.SegmentBodies as layout;
 ghost use Rattle.segment_layouts.specs.SegmentBodies.{Makes};
-ghost use Rattle.segment_layouts.specs.SegmentFiles.{TakesSegments};
+ghost use Rattle.segment_layouts.specs.SegmentFiles.{IsGroup, LeavesGroups, TakesSegments};
 ghost use Rattle.segment_layouts.specs.Segments.{IsSegment};
 
 use crate::member::Member;
@@ -48,6 +50,9 @@ impl SegmentFile {
         ensures ok { IfOk result (λ file.
             LeavesList file.schema file.settings bytes file.gate (map member_of file.members.items)) }
         ensures listed { IfOk result (λ file. AllByRecursion (IsListed file.schema) file.members.items) }
+        ensures groups { IfOk result (λ file. (analyze : Analyzer) (groups : List (List Document))
+            → LeavesGroups file.schema file.settings analyze bytes groups
+            → AllZip (IsGroup file.schema analyze) (map member_of file.members.items) groups) }
         ensures err { IfErr result (λ fault. (fault ≡ faults.OutOfMemory) ⊎ IsRefusal TakesSegments bytes fault) }
     {
         if bytes.len() < LEAST_BYTES || bytes.as_slice()[0] != OPEN {

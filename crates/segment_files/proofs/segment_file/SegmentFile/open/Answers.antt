@@ -1,11 +1,12 @@
 -- The first record says what the index is made of, and what the others leave is read behind it.
-use Rattle.std.proofs.Common.{List, None, arith, drop, get_or, length, rules, subst, sym, ◌++◌, ◌<◌, ◌≡◌, ◌≤◌, ◌∷◌, ◌^◌, ℕ}
+use Rattle.std.proofs.Common.{List, None, arith, drop, get_or, length, rules, subst, sym, ◌++◌, ◌<◌, ◌≡◌, ◌≤◌, ◌∷◌, ◌^◌, ℕ, map}
 use Rattle.std.proofs.lemmas.Result.{err_from_is_err_and}
 use Rattle.layouts.specs.RecordBodies.{first_in}
 use Rattle.layouts.specs.RecordFiles.{IsDamaged, sized_body}
 use Rattle.segment_layouts.specs.SegmentFiles.{TakesSegments}
+use Rattle.segment_files.specs.Lists.{member_of}
 use Rattle.segment_files.specs.Reading.{HasFirst}
-use Rattle.segment_files.proofs.FilesRead.{damage_here, first_breaks, read_first, refusal_of, refused_at}
+use Rattle.segment_files.proofs.FilesRead.{damage_here, first_breaks, groups_left, read_first, refusal_of, refused_at}
 use Rattle.segment_files.proofs.segment_file.SegmentFile.open.Goals as goal
 
 pub returns-in-Err-clause-err : goal.returns-in-Err-clause-err
@@ -37,3 +38,6 @@ returns-clause-ok c =
     let has : HasFirst c.in-Ok.made bytes c.take_first.new.rest = subst (λ (bs : List ℕ). HasFirst c.in-Ok.made bs c.take_first.new.rest) c.in_ok-rest.ensures.cases c.in-Ok.ensures.ok in
     let begun = read_first c.in-Ok.made.0 c.in-Ok.made.1 bytes c.take_first.new.rest long open_gate has in
     c.in_ok-members.ensures.ok c.in-Ok.made.1 bytes (sym c.len-2.ensures.value) begun
+
+pub returns-clause-groups : goal.returns-clause-groups
+returns-clause-groups c = λ analyze groups. groups_left c.in-Ok.made.0 c.in-Ok.made.1 analyze c.args.bytes c.in_ok-members.gate (map member_of c.in_ok-members.members.items) groups (returns-clause-ok c)
