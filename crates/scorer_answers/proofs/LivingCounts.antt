@@ -1,10 +1,10 @@
 -- How many living documents match.
-use Rattle.std.proofs.Common.{[], Bool, List, None, Some, ap, arith, count_by, false, length, map, refl, slice_index_or, sym, true, ◌+◌, ◌<◌, ◌∙◌, ◌≡◌, ◌≤◌, ℕ}
+use Rattle.std.proofs.Common.{[], Bool, List, None, Some, ap, arith, count_by, false, if◌then◌else◌, length, map, refl, slice_index_or, sym, true, ◌+◌, ◌<◌, ◌∙◌, ◌≡◌, ◌≤◌, ℕ}
 use Rattle.common.specs.BitSets.{count_set}
 use Rattle.cursors.specs.Entries.{Entry}
 use Rattle.definitions.specs.Alive.{Segment}
 use Rattle.definitions.specs.Analyzers.{Analyzer}
-use Rattle.definitions.specs.Answers.{answer_at, living_count}
+use Rattle.definitions.specs.Answers.{living_count}
 use Rattle.definitions.specs.Matching.{matches}
 use Rattle.definitions.specs.Merging.{documents_in, flags_of}
 use Rattle.definitions.specs.Postings.{posting_of, postings}
@@ -12,13 +12,12 @@ use Rattle.definitions.specs.Query.{Query, all, term}
 use Rattle.definitions.specs.Recorded.{count_of, holds, positions_of}
 use Rattle.definitions.specs.Refusing.{tree_fault}
 use Rattle.definitions.specs.Schema.{IndexRecordOption, Schema}
-use Rattle.definitions.specs.Scoring.{Similarity, score}
 use Rattle.inverted_index_reader.specs.OpenedTerms.{entry_as}
-use Rattle.node_scorers.specs.Scores.{Scores}
 use Rattle.scorer_answers.proofs.AliveRows.{TellAlive, as_many_alive, by_flags, by_none}
 use Rattle.scorer_answers.proofs.CountedRows.{count_picked}
 use Rattle.scorer_answers.proofs.EntryCounts.{count-all, count-map}
 use Rattle.scorer_answers.proofs.FlagCounts.{all_rows}
+use Rattle.scorer_answers.specs.Matching.{Matches}
 use Rattle.scorer_answers.specs.Rows.{HasRows}
 use Rattle.segment_reader.specs.SegmentReaders.{alive_in, max_doc_of, num_alive}
 use Rattle.segment_reader.specs.declared.segment_reader.SegmentReader.{SegmentReader}
@@ -30,14 +29,14 @@ module _ (schema : Schema) (analyze : Analyzer) (rows : Segment) (r : SegmentRea
   from_zero : (f : ℕ → Bool) → Tell f → (i : ℕ) → i < length rows → f (0 + i) ≡ slice_index_or (flags_of rows) i false
   from_zero f tell i l = ap f (let same : 0 + i ≡ i = omega arith in same) ∙ tell i l
 
-  -- ---- by what a scorer has
+  -- ---- by the documents that match
 
-  module _ (sim : Similarity) (b : ℕ) (q : Query) (es : List Entry) (passes : tree_fault schema sim.weight b q ≡ None) (scores : Scores sim b q r es) where
+  module _ (weight : List ℕ → ℕ) (b : ℕ) (q : Query) (es : List Entry) (passes : tree_fault schema weight b q ≡ None) (are : Matches weight b q r es) where
     counted : (f : ℕ → Bool) → Tell f → count_by (λ e. f e.doc) es ≡ living_count schema analyze q rows
     counted f tell =
-        count-map (λ p. f p.0) (λ e. (e.doc, e.score)) es
-        ∙ (ap (count_by (λ p. f p.0)) (scores.answers_are schema analyze (documents_in rows) has.stands passes)
-        ∙ count_picked (λ doc. matches schema analyze doc q) (answer_at schema analyze sim b q) (λ n doc. (n, score schema analyze sim doc b q)) (λ p. p.0) (λ n doc. refl) (λ n doc. refl) f 0 rows (from_zero f tell))
+        count-map f (λ e. e.doc) es
+        ∙ (ap (count_by f) (are.documents_are schema analyze (documents_in rows) has.stands passes)
+        ∙ count_picked (λ doc. matches schema analyze doc q) (λ p. if matches schema analyze p.1 q then Some p.0 else None) (λ n doc. n) (λ n. n) (λ n doc. refl) (λ n doc. refl) f 0 rows (from_zero f tell))
 
     pub alive_counted : (flags : List Bool) → alive_in r ≡ Some flags → count_by (λ e. slice_index_or flags e.doc false) es ≡ living_count schema analyze q rows
     alive_counted flags is = counted (λ d. slice_index_or flags d false) (by_flags schema analyze rows r has flags is)

@@ -1,19 +1,13 @@
 -- Documents with scores as lists of numbers have them.
-use Rattle.std.proofs.Common.{[], Err, IfErr, IfOk, List, Ok, Result, ap, map, pos, refl, ◌∷◌, ◌≡◌}
+use Rattle.std.proofs.Common.{[], Err, IfErr, IfOk, List, Ok, Result, ap, pos, refl, ◌∷◌, ◌≡◌}
 use Rattle.any_scorer.specs.Signed.{signed}
 use Rattle.cursors.specs.Entries.{Entry}
-use Rattle.definitions.specs.ScoredLists.{documents_of}
 use Rattle.leaf_scorers.specs.ScoredEntries.{pairs_of}
 use Rattle.scorer_answers.specs.Listed.{signed_pairs}
 
 pub signed_entries : (es : List Entry) → signed es ≡ signed_pairs (pairs_of es)
 signed_entries [] = refl
 signed_entries (e ∷ es) = ap (λ ps. (e.doc, pos e.score) ∷ ps) (signed_entries es)
-
--- the documents that are left
-pub documents_left : (es : List Entry) → map (λ e. e.doc) es ≡ documents_of (pairs_of es)
-documents_left [] = refl
-documents_left (e ∷ es) = ap (λ ds. e.doc ∷ ds) (documents_left es)
 
 -- what follows of the value follows where there is one
 pub if_ok : {X E : Type 0} (result : Result X E) (P Q : X → Type 0) → ((x : X) → P x → Q x) → IfOk result P → IfOk result Q

@@ -1,6 +1,6 @@
 //! How many living documents match.
 
-ghost use Rattle.std.specs.Prelude.{[], ◌≡◌, ◌≤◌, IfNone, IfSome, None, Some, length, ℕ};
+ghost use Rattle.std.specs.Prelude.{[], ◌≡◌, ◌≤◌, IfNone, IfSome, List, None, Some, length, ℕ};
 ghost use Rattle.cursors.specs.Entries.{from};
 ghost use Rattle.definitions.specs.Alive.{Segment};
 ghost use Rattle.definitions.specs.Analyzers.{Analyzer};
@@ -9,8 +9,7 @@ ghost use Rattle.definitions.specs.Query as definitions;
 ghost use Rattle.definitions.specs.Query.{Query, all};
 ghost use Rattle.definitions.specs.Refusing.{tree_fault};
 ghost use Rattle.definitions.specs.Schema.{IndexRecordOption as Asked, Schema};
-ghost use Rattle.definitions.specs.Scoring as scoring;
-ghost use Rattle.node_scorers.specs.Scores.{Scores};
+ghost use Rattle.scorer_answers.specs.Matching.{Matches};
 ghost use Rattle.scorer_answers.specs.Rows.{HasRows};
 ghost use Rattle.segment_reader.specs.SegmentReaders.{alive_in, max_doc_of, num_alive};
 
@@ -35,11 +34,10 @@ fn alive_bitset<'a>(reader: &SegmentReader<'a>) -> Option<&'a AliveBitSet>
 /// How many of the documents that remain are alive. The cursor then stands on `TERMINATED`.
 pub fn count<D: DocSet>(docset: &mut D, reader: &SegmentReader<'_>) -> u32
     requires within { from (max_doc_of reader.now) (D.entries docset.old) ≡ [] }
-    ensures count { (schema : Schema) (analyze : Analyzer) (sim : scoring.Similarity) (b : ℕ) (q : Query)
-        (rows : Segment)
+    ensures count { (schema : Schema) (analyze : Analyzer) (weight : List ℕ → ℕ) (b : ℕ) (q : Query) (rows : Segment)
         → HasRows schema analyze rows reader.now
-        → tree_fault schema sim.weight b q ≡ None
-        → Scores sim b q reader.now (D.entries docset.old)
+        → tree_fault schema weight b q ≡ None
+        → Matches weight b q reader.now (D.entries docset.old)
         → result ≡ living_count schema analyze q rows }
     ensures done { D.entries docset.new ≡ [] }
 {

@@ -1,6 +1,7 @@
 //! What is done with a scorer that has what its query answers in a segment: counts, sinks, explanations.
 #![tactic(auto)]
 
+pub mod answer_laws;
 mod counts;
 mod explanations;
 mod walks;

@@ -6,13 +6,13 @@ ghost use Rattle.definitions.specs.Answers.{answers};
 ghost use Rattle.definitions.specs.Query.{Query};
 ghost use Rattle.definitions.specs.Refusing.{tree_fault};
 ghost use Rattle.definitions.specs.Schema.{Schema};
-ghost use Rattle.definitions.specs.ScoredLists.{documents_of};
 ghost use Rattle.definitions.specs.Scoring as scoring;
 ghost use Rattle.definitions.specs.Sinks.{fed};
 ghost use Rattle.definitions.specs.Values.{Document};
 ghost use Rattle.node_scorers.specs.Scores.{Scores};
 ghost use Rattle.phrases.specs.Blocks.{IsFedInBlocks};
 ghost use Rattle.scorer_answers.specs.Listed.{signed_pairs};
+ghost use Rattle.scorer_answers.specs.Matching.{Matches, matching};
 ghost use Rattle.segment_reader.specs.SegmentReaders.{StandsFor};
 ghost use Rattle.segment_reader.specs.declared.segment_reader.SegmentReader.{SegmentReader};
 
@@ -38,13 +38,12 @@ pub fn for_each<S: Scorer>(alloc: Global, scorer: &mut S) -> Result<Vec<(DocId, 
 
 /// Gives a sink the documents that match, in order, in blocks of 64 at most.
 pub fn for_each_no_score<D: DocSet, K: BlockSink>(docset: &mut D, sink: &mut K)
-    ensures fed { (schema : Schema) (analyze : Analyzer) (sim : scoring.Similarity) (b : ℕ) (q : Query)
+    ensures fed { (schema : Schema) (analyze : Analyzer) (weight : List ℕ → ℕ) (b : ℕ) (q : Query)
         (docs : List Document) (r : SegmentReader)
         → StandsFor schema analyze docs r
-        → tree_fault schema sim.weight b q ≡ None
-        → Scores sim b q r (D.entries docset.old)
-        → IsFedInBlocks K.taken (K.state sink.old) (documents_of (answers schema analyze sim b q docs))
-        (K.state sink.new) }
+        → tree_fault schema weight b q ≡ None
+        → Matches weight b q r (D.entries docset.old)
+        → IsFedInBlocks K.taken (K.state sink.old) (matching schema analyze q docs) (K.state sink.new) }
     ensures done { D.entries docset.new ≡ [] }
 {
     for_each_docset_buffered(docset, sink)
