@@ -1,0 +1,2 @@
+-- Lemmas behind worked cases.
+mod SameNorms

@@ -5,7 +5,10 @@
 mod held;
 mod operations;
 mod record_bodies;
+mod searchers;
 mod segments;
+mod term_answers;
+mod term_sinks;
 mod written_segments;
 
 use case_lines::answers;

@@ -1,7 +1,7 @@
 //! Operations by their names.
 
 use crate::held::Held;
-use crate::{record_bodies, segments};
+use crate::{record_bodies, searchers, segments, term_answers};
 use case_lines::{Arguments, Operations, Refusal};
 use document_lines::made;
 use serde_json::Value;
@@ -14,6 +14,8 @@ impl Operations for Held {
             "put-body" => record_bodies::put(alloc, arguments),
             "read-body" => record_bodies::read(alloc, arguments),
             "places-follow" => record_bodies::follow(alloc, arguments),
+            "searched" => searchers::searched(self),
+            _ if operation.starts_with("term-") => term_answers::answer(self, operation, arguments),
             _ => segments::answer(self, operation, arguments),
         }
     }

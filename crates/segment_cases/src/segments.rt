@@ -52,7 +52,7 @@ fn digest(bytes: &[u8]) -> [u8; 16] {
 }
 
 /// A segment of the schema.
-fn opened(alloc: Global, schema: &Schema, bytes: &[u8]) -> Result<Segment, Fault>
+pub(crate) fn opened(alloc: Global, schema: &Schema, bytes: &[u8]) -> Result<Segment, Fault>
     ensures { IfOk result (IsOpened schema.now) }
 {
     let bytes = Bytes::copy_from_slice(alloc, bytes)?;

@@ -1,0 +1,6 @@
+-- Words of the contracts.
+pub mod Rows
+pub mod Matching
+pub mod Listed
+pub mod Earned
+pub mod AnswerLaws
