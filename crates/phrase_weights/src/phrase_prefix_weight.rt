@@ -77,7 +77,8 @@ impl<'a> PhrasePrefixWeight<'a> {
     }
 
     /// The documents of a segment where terms that begin with the prefix follow the whole terms, with their scores
-    /// under a boost; none where no document holds one of the whole terms.
+    /// under a boost; none where no document holds one of the whole terms. The greatest limit of expansions leaves no
+    /// term out: more terms than it are want of memory.
     pub fn phrase_prefix_scorer(
         &self,
         alloc: Global,
@@ -104,6 +105,8 @@ impl<'a> PhrasePrefixWeight<'a> {
         ensures bounded { IfOk result (λ found. IfSome found (λ scorer. greatest_score
             (⟦<PhrasePrefixScorer<WholePhrase<'a>, SegmentPostings<'a>> as DocSet>⟧.entries scorer)
             ≤ natural boost * most_in self.now)) }
+        ensures all { limit_of self.now ≡ 4294967295 → IfOk result (λ found. IfSome found (λ scorer.
+            length (suffix_places (index_of reader.now) (prefix_of self.now)) ≤ limit_of self.now)) }
     {
         let terms = self.terms;
         let last = terms.len() - 1;

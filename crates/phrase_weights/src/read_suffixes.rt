@@ -1,6 +1,6 @@
 //! The postings of the terms that begin with a prefix.
 
-ghost use Rattle.std.specs.Prelude.{◌<◌, ◌≡◌, ◌≤◌, IfOk, Some, length, map, slice_index, take, ℕ};
+ghost use Rattle.std.specs.Prelude.{[], ◌<◌, ◌≡◌, ◌≤◌, IfOk, Some, length, map, slice_index, take, ℕ};
 ghost use Rattle.std.specs.List.{AllByRecursion};
 ghost use Rattle.definitions.specs.Prefixes.{prefix_end};
 ghost use Rattle.definitions.specs.Terms.{field_of, payload_of};
@@ -54,6 +54,17 @@ fn read_suffix<'a>(
     )
 }
 
+/// Refuses terms that are left where all were asked for: no memory holds the postings of so many.
+fn check_all_read(range: TermRange<'_>, max_expansions: u32) -> Result<(), AllocError>
+    ensures { max_expansions ≡ 4294967295 → IfOk result (λ ok. range.entry.rest ≡ []) }
+{
+    let mut range = range;
+    if max_expansions == u32::MAX && range.advance() {
+        return Err(AllocError);
+    }
+    Ok(())
+}
+
 /// The postings of the first terms of a range of a field.
 fn read_range<'a>(
     alloc: Global,
@@ -67,6 +78,7 @@ fn read_range<'a>(
         ≡ read_places contents.fields field (take max_expansions range.entry.rest)) }
     ensures bytes { IfOk result (λ read. HaveBytes (take max_expansions range.entry.rest)) }
     ensures few { IfOk result (λ read. length read.items ≤ max_expansions) }
+    ensures all { max_expansions ≡ 4294967295 → IfOk result (λ read. length range.entry.rest ≤ max_expansions) }
 {
     let mut range = range;
     let mut read = Vec::new(alloc);
@@ -78,6 +90,7 @@ fn read_range<'a>(
         read.push(read_suffix(index, field, range.key(), range.value()))?;
         left -= 1;
     }
+    check_all_read(range, max_expansions)?;
     Ok(read)
 }
 
@@ -92,6 +105,8 @@ pub(crate) fn read_suffixes<'a>(
         ≡ read_places contents.fields (field_of prefix.now)
         (take max_expansions (suffix_places (index_of reader.now) prefix.now))) }
     ensures few { IfOk result (λ read. length read.items ≤ max_expansions) }
+    ensures all { max_expansions ≡ 4294967295
+        → IfOk result (λ read. length (suffix_places (index_of reader.now) prefix.now) ≤ max_expansions) }
 {
     let index = reader.inverted_index();
     let field = prefix.field();

@@ -8,9 +8,9 @@ ghost use Rattle.definitions.specs.Scoring.{natural, weight_sum};
 ghost use Rattle.query_trees.specs.Queries.{clauses_of, occur_of, queries_of, query_of};
 ghost use Rattle.query.specs.Ranges.{in_range};
 
-use crate::statistics::Statistics;
 use common::{MAX_SCORE, Score};
 use query_trees::{AnyQuery, Occur};
+use statistics::Statistics;
 use terms::Term;
 
 /// A number times a bound; `None` where it is above `MAX_SCORE`, as of a bound.

@@ -9,11 +9,11 @@ ghost use Rattle.query_trees.specs.Queries.{clauses_of, queries_of, query_of};
 
 use crate::bounds::{bound, times};
 use crate::node_tests::{check_own, is_outside};
-use crate::statistics::Statistics;
 use common::{MAX_SCORE, Score};
 use definitions::Fault;
 use query_trees::{AnyQuery, Occur};
 use schema::Schema;
+use statistics::Statistics;
 
 /// The most nodes on a path of a query.
 const MAX_DEPTH: usize = 64;

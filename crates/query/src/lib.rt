@@ -4,7 +4,6 @@
 mod bounds;
 mod checks;
 mod node_tests;
-mod statistics;
 mod term_tests;
 
 pub use checks::check_query;
