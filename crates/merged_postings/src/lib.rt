@@ -1,0 +1,6 @@
+//! Postings of a merge: each member's, without the dead documents, and under the numbers that the living ones get.
+#![tactic(auto)]
+
+mod doc_id_mapping;
+
+pub use doc_id_mapping::DocIdMapping;
