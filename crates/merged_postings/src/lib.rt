@@ -2,5 +2,7 @@
 #![tactic(auto)]
 
 mod doc_id_mapping;
+mod living_postings;
 
 pub use doc_id_mapping::DocIdMapping;
+pub use living_postings::write_postings;
