@@ -1,0 +1,3 @@
+pub mod MemberPostings
+pub mod MembersWritten
+pub mod TermMerged
