@@ -1,3 +1,4 @@
 pub mod MemberPostings
 pub mod MembersWritten
 pub mod TermMerged
+pub mod TermsMerged

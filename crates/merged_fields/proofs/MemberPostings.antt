@@ -1,5 +1,5 @@
 -- The postings of a member's term.
-use Rattle.std.proofs.Common.{[], Bool, List, None, Option, Some, ap, ap₂, bytes_eq, false, find, if◌then◌else◌, length, map, option_map, refl, subst, sym, true, ◌++◌, ◌<◌, ◌==◌, ◌^◌, ◌≡◌, ◌∙◌, ◌∷◌, ℕ}
+use Rattle.std.proofs.Common.{[], Bool, List, None, Option, Some, ap, bytes_eq, false, find, if◌then◌else◌, length, map, refl, subst, sym, true, ◌++◌, ◌<◌, ◌==◌, ◌^◌, ◌≡◌, ◌∙◌, ◌∷◌, ℕ}
 use Rattle.std.specs.List.{AllByRecursion}
 use Rattle.std.specs.Option.{option_map_or}
 use Rattle.cursors.specs.Entries.{Entry}
@@ -7,10 +7,9 @@ use Rattle.definitions.specs.Postings.{Posting}
 use Rattle.definitions.specs.Schema.{Schema, with_freqs_and_positions}
 use Rattle.inverted_index_reader.proofs.DictionariesPlaced.{term_found}
 use Rattle.inverted_index_reader.proofs.ReaderCalls.{dictionary_is}
-use Rattle.inverted_index_reader.specs.FieldDictionaries.{IsFound, dictionary_of, terms_in}
+use Rattle.inverted_index_reader.specs.FieldDictionaries.{IsFound, terms_in}
 use Rattle.inverted_index_reader.specs.OpenedTerms.{entry_as}
 use Rattle.inverted_index_reader.specs.Readers.{Contents, Reader, dictionary_in, info_in, postings_in, term_in}
-use Rattle.inverted_index_reader.specs.declared.term_info.TermInfo.{TermInfo}
 use Rattle.layouts.specs.InvertedIndexes.{IndexedField, IndexedTerm, IsField, IsTerm, field_ids, option_of_term, term_of_key}
 use Rattle.merged_fields.specs.Members.{IsMember, living_of}
 use Rattle.merged_fields.specs.declared.member.Member.{Member}

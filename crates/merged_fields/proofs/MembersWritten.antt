@@ -1,5 +1,5 @@
 -- Members that are written one after another.
-use Rattle.std.proofs.Common.{[], Bool, IfSome, List, None, Option, Some, ap, ap₂, append_assoc, arith, drop, inl, inr, false, length, length-append, map, refl, subst, suc, sym, take, true, zero, ◌++◌, ◌+◌, ◌/◌, ◌<◌, ◌||◌, ◌≡◌, ◌≤◌, ◌∙◌, ◌∷◌, ℕ}
+use Rattle.std.proofs.Common.{[], List, ap, ap₂, append_assoc, arith, inl, inr, length, map, refl, subst, suc, sym, take, zero, ◌++◌, ◌+◌, ◌<◌, ◌||◌, ◌≡◌, ◌≤◌, ◌∙◌, ◌∷◌, ℕ}
 use Rattle.std.proofs.lemmas.List.{map-append}
 use Rattle.std.specs.List.{slice_index_or}
 use Rattle.definitions.specs.Postings.{Posting}
@@ -13,7 +13,7 @@ use Rattle.merged_fields.specs.declared.member.Member.{Member}
 use Rattle.merged_postings.proofs.Writes.{front_passes}
 use Rattle.merged_postings.specs.Living.{has_some}
 use Rattle.merged_postings.specs.Mappings.{end_of}
-use Rattle.merged_postings.specs.Written.{AreWritten, IsSame, IsWriteRefusal, counts_in}
+use Rattle.merged_postings.specs.Written.{AreWritten, IsWriteRefusal, counts_in}
 use Rattle.postings_serializer.specs.FieldWriting.{FieldWriting, IsOpen}
 use Rattle.postings_serializer.specs.TermWriting.{recorded_count}
 

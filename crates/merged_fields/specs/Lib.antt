@@ -1,3 +1,4 @@
 -- Words of the contracts.
 pub mod Members
 pub mod MergedTerm
+pub mod MergedTerms

@@ -21,6 +21,7 @@ abbrev pub IsMergedTerm : FieldWriting → FieldWriting → List ℕ → IndexRe
 IsMergedTerm was now key option [] = IsPassed was now
 IsMergedTerm was now key option (p ∷ ps) = IsWrittenTerm was now key option (p ∷ ps)
 
--- memory was wanting, or the term passes a limit, or it would be one too many
+-- memory was wanting, or a term that has postings passes a limit, or would be one too many
 abbrev pub IsTermRefusal : Fault → FieldWriting → IndexRecordOption → List Posting → Type 0
-IsTermRefusal fault was option ps = (fault ≡ faults.OutOfMemory) ⊎ ((fault ≡ faults.Limit) × (TermPasses option (listed was.writing.norms) ps ⊎ (was.terms.num_terms ≡ 4294967295)))
+IsTermRefusal fault was option [] = fault ≡ faults.OutOfMemory
+IsTermRefusal fault was option (p ∷ ps) = (fault ≡ faults.OutOfMemory) ⊎ ((fault ≡ faults.Limit) × (TermPasses option (listed was.writing.norms) (p ∷ ps) ⊎ (was.terms.num_terms ≡ 4294967295)))

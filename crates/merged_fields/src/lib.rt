@@ -1,6 +1,7 @@
 //! The terms of a merge: those of all members, each with the postings of the living documents.
 #![tactic(auto)]
 
+mod field_terms;
 mod member;
 mod merged_term;
 

@@ -1,12 +1,11 @@
-use Rattle.std.proofs.Common.{[], Bor, IfErr, List, Option, Some, ap, cond, map, option_map, subst, sym, ◌≡◌, ◌∙◌, ℕ}
+use Rattle.std.proofs.Common.{[], Bor, List, ap, cond, map, option_map, subst, sym, ◌≡◌, ◌∙◌, ℕ}
 use Rattle.std.proofs.lemmas.Result.{err_from_is_err_and}
 use Rattle.definitions.specs.Postings.{Posting}
 use Rattle.definitions.specs.Schema.{basic}
 use Rattle.layouts.specs.Positions.{position_numbers}
-use Rattle.merged_fields.proofs.TermMerged.{merged_passed, merged_written, write_refused}
+use Rattle.merged_fields.proofs.TermMerged.{close_refused, merged_passed, merged_written, write_refused}
 use Rattle.merged_fields.specs.Members.{merged_in}
 use Rattle.merged_fields.specs.MergedTerm.{IsMergedTerm, IsTermRefusal}
-use Rattle.merged_postings.specs.Written.{AreWritten}
 use Rattle.postings_serializer.specs.TermWriting.{recorded_count}
 use Rattle.postings_writer.proofs.WrittenTerms.{close_passes, term_written}
 use Rattle.merged_fields.proofs.merged_term.merge_term.Goals as goal
@@ -32,7 +31,8 @@ returns-in_err-close_term-clause-err c schema num_docs all key are first =
     let written = c.in_ok-write_members.ensures.ok schema num_docs all are in
     let p = err_from_is_err_and c.from_residual-in_err-close_term.result c.from_residual-in_err-close_term.ensures.1 in
     rw (p.1, p.2) (subst (λ k. IsTermRefusal c.in_err-close_term.field-0.0 c.args.serializer.now (cond c.args.record_term_freq c.args.serializer.now.writing.mode basic) (merged_in c.args.field k c.args.members.now all)) own
-    (close_passes c.in_err-close_term.field-0.0 c.args.serializer.now w c.write_members.new.serializer _ ps begun.option begun.same.2 begun.same.6 written.same (c.in_err-close_term.ensures.err docs counts numbers (written.open_is [] [] [] begun.ready))))
+    (close_refused c.in_err-close_term.field-0.0 c.args.serializer.now _ ps (sym c.if-branch.true ∙ c.in_ok-write_members.ensures.some schema num_docs all are)
+    (close_passes c.in_err-close_term.field-0.0 c.args.serializer.now w c.write_members.new.serializer _ ps begun.option begun.same.2 begun.same.6 written.same (c.in_err-close_term.ensures.err docs counts numbers (written.open_is [] [] [] begun.ready)))))
 
 pub returns-in_ok-close_term-clause-ok : goal.returns-in_ok-close_term-clause-ok
 returns-in_ok-close_term-clause-ok c schema num_docs all key are first =

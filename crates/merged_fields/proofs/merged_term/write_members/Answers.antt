@@ -1,18 +1,14 @@
-use Rattle.std.proofs.Common.{[], Bor, Bool, IfErr, IfOk, IfSome, List, None, Option, Some, ap, ap₂, arith, false, length, map, option_map, refl, slice_get, subst, suc, sym, take, true, ◌++◌, ◌+◌, ◌<◌, ◌||◌, ◌≡◌, ◌≤◌, ◌∙◌, ℕ}
+use Rattle.std.proofs.Common.{[], IfSome, List, None, Option, Some, ap, ap₂, arith, length, subst, suc, sym, take, ◌+◌, ◌||◌, ◌≡◌, ◌≤◌, ◌∙◌, ℕ}
 use Rattle.std.proofs.lemmas.Result.{err_from_is_err_and}
 use Rattle.std.specs.List.{slice_index_or}
-use Rattle.definitions.specs.Postings.{Posting, terminated}
-use Rattle.definitions.specs.Schema.{Schema}
 use Rattle.inverted_index_reader.specs.Dictionaries.{Placed}
 use Rattle.inverted_index_reader.specs.Readers.{dictionary_in, info_in, postings_in}
-use Rattle.inverted_index_reader.specs.declared.term_info.TermInfo.{TermInfo}
-use Rattle.layouts.specs.InvertedIndexes.{IndexedField}
 use Rattle.merged_fields.proofs.MembersWritten.{all_merged, mapped_at, member_found, member_refused, more_merged, some_both, written_both}
-use Rattle.merged_fields.specs.Members.{AreMembers, IsMember, end_after, living_of, merged_in}
+use Rattle.merged_fields.specs.Members.{end_after, living_of, merged_in}
 use Rattle.merged_fields.specs.declared.member.Member.{Member}
 use Rattle.merged_postings.specs.Living.{has_some}
 use Rattle.merged_postings.specs.Mappings.{end_of}
-use Rattle.merged_postings.specs.Written.{AreWritten, IsWriteRefusal, counts_in}
+use Rattle.merged_postings.specs.Written.{AreWritten}
 use Rattle.merged_fields.proofs.merged_term.write_members.Goals as goal
 use Rattle.merged_fields.proofs.merged_term.write_members.Goals.{else-some, then-some}
 

@@ -1,12 +1,9 @@
-use Rattle.std.proofs.Common.{[], Bor, List, None, Option, Some, ap, length, map, option_map, subst, sym, ◌++◌, ◌<◌, ◌≡◌, ◌∙◌, ℕ}
-use Rattle.std.specs.List.{AllByRecursion}
+use Rattle.std.proofs.Common.{Bor, ap, option_map, subst, sym, ◌++◌, ◌≡◌, ◌∙◌}
 use Rattle.std.specs.Result.{IfErr, IfOk, OnOk}
-use Rattle.cursors.specs.Entries.{Entry, from}
-use Rattle.definitions.specs.Postings.{Posting}
 use Rattle.inverted_index_reader.specs.Readers.{postings_in}
 use Rattle.inverted_index_reader.specs.declared.term_info.TermInfo.{TermInfo}
 use Rattle.merged_fields.proofs.MemberPostings.{contents_of, counts_held, entries_counted, living_entries, none_held, nothing_written}
-use Rattle.merged_fields.specs.Members.{IsMember, living_of}
+use Rattle.merged_fields.specs.Members.{living_of}
 use Rattle.merged_postings.specs.Living.{has_some}
 use Rattle.merged_postings.specs.Written.{AreWritten, IsWriteRefusal, counts_in}
 use Rattle.merged_fields.proofs.member.Member.write_postings.Goals as goal
