@@ -1,6 +1,7 @@
 -- Living documents of a cursor, written one after another.
-use Rattle.std.proofs.Common.{[], Bool, IfSome, List, None, Option, Some, ap, append_assoc, arith, drop, false, if◌then◌else◌, inl, inr, length, length-append, refl, slice_index, subst, suc, sum, sym, true, zero, ◌*◌, ◌++◌, ◌+◌, ◌/◌, ◌<◌, ◌^◌, ◌||◌, ◌≡◌, ◌≢◌, ◌≤◌, ◌∙◌, ◌∷◌, ℕ}
+use Rattle.std.proofs.Common.{[], Bool, IfSome, List, None, Option, Some, ap, append_assoc, arith, drop, false, if◌then◌else◌, inl, inr, length, length-append, refl, slice_index, subst, suc, sum, sum_by, sym, true, zero, ◌*◌, ◌++◌, ◌+◌, ◌/◌, ◌<◌, ◌^◌, ◌||◌, ◌≡◌, ◌≢◌, ◌≤◌, ◌∙◌, ◌∷◌, ℕ}
 use Rattle.std.proofs.lemmas.List.{drop-append-le, length-drop, map-append, take-append-le}
+use Rattle.std.proofs.lemmas.List.Sums.{sum_by-cons}
 use Rattle.std.specs.List.{AllByRecursion, slice_index_or}
 use Rattle.cursors.specs.Entries.{AreSingle, Entry, Rising, first, first_positions, highest, single}
 use Rattle.definitions.specs.Blocks.{block_len}
@@ -155,3 +156,14 @@ small_deltas ps i small = small_differences 0 ps i (small_list ps (2 ^ 31) small
 pub highest_first : (es : List Entry) → AreSingle es → highest (single (first_positions es)) < 2 ^ 31
 highest_first [] all = omega arith
 highest_first (e ∷ es) all = all.2
+
+-- ---- tokens
+
+abbrev pub tokens : List Posting → ℕ
+tokens ps = sum_by (λ (p : Posting). p.count) ps
+
+pub tokens_first : (m : Mapping) (e : Entry) (es : List Entry) (n : ℕ) → Some n ≡ new_doc m e.doc → tokens (living_in m (e ∷ es)) ≡ e.count + tokens (living_in m es)
+tokens_first m e es n is = ap tokens (living_first m e es (number_of m e.doc n is).0) ∙ sum_by-cons (λ (p : Posting). p.count) (at_document (m.base + rank m.flags e.doc) (posting_in e)) (living_in m es)
+
+pub tokens_dead : (m : Mapping) (e : Entry) (es : List Entry) → None ≡ new_doc m e.doc → tokens (living_in m (e ∷ es)) ≡ tokens (living_in m es)
+tokens_dead m e es is = ap tokens (dead_first m e es (dead_one m e.doc is))
