@@ -2,3 +2,4 @@ pub mod MemberPostings
 pub mod MembersWritten
 pub mod TermMerged
 pub mod TermsMerged
+pub mod TokensMerged

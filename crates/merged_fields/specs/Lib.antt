@@ -2,3 +2,4 @@
 pub mod Members
 pub mod MergedTerm
 pub mod MergedTerms
+pub mod Tokens

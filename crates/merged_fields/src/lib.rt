@@ -2,6 +2,7 @@
 #![tactic(auto)]
 
 mod field_terms;
+mod field_tokens;
 mod member;
 mod merged_term;
 
