@@ -3,3 +3,4 @@ pub mod MembersWritten
 pub mod TermMerged
 pub mod TermsMerged
 pub mod TokensMerged
+pub mod FieldMerged

@@ -105,7 +105,7 @@ member_at schema next end (suc k) (m ∷ ms) (fields ∷ all) d are within =
     }
 
 -- all members
-take_whole : {X : Type 0} (k : ℕ) (xs : List X) → length xs ≤ k → take k xs ≡ xs
+pub take_whole : {X : Type 0} (k : ℕ) (xs : List X) → length xs ≤ k → take k xs ≡ xs
 take_whole zero [] long = refl
 take_whole zero (x ∷ xs) long = absurd (omega (arith, long))
 take_whole (suc k) [] long = refl

@@ -4,6 +4,7 @@
 mod field_terms;
 mod field_tokens;
 mod member;
+mod merged_field;
 mod merged_term;
 
 pub use member::Member;
