@@ -4,3 +4,4 @@ pub mod TermMerged
 pub mod TermsMerged
 pub mod TokensMerged
 pub mod FieldMerged
+pub mod AllMerged

@@ -5,6 +5,8 @@ mod field_terms;
 mod field_tokens;
 mod member;
 mod merged_field;
+mod merged_index;
 mod merged_term;
 
 pub use member::Member;
+pub use merged_index::merge_fields;
