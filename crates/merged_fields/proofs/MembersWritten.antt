@@ -2,13 +2,14 @@
 use Rattle.std.proofs.Common.{[], List, ap, ap₂, append_assoc, arith, inl, inr, length, map, refl, subst, suc, sym, take, zero, ◌++◌, ◌+◌, ◌<◌, ◌||◌, ◌≡◌, ◌≤◌, ◌∙◌, ◌∷◌, ℕ}
 use Rattle.std.proofs.lemmas.List.{map-append}
 use Rattle.std.specs.List.{slice_index_or}
+use Rattle.definitions.specs.Merging.{merged_postings, num_living, renumbered}
 use Rattle.definitions.specs.Postings.{Posting}
 use Rattle.definitions.specs.Schema.{Schema}
 use Rattle.definitions.specs.declared.fault.Fault.{Fault}
 use Rattle.inverted_index_reader.specs.Readers.{postings_in}
 use Rattle.layouts.specs.InvertedIndexes.{IndexedField}
 use Rattle.layouts.specs.Positions.{differences, position_numbers}
-use Rattle.merged_fields.specs.Members.{AreMembers, IsMember, end_after, living_of, merged_in}
+use Rattle.merged_fields.specs.Members.{AreMembers, IsMember, end_after, living_of, merged_in, parts_of}
 use Rattle.merged_fields.specs.declared.member.Member.{Member}
 use Rattle.merged_postings.proofs.Writes.{front_passes}
 use Rattle.merged_postings.specs.Living.{has_some}
@@ -146,3 +147,14 @@ member_found schema end k ms all m is are within = subst (MemberAt schema end 0 
 
 pub more_merged : (schema : Schema) (end k : ℕ) (ms : List Member) (all : List (List IndexedField)) (m : Member) (field : ℕ) (key : List ℕ) (at : MemberAt schema end 0 k ms all m) → merged_in field key (take (k + 1) ms) (take (k + 1) all) ≡ merged_in field key (take k ms) (take k all) ++ living_of m.doc_ids (postings_in at.fields field key)
 more_merged schema end k ms all m field key at = ap (λ n. merged_in field key (take n ms) (take n all)) (let e : k + 1 ≡ suc k = omega arith in e) ∙ at.more field key
+
+-- ---- the words of the definitions
+
+pub as_defined : (schema : Schema) (next end : ℕ) (ms : List Member) (all : List (List IndexedField)) (field : ℕ) (key : List ℕ) → AreMembers schema next end ms all → merged_in field key ms all ≡ merged_postings next (parts_of field key ms all)
+as_defined schema next end [] all field key are = refl
+as_defined schema next end (m ∷ ms) [] field key are = absurd are
+as_defined schema next end (m ∷ ms) (fields ∷ all) field key are =
+    let base : m.doc_ids.base ≡ next = are.1 in
+    ap₂ (λ ps qs. ps ++ qs)
+    (ap (λ n. renumbered n m.doc_ids.flags (postings_in fields field key)) base)
+    (as_defined schema (end_of m.doc_ids) end ms all field key are.2 ∙ ap (λ n. merged_postings (n + num_living m.doc_ids.flags) (parts_of field key ms all)) base)

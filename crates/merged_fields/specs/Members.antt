@@ -1,5 +1,5 @@
 -- The members of a merge, and what the living documents of all of them have.
-use Rattle.std.specs.Prelude.{[], ◌++◌, ◌∷◌, ◌≡◌, List, length, suc, zero, ℕ}
+use Rattle.std.specs.Prelude.{[], ◌++◌, ◌∷◌, ◌≡◌, Bool, List, length, suc, zero, ℕ}
 use Rattle.definitions.specs.Merging.{renumbered}
 use Rattle.definitions.specs.Postings.{Posting}
 use Rattle.definitions.specs.Schema.{Schema}
@@ -35,3 +35,9 @@ abbrev pub end_after : ℕ → ℕ → List Member → ℕ
 end_after next zero ms = next
 end_after next (suc k) [] = next
 end_after next (suc k) (m ∷ ms) = end_after (end_of m.doc_ids) k ms
+
+-- which documents of each member are alive, and the postings that it has of a term
+abbrev pub parts_of : ℕ → List ℕ → List Member → List (List IndexedField) → List (List Bool × List Posting)
+parts_of field key [] all = []
+parts_of field key (m ∷ ms) [] = []
+parts_of field key (m ∷ ms) (fields ∷ all) = (m.doc_ids.flags, postings_in fields field key) ∷ parts_of field key ms all

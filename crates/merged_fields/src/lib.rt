@@ -4,6 +4,7 @@
 mod field_terms;
 mod field_tokens;
 mod member;
+pub mod merge_laws;
 mod merged_field;
 mod merged_index;
 mod merged_term;
