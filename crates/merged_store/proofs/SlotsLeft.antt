@@ -1,0 +1,62 @@
+-- Slots of living documents.
+use Rattle.std.proofs.Common.{[], Bool, List, ap, ap₂, arith, false, filter, if◌then◌else◌, length, length-append, refl, suc, take, true, zero, ◌++◌, ◌+◌, ◌<◌, ◌≡◌, ◌≤◌, ◌∙◌, ◌∷◌, ℕ}
+use Rattle.std.proofs.lemmas.List.Sums.{length-filter}
+use Rattle.std.specs.List.{items_where_true, slice_index_or}
+use Rattle.common.specs.BitSets.{count_set}
+use Rattle.layouts.specs.Stores.{Block, Hold}
+use Rattle.store.specs.Writing.{count_of}
+
+-- blocks hold as many slots as they say
+pub hold_many : (bs : List Block) (slots : List (List ℕ)) → Hold bs slots → length slots ≡ count_of bs
+hold_many [] slots held = ap length held
+hold_many (b ∷ bs) slots held =
+    let docs = held.0 in
+    let rest = held.1 in
+    let whole = ap length held.2 ∙ length-append docs rest in
+    let own = held.3 in
+    let later = hold_many bs rest held.5 in
+    omega (arith, whole, own, later)
+
+living_suc : {X : Type 0} (i : ℕ) (flags : List Bool) (xs : List X) (d : X) → i < length flags → i < length xs → items_where_true (take (suc i) flags) (take (suc i) xs) ≡ items_where_true (take i flags) (take i xs) ++ (if slice_index_or flags i false then slice_index_or xs i d ∷ [] else [])
+living_suc i [] xs d a b = absurd (omega (arith, a))
+living_suc i (f ∷ flags) [] d a b = absurd (omega (arith, b))
+living_suc zero (true ∷ flags) (n ∷ xs) d a b = refl
+living_suc zero (false ∷ flags) (n ∷ xs) d a b = refl
+living_suc (suc i) (true ∷ flags) (n ∷ xs) d a b = ap (λ ys. n ∷ ys) (living_suc i flags xs d (omega (arith, a)) (omega (arith, b)))
+living_suc (suc i) (false ∷ flags) (n ∷ xs) d a b = living_suc i flags xs d (omega (arith, a)) (omega (arith, b))
+
+pub living_more : {X : Type 0} (i : ℕ) (flags : List Bool) (xs : List X) (d : X) (flag : Bool) → i < length xs → length xs ≡ length flags → slice_index_or flags i false ≡ flag → items_where_true (take (i + 1) flags) (take (i + 1) xs) ≡ items_where_true (take i flags) (take i xs) ++ (if flag then slice_index_or xs i d ∷ [] else [])
+living_more i flags xs d flag within same is =
+    ap (λ n. items_where_true (take n flags) (take n xs)) (let e : i + 1 ≡ suc i = omega arith in e)
+    ∙ living_suc i flags xs d (omega (arith, within, same)) within
+    ∙ ap (λ b. items_where_true (take i flags) (take i xs) ++ (if b then slice_index_or xs i d ∷ [] else [])) is
+
+take_whole : {X : Type 0} (k : ℕ) (xs : List X) → length xs ≤ k → take k xs ≡ xs
+take_whole zero [] long = refl
+take_whole zero (x ∷ xs) long = absurd (omega (arith, long))
+take_whole (suc k) [] long = refl
+take_whole (suc k) (x ∷ xs) long = ap (λ ys. x ∷ ys) (take_whole k xs (omega (arith, long)))
+
+pub living_all : {X : Type 0} (i : ℕ) (flags : List Bool) (xs : List X) → length xs ≤ i → length xs ≡ length flags → items_where_true (take i flags) (take i xs) ≡ items_where_true flags xs
+living_all i flags xs long same = ap₂ items_where_true (take_whole i flags (omega (arith, long, same))) (take_whole i xs long)
+
+pub append_nil : {X : Type 0} (xs : List X) → xs ++ [] ≡ xs
+append_nil [] = refl
+append_nil (x ∷ xs) = ap (λ ys. x ∷ ys) (append_nil xs)
+
+-- ---- all are alive
+
+few_set : (flags : List Bool) → length (filter (λ (b : Bool). b) flags) ≤ length flags
+few_set [] = omega arith
+few_set (true ∷ flags) = (let later = few_set flags in omega (arith, later))
+few_set (false ∷ flags) = (let later = few_set flags in omega (arith, later))
+
+all_set : {X : Type 0} (flags : List Bool) (xs : List X) → length (filter (λ (b : Bool). b) flags) ≡ length flags → length xs ≡ length flags → items_where_true flags xs ≡ xs
+all_set [] [] full same = refl
+all_set [] (x ∷ xs) full same = absurd (omega (arith, same))
+all_set (f ∷ flags) [] full same = absurd (omega (arith, same))
+all_set (true ∷ flags) (x ∷ xs) full same = ap (λ ys. x ∷ ys) (all_set flags xs (omega (arith, full)) (omega (arith, same)))
+all_set (false ∷ flags) (x ∷ xs) full same = (let few = few_set flags in absurd (omega (arith, full, few)))
+
+pub all_living : {X : Type 0} (flags : List Bool) (xs : List X) → count_set flags ≡ length flags → length xs ≡ length flags → items_where_true flags xs ≡ xs
+all_living flags xs full same = all_set flags xs (length-filter (λ (b : Bool). b) flags ∙ full) same
