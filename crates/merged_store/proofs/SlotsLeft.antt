@@ -1,10 +1,13 @@
 -- Slots of living documents.
-use Rattle.std.proofs.Common.{[], Bool, List, ap, ap₂, arith, false, filter, if◌then◌else◌, length, length-append, refl, suc, take, true, zero, ◌++◌, ◌+◌, ◌<◌, ◌≡◌, ◌≤◌, ◌∙◌, ◌∷◌, ℕ}
-use Rattle.std.proofs.lemmas.List.Sums.{length-filter}
-use Rattle.std.specs.List.{items_where_true, slice_index_or}
+use Rattle.std.proofs.Common.{[], Bool, List, ap, ap₂, arith, false, filter, if◌then◌else◌, inl, inr, leb-true, length, length-append, nat_le, nat_lt, refl, suc, take, true, zero, ◌++◌, ◌+◌, ◌<◌, ◌^◌, ◌||◌, ◌≡◌, ◌≤◌, ◌⊎◌, ◌∙◌, ◌∷◌, ℕ}
+use Rattle.std.proofs.lemmas.List.Sums.{count_by_more_yes, length-filter}
+use Rattle.std.specs.List.{concat, items_where_true, slice_index_or}
 use Rattle.common.specs.BitSets.{count_set}
-use Rattle.layouts.specs.Stores.{Block, Hold}
-use Rattle.store.specs.Writing.{count_of}
+use Rattle.layouts.specs.Stores.{Block, Hold, max_docs}
+use Rattle.definitions.specs.declared.fault.Fault.{Fault}
+use Rattle.merged_store.specs.LivingSlots.{IsAppendRefusal, IsSlotRefusal, PassesStore}
+use Rattle.store.proofs.Stacked.{count_append}
+use Rattle.store.specs.Writing.{Written, closed, count_of, docs_of, stored, written}
 
 -- blocks hold as many slots as they say
 pub hold_many : (bs : List Block) (slots : List (List ℕ)) → Hold bs slots → length slots ≡ count_of bs
@@ -60,3 +63,55 @@ all_set (false ∷ flags) (x ∷ xs) full same = (let few = few_set flags in abs
 
 pub all_living : {X : Type 0} (flags : List Bool) (xs : List X) → count_set flags ≡ length flags → length xs ≡ length flags → items_where_true flags xs ≡ xs
 all_living flags xs full same = all_set flags xs (length-filter (λ (b : Bool). b) flags ∙ full) same
+
+-- ---- what is refused
+
+either_true : (a b : Bool) → (a || b) ≡ true → (a ≡ true) ⊎ (b ≡ true)
+either_true true b is = inl refl
+either_true false b is = inr is
+
+count_front : (i : ℕ) (flags : List Bool) → length (filter (λ (b : Bool). b) (take i flags)) ≤ length (filter (λ (b : Bool). b) flags)
+count_front zero flags = omega arith
+count_front (suc i) [] = omega arith
+count_front (suc i) (true ∷ flags) = (let later = count_front i flags in omega (arith, later))
+count_front (suc i) (false ∷ flags) = count_front i flags
+
+-- one more of those so far isn't more than all
+count_within : (i : ℕ) (flags : List Bool) → i < length flags → slice_index_or flags i false ≡ true → count_set (take i flags) < count_set flags
+count_within i flags there living =
+    let more = count_by_more_yes (λ (b : Bool). b) flags i false there living in
+    let front = count_front (i + 1) flags in
+    let a = length-filter (λ (b : Bool). b) (take (i + 1) flags) in
+    let b = length-filter (λ (b : Bool). b) flags in
+    omega (arith, more, front, a, b)
+
+pub slot_refused : (fault : Fault) (was now : Written) (flags : List Bool) (i : ℕ) (blocks : List Block) → i < length flags → slice_index_or flags i false ≡ true → docs_of now ≡ docs_of was + count_set (take i flags) → now.block_size ≡ was.block_size → IsSlotRefusal fault now i blocks → IsAppendRefusal fault was flags blocks
+slot_refused fault was now flags i blocks there living docs size (inl memory) = inl memory
+slot_refused fault was now flags i blocks there living docs size (inr (inr (damaged, bad))) = inr (inr (damaged, (i, living, bad)))
+slot_refused fault was now flags i blocks there living docs size (inr (inl (limit, (slot, has, passes)))) = inr (inl (limit, go (either_true (nat_le (2 ^ 32) (now.block_size + length slot + 8)) (nat_le max_docs (docs_of now)) passes)))
+  where
+    go : (nat_le (2 ^ 32) (now.block_size + length slot + 8) ≡ true) ⊎ (nat_le max_docs (docs_of now) ≡ true) → PassesStore was flags blocks
+    go (inl long) = (let le = leb-true (2 ^ 32) (now.block_size + length slot + 8) long in inr (i, slot, living, has, omega (arith, le, size)))
+    go (inr many) =
+        let le = leb-true max_docs (docs_of now) many in
+        let more = count_within i flags there living in
+        inl (omega (arith, le, more, docs))
+
+-- ---- one document more
+
+pub one_more : (w : Written) (doc : List ℕ) → docs_of (stored w doc) ≡ docs_of w + 1
+one_more w doc = go (nat_lt w.block_size (length (concat (w.pending ++ doc ∷ []))))
+  where
+    go : (b : Bool) → docs_of (if b then written (w.blocks ++ closed (w.pending ++ doc ∷ []) ∷ []) [] w.block_size else written w.blocks (w.pending ++ doc ∷ []) w.block_size) ≡ docs_of w + 1
+    go true =
+        let a = count_append w.blocks (closed (w.pending ++ doc ∷ []) ∷ []) in
+        let b = length-append w.pending (doc ∷ []) in
+        omega (arith, a, b)
+    go false = (let b = length-append w.pending (doc ∷ []) in omega (arith, b))
+
+pub same_size : (w : Written) (doc : List ℕ) → (stored w doc).block_size ≡ w.block_size
+same_size w doc = go (nat_lt w.block_size (length (concat (w.pending ++ doc ∷ []))))
+  where
+    go : (b : Bool) → (if b then written (w.blocks ++ closed (w.pending ++ doc ∷ []) ∷ []) [] w.block_size else written w.blocks (w.pending ++ doc ∷ []) w.block_size).block_size ≡ w.block_size
+    go true = refl
+    go false = refl
