@@ -2,5 +2,7 @@
 #![tactic(auto)]
 
 mod living_slots;
+mod member_stores;
 
 pub use living_slots::append_living;
+pub use member_stores::{MemberStore, merge_stores};

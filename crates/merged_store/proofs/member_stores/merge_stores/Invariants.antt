@@ -1,0 +1,8 @@
+use Rattle.std.proofs.Common.{List, take, ℕ}
+use Rattle.merged_store.specs.MemberStores.{AreHeld, merged_slots}
+use Rattle.store.specs.Writing.{HoldsSlots}
+use Rattle.merged_store.proofs.member_stores.merge_stores.Given as goal
+
+-- the slots of the members so far
+abbrev pub invariant-loop-member : goal.invariant-loop-member
+invariant-loop-member l = (all : List (List (List ℕ))) → AreHeld l.members all → HoldsSlots l.writer (merged_slots (take l.member-index l.members) (take l.member-index all))
