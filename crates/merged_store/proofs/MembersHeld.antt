@@ -1,9 +1,13 @@
 -- Members that are appended one after another.
-use Rattle.std.proofs.Common.{[], List, ap, ap₂, append_assoc, arith, length, refl, subst, suc, sym, take, zero, ◌++◌, ◌+◌, ◌<◌, ◌≡◌, ◌≤◌, ◌∙◌, ◌∷◌, ℕ}
+use Rattle.std.proofs.Common.{[], List, Some, ap, ap₂, append_assoc, arith, inl, inr, length, refl, slice_get, subst, suc, sym, take, zero, ◌++◌, ◌+◌, ◌<◌, ◌≡◌, ◌≤◌, ◌∙◌, ◌∷◌, ℕ}
 use Rattle.std.specs.List.{AllByRecursion, items_where_true, slice_index_or}
 use Rattle.layouts.specs.Stores.{Hold}
 use Rattle.merged_store.proofs.SlotsLeft.{append_nil}
-use Rattle.merged_store.specs.MemberStores.{AreHeld, IsFlagged, merged_slots}
+use Rattle.common.specs.BitSets.{count_set}
+use Rattle.definitions.specs.declared.fault.Fault.{Fault}
+use Rattle.merged_store.specs.LivingSlots.{HasLongSlot, IsAppendRefusal}
+use Rattle.merged_store.specs.MemberStores.{AreHeld, IsFlagged, IsMergeRefusal, living_count, merged_slots}
+use Rattle.store.specs.Writing.{Written, docs_of}
 use Rattle.merged_store.specs.declared.member_stores.MemberStore.{MemberStore}
 
 -- the member of a number, with its slots
@@ -52,3 +56,32 @@ flagged_at ms k m all within is = subst IsFlagged (sym is) (go ms k all within)
     go [] i a w = absurd (omega (arith, w))
     go (x ∷ xs) zero a w = a.0
     go (x ∷ xs) (suc i) a w = go xs i a.1 (omega (arith, w))
+
+-- ---- how many are alive
+
+count_suc : (k : ℕ) (ms : List MemberStore) (d : MemberStore) → k < length ms → living_count (take (suc k) ms) ≡ living_count (take k ms) + count_set (slice_index_or ms k d).alive.now
+count_suc k [] d within = absurd (omega (arith, within))
+count_suc zero (m ∷ ms) d within = omega arith
+count_suc (suc k) (m ∷ ms) d within = (let later = count_suc k ms d (omega (arith, within)) in omega (arith, later))
+
+pub count_more : (k : ℕ) (ms : List MemberStore) (m : MemberStore) → m ≡ slice_index_or ms k m → k < length ms → living_count (take (k + 1) ms) ≡ living_count (take k ms) + count_set m.alive.now
+count_more k ms m is within = ap (λ n. living_count (take n ms)) (let e : k + 1 ≡ suc k = omega arith in e) ∙ count_suc k ms m within ∙ ap (λ (x : MemberStore). living_count (take k ms) + count_set x.alive.now) (sym is)
+
+count_front : (k : ℕ) (ms : List MemberStore) → living_count (take k ms) ≤ living_count ms
+count_front zero ms = omega arith
+count_front (suc k) [] = omega arith
+count_front (suc k) (m ∷ ms) = (let later = count_front k ms in omega (arith, later))
+
+there : (k : ℕ) (ms : List MemberStore) (d : MemberStore) → k < length ms → slice_get ms k ≡ Some (slice_index_or ms k d)
+there k [] d within = absurd (omega (arith, within))
+there zero (m ∷ ms) d within = refl
+there (suc k) (m ∷ ms) d within = there k ms d (omega (arith, within))
+
+pub member_refused : (fault : Fault) (block_size k : ℕ) (ms : List MemberStore) (m : MemberStore) (w : Written) → m ≡ slice_index_or ms k m → k < length ms → docs_of w ≡ living_count (take k ms) → w.block_size ≡ block_size → IsAppendRefusal fault w m.alive.now m.store.now.blocks → IsMergeRefusal fault block_size ms
+member_refused fault block_size k ms m w is within docs size (inl memory) = inl memory
+member_refused fault block_size k ms m w is within docs size (inr (inl (limit, inl many))) =
+    let more = count_more k ms m is within in
+    let front = count_front (k + 1) ms in
+    inr (inl (limit, inl (omega (arith, many, docs, more, front))))
+member_refused fault block_size k ms m w is within docs size (inr (inl (limit, inr long))) = inr (inl (limit, inr (k, m, there k ms m within ∙ ap Some (sym is), subst (λ n. HasLongSlot n m.alive.now m.store.now.blocks) size long)))
+member_refused fault block_size k ms m w is within docs size (inr (inr (damaged, bad))) = inr (inr (damaged, (k, m, there k ms m within ∙ ap Some (sym is), bad)))

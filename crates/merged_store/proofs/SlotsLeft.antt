@@ -6,8 +6,9 @@ use Rattle.common.specs.BitSets.{count_set}
 use Rattle.layouts.specs.Stores.{Block, Hold, max_docs}
 use Rattle.definitions.specs.declared.fault.Fault.{Fault}
 use Rattle.merged_store.specs.LivingSlots.{IsAppendRefusal, IsSlotRefusal, PassesStore}
-use Rattle.store.proofs.Stacked.{count_append}
-use Rattle.store.specs.Writing.{Written, closed, count_of, docs_of, stored, written}
+use Rattle.store.proofs.Stacked.{count_append, count_shut}
+use Rattle.store.specs.Stacking.{stacked}
+use Rattle.store.specs.Writing.{Written, blocks_of, closed, count_of, docs_of, stored, written}
 
 -- blocks hold as many slots as they say
 pub hold_many : (bs : List Block) (slots : List (List ℕ)) → Hold bs slots → length slots ≡ count_of bs
@@ -115,3 +116,14 @@ same_size w doc = go (nat_lt w.block_size (length (concat (w.pending ++ doc ∷ 
     go : (b : Bool) → (if b then written (w.blocks ++ closed (w.pending ++ doc ∷ []) ∷ []) [] w.block_size else written w.blocks (w.pending ++ doc ∷ []) w.block_size).block_size ≡ w.block_size
     go true = refl
     go false = refl
+
+-- ---- stacked blocks
+
+pub stacked_docs : (w : Written) (blocks : List Block) → docs_of (stacked w blocks) ≡ docs_of w + count_of blocks
+stacked_docs w blocks =
+    let a = count_append (blocks_of w) blocks in
+    let b = count_shut w.blocks w.pending in
+    omega (arith, a, b)
+
+pub all_counted : (i : ℕ) (flags : List Bool) → length flags ≤ i → count_set (take i flags) ≡ count_set flags
+all_counted i flags long = ap count_set (take_whole i flags long)

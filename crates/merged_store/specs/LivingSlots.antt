@@ -21,8 +21,8 @@ IsSlotRefusal fault w doc blocks = (fault ≡ faults.OutOfMemory) ⊎ ((fault �
 -- ---- all living documents
 
 -- a living document's slot is too long for a block
-abbrev pub HasLongSlot : Written → List Bool → List Block → Type 0
-HasLongSlot w flags blocks = (doc : ℕ) × (slot : List ℕ) × (slice_index_or flags doc false ≡ true) × HasSlot blocks doc slot × (2 ^ 32 ≤ w.block_size + length slot + 8)
+abbrev pub HasLongSlot : ℕ → List Bool → List Block → Type 0
+HasLongSlot block_size flags blocks = (doc : ℕ) × (slot : List ℕ) × (slice_index_or flags doc false ≡ true) × HasSlot blocks doc slot × (2 ^ 32 ≤ block_size + length slot + 8)
 
 -- a living document's block is none
 abbrev pub HasBadSlot : List Bool → List Block → Type 0
@@ -30,7 +30,7 @@ HasBadSlot flags blocks = (doc : ℕ) × (slice_index_or flags doc false ≡ tru
 
 -- with these documents the store would have too many, or one that is too long
 abbrev pub PassesStore : Written → List Bool → List Block → Type 0
-PassesStore w flags blocks = (max_docs < docs_of w + count_set flags) ⊎ HasLongSlot w flags blocks
+PassesStore w flags blocks = (max_docs < docs_of w + count_set flags) ⊎ HasLongSlot w.block_size flags blocks
 
 -- memory was wanting, a limit would be passed, or a living document can't be read
 abbrev pub IsAppendRefusal : Fault → Written → List Bool → List Block → Type 0

@@ -2,6 +2,7 @@
 
 ghost use Rattle.std.specs.Prelude.{[], ◌++◌, ◌+◌, ◌<◌, ◌∷◌, ◌≡◌, IfErr, List, OnOk, length, ℕ};
 ghost use Rattle.std.specs.List.{items_where_true, slice_index_or};
+ghost use Rattle.common.specs.BitSets.{count_set};
 ghost use Rattle.layouts.specs.Stores.{Hold};
 ghost use Rattle.merged_store.specs.LivingSlots.{IsAppendRefusal, IsSlotRefusal};
 ghost use Rattle.store.specs.Writing.{HoldsSlots, count_of, docs_of};
@@ -20,6 +21,8 @@ pub fn append_living(
     requires { count_of store.now.blocks ≡ length alive.now }
     ensures ok { (held slots : List (List ℕ)) → HoldsSlots writer.old held → Hold store.now.blocks slots
         → OnOk result (HoldsSlots writer.new (held ++ items_where_true alive.now slots)) }
+    ensures docs { OnOk result (docs_of writer.new ≡ docs_of writer.old + count_set alive.now) }
+    ensures size { OnOk result (writer.new.block_size ≡ writer.old.block_size) }
     ensures err { IfErr result (λ fault. IsAppendRefusal fault writer.old alive.now store.now.blocks) }
 {
     if alive.num_alive() == alive.len() {
@@ -39,6 +42,8 @@ fn append_slots(
     requires { count_of store.now.blocks ≡ length alive.now }
     ensures ok { (held slots : List (List ℕ)) → HoldsSlots writer.old held → Hold store.now.blocks slots
         → OnOk result (HoldsSlots writer.new (held ++ items_where_true alive.now slots)) }
+    ensures docs { OnOk result (docs_of writer.new ≡ docs_of writer.old + count_set alive.now) }
+    ensures size { OnOk result (writer.new.block_size ≡ writer.old.block_size) }
     ensures err { IfErr result (λ fault. IsAppendRefusal fault writer.old alive.now store.now.blocks) }
 {
     for doc in 0..store.num_docs() {

@@ -1,9 +1,9 @@
 //! Writes the store of a merge.
 
-ghost use Rattle.std.specs.Prelude.{◌≡◌, IfOk, List, length, ℕ};
+ghost use Rattle.std.specs.Prelude.{◌≡◌, IfErr, IfOk, List, length, ℕ};
 ghost use Rattle.std.specs.List.{AllByRecursion};
 ghost use Rattle.layouts.specs.Stores.{IsStore};
-ghost use Rattle.merged_store.specs.MemberStores.{AreHeld, IsFlagged, merged_slots};
+ghost use Rattle.merged_store.specs.MemberStores.{AreHeld, IsFlagged, IsMergeRefusal, merged_slots};
 
 use crate::living_slots::append_living;
 use common::AliveBitSet;
@@ -26,8 +26,9 @@ pub fn merge_stores(
     members: &[MemberStore<'_>],
 ) -> Result<Vec<u8>, Fault>
     requires { AllByRecursion IsFlagged members.now }
-    ensures { (all : List (List (List ℕ))) → AreHeld members.now all
+    ensures ok { (all : List (List (List ℕ))) → AreHeld members.now all
         → IfOk result (λ bytes. IsStore (merged_slots members.now all) bytes.items) }
+    ensures err { IfErr result (λ fault. IsMergeRefusal fault block_size members.now) }
 {
     let mut writer = StoreWriter::new(alloc, block_size);
     for member in members {

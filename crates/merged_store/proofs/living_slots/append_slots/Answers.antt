@@ -2,7 +2,7 @@ use Rattle.std.proofs.Common.{[], Bool, List, ap, append_assoc, arith, false, le
 use Rattle.std.proofs.lemmas.List.Sums.{count_by_more_no, count_by_more_yes}
 use Rattle.std.proofs.lemmas.Result.{err_from_is_err_and}
 use Rattle.std.specs.List.{items_where_true, slice_index_or}
-use Rattle.merged_store.proofs.SlotsLeft.{append_nil, hold_many, living_all, living_more, slot_refused}
+use Rattle.merged_store.proofs.SlotsLeft.{all_counted, append_nil, hold_many, living_all, living_more, slot_refused}
 use Rattle.store.specs.Writing.{HoldsSlots, Written, docs_of}
 use Rattle.merged_store.proofs.living_slots.append_slots.Goals as goal
 use Rattle.merged_store.proofs.living_slots.append_slots.Goals.{else-is_alive, then-is_alive+in_ok-append_slot}
@@ -71,3 +71,12 @@ returns-clause-ok c held slots holds hold =
     let long : length slots ≤ c.loop-doc.doc = omega (arith, many, past, end) in
     let alike : length slots ≡ length c.args.alive.now = omega (arith, many, same) in
     subst (λ xs. HoldsSlots c.loop-doc.writer (held ++ xs)) (living_all c.loop-doc.doc c.args.alive.now slots long alike) (c.loop-doc.invariant.held held slots holds hold)
+
+pub returns-clause-docs : goal.returns-clause-docs
+returns-clause-docs c =
+    let same = c.requires in
+    let past = c.loop-doc-test.false in
+    let end = c.num_docs-doc-end.ensures.count in
+    let docs = c.loop-doc.invariant.docs in
+    let whole = all_counted c.loop-doc.doc c.args.alive.now (omega (arith, same, past, end)) in
+    omega (arith, docs, whole)
