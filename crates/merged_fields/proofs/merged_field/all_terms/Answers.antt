@@ -1,0 +1,15 @@
+use Rattle.std.proofs.Common.{ap, map, subst, sym, ◌∙◌}
+use Rattle.std.specs.List.{AllByRecursion}
+use Rattle.inverted_index_reader.specs.Readers.{dictionary_in}
+use Rattle.layouts.specs.TermSections.{TermsAscend}
+use Rattle.merged_fields.proofs.FieldMerged.{dictionaries_ascend}
+use Rattle.merged_fields.proofs.MembersWritten.{take_whole}
+use Rattle.merged_terms.specs.MergedTerms.{keys_of}
+use Rattle.merged_fields.proofs.merged_field.all_terms.Goals as goal
+
+pub new-requires : goal.new-requires
+new-requires c =
+    let k = c.requires in
+    subst (AllByRecursion (λ terms. TermsAscend (keys_of terms)))
+    (sym (c.loop-member.invariant ∙ ap (map (λ m. dictionary_in m.inverted_index.now c.args.field)) (take_whole c.loop-member.member-index c.args.members.now c.loop-member-test.false)))
+    (dictionaries_ascend k.0 0 k.1 c.args.members.now k.2 c.args.field k.3)

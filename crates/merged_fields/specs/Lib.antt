@@ -1,0 +1,7 @@
+-- Words of the contracts.
+pub mod Members
+pub mod MergedTerm
+pub mod MergedTerms
+pub mod Tokens
+pub mod MergedFields
+pub mod ToldFields

@@ -1,0 +1,13 @@
+//! The terms of a merge: those of all members, each with the postings of the living documents.
+#![tactic(auto)]
+
+mod field_terms;
+mod field_tokens;
+mod member;
+pub mod merge_laws;
+mod merged_field;
+mod merged_index;
+mod merged_term;
+
+pub use member::Member;
+pub use merged_index::merge_fields;

@@ -1,0 +1,91 @@
+//! A member of a merge.
+
+ghost use Rattle.std.specs.Prelude.{◌++◌, ◌^◌, ◌≡◌, ◌≤◌, IfErr, IfOk, IfSome, List, MatchOption, OnErr, OnOk, length, option_map, ℕ};
+ghost use Rattle.definitions.specs.Postings.{terminated};
+ghost use Rattle.definitions.specs.Schema.{Schema};
+ghost use Rattle.inverted_index_reader.specs.Readers.{dictionary_in, info_in, postings_in};
+ghost use Rattle.layouts.specs.InvertedIndexes.{IndexedField};
+ghost use Rattle.merged_fields.specs.Members.{IsMember, living_of};
+ghost use Rattle.merged_fields.specs.Tokens.{tokens_of};
+ghost use Rattle.merged_postings.specs.Living.{has_some};
+ghost use Rattle.merged_postings.specs.Mappings.{end_of};
+ghost use Rattle.merged_postings.specs.Written.{AreWritten, IsWriteRefusal, counts_in};
+ghost use Rattle.postings_serializer.specs.FieldWriting.{AreKept, IsOpen};
+
+use definitions::Fault;
+use inverted_index_reader::{InvertedIndexReader, TermInfo};
+use merged_postings::{DocIdMapping, count_tokens, write_postings};
+use options::IndexRecordOption;
+use postings_serializer::FieldSerializer;
+use terms::Field;
+
+/// A member of a merge: its terms, and the numbers that its documents get.
+#[derive(Drop)]
+pub struct Member<'a> {
+    pub inverted_index: &'a InvertedIndexReader,
+    pub doc_ids: DocIdMapping,
+}
+
+impl<'a> Member<'a> {
+    /// Writes the living documents that have a term to the term that is open, under their new numbers, and answers
+    /// whether there are some. The info tells where the member's postings of the term stand, if it has it.
+    pub(crate) fn write_postings(
+        &self,
+        field: Field,
+        key: &[u8],
+        info: Option<&TermInfo>,
+        deltas: &mut Vec<u32>,
+        serializer: &mut FieldSerializer<'_>,
+    ) -> Result<bool, Fault>
+        requires known { (schema : Schema) × (fields : List IndexedField) × IsMember schema self.now fields }
+        requires info { option_map (λ i. i.now) info
+            ≡ info_in key.now (dictionary_in self.now.inverted_index.now field) }
+        requires few { end_of self.now.doc_ids ≤ terminated }
+        requires next { serializer.old.writing.next ≤ self.now.doc_ids.base }
+        requires kept { IfSome serializer.old.writing.norms (λ ids. end_of self.now.doc_ids ≤ length ids) }
+        ensures ok { (schema : Schema) (fields : List IndexedField) → IsMember schema self.now fields
+            → OnOk result (AreWritten serializer.old serializer.new
+            (living_of self.now.doc_ids (postings_in fields field key.now))) }
+        ensures some { (schema : Schema) (fields : List IndexedField) → IsMember schema self.now fields
+            → IfOk result (λ some. some ≡ has_some (living_of self.now.doc_ids (postings_in fields field key.now))) }
+        ensures next { OnOk result (serializer.new.writing.next ≤ end_of self.now.doc_ids) }
+        ensures err { (schema : Schema) (fields : List IndexedField) (docs counts numbers : List ℕ)
+            → IsMember schema self.now fields → IsOpen serializer.old docs counts numbers
+            → IfErr result (λ fault. IsWriteRefusal fault
+            (counts ++ counts_in serializer.old (living_of self.now.doc_ids (postings_in fields field key.now)))) }
+        ensures refused { OnErr result (AreKept serializer.old serializer.new) }
+    {
+        let Some(info) = info else {
+            return Ok(false);
+        };
+        let option = IndexRecordOption::WithFreqsAndPositions;
+        let mut postings = self
+            .inverted_index
+            .read_postings_from_terminfo(field, key, info, option);
+        write_postings(&mut postings, &self.doc_ids, deltas, serializer)
+    }
+
+    /// How many tokens the living documents have that have a term, where that has 64 bits.
+    pub(crate) fn num_tokens(
+        &self,
+        field: Field,
+        key: &[u8],
+        info: Option<&TermInfo>,
+    ) -> Option<u64>
+        requires known { (schema : Schema) × (fields : List IndexedField) × IsMember schema self.now fields }
+        requires info { option_map (λ i. i.now) info
+            ≡ info_in key.now (dictionary_in self.now.inverted_index.now field) }
+        ensures { (schema : Schema) (fields : List IndexedField) → IsMember schema self.now fields
+            → MatchOption result (2 ^ 64 ≤ tokens_of (living_of self.now.doc_ids (postings_in fields field key.now)))
+            (λ n. n ≡ tokens_of (living_of self.now.doc_ids (postings_in fields field key.now))) }
+    {
+        let Some(info) = info else {
+            return Some(0);
+        };
+        let option = IndexRecordOption::WithFreqs;
+        let mut postings = self
+            .inverted_index
+            .read_postings_from_terminfo(field, key, info, option);
+        count_tokens(&mut postings, &self.doc_ids)
+    }
+}

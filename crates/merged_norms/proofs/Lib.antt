@@ -1,0 +1,2 @@
+pub mod LivingIds
+pub mod NormsOfLiving

@@ -1,0 +1,2 @@
+pub mod SlotsLeft
+pub mod MembersHeld

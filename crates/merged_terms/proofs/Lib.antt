@@ -1,0 +1,3 @@
+pub mod MergedKeys
+pub mod MergedSteps
+pub mod MergerSteps

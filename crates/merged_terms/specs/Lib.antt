@@ -1,0 +1,3 @@
+-- Words of the contracts.
+pub mod MergedTerms
+pub mod Walking
