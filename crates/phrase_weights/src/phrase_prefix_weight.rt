@@ -29,8 +29,8 @@ use terms::Term;
 /// Documents where terms that begin with a prefix follow a phrase, by the sum of the whole terms' weights and the norms
 /// of their lengths. The terms and the norms are lent.
 #[derive(Drop)]
-pub struct PhrasePrefixWeight<'a> {
-    terms: &'a [(usize, Term)],
+pub struct PhrasePrefixWeight<'q, 'a> {
+    terms: &'q [(usize, Term)],
     max_expansions: u32,
     weight: u64,
     norms: &'a [u32],
@@ -42,18 +42,18 @@ pub struct PhrasePrefixWeight<'a> {
     ghost rises: { DontFall norms.now } by { DontFall-prop norms.now },
 }
 
-impl<'a> PhrasePrefixWeight<'a> {
+impl<'q, 'a> PhrasePrefixWeight<'q, 'a> {
     ghost use Rattle.phrase_weights.specs.PhrasePrefixWeights.{ScoresPrefixBy, limit_of, most_in, prefix_of, prefix_terms_of};
 
     /// Two terms at least, in the order of their offsets, which are at most 2^30, the last of them the prefix; to how
     /// many terms it expands at most; the sum of the whole terms' weights, which is at most `MAX_SCORE`, and 256 norms,
     /// which don't fall.
     pub fn new(
-        terms: &'a [(usize, Term)],
+        terms: &'q [(usize, Term)],
         max_expansions: u32,
         weight: u64,
         norms: &'a [u32],
-    ) -> PhrasePrefixWeight<'a>
+    ) -> PhrasePrefixWeight<'q, 'a>
         requires several { 2 ≤ length terms.now }
         requires sorted { by_offset terms.now ≡ terms.now }
         requires near { greatest_of (map (λ t. t.0) terms.now) ≤ 1073741824 }

@@ -29,8 +29,8 @@ use terms::Term;
 /// Documents where a phrase stands, by the sum of its terms' weights and the norms of their lengths. The terms and the
 /// norms are lent.
 #[derive(Drop)]
-pub struct PhraseWeight<'a> {
-    terms: &'a [(usize, Term)],
+pub struct PhraseWeight<'q, 'a> {
+    terms: &'q [(usize, Term)],
     slop: u32,
     weight: u64,
     norms: &'a [u32],
@@ -42,17 +42,17 @@ pub struct PhraseWeight<'a> {
     ghost rises: { DontFall norms.now } by { DontFall-prop norms.now },
 }
 
-impl<'a> PhraseWeight<'a> {
+impl<'q, 'a> PhraseWeight<'q, 'a> {
     ghost use Rattle.phrase_weights.specs.PhraseWeights.{ScoresBy, slop_of, terms_of, weight_in};
 
     /// Two terms at least, in the order of their offsets, which are at most 2^30; the places that they may be off
     /// together; the sum of their weights, which is at most `MAX_SCORE`, and 256 norms, which don't fall.
     pub fn new(
-        terms: &'a [(usize, Term)],
+        terms: &'q [(usize, Term)],
         slop: u32,
         weight: u64,
         norms: &'a [u32],
-    ) -> PhraseWeight<'a>
+    ) -> PhraseWeight<'q, 'a>
         requires several { 2 ≤ length terms.now }
         requires sorted { by_offset terms.now ≡ terms.now }
         requires near { greatest_of (map (λ t. t.0) terms.now) ≤ 1073741824 }

@@ -33,7 +33,7 @@ pub type WholePhrase<'a> = PhraseKind<
 pub(crate) fn whole_phrase<'a>(
     alloc: Global,
     reader: &SegmentReader<'a>,
-    terms: &'a [(usize, Term)],
+    terms: &[(usize, Term)],
     weight: u64,
     norms: &'a [u32],
     boost: Score,

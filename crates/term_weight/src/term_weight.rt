@@ -25,8 +25,8 @@ use terms::Term;
 
 /// Documents that hold a term, by its weight and the norms of their lengths. Both are lent, and so is the term.
 #[derive(Drop)]
-pub struct TermWeight<'a> {
-    term: &'a Term,
+pub struct TermWeight<'q, 'a> {
+    term: &'q Term,
     index_record_option: IndexRecordOption,
     weight: u64,
     norms: &'a [u32],
@@ -35,16 +35,16 @@ pub struct TermWeight<'a> {
     ghost rises: { DontFall norms.now } by { DontFall-prop norms.now },
 }
 
-impl<'a> TermWeight<'a> {
+impl<'q, 'a> TermWeight<'q, 'a> {
     ghost use Rattle.term_weight.specs.TermWeights.{ScoresBy, option_asked, term_of, weight_in};
 
     /// A term, what is read of its postings, its weight, which is at most `MAX_SCORE`, and 256 norms, which don't fall.
     pub fn new(
-        term: &'a Term,
+        term: &'q Term,
         index_record_option: IndexRecordOption,
         weight: u64,
         norms: &'a [u32],
-    ) -> TermWeight<'a>
+    ) -> TermWeight<'q, 'a>
         requires small { weight ≤ max_score }
         requires norm_for_each { length norms.now ≡ 256 }
         requires rises { DontFall norms.now }
@@ -63,7 +63,7 @@ impl<'a> TermWeight<'a> {
     }
 
     /// The term.
-    pub fn term(&self) -> &'a Term
+    pub fn term(&self) -> &'q Term
         ensures { result.now ≡ term_of self.now }
     {
         self.term

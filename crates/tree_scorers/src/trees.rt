@@ -1,0 +1,179 @@
+//! The scorers of queries of any form.
+
+ghost use Rattle.std.specs.Prelude.{◌*◌, ◌≡◌, ◌≤ℤ◌, ◌≤◌, IfOk, map, pos};
+ghost use Rattle.definitions.specs.Query as definitions;
+ghost use Rattle.definitions.specs.Query.{clauses_depth, depth, queries_depth};
+ghost use Rattle.definitions.specs.Scoring.{max_score, natural};
+ghost use Rattle.node_scorers.specs.Asked.{asked, each_query, is_same};
+ghost use Rattle.node_scorers.specs.Scores.{AllScore, Scores};
+ghost use Rattle.query_trees.specs.Queries.{clauses_of, occur_of, queries_of, query_of};
+ghost use Rattle.tree_scorers.specs.Accepted.{AreAccepted, AreAcceptedClauses, IsAccepted};
+
+use crate::segment_scorers::SegmentScorers;
+use common::Score;
+use leaf_scorers::Scorer;
+use query_trees::{
+    AnyQuery, BooleanQuery, BoostQuery, ConstScoreQuery, DisjunctionMaxQuery, Occur,
+};
+use std::alloc::{AllocError, Global};
+
+/// The documents of a segment that match a query, with their scores under a boost. Calls nest as deep as the tree.
+#[cycle(scorer_of)]
+pub fn scorer_of<F: SegmentScorers>(
+    alloc: Global,
+    forms: &F,
+    query: &AnyQuery,
+    boost: u64,
+) -> Result<F::Scorer, AllocError>
+    requires small { boost ≤ max_score }
+    requires accepted { IsAccepted (F.similarity forms.now).weight boost (query_of query.now) }
+    ensures { IfOk result (λ scorer. Scores (F.similarity forms.now) boost (query_of query.now) (F.segment forms.now)
+        (F.Scorer.entries scorer)) }
+{
+    match query {
+        AnyQuery::All(_) => Ok(forms.all_scorer(boost)),
+        AnyQuery::Empty(_) => Ok(forms.empty_scorer(alloc)),
+        AnyQuery::Term(query) => Ok(forms.term_scorer(alloc, query, boost)),
+        AnyQuery::Phrase(query) => forms.phrase_scorer(alloc, query, boost),
+        AnyQuery::PhrasePrefix(query) => forms.phrase_prefix_scorer(alloc, query, boost),
+        AnyQuery::Boolean(query) => boolean_scorer(alloc, forms, query, boost),
+        AnyQuery::DisjunctionMax(query) => max_scorer(alloc, forms, query, boost),
+        AnyQuery::Boost(query) => boosted_scorer(alloc, forms, query, boost),
+        AnyQuery::ConstScore(query) => constant_scorer(alloc, forms, query, boost),
+    }
+}
+
+/// The documents that match clauses.
+#[cycle(scorer_of)]
+fn boolean_scorer<F: SegmentScorers>(
+    alloc: Global,
+    forms: &F,
+    query: &BooleanQuery,
+    boost: u64,
+) -> Result<F::Scorer, AllocError>
+    requires small { boost ≤ max_score }
+    requires accepted { IsAccepted (F.similarity forms.now).weight boost
+        (definitions.boolean query.now.0 query.now.1) }
+    ensures { IfOk result (λ scorer. Scores (F.similarity forms.now) boost
+        (definitions.boolean query.now.0 query.now.1) (F.segment forms.now) (F.Scorer.entries scorer)) }
+{
+    let clauses = query.clauses();
+    let musts = scorers_asked(alloc, forms, clauses, Occur::Must, boost)?;
+    let shoulds = scorers_asked(alloc, forms, clauses, Occur::Should, boost)?;
+    let must_nots = scorers_asked(alloc, forms, clauses, Occur::MustNot, boost)?;
+    let minimum = query.get_minimum_number_should_match();
+    forms.clauses_scorer(alloc, musts, shoulds, must_nots, minimum)
+}
+
+/// The scorers of the clauses that ask this, in order.
+#[cycle(scorer_of)]
+fn scorers_asked<F: SegmentScorers>(
+    alloc: Global,
+    forms: &F,
+    clauses: &[(Occur, AnyQuery)],
+    occur: Occur,
+    boost: u64,
+) -> Result<Vec<F::Scorer>, AllocError>
+    requires small { boost ≤ max_score }
+    requires accepted { AreAcceptedClauses (F.similarity forms.now).weight boost (clauses_of clauses.now) }
+    ensures { IfOk result (λ scorers. AllScore (F.similarity forms.now) boost (F.segment forms.now)
+        (asked (occur_of occur) (clauses_of clauses.now)) (map F.Scorer.entries scorers.items)) }
+{
+    let mut scorers = Vec::new(alloc);
+    for (asks, query) in clauses {
+        if is_same(occur, *asks) {
+            scorers.push(scorer_of(alloc, forms, query, boost)?)?;
+        }
+    }
+    Ok(scorers)
+}
+
+/// Whether two clauses ask the same.
+fn is_same(one: Occur, other: Occur) -> bool
+    ensures { result ≡ is_same (occur_of one) (occur_of other) }
+{
+    one == other
+}
+
+/// The documents that match one of several queries.
+#[cycle(scorer_of)]
+fn max_scorer<F: SegmentScorers>(
+    alloc: Global,
+    forms: &F,
+    query: &DisjunctionMaxQuery,
+    boost: u64,
+) -> Result<F::Scorer, AllocError>
+    requires small { boost ≤ max_score }
+    requires accepted { IsAccepted (F.similarity forms.now).weight boost
+        (definitions.disjunction_max query.now.0 query.now.1) }
+    ensures { IfOk result (λ scorer. Scores (F.similarity forms.now) boost
+        (definitions.disjunction_max query.now.0 query.now.1) (F.segment forms.now) (F.Scorer.entries scorer)) }
+{
+    let disjuncts = scorers_of(alloc, forms, query.disjuncts(), boost)?;
+    forms.best_scorer(alloc, disjuncts, query.tie_breaker())
+}
+
+/// The scorers of queries, in order.
+#[cycle(scorer_of)]
+fn scorers_of<F: SegmentScorers>(
+    alloc: Global,
+    forms: &F,
+    queries: &[AnyQuery],
+    boost: u64,
+) -> Result<Vec<F::Scorer>, AllocError>
+    requires small { boost ≤ max_score }
+    requires accepted { AreAccepted (F.similarity forms.now).weight boost (queries_of queries.now) }
+    ensures { IfOk result (λ scorers. AllScore (F.similarity forms.now) boost (F.segment forms.now)
+        (each_query (queries_of queries.now)) (map F.Scorer.entries scorers.items)) }
+{
+    let mut scorers = Vec::with_capacity(alloc, queries.len())?;
+    for query in queries {
+        scorers.push(scorer_of(alloc, forms, query, boost)?)?;
+    }
+    Ok(scorers)
+}
+
+/// The documents that match a query, boosted once more.
+#[cycle(scorer_of)]
+fn boosted_scorer<F: SegmentScorers>(
+    alloc: Global,
+    forms: &F,
+    query: &BoostQuery,
+    boost: u64,
+) -> Result<F::Scorer, AllocError>
+    requires small { boost ≤ max_score }
+    requires accepted { IsAccepted (F.similarity forms.now).weight boost
+        (definitions.boost query.now.1 query.now.0) }
+    ensures { IfOk result (λ scorer. Scores (F.similarity forms.now) boost
+        (definitions.boost query.now.1 query.now.0) (F.segment forms.now) (F.Scorer.entries scorer)) }
+{
+    let boost = product(boost, query.boost());
+    scorer_of(alloc, forms, query.query(), boost)
+}
+
+/// The documents that match a query, by one score.
+#[cycle(scorer_of)]
+fn constant_scorer<F: SegmentScorers>(
+    alloc: Global,
+    forms: &F,
+    query: &ConstScoreQuery,
+    boost: u64,
+) -> Result<F::Scorer, AllocError>
+    requires small { boost ≤ max_score }
+    requires accepted { IsAccepted (F.similarity forms.now).weight boost
+        (definitions.const_score query.now.1 query.now.0) }
+    ensures { IfOk result (λ scorer. Scores (F.similarity forms.now) boost
+        (definitions.const_score query.now.1 query.now.0) (F.segment forms.now) (F.Scorer.entries scorer)) }
+{
+    let scorer = scorer_of(alloc, forms, query.query(), boost)?;
+    forms.constant_scorer(alloc, scorer, product(boost, query.score()))
+}
+
+/// The product of a boost and a factor.
+fn product(boost: u64, factor: Score) -> u64
+    requires positive { pos 0 ≤ℤ factor }
+    requires fits { boost * natural factor ≤ max_score }
+    ensures { result ≡ boost * natural factor }
+{
+    boost * factor as u64
+}
