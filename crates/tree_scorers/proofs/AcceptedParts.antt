@@ -1,10 +1,10 @@
 -- The parts of queries that aren't refused.
-use Rattle.std.proofs.Common.{[], List, None, ap, arith, get_or, length, pos, refl, rules, subst, suc, sym, zero, ◌*◌, ◌+◌, ◌≤ℤ◌, ◌<◌, ◌∙◌, ◌∷◌, ◌≡◌, ◌≤◌, ℕ, ℤ}
+use Rattle.std.proofs.Common.{[], List, None, ap, arith, get_or, length, pos, rules, subst, suc, sym, zero, ◌*◌, ◌+◌, ◌≤ℤ◌, ◌<◌, ◌∙◌, ◌∷◌, ◌≡◌, ◌≤◌, ℕ, ℤ}
 use Rattle.std.proofs.Math.Logic.{∥∥₁_elim, ∥∥₁_map}
 use Rattle.std.proofs.Props.{props}
 use Rattle.definitions.proofs.Bounds.{accepted_boost, accepted_clauses, accepted_const, accepted_constant, accepted_factor, accepted_first_clause, accepted_first_query, accepted_fits, accepted_more_clauses, accepted_more_queries, accepted_product, accepted_queries, accepted_tie}
 use Rattle.cursors.specs.Entries.{Entry}
-use Rattle.definitions.specs.Query.{Clauses, Queries, Query, boolean, boost, clause, const_score, disjunction_max, must, query, should}
+use Rattle.definitions.specs.Query.{Clauses, Queries, Query, boolean, boost, const_score, disjunction_max, must, should}
 use Rattle.definitions.specs.Refusing.{bound, clauses_fault, queries_fault, tree_fault}
 use Rattle.definitions.specs.Schema.{Schema}
 use Rattle.definitions.specs.Scoring.{Similarity, max_score, natural}

@@ -1,5 +1,5 @@
 -- Scorers of clauses and of queries, one after another.
-use Rattle.std.proofs.Common.{[], Bool, List, ap, if◌then◌else◌, map, refl, subst, sym, take, true, false, ◌*◌, ◌++◌, ◌+◌, ◌∙◌, ◌∷◌, ◌≡◌, ℕ, ℤ}
+use Rattle.std.proofs.Common.{[], Bool, List, ap, if◌then◌else◌, map, refl, subst, sym, true, false, ◌*◌, ◌++◌, ◌∙◌, ◌∷◌, ◌≡◌, ℕ, ℤ}
 use Rattle.std.proofs.lemmas.List.{map-append}
 use Rattle.cursors.specs.Entries.{Entry}
 use Rattle.definitions.proofs.Bounds.{accepted_boost}

@@ -1,6 +1,4 @@
-use Rattle.std.proofs.Common.{[], IfOk, ap, arith, length, map, of_z, pos, refl, rules, subst, sym, take, to_z, ◌*◌, ◌+◌, ◌++◌, ◌-◌, ◌<◌, ◌≡◌, ◌≤◌, ◌≤ℤ◌, ◌∙◌, ◌∷◌, ℕ}
-use Rattle.std.proofs.Math.Logic.{∥∥₁_elim}
-use Rattle.std.proofs.Props.{props}
+use Rattle.std.proofs.Common.{[], ap, arith, map, pos, rules, subst, sym, take, ◌*◌, ◌+◌, ◌++◌, ◌≤◌, ◌≤ℤ◌, ◌∙◌, ◌∷◌}
 use Rattle.std.proofs.lemmas.Int.{to_z-of_z}
 use Rattle.std.proofs.lemmas.List.{take_more}
 use Rattle.std.proofs.lemmas.Result.{IfOk-weaker}

@@ -1,0 +1,3 @@
+-- Lemmas behind the weights.
+pub mod AcceptedTerms
+pub mod LeafScores

@@ -1,0 +1,6 @@
+//! The scorers of queries that hold no other, by the statistics of an index.
+#![tactic(auto)]
+
+mod leaves;
+
+pub use leaves::{phrase_query_scorer, prefix_query_scorer, term_query_scorer};
