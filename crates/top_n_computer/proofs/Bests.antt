@@ -7,7 +7,7 @@ use Rattle.definitions.proofs.Ranking.{All_take, NeverRises-ranked, NeverRises-t
 use Rattle.std.specs.List.{AllByRecursion}
 use Rattle.std.proofs.lemmas.Option.{slice_get-get_or}
 use Rattle.std.proofs.lemmas.List.{append-nil, append_assoc, length-take-le, take-take}
-use Rattle.top_n_computer.specs.Reached.{IsReached, best_items, is_passed}
+use Rattle.top_n_computer.specs.Reached.{IsReached, best_by, best_items, is_passed}
 
 -- an element behind those whose keys aren't below its own
 abbrev pub insert_last : {X : Type 0} → (X → ℕ) → X → List X → List X
@@ -56,28 +56,28 @@ ranked_falling {X} key (x ∷ xs) h = ap (insert_ranked key x) (ranked_falling k
     first [] h = refl
     first (y ∷ ys) h = rw (le-leb (key y) (key x) h.0) refl
 
-best_falls : {X : Type 0} (k : ℕ) (xs : List (ℕ × X)) → NeverRises (λ m. m.0) (best_items k xs)
-best_falls k xs = NeverRises-take (λ m. m.0) k (ranked (λ m. m.0) xs) (NeverRises-ranked (λ m. m.0) xs)
+best_falls : {X : Type 0} (key : X → ℕ) (k : ℕ) (xs : List X) → NeverRises key (best_by key k xs)
+best_falls key k xs = NeverRises-take key k (ranked key xs) (NeverRises-ranked key xs)
 
 -- the best of the best are these
-pub best_of_best : {X : Type 0} (k : ℕ) (xs : List (ℕ × X)) → best_items k (best_items k xs) ≡ best_items k xs
-best_of_best k xs = ap (take k) (ranked_falling (λ m. m.0) (best_items k xs) (best_falls k xs)) ∙ take-take k k (ranked (λ m. m.0) xs) (omega arith)
+pub best_of_best : {X : Type 0} (key : X → ℕ) (k : ℕ) (xs : List X) → best_by key k (best_by key k xs) ≡ best_by key k xs
+best_of_best key k xs = ap (take k) (ranked_falling key (best_by key k xs) (best_falls key k xs)) ∙ take-take k k (ranked key xs) (omega arith)
 
-best_inserted : {X : Type 0} (k : ℕ) (xs : List (ℕ × X)) (x : ℕ × X) → best_items k (xs ++ x ∷ []) ≡ take k (insert_last (λ m. m.0) x (best_items k xs))
-best_inserted k xs x = ap (take k) (ranked_with_one (λ m. m.0) x xs) ∙ sym (first_of_inserted (λ m. m.0) x k (ranked (λ m. m.0) xs))
+best_inserted : {X : Type 0} (key : X → ℕ) (k : ℕ) (xs : List X) (x : X) → best_by key k (xs ++ x ∷ []) ≡ take k (insert_last key x (best_by key k xs))
+best_inserted key k xs x = ap (take k) (ranked_with_one key x xs) ∙ sym (first_of_inserted key x k (ranked key xs))
 
 -- the best with one more are the best of the best with it
-pub best_with_one : {X : Type 0} (k : ℕ) (xs : List (ℕ × X)) (x : ℕ × X) → best_items k (best_items k xs ++ x ∷ []) ≡ best_items k (xs ++ x ∷ [])
-best_with_one k xs x = best_inserted k (best_items k xs) x ∙ ap (λ ws. take k (insert_last (λ m. m.0) x ws)) (best_of_best k xs) ∙ sym (best_inserted k xs x)
+pub best_with_one : {X : Type 0} (key : X → ℕ) (k : ℕ) (xs : List X) (x : X) → best_by key k (best_by key k xs ++ x ∷ []) ≡ best_by key k (xs ++ x ∷ [])
+best_with_one key k xs x = best_inserted key k (best_by key k xs) x ∙ ap (λ ws. take k (insert_last key x ws)) (best_of_best key k xs) ∙ sym (best_inserted key k xs x)
 
 -- and with several more
-pub best_with_more : {X : Type 0} (k : ℕ) (xs ys : List (ℕ × X)) → best_items k (best_items k xs ++ ys) ≡ best_items k (xs ++ ys)
-best_with_more k xs [] = ap (best_items k) (append-nil (best_items k xs)) ∙ best_of_best k xs ∙ ap (best_items k) (sym (append-nil xs))
-best_with_more k xs (y ∷ ys) =
-    let one = ap (λ ws. best_items k (ws ++ ys)) (best_with_one k xs y) in
-    let before = best_with_more k (best_items k xs ++ y ∷ []) ys in
-    let after = best_with_more k (xs ++ y ∷ []) ys in
-    ap (best_items k) (sym (append_assoc (best_items k xs) (y ∷ []) ys)) ∙ sym before ∙ one ∙ after ∙ ap (best_items k) (append_assoc xs (y ∷ []) ys)
+pub best_with_more : {X : Type 0} (key : X → ℕ) (k : ℕ) (xs ys : List X) → best_by key k (best_by key k xs ++ ys) ≡ best_by key k (xs ++ ys)
+best_with_more key k xs [] = ap (best_by key k) (append-nil (best_by key k xs)) ∙ best_of_best key k xs ∙ ap (best_by key k) (sym (append-nil xs))
+best_with_more key k xs (y ∷ ys) =
+    let one = ap (λ ws. best_by key k (ws ++ ys)) (best_with_one key k xs y) in
+    let before = best_with_more key k (best_by key k xs ++ y ∷ []) ys in
+    let after = best_with_more key k (xs ++ y ∷ []) ys in
+    ap (best_by key k) (sym (append_assoc (best_by key k xs) (y ∷ []) ys)) ∙ sym before ∙ one ∙ after ∙ ap (best_by key k) (append_assoc xs (y ∷ []) ys)
 
 -- ---- what isn't better than so many
 
@@ -88,7 +88,7 @@ goes_last t y l (z ∷ zs) h = rw (le-leb y.0 z.0 (le_trans l h.0)) (ap (λ ws. 
 -- it isn't among them
 pub not_among : {X : Type 0} (k : ℕ) (threshold : Option ℕ) (xs : List (ℕ × X)) (y : ℕ × X) → is_passed threshold y.0 ≡ true → IsReached k xs threshold → best_items k (xs ++ y ∷ []) ≡ best_items k xs
 not_among k None xs y passed h = absurd (cc)
-not_among k (Some t) xs y passed h = best_inserted k xs y ∙ ap (λ n. take n (insert_last (λ m. m.0) y (best_items k xs))) (sym h.0) ∙ goes_last t y (leb-true y.0 t passed) (best_items k xs) h.1
+not_among k (Some t) xs y passed h = best_inserted (λ m. m.0) k xs y ∙ ap (λ n. take n (insert_last (λ m. m.0) y (best_items k xs))) (sym h.0) ∙ goes_last t y (leb-true y.0 t passed) (best_items k xs) h.1
 
 length_inserted : {X : Type 0} (y : ℕ × X) (zs : List (ℕ × X)) → length (insert_last (λ m. m.0) y zs) ≡ suc (length zs)
 length_inserted y [] = refl
@@ -102,7 +102,7 @@ all_inserted t y l (z ∷ zs) h = (let ih = all_inserted t y l zs h.1 in elim (n
 pub reached_with : {X : Type 0} (k : ℕ) (threshold : Option ℕ) (xs : List (ℕ × X)) (y : ℕ × X) → is_passed threshold y.0 ≡ false → IsReached k xs threshold → IsReached k (xs ++ y ∷ []) threshold
 reached_with k None xs y above h = tt
 reached_with k (Some t) xs y above h =
-    let is = best_inserted k xs y in
+    let is = best_inserted (λ m. m.0) k xs y in
     let many = h.0 in
     let more = length_inserted y (best_items k xs) in
     let len = ap length is ∙ length-take-le k (insert_last (λ m. m.0) y (best_items k xs)) (omega (arith, many, more)) in
@@ -140,12 +140,12 @@ least_reached k xs best other is some many =
     let most : length (best_items k xs) ≤ k = length-take-upto k xs in
     let len = ap length is in
     let at : slice_get best (k - 1) ≡ Some (slice_index_or best (k - 1) other) = slice_get-get_or best (k - 1) other (omega (arith, some, many)) in
-    let falls = best_falls k xs in
+    let falls = best_falls (λ m. m.0) k xs in
     (omega (arith, len, most, many), all_above_last (best_items k xs) (k - 1) _ (omega (arith, len, most, many, some)) falls (subst (λ zs. slice_get zs (k - 1) ≡ Some (slice_index_or best (k - 1) other)) is at))
 
 -- the best of items are so many as those of their best
 pub reached_best : {X : Type 0} (k : ℕ) (threshold : Option ℕ) (xs ys : List (ℕ × X)) → ys ≡ best_items k xs → IsReached k xs threshold → IsReached k ys threshold
 reached_best k None xs ys is h = tt
 reached_best k (Some t) xs ys is h =
-    let same = ap (best_items k) is ∙ best_of_best k xs in
+    let same = ap (best_items k) is ∙ best_of_best (λ m. m.0) k xs in
     (ap length same ∙ h.0, subst (AllByRecursion (λ m. t ≤ m.0)) (sym same) h.1)

@@ -5,9 +5,13 @@ use Rattle.std.specs.List.{AllByRecursion, AllByRecursion-prop}
 use Rattle.std.proofs.Props.{props}
 use Rattle.definitions.specs.Scanning.{ranked}
 
--- the best of items, so many at most: by score, and of equal scores the earlier
+-- the best by a key, so many at most, and of equal keys the earlier
+abbrev pub best_by : {X : Type 0} → (X → ℕ) → ℕ → List X → List X
+best_by key limit xs = take limit (ranked key xs)
+
+-- the best of items by their scores
 abbrev pub best_items : {X : Type 0} → ℕ → List (ℕ × X) → List (ℕ × X)
-best_items limit items = take limit (ranked (λ m. m.0) items)
+best_items limit items = best_by (λ m. m.0) limit items
 
 -- there are so many, and none of the best is below the threshold
 abbrev pub IsReached : {X : Type 0} → ℕ → List (ℕ × X) → Option ℕ → Type 0

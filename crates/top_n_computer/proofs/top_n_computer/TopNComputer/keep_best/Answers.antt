@@ -14,4 +14,4 @@ invariant_of-self-2 g c =
 pub returns-clause-best : goal.returns-clause-best
 returns-clause-best g c =
     let top = c.args.self.now in
-    ap (best_items top.limit) c.in_ok-sort_best.ensures ∙ best_of_best top.limit top.items.items
+    ap (best_items top.limit) c.in_ok-sort_best.ensures ∙ best_of_best (λ m. m.0) top.limit top.items.items

@@ -8,7 +8,7 @@ pub returns-then-is_below-clause-best : goal.returns-then-is_below-clause-best
 returns-then-is_below-clause-best g c =
     let top = c.args.self.now in
     let y : ℕ × g.row.X.Denot = (c.args.score, c.args.item) in
-    sym (best_with_one top.limit top.items.items y ∙ not_among top.limit top.threshold top.items.items y (sym c.is_below.ensures ∙ c.if-is_below.true) top.reached)
+    sym (best_with_one (λ m. m.0) top.limit top.items.items y ∙ not_among top.limit top.threshold top.items.items y (sym c.is_below.ensures ∙ c.if-is_below.true) top.reached)
 
 pub invariant_of-self : goal.invariant_of-self
 invariant_of-self g c =
@@ -21,10 +21,10 @@ pub returns-in_ok-keep_best-clause-best : goal.returns-in_ok-keep_best-clause-be
 returns-in_ok-keep_best-clause-best g c =
     let top = c.args.self.now in
     let y : ℕ × g.row.X.Denot = (c.args.score, c.args.item) in
-    c.in_ok-keep_best.ensures.best ∙ ap (best_items top.limit) c.in_ok-push.ensures.items ∙ sym (best_with_one top.limit top.items.items y)
+    c.in_ok-keep_best.ensures.best ∙ ap (best_items top.limit) c.in_ok-push.ensures.items ∙ sym (best_with_one (λ m. m.0) top.limit top.items.items y)
 
 pub returns-else-len-ge-ROOM-clause-best : goal.returns-else-len-ge-ROOM-clause-best
 returns-else-len-ge-ROOM-clause-best g c =
     let top = c.args.self.now in
     let y : ℕ × g.row.X.Denot = (c.args.score, c.args.item) in
-    ap (best_items top.limit) c.in_ok-push.ensures.items ∙ sym (best_with_one top.limit top.items.items y)
+    ap (best_items top.limit) c.in_ok-push.ensures.items ∙ sym (best_with_one (λ m. m.0) top.limit top.items.items y)
