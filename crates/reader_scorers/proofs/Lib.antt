@@ -1,0 +1,4 @@
+-- Lemmas behind the scorers of segments.
+pub mod FormScores
+pub mod OneScore
+pub mod SamePairs
