@@ -7,9 +7,8 @@ ghost use Rattle.members.specs.Members.{greatest_sum};
 ghost use Rattle.node_scorers.specs.Asked.{asked, each_query};
 ghost use Rattle.node_scorers.specs.Scores.{AllScore, Scores};
 
-use crate::leaf_forms::{
-    ScoredLeaf, of_all, of_list, of_none, of_phrase, of_phrase_prefix, of_term, with_score,
-};
+use crate::any_query_scorer::AnyScorer;
+use crate::forms::{of_all, of_list, of_none, of_phrase, of_phrase_prefix, of_term, with_score};
 use crate::leaf_weights::LeafWeights;
 use common::Score;
 use cursors::DocSet;
@@ -20,9 +19,8 @@ use segment_reader::SegmentReader;
 use std::alloc::{AllocError, Global};
 use tree_scorers::SegmentScorers;
 
-/// The scorer of a query of any kind: of one that holds no other, with its scores or with one score, or a list of what
-/// one has that holds several.
-pub type AnyScorer<'a, W> = ScoredLeaf<
+/// The scorer of a query of any kind, by weights.
+pub type ScorerBy<'a, W> = AnyScorer<
     BoostScorer<AllScorer>,
     <W as LeafWeights<'a>>::Term,
     <W as LeafWeights<'a>>::Phrase,
@@ -30,6 +28,7 @@ pub type AnyScorer<'a, W> = ScoredLeaf<
 >;
 
 /// A segment, and what makes the scorers of queries that hold no other in it.
+#[derive(Drop)]
 pub struct ReaderScorers<'r, 'a, W: LeafWeights<'a>> {
     reader: &'r SegmentReader<'a>,
     weights: &'r W,
@@ -48,21 +47,21 @@ impl<'r, 'a, W: LeafWeights<'a>> ReaderScorers<'r, 'a, W> {
 }
 
 impl<'r, 'a, W: LeafWeights<'a>> SegmentScorers for ReaderScorers<'r, 'a, W> {
-    type Scorer = AnyScorer<'a, W>;
+    type Scorer = ScorerBy<'a, W>;
 
     ghost similarity = { λ s. W.similarity s.weights.now };
 
     ghost segment = { λ s. s.reader.now };
 
-    fn all_scorer(&self, boost: u64) -> AnyScorer<'a, W> {
+    fn all_scorer(&self, boost: u64) -> ScorerBy<'a, W> {
         of_all(all_scorer(self.reader, boost as Score))
     }
 
-    fn empty_scorer(&self, alloc: Global) -> AnyScorer<'a, W> {
+    fn empty_scorer(&self, alloc: Global) -> ScorerBy<'a, W> {
         of_none(alloc)
     }
 
-    fn term_scorer(&self, alloc: Global, query: &TermQuery, boost: u64) -> AnyScorer<'a, W> {
+    fn term_scorer(&self, alloc: Global, query: &TermQuery, boost: u64) -> ScorerBy<'a, W> {
         let found = self.weights.term_scorer(self.reader, query, boost);
         of_term(alloc, found)
     }
@@ -72,7 +71,7 @@ impl<'r, 'a, W: LeafWeights<'a>> SegmentScorers for ReaderScorers<'r, 'a, W> {
         alloc: Global,
         query: &PhraseQuery,
         boost: u64,
-    ) -> Result<AnyScorer<'a, W>, AllocError> {
+    ) -> Result<ScorerBy<'a, W>, AllocError> {
         let found = self
             .weights
             .phrase_scorer(alloc, self.reader, query, boost)?;
@@ -84,7 +83,7 @@ impl<'r, 'a, W: LeafWeights<'a>> SegmentScorers for ReaderScorers<'r, 'a, W> {
         alloc: Global,
         query: &PhrasePrefixQuery,
         boost: u64,
-    ) -> Result<AnyScorer<'a, W>, AllocError> {
+    ) -> Result<ScorerBy<'a, W>, AllocError> {
         let found = self
             .weights
             .phrase_prefix_scorer(alloc, self.reader, query, boost)?;
@@ -94,23 +93,23 @@ impl<'r, 'a, W: LeafWeights<'a>> SegmentScorers for ReaderScorers<'r, 'a, W> {
     fn clauses_scorer(
         &self,
         alloc: Global,
-        musts: Vec<AnyScorer<'a, W>>,
-        shoulds: Vec<AnyScorer<'a, W>>,
-        must_nots: Vec<AnyScorer<'a, W>>,
+        musts: Vec<ScorerBy<'a, W>>,
+        shoulds: Vec<ScorerBy<'a, W>>,
+        must_nots: Vec<ScorerBy<'a, W>>,
         minimum_number_should_match: usize,
-    ) -> Result<AnyScorer<'a, W>, AllocError>
-        requires fits { greatest_sum (map ⟦<AnyScorer<'a, W> as DocSet>⟧.entries musts.items)
-            + greatest_sum (map ⟦<AnyScorer<'a, W> as DocSet>⟧.entries shoulds.items) ≤ max_score }
+    ) -> Result<ScorerBy<'a, W>, AllocError>
+        requires fits { greatest_sum (map ⟦<ScorerBy<'a, W> as DocSet>⟧.entries musts.items)
+            + greatest_sum (map ⟦<ScorerBy<'a, W> as DocSet>⟧.entries shoulds.items) ≤ max_score }
         ensures { (b : ℕ) (clauses : definitions.Clauses)
             → AllScore (W.similarity self.now.weights.now) b self.now.reader.now (asked definitions.must clauses)
-            (map ⟦<AnyScorer<'a, W> as DocSet>⟧.entries musts.items)
+            (map ⟦<ScorerBy<'a, W> as DocSet>⟧.entries musts.items)
             → AllScore (W.similarity self.now.weights.now) b self.now.reader.now (asked definitions.should clauses)
-            (map ⟦<AnyScorer<'a, W> as DocSet>⟧.entries shoulds.items)
+            (map ⟦<ScorerBy<'a, W> as DocSet>⟧.entries shoulds.items)
             → AllScore (W.similarity self.now.weights.now) b self.now.reader.now (asked definitions.must_not clauses)
-            (map ⟦<AnyScorer<'a, W> as DocSet>⟧.entries must_nots.items)
+            (map ⟦<ScorerBy<'a, W> as DocSet>⟧.entries must_nots.items)
             → IfOk result (λ scorer. Scores (W.similarity self.now.weights.now) b
             (definitions.boolean clauses minimum_number_should_match) self.now.reader.now
-            (⟦<AnyScorer<'a, W> as DocSet>⟧.entries scorer)) }
+            (⟦<ScorerBy<'a, W> as DocSet>⟧.entries scorer)) }
     {
         let minimum = minimum_number_should_match;
         let list = clauses_scorer(alloc, musts, shoulds, must_nots, minimum, self.reader)?;
@@ -120,18 +119,18 @@ impl<'r, 'a, W: LeafWeights<'a>> SegmentScorers for ReaderScorers<'r, 'a, W> {
     fn best_scorer(
         &self,
         alloc: Global,
-        disjuncts: Vec<AnyScorer<'a, W>>,
+        disjuncts: Vec<ScorerBy<'a, W>>,
         tie_breaker: Score,
-    ) -> Result<AnyScorer<'a, W>, AllocError>
+    ) -> Result<ScorerBy<'a, W>, AllocError>
         requires positive { pos 0 ≤ℤ tie_breaker }
         requires share { tie_breaker ≤ℤ pos 1000 }
-        requires fits { greatest_sum (map ⟦<AnyScorer<'a, W> as DocSet>⟧.entries disjuncts.items) ≤ max_score }
+        requires fits { greatest_sum (map ⟦<ScorerBy<'a, W> as DocSet>⟧.entries disjuncts.items) ≤ max_score }
         ensures { (b : ℕ) (queries : definitions.Queries)
             → AllScore (W.similarity self.now.weights.now) b self.now.reader.now (each_query queries)
-            (map ⟦<AnyScorer<'a, W> as DocSet>⟧.entries disjuncts.items)
+            (map ⟦<ScorerBy<'a, W> as DocSet>⟧.entries disjuncts.items)
             → IfOk result (λ scorer. Scores (W.similarity self.now.weights.now) b
             (definitions.disjunction_max queries tie_breaker) self.now.reader.now
-            (⟦<AnyScorer<'a, W> as DocSet>⟧.entries scorer)) }
+            (⟦<ScorerBy<'a, W> as DocSet>⟧.entries scorer)) }
     {
         let list = best_scorer(alloc, disjuncts, tie_breaker, self.reader)?;
         Ok(of_list(list))
@@ -140,9 +139,9 @@ impl<'r, 'a, W: LeafWeights<'a>> SegmentScorers for ReaderScorers<'r, 'a, W> {
     fn constant_scorer(
         &self,
         alloc: Global,
-        scorer: AnyScorer<'a, W>,
+        scorer: ScorerBy<'a, W>,
         score: u64,
-    ) -> Result<AnyScorer<'a, W>, AllocError> {
+    ) -> Result<ScorerBy<'a, W>, AllocError> {
         with_score(alloc, scorer, score)
     }
 }
