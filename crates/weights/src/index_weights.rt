@@ -32,7 +32,9 @@ impl<'a, S: Statistics> IndexWeights<'a, S> {
 
 impl<'a, S: Statistics> LeafWeights<'a> for IndexWeights<'a, S> {
     type Term = TermScorer<'a>;
+
     type Phrase = PhraseScorer<'a, PostingsWithOffset<SegmentPostings<'a>>>;
+
     type PhrasePrefix = PhrasePrefixScorer<WholePhrase<'a>, SegmentPostings<'a>>;
 
     ghost similarity = { λ w. S.similarity w.statistics.now };
