@@ -1,0 +1,2 @@
+-- Lemmas behind what is accepted.
+pub mod Accepting

@@ -1,0 +1,54 @@
+//! Queries that aren't refused, and their scorers.
+
+ghost use Rattle.std.specs.Prelude.{◌≡◌, ◌≢◌, IfErr, IfOk, None, OnOk, Some};
+ghost use Rattle.std.specs.Result.{result_err};
+ghost use Rattle.definitions.specs.Refusing.{refusal, tree_fault};
+ghost use Rattle.definitions.specs.declared.fault.Fault.TheVariants as faults;
+ghost use Rattle.node_scorers.specs.Scores.{Scores};
+ghost use Rattle.query_trees.specs.Queries.{query_of};
+ghost use Rattle.tree_scorers.specs.Accepted.{IsAccepted};
+
+use definitions::Fault;
+use query::check_query;
+use query_trees::AnyQuery;
+use schema::Schema;
+use statistics::Statistics;
+use std::alloc::Global;
+use tree_scorers::{SegmentScorers, scorer_of};
+
+/// Whether a query is refused, by what `check_query` refuses. Where it isn't, it has a scorer in every segment.
+#[tactic(auto, using(crate::proofs::Accepting::accepts, crate::proofs::Accepting::passes))]
+pub fn accept_query<S: Statistics>(
+    schema: &Schema,
+    statistics: &S,
+    query: &AnyQuery,
+) -> Result<(), Fault>
+    ensures fault { result_err result
+        ≡ refusal schema.now (S.similarity statistics.now).weight (query_of query.now) }
+    ensures passed { OnOk result
+        (tree_fault schema.now (S.similarity statistics.now).weight 1 (query_of query.now) ≡ None) }
+    ensures accepted { OnOk result (IsAccepted (S.similarity statistics.now).weight 1 (query_of query.now)) }
+{
+    check_query(schema, statistics, query)
+}
+
+/// The scorer of a query in a segment, whose weights are those of the statistics. Where memory is not wanting, it is
+/// refused exactly where `check_query` refuses the query, and by the same.
+pub fn accepted_scorer<S: Statistics, F: SegmentScorers>(
+    alloc: Global,
+    schema: &Schema,
+    statistics: &S,
+    forms: &F,
+    query: &AnyQuery,
+) -> Result<F::Scorer, Fault>
+    requires { F.similarity forms.now ≡ S.similarity statistics.now }
+    ensures scores { IfOk result (λ scorer. Scores (S.similarity statistics.now) 1 (query_of query.now)
+        (F.segment forms.now) (F.Scorer.entries scorer)) }
+    ensures accepted { IfOk result (λ scorer.
+        refusal schema.now (S.similarity statistics.now).weight (query_of query.now) ≡ None) }
+    ensures refused { IfErr result (λ fault. fault ≢ faults.OutOfMemory
+        → refusal schema.now (S.similarity statistics.now).weight (query_of query.now) ≡ Some fault) }
+{
+    accept_query(schema, statistics, query)?;
+    Ok(scorer_of(alloc, forms, query, 1)?)
+}

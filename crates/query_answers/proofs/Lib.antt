@@ -1,0 +1,2 @@
+-- Lemmas behind what queries answer.
+pub mod SegmentCounts

@@ -1,0 +1,11 @@
+//! What a query that isn't refused answers in a segment: its scorer, its count, its documents with their scores.
+#![tactic(auto)]
+
+pub mod count_laws;
+mod counts;
+mod explanations;
+mod walks;
+
+pub use counts::count;
+pub use explanations::explain;
+pub use walks::{for_each, for_each_no_score, for_each_pruning};

@@ -1,0 +1,2 @@
+-- Lemmas behind the laws.
+pub mod Orders
