@@ -2,7 +2,9 @@
 use Rattle.std.proofs.Common.{[], Bool, List, None, Option, Some, ap, bytes_eq, false, find, if◌then◌else◌, length, map, refl, subst, sym, true, ◌++◌, ◌<◌, ◌==◌, ◌^◌, ◌≡◌, ◌∙◌, ◌∷◌, ℕ}
 use Rattle.std.specs.List.{AllByRecursion}
 use Rattle.std.specs.Option.{option_map_or}
-use Rattle.cursors.specs.Entries.{Entry}
+use Rattle.std.proofs.Math.Logic.{∥∥₁_elim}
+use Rattle.std.proofs.Props.{props}
+use Rattle.cursors.specs.Entries.{Entry, from}
 use Rattle.definitions.specs.Postings.{Posting}
 use Rattle.definitions.specs.Schema.{Schema, with_freqs_and_positions}
 use Rattle.inverted_index_reader.proofs.DictionariesPlaced.{term_found}
@@ -92,6 +94,14 @@ entries_counted es ps is all = subst (AllByRecursion (λ (e : Entry). 0 < e.coun
     go : (qs : List Posting) → AllByRecursion (λ (p : Posting). 0 < p.count) qs → AllByRecursion (λ (e : Entry). 0 < e.count) (map (entry_as with_freqs_and_positions) qs)
     go [] a = tt
     go (q ∷ qs) a = (a.0, go qs a.1)
+
+-- that no entry stands from a document on is a proposition
+pub none_from : (t : ℕ) (es : List Entry) → ∥ from t es ≡ [] ∥₁ → from t es ≡ []
+none_from t es none = go (from t es) refl
+  where
+    go : (fs : List Entry) → from t es ≡ fs → fs ≡ []
+    go [] is = refl
+    go (f ∷ fs) is = absurd (∥∥₁_elim none (hlevel props) (λ e. (let bad : f ∷ fs ≡ [] = sym is ∙ e in let no : ⊥ = cc in no)))
 
 -- ---- nothing is written
 

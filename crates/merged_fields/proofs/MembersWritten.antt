@@ -15,7 +15,7 @@ use Rattle.merged_postings.proofs.Writes.{front_passes}
 use Rattle.merged_postings.specs.Living.{has_some}
 use Rattle.merged_postings.specs.Mappings.{end_of}
 use Rattle.merged_postings.specs.Written.{AreWritten, IsWriteRefusal, counts_in}
-use Rattle.postings_serializer.specs.FieldWriting.{FieldWriting, IsOpen}
+use Rattle.postings_serializer.specs.FieldWriting.{AreKept, FieldWriting, IsOpen}
 use Rattle.postings_serializer.specs.TermWriting.{recorded_count}
 
 -- ---- one writing after another
@@ -134,6 +134,19 @@ member_refused fault was mid counts before here rest all option is (inr (limit, 
         ∙ ap (λ cs. counts ++ (counts_in was before ++ (cs ++ counts_in was rest))) (sym (counts_same was mid here option))
         ∙ sym (append_assoc counts (counts_in was before) (counts_in mid here ++ counts_in was rest))
         ∙ sym (append_assoc (counts ++ counts_in was before) (counts_in mid here) (counts_in was rest))
+
+-- ---- what stays
+
+pub kept_both : (was mid now : FieldWriting) → AreKept was mid → AreKept mid now → AreKept was now
+kept_both was mid now first second = record {
+  same = record { field = second.same.field ∙ first.same.field; num_tokens = second.same.num_tokens ∙ first.same.num_tokens; mode = second.same.mode ∙ first.same.mode; norms = second.same.norms ∙ first.same.norms };
+  terms = second.terms ∙ first.terms;
+  postings = second.postings ∙ first.postings;
+  positions = second.positions ∙ first.positions;
+}
+
+pub kept_written : (was now : FieldWriting) (ps : List Posting) → AreWritten was now ps → AreKept was now
+kept_written was now ps w = record { same = record { field = w.same.0; num_tokens = w.same.1; mode = w.same.5; norms = w.same.7 }; terms = w.same.2; postings = w.same.3; positions = w.same.8 }
 
 -- ---- dictionaries of members
 

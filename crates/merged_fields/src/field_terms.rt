@@ -27,9 +27,9 @@ pub(crate) fn merge_terms(
     mut terms: TermMerger<'_>,
     serializer: &mut FieldSerializer<'_>,
 ) -> Result<(), Fault>
-    requires known { (schema : Schema) × (num_docs : ℕ) × (all : List (List IndexedField))
+    requires known { ∥ ((schema : Schema) × (num_docs : ℕ) × (all : List (List IndexedField))
         × AreMembers schema 0 num_docs members.now all × (num_docs ≤ terminated)
-        × IfSome serializer.old.writing.norms (λ ids. num_docs ≤ length ids) }
+        × IfSome serializer.old.writing.norms (λ ids. num_docs ≤ length ids)) ∥₁ }
     requires dictionaries { terms.members ≡ map (λ m. dictionary_in m.inverted_index.now field) members.now }
     requires nothing { serializer.old.positions.1 ≡ [] }
     ensures ok { (schema : Schema) (num_docs : ℕ) (all : List (List IndexedField))

@@ -19,8 +19,8 @@ fn term_tokens(
     key: &[u8],
     terms: &TermMerger<'_>,
 ) -> Option<u64>
-    requires known { (schema : Schema) × (num_docs : ℕ) × (all : List (List IndexedField))
-        × AreMembers schema 0 num_docs members.now all }
+    requires known { ∥ ((schema : Schema) × (num_docs : ℕ) × (all : List (List IndexedField))
+        × AreMembers schema 0 num_docs members.now all) ∥₁ }
     requires dictionaries { terms.now.members ≡ map (λ m. dictionary_in m.inverted_index.now field) members.now }
     requires key { slice_get terms.now.keys 0 ≡ Some key.now }
     ensures { (schema : Schema) (num_docs : ℕ) (all : List (List IndexedField))
@@ -43,8 +43,8 @@ pub(crate) fn field_tokens(
     field: Field,
     mut terms: TermMerger<'_>,
 ) -> Option<u64>
-    requires known { (schema : Schema) × (num_docs : ℕ) × (all : List (List IndexedField))
-        × AreMembers schema 0 num_docs members.now all }
+    requires known { ∥ ((schema : Schema) × (num_docs : ℕ) × (all : List (List IndexedField))
+        × AreMembers schema 0 num_docs members.now all) ∥₁ }
     requires dictionaries { terms.members ≡ map (λ m. dictionary_in m.inverted_index.now field) members.now }
     ensures { (schema : Schema) (num_docs : ℕ) (all : List (List IndexedField))
         → AreMembers schema 0 num_docs members.now all

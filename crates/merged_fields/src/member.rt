@@ -37,7 +37,7 @@ impl<'a> Member<'a> {
         deltas: &mut Vec<u32>,
         serializer: &mut FieldSerializer<'_>,
     ) -> Result<bool, Fault>
-        requires known { (schema : Schema) × (fields : List IndexedField) × IsMember schema self.now fields }
+        requires known { ∥ ((schema : Schema) × (fields : List IndexedField) × IsMember schema self.now fields) ∥₁ }
         requires info { option_map (λ i. i.now) info
             ≡ info_in key.now (dictionary_in self.now.inverted_index.now field) }
         requires few { end_of self.now.doc_ids ≤ terminated }
@@ -72,7 +72,7 @@ impl<'a> Member<'a> {
         key: &[u8],
         info: Option<&TermInfo>,
     ) -> Option<u64>
-        requires known { (schema : Schema) × (fields : List IndexedField) × IsMember schema self.now fields }
+        requires known { ∥ ((schema : Schema) × (fields : List IndexedField) × IsMember schema self.now fields) ∥₁ }
         requires info { option_map (λ i. i.now) info
             ≡ info_in key.now (dictionary_in self.now.inverted_index.now field) }
         ensures { (schema : Schema) (fields : List IndexedField) → IsMember schema self.now fields

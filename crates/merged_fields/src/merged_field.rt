@@ -42,9 +42,9 @@ pub(crate) fn merge_field(
     serializer: InvertedIndexSerializer,
 ) -> Result<InvertedIndexSerializer, Fault>
     requires indexed { is_indexed entry.now ≡ true }
-    requires known { (schema : Schema) × (num_docs : ℕ) × (all : List (List IndexedField))
+    requires known { ∥ ((schema : Schema) × (num_docs : ℕ) × (all : List (List IndexedField))
         × AreMembers schema 0 num_docs members.now all × (num_docs ≤ terminated)
-        × IfSome fieldnorm_reader (λ ids. num_docs ≤ length ids) }
+        × IfSome fieldnorm_reader (λ ids. num_docs ≤ length ids)) ∥₁ }
     ensures ok { (schema : Schema) (num_docs : ℕ) (all : List (List IndexedField))
         → AreMembers schema 0 num_docs members.now all
         → IfOk result (λ sections. (f : IndexedField) × (f.field ≡ field)
@@ -75,8 +75,8 @@ pub(crate) fn merge_field(
 
 /// How many tokens of living documents a field has in all members.
 fn num_tokens(alloc: Global, members: &[Member<'_>], field: Field) -> Result<u64, Fault>
-    requires { (schema : Schema) × (num_docs : ℕ) × (all : List (List IndexedField))
-        × AreMembers schema 0 num_docs members.now all }
+    requires { ∥ ((schema : Schema) × (num_docs : ℕ) × (all : List (List IndexedField))
+        × AreMembers schema 0 num_docs members.now all) ∥₁ }
     ensures ok { (schema : Schema) (num_docs : ℕ) (all : List (List IndexedField))
         → AreMembers schema 0 num_docs members.now all
         → IfOk result (λ n. n ≡ tokens_in (told_of_all field members.now all)) }
@@ -100,9 +100,9 @@ fn write_terms(
     kind: Type,
     serializer: &mut FieldSerializer<'_>,
 ) -> Result<(), Fault>
-    requires known { (schema : Schema) × (num_docs : ℕ) × (all : List (List IndexedField))
+    requires known { ∥ ((schema : Schema) × (num_docs : ℕ) × (all : List (List IndexedField))
         × AreMembers schema 0 num_docs members.now all × (num_docs ≤ terminated)
-        × IfSome serializer.old.writing.norms (λ ids. num_docs ≤ length ids) }
+        × IfSome serializer.old.writing.norms (λ ids. num_docs ≤ length ids)) ∥₁ }
     requires nothing { serializer.old.positions.1 ≡ [] }
     ensures ok { (schema : Schema) (num_docs : ℕ) (all : List (List IndexedField))
         → AreMembers schema 0 num_docs members.now all
@@ -134,8 +134,8 @@ fn all_terms<'a>(
     members: &[Member<'a>],
     field: Field,
 ) -> Result<TermMerger<'a>, AllocError>
-    requires { (schema : Schema) × (num_docs : ℕ) × (all : List (List IndexedField))
-        × AreMembers schema 0 num_docs members.now all }
+    requires { ∥ ((schema : Schema) × (num_docs : ℕ) × (all : List (List IndexedField))
+        × AreMembers schema 0 num_docs members.now all) ∥₁ }
     ensures { IfOk result (λ terms. terms
         ≡ record {
           members = map (λ m. dictionary_in m.inverted_index.now field) members.now;

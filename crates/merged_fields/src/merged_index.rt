@@ -30,9 +30,9 @@ pub fn merge_fields(
     fieldnorm_readers: &FieldNormReaders<'_>,
     mut serializer: InvertedIndexSerializer,
 ) -> Result<InvertedIndexSerializer, Fault>
-    requires { (num_docs : ℕ) × (all : List (List IndexedField))
+    requires { ∥ ((num_docs : ℕ) × (all : List (List IndexedField))
         × AreMembers schema.now 0 num_docs members.now all × (num_docs ≤ terminated)
-        × AllByRecursion (λ p. num_docs ≤ length p.1) fieldnorm_readers.now }
+        × AllByRecursion (λ p. num_docs ≤ length p.1) fieldnorm_readers.now) ∥₁ }
     ensures ok { (num_docs : ℕ) (all : List (List IndexedField)) → AreMembers schema.now 0 num_docs members.now all
         → IfOk result (λ sections. AreMerged schema.now fieldnorm_readers.now members.now all serializer sections) }
     ensures err { (num_docs : ℕ) (all : List (List IndexedField)) → AreMembers schema.now 0 num_docs members.now all
@@ -56,9 +56,9 @@ fn merge_one(
     serializer: InvertedIndexSerializer,
 ) -> Result<InvertedIndexSerializer, Fault>
     requires indexed { is_indexed entry.now ≡ true }
-    requires known { (schema : Fields) × (num_docs : ℕ) × (all : List (List IndexedField))
+    requires known { ∥ ((schema : Fields) × (num_docs : ℕ) × (all : List (List IndexedField))
         × AreMembers schema 0 num_docs members.now all × (num_docs ≤ terminated)
-        × AllByRecursion (λ p. num_docs ≤ length p.1) fieldnorm_readers.now }
+        × AllByRecursion (λ p. num_docs ≤ length p.1) fieldnorm_readers.now) ∥₁ }
     ensures ok { (schema : Fields) (num_docs : ℕ) (all : List (List IndexedField))
         → AreMembers schema 0 num_docs members.now all
         → IfOk result (λ sections. (f : IndexedField) × (f.field ≡ field)

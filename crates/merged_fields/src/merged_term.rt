@@ -27,9 +27,9 @@ fn write_members(
     deltas: &mut Vec<u32>,
     serializer: &mut FieldSerializer<'_>,
 ) -> Result<bool, Fault>
-    requires known { (schema : Schema) × (num_docs : ℕ) × (all : List (List IndexedField))
+    requires known { ∥ ((schema : Schema) × (num_docs : ℕ) × (all : List (List IndexedField))
         × AreMembers schema 0 num_docs members.now all × (num_docs ≤ terminated)
-        × IfSome serializer.old.writing.norms (λ ids. num_docs ≤ length ids) }
+        × IfSome serializer.old.writing.norms (λ ids. num_docs ≤ length ids)) ∥₁ }
     requires dictionaries { terms.now.members ≡ map (λ m. dictionary_in m.inverted_index.now field) members.now }
     requires key { slice_get terms.now.keys 0 ≡ Some key.now }
     requires new { serializer.old.writing.next ≡ 0 }
@@ -64,9 +64,9 @@ pub(crate) fn merge_term(
     deltas: &mut Vec<u32>,
     serializer: &mut FieldSerializer<'_>,
 ) -> Result<(), Fault>
-    requires known { (schema : Schema) × (num_docs : ℕ) × (all : List (List IndexedField))
+    requires known { ∥ ((schema : Schema) × (num_docs : ℕ) × (all : List (List IndexedField))
         × AreMembers schema 0 num_docs members.now all × (num_docs ≤ terminated)
-        × IfSome serializer.old.writing.norms (λ ids. num_docs ≤ length ids) }
+        × IfSome serializer.old.writing.norms (λ ids. num_docs ≤ length ids)) ∥₁ }
     requires dictionaries { terms.now.members ≡ map (λ m. dictionary_in m.inverted_index.now field) members.now }
     ensures ok { (schema : Schema) (num_docs : ℕ) (all : List (List IndexedField)) (key : List ℕ)
         → AreMembers schema 0 num_docs members.now all → slice_get terms.now.keys 0 ≡ Some key

@@ -16,7 +16,7 @@ use Rattle.segment_layouts.specs.Segments.{Sections}
 use Rattle.segment_reader.specs.SegmentReaders as readers
 use Rattle.segment_reader.specs.declared.segment_reader.SegmentReader.{SegmentReader}
 use Rattle.segment.proofs.Opening.{norms_over, one_segment}
-use Rattle.segment.specs.Opened.{IsOpened, StandsFor}
+use Rattle.segment.specs.Opened.{IsOpened, StandsFor, lengths_of}
 use Rattle.segment.specs.declared.segment.Segment.{Segment}
 
 -- that numbers ascend is a proposition
@@ -27,6 +27,10 @@ IsAscendingFrom-prop n (x ∷ xs) = (let rest : IsProp (IsAscendingFrom (x + 1) 
 -- the lengths that were found when it was opened, by other names of the fields and of their bytes
 pub opened_norms : (schema : Schema) (s : Segment) (o : IsOpened schema s) (fields bytes : List ℕ) → fields ≡ s.length_fields.items → bytes ≡ s.norms → IsNorms fields s.num_docs bytes o.norms
 opened_norms schema s o fields bytes named same = norms_over schema s.num_docs fields o.sections.norms bytes o.norms (named ∙ o.fields_are) (same ∙ o.lengths_are) o.norms_are
+
+-- its lengths are those that were found
+pub opened_lengths : (schema : Schema) (s : Segment) (o : IsOpened schema s) → lengths_of s ≡ o.norms
+opened_lengths schema s o = norms_lent s.num_docs s.length_fields.items s.norms o.norms (opened_norms schema s o s.length_fields.items s.norms refl refl)
 
 module _ (schema : Schema) (analyze : Analyzer) (docs : List Document) (s : Segment) (stands : StandsFor schema analyze docs s) where
   one : (s.num_docs ≡ length docs) × (stands.opened.sections ≡ stands.bytes_are.sections)
@@ -39,9 +43,13 @@ module _ (schema : Schema) (analyze : Analyzer) (docs : List Document) (s : Segm
       let here = subst (λ (t : Sections). IsNorms (length_fields schema) s.num_docs t.norms (norms_of schema analyze docs)) (sym one.1) many in
       norms_over schema s.num_docs fields stands.opened.sections.norms bytes (norms_of schema analyze docs) (named ∙ stands.opened.fields_are) (same ∙ stands.opened.lengths_are) here
 
-  -- the lengths that were found when it was opened are the documents'
+  -- its lengths are the documents'
+  pub documents_lengths : lengths_of s ≡ norms_of schema analyze docs
+  documents_lengths = norms_lent s.num_docs s.length_fields.items s.norms (norms_of schema analyze docs) (documents_norms s.length_fields.items s.norms refl refl)
+
+  -- and so are those that were found when it was opened
   one_norms : stands.opened.norms ≡ norms_of schema analyze docs
-  one_norms = sym (norms_lent s.num_docs s.length_fields.items s.norms stands.opened.norms (opened_norms schema s stands.opened s.length_fields.items s.norms refl refl)) ∙ norms_lent s.num_docs s.length_fields.items s.norms (norms_of schema analyze docs) (documents_norms s.length_fields.items s.norms refl refl)
+  one_norms = sym (opened_lengths schema s stands.opened) ∙ documents_lengths
 
   -- the documents' terms are in its sections
   documents_terms : stands.opened.norms ≡ norms_of schema analyze docs → AreSections schema s.num_docs stands.opened.norms stands.bytes_are.fields stands.opened.sections.terms stands.opened.sections.postings stands.opened.sections.positions

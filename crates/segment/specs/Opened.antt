@@ -4,6 +4,7 @@ use Rattle.definitions.specs.Analyzers.{Analyzer}
 use Rattle.definitions.specs.KeptLengths.{length_fields}
 use Rattle.definitions.specs.Schema.{Schema}
 use Rattle.definitions.specs.Values.{Document}
+use Rattle.fieldnorms.specs.Readers.{norms_in}
 use Rattle.inverted_index_reader.specs.Readers.{IsReader, Reader}
 use Rattle.layouts.specs.FieldNorms.{IsNorms}
 use Rattle.layouts.specs.InvertedIndexes.{AreSections, IndexedField}
@@ -22,6 +23,10 @@ num_docs_of s = s.num_docs
 -- its terms
 abbrev pub index_of : Segment → Reader
 index_of s = s.inverted_index
+
+-- the length ids of its documents, field by field
+abbrev pub lengths_of : Segment → List (ℕ × List ℕ)
+lengths_of s = norms_in s.num_docs s.length_fields.items s.norms
 
 -- the blocks of its store
 abbrev pub blocks_of : Segment → List Block

@@ -6,7 +6,7 @@ ghost use Rattle.definitions.specs.Schema as schemas;
 ghost use Rattle.definitions.specs.Stored.{stored_pairs, stored_values};
 ghost use Rattle.definitions.specs.Values.{Document};
 ghost use Rattle.definitions.specs.declared.fault.Fault.TheVariants as faults;
-ghost use Rattle.segment.specs.Opened.{IsOpened, StandsFor, blocks_of, bytes_of, index_of, num_docs_of};
+ghost use Rattle.segment.specs.Opened.{IsOpened, StandsFor, blocks_of, bytes_of, index_of, lengths_of, num_docs_of};
 ghost use Rattle.segment.specs.SlotDocuments.{HoldsDocument, IsDocumentFault};
 ghost use Rattle.segment_layouts.specs.Segments.{IsSegment};
 ghost use Rattle.segment_reader.specs.Flags.{HasFlags};
@@ -100,11 +100,7 @@ impl Segment {
             → StandsFor schema analyze docs self.now → readers.StandsFor schema analyze docs result }
         ensures alive { readers.alive_in result ≡ option_map (λ flags. flags.now) alive_bitset.entry }
     {
-        let lengths = FieldNormReaders::new(
-            self.norms.as_slice(),
-            self.num_docs,
-            &self.length_fields,
-        );
+        let lengths = self.fieldnorms_readers();
         SegmentReader::new(self.num_docs, &self.inverted_index, lengths, alive_bitset)
     }
 
@@ -144,5 +140,20 @@ impl Segment {
         ensures { result.now ≡ index_of self.now }
     {
         &self.inverted_index
+    }
+
+    /// The length ids of all fields that keep lengths.
+    pub fn fieldnorms_readers(&self) -> FieldNormReaders<'_>
+        requires { ∥ ((schema : schemas.Schema) × IsOpened schema self.now) ∥₁ }
+        ensures { result ≡ lengths_of self.now }
+    {
+        FieldNormReaders::new(self.norms.as_slice(), self.num_docs, &self.length_fields)
+    }
+
+    /// The slots of the documents, in blocks that aren't checked yet.
+    pub fn store(&self) -> &StoreReader
+        ensures { result.now.blocks ≡ blocks_of self.now }
+    {
+        &self.store
     }
 }

@@ -9,17 +9,17 @@ use std::alloc::{AllocError, Global};
 
 /// The five sections of a segment.
 #[derive(Drop)]
-pub(crate) struct Sections {
-    pub(crate) terms: Vec<u8>,
-    pub(crate) postings: Vec<u8>,
-    pub(crate) positions: Vec<u8>,
-    pub(crate) norms: Vec<u8>,
-    pub(crate) store: Vec<u8>,
+pub struct Sections {
+    pub terms: Vec<u8>,
+    pub postings: Vec<u8>,
+    pub positions: Vec<u8>,
+    pub norms: Vec<u8>,
+    pub store: Vec<u8>,
 }
 
 impl Sections {
     /// The bytes of a segment of so many documents with these sections.
-    pub(crate) fn to_segment(&self, alloc: Global, num_docs: u32) -> Result<Vec<u8>, AllocError>
+    pub fn to_segment(&self, alloc: Global, num_docs: u32) -> Result<Vec<u8>, AllocError>
         ensures whole { IfOk result (λ bytes. bytes.items ≡ segment_bytes num_docs (sections_of self.now)) }
         ensures short { IfOk result (λ bytes. length bytes.items < 2 ^ 64) }
     {

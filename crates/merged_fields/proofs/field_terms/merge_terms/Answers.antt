@@ -1,4 +1,5 @@
-use Rattle.std.proofs.Common.{Bor, List, Some, ap, ap₂, cond, drop, option_map, refl, slice_get, subst, sym, ◌≡◌, ◌∙◌, ℕ}
+use Rattle.std.proofs.Common.{Bor, IfSome, List, Option, Some, ap, ap₂, cond, drop, length, option_map, refl, slice_get, subst, sym, ◌≡◌, ◌≤◌, ◌∙◌, ℕ}
+use Rattle.std.proofs.Math.Logic.{∥∥₁_map}
 use Rattle.std.proofs.lemmas.Result.{err_from_is_err_and}
 use Rattle.definitions.specs.Schema.{basic}
 use Rattle.merged_fields.proofs.TermsMerged.{AreSoFar, all_so_far, begin_so_far, first_of, more_so_far, no_first, term_refused}
@@ -12,6 +13,9 @@ use Rattle.merged_fields.proofs.field_terms.merge_terms.Goals as goal
 
 pub loop-key-init : goal.loop-key-init
 loop-key-init c = record { so_far = λ schema num_docs all are. begin_so_far (kind_of c.args.kind) c.args.serializer.now (told_in c.args.field c.args.terms.keys c.args.members.now all) c.requires.nothing; members = refl }
+
+pub merge_term-requires-clause-known : goal.merge_term-requires-clause-known
+merge_term-requires-clause-known c = ∥∥₁_map c.requires.known (λ k. (k.0, k.1, k.2, k.3, k.4, subst (λ (o : Option (List ℕ)). IfSome o (λ ids. k.1 ≤ length ids)) (sym (c.loop-key.invariant.so_far k.0 k.1 k.2 k.3).added.same.3) k.5))
 
 pub returns-in_err-merge_term-clause-err : goal.returns-in_err-merge_term-clause-err
 returns-in_err-merge_term-clause-err c schema num_docs all are =

@@ -1,4 +1,5 @@
 use Rattle.std.proofs.Common.{MatchOption, ap, arith, subst, sym, take, ◌≡◌, ◌≤◌, ◌^◌, ◌∙◌}
+use Rattle.std.proofs.Math.Logic.{∥∥₁_map}
 use Rattle.inverted_index_reader.specs.Readers.{postings_in}
 use Rattle.merged_fields.proofs.MembersWritten.{all_merged, member_found, more_merged}
 use Rattle.merged_fields.proofs.TokensMerged.{tokens_both, tokens_split}
@@ -8,10 +9,10 @@ use Rattle.merged_fields.proofs.field_tokens.term_tokens.Goals as goal
 
 pub num_tokens-requires-clause-known : goal.num_tokens-requires-clause-known
 num_tokens-requires-clause-known c =
-    let k = c.requires.known in
     let inside = c.loop-number-test.true in
-    let at = member_found k.0 k.1 c.loop-number.number c.args.members.now k.2 c.index-members-number.result c.index-members-number.is k.3 (omega (arith, inside)) in
-    (k.0, at.fields, at.is)
+    ∥∥₁_map c.requires.known (λ k.
+    (let at = member_found k.0 k.1 c.loop-number.number c.args.members.now k.2 c.index-members-number.result c.index-members-number.is k.3 (omega (arith, inside)) in
+    (k.0, at.fields, at.is)))
 
 pub returns-in_err-tokens : goal.returns-in_err-tokens
 returns-in_err-tokens c schema num_docs all are =

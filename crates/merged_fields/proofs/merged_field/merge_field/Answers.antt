@@ -1,11 +1,18 @@
-use Rattle.std.proofs.Common.{List, Option, ap, arith, ◌<◌, ◌^◌, ◌∙◌, ℕ}
+use Rattle.std.proofs.Common.{IfSome, List, Option, ap, arith, length, subst, sym, ◌<◌, ◌≤◌, ◌^◌, ◌∙◌, ℕ}
+use Rattle.std.proofs.Math.Logic.{∥∥₁_map}
 use Rattle.std.proofs.lemmas.Result.{err_from_is_err_and}
 use Rattle.merged_fields.proofs.FieldMerged.{field_merged, terms_refused, tokens_refused}
 use Rattle.packed_blocks.specs.UnpackedBlocks.{listed}
-use Rattle.postings_serializer.specs.FieldWriting.{field_begun}
+use Rattle.postings_serializer.specs.FieldWriting.{FieldWriting, field_begun}
 use Rattle.postings_writer.specs.Fields.{option_of_key}
 use Rattle.terms.specs.Kinds.{kind_of}
 use Rattle.merged_fields.proofs.merged_field.merge_field.Goals as goal
+
+pub num_tokens-requires : goal.num_tokens-requires
+num_tokens-requires c = ∥∥₁_map c.requires.known (λ k. (k.0, k.1, k.2, k.3))
+
+pub write_terms-requires-clause-known : goal.write_terms-requires-clause-known
+write_terms-requires-clause-known c = ∥∥₁_map c.requires.known (λ k. (k.0, k.1, k.2, k.3, k.4, subst (λ (o : Option (List ℕ)). IfSome o (λ ids. k.1 ≤ length ids)) (sym (ap (λ (w : FieldWriting). w.writing.norms) c.new_field-field_serializer.ensures)) k.5))
 
 pub returns-in_err-num_tokens-clause-err : goal.returns-in_err-num_tokens-clause-err
 returns-in_err-num_tokens-clause-err c schema num_docs all are =

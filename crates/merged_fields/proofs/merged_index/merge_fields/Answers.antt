@@ -1,5 +1,6 @@
 use Rattle.std.proofs.Common.{List, Some, rules, subst, sym, slice_get, ◌≡◌, ◌∙◌, ◌∷◌, [], ℕ}
 use Rattle.std.specs.List.{AllByRecursion, enumerate_from}
+use Rattle.std.proofs.Math.Logic.{∥∥₁_map}
 use Rattle.std.proofs.lemmas.Result.{err_from_is_err_and}
 use Rattle.definitions.specs.Schema.{Entry, Schema}
 use Rattle.merged_fields.proofs.AllMerged.{AreSome, all_merged, field_more, field_refused, left_out, none_merged}
@@ -15,6 +16,9 @@ loop-field-init c =
       written = λ num_docs all are. subst (λ rest. AreSome schema norms c.args.members.now all c.args.serializer c.args.serializer (enumerate_from 0 schema) rest) (sym is) (none_merged schema norms c.args.members.now all c.args.serializer (enumerate_from 0 schema));
       left = subst (AllByRecursion (λ (p : ℕ × Entry). slice_get schema p.0 ≡ Some p.1)) (sym is) (entries_at schema);
     }
+
+pub merge_one-requires-clause-known : goal.merge_one-requires-clause-known
+merge_one-requires-clause-known c = ∥∥₁_map c.requires (λ k. (c.args.schema.now, k.0, k.1, k.2, k.3, k.4))
 
 pub loop-field-preserved-then-is_indexed : goal.loop-field-preserved-then-is_indexed
 loop-field-preserved-then-is_indexed c =

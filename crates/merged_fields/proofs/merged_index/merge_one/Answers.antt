@@ -1,4 +1,5 @@
 use Rattle.std.proofs.Common.{[], IfErr, IfOk, IfSome, List, Option, ap, length, subst, sym, ◌≡◌, ◌≤◌, ◌∙◌, ◌∷◌, ℕ}
+use Rattle.std.proofs.Math.Logic.{∥∥₁_map}
 use Rattle.layouts.specs.FieldNorms.{ids_of}
 use Rattle.layouts.specs.InvertedIndexes.{IndexedField, field_ids}
 use Rattle.merged_fields.specs.Members.{merged_in}
@@ -12,11 +13,9 @@ use Rattle.merged_fields.proofs.merged_index.merge_one.Goals as goal
 
 pub merge_field-requires-clause-known : goal.merge_field-requires-clause-known
 merge_field-requires-clause-known c =
-    let k = c.requires.known in
     let norms : List (ℕ × List ℕ) = c.args.fieldnorm_readers.now in
     let is : ids_of c.args.field norms ≡ c.get_field-fieldnorm_reader.result = ap (λ n. ids_of n norms) (sym c.field_id.ensures) ∙ sym c.get_field-fieldnorm_reader.ensures in
-    let P : Option (List ℕ) → Type 0 = λ o. IfSome o (λ ids. k.1 ≤ length ids) in
-    (k.0, k.1, k.2, k.3, k.4, subst P is (ids_long k.1 c.args.field norms k.5))
+    ∥∥₁_map c.requires.known (λ k. (k.0, k.1, k.2, k.3, k.4, subst (λ (o : Option (List ℕ)). IfSome o (λ ids. k.1 ≤ length ids)) is (ids_long k.1 c.args.field norms k.5)))
 
 pub returns-clause-ok : goal.returns-clause-ok
 returns-clause-ok c schema num_docs all are =

@@ -1,4 +1,5 @@
-use Rattle.std.proofs.Common.{[], Bor, List, ap, cond, map, option_map, subst, sym, ◌≡◌, ◌∙◌, ℕ}
+use Rattle.std.proofs.Common.{[], Bor, IfSome, List, Option, ap, cond, length, map, option_map, subst, sym, ◌≡◌, ◌≤◌, ◌∙◌, ℕ}
+use Rattle.std.proofs.Math.Logic.{∥∥₁_map}
 use Rattle.std.proofs.lemmas.Result.{err_from_is_err_and}
 use Rattle.definitions.specs.Postings.{Posting}
 use Rattle.definitions.specs.Schema.{basic}
@@ -9,6 +10,9 @@ use Rattle.merged_fields.specs.MergedTerm.{IsMergedTerm, IsTermRefusal}
 use Rattle.postings_serializer.specs.TermWriting.{recorded_count}
 use Rattle.postings_writer.proofs.WrittenTerms.{close_passes, term_written}
 use Rattle.merged_fields.proofs.merged_term.merge_term.Goals as goal
+
+pub write_members-requires-clause-known : goal.write_members-requires-clause-known
+write_members-requires-clause-known c = ∥∥₁_map c.requires.known (λ k. (k.0, k.1, k.2, k.3, k.4, subst (λ (o : Option (List ℕ)). IfSome o (λ ids. k.1 ≤ length ids)) (sym c.in_ok-new_term.ensures.same.6) k.5))
 
 pub returns-in_err-write_members-clause-err : goal.returns-in_err-write_members-clause-err
 returns-in_err-write_members-clause-err c schema num_docs all key are first =

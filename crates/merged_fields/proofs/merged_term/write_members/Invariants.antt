@@ -4,6 +4,7 @@ use Rattle.layouts.specs.InvertedIndexes.{IndexedField}
 use Rattle.merged_fields.specs.Members.{AreMembers, end_after, merged_in}
 use Rattle.merged_postings.specs.Living.{has_some}
 use Rattle.merged_postings.specs.Written.{AreWritten}
+use Rattle.postings_serializer.specs.FieldWriting.{AreKept}
 use Rattle.merged_fields.proofs.merged_term.write_members.Given as goal
 
 -- the members so far were written
@@ -12,5 +13,5 @@ invariant-loop-number l = record {
   written : (schema : Schema) (num_docs : ℕ) (all : List (List IndexedField)) → AreMembers schema 0 num_docs l.members all → AreWritten l.fn.serializer l.serializer (merged_in l.field l.key (take l.number l.members) (take l.number all));
   some : (schema : Schema) (num_docs : ℕ) (all : List (List IndexedField)) → AreMembers schema 0 num_docs l.members all → l.some ≡ has_some (merged_in l.field l.key (take l.number l.members) (take l.number all));
   next : l.serializer.writing.next ≤ end_after 0 l.number l.members;
-  norms : l.serializer.writing.norms ≡ l.fn.serializer.writing.norms;
+  kept : AreKept l.fn.serializer l.serializer;
 }

@@ -1,7 +1,8 @@
-use Rattle.std.proofs.Common.{Bor, MatchOption, ap, option_map, subst, sym, ◌≡◌, ◌≤◌, ◌^◌, ◌∙◌}
+use Rattle.std.proofs.Common.{Bor, MatchOption, ap, length, option_map, subst, sym, ◌≡◌, ◌≤◌, ◌^◌, ◌∙◌}
+use Rattle.std.proofs.Math.Logic.{∥∥₁_map}
 use Rattle.inverted_index_reader.specs.Readers.{postings_in}
 use Rattle.inverted_index_reader.specs.declared.term_info.TermInfo.{TermInfo}
-use Rattle.merged_fields.proofs.MemberPostings.{contents_of, none_held}
+use Rattle.merged_fields.proofs.MemberPostings.{contents_of, none_from, none_held}
 use Rattle.merged_fields.proofs.TokensMerged.{tokens_read}
 use Rattle.merged_fields.specs.Members.{living_of}
 use Rattle.merged_fields.specs.Tokens.{tokens_of}
@@ -13,9 +14,7 @@ returns-in_default c schema fields is =
     sym (ap (λ ps. tokens_of (living_of c.args.self.now.doc_ids ps)) (none_held schema c.args.self.now fields c.args.field c.args.key.now is none))
 
 pub count_tokens-requires : goal.count_tokens-requires
-count_tokens-requires c =
-    let k = c.requires.known in
-    c.read_postings_from_terminfo-postings.ensures.within (contents_of k.0 c.args.self.now k.1 k.2)
+count_tokens-requires c = none_from (length c.args.self.now.doc_ids.flags) _ (∥∥₁_map c.requires.known (λ k. c.read_postings_from_terminfo-postings.ensures.within (contents_of k.0 c.args.self.now k.1 k.2)))
 
 pub returns : goal.returns
 returns c schema fields is =

@@ -1,8 +1,12 @@
-use Rattle.std.proofs.Common.{Bor, ap, option_map, subst, sym, ◌++◌, ◌≡◌, ◌∙◌}
+use Rattle.std.proofs.Common.{Bor, ap, length, option_map, subst, sym, ◌++◌, ◌<◌, ◌≡◌, ◌∙◌}
 use Rattle.std.specs.Result.{IfErr, IfOk, OnOk}
+use Rattle.std.proofs.Math.Logic.{∥∥₁_elim, ∥∥₁_map}
+use Rattle.std.proofs.Props.{props}
+use Rattle.std.specs.List.{AllByRecursion-prop}
+use Rattle.cursors.specs.Entries.{Entry}
 use Rattle.inverted_index_reader.specs.Readers.{postings_in}
 use Rattle.inverted_index_reader.specs.declared.term_info.TermInfo.{TermInfo}
-use Rattle.merged_fields.proofs.MemberPostings.{contents_of, counts_held, entries_counted, living_entries, none_held, nothing_written}
+use Rattle.merged_fields.proofs.MemberPostings.{contents_of, counts_held, entries_counted, living_entries, none_from, none_held, nothing_written}
 use Rattle.merged_fields.specs.Members.{living_of}
 use Rattle.merged_postings.specs.Living.{has_some}
 use Rattle.merged_postings.specs.Written.{AreWritten, IsWriteRefusal, counts_in}
@@ -19,14 +23,11 @@ returns-in_default-clause-some c schema fields is =
     sym (ap (λ ps. has_some (living_of c.args.self.now.doc_ids ps)) (none_held schema c.args.self.now fields c.args.field c.args.key.now is none))
 
 pub write_postings-requires-clause-within : goal.write_postings-requires-clause-within
-write_postings-requires-clause-within c =
-    let k = c.requires.known in
-    c.read_postings_from_terminfo-postings.ensures.within (contents_of k.0 c.args.self.now k.1 k.2)
+write_postings-requires-clause-within c = none_from (length c.args.self.now.doc_ids.flags) _ (∥∥₁_map c.requires.known (λ k. c.read_postings_from_terminfo-postings.ensures.within (contents_of k.0 c.args.self.now k.1 k.2)))
 
 pub write_postings-requires-clause-counted : goal.write_postings-requires-clause-counted
-write_postings-requires-clause-counted c =
-    let k = c.requires.known in
-    entries_counted _ (postings_in k.1 c.args.field c.args.key.now) (c.read_postings_from_terminfo-postings.ensures.ok (contents_of k.0 c.args.self.now k.1 k.2)) (counts_held k.0 c.args.self.now k.1 c.args.field c.args.key.now k.2)
+write_postings-requires-clause-counted c = ∥∥₁_elim c.requires.known (AllByRecursion-prop (λ (e : Entry). 0 < e.count) (λ e. hlevel props) _)
+    (λ k. entries_counted _ (postings_in k.1 c.args.field c.args.key.now) (c.read_postings_from_terminfo-postings.ensures.ok (contents_of k.0 c.args.self.now k.1 k.2)) (counts_held k.0 c.args.self.now k.1 c.args.field c.args.key.now k.2))
 
 pub returns-clause-ok : goal.returns-clause-ok
 returns-clause-ok c schema fields is =

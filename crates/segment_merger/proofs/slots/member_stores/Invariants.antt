@@ -1,0 +1,7 @@
+use Rattle.std.proofs.Common.{map, take, ◌≡◌}
+use Rattle.segment_merger.specs.Slots.{with_blocks}
+use Rattle.segment_merger.proofs.slots.member_stores.Given as goal
+
+-- the stores of the members so far
+abbrev pub invariant-loop-member : goal.invariant-loop-member
+invariant-loop-member l = map (λ s. (s.store.now.blocks, s.alive.now)) l.stores.items ≡ map with_blocks (take l.member-index l.members)

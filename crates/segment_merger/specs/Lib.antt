@@ -1,0 +1,4 @@
+-- Words of the contracts.
+pub mod Members
+pub mod Slots
+pub mod Limits

@@ -1,0 +1,10 @@
+//! Merges segments: many become one of their living documents, one member after the other.
+#![tactic(auto)]
+
+mod inverted_index;
+mod living;
+mod merger;
+mod norms;
+mod slots;
+
+pub use merger::merge_segments;

@@ -1,0 +1,26 @@
+//! Counts the living documents of the members of a merge.
+
+ghost use Rattle.std.specs.Prelude.{◌<◌, ◌≡◌, ◌≤◌, IfErr, IfOk};
+ghost use Rattle.definitions.specs.declared.fault.Fault.TheVariants as faults;
+ghost use Rattle.layouts.specs.Stores.{max_docs};
+ghost use Rattle.segment_merger.specs.Members.{living_count};
+
+use common::{AliveBitSet, TERMINATED};
+use definitions::Fault;
+use segment::Segment;
+
+/// How many documents are alive, which is `Limit` where no segment may have so many.
+pub(crate) fn num_living(members: &[(Segment, AliveBitSet)]) -> Result<u32, Fault>
+    ensures ok { IfOk result (λ n. (n ≡ living_count members.now) × (n ≤ max_docs)) }
+    ensures err { IfErr result (λ fault. (fault ≡ faults.Limit) × (max_docs < living_count members.now)) }
+{
+    let mut sum: u32 = 0;
+    for member in members {
+        let num_alive = member.1.num_alive();
+        if num_alive > (TERMINATED - sum) as usize {
+            return Err(Fault::Limit);
+        }
+        sum += num_alive as u32;
+    }
+    Ok(sum)
+}

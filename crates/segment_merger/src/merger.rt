@@ -1,0 +1,103 @@
+//! Merges segments.
+
+ghost use Rattle.std.specs.Prelude.{[], ◌<◌, ◌≡◌, ◌≢◌, ◌≤◌, IfErr, IfOk, IfSome, List, MatchOption, None, ℕ};
+ghost use Rattle.definitions.specs.Alive as alive;
+ghost use Rattle.definitions.specs.Alive.{live};
+ghost use Rattle.definitions.specs.Analyzers.{Analyzer};
+ghost use Rattle.definitions.specs.declared.fault.Fault.TheVariants as faults;
+ghost use Rattle.layouts.specs.Stores.{max_docs};
+ghost use Rattle.segment.specs.Opened.{IsOpened, StandsFor, num_docs_of};
+ghost use Rattle.segment_layouts.specs.Segments as layout;
+ghost use Rattle.segment_layouts.specs.Segments.{AreWritten, IsSegment, IsSegmentOf};
+ghost use Rattle.segment_merger.specs.Members.{AreOpened, StandFor, living_count};
+ghost use Rattle.segment_merger.specs.Limits.{DocumentsPass};
+ghost use Rattle.segment_merger.specs.Slots.{AreHeld};
+
+use crate::inverted_index::merge_terms;
+use crate::living::num_living;
+use crate::norms::merge_lengths;
+use crate::slots::merge_slots;
+use bytes::Bytes;
+use common::AliveBitSet;
+use definitions::Fault;
+use document_indexer::length_fields;
+use fieldnorms::FieldNormReaders;
+use schema::Schema;
+use segment::Segment;
+use segment_writer::Sections;
+use std::alloc::Global;
+
+/// The segment of the living documents of segments, one after the other; none where no document is alive. Blocks of its
+/// store are closed when their documents' bytes come over the block size; those of members whose documents are all
+/// alive stay as they are, without a look at their slots. It is opened, and keeps as many blocks as the cache has room
+/// for. Too many documents are `Limit` before anything is written.
+pub fn merge_segments(
+    alloc: Global,
+    schema: &Schema,
+    block_size: usize,
+    cache_num_blocks: usize,
+    members: &[(Segment, AliveBitSet)],
+) -> Result<Option<Segment>, Fault>
+    requires { ∥ AreOpened schema.now members.now ∥₁ }
+    ensures living { IfOk result (λ merged. MatchOption merged (living_count members.now ≡ 0)
+        (λ segment. (0 < living_count members.now) × (num_docs_of segment ≡ living_count members.now))) }
+    ensures opened { IfOk result (λ merged. IfSome merged (IsOpened schema.now)) }
+    ensures stands { (analyze : Analyzer) (segments : List alive.Segment)
+        → StandFor schema.now analyze members.now segments
+        → IfOk result (λ merged. MatchOption merged (live segments ≡ [])
+        (StandsFor schema.now analyze (live segments))) }
+    ensures err { IfErr result (λ fault. fault ≢ faults.OutOfMemory → fault ≢ faults.Limit
+        → (fault ≡ faults.Damaged None) × ((all : List (List (List ℕ))) → ¬ AreHeld members.now all)) }
+    ensures limit { (analyze : Analyzer) (segments : List alive.Segment)
+        → StandFor schema.now analyze members.now segments
+        → IfErr result (λ fault. fault ≢ faults.OutOfMemory → (fault ≡ faults.Limit)
+        × DocumentsPass schema.now analyze block_size (live segments)) }
+{
+    let num_docs = num_living(members)?;
+    if num_docs == 0 {
+        return Ok(None);
+    }
+    let bytes = merged_bytes(alloc, schema, block_size, members, num_docs)?;
+    let bytes = Bytes::from_vec(bytes)?;
+    let segment = Segment::open(alloc, schema, bytes, cache_num_blocks)?;
+    Ok(Some(segment))
+}
+
+/// The bytes of the segment of so many living documents.
+fn merged_bytes(
+    alloc: Global,
+    schema: &Schema,
+    block_size: usize,
+    members: &[(Segment, AliveBitSet)],
+    num_docs: u32,
+) -> Result<Vec<u8>, Fault>
+    requires opened { ∥ AreOpened schema.now members.now ∥₁ }
+    requires living { num_docs ≡ living_count members.now }
+    requires some { 0 < num_docs }
+    requires few { num_docs ≤ max_docs }
+    ensures written { IfOk result (λ bytes. (sections : layout.Sections) × AreWritten num_docs sections bytes.items) }
+    ensures held { (all : List (List (List ℕ))) → AreOpened schema.now members.now → AreHeld members.now all
+        → IfOk result (λ bytes. IsSegment schema.now num_docs bytes.items) }
+    ensures stands { (analyze : Analyzer) (segments : List alive.Segment)
+        → StandFor schema.now analyze members.now segments
+        → IfOk result (λ bytes. IsSegmentOf schema.now analyze (live segments) bytes.items) }
+    ensures err { IfErr result (λ fault. fault ≢ faults.OutOfMemory → fault ≢ faults.Limit
+        → (fault ≡ faults.Damaged None) × ((all : List (List (List ℕ))) → ¬ AreHeld members.now all)) }
+    ensures limit { (analyze : Analyzer) (segments : List alive.Segment)
+        → StandFor schema.now analyze members.now segments
+        → IfErr result (λ fault. fault ≢ faults.OutOfMemory → (fault ≡ faults.Limit)
+        × DocumentsPass schema.now analyze block_size (live segments)) }
+{
+    let fields = length_fields(alloc, schema)?;
+    let norms = merge_lengths(alloc, &fields, members)?;
+    let readers = FieldNormReaders::new(&norms, num_docs, &fields);
+    let (terms, postings, positions) = merge_terms(alloc, schema, members, &readers)?;
+    let sections = Sections {
+        terms,
+        postings,
+        positions,
+        norms,
+        store: merge_slots(alloc, block_size, members)?,
+    };
+    Ok(sections.to_segment(alloc, num_docs)?)
+}

@@ -1,0 +1,52 @@
+//! Writes the lengths of a merge.
+
+ghost use Rattle.std.specs.Prelude.{◌≡◌, IfOk, List, map, ℕ};
+ghost use Rattle.definitions.specs.Alive as alive;
+ghost use Rattle.definitions.specs.Alive.{live};
+ghost use Rattle.definitions.specs.Analyzers.{Analyzer};
+ghost use Rattle.definitions.specs.KeptLengths.{length_fields, norms_of};
+ghost use Rattle.definitions.specs.Schema.{Schema};
+ghost use Rattle.layouts.specs.FieldNorms.{IsNorms};
+ghost use Rattle.segment_merger.specs.Members.{AreOpened, StandFor, living_count, with_lengths};
+
+use common::AliveBitSet;
+use merged_norms::{MemberNorms, merge_norms};
+use segment::Segment;
+use std::alloc::{AllocError, Global};
+
+/// The section of the lengths of the members' living documents, in the fields that keep lengths.
+pub(crate) fn merge_lengths(
+    alloc: Global,
+    fields: &[u32],
+    members: &[(Segment, AliveBitSet)],
+) -> Result<Vec<u8>, AllocError>
+    requires { ∥ ((schema : Schema) × AreOpened schema members.now) ∥₁ }
+    ensures opened { (schema : Schema) → fields.now ≡ length_fields schema → AreOpened schema members.now
+        → IfOk result (λ bytes. (norms : List (ℕ × List ℕ))
+        × IsNorms (length_fields schema) (living_count members.now) bytes.items norms) }
+    ensures stands { (schema : Schema) (analyze : Analyzer) (segments : List alive.Segment)
+        → fields.now ≡ length_fields schema → StandFor schema analyze members.now segments
+        → IfOk result (λ bytes. IsNorms (length_fields schema) (living_count members.now) bytes.items
+        (norms_of schema analyze (live segments))) }
+{
+    let lengths = member_norms(alloc, members)?;
+    merge_norms(alloc, fields, &lengths)
+}
+
+/// The lengths of each member, and which of its documents are alive.
+fn member_norms<'a>(
+    alloc: Global,
+    members: &'a [(Segment, AliveBitSet)],
+) -> Result<Vec<MemberNorms<'a>>, AllocError>
+    requires { ∥ ((schema : Schema) × AreOpened schema members.now) ∥₁ }
+    ensures { IfOk result (λ norms. map (λ n. (n.norms, n.alive.now)) norms.items ≡ map with_lengths members.now) }
+{
+    let mut lengths = Vec::with_capacity(alloc, members.len())?;
+    for member in members {
+        lengths.push(MemberNorms {
+            norms: member.0.fieldnorms_readers(),
+            alive: &member.1,
+        })?;
+    }
+    Ok(lengths)
+}

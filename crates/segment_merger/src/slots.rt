@@ -1,0 +1,46 @@
+//! Writes the store of a merge.
+
+ghost use Rattle.std.specs.Prelude.{◌≡◌, IfErr, IfOk, List, map, ℕ};
+ghost use Rattle.definitions.specs.Schema.{Schema};
+ghost use Rattle.layouts.specs.Stores.{IsStore};
+ghost use Rattle.segment_merger.specs.Members.{AreOpened};
+ghost use Rattle.segment_merger.specs.Slots.{AreHeld, IsStoreRefusal, merged_slots, with_blocks};
+
+use common::AliveBitSet;
+use definitions::Fault;
+use merged_store::{MemberStore, merge_stores};
+use segment::Segment;
+use std::alloc::{AllocError, Global};
+
+/// The store of the living documents of the members.
+pub(crate) fn merge_slots(
+    alloc: Global,
+    block_size: usize,
+    members: &[(Segment, AliveBitSet)],
+) -> Result<Vec<u8>, Fault>
+    requires { ∥ ((schema : Schema) × AreOpened schema members.now) ∥₁ }
+    ensures ok { (all : List (List (List ℕ))) → AreHeld members.now all
+        → IfOk result (λ bytes. IsStore (merged_slots members.now all) bytes.items) }
+    ensures err { IfErr result (λ fault. IsStoreRefusal fault block_size members.now) }
+{
+    let stores = member_stores(alloc, members)?;
+    merge_stores(alloc, block_size, &stores)
+}
+
+/// The store of each member, and which of its documents are alive.
+fn member_stores<'a>(
+    alloc: Global,
+    members: &'a [(Segment, AliveBitSet)],
+) -> Result<Vec<MemberStore<'a>>, AllocError>
+    ensures { IfOk result (λ stores. map (λ s. (s.store.now.blocks, s.alive.now)) stores.items
+        ≡ map with_blocks members.now) }
+{
+    let mut stores = Vec::with_capacity(alloc, members.len())?;
+    for member in members {
+        stores.push(MemberStore {
+            store: member.0.store(),
+            alive: &member.1,
+        })?;
+    }
+    Ok(stores)
+}
