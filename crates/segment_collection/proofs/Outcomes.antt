@@ -1,0 +1,61 @@
+-- How calls end.
+use Rattle.std.proofs.Common.{Bool, Err, IfErr, None, Ok, Result, Some, ap, false, is_none, refl, subst, sym, true, true≢false, ⊎_elim, ◌≡◌, ◌≢◌, ◌⊎◌, ◌||◌}
+use Rattle.std.specs.Bool.{⊤}
+use Rattle.std.specs.Option.{option_or}
+use Rattle.std.specs.Result.{IsErrAnd}
+use Rattle.definitions.specs.Calls as calls
+use Rattle.definitions.specs.declared.fault.Fault.{Fault}
+use Rattle.definitions.specs.declared.fault.Fault.TheVariants as faults
+
+-- an answer that is this error
+pub err_same : (r : Result ⊤ Fault) (fault : Fault) → IsErrAnd r (λ e. e ≡ fault) → Err fault ≡ r
+err_same (Ok u) fault h = absurd h
+err_same (Err e) fault h = ap Err (sym h)
+
+-- what holds of an error holds of a result that has it
+pub err_has : {T : Type 0} (r : Result T Fault) (fault : Fault) (P : Fault → Type 0) → IsErrAnd r (λ e. e ≡ fault) → P fault → IfErr r P
+err_has (Ok x) fault P is p = tt
+err_has (Err e) fault P is p = subst P (sym is) p
+
+-- what follows of an error
+pub err_map : {T E : Type 0} (r : Result T E) (P Q : E → Type 0) → ((e : E) → P e → Q e) → IfErr r P → IfErr r Q
+err_map (Ok x) P Q f h = tt
+err_map (Err e) P Q f h = f e h
+
+-- where changes are taken the index is ready
+pub ready_of : (s : calls.Status) → calls.status_fault s false ≡ None → s ≡ calls.ready
+ready_of calls.ready e = refl
+ready_of calls.writer_closed e = absurd (true≢false (sym (ap is_none e)))
+ready_of calls.closed e = absurd (true≢false (sym (ap is_none e)))
+
+-- what a status refuses is refused
+pub status_refuses : (c : calls.Configuration) (x : calls.Index) (call : calls.Call) (fault : Fault) → calls.status_fault x.status (calls.only_reads call) ≡ Some fault → calls.call_fault c x call ≡ Some fault
+status_refuses c x call fault h = ap (λ o. option_or o (calls.own_fault c x.state call)) h
+
+-- what no status refuses is refused by its own tests
+pub own_refuses : (c : calls.Configuration) (x : calls.Index) (call : calls.Call) → calls.status_fault x.status (calls.only_reads call) ≡ None → calls.call_fault c x call ≡ calls.own_fault c x.state call
+own_refuses c x call h = ap (λ o. option_or o (calls.own_fault c x.state call)) h
+
+-- want of memory and limits are what may be met half way
+pub want_of : (fault : Fault) → (fault ≡ faults.OutOfMemory) ⊎ (fault ≡ faults.Limit) → calls.IsWant fault
+want_of fault want = ⊎_elim (λ e. subst calls.IsWant (sym e) calls.no_memory) (λ e. subst calls.IsWant (sym e) calls.limit_met) want
+
+-- what a call leaves that met want of memory or a limit half way
+pub half_way : (c : calls.Configuration) (x : calls.Index) (call : calls.Call) (fault : Fault) → (fault ≡ faults.OutOfMemory) ⊎ (fault ≡ faults.Limit) → calls.call_fault c x call ≡ None → (calls.is_add call || calls.is_commit call) ≡ true → calls.Leaves c x call (Err fault) (record { state = x.state; status = calls.writer_closed })
+half_way c x call fault want taken writes = calls.half_written fault (want_of fault want) taken writes
+
+-- a closed writer isn't ready, nor is a closed index
+abbrev is_stopped : calls.Status → Bool
+is_stopped calls.ready = false
+is_stopped calls.writer_closed = true
+is_stopped calls.closed = true
+
+pub writer_is_not_ready : calls.writer_closed ≢ calls.ready
+writer_is_not_ready e = true≢false (ap is_stopped e)
+
+pub closed_is_not_ready : calls.closed ≢ calls.ready
+closed_is_not_ready e = true≢false (ap is_stopped e)
+
+-- a commit is refused by its status alone
+pub commit_taken : (c : calls.Configuration) (x : calls.Index) → calls.status_fault x.status false ≡ None → calls.call_fault c x calls.commit_pending ≡ None
+commit_taken c x none = own_refuses c x calls.commit_pending none

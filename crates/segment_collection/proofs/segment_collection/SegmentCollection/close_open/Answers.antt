@@ -1,0 +1,45 @@
+use Rattle.std.proofs.Common.{[], ap, length, subst, sym, true≢false, ◌==◌, ◌∙◌, ◌∷◌, ◌≢◌}
+use Rattle.std.specs.List.{AllByRecursion}
+use Rattle.segment.specs.Opened.{StandsFor}
+use Rattle.segment_collection.proofs.BodyMade.{members_more}
+use Rattle.segment_collection.proofs.Flagging.{flagged_more, flagged_within}
+use Rattle.segment_collection.proofs.Standings.{closed_group, opened_more, opened_same}
+use Rattle.segment_collection.specs.Flags.{AreFlagged, members}
+use Rattle.segment_collection.specs.Given.{IsGiven}
+use Rattle.segment_collection.proofs.segment_collection.SegmentCollection.close_open.Goals as goal
+
+pub invariant_of-self-in-Break-branch-2 : goal.invariant_of-self-in-Break-branch-2
+invariant_of-self-in-Break-branch-2 g c =
+    let old = c.args.self.now in
+    record {
+      opened = opened_same old.schema old.segments.items c.push.new.self.items old.opened c.in_err-push.ensures.items;
+      flagged = subst (λ ss. AreFlagged ss old.alive.items) (sym c.in_err-push.ensures.items) old.flagged;
+      given = old.given;
+      few = old.few;
+    }
+
+pub invariant_of-self-2 : goal.invariant_of-self-2
+invariant_of-self-2 g c =
+    let old = c.args.self.now in
+    let segment = c.in_ok-segment.segment in
+    record {
+      opened = opened_more old.schema old.segments.items c.push.new.self.items segment old.opened c.in_ok-segment.ensures.ok.opened c.in_ok-push.ensures.items;
+      flagged = subst (λ ss. AreFlagged ss old.alive.items) (sym c.in_ok-push.ensures.items) (flagged_more old.segments.items (segment ∷ []) old.alive.items old.flagged);
+      given = subst (AllByRecursion (IsGiven old.schema)) (sym c.clear.ensures.items) tt;
+      few = old.few;
+    }
+
+pub returns-clause-closed : goal.returns-clause-closed
+returns-clause-closed g c docs h =
+    let old = c.args.self.now in
+    let analyze = g.A.Analyzer.analyze old.analyzer in
+    let segment = c.in_ok-segment.segment in
+    let stands = subst (λ ds. StandsFor old.schema analyze ds segment) c.deref.ensures.value c.in_ok-segment.ensures.ok in
+    let some : length old.open.items ≢ 0 = λ e. true≢false (sym (c.is_empty.ensures ∙ ap (λ n. n == 0) (old.open.ok.0 ∙ e)) ∙ c.if-is_empty.false) in
+    (closed_group old.schema analyze docs old.segments.items c.push.new.self.items old.open.items segment h stands c.in_ok-push.ensures.items some, c.clear.ensures.items)
+
+pub returns-clause-members : goal.returns-clause-members
+returns-clause-members g c =
+    let old = c.args.self.now in
+    let sets = old.alive.items in
+    ap (λ ss. members ss sets) c.in_ok-push.ensures.items ∙ members_more old.segments.items (c.in_ok-segment.segment ∷ []) sets (flagged_within old.segments.items sets old.flagged)

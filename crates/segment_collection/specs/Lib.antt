@@ -1,0 +1,8 @@
+-- Words of the contracts.
+pub mod Deletions
+pub mod Flags
+pub mod Given
+pub mod Bodies
+pub mod Members
+pub mod Standing
+pub mod Commits

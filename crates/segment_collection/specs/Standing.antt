@@ -1,0 +1,74 @@
+-- What a collection of segments stands for.
+use Rattle.std.specs.Prelude.{◌<◌, ◌≡◌, Bool, List, drop, length, map, take, ℕ}
+use Rattle.std.specs.List.{AllByRecursion, AllZip}
+use Rattle.definitions.specs.Alive.{live_groups}
+use Rattle.definitions.specs.Analyzers.{Analyzer}
+use Rattle.definitions.specs.Calls as calls
+use Rattle.definitions.specs.Schema.{Schema}
+use Rattle.definitions.specs.Settings.{Settings}
+use Rattle.definitions.specs.State.{Pending}
+use Rattle.definitions.specs.Step.{configuration_of}
+use Rattle.definitions.specs.Values.{Document}
+use Rattle.segment.specs.Opened.{StandsFor}
+use Rattle.segment.specs.declared.segment.Segment as code
+use Rattle.segment_layouts.specs.SegmentBodies.{Member}
+use Rattle.segment_lists.specs.Waiting.{Waits}
+use Rattle.segment_collection.specs.Deletions.{IsSmall, numbered}
+use Rattle.segment_collection.specs.Flags.{flagged_each, members}
+use Rattle.segment_collection.specs.declared.deletion.Deletion.{Deletion}
+use Rattle.segment_collection.specs.declared.segment_collection.SegmentCollection.{SegmentCollection}
+use Rattle.segment_collection.specs.declared.status.Status.{Status}
+use Rattle.segment_collection.specs.declared.status.Status.TheVariants as status
+
+-- what may still be done
+abbrev pub status_of : Status → calls.Status
+status_of status.Ready = calls.ready
+status_of status.WriterClosed = calls.writer_closed
+status_of status.Closed = calls.closed
+
+-- what waits: documents in full segments and in one that isn't, and deletions
+pub record IsWaiting (n : ℕ) (pending : List Pending) (full : List (List Document)) (last : List Document) (dels : List Deletion) : Type 0 where
+  pub waits : Waits n pending full last (map (numbered n) dels)
+  pub small : AllByRecursion (IsSmall n) dels
+
+-- The collection has this configuration and this status, and its segments are of documents, of which the living are
+-- committed. What waits matters while changes are taken alone.
+pub record Stands {A : Type 0} (analyze : A → Analyzer) (index : SegmentCollection A) (c : calls.Configuration) (x : calls.Index) : Type 0 where
+  pub made : c ≡ configuration_of index.schema (analyze index.analyzer) index.settings
+  pub status : x.status ≡ status_of index.status
+  pub sized : 0 < index.settings.docs_per_segment
+  pub docs : List (List Document)
+  pub segments : AllZip (StandsFor index.schema (analyze index.analyzer)) docs index.segments.items
+  pub groups : x.state.groups ≡ live_groups (flagged_each docs index.alive.items)
+  pub waits : x.status ≡ calls.ready → IsWaiting index.settings.docs_per_segment x.state.pending (drop (length index.alive.items) docs) index.open.items index.deletions.items
+
+-- made of the same schema, analyzer and settings
+pub record IsMadeAlike {A : Type 0} (old new : SegmentCollection A) : Type 0 where
+  pub analyzer : new.analyzer ≡ old.analyzer
+  pub schema : new.schema ≡ old.schema
+  pub settings : new.settings ≡ old.settings
+
+module _ {A : Type 0} where
+  -- what cuts its texts
+  abbrev pub analyzer_of : SegmentCollection A → A
+  analyzer_of index = index.analyzer
+
+  -- its fields
+  abbrev pub schema_of : SegmentCollection A → Schema
+  schema_of index = index.schema
+
+  -- its numbers for scores and segments
+  abbrev pub settings_of : SegmentCollection A → Settings
+  settings_of index = index.settings
+
+  -- the segments that are committed
+  abbrev pub committed_of : SegmentCollection A → List code.Segment
+  committed_of index = take (length index.alive.items) index.segments.items
+
+  -- which of their documents are alive
+  abbrev pub alive_of : SegmentCollection A → List (List Bool)
+  alive_of index = index.alive.items
+
+  -- the bytes of the segments that are committed, with a flag for each of their documents
+  abbrev pub members_of : SegmentCollection A → List Member
+  members_of index = members index.segments.items index.alive.items

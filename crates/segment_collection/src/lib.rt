@@ -1,0 +1,17 @@
+//! What an index over segments keeps in memory: segments that are committed, and which of their documents are alive;
+//! and what waits for a commit.
+#![tactic(auto)]
+
+mod clearing;
+mod commit_frame;
+mod deletion;
+mod next_sets;
+mod prepared;
+mod segment_collection;
+mod status;
+mod tests_of_calls;
+mod written_segment;
+
+pub use prepared::Prepared;
+pub use segment_collection::SegmentCollection;
+pub use status::Status;

@@ -1,0 +1,23 @@
+//! A commit that is prepared.
+
+ghost use Rattle.std.specs.Prelude.{◌≡◌};
+ghost use Rattle.segment_collection.specs.Commits.{frame_in};
+
+use common::AliveBitSet;
+
+/// What a commit writes and then installs.
+#[derive(Drop)]
+pub struct Prepared {
+    pub(crate) frame: Vec<u8>,
+    // One for each segment, those that were new too.
+    pub(crate) alive: Vec<AliveBitSet>,
+}
+
+impl Prepared {
+    /// The frame of the commit's record.
+    pub fn frame(&self) -> &[u8]
+        ensures { result.now ≡ frame_in self.now }
+    {
+        &self.frame
+    }
+}

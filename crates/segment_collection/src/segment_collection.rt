@@ -1,0 +1,332 @@
+//! The segments of an index, and what waits for a commit.
+
+ghost use Rattle.std.specs.Prelude.{[], ◌++◌, ◌<◌, ◌^◌, ◌∷◌, ◌≡◌, ◌≢◌, ◌≤◌, ◌⊎◌, Err, IfErr, IfOk, List, None, OnErr, OnOk, Some, false, length, map, true, ℕ};
+ghost use Rattle.std.specs.List.{AllByRecursion, AllByRecursion-prop, AllZip};
+ghost use Rattle.std.specs.Result.{result_err};
+ghost use Rattle.definitions.specs.Alive.{live_groups};
+ghost use Rattle.definitions.specs.Calls as calls;
+ghost use Rattle.definitions.specs.State as states;
+ghost use Rattle.definitions.specs.Step.{configuration_of, fresh_index, reopened};
+ghost use Rattle.definitions.specs.Values.{Document};
+ghost use Rattle.definitions.specs.declared.fault.Fault.TheVariants as faults;
+ghost use Rattle.records.specs.Frames.{frame_bytes};
+ghost use Rattle.segment.specs.Opened.{IsOpened, StandsFor};
+ghost use Rattle.segment_collection.specs.Flags.{AreFlagged, AreFlagged-prop, flagged_each};
+ghost use Rattle.segment_collection.specs.Given.{AreGiven-prop, IsGiven};
+ghost use Rattle.segment_files.specs.Lists.{IsListed, member_of};
+ghost use Rattle.segment_layouts.specs.SegmentBodies.{Makes};
+ghost use Rattle.segment_layouts.specs.SegmentFiles.{IsGroup};
+ghost use Rattle.segment_layouts.specs.Segments.{IsSegment};
+
+use crate::commit_frame::commit_frame;
+use crate::deletion::Deletion;
+use crate::next_sets::next_sets;
+use crate::prepared::Prepared;
+use crate::status::Status;
+use crate::tests_of_calls::{check_deletion, check_document};
+use crate::written_segment::written_segment;
+use common::{AliveBitSet, Analyzer};
+use definitions::Fault;
+use document::CompactDoc;
+use schema::Schema;
+use segment::Segment;
+use settings::Settings;
+use std::alloc::Global;
+use terms::Term;
+
+/// The most segments that an index commits.
+const MAX_SEGMENTS: usize = 4294967295;
+
+/// The segments of an index: those that are committed, which searches see, each with which of its documents are alive;
+/// and what waits for a commit, documents and deletions. The documents of a segment that isn't full wait as they are, and
+/// are indexed when it is full or committed.
+#[derive(Drop)]
+pub struct SegmentCollection<A> {
+    pub(crate) alloc: Global,
+    pub(crate) analyzer: A,
+    pub(crate) schema: Schema,
+    pub(crate) settings: Settings,
+    // Those that are committed, and behind them those that wait and are full.
+    pub(crate) segments: Vec<Segment>,
+    // One for each that is committed.
+    pub(crate) alive: Vec<AliveBitSet>,
+    // The documents of the segment that isn't full.
+    pub(crate) open: Vec<CompactDoc>,
+    pub(crate) deletions: Vec<Deletion>,
+    pub(crate) status: Status,
+    ghost opened: { ∥ AllByRecursion (IsOpened schema) segments.items ∥₁ },
+    ghost flagged: { AreFlagged segments.items alive.items } by { AreFlagged-prop segments.items alive.items },
+    ghost given: { AllByRecursion (IsGiven schema) open.items } by { AreGiven-prop schema open.items },
+    ghost few: { length alive.items < 2 ^ 32 },
+}
+
+impl<A: Analyzer + Drop> SegmentCollection<A> {
+    ghost use Rattle.segment_collection.specs.Commits.{IsPrepared, frame_in, members_with, sets_in};
+    ghost use Rattle.segment_collection.specs.Standing.{IsMadeAlike, Stands, alive_of, analyzer_of, committed_of, members_of, schema_of, settings_of, status_of};
+
+    /// A collection without documents.
+    pub fn new(
+        alloc: Global,
+        analyzer: A,
+        schema: Schema,
+        settings: Settings,
+    ) -> SegmentCollection<A>
+        ensures stands { Stands A.analyze result (configuration_of schema (A.analyze analyzer) settings) fresh_index }
+        ensures made { (schema_of result ≡ schema) × (settings_of result ≡ settings) × (analyzer_of result ≡ analyzer) }
+        ensures none { members_of result ≡ [] }
+    {
+        let _docs_per_segment = settings.docs_per_segment();
+        let segments = Vec::new(alloc);
+        let alive = Vec::new(alloc);
+        let open = Vec::new(alloc);
+        let deletions = Vec::new(alloc);
+        SegmentCollection {
+            alloc,
+            analyzer,
+            schema,
+            settings,
+            segments,
+            alive,
+            open,
+            deletions,
+            status: Status::Ready,
+        }
+    }
+
+    /// The analyzer; what waits is dropped.
+    pub fn into_analyzer(self) -> A
+        ensures { result ≡ analyzer_of self }
+    {
+        let SegmentCollection { analyzer, .. } = self;
+        analyzer
+    }
+
+    /// The fields.
+    pub fn schema(&self) -> &Schema
+        ensures { result.now ≡ schema_of self.now }
+    {
+        &self.schema
+    }
+
+    /// The settings.
+    pub fn settings(&self) -> &Settings
+        ensures { result.now ≡ settings_of self.now }
+    {
+        &self.settings
+    }
+
+    /// What the index may still do.
+    pub fn state(&self) -> Status
+        ensures { (c : calls.Configuration) (x : calls.Index) → Stands A.analyze self.now c x
+            → x.status ≡ status_of result }
+    {
+        self.status
+    }
+
+    /// Whether searches are answered.
+    pub fn check_open(&self) -> Result<(), Fault>
+        ensures { (c : calls.Configuration) (x : calls.Index) → Stands A.analyze self.now c x
+            → result_err result ≡ calls.status_fault x.status true }
+    {
+        match self.status {
+            Status::Ready | Status::WriterClosed => Ok(()),
+            Status::Closed => Err(Fault::Closed),
+        }
+    }
+
+    /// Whether changes are taken.
+    fn check_writer(&self) -> Result<(), Fault>
+        ensures value { result_err result ≡ calls.status_fault (status_of self.now.status) false }
+        ensures fault { IfErr result (λ fault. (fault ≡ faults.WriterClosed) ⊎ (fault ≡ faults.Closed)) }
+    {
+        match self.status {
+            Status::Ready => Ok(()),
+            Status::WriterClosed => Err(Fault::WriterClosed),
+            Status::Closed => Err(Fault::Closed),
+        }
+    }
+
+    /// Adds a document; a search sees it after the next commit. One of an unknown field is `UnknownField`, and one with a
+    /// value that can't be indexed `NotIndexable`. Where it fills a segment, the segment is written: want of memory or a
+    /// limit then closes the writer.
+    pub fn add_document(&mut self, doc: CompactDoc) -> Result<(), Fault>
+        ensures left { (c : calls.Configuration) (x : calls.Index) → Stands A.analyze self.old c x
+            → (y : calls.Index) × calls.Leaves c x (calls.add_document doc) result y × Stands A.analyze self.new c y }
+        ensures exact { (c : calls.Configuration) (x : calls.Index) → Stands A.analyze self.old c x
+            → IfErr result (λ fault. fault ≢ faults.OutOfMemory → fault ≢ faults.Limit
+            → calls.call_fault c x (calls.add_document doc) ≡ Some fault) }
+        ensures made { IsMadeAlike self.old self.new }
+        ensures members { members_of self.new ≡ members_of self.old }
+    {
+        self.check_writer()?;
+        check_document(&self.schema, &doc)?;
+        self.open.push(doc)?;
+        if self.open.len() < self.settings.docs_per_segment() as usize {
+            return Ok(());
+        }
+        self.status = Status::WriterClosed;
+        self.close_open()?;
+        self.status = Status::Ready;
+        Ok(())
+    }
+
+    /// Deletes the documents with a term that were added before; a search misses them after the next commit. A term of an
+    /// unknown field is `UnknownField`, one of a field that isn't indexed `NotIndexed`.
+    pub fn delete_term(&mut self, term: &Term) -> Result<(), Fault>
+        ensures left { (c : calls.Configuration) (x : calls.Index) → Stands A.analyze self.old c x
+            → (y : calls.Index) × calls.Leaves c x (calls.delete_term term.now) result y × Stands A.analyze self.new c y }
+        ensures exact { (c : calls.Configuration) (x : calls.Index) → Stands A.analyze self.old c x
+            → IfErr result (λ fault. fault ≢ faults.OutOfMemory
+            → calls.call_fault c x (calls.delete_term term.now) ≡ Some fault) }
+        ensures made { IsMadeAlike self.old self.new }
+        ensures members { members_of self.new ≡ members_of self.old }
+    {
+        self.check_writer()?;
+        check_deletion(&self.schema, term)?;
+        let deletion = Deletion {
+            term: copied(self.alloc, term)?,
+            segments: self.segments.len() - self.alive.len(),
+            docs: self.open.len(),
+        };
+        self.deletions.push(deletion)?;
+        Ok(())
+    }
+
+    /// Makes a full segment of the documents that wait in one that isn't, where there are any.
+    fn close_open(&mut self) -> Result<(), Fault>
+        ensures err { IfErr result (λ fault. (fault ≡ faults.OutOfMemory) ⊎ (fault ≡ faults.Limit)) }
+        ensures closed { (docs : List (List Document))
+            → AllZip (StandsFor self.old.schema (A.analyze self.old.analyzer)) docs self.old.segments.items
+            → OnOk result (AllZip (StandsFor self.old.schema (A.analyze self.old.analyzer))
+            (docs ++ states.as_group self.old.open.items) self.new.segments.items × (self.new.open.items ≡ [])) }
+        ensures stands { (docs : List (List Document))
+            → AllZip (StandsFor self.old.schema (A.analyze self.old.analyzer)) docs self.old.segments.items
+            → OnErr result (AllZip (StandsFor self.old.schema (A.analyze self.old.analyzer)) docs self.new.segments.items) }
+        ensures made { IsMadeAlike self.old self.new }
+        ensures same { (self.new.alive.items ≡ self.old.alive.items) × (self.new.deletions.items ≡ self.old.deletions.items)
+            × (self.new.status ≡ self.old.status) }
+        ensures members { members_of self.new ≡ members_of self.old }
+    {
+        if self.open.is_empty() {
+            return Ok(());
+        }
+        let segment = written_segment(
+            self.alloc,
+            &self.analyzer,
+            &self.schema,
+            &self.settings,
+            &self.open,
+        )?;
+        self.segments.push(segment)?;
+        self.open.clear();
+        Ok(())
+    }
+
+    /// Makes what a commit writes and installs, in memory: all that it takes is found here. Past the greatest number of
+    /// segments it is `Limit`. Until the commit is installed no other change is taken.
+    pub fn prepare(&mut self) -> Result<Prepared, Fault>
+        ensures prepared { (c : calls.Configuration) (x : calls.Index) → Stands A.analyze self.old c x
+            → IfOk result (λ prepared. IsPrepared A.analyze self.new (sets_in prepared) c x) }
+        ensures taken { (c : calls.Configuration) (x : calls.Index) → Stands A.analyze self.old c x
+            → OnOk result (x.status ≡ calls.ready) }
+        ensures stopped { (c : calls.Configuration) (x : calls.Index) → Stands A.analyze self.old c x
+            → OnOk result (Stands A.analyze self.new c (record { state = x.state; status = calls.writer_closed })) }
+        ensures left { (c : calls.Configuration) (x : calls.Index) → Stands A.analyze self.old c x
+            → IfErr result (λ fault. (y : calls.Index) × calls.Leaves c x calls.commit_pending (Err fault) y
+            × Stands A.analyze self.new c y) }
+        ensures exact { (c : calls.Configuration) (x : calls.Index) → Stands A.analyze self.old c x
+            → IfErr result (λ fault. fault ≢ faults.OutOfMemory → fault ≢ faults.Limit
+            → calls.call_fault c x calls.commit_pending ≡ Some fault) }
+        ensures body { (c : calls.Configuration) (x : calls.Index) → Stands A.analyze self.old c x
+            → IfOk result (λ prepared. (body : List ℕ) × (frame_in prepared ≡ frame_bytes body)
+            × Makes (IsSegment c.schema) (members_of self.old) (members_with self.new prepared) body) }
+        ensures flagged { IfOk result (λ prepared. AreFlagged self.new.segments.items (sets_in prepared)) }
+        ensures few { IfOk result (λ prepared. length (sets_in prepared) < 2 ^ 32) }
+        ensures made { IsMadeAlike self.old self.new }
+        ensures members { members_of self.new ≡ members_of self.old }
+    {
+        self.check_writer()?;
+        self.status = Status::WriterClosed;
+        self.close_open()?;
+        if self.segments.len() > MAX_SEGMENTS {
+            return Err(Fault::Limit);
+        }
+        let alive = next_sets(self.alloc, &self.segments, &self.alive, &self.deletions)?;
+        let frame = commit_frame(self.alloc, &self.segments, self.alive.len(), &alive)?;
+        Ok(Prepared { frame, alive })
+    }
+
+    /// Makes searches see what was prepared, and changes are taken again. It takes no memory.
+    pub fn install(&mut self, prepared: Prepared)
+        requires flagged { AreFlagged self.old.segments.items (sets_in prepared) }
+        requires few { length (sets_in prepared) < 2 ^ 32 }
+        ensures left { (c : calls.Configuration) (x : calls.Index) → IsPrepared A.analyze self.old (sets_in prepared) c x
+            → Stands A.analyze self.new c
+            (record { state = calls.after c x.state calls.commit_pending; status = calls.ready }) }
+        ensures made { IsMadeAlike self.old self.new }
+        ensures members { members_of self.new ≡ members_with self.old prepared }
+    {
+        let Prepared { alive, .. } = prepared;
+        self.alive = alive;
+        self.deletions.clear();
+        self.status = Status::Ready;
+    }
+
+    /// Takes no more calls but those of this status, which isn't that of all calls.
+    pub fn stop(&mut self, status: Status)
+        requires { status_of status ≢ calls.ready }
+        ensures left { (c : calls.Configuration) (x : calls.Index) → Stands A.analyze self.old c x
+            → Stands A.analyze self.new c (record { state = x.state; status = status_of status }) }
+        ensures made { IsMadeAlike self.old self.new }
+        ensures members { members_of self.new ≡ members_of self.old }
+    {
+        self.status = status;
+    }
+
+    /// How many segments are committed, those without living documents too.
+    pub fn num_segments(&self) -> usize
+        ensures { (c : calls.Configuration) (x : calls.Index) → Stands A.analyze self.now c x
+            → result ≡ states.num_segments x.state }
+    {
+        self.alive.len()
+    }
+
+    /// How many documents are committed and alive.
+    pub fn num_docs(&self) -> u64
+        ensures { (c : calls.Configuration) (x : calls.Index) → Stands A.analyze self.now c x
+            → result ≡ states.num_docs x.state }
+    {
+        let mut count = 0;
+        for set in &self.alive {
+            let _documents = set.len();
+            count += set.num_alive() as u64;
+        }
+        count
+    }
+
+    /// The segments that are committed.
+    pub fn segments(&self) -> &[Segment]
+        ensures value { result.now ≡ committed_of self.now }
+        ensures opened { ∥ AllByRecursion (IsOpened (schema_of self.now)) result.now ∥₁ }
+        ensures flagged { AreFlagged result.now (alive_of self.now) }
+        ensures each { length result.now ≡ length (alive_of self.now) }
+    {
+        &self.segments[..self.alive.len()]
+    }
+
+    /// Which of their documents are alive, a set for each.
+    pub fn alive(&self) -> &[AliveBitSet]
+        ensures { result.now ≡ alive_of self.now }
+    {
+        &self.alive
+    }
+}
+
+/// The same term, in memory of its own.
+fn copied(alloc: Global, term: &Term) -> Result<Term, Fault>
+    ensures value { IfOk result (λ copy. copy ≡ term.now) }
+    ensures err { IfErr result (λ fault. fault ≡ faults.OutOfMemory) }
+{
+    let _type = term.typ();
+    Term::wrap(term.serialized_term().to_vec(alloc)?)
+}

@@ -1,0 +1,50 @@
+//! What an add and a deletion are refused by.
+
+ghost use Rattle.std.specs.Prelude.{◌≡◌, OnOk};
+ghost use Rattle.std.specs.Result.{result_err};
+ghost use Rattle.definitions.specs.Calls.{delete_fault, document_given, has_unknown_field};
+ghost use Rattle.segment_collection.specs.Given.{IsGiven};
+
+use definitions::Fault;
+use document::CompactDoc;
+use schema::Schema;
+use terms::Term;
+
+/// Why an add doesn't take a document: the schema lacks a field of it, or else a value can't be indexed.
+pub(crate) fn check_document(schema: &Schema, doc: &CompactDoc) -> Result<(), Fault>
+    ensures fault { result_err result ≡ result_err (document_given schema.now doc.now) }
+    ensures given { OnOk result (IsGiven schema.now doc.now) }
+{
+    if has_unknown_field(schema, doc) {
+        return Err(Fault::UnknownField);
+    }
+    if !doc.indexable(schema) {
+        return Err(Fault::NotIndexable);
+    }
+    Ok(())
+}
+
+/// Whether there is a value of a field that the schema lacks.
+fn has_unknown_field(schema: &Schema, doc: &CompactDoc) -> bool
+    ensures { result ≡ has_unknown_field schema.now doc.now }
+{
+    for (field, _) in doc.field_values() {
+        if field.field_id() as usize >= schema.num_fields() {
+            return true;
+        }
+    }
+    false
+}
+
+/// Why no documents are deleted by a term: the schema lacks its field, or that isn't indexed.
+pub(crate) fn check_deletion(schema: &Schema, term: &Term) -> Result<(), Fault>
+    ensures { result_err result ≡ delete_fault schema.now term.now }
+{
+    if term.field().field_id() as usize >= schema.num_fields() {
+        return Err(Fault::UnknownField);
+    }
+    if !schema.get_field_entry(term.field()).is_indexed() {
+        return Err(Fault::NotIndexed);
+    }
+    Ok(())
+}

@@ -1,0 +1,67 @@
+//! A segment, written of documents and opened.
+
+ghost use Rattle.std.specs.Prelude.{◌<◌, ◌≡◌, ◌⊎◌, IfErr, IfOk, length};
+ghost use Rattle.std.specs.List.{AllByRecursion};
+ghost use Rattle.definitions.specs.declared.fault.Fault.TheVariants as faults;
+ghost use Rattle.segment.specs.Opened.{StandsFor};
+ghost use Rattle.segment_collection.specs.Given.{IsGiven};
+ghost use Rattle.segment_layouts.specs.Segments.{IsSegmentOf};
+
+use bytes::Bytes;
+use common::Analyzer;
+use definitions::Fault;
+use document::CompactDoc;
+use schema::Schema;
+use segment::Segment;
+use segment_writer::SegmentWriter;
+use settings::Settings;
+use std::alloc::Global;
+
+/// The segment of these documents, opened.
+pub(crate) fn written_segment<A: Analyzer>(
+    alloc: Global,
+    analyzer: &A,
+    schema: &Schema,
+    settings: &Settings,
+    docs: &[CompactDoc],
+) -> Result<Segment, Fault>
+    requires some { 0 < length docs.now }
+    requires given { AllByRecursion (IsGiven schema.now) docs.now }
+    ensures ok { IfOk result (StandsFor schema.now (A.analyze analyzer.now) docs.now) }
+    ensures err { IfErr result (λ fault. (fault ≡ faults.OutOfMemory) ⊎ (fault ≡ faults.Limit)) }
+{
+    let bytes = written_bytes(
+        alloc,
+        analyzer,
+        schema,
+        settings.block_size() as usize,
+        docs,
+    )?;
+    let bytes = Bytes::from_vec(bytes)?;
+    // It is a segment, so that memory alone may be wanting.
+    match Segment::open(alloc, schema, bytes, settings.cache_blocks() as usize) {
+        Ok(segment) => Ok(segment),
+        Err(_) => Err(Fault::OutOfMemory),
+    }
+}
+
+/// The bytes of the segment of these documents.
+fn written_bytes<A: Analyzer>(
+    alloc: Global,
+    analyzer: &A,
+    schema: &Schema,
+    block_size: usize,
+    docs: &[CompactDoc],
+) -> Result<Vec<u8>, Fault>
+    requires some { 0 < length docs.now }
+    requires given { AllByRecursion (IsGiven schema.now) docs.now }
+    ensures ok { IfOk result (λ bytes. IsSegmentOf schema.now (A.analyze analyzer.now) docs.now bytes.items) }
+    ensures err { IfErr result (λ fault. (fault ≡ faults.OutOfMemory) ⊎ (fault ≡ faults.Limit)) }
+{
+    let mut writer = SegmentWriter::new(alloc, schema, block_size)?;
+    for doc in docs {
+        let _pairs = doc.len();
+        writer.add(schema, analyzer, doc)?;
+    }
+    writer.close(schema)
+}
