@@ -3,11 +3,7 @@
 //! its answer.
 #![tactic(auto)]
 
-mod given_terms;
-mod nodes;
 mod operations;
-mod parts;
-mod steps;
 
 use case_lines::answers;
 use operations::QueryOperations;

@@ -1,10 +1,8 @@
 //! Operations by their names.
 
-use crate::given_terms::weighted_terms;
-use crate::parts::items;
-use crate::steps::query;
 use case_lines::{Arguments, Cell, Operations, Refusal, cells, flag, hex, number, pair, text};
 use query::{AnyQuery, Query, QueryClone, check_query};
+use query_lines::{items_in, query_by_steps, settings_in};
 use schema::Schema;
 use serde_json::Value;
 use settings::Settings;
@@ -41,29 +39,21 @@ impl Operations for QueryOperations {
                 Ok(number(self.schema.num_fields() as u64))
             }
             "weights" => {
-                self.settings = settings(alloc, arguments)?;
+                self.settings = settings_in(alloc, arguments)?;
                 Ok(flag(true))
             }
             "refusal" => {
-                let query = query(alloc, items(arguments.value(0)?)?)?;
+                let query = query_by_steps(alloc, items_in(arguments.value(0)?)?)?;
                 check_query(&self.schema, &self.settings, &query)?;
                 Ok(flag(true))
             }
             _ => told(
                 alloc,
                 operation,
-                &query(alloc, items(arguments.value(0)?)?)?,
+                &query_by_steps(alloc, items_in(arguments.value(0)?)?)?,
             ),
         }
     }
-}
-
-/// Settings with a default weight and the weights of terms.
-fn settings(alloc: Global, arguments: &Arguments) -> Result<Settings, Refusal> {
-    let default_weight = arguments.number(0)?;
-    let weights = weighted_terms(alloc, arguments.value(1)?)?;
-    let norms = Vec::from_elem(alloc, 1, 256)?;
-    Ok(Settings::new(alloc, 1, 1, 1, default_weight, weights, norms)?)
 }
 
 /// What a query tells: `terms` the terms that it reads, `copied` those of a copy, `clauses` the minimum of a bool,

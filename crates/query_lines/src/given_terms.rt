@@ -1,13 +1,14 @@
 //! Terms: a text of the first field, `[FIELD, TEXT]`, `[FIELD, NUMBER]`, or `["hex", DIGITS]`.
 
-use crate::parts::{items, number_in, part, small_in, text_in};
+use crate::parts::{items_in, small_in};
 use case_lines::{Refusal, bytes_of_digits};
+use document_lines::{number_in, part, text_in};
 use serde_json::Value;
 use std::alloc::Global;
 use terms::{Field, Term};
 
 /// A term.
-pub(crate) fn term(alloc: Global, value: &Value) -> Result<Term, Refusal> {
+pub fn term_in(alloc: Global, value: &Value) -> Result<Term, Refusal> {
     if let Some(text) = value.as_str() {
         return Ok(Term::from_field_text(alloc, Field::from_field_id(0), text)?);
     }
@@ -22,29 +23,29 @@ pub(crate) fn term(alloc: Global, value: &Value) -> Result<Term, Refusal> {
 }
 
 /// Terms, in order.
-pub(crate) fn terms(alloc: Global, value: &Value) -> Result<Vec<Term>, Refusal> {
+pub(crate) fn terms_in(alloc: Global, value: &Value) -> Result<Vec<Term>, Refusal> {
     let mut terms = Vec::new(alloc);
-    for item in items(value)? {
-        terms.push(term(alloc, item)?)?;
+    for item in items_in(value)? {
+        terms.push(term_in(alloc, item)?)?;
     }
     Ok(terms)
 }
 
 /// Terms with offsets: `[[OFFSET, TERM], ..]`.
-pub(crate) fn placed_terms(alloc: Global, value: &Value) -> Result<Vec<(usize, Term)>, Refusal> {
+pub(crate) fn placed_terms_in(alloc: Global, value: &Value) -> Result<Vec<(usize, Term)>, Refusal> {
     let mut terms = Vec::new(alloc);
-    for item in items(value)? {
+    for item in items_in(value)? {
         let offset = number_in(part(item, 0)?)? as usize;
-        terms.push((offset, term(alloc, part(item, 1)?)?))?;
+        terms.push((offset, term_in(alloc, part(item, 1)?)?))?;
     }
     Ok(terms)
 }
 
 /// Terms with weights: `[[TERM, WEIGHT], ..]`.
-pub(crate) fn weighted_terms(alloc: Global, value: &Value) -> Result<Vec<(Term, u64)>, Refusal> {
+pub(crate) fn weighted_terms_in(alloc: Global, value: &Value) -> Result<Vec<(Term, u64)>, Refusal> {
     let mut terms = Vec::new(alloc);
-    for item in items(value)? {
-        terms.push((term(alloc, part(item, 0)?)?, number_in(part(item, 1)?)?))?;
+    for item in items_in(value)? {
+        terms.push((term_in(alloc, part(item, 0)?)?, number_in(part(item, 1)?)?))?;
     }
     Ok(terms)
 }

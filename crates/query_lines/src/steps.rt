@@ -3,12 +3,12 @@
 use crate::given_terms::name;
 use crate::nodes::{add_clauses, add_constant, add_disjuncts, add_leaf, add_times, add_union};
 use case_lines::Refusal;
-use query::AnyQuery;
+use query_trees::AnyQuery;
 use serde_json::Value;
 use std::alloc::Global;
 
 /// The query that is left after all steps.
-pub(crate) fn query(alloc: Global, steps: &[Value]) -> Result<AnyQuery, Refusal> {
+pub fn query_by_steps(alloc: Global, steps: &[Value]) -> Result<AnyQuery, Refusal> {
     let mut made = Vec::new(alloc);
     for step in steps {
         take_step(alloc, &mut made, step)?;

@@ -1,17 +1,19 @@
 //! The nodes of queries, by steps.
 
-use crate::given_terms::{name, placed_terms, term, terms};
-use crate::parts::{items, number_in, part, signed_in, small_in, text_in};
+use crate::given_terms::{name, placed_terms_in, term_in, terms_in};
+use crate::parts::{items_in, small_in};
 use case_lines::Refusal;
+use document_lines::{number_in, part, signed_in, text_in};
 use options::IndexRecordOption;
-use query::{
+use query_trees::{
     AllQuery, AnyQuery, BooleanQuery, BoostQuery, ConstScoreQuery, DisjunctionMaxQuery, EmptyQuery,
     Occur, PhrasePrefixQuery, PhraseQuery, TermQuery, are_phrase_terms,
 };
 use serde_json::Value;
 use std::alloc::Global;
 
-/// Adds a query without queries in it: `["all"]`, `["none"]`, `["term", TERM]`, `["any", TERMS]`, and phrases.
+/// Adds a query without queries in it: `["all"]`, `["none"]`, `["term", TERM]`, also with what is read of the term,
+/// `["any", TERMS]`, and phrases.
 pub(crate) fn add_leaf(
     alloc: Global,
     made: &mut Vec<AnyQuery>,
@@ -21,11 +23,11 @@ pub(crate) fn add_leaf(
         "all" => AnyQuery::All(AllQuery),
         "none" => AnyQuery::Empty(EmptyQuery),
         "term" => {
-            let term = term(alloc, part(step, 1)?)?;
-            AnyQuery::Term(TermQuery::new(term, IndexRecordOption::WithFreqs))
+            let term = term_in(alloc, part(step, 1)?)?;
+            AnyQuery::Term(TermQuery::new(term, record_option(step.get(2))?))
         }
         "any" => {
-            let terms = terms(alloc, part(step, 1)?)?;
+            let terms = terms_in(alloc, part(step, 1)?)?;
             AnyQuery::Boolean(BooleanQuery::new_multiterms_query(alloc, terms)?)
         }
         "phrase" => AnyQuery::Phrase(phrase(alloc, step)?),
@@ -36,9 +38,22 @@ pub(crate) fn add_leaf(
     Ok(())
 }
 
+/// What is read of a term, by its name; counts where none is given.
+fn record_option(name: Option<&Value>) -> Result<IndexRecordOption, Refusal> {
+    let Some(name) = name else {
+        return Ok(IndexRecordOption::WithFreqs);
+    };
+    match text_in(name)? {
+        "basic" => Ok(IndexRecordOption::Basic),
+        "freq" => Ok(IndexRecordOption::WithFreqs),
+        "position" => Ok(IndexRecordOption::WithFreqsAndPositions),
+        _ => Err(Refusal::NotAsked),
+    }
+}
+
 /// `["phrase", [[OFFSET, TERM], ..]]`, and with a slop.
 fn phrase(alloc: Global, step: &Value) -> Result<PhraseQuery, Refusal> {
-    let terms = placed_terms(alloc, part(step, 1)?)?;
+    let terms = placed_terms_in(alloc, part(step, 1)?)?;
     if !are_phrase_terms(2, &terms) {
         return Err(Refusal::NotAsked);
     }
@@ -54,7 +69,7 @@ fn phrase(alloc: Global, step: &Value) -> Result<PhraseQuery, Refusal> {
 
 /// `["begun", [[OFFSET, TERM], ..]]`, and with a limit of expansions.
 fn begun(alloc: Global, step: &Value) -> Result<PhrasePrefixQuery, Refusal> {
-    let terms = placed_terms(alloc, part(step, 1)?)?;
+    let terms = placed_terms_in(alloc, part(step, 1)?)?;
     if !are_phrase_terms(1, &terms) {
         return Err(Refusal::NotAsked);
     }
@@ -72,7 +87,7 @@ pub(crate) fn add_clauses(
     made: &mut Vec<AnyQuery>,
     step: &Value,
 ) -> Result<(), Refusal> {
-    let asked = items(part(step, 1)?)?;
+    let asked = items_in(part(step, 1)?)?;
     let mut clauses = Vec::new(alloc);
     for asks in asked.iter().rev() {
         clauses.push((occur(text_in(asks)?)?, last(made)?))?;
