@@ -18,19 +18,10 @@ use Rattle.definitions.specs.Values.{Document}
 use Rattle.leaf_scorers.specs.ScoredEntries.{greatest_score, pairs_of}
 use Rattle.node_scorers.specs.Scores.{Scores}
 use Rattle.phrase_weights.specs.PlacedAnswers.{whole_weight}
+use Rattle.reader_scorers.proofs.FormScores.{none_scores}
 use Rattle.segment_reader.specs.SegmentReaders.{StandsFor, max_doc_of}
 use Rattle.segment_reader.specs.declared.segment_reader.SegmentReader.{SegmentReader}
 use Rattle.weights.specs.Weighed.{under}
-
--- a scorer of no document, where none is answered
-pub none_scores : (sim : Similarity) (b : ℕ) (q : Query) (r : SegmentReader) (es : List Entry) → es ≡ [] → ((schema : Schema) (analyze : Analyzer) (docs : List Document) → StandsFor schema analyze docs r → tree_fault schema sim.weight b q ≡ None → answers schema analyze sim b q docs ≡ []) → Scores sim b q r es
-none_scores sim b q r es none lack =
-    let no_score = ap greatest_score none in
-    record {
-      answers_are = λ schema analyze docs stands passes. ap pairs_of none ∙ sym (lack schema analyze docs stands passes);
-      within = ap (from (max_doc_of r)) none;
-      bounded = omega (arith, no_score);
-    }
 
 -- under no boost weights tell nothing
 zero_times : (x y : ℕ) → 0 * x ≡ 0 * y

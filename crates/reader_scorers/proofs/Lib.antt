@@ -1,0 +1,3 @@
+-- Lemmas behind the scorers of segments.
+pub mod FormScores
+pub mod SamePairs

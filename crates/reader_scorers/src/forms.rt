@@ -1,0 +1,146 @@
+//! Scorers of queries of each kind.
+
+ghost use Rattle.std.specs.Prelude.{[], ◌≡◌, ◌≤◌, IfNone, IfOk, IfSome};
+ghost use Rattle.definitions.specs.Scoring.{max_score};
+ghost use Rattle.leaf_scorers.specs.ScoredEntries.{pairs_of, rescored_by};
+
+use crate::any_query_scorer::AnyScorer;
+use any_scorer::{Leaf, listed};
+use common::Score;
+use cursors::DocSet;
+use leaf_scorers::{ConstScorer, ListScorer, Scorer};
+use std::alloc::{AllocError, Global};
+
+/// A scorer with one score for each of its documents.
+fn constant<S: Scorer>(scorer: S, score: u64) -> ConstScorer<S>
+    requires { score ≤ max_score }
+    ensures { ⟦<ConstScorer<S> as DocSet>⟧.entries result ≡ rescored_by (λ e. score) (S.entries scorer) }
+{
+    ConstScorer::new(scorer, score as Score)
+}
+
+/// The list of the documents of a scorer, each with this score.
+fn constant_list<S: Scorer + Drop>(
+    alloc: Global,
+    scorer: S,
+    score: u64,
+) -> Result<ListScorer, AllocError>
+    requires { score ≤ max_score }
+    ensures { IfOk result (λ list. pairs_of (⟦<ListScorer as DocSet>⟧.entries list)
+        ≡ pairs_of (rescored_by (λ e. score) (S.entries scorer))) }
+{
+    listed(alloc, constant(scorer, score))
+}
+
+/// The same documents, each with this score. Those that have one score already are walked whole.
+pub(crate) fn with_score<A: Scorer + Drop, T: Scorer + Drop, P: Scorer + Drop, X: Scorer + Drop>(
+    alloc: Global,
+    scorer: AnyScorer<A, T, P, X>,
+    score: u64,
+) -> Result<AnyScorer<A, T, P, X>, AllocError>
+    requires { score ≤ max_score }
+    ensures { IfOk result (λ scored. pairs_of (⟦<AnyScorer<A, T, P, X> as DocSet>⟧.entries scored)
+        ≡ pairs_of (rescored_by (λ e. score) (⟦<AnyScorer<A, T, P, X> as DocSet>⟧.entries scorer))) }
+{
+    let list = match scorer {
+        AnyScorer::Leaf(leaf) => return leaf_with_score(alloc, leaf, score),
+        AnyScorer::ConstAll(scorer) => constant_list(alloc, scorer, score)?,
+        AnyScorer::ConstTerm(scorer) => constant_list(alloc, scorer, score)?,
+        AnyScorer::ConstPhrase(scorer) => constant_list(alloc, scorer, score)?,
+        AnyScorer::ConstPhrasePrefix(scorer) => constant_list(alloc, scorer, score)?,
+    };
+    Ok(of_list(list))
+}
+
+/// The same documents as a leaf has, each with this score. A list is made anew.
+fn leaf_with_score<A: Scorer + Drop, T: Scorer + Drop, P: Scorer + Drop, X: Scorer + Drop>(
+    alloc: Global,
+    leaf: Leaf<A, T, P, X, ListScorer>,
+    score: u64,
+) -> Result<AnyScorer<A, T, P, X>, AllocError>
+    requires { score ≤ max_score }
+    ensures { IfOk result (λ scored. pairs_of (⟦<AnyScorer<A, T, P, X> as DocSet>⟧.entries scored)
+        ≡ pairs_of (rescored_by (λ e. score) (⟦<Leaf<A, T, P, X, ListScorer> as DocSet>⟧.entries leaf))) }
+{
+    match leaf {
+        Leaf::All(scorer) => Ok(AnyScorer::ConstAll(constant(scorer, score))),
+        Leaf::Term(scorer) => Ok(AnyScorer::ConstTerm(constant(scorer, score))),
+        Leaf::Phrase(scorer) => Ok(AnyScorer::ConstPhrase(constant(scorer, score))),
+        Leaf::PhrasePrefix(scorer) => Ok(AnyScorer::ConstPhrasePrefix(constant(scorer, score))),
+        Leaf::List(scorer) => {
+            let list = constant_list(alloc, scorer, score)?;
+            Ok(of_list(list))
+        }
+    }
+}
+
+/// Every document.
+pub(crate) fn of_all<A: Scorer + Drop, T: Scorer + Drop, P: Scorer + Drop, X: Scorer + Drop>(
+    all: A,
+) -> AnyScorer<A, T, P, X>
+    ensures { ⟦<AnyScorer<A, T, P, X> as DocSet>⟧.entries result ≡ A.entries all }
+{
+    AnyScorer::Leaf(Leaf::All(all))
+}
+
+/// The documents of a list.
+pub(crate) fn of_list<A: Scorer + Drop, T: Scorer + Drop, P: Scorer + Drop, X: Scorer + Drop>(
+    list: ListScorer,
+) -> AnyScorer<A, T, P, X>
+    ensures { ⟦<AnyScorer<A, T, P, X> as DocSet>⟧.entries result ≡ ⟦<ListScorer as DocSet>⟧.entries list }
+{
+    AnyScorer::Leaf(Leaf::List(list))
+}
+
+/// No document.
+pub(crate) fn of_none<A: Scorer + Drop, T: Scorer + Drop, P: Scorer + Drop, X: Scorer + Drop>(
+    alloc: Global,
+) -> AnyScorer<A, T, P, X>
+    ensures { ⟦<AnyScorer<A, T, P, X> as DocSet>⟧.entries result ≡ [] }
+{
+    of_list(ListScorer::new(Vec::new(alloc)))
+}
+
+/// The documents of a term, if there are any.
+pub(crate) fn of_term<A: Scorer + Drop, T: Scorer + Drop, P: Scorer + Drop, X: Scorer + Drop>(
+    alloc: Global,
+    found: Option<T>,
+) -> AnyScorer<A, T, P, X>
+    ensures some { IfSome found (λ term. ⟦<AnyScorer<A, T, P, X> as DocSet>⟧.entries result ≡ T.entries term) }
+    ensures none { IfNone found (⟦<AnyScorer<A, T, P, X> as DocSet>⟧.entries result ≡ []) }
+{
+    match found {
+        Some(term) => AnyScorer::Leaf(Leaf::Term(term)),
+        None => of_none(alloc),
+    }
+}
+
+/// The documents of a phrase, if there are any.
+pub(crate) fn of_phrase<A: Scorer + Drop, T: Scorer + Drop, P: Scorer + Drop, X: Scorer + Drop>(
+    alloc: Global,
+    found: Option<P>,
+) -> AnyScorer<A, T, P, X>
+    ensures some { IfSome found (λ phrase. ⟦<AnyScorer<A, T, P, X> as DocSet>⟧.entries result ≡ P.entries phrase) }
+    ensures none { IfNone found (⟦<AnyScorer<A, T, P, X> as DocSet>⟧.entries result ≡ []) }
+{
+    match found {
+        Some(phrase) => AnyScorer::Leaf(Leaf::Phrase(phrase)),
+        None => of_none(alloc),
+    }
+}
+
+/// The documents of a phrase prefix, if there are any.
+pub(crate) fn of_phrase_prefix<
+    A: Scorer + Drop,
+    T: Scorer + Drop,
+    P: Scorer + Drop,
+    X: Scorer + Drop,
+>(alloc: Global, found: Option<X>) -> AnyScorer<A, T, P, X>
+    ensures some { IfSome found (λ phrase. ⟦<AnyScorer<A, T, P, X> as DocSet>⟧.entries result ≡ X.entries phrase) }
+    ensures none { IfNone found (⟦<AnyScorer<A, T, P, X> as DocSet>⟧.entries result ≡ []) }
+{
+    match found {
+        Some(phrase) => AnyScorer::Leaf(Leaf::PhrasePrefix(phrase)),
+        None => of_none(alloc),
+    }
+}

@@ -1,0 +1,11 @@
+//! The scorers of any query in a segment, from what makes the scorers of queries that hold no other.
+#![tactic(auto)]
+
+mod any_query_scorer;
+mod forms;
+mod leaf_weights;
+mod reader_scorers;
+
+pub use any_query_scorer::AnyScorer;
+pub use leaf_weights::LeafWeights;
+pub use reader_scorers::{ReaderScorers, ScorerBy};

@@ -1,0 +1,3 @@
+-- Lemmas behind the best documents.
+pub mod BestPlaces
+pub mod Living

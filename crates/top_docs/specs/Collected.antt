@@ -1,0 +1,23 @@
+-- Documents of segments with their scores, as they are collected.
+use Rattle.std.specs.Prelude.{◌<◌, ◌≤◌, Bool, List, false, filter, map, slice_index_or, ℕ}
+use Rattle.cursors.specs.Entries.{Entry}
+use Rattle.definitions.specs.Scoring.{max_score}
+use Rattle.searcher.specs.declared.doc_address.DocAddress.{DocAddress}
+use Rattle.segment_lists.specs.Found.{Place}
+use Rattle.top_n_computer.specs.Reached.{best_by}
+
+-- the living documents that a cursor has in a segment, each behind its score
+abbrev pub living_items : ℕ → List Bool → List Entry → List (ℕ × DocAddress)
+living_items ord flags es = map (λ e. (e.score, record { segment_ord = ord; doc_id = e.doc })) (filter (λ e. slice_index_or flags e.doc false) es)
+
+-- the place of a document with its score
+abbrev pub place_at : ℕ × DocAddress → Place
+place_at item = record { segment = item.1.segment_ord; doc = item.1.doc_id; score = item.0 }
+
+-- the best places, so many at most: by score, and of equal scores the earlier
+abbrev pub best_places : ℕ → List Place → List Place
+best_places limit places = best_by (λ p. p.score) limit places
+
+-- a document with its score, of one of so many segments
+abbrev pub IsFound : ℕ → ℕ × DocAddress → Type 0
+IsFound num_segments item = (item.1.segment_ord < num_segments) × (item.0 ≤ max_score)

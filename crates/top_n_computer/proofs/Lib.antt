@@ -1,0 +1,2 @@
+-- Lemmas behind the best of items.
+pub mod Bests

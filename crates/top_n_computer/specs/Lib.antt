@@ -1,0 +1,3 @@
+-- Words of the contracts.
+pub mod Reached
+pub mod Best
