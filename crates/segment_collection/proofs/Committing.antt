@@ -9,7 +9,7 @@ use Rattle.definitions.specs.Calls as calls
 use Rattle.definitions.specs.Recorded.{holds}
 use Rattle.definitions.specs.Schema.{Schema}
 use Rattle.definitions.specs.State as states
-use Rattle.definitions.specs.Step.{configuration_of}
+use Rattle.definitions.specs.Step.{configuration_of, reopened}
 use Rattle.definitions.specs.Values.{Document}
 use Rattle.definitions.specs.declared.fault.Fault.{Fault}
 use Rattle.definitions.specs.declared.fault.Fault.TheVariants as faults
@@ -146,3 +146,21 @@ commit_body schema frame segments others alive sets same k before e1 e2 e3 frame
     let body = segments_body (next_parts (length alive) (map bytes_of segments)) sets in
     let is : frame ≡ frame_bytes body = framed ∙ ap₂ (λ (ss : List code.Segment) (fs : List (List Bool)). frame_bytes (segments_body (next_parts k (map bytes_of ss)) fs)) e1 e2 ∙ ap (λ n. frame_bytes (segments_body (next_parts n (map bytes_of segments)) sets)) e3 in
     (body, is, subst (λ ms. Makes (IsSegment schema) ms (members segments sets) body) olds (commit_makes schema segments alive sets opened flagged few each small))
+
+-- what is there when nothing waits
+pub first_stands : {A : Type 0} (analyze : A → Analyzer) (index : SegmentCollection A) (docs groups : List (List Document)) → index.status ≡ status.Ready → 0 < index.settings.docs_per_segment
+    → AllZip (StandsFor index.schema (analyze index.analyzer)) docs index.segments.items → groups ≡ live_groups (flagged_each docs index.alive.items) → length index.alive.items ≡ length docs → index.open.items ≡ [] → index.deletions.items ≡ []
+    → Stands analyze index (configuration_of index.schema (analyze index.analyzer) index.settings) (reopened groups)
+first_stands analyze index docs groups ready sized segments are each opened dels =
+    let n = index.settings.docs_per_segment in
+    let none : drop (length index.alive.items) docs ≡ [] = drop_all (length index.alive.items) docs (omega (arith, each)) in
+    let one : IsWaiting n [] [] [] [] = record { waits = nothing_waits n sized; small = tt } in
+    record {
+      made = refl;
+      status = ap status_of (sym ready);
+      sized = sized;
+      docs = docs;
+      segments = segments;
+      groups = are;
+      waits = λ _. subst (λ gs. IsWaiting n [] gs index.open.items index.deletions.items) (sym none) (subst (λ ds. IsWaiting n [] [] ds index.deletions.items) (sym opened) (subst (λ ds. IsWaiting n [] [] [] ds) (sym dels) one));
+    }

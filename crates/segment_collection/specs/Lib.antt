@@ -3,6 +3,5 @@ pub mod Deletions
 pub mod Flags
 pub mod Given
 pub mod Bodies
-pub mod Members
 pub mod Standing
 pub mod Commits

@@ -54,8 +54,8 @@ pub(crate) fn delete_pending(
     Ok(())
 }
 
-/// A deletion, on the segment that waits behind so many full ones: all of it stands before a deletion of a later segment,
-/// and none before one of an earlier.
+/// A deletion, on the segment that waits behind so many full ones: all of it stands before a deletion of a later
+/// segment, and none before one of an earlier.
 fn delete_one(
     alloc: Global,
     segment: &Segment,

@@ -11,7 +11,7 @@ ghost use Rattle.definitions.specs.Values.{Document};
 ghost use Rattle.definitions.specs.declared.fault.Fault.TheVariants as faults;
 ghost use Rattle.records.specs.Frames.{frame_bytes};
 ghost use Rattle.segment.specs.Opened.{IsOpened, StandsFor};
-ghost use Rattle.segment_collection.specs.Flags.{AreFlagged, AreFlagged-prop, flagged_each};
+ghost use Rattle.segment_collection.specs.Flags.{AreFlagged, AreFlagged-prop, flagged_each, members};
 ghost use Rattle.segment_collection.specs.Given.{AreGiven-prop, IsGiven};
 ghost use Rattle.segment_files.specs.Lists.{IsListed, member_of};
 ghost use Rattle.segment_layouts.specs.SegmentBodies.{Makes};
@@ -38,8 +38,8 @@ use terms::Term;
 const MAX_SEGMENTS: usize = 4294967295;
 
 /// The segments of an index: those that are committed, which searches see, each with which of its documents are alive;
-/// and what waits for a commit, documents and deletions. The documents of a segment that isn't full wait as they are, and
-/// are indexed when it is full or committed.
+/// and what waits for a commit, documents and deletions. The documents of a segment that isn't full wait as they are,
+/// and are indexed when it is full or committed.
 #[derive(Drop)]
 pub struct SegmentCollection<A> {
     pub(crate) alloc: Global,
@@ -78,6 +78,41 @@ impl<A: Analyzer + Drop> SegmentCollection<A> {
         let _docs_per_segment = settings.docs_per_segment();
         let segments = Vec::new(alloc);
         let alive = Vec::new(alloc);
+        let open = Vec::new(alloc);
+        let deletions = Vec::new(alloc);
+        SegmentCollection {
+            alloc,
+            analyzer,
+            schema,
+            settings,
+            segments,
+            alive,
+            open,
+            deletions,
+            status: Status::Ready,
+        }
+    }
+
+    /// A collection of segments, each with which of its documents are alive, in which nothing waits.
+    pub fn of_parts(
+        alloc: Global,
+        analyzer: A,
+        schema: Schema,
+        settings: Settings,
+        segments: Vec<Segment>,
+        alive: Vec<AliveBitSet>,
+    ) -> SegmentCollection<A>
+        requires opened { AllByRecursion (IsOpened schema) segments.items }
+        requires flagged { AreFlagged segments.items alive.items }
+        requires each { length alive.items ≡ length segments.items }
+        requires few { length alive.items < 2 ^ 32 }
+        ensures stands { (groups : List (List Document))
+            → AllZip (IsGroup schema (A.analyze analyzer)) (members segments.items alive.items) groups
+            → Stands A.analyze result (configuration_of schema (A.analyze analyzer) settings) (reopened groups) }
+        ensures made { (schema_of result ≡ schema) × (settings_of result ≡ settings) × (analyzer_of result ≡ analyzer) }
+        ensures members { members_of result ≡ members segments.items alive.items }
+    {
+        let _docs_per_segment = settings.docs_per_segment();
         let open = Vec::new(alloc);
         let deletions = Vec::new(alloc);
         SegmentCollection {
@@ -146,9 +181,9 @@ impl<A: Analyzer + Drop> SegmentCollection<A> {
         }
     }
 
-    /// Adds a document; a search sees it after the next commit. One of an unknown field is `UnknownField`, and one with a
-    /// value that can't be indexed `NotIndexable`. Where it fills a segment, the segment is written: want of memory or a
-    /// limit then closes the writer.
+    /// Adds a document; a search sees it after the next commit. One of an unknown field is `UnknownField`, and one with
+    /// a value that can't be indexed `NotIndexable`. Where it fills a segment, the segment is written: want of memory or
+    /// a limit then closes the writer.
     pub fn add_document(&mut self, doc: CompactDoc) -> Result<(), Fault>
         ensures left { (c : calls.Configuration) (x : calls.Index) → Stands A.analyze self.old c x
             → (y : calls.Index) × calls.Leaves c x (calls.add_document doc) result y × Stands A.analyze self.new c y }
@@ -170,11 +205,12 @@ impl<A: Analyzer + Drop> SegmentCollection<A> {
         Ok(())
     }
 
-    /// Deletes the documents with a term that were added before; a search misses them after the next commit. A term of an
-    /// unknown field is `UnknownField`, one of a field that isn't indexed `NotIndexed`.
+    /// Deletes the documents with a term that were added before; a search misses them after the next commit. A term of
+    /// an unknown field is `UnknownField`, one of a field that isn't indexed `NotIndexed`.
     pub fn delete_term(&mut self, term: &Term) -> Result<(), Fault>
         ensures left { (c : calls.Configuration) (x : calls.Index) → Stands A.analyze self.old c x
-            → (y : calls.Index) × calls.Leaves c x (calls.delete_term term.now) result y × Stands A.analyze self.new c y }
+            → (y : calls.Index) × calls.Leaves c x (calls.delete_term term.now) result y
+            × Stands A.analyze self.new c y }
         ensures exact { (c : calls.Configuration) (x : calls.Index) → Stands A.analyze self.old c x
             → IfErr result (λ fault. fault ≢ faults.OutOfMemory
             → calls.call_fault c x (calls.delete_term term.now) ≡ Some fault) }
@@ -201,10 +237,11 @@ impl<A: Analyzer + Drop> SegmentCollection<A> {
             (docs ++ states.as_group self.old.open.items) self.new.segments.items × (self.new.open.items ≡ [])) }
         ensures stands { (docs : List (List Document))
             → AllZip (StandsFor self.old.schema (A.analyze self.old.analyzer)) docs self.old.segments.items
-            → OnErr result (AllZip (StandsFor self.old.schema (A.analyze self.old.analyzer)) docs self.new.segments.items) }
+            → OnErr result (AllZip (StandsFor self.old.schema (A.analyze self.old.analyzer)) docs
+            self.new.segments.items) }
         ensures made { IsMadeAlike self.old self.new }
-        ensures same { (self.new.alive.items ≡ self.old.alive.items) × (self.new.deletions.items ≡ self.old.deletions.items)
-            × (self.new.status ≡ self.old.status) }
+        ensures same { (self.new.alive.items ≡ self.old.alive.items)
+            × (self.new.deletions.items ≡ self.old.deletions.items) × (self.new.status ≡ self.old.status) }
         ensures members { members_of self.new ≡ members_of self.old }
     {
         if self.open.is_empty() {
@@ -260,8 +297,8 @@ impl<A: Analyzer + Drop> SegmentCollection<A> {
     pub fn install(&mut self, prepared: Prepared)
         requires flagged { AreFlagged self.old.segments.items (sets_in prepared) }
         requires few { length (sets_in prepared) < 2 ^ 32 }
-        ensures left { (c : calls.Configuration) (x : calls.Index) → IsPrepared A.analyze self.old (sets_in prepared) c x
-            → Stands A.analyze self.new c
+        ensures left { (c : calls.Configuration) (x : calls.Index)
+            → IsPrepared A.analyze self.old (sets_in prepared) c x → Stands A.analyze self.new c
             (record { state = calls.after c x.state calls.commit_pending; status = calls.ready }) }
         ensures made { IsMadeAlike self.old self.new }
         ensures members { members_of self.new ≡ members_with self.old prepared }
@@ -310,6 +347,11 @@ impl<A: Analyzer + Drop> SegmentCollection<A> {
         ensures opened { ∥ AllByRecursion (IsOpened (schema_of self.now)) result.now ∥₁ }
         ensures flagged { AreFlagged result.now (alive_of self.now) }
         ensures each { length result.now ≡ length (alive_of self.now) }
+        ensures stands { (c : calls.Configuration) (x : calls.Index) → Stands A.analyze self.now c x
+            → (docs : List (List Document)) × AllZip (StandsFor c.schema c.analyze) docs result.now
+            × (x.state.groups ≡ live_groups (flagged_each docs (alive_of self.now))) }
+        ensures groups { (c : calls.Configuration) (x : calls.Index) → Stands A.analyze self.now c x
+            → AllZip (IsGroup c.schema c.analyze) (members_of self.now) x.state.groups }
     {
         &self.segments[..self.alive.len()]
     }
