@@ -1,0 +1,4 @@
+use Rattle.weight_cases.proofs.written_segments.add_all.Goals as goal
+
+pub loop-document-preserved : goal.loop-document-preserved
+loop-document-preserved g c = (let before = c.loop-document.invariant in (before.0, _, c.in_ok-add.ensures.ok before.0 before.1 before.2))

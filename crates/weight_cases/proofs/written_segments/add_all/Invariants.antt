@@ -1,0 +1,8 @@
+use Rattle.std.proofs.Common.{List, ℕ}
+use Rattle.definitions.specs.Values.{Document}
+use Rattle.segment_writer.specs.Writers.{HasWritten}
+use Rattle.weight_cases.proofs.written_segments.add_all.Given as goal
+
+-- some documents were written
+abbrev pub invariant-loop-document : goal.invariant-loop-document
+invariant-loop-document g l = (block_size : ℕ) × (all : List Document) × HasWritten l.schema (g.A.Analyzer.analyze l.analyzer) block_size l.writer all

@@ -1,0 +1,209 @@
+//! What a query answers over the segment that is held: `STEPS`, and then what is asked.
+
+ghost use Rattle.std.specs.Prelude.{◌≡◌, IfOk, length};
+ghost use Rattle.definitions.specs.Schema as definitions;
+ghost use Rattle.definitions.specs.Settings.{similarity_of};
+ghost use Rattle.query_trees.specs.Queries.{query_of};
+ghost use Rattle.segment.specs.Opened.{IsOpened, num_docs_of};
+ghost use Rattle.tree_scorers.specs.Accepted.{IsAccepted};
+
+use crate::held::Held;
+use crate::sinks::{Blocks, Highest};
+use accepted_queries::accept_query;
+use bytes::Bytes;
+use case_lines::{Arguments, Refusal, number, pair};
+use common::{AliveBitSet, Score};
+use definitions::Fault;
+use query_answers::{count, explain, for_each, for_each_no_score, for_each_pruning};
+use query_lines::{items_in, query_by_steps};
+use query_trees::AnyQuery;
+use reader_scorers::{LeafWeights, ReaderScorers};
+use schema::Schema;
+use segment::Segment;
+use segment_reader::SegmentReader;
+use serde_json::Value;
+use settings::Settings;
+use std::alloc::Global;
+use tree_scorers::SegmentScorers;
+use weights::IndexWeights;
+
+/// How many blocks the caches of segments keep.
+const CACHE_NUM_BLOCKS: usize = 2;
+
+/// What an operation on a query answers, and what refuses the query where something does.
+pub(crate) fn answer(
+    held: &Held,
+    operation: &str,
+    arguments: &Arguments,
+) -> Result<Value, Refusal> {
+    let alloc = held.alloc;
+    let query = query_by_steps(alloc, items_in(arguments.value(0)?)?)?;
+    accept_query(&held.schema, &held.settings, &query)?;
+    let bytes = Bytes::copy_from_slice(alloc, &held.bytes)?;
+    let segment = Segment::open(alloc, &held.schema, bytes, CACHE_NUM_BLOCKS)?;
+    let alive = alive_but(alloc, segment.num_docs(), &held.dead)?;
+    over(
+        alloc,
+        &segment,
+        &alive,
+        &held.settings,
+        &query,
+        operation,
+        arguments,
+    )
+}
+
+/// So many documents, of which these are dead.
+fn alive_but(alloc: Global, num_docs: u32, dead: &[u32]) -> Result<AliveBitSet, Refusal>
+    ensures { IfOk result (λ alive. length alive ≡ num_docs) }
+{
+    let mut alive = AliveBitSet::for_max_doc(alloc, num_docs)?;
+    for doc in dead {
+        if *doc >= num_docs {
+            return Err(Refusal::NotAsked);
+        }
+        alive.kill(*doc);
+    }
+    Ok(alive)
+}
+
+/// What an operation on a query answers over a segment whose documents are alive that a set has.
+fn over<'a>(
+    alloc: Global,
+    segment: &'a Segment,
+    alive: &'a AliveBitSet,
+    settings: &'a Settings,
+    query: &AnyQuery,
+    operation: &str,
+    arguments: &Arguments,
+) -> Result<Value, Refusal>
+    requires flagged { length alive.now ≡ num_docs_of segment.now }
+    requires opened { ∥ ((schema : definitions.Schema) × IsOpened schema segment.now) ∥₁ }
+    requires accepted { IsAccepted (similarity_of settings.now).weight 1 (query_of query.now) }
+{
+    let reader = segment.reader(Some(alive));
+    let weights = IndexWeights::new(settings);
+    in_segment(alloc, &reader, &weights, query, operation, arguments)
+}
+
+/// What an operation on a query answers in a segment by weights.
+fn in_segment<'a, W: LeafWeights<'a>>(
+    alloc: Global,
+    reader: &SegmentReader<'a>,
+    weights: &W,
+    query: &AnyQuery,
+    operation: &str,
+    arguments: &Arguments,
+) -> Result<Value, Refusal>
+    requires { IsAccepted (W.similarity weights.now).weight 1 (query_of query.now) }
+{
+    let forms = ReaderScorers::new(reader, weights);
+    told(alloc, &forms, reader, query, operation, arguments)
+}
+
+/// What an operation on a query answers, by what makes the scorers of a segment.
+fn told<F: SegmentScorers>(
+    alloc: Global,
+    forms: &F,
+    reader: &SegmentReader<'_>,
+    query: &AnyQuery,
+    operation: &str,
+    arguments: &Arguments,
+) -> Result<Value, Refusal>
+    requires segment { F.segment forms.now ≡ reader.now }
+    requires accepted { IsAccepted (F.similarity forms.now).weight 1 (query_of query.now) }
+{
+    match operation {
+        "answered" => answered(alloc, forms, reader, query),
+        "pruned" => pruned(alloc, forms, reader, query, arguments.signed_number(1)?),
+        "explained" => {
+            let explanation = explain(alloc, forms, query, arguments.small_number(1)?)?;
+            Ok(Value::from(explanation.value()))
+        }
+        "explained-each" => explained_each(alloc, forms, reader.max_doc(), query),
+        _ => Err(Refusal::NotAsked),
+    }
+}
+
+/// The documents that match with their scores, how many of them are alive, in how many blocks they come, and how many
+/// exceed the scores before them.
+fn answered<F: SegmentScorers>(
+    alloc: Global,
+    forms: &F,
+    reader: &SegmentReader<'_>,
+    query: &AnyQuery,
+) -> Result<Value, Refusal>
+    requires segment { F.segment forms.now ≡ reader.now }
+    requires accepted { IsAccepted (F.similarity forms.now).weight 1 (query_of query.now) }
+{
+    let list = vec![in alloc;
+        listed(alloc, forms, query)?,
+        number(u64::from(count(alloc, forms, reader, query)?)),
+        blocks(alloc, forms, query)?,
+        pruned(alloc, forms, reader, query, -1)?,
+    ]?;
+    Ok(Value::Array(list))
+}
+
+/// The documents that match, with their scores.
+fn listed<F: SegmentScorers>(alloc: Global, forms: &F, query: &AnyQuery) -> Result<Value, Refusal>
+    requires { IsAccepted (F.similarity forms.now).weight 1 (query_of query.now) }
+{
+    let mut list = Vec::new(alloc);
+    for (doc, score) in for_each(alloc, forms, query)? {
+        list.push(pair(alloc, number(u64::from(doc)), Value::from(score))?)?;
+    }
+    Ok(Value::Array(list))
+}
+
+/// In how many blocks the documents that match come, and how many they are.
+fn blocks<F: SegmentScorers>(alloc: Global, forms: &F, query: &AnyQuery) -> Result<Value, Refusal>
+    requires { IsAccepted (F.similarity forms.now).weight 1 (query_of query.now) }
+{
+    let mut sink = Blocks {
+        blocks: 0,
+        documents: 0,
+    };
+    for_each_no_score(alloc, forms, query, &mut sink)?;
+    Ok(pair(alloc, number(sink.blocks), number(sink.documents))?)
+}
+
+/// How many documents exceed a threshold and the scores before them, and the highest score, or the threshold.
+fn pruned<F: SegmentScorers>(
+    alloc: Global,
+    forms: &F,
+    reader: &SegmentReader<'_>,
+    query: &AnyQuery,
+    threshold: Score,
+) -> Result<Value, Refusal>
+    requires segment { F.segment forms.now ≡ reader.now }
+    requires accepted { IsAccepted (F.similarity forms.now).weight 1 (query_of query.now) }
+{
+    let mut sink = Highest {
+        threshold,
+        taken: 0,
+    };
+    let _max_doc = reader.max_doc();
+    for_each_pruning(alloc, forms, query, threshold, &mut sink)?;
+    Ok(pair(alloc, number(sink.taken), Value::from(sink.threshold))?)
+}
+
+/// The score of each document, by its explanation; null of one that doesn't match.
+fn explained_each<F: SegmentScorers>(
+    alloc: Global,
+    forms: &F,
+    max_doc: u32,
+    query: &AnyQuery,
+) -> Result<Value, Refusal>
+    requires { IsAccepted (F.similarity forms.now).weight 1 (query_of query.now) }
+{
+    let mut list = Vec::new(alloc);
+    for doc in 0..max_doc {
+        list.push(match explain(alloc, forms, query, doc) {
+            Ok(explanation) => Value::from(explanation.value()),
+            Err(Fault::InvalidArgument) => Value::Null,
+            Err(fault) => return Err(Refusal::Fault(fault)),
+        })?;
+    }
+    Ok(Value::Array(list))
+}
