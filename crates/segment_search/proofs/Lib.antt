@@ -1,0 +1,6 @@
+-- Lemmas behind searches.
+pub mod Places
+pub mod Flagging
+pub mod RowsRead
+pub mod HitsRead
+pub mod Counts

@@ -1,0 +1,57 @@
+-- What stands at a place of lists of which each element stands for that of another.
+use Rattle.std.proofs.Common.{[], ◌++◌, ◌+◌, ◌<◌, ◌∙◌, ◌∷◌, ◌≡◌, ◌≤◌, List, ap, arith, drop, drop-cons, get_or, length, refl, subst, suc, sym, take, zero, ℕ}
+use Rattle.std.specs.List.{AllByRecursion, AllZip}
+use Rattle.std.proofs.lemmas.List.{drop_all}
+
+-- at a place of a list stands an element, and the others follow it
+pub rest_is : {X : Type 0} (xs : List X) (i : ℕ) (x : X) → i < length xs → x ≡ get_or xs i x → drop i xs ≡ x ∷ drop (i + 1) xs
+rest_is xs i x l e = let n : suc i ≡ i + 1 = omega arith in drop-cons xs i x l ∙ ap (λ y. y ∷ drop (suc i) xs) (sym e) ∙ ap (λ j. x ∷ drop j xs) n
+
+pub nothing_left : {X : Type 0} (xs : List X) (i : ℕ) → length xs ≤ i → drop i xs ≡ []
+nothing_left xs i l = drop_all i xs l
+
+pub zip_length : {X Y : Type 0} (R : X → Y → Type 0) (xs : List X) (ys : List Y) → AllZip R xs ys → length xs ≡ length ys
+zip_length R [] [] h = refl
+zip_length R [] (y ∷ ys) h = absurd h
+zip_length R (x ∷ xs) [] h = absurd h
+zip_length R (x ∷ xs) (y ∷ ys) h = ap suc (zip_length R xs ys h.1)
+
+pub zip_more : {X Y : Type 0} (R : X → Y → Type 0) (xs more : List X) (ys others : List Y) → AllZip R xs ys → AllZip R more others → AllZip R (xs ++ more) (ys ++ others)
+zip_more R [] more [] others h g = g
+zip_more R [] more (y ∷ ys) others h g = absurd h
+zip_more R (x ∷ xs) more [] others h g = absurd h
+zip_more R (x ∷ xs) more (y ∷ ys) others h g = (h.0, zip_more R xs more ys others h.1 g)
+
+-- what the element at a place stands for, and what follows that
+pub record At {X Y : Type 0} (R : X → Y → Type 0) (y : Y) (i : ℕ) (xs : List X) : Type 0 where
+  pub one : X
+  pub stands : R one y
+  pub here : drop i xs ≡ one ∷ drop (i + 1) xs
+
+pub zip_at : {X Y : Type 0} (R : X → Y → Type 0) (xs : List X) (ys : List Y) (i : ℕ) (y : Y) → AllZip R xs ys → i < length ys → y ≡ get_or ys i y → At R y i xs
+zip_at R [] [] i y h l e = absurd (omega (arith, l))
+zip_at R [] (z ∷ ys) i y h l e = absurd h
+zip_at R (x ∷ xs) [] i y h l e = absurd h
+zip_at R (x ∷ xs) (z ∷ ys) zero y h l e = record { one = x; stands = subst (λ w. R x w) (sym e) h.0; here = refl }
+zip_at R (x ∷ xs) (z ∷ ys) (suc i) y h l e =
+    let rest = zip_at R xs ys i y h.1 (omega (arith, l)) e in
+    let n : suc i + 1 ≡ suc (i + 1) = omega arith in
+    record { one = rest.one; stands = rest.stands; here = rest.here ∙ ap (λ j. rest.one ∷ drop j (x ∷ xs)) (sym n) }
+
+pub all_at : {X : Type 0} (P : X → Type 0) (xs : List X) (i : ℕ) (x : X) → AllByRecursion P xs → i < length xs → x ≡ get_or xs i x → P x
+all_at P [] i x h l e = absurd (omega (arith, l))
+all_at P (y ∷ xs) zero x h l e = subst P (sym e) h.0
+all_at P (y ∷ xs) (suc i) x h l e = all_at P xs i x h.1 (omega (arith, l)) e
+
+pub all_more : {X : Type 0} (P : X → Type 0) (xs : List X) (x : X) → AllByRecursion P xs → P x → AllByRecursion P (xs ++ x ∷ [])
+all_more P [] x h p = (p, tt)
+all_more P (y ∷ xs) x h p = (h.0, all_more P xs x h.1 p)
+
+-- of what is left, the first and the others
+pub all_first : {X : Type 0} (P : X → Type 0) (xs : List X) (x : X) (rest : List X) → xs ≡ x ∷ rest → AllByRecursion P xs → P x × AllByRecursion P rest
+all_first P xs x rest e h = subst (AllByRecursion P) e h
+
+pub all_take : {X : Type 0} (P : X → Type 0) (n : ℕ) (xs : List X) → AllByRecursion P xs → AllByRecursion P (take n xs)
+all_take P zero xs h = tt
+all_take P (suc n) [] h = tt
+all_take P (suc n) (x ∷ xs) h = (h.0, all_take P n xs h.1)

@@ -1,0 +1,3 @@
+-- Words of the contracts.
+pub mod Flags
+pub mod Hits

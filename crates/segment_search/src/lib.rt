@@ -1,0 +1,9 @@
+//! What queries find in segments, of whose documents some may be dead: the best documents, and how many there are.
+#![tactic(auto)]
+
+mod best_documents;
+mod counted_documents;
+mod hits;
+mod readers;
+
+pub use hits::Hit;

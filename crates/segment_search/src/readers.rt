@@ -1,0 +1,35 @@
+//! Segments as queries see them.
+
+ghost use Rattle.std.specs.Prelude.{◌≡◌, IfOk, List, length};
+ghost use Rattle.std.specs.List.{AllByRecursion, AllZip};
+ghost use Rattle.definitions.specs.Analyzers.{Analyzer};
+ghost use Rattle.definitions.specs.Schema.{Schema};
+ghost use Rattle.definitions.specs.Values.{Document};
+ghost use Rattle.scorer_answers.specs.Rows.{HasRows};
+ghost use Rattle.segment.specs.Opened.{IsOpened, StandsFor};
+ghost use Rattle.segment_search.specs.Flags.{AreFlagged, flagged_each};
+
+use common::AliveBitSet;
+use segment::Segment;
+use segment_reader::SegmentReader;
+use std::alloc::{AllocError, Global};
+
+/// The first segments, each with which of its documents are alive.
+pub(crate) fn readers_of<'a>(
+    alloc: Global,
+    segments: &'a [Segment],
+    alive: &'a [AliveBitSet],
+) -> Result<Vec<SegmentReader<'a>>, AllocError>
+    requires opened { ∥ ((schema : Schema) × AllByRecursion (IsOpened schema) segments.now) ∥₁ }
+    requires flagged { AreFlagged segments.now alive.now }
+    ensures rows { (schema : Schema) (analyze : Analyzer) (docs : List (List Document))
+        → AllZip (StandsFor schema analyze) docs segments.now
+        → IfOk result (λ readers. AllZip (HasRows schema analyze) (flagged_each docs alive.now) readers.items) }
+    ensures len { IfOk result (λ readers. length readers.items ≡ length alive.now) }
+{
+    let mut readers = Vec::with_capacity(alloc, alive.len())?;
+    for (place, set) in alive.iter().enumerate() {
+        readers.push(segments[place].reader(Some(set)))?;
+    }
+    Ok(readers)
+}
