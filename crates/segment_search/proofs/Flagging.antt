@@ -1,5 +1,5 @@
 -- Alive sets of segments, one more and one after the other.
-use Rattle.std.proofs.Common.{[], ◌++◌, ◌+◌, ◌<◌, ◌∙◌, ◌∷◌, ◌≡◌, ◌≤◌, Bool, List, ap, arith, drop, get_or, length, subst, suc, sym, take, zero, ℕ}
+use Rattle.std.proofs.Common.{[], ◌++◌, ◌+◌, ◌<◌, ◌∙◌, ◌∷◌, ◌≡◌, ◌≤◌, Bool, List, ap, arith, drop, get_or, length, map, subst, suc, sym, take, zero, ℕ}
 use Rattle.segment.specs.Opened.{num_docs_of}
 use Rattle.segment.specs.declared.segment.Segment as code
 use Rattle.segment_search.specs.Flags.{AreFlagged}
@@ -34,6 +34,16 @@ pub flagged_taken : (segments : List code.Segment) (sets : List (List Bool)) →
 flagged_taken segments [] h = tt
 flagged_taken [] (f ∷ sets) h = absurd h
 flagged_taken (x ∷ segments) (f ∷ sets) h = (h.0, flagged_taken segments sets h.1)
+
+-- those of as many documents
+pub flagged_kept : (old new : List code.Segment) (sets : List (List Bool)) → map num_docs_of new ≡ map num_docs_of old → AreFlagged old sets → AreFlagged new sets
+flagged_kept old new [] e h = tt
+flagged_kept [] new (f ∷ sets) e h = absurd h
+flagged_kept (o ∷ old) [] (f ∷ sets) e h = absurd (cc)
+flagged_kept (o ∷ old) (n ∷ new) (f ∷ sets) e h =
+    let first : num_docs_of o ≡ num_docs_of n = cc in
+    let rest : map num_docs_of new ≡ map num_docs_of old = cc in
+    (h.0 ∙ first, flagged_kept old new sets rest h.1)
 
 -- the same, where the sets are counted
 pub flagged_step : (segments : List code.Segment) (sets new : List (List Bool)) (at : ℕ) (s : code.Segment) (set : List Bool) → AreFlagged segments sets → length sets ≡ at → drop at segments ≡ s ∷ drop (at + 1) segments → length set ≡ num_docs_of s → new ≡ sets ++ set ∷ [] → AreFlagged segments new

@@ -2,5 +2,6 @@
 pub mod Places
 pub mod Flagging
 pub mod RowsRead
+pub mod BestFound
 pub mod HitsRead
 pub mod Counts

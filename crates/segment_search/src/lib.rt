@@ -5,5 +5,7 @@ mod best_documents;
 mod counted_documents;
 mod hits;
 mod readers;
+mod searching;
 
 pub use hits::Hit;
+pub use searching::{count, search};
