@@ -2,7 +2,7 @@
 
 use crate::given_lists::lists;
 use crate::moves::moved;
-use any_scorer::{boolean_scorer, disjunction_max_scorer};
+use any_scorer::{boolean_scorer, disjunction_max_scorer, intersect_scorers};
 use case_lines::{Arguments, Refusal};
 use serde_json::Value;
 use std::alloc::Global;
@@ -16,6 +16,13 @@ pub(crate) fn clauses(alloc: Global, arguments: &Arguments) -> Result<Value, Ref
     let minimum = arguments.small_number(3)? as usize;
     let mut scorer = boolean_scorer(alloc, musts, shoulds, must_nots, minimum, 0)?;
     moved(alloc, &mut scorer, arguments.list(4)?)
+}
+
+/// The documents that all of several lists have, each with the sum of its scores; none of no list.
+pub(crate) fn intersected(alloc: Global, arguments: &Arguments) -> Result<Value, Refusal> {
+    let lists = lists(alloc, arguments.list(0)?)?;
+    let mut scorer = intersect_scorers(alloc, lists)?;
+    moved(alloc, &mut scorer, arguments.list(1)?)
 }
 
 /// The documents that one of several lists has, by the best score and so many thousandths of the others.

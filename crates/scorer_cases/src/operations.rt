@@ -38,6 +38,7 @@ impl Operations for ScorerOperations {
             "meeting-of-differences" => nested::meeting_of_differences(alloc, arguments),
             "clauses" => clauses::clauses(alloc, arguments),
             "best" => clauses::best(alloc, arguments),
+            "intersected" => clauses::intersected(alloc, arguments),
             "union-of-terms" => posting_unions::union_of_terms(alloc, arguments),
             "union-beside-set" => posting_unions::union_beside_set(alloc, arguments),
             "cleared" => changed::cleared(alloc, arguments),
