@@ -1,7 +1,5 @@
 -- Lemmas behind the collection.
-pub mod Places
 pub mod EachFlagged
-pub mod Flagging
 pub mod SetSteps
 pub mod Waitings
 pub mod Groups

@@ -10,7 +10,7 @@ use Rattle.segment.specs.declared.segment.Segment as code
 use Rattle.segment_layouts.specs.SegmentFiles.{IsGroup}
 use Rattle.segment_lists.specs.Rows.{flagged}
 use Rattle.segment_collection.proofs.Groups.{living_where}
-use Rattle.segment_collection.proofs.Standings.{docs_counted}
+use Rattle.segment_search.proofs.RowsRead.{docs_counted}
 use Rattle.segment_collection.specs.Flags.{AreFlagged, flagged_each, members}
 
 pub zip_take : {X Y : Type 0} (R : X → Y → Type 0) (xs : List X) (ys : List Y) (n : ℕ) → AllZip R xs ys → AllZip R (take n xs) (take n ys)

@@ -14,15 +14,15 @@ use Rattle.definitions.specs.Step.{configuration_of}
 use Rattle.definitions.specs.Values.{Document}
 use Rattle.definitions.specs.declared.fault.Fault.{Fault}
 use Rattle.definitions.specs.declared.fault.Fault.TheVariants as faults
-use Rattle.segment.proofs.Opening.{one_segment}
-use Rattle.segment.specs.Opened.{IsOpened, StandsFor, num_docs_of}
+use Rattle.segment.specs.Opened.{IsOpened, StandsFor}
 use Rattle.segment.specs.declared.segment.Segment as code
 use Rattle.segment_lists.specs.Waiting.{Waits}
 use Rattle.segment_collection.proofs.EachFlagged.{each_more}
-use Rattle.segment_collection.proofs.Flagging.{flagged_within}
+use Rattle.segment_search.proofs.Flagging.{flagged_within}
+use Rattle.segment_search.proofs.RowsRead.{docs_counted}
 use Rattle.segment_collection.proofs.Groups.{HaveFlags}
 use Rattle.segment_collection.proofs.Outcomes.{closed_is_not_ready, own_refuses, writer_is_not_ready}
-use Rattle.segment_collection.proofs.Places.{all_more, zip_length, zip_more}
+use Rattle.segment_search.proofs.Places.{all_more, zip_length, zip_more}
 use Rattle.segment_collection.proofs.Waitings.{added_closed, added_open, deleted_more}
 use Rattle.segment_collection.specs.Deletions.{IsSmall, numbered}
 use Rattle.segment_collection.specs.Flags.{AreFlagged, flagged_each}
@@ -35,12 +35,7 @@ use Rattle.segment_collection.specs.declared.status.Status.TheVariants as status
 
 -- ---- segments that stand for documents
 
--- a segment has as many documents as it says
-pub docs_counted : (schema : Schema) (analyze : Analyzer) (docs : List Document) (s : code.Segment) → StandsFor schema analyze docs s → length docs ≡ num_docs_of s
-docs_counted schema analyze docs s stands =
-    let o = stands.opened in
-    sym (one_segment s.num_docs (length docs) o.sections stands.bytes_are.sections s.bytes o.written stands.bytes_are.written).0
-
+-- each is opened
 pub opened_each : (schema : Schema) (analyze : Analyzer) (docs : List (List Document)) (segments : List code.Segment) → AllZip (StandsFor schema analyze) docs segments → AllByRecursion (IsOpened schema) segments
 opened_each schema analyze [] [] h = tt
 opened_each schema analyze [] (s ∷ segments) h = absurd h

@@ -2,7 +2,7 @@ use Rattle.std.proofs.Common.{ap, drop, map, sym, ◌+◌, ◌∙◌, ◌∷◌,
 use Rattle.definitions.specs.Recorded.{holds}
 use Rattle.segment_lists.proofs.Deletings.{left_end, left_next}
 use Rattle.segment_lists.specs.Rows.{flagged, left_rows}
-use Rattle.segment_collection.proofs.Places.{nothing_left, rest_is}
+use Rattle.segment_search.proofs.Places.{nothing_left, rest_is}
 use Rattle.segment_collection.specs.Deletions.{term_of}
 use Rattle.segment_collection.proofs.clearing.delete_all.Goals as goal
 

@@ -3,7 +3,7 @@ use Rattle.std.proofs.lemmas.List.{length-replicate}
 use Rattle.definitions.specs.Recorded.{holds}
 use Rattle.segment_lists.proofs.Deletings.{cut_rows, left_flags, length-cut}
 use Rattle.segment_lists.specs.Rows.{cut_flags, flagged, struck}
-use Rattle.segment_collection.proofs.Standings.{docs_counted}
+use Rattle.segment_search.proofs.RowsRead.{docs_counted}
 use Rattle.segment_collection.proofs.clearing.delete_before.Goals as goal
 
 pub returns-clause-long : goal.returns-clause-long

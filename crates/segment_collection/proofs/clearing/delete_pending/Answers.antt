@@ -3,7 +3,7 @@ use Rattle.definitions.specs.Recorded.{holds}
 use Rattle.segment_lists.proofs.Deletings.{struck_end, struck_next}
 use Rattle.segment_lists.specs.Rows.{flagged}
 use Rattle.segment_lists.specs.Waiting.{struck_from}
-use Rattle.segment_collection.proofs.Places.{all_first, nothing_left, rest_is}
+use Rattle.segment_search.proofs.Places.{all_first, nothing_left, rest_is}
 use Rattle.segment_collection.specs.Deletions.{IsSmall, numbered}
 use Rattle.segment_collection.proofs.clearing.delete_pending.Goals as goal
 

@@ -1,7 +1,7 @@
 use Rattle.std.proofs.Common.{ap, length, map, replicate, sym, true, ◌*◌, ◌∙◌, ◌≡◌}
 use Rattle.definitions.specs.Recorded.{holds}
 use Rattle.segment_collection.proofs.EachFlagged.{rows_struck}
-use Rattle.segment_collection.proofs.Standings.{docs_counted}
+use Rattle.segment_search.proofs.RowsRead.{docs_counted}
 use Rattle.segment_collection.specs.Deletions.{numbered}
 use Rattle.segment_lists.specs.Rows.{flagged}
 use Rattle.segment_lists.specs.Waiting.{struck_from}

@@ -1,6 +1,6 @@
 use Rattle.std.proofs.Common.{ap, drop, length, map, ◌++◌, ◌∙◌}
 use Rattle.definitions.specs.Recorded.{holds}
-use Rattle.segment_collection.proofs.Flagging.{flagged_within}
+use Rattle.segment_search.proofs.Flagging.{flagged_within}
 use Rattle.segment_collection.specs.Deletions.{numbered}
 use Rattle.segment_lists.specs.Waiting.{pending_rows}
 use Rattle.segment_collection.proofs.next_sets.next_sets.Goals as goal

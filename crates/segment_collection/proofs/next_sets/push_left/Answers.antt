@@ -3,8 +3,8 @@ use Rattle.std.proofs.Math.Logic.{∥∥₁_map}
 use Rattle.std.proofs.lemmas.List.{append-nil}
 use Rattle.definitions.specs.Recorded.{holds}
 use Rattle.segment.specs.Opened.{IsOpened, StandsFor}
-use Rattle.segment_collection.proofs.Flagging.{flagged_at, flagged_step}
-use Rattle.segment_collection.proofs.Places.{all_at, nothing_left, rest_is, zip_at}
+use Rattle.segment_search.proofs.Flagging.{flagged_at, flagged_step}
+use Rattle.segment_search.proofs.Places.{all_at, nothing_left, rest_is, zip_at}
 use Rattle.segment_collection.proofs.SetSteps.{left_step, one_longer}
 use Rattle.segment_collection.specs.Deletions.{term_of}
 use Rattle.segment_collection.specs.Flags.{AreFlagged, flagged_each}

@@ -4,8 +4,8 @@ use Rattle.std.proofs.lemmas.List.{append-nil}
 use Rattle.definitions.specs.Recorded.{holds}
 use Rattle.definitions.specs.Values.{Document}
 use Rattle.segment.specs.Opened.{IsOpened, StandsFor}
-use Rattle.segment_collection.proofs.Flagging.{flagged_step, flagged_within}
-use Rattle.segment_collection.proofs.Places.{all_at, all_first, nothing_left, rest_is, zip_at, zip_length}
+use Rattle.segment_search.proofs.Flagging.{flagged_step, flagged_within}
+use Rattle.segment_search.proofs.Places.{all_at, all_first, nothing_left, rest_is, zip_at, zip_length}
 use Rattle.segment_collection.proofs.SetSteps.{new_step, one_longer}
 use Rattle.segment_collection.specs.Deletions.{numbered}
 use Rattle.segment_collection.specs.Flags.{flagged_each}

@@ -3,7 +3,7 @@ use Rattle.std.proofs.lemmas.List.{take_all}
 use Rattle.std.proofs.lemmas.Result.{err_from_is_err_and}
 use Rattle.segment_writer.specs.Writers.{HasWritten}
 use Rattle.segment_collection.proofs.Outcomes.{err_map}
-use Rattle.segment_collection.proofs.Places.{all_at}
+use Rattle.segment_search.proofs.Places.{all_at}
 use Rattle.segment_collection.proofs.WrittenDocs.{given_taken, taken_more}
 use Rattle.segment_collection.specs.Given.{IsGiven}
 use Rattle.segment_collection.proofs.written_segment.written_bytes.Goals as goal

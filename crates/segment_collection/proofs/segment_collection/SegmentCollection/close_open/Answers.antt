@@ -2,7 +2,7 @@ use Rattle.std.proofs.Common.{[], ap, length, subst, sym, true≢false, ◌==◌
 use Rattle.std.specs.List.{AllByRecursion}
 use Rattle.segment.specs.Opened.{StandsFor}
 use Rattle.segment_collection.proofs.BodyMade.{members_more}
-use Rattle.segment_collection.proofs.Flagging.{flagged_more, flagged_within}
+use Rattle.segment_search.proofs.Flagging.{flagged_more, flagged_within}
 use Rattle.segment_collection.proofs.Standings.{closed_group, opened_more, opened_same}
 use Rattle.segment_collection.specs.Flags.{AreFlagged, members}
 use Rattle.segment_collection.specs.Given.{IsGiven}

@@ -2,7 +2,7 @@ use Rattle.std.proofs.Common.{Err, ap, apâ‚‚, arith, false, refl, subst, sym, â—
 use Rattle.std.specs.Result.{result_err}
 use Rattle.definitions.specs.Calls as calls
 use Rattle.definitions.specs.declared.fault.Fault.TheVariants as faults
-use Rattle.segment_collection.proofs.Flagging.{flagged_within}
+use Rattle.segment_search.proofs.Flagging.{flagged_within}
 use Rattle.segment_collection.proofs.Outcomes.{err_same, own_refuses, ready_of, status_refuses}
 use Rattle.segment_collection.proofs.Standings.{deleted_stands, kept_stands}
 use Rattle.segment_collection.specs.Standing.{Stands}

@@ -8,9 +8,9 @@ use Rattle.definitions.specs.declared.fault.Fault.TheVariants as faults
 use Rattle.records.specs.Frames.{frame_bytes}
 use Rattle.segment.specs.Opened.{IsOpened, StandsFor}
 use Rattle.segment_collection.proofs.Committing.{commit_body, groups_more, half_left, next_rows, prepare_left, prepared_stands, refused_left}
-use Rattle.segment_collection.proofs.Flagging.{flagged_within}
+use Rattle.segment_search.proofs.Flagging.{flagged_within}
 use Rattle.segment_collection.proofs.Outcomes.{commit_taken, ready_of, writer_is_not_ready}
-use Rattle.segment_collection.proofs.Places.{zip_length}
+use Rattle.segment_search.proofs.Places.{zip_length}
 use Rattle.segment_collection.proofs.Standings.{opened_each, sets_within, stands_stopped}
 use Rattle.segment_collection.specs.Flags.{AreFlagged, members}
 use Rattle.segment_collection.specs.Standing.{members_of, status_of}

@@ -7,9 +7,9 @@ use Rattle.definitions.specs.Calls as calls
 use Rattle.definitions.specs.Values.{Document}
 use Rattle.segment.specs.Opened.{IsOpened, StandsFor}
 use Rattle.segment_layouts.specs.SegmentFiles.{IsGroup}
-use Rattle.segment_collection.proofs.Flagging.{flagged_taken, flagged_within}
+use Rattle.segment_search.proofs.Flagging.{flagged_taken, flagged_within}
 use Rattle.segment_collection.proofs.Members.{each_take, in_groups, zip_take}
-use Rattle.segment_collection.proofs.Places.{all_take}
+use Rattle.segment_search.proofs.Places.{all_take}
 use Rattle.segment_collection.specs.Flags.{AreFlagged, flagged_each, members}
 use Rattle.segment_collection.proofs.segment_collection.SegmentCollection.segments.Goals as goal
 
