@@ -61,8 +61,8 @@ pub struct SegmentCollection<A> {
 }
 
 impl<A: Analyzer + Drop> SegmentCollection<A> {
-    ghost use Rattle.segment_collection.specs.Commits.{IsPrepared, frame_in, members_with, sets_in};
-    ghost use Rattle.segment_collection.specs.Standing.{IsMadeAlike, Stands, alive_of, analyzer_of, committed_of, members_of, schema_of, settings_of, status_of};
+    ghost use Rattle.segment_collection.specs.Commits.{AreSets, IsPrepared, frame_in, members_with, sets_in};
+    ghost use Rattle.segment_collection.specs.Standing.{IsMadeAlike, PassesLimit, Stands, alive_of, analyzer_of, committed_of, members_of, num_written, open_of, schema_of, settings_of, status_of};
 
     /// A collection without documents.
     pub fn new(
@@ -190,6 +190,8 @@ impl<A: Analyzer + Drop> SegmentCollection<A> {
         ensures exact { (c : calls.Configuration) (x : calls.Index) → Stands A.analyze self.old c x
             → IfErr result (λ fault. fault ≢ faults.OutOfMemory → fault ≢ faults.Limit
             → calls.call_fault c x (calls.add_document doc) ≡ Some fault) }
+        ensures limit { IfErr result (λ fault. fault ≡ faults.Limit
+            → PassesLimit A.analyze self.old (open_of self.old ++ doc ∷ [])) }
         ensures made { IsMadeAlike self.old self.new }
         ensures members { members_of self.new ≡ members_of self.old }
     {
@@ -231,6 +233,8 @@ impl<A: Analyzer + Drop> SegmentCollection<A> {
     /// Makes a full segment of the documents that wait in one that isn't, where there are any.
     fn close_open(&mut self) -> Result<(), Fault>
         ensures err { IfErr result (λ fault. (fault ≡ faults.OutOfMemory) ⊎ (fault ≡ faults.Limit)) }
+        ensures limit { IfErr result (λ fault. fault ≡ faults.Limit
+            → PassesLimit A.analyze self.old (open_of self.old)) }
         ensures closed { (docs : List (List Document))
             → AllZip (StandsFor self.old.schema (A.analyze self.old.analyzer)) docs self.old.segments.items
             → OnOk result (AllZip (StandsFor self.old.schema (A.analyze self.old.analyzer))
@@ -274,10 +278,12 @@ impl<A: Analyzer + Drop> SegmentCollection<A> {
         ensures exact { (c : calls.Configuration) (x : calls.Index) → Stands A.analyze self.old c x
             → IfErr result (λ fault. fault ≢ faults.OutOfMemory → fault ≢ faults.Limit
             → calls.call_fault c x calls.commit_pending ≡ Some fault) }
+        ensures limit { IfErr result (λ fault. fault ≡ faults.Limit
+            → PassesLimit A.analyze self.old (open_of self.old) ⊎ (2 ^ 32 ≤ num_written self.new)) }
         ensures body { (c : calls.Configuration) (x : calls.Index) → Stands A.analyze self.old c x
             → IfOk result (λ prepared. (body : List ℕ) × (frame_in prepared ≡ frame_bytes body)
             × Makes (IsSegment c.schema) (members_of self.old) (members_with self.new prepared) body) }
-        ensures flagged { IfOk result (λ prepared. AreFlagged self.new.segments.items (sets_in prepared)) }
+        ensures flagged { IfOk result (λ prepared. AreSets self.new (sets_in prepared)) }
         ensures few { IfOk result (λ prepared. length (sets_in prepared) < 2 ^ 32) }
         ensures made { IsMadeAlike self.old self.new }
         ensures members { members_of self.new ≡ members_of self.old }
@@ -295,7 +301,7 @@ impl<A: Analyzer + Drop> SegmentCollection<A> {
 
     /// Makes searches see what was prepared, and changes are taken again. It takes no memory.
     pub fn install(&mut self, prepared: Prepared)
-        requires flagged { AreFlagged self.old.segments.items (sets_in prepared) }
+        requires flagged { AreSets self.old (sets_in prepared) }
         requires few { length (sets_in prepared) < 2 ^ 32 }
         ensures left { (c : calls.Configuration) (x : calls.Index)
             → IsPrepared A.analyze self.old (sets_in prepared) c x → Stands A.analyze self.new c
