@@ -4,5 +4,6 @@ pub mod Flags
 pub mod Given
 pub mod Bodies
 pub mod Limits
+pub mod Parts
 pub mod Standing
 pub mod Commits

@@ -21,6 +21,7 @@ ghost use Rattle.segment_layouts.specs.Segments.{IsSegment};
 use crate::commit_frame::commit_frame;
 use crate::deletion::Deletion;
 use crate::next_sets::next_sets;
+use crate::parts::parted;
 use crate::prepared::Prepared;
 use crate::status::Status;
 use crate::tests_of_calls::{check_deletion, check_document};
@@ -30,8 +31,9 @@ use definitions::Fault;
 use document::CompactDoc;
 use schema::Schema;
 use segment::Segment;
+use segment_files::Member;
 use settings::Settings;
-use std::alloc::Global;
+use std::alloc::{AllocError, Global};
 use terms::Term;
 
 /// The most segments that an index commits.
@@ -126,6 +128,28 @@ impl<A: Analyzer + Drop> SegmentCollection<A> {
             deletions,
             status: Status::Ready,
         }
+    }
+
+    /// A collection of the members that a file lists, in which nothing waits.
+    pub fn of_members(
+        alloc: Global,
+        analyzer: A,
+        schema: Schema,
+        settings: Settings,
+        members: Vec<Member>,
+    ) -> Result<SegmentCollection<A>, AllocError>
+        requires listed { AllByRecursion (IsListed schema) members.items }
+        requires few { length members.items < 2 ^ 32 }
+        ensures stands { (groups : List (List Document))
+            → AllZip (IsGroup schema (A.analyze analyzer)) (map member_of members.items) groups
+            → IfOk result (λ index. Stands A.analyze index (configuration_of schema (A.analyze analyzer) settings)
+            (reopened groups)) }
+        ensures made { IfOk result (λ index. (schema_of index ≡ schema) × (settings_of index ≡ settings)
+            × (analyzer_of index ≡ analyzer)) }
+        ensures members { IfOk result (λ index. members_of index ≡ map member_of members.items) }
+    {
+        let (segments, alive) = parted(alloc, members)?;
+        Ok(SegmentCollection::of_parts(alloc, analyzer, schema, settings, segments, alive))
     }
 
     /// The analyzer; what waits is dropped.
