@@ -77,22 +77,9 @@ impl<A: Analyzer + Drop> SegmentCollection<A> {
         ensures made { (schema_of result ≡ schema) × (settings_of result ≡ settings) × (analyzer_of result ≡ analyzer) }
         ensures none { members_of result ≡ [] }
     {
-        let _docs_per_segment = settings.docs_per_segment();
         let segments = Vec::new(alloc);
         let alive = Vec::new(alloc);
-        let open = Vec::new(alloc);
-        let deletions = Vec::new(alloc);
-        SegmentCollection {
-            alloc,
-            analyzer,
-            schema,
-            settings,
-            segments,
-            alive,
-            open,
-            deletions,
-            status: Status::Ready,
-        }
+        SegmentCollection::of_parts(alloc, analyzer, schema, settings, segments, alive)
     }
 
     /// A collection of segments, each with which of its documents are alive, in which nothing waits.
