@@ -9,3 +9,4 @@ pub mod Committing
 pub mod BodyMade
 pub mod Members
 pub mod WrittenDocs
+pub mod Parted

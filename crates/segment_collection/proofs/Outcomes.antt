@@ -1,5 +1,5 @@
 -- How calls end.
-use Rattle.std.proofs.Common.{Bool, Err, IfErr, None, Ok, Result, Some, ap, false, is_none, refl, subst, sym, true, true≢false, ⊎_elim, ◌≡◌, ◌≢◌, ◌⊎◌, ◌||◌}
+use Rattle.std.proofs.Common.{Bool, Err, IfErr, None, Ok, Result, Some, ap, false, is_none, refl, subst, sym, true, true≢false, ⊎_elim, ◌∙◌, ◌≡◌, ◌≢◌, ◌⊎◌, ◌||◌}
 use Rattle.std.specs.Bool.{⊤}
 use Rattle.std.specs.Option.{option_or}
 use Rattle.std.specs.Result.{IsErrAnd}
@@ -59,3 +59,11 @@ closed_is_not_ready e = true≢false (ap is_stopped e)
 -- a commit is refused by its status alone
 pub commit_taken : (c : calls.Configuration) (x : calls.Index) → calls.status_fault x.status false ≡ None → calls.call_fault c x calls.commit_pending ≡ None
 commit_taken c x none = own_refuses c x calls.commit_pending none
+
+-- want of memory is no limit
+pub memory_is_no_limit : (fault : Fault) → fault ≡ faults.OutOfMemory → fault ≡ faults.Limit → ⊥
+memory_is_no_limit fault memory limit = let e : faults.OutOfMemory ≡ faults.Limit = sym memory ∙ limit in cc
+
+-- what holds of no limit
+pub err_no_limit : {T : Type 0} (r : Result T Fault) (fault : Fault) (P : Type 0) → IsErrAnd r (λ e. e ≡ fault) → (fault ≡ faults.Limit → ⊥) → IfErr r (λ e. e ≡ faults.Limit → P)
+err_no_limit r fault P is other = err_has r fault (λ e. e ≡ faults.Limit → P) is (λ limit. absurd (other limit))

@@ -8,7 +8,7 @@ use Rattle.definitions.specs.Step.{configuration_of}
 use Rattle.definitions.specs.Values.{Document}
 use Rattle.segment.specs.Opened.{StandsFor}
 use Rattle.segment_layouts.specs.SegmentBodies.{Member}
-use Rattle.segment_collection.specs.Flags.{flagged_each, members}
+use Rattle.segment_collection.specs.Flags.{AreFlagged, flagged_each, members}
 use Rattle.segment_collection.specs.declared.prepared.Prepared.{Prepared}
 use Rattle.segment_collection.specs.declared.segment_collection.SegmentCollection.{SegmentCollection}
 
@@ -23,6 +23,10 @@ frame_in prepared = prepared.frame.items
 -- the members with these alive sets
 abbrev pub members_with : {A : Type 0} → SegmentCollection A → Prepared → List Member
 members_with index prepared = members index.segments.items prepared.alive.items
+
+-- these are alive sets of its segments
+abbrev pub AreSets : {A : Type 0} → SegmentCollection A → List (List Bool) → Type 0
+AreSets index sets = AreFlagged index.segments.items sets
 
 -- with these alive sets all segments are those of the state after a commit, and no document waits
 pub record IsPrepared {A : Type 0} (analyze : A → Analyzer) (index : SegmentCollection A) (sets : List (List Bool)) (c : calls.Configuration) (x : calls.Index) : Type 0 where

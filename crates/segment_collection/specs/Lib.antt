@@ -3,5 +3,7 @@ pub mod Deletions
 pub mod Flags
 pub mod Given
 pub mod Bodies
+pub mod Limits
+pub mod Parts
 pub mod Standing
 pub mod Commits

@@ -15,6 +15,7 @@ use Rattle.segment_layouts.specs.SegmentBodies.{Member}
 use Rattle.segment_lists.specs.Waiting.{Waits}
 use Rattle.segment_collection.specs.Deletions.{IsSmall, numbered}
 use Rattle.segment_collection.specs.Flags.{flagged_each, members}
+use Rattle.segment_collection.specs.Limits.{DocumentsPass}
 use Rattle.segment_collection.specs.declared.deletion.Deletion.{Deletion}
 use Rattle.segment_collection.specs.declared.segment_collection.SegmentCollection.{SegmentCollection}
 use Rattle.segment_collection.specs.declared.status.Status.{Status}
@@ -72,3 +73,15 @@ module _ {A : Type 0} where
   -- the bytes of the segments that are committed, with a flag for each of their documents
   abbrev pub members_of : SegmentCollection A → List Member
   members_of index = members index.segments.items index.alive.items
+
+  -- the documents of the segment that isn't full
+  abbrev pub open_of : SegmentCollection A → List Document
+  open_of index = index.open.items
+
+  -- how many segments there are, those that wait too
+  abbrev pub num_written : SegmentCollection A → ℕ
+  num_written index = length index.segments.items
+
+  -- a segment of these documents passes a limit
+  abbrev pub PassesLimit : (A → Analyzer) → SegmentCollection A → List Document → Type 0
+  PassesLimit analyze index docs = DocumentsPass index.schema (analyze index.analyzer) index.settings.block_size docs

@@ -6,6 +6,7 @@ mod clearing;
 mod commit_frame;
 mod deletion;
 mod next_sets;
+mod parts;
 mod prepared;
 mod segment_collection;
 mod status;

@@ -21,6 +21,7 @@ ghost use Rattle.segment_layouts.specs.Segments.{IsSegment};
 use crate::commit_frame::commit_frame;
 use crate::deletion::Deletion;
 use crate::next_sets::next_sets;
+use crate::parts::parted;
 use crate::prepared::Prepared;
 use crate::status::Status;
 use crate::tests_of_calls::{check_deletion, check_document};
@@ -30,8 +31,9 @@ use definitions::Fault;
 use document::CompactDoc;
 use schema::Schema;
 use segment::Segment;
+use segment_files::Member;
 use settings::Settings;
-use std::alloc::Global;
+use std::alloc::{AllocError, Global};
 use terms::Term;
 
 /// The most segments that an index commits.
@@ -61,8 +63,8 @@ pub struct SegmentCollection<A> {
 }
 
 impl<A: Analyzer + Drop> SegmentCollection<A> {
-    ghost use Rattle.segment_collection.specs.Commits.{IsPrepared, frame_in, members_with, sets_in};
-    ghost use Rattle.segment_collection.specs.Standing.{IsMadeAlike, Stands, alive_of, analyzer_of, committed_of, members_of, schema_of, settings_of, status_of};
+    ghost use Rattle.segment_collection.specs.Commits.{AreSets, IsPrepared, frame_in, members_with, sets_in};
+    ghost use Rattle.segment_collection.specs.Standing.{IsMadeAlike, PassesLimit, Stands, alive_of, analyzer_of, committed_of, members_of, num_written, open_of, schema_of, settings_of, status_of};
 
     /// A collection without documents.
     pub fn new(
@@ -75,22 +77,9 @@ impl<A: Analyzer + Drop> SegmentCollection<A> {
         ensures made { (schema_of result ≡ schema) × (settings_of result ≡ settings) × (analyzer_of result ≡ analyzer) }
         ensures none { members_of result ≡ [] }
     {
-        let _docs_per_segment = settings.docs_per_segment();
         let segments = Vec::new(alloc);
         let alive = Vec::new(alloc);
-        let open = Vec::new(alloc);
-        let deletions = Vec::new(alloc);
-        SegmentCollection {
-            alloc,
-            analyzer,
-            schema,
-            settings,
-            segments,
-            alive,
-            open,
-            deletions,
-            status: Status::Ready,
-        }
+        SegmentCollection::of_parts(alloc, analyzer, schema, settings, segments, alive)
     }
 
     /// A collection of segments, each with which of its documents are alive, in which nothing waits.
@@ -126,6 +115,28 @@ impl<A: Analyzer + Drop> SegmentCollection<A> {
             deletions,
             status: Status::Ready,
         }
+    }
+
+    /// A collection of the members that a file lists, in which nothing waits.
+    pub fn of_members(
+        alloc: Global,
+        analyzer: A,
+        schema: Schema,
+        settings: Settings,
+        members: Vec<Member>,
+    ) -> Result<SegmentCollection<A>, AllocError>
+        requires listed { AllByRecursion (IsListed schema) members.items }
+        requires few { length members.items < 2 ^ 32 }
+        ensures stands { (groups : List (List Document))
+            → AllZip (IsGroup schema (A.analyze analyzer)) (map member_of members.items) groups
+            → IfOk result (λ index. Stands A.analyze index (configuration_of schema (A.analyze analyzer) settings)
+            (reopened groups)) }
+        ensures made { IfOk result (λ index. (schema_of index ≡ schema) × (settings_of index ≡ settings)
+            × (analyzer_of index ≡ analyzer)) }
+        ensures members { IfOk result (λ index. members_of index ≡ map member_of members.items) }
+    {
+        let (segments, alive) = parted(alloc, members)?;
+        Ok(SegmentCollection::of_parts(alloc, analyzer, schema, settings, segments, alive))
     }
 
     /// The analyzer; what waits is dropped.
@@ -190,6 +201,8 @@ impl<A: Analyzer + Drop> SegmentCollection<A> {
         ensures exact { (c : calls.Configuration) (x : calls.Index) → Stands A.analyze self.old c x
             → IfErr result (λ fault. fault ≢ faults.OutOfMemory → fault ≢ faults.Limit
             → calls.call_fault c x (calls.add_document doc) ≡ Some fault) }
+        ensures limit { IfErr result (λ fault. fault ≡ faults.Limit
+            → PassesLimit A.analyze self.old (open_of self.old ++ doc ∷ [])) }
         ensures made { IsMadeAlike self.old self.new }
         ensures members { members_of self.new ≡ members_of self.old }
     {
@@ -231,6 +244,8 @@ impl<A: Analyzer + Drop> SegmentCollection<A> {
     /// Makes a full segment of the documents that wait in one that isn't, where there are any.
     fn close_open(&mut self) -> Result<(), Fault>
         ensures err { IfErr result (λ fault. (fault ≡ faults.OutOfMemory) ⊎ (fault ≡ faults.Limit)) }
+        ensures limit { IfErr result (λ fault. fault ≡ faults.Limit
+            → PassesLimit A.analyze self.old (open_of self.old)) }
         ensures closed { (docs : List (List Document))
             → AllZip (StandsFor self.old.schema (A.analyze self.old.analyzer)) docs self.old.segments.items
             → OnOk result (AllZip (StandsFor self.old.schema (A.analyze self.old.analyzer))
@@ -274,10 +289,12 @@ impl<A: Analyzer + Drop> SegmentCollection<A> {
         ensures exact { (c : calls.Configuration) (x : calls.Index) → Stands A.analyze self.old c x
             → IfErr result (λ fault. fault ≢ faults.OutOfMemory → fault ≢ faults.Limit
             → calls.call_fault c x calls.commit_pending ≡ Some fault) }
+        ensures limit { IfErr result (λ fault. fault ≡ faults.Limit
+            → PassesLimit A.analyze self.old (open_of self.old) ⊎ (2 ^ 32 ≤ num_written self.new)) }
         ensures body { (c : calls.Configuration) (x : calls.Index) → Stands A.analyze self.old c x
             → IfOk result (λ prepared. (body : List ℕ) × (frame_in prepared ≡ frame_bytes body)
             × Makes (IsSegment c.schema) (members_of self.old) (members_with self.new prepared) body) }
-        ensures flagged { IfOk result (λ prepared. AreFlagged self.new.segments.items (sets_in prepared)) }
+        ensures flagged { IfOk result (λ prepared. AreSets self.new (sets_in prepared)) }
         ensures few { IfOk result (λ prepared. length (sets_in prepared) < 2 ^ 32) }
         ensures made { IsMadeAlike self.old self.new }
         ensures members { members_of self.new ≡ members_of self.old }
@@ -295,7 +312,7 @@ impl<A: Analyzer + Drop> SegmentCollection<A> {
 
     /// Makes searches see what was prepared, and changes are taken again. It takes no memory.
     pub fn install(&mut self, prepared: Prepared)
-        requires flagged { AreFlagged self.old.segments.items (sets_in prepared) }
+        requires flagged { AreSets self.old (sets_in prepared) }
         requires few { length (sets_in prepared) < 2 ^ 32 }
         ensures left { (c : calls.Configuration) (x : calls.Index)
             → IsPrepared A.analyze self.old (sets_in prepared) c x → Stands A.analyze self.new c

@@ -1,8 +1,9 @@
 //! What an add and a deletion are refused by.
 
-ghost use Rattle.std.specs.Prelude.{◌≡◌, OnOk};
+ghost use Rattle.std.specs.Prelude.{◌≡◌, ◌⊎◌, IfErr, OnOk};
 ghost use Rattle.std.specs.Result.{result_err};
 ghost use Rattle.definitions.specs.Calls.{delete_fault, document_given, has_unknown_field};
+ghost use Rattle.definitions.specs.declared.fault.Fault.TheVariants as faults;
 ghost use Rattle.segment_collection.specs.Given.{IsGiven};
 
 use definitions::Fault;
@@ -14,6 +15,7 @@ use terms::Term;
 pub(crate) fn check_document(schema: &Schema, doc: &CompactDoc) -> Result<(), Fault>
     ensures fault { result_err result ≡ result_err (document_given schema.now doc.now) }
     ensures given { OnOk result (IsGiven schema.now doc.now) }
+    ensures err { IfErr result (λ fault. (fault ≡ faults.UnknownField) ⊎ (fault ≡ faults.NotIndexable)) }
 {
     if has_unknown_field(schema, doc) {
         return Err(Fault::UnknownField);

@@ -5,6 +5,7 @@ ghost use Rattle.std.specs.List.{AllByRecursion};
 ghost use Rattle.definitions.specs.declared.fault.Fault.TheVariants as faults;
 ghost use Rattle.segment.specs.Opened.{StandsFor};
 ghost use Rattle.segment_collection.specs.Given.{IsGiven};
+ghost use Rattle.segment_collection.specs.Limits.{DocumentsPass};
 ghost use Rattle.segment_layouts.specs.Segments.{IsSegmentOf};
 
 use bytes::Bytes;
@@ -17,7 +18,7 @@ use segment_writer::SegmentWriter;
 use settings::Settings;
 use std::alloc::Global;
 
-/// The segment of these documents, opened.
+/// The segment of these documents, opened; `Limit` where they pass one.
 pub(crate) fn written_segment<A: Analyzer>(
     alloc: Global,
     analyzer: &A,
@@ -29,6 +30,8 @@ pub(crate) fn written_segment<A: Analyzer>(
     requires given { AllByRecursion (IsGiven schema.now) docs.now }
     ensures ok { IfOk result (StandsFor schema.now (A.analyze analyzer.now) docs.now) }
     ensures err { IfErr result (λ fault. (fault ≡ faults.OutOfMemory) ⊎ (fault ≡ faults.Limit)) }
+    ensures limit { IfErr result (λ fault. fault ≡ faults.Limit
+        → DocumentsPass schema.now (A.analyze analyzer.now) settings.now.block_size docs.now) }
 {
     let bytes = written_bytes(
         alloc,
@@ -45,7 +48,7 @@ pub(crate) fn written_segment<A: Analyzer>(
     }
 }
 
-/// The bytes of the segment of these documents.
+/// The bytes of the segment of these documents; `Limit` where they pass one.
 fn written_bytes<A: Analyzer>(
     alloc: Global,
     analyzer: &A,
@@ -57,6 +60,8 @@ fn written_bytes<A: Analyzer>(
     requires given { AllByRecursion (IsGiven schema.now) docs.now }
     ensures ok { IfOk result (λ bytes. IsSegmentOf schema.now (A.analyze analyzer.now) docs.now bytes.items) }
     ensures err { IfErr result (λ fault. (fault ≡ faults.OutOfMemory) ⊎ (fault ≡ faults.Limit)) }
+    ensures limit { IfErr result (λ fault. fault ≡ faults.Limit
+        → DocumentsPass schema.now (A.analyze analyzer.now) block_size docs.now) }
 {
     let mut writer = SegmentWriter::new(alloc, schema, block_size)?;
     for doc in docs {

@@ -4,7 +4,7 @@ use Rattle.std.proofs.lemmas.Result.{err_from_is_err_and}
 use Rattle.segment_writer.specs.Writers.{HasWritten}
 use Rattle.segment_collection.proofs.Outcomes.{err_map}
 use Rattle.segment_search.proofs.Places.{all_at}
-use Rattle.segment_collection.proofs.WrittenDocs.{given_taken, taken_more}
+use Rattle.segment_collection.proofs.WrittenDocs.{all_pass, given_taken, one_passes, taken_more}
 use Rattle.segment_collection.specs.Given.{IsGiven}
 use Rattle.segment_collection.proofs.written_segment.written_bytes.Goals as goal
 
@@ -31,6 +31,14 @@ returns-in_err-add-clause-err g c =
     let p = err_from_is_err_and c.from_residual-in_err-add.result c.from_residual-in_err-add.ensures.1 in
     rw (p.1, p.2) (⊎_elim (λ memory. inl memory) (λ limit. inr limit.0) (c.in_err-add.ensures.err c.args.block_size (take c.loop-doc.doc-index c.args.docs.now) c.loop-doc.invariant))
 
+pub returns-in_err-add-clause-limit : goal.returns-in_err-add-clause-limit
+returns-in_err-add-clause-limit g c =
+    let l = c.loop-doc in
+    let analyze = g.A.Analyzer.analyze c.args.analyzer.now in
+    let docs = c.args.docs.now in
+    let p = err_from_is_err_and c.from_residual-in_err-add.result c.from_residual-in_err-add.ensures.1 in
+    rw (p.1, p.2) (one_passes c.args.schema.now analyze c.args.block_size docs l.doc-index c.doc-item.result c.in_err-add.field-0.0 c.loop-doc-test.true c.doc-item.is (c.in_err-add.ensures.err c.args.block_size (take l.doc-index docs) l.invariant))
+
 pub close-requires : goal.close-requires
 close-requires g c =
     let l = c.loop-doc in
@@ -52,3 +60,12 @@ returns-clause-err g c =
     let all = take_all l.doc-index c.args.docs.now c.loop-doc-test.false in
     err_map c.close.result _ _ (λ fault refusal. ⊎_elim (λ memory. inl memory) (λ limit. inr limit.0) refusal)
     (c.close.ensures.err analyze c.args.block_size c.args.docs.now (subst (HasWritten c.args.schema.now analyze c.args.block_size l.writer) all l.invariant))
+
+pub returns-clause-limit : goal.returns-clause-limit
+returns-clause-limit g c =
+    let l = c.loop-doc in
+    let analyze = g.A.Analyzer.analyze c.args.analyzer.now in
+    let docs = c.args.docs.now in
+    let all = take_all l.doc-index docs c.loop-doc-test.false in
+    err_map c.close.result _ _ (λ fault refusal. all_pass c.args.schema.now analyze c.args.block_size docs fault refusal)
+    (c.close.ensures.err analyze c.args.block_size docs (subst (HasWritten c.args.schema.now analyze c.args.block_size l.writer) all l.invariant))

@@ -1,13 +1,14 @@
-use Rattle.std.proofs.Common.{[], ap, arith, false, length, refl, subst, sym, ◌++◌, ◌∙◌, ◌∷◌, ◌<◌, ◌≤◌}
+use Rattle.std.proofs.Common.{[], ap, arith, false, length, refl, subst, sym, ◌++◌, ◌∙◌, ◌∷◌, ◌<◌, ◌≡◌, ◌≤◌}
 use Rattle.std.specs.List.{AllZip}
 use Rattle.std.specs.Result.{result_err}
 use Rattle.definitions.specs.Calls as calls
 use Rattle.definitions.specs.State as states
 use Rattle.definitions.specs.declared.fault.Fault.TheVariants as faults
 use Rattle.segment.specs.Opened.{StandsFor}
-use Rattle.segment_collection.proofs.Outcomes.{err_same, own_refuses, ready_of, status_refuses}
+use Rattle.segment_collection.proofs.Outcomes.{err_has, err_same, own_refuses, ready_of, status_refuses}
 use Rattle.segment_collection.proofs.Committing.{half_left}
 use Rattle.segment_collection.proofs.Standings.{add_taken, added_closed_stands, added_open_stands, kept_stands, ready_status, sets_within}
+use Rattle.segment_collection.specs.Limits.{DocumentsPass}
 use Rattle.segment_collection.specs.Standing.{Stands}
 use Rattle.segment_collection.proofs.segment_collection.SegmentCollection.add_document.Goals as goal
 
@@ -62,6 +63,13 @@ returns-in_err-close_open-clause-left g c k x s =
     subst (λ r. (y : calls.Index) × calls.Leaves k x call r y × Stands g.A.Analyzer.analyze c.close_open.new.self k y) (err_same c.from_residual-in_err-close_open.result c.in_err-close_open.field-0.0 c.from_residual-in_err-close_open.ensures.1)
     (half_left g.A.Analyzer.analyze old c.close_open.new.self (record { analyzer = made.analyzer; schema = made.schema; settings = made.settings }) k x s c.in_err-close_open.field-0.0 c.in_err-close_open.ensures.err none c.close_open.ensures.same.2 c.close_open.ensures.same.0
     s.docs (c.in_err-close_open.ensures.stands s.docs s.segments) s.groups call taken refl)
+
+pub returns-in_err-close_open-clause-limit : goal.returns-in_err-close_open-clause-limit
+returns-in_err-close_open-clause-limit g c =
+    let old = c.args.self.now in
+    let pass = DocumentsPass old.schema (g.A.Analyzer.analyze old.analyzer) old.settings.block_size in
+    err_has c.from_residual-in_err-close_open.result c.in_err-close_open.field-0.0 (λ fault. fault ≡ faults.Limit → pass (old.open.items ++ c.args.doc ∷ [])) c.from_residual-in_err-close_open.ensures.1
+    (λ is. subst pass c.in_ok-push.ensures.items (c.in_err-close_open.ensures.limit is))
 
 pub returns-clause-left : goal.returns-clause-left
 returns-clause-left g c k x s =

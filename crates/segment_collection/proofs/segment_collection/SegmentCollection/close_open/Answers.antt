@@ -1,12 +1,28 @@
-use Rattle.std.proofs.Common.{[], ap, length, subst, sym, true≢false, ◌==◌, ◌∙◌, ◌∷◌, ◌≢◌}
+use Rattle.std.proofs.Common.{[], ap, length, refl, subst, sym, true≢false, ◌==◌, ◌∙◌, ◌∷◌, ◌≡◌, ◌≢◌}
 use Rattle.std.specs.List.{AllByRecursion}
+use Rattle.definitions.specs.declared.fault.Fault.TheVariants as faults
 use Rattle.segment.specs.Opened.{StandsFor}
 use Rattle.segment_collection.proofs.BodyMade.{members_more}
 use Rattle.segment_search.proofs.Flagging.{flagged_more, flagged_within}
+use Rattle.segment_collection.proofs.Outcomes.{err_has, err_no_limit, memory_is_no_limit}
 use Rattle.segment_collection.proofs.Standings.{closed_group, opened_more, opened_same}
 use Rattle.segment_collection.specs.Flags.{AreFlagged, members}
 use Rattle.segment_collection.specs.Given.{IsGiven}
+use Rattle.segment_collection.specs.Limits.{DocumentsPass}
+use Rattle.segment_collection.specs.Standing.{PassesLimit, open_of}
 use Rattle.segment_collection.proofs.segment_collection.SegmentCollection.close_open.Goals as goal
+
+pub returns-in_err-segment-clause-limit : goal.returns-in_err-segment-clause-limit
+returns-in_err-segment-clause-limit g c =
+    let old = c.args.self.now in
+    let pass = DocumentsPass old.schema (g.A.Analyzer.analyze old.analyzer) old.settings.block_size in
+    err_has c.from_residual.result c.in_err-segment.field-0.0 (λ fault. fault ≡ faults.Limit → pass old.open.items) c.from_residual.ensures.1
+    (λ is. subst pass c.deref.ensures.value (c.in_err-segment.ensures.limit is))
+
+pub returns-in_err-push-clause-limit : goal.returns-in_err-push-clause-limit
+returns-in_err-push-clause-limit g c =
+    let old = c.args.self.now in
+    err_no_limit c.from_residual-in_err-push.result faults.OutOfMemory (PassesLimit g.A.Analyzer.analyze old (open_of old)) c.from_residual-in_err-push.ensures.1 (memory_is_no_limit faults.OutOfMemory refl)
 
 pub invariant_of-self-in-Break-branch-2 : goal.invariant_of-self-in-Break-branch-2
 invariant_of-self-in-Break-branch-2 g c =
