@@ -11,7 +11,7 @@ use Rattle.segment_files.specs.declared.member.Member as code
 use Rattle.segment_layouts.specs.SegmentBodies.{IsOfPart, Member}
 use Rattle.segment_layouts.specs.SegmentFiles.{AreMade}
 use Rattle.segment_layouts.specs.Segments.{IsSegment}
-use Rattle.segment_collection.proofs.Places.{zip_length}
+use Rattle.segment_search.proofs.Places.{zip_length}
 use Rattle.segment_collection.specs.Flags.{AreFlagged, members}
 use Rattle.segment_collection.specs.Parts.{flags_in, segment_in}
 
