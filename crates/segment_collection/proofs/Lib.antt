@@ -10,3 +10,4 @@ pub mod BodyMade
 pub mod Members
 pub mod WrittenDocs
 pub mod Parted
+pub mod Searching

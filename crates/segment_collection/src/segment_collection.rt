@@ -5,10 +5,12 @@ ghost use Rattle.std.specs.List.{AllByRecursion, AllByRecursion-prop, AllZip};
 ghost use Rattle.std.specs.Result.{result_err};
 ghost use Rattle.definitions.specs.Alive.{live_groups};
 ghost use Rattle.definitions.specs.Calls as calls;
+ghost use Rattle.definitions.specs.Scanning as scanning;
 ghost use Rattle.definitions.specs.State as states;
 ghost use Rattle.definitions.specs.Step.{configuration_of, fresh_index, reopened};
 ghost use Rattle.definitions.specs.Values.{Document};
 ghost use Rattle.definitions.specs.declared.fault.Fault.TheVariants as faults;
+ghost use Rattle.query_trees.specs.Queries.{query_of};
 ghost use Rattle.records.specs.Frames.{frame_bytes};
 ghost use Rattle.segment.specs.Opened.{IsOpened, StandsFor};
 ghost use Rattle.segment_collection.specs.Flags.{AreFlagged, AreFlagged-prop, flagged_each, members};
@@ -17,6 +19,7 @@ ghost use Rattle.segment_files.specs.Lists.{IsListed, member_of};
 ghost use Rattle.segment_layouts.specs.SegmentBodies.{Makes};
 ghost use Rattle.segment_layouts.specs.SegmentFiles.{IsGroup};
 ghost use Rattle.segment_layouts.specs.Segments.{IsSegment};
+ghost use Rattle.segment_search.specs.Hits.{hit_of, scored};
 
 use crate::commit_frame::commit_frame;
 use crate::deletion::Deletion;
@@ -29,9 +32,11 @@ use crate::written_segment::written_segment;
 use common::{AliveBitSet, Analyzer};
 use definitions::Fault;
 use document::CompactDoc;
+use query_trees::AnyQuery;
 use schema::Schema;
 use segment::Segment;
 use segment_files::Member;
+use segment_search::{Hit, count, search};
 use settings::Settings;
 use std::alloc::{AllocError, Global};
 use terms::Term;
@@ -356,6 +361,55 @@ impl<A: Analyzer + Drop> SegmentCollection<A> {
             count += set.num_alive() as u64;
         }
         count
+    }
+
+    /// The best of the committed documents that match, so many at most: by score, and then by addition. The caches of the
+    /// segments' stores keep the blocks that are read.
+    pub fn search(&mut self, query: &AnyQuery, limit: usize) -> Result<Vec<Hit>, Fault>
+        ensures ok { (c : calls.Configuration) (x : calls.Index) → Stands A.analyze self.old c x
+            → IfOk result (λ hits.
+            (calls.call_fault c x (calls.search_best (query_of query.now) limit) ≡ None)
+            × (map hit_of hits.items
+            ≡ map scored (scanning.scan c.schema c.analyze c.similarity (states.committed x.state) (query_of query.now) limit))) }
+        ensures err { (c : calls.Configuration) (x : calls.Index) → Stands A.analyze self.old c x
+            → IfErr result (λ fault. fault ≢ faults.OutOfMemory
+            → calls.call_fault c x (calls.search_best (query_of query.now) limit) ≡ Some fault) }
+        ensures left { (c : calls.Configuration) (x : calls.Index) → Stands A.analyze self.old c x
+            → Stands A.analyze self.new c x }
+        ensures made { IsMadeAlike self.old self.new }
+        ensures members { members_of self.new ≡ members_of self.old }
+    {
+        self.check_open()?;
+        search(
+            self.alloc,
+            &self.schema,
+            &mut self.segments,
+            &self.alive,
+            &self.settings,
+            query,
+            limit,
+        )
+    }
+
+    /// How many of the committed documents match.
+    pub fn count(&self, query: &AnyQuery) -> Result<u64, Fault>
+        ensures ok { (c : calls.Configuration) (x : calls.Index) → Stands A.analyze self.now c x
+            → IfOk result (λ count.
+            (calls.call_fault c x (calls.count_all (query_of query.now)) ≡ None)
+            × (count ≡ scanning.scan_count c.schema c.analyze (states.committed x.state) (query_of query.now))) }
+        ensures err { (c : calls.Configuration) (x : calls.Index) → Stands A.analyze self.now c x
+            → IfErr result (λ fault. fault ≢ faults.OutOfMemory
+            → calls.call_fault c x (calls.count_all (query_of query.now)) ≡ Some fault) }
+    {
+        self.check_open()?;
+        count(
+            self.alloc,
+            &self.schema,
+            &self.segments,
+            &self.alive,
+            &self.settings,
+            query,
+        )
     }
 
     /// The segments that are committed.
