@@ -10,6 +10,7 @@ use std::alloc::Global;
 use std::fs::{File, OpenOptions};
 use std::io;
 use std::io::ErrorKind;
+use std::os::fd::AsRawFd;
 use std::os::unix::fs::FileExt;
 
 /// Bytes that are read at a time.
@@ -17,6 +18,9 @@ const BUFFER_LEN: usize = 65536;
 
 /// How often a read looks at the file, at most.
 const MAX_LOOKS: u64 = 1 << 48;
+
+/// The number of standard error, the last of the standard streams.
+const LAST_STREAM: i32 = 2;
 
 /// A device over a file. It isn't honest, since no contract can say what a disk does.
 #[derive(Drop)]
@@ -36,11 +40,21 @@ impl FileDevice {
             .write(true)
             .create(true)
             .open(rt, path)
+            .and_then(beyond_streams)
         {
             Ok(file) => Ok(FileDevice { file, failed: 0 }),
             Err(_) => Err(Fault::Device),
         }
     }
+}
+
+// The file, under a number above those of the standard streams: what is meant for a stream that was closed before must
+// not go into the file.
+fn beyond_streams(file: File) -> io::Result<File> {
+    if file.as_raw_fd() <= LAST_STREAM {
+        return file.try_clone();
+    }
+    Ok(file)
 }
 
 // The bytes of a file, from its start to its end.
