@@ -2,6 +2,7 @@
 #![tactic(auto)]
 
 mod answers;
+mod exit_status;
 mod json_replies;
 mod requests;
 mod running;
@@ -11,6 +12,7 @@ mod stage;
 pub use document::NamedDocument;
 pub use document_values::OwnedValue;
 pub use engine::{Index, Refused, Status, file_laws};
+pub use exit_status::status_of;
 pub use plain::{AnyQuery, BooleanQuery, Hit, Occur, TermQuery};
 pub use query_json::read_query;
 pub use running::{reply, run, run_session};

@@ -1,48 +1,65 @@
-//! `index`: answers lines of JSON on standard input over a device in memory, without a byte at first.
+//! `index FILE`: answers lines of JSON on standard input over the index of a file, which is made where it is absent.
 #![tactic(auto)]
 
-use common::{MemoryDevice, RawAndDefault};
-use index::run;
-use std::env;
+use common::{RawAndDefault, RunFault};
+use file_device::FileDevice;
+use index::{run, status_of};
+use std::env::FillError;
 use std::io::{self, BufReader, BufWriter};
 use std::process::ExitCode;
+use std::rt::Env;
 
 /// Bytes that are read, and written, at a time.
 const BUFFER_LEN: usize = 65536;
 
-/// The status where a run can't begin, or is cut off.
+/// Bytes that no path which the system opens has.
+const MAX_PATH_LEN: usize = 4096;
+
+/// The status where a run can't begin.
 const FAILED: u8 = 1;
 
-/// The status where the arguments are wrong.
+/// The status where the number of arguments is wrong.
 const WRONG_USAGE: u8 = 2;
 
 fn main(rt: HostRuntime) -> ExitCode {
-    if !takes_no_argument(&rt) {
-        let _ = eprintln!(rt; "usage: index");
+    if !takes_one_argument(&rt) {
+        let _ = eprintln!(rt; "usage: index FILE");
         return ExitCode::from(WRONG_USAGE);
     }
-    let alloc = rt.alloc();
-    let (Ok(mut reader), Ok(mut writer)) = (
-        BufReader::with_capacity(alloc, BUFFER_LEN, rt.reader()),
-        BufWriter::with_capacity(alloc, BUFFER_LEN, io::writer(&rt)),
-    ) else {
+    let Some(outcome) = serve_file(&rt) else {
         let _ = eprintln!(rt; "index: device fault");
         return ExitCode::from(FAILED);
     };
-    let device = MemoryDevice::new(alloc);
-    match run(alloc, &mut reader, &mut writer, device, RawAndDefault) {
-        Ok(()) => ExitCode::SUCCESS,
-        Err(fault) => {
-            let _ = eprintln!(rt; "index: {fault}");
-            ExitCode::from(FAILED)
-        }
+    if let Err(fault) = &outcome {
+        let _ = eprintln!(rt; "index: {fault}");
     }
+    ExitCode::from(status_of(&outcome))
 }
 
-/// Whether the program was started with no argument.
-fn takes_no_argument(rt: &(impl Alloc + std::rt::Env)) -> bool {
-    match env::args(rt) {
-        Ok(args) => args.count() == 1,
-        Err(_) => false,
-    }
+/// Whether the program was started with one argument.
+fn takes_one_argument(rt: &impl Env) -> bool {
+    has_argument(rt, 1) && !has_argument(rt, 2)
+}
+
+/// Whether there is an argument of this number, UTF-8 or not; number 0 is the program's name.
+fn has_argument(rt: &impl Env, number: usize) -> bool {
+    !matches!(rt.arg(number, &mut [0]), Err(FillError::NotPresent))
+}
+
+/// Answers the requests over the file that the argument names, or tells that it can't be opened, or that no memory is
+/// found.
+fn serve_file(rt: &HostRuntime) -> Option<Result<(), RunFault>> {
+    let mut path = [0; MAX_PATH_LEN];
+    let device = open_device(rt, &mut path)?;
+    let alloc = rt.alloc();
+    let mut reader = BufReader::with_capacity(alloc, BUFFER_LEN, rt.reader()).ok()?;
+    let mut writer = BufWriter::with_capacity(alloc, BUFFER_LEN, io::writer(rt)).ok()?;
+    Some(run(alloc, &mut reader, &mut writer, device, RawAndDefault))
+}
+
+/// The device over the file that the argument names, with room for its path.
+fn open_device(rt: &HostRuntime, path: &mut [u8]) -> Option<FileDevice> {
+    let len = rt.arg(1, path).ok()?;
+    let path = str::from_utf8(&path[..len]).ok()?;
+    FileDevice::open(rt, path).ok()
 }

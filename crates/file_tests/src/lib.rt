@@ -1,0 +1,7 @@
+//! Tests of the device over a file, of which no clause says what it holds: its bytes, and calls that the system refuses.
+#![tactic(auto)]
+
+#[cfg(test)]
+mod file_bytes;
+#[cfg(test)]
+mod refused_calls;
