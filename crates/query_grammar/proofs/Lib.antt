@@ -1,0 +1,4 @@
+pub mod Numbers
+pub mod PhraseSteps
+pub mod QueryForms
+pub mod QuerySteps
