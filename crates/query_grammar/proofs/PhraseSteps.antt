@@ -50,7 +50,7 @@ same_test (o ∷ os) (t ∷ ts) same =
 -- ---- the steps
 
 -- terms, if they are those of a phrase
-abbrev tested : Terms → Option Terms
+abbrev pub tested : Terms → Option Terms
 tested ps = only_if (are_phrase_terms 2 ps) (Some ps)
 
 none_after : (b : Bool) (ts : List (List ℕ)) (f : List (List ℕ) → Option Terms) → f ts ≡ None → option_and_then f (only_if b (Some ts)) ≡ None

@@ -54,7 +54,7 @@ onto_ordered occur no_queries cs = refl
 onto_ordered occur (query q qs) cs = ap (clause occur (in_order q)) (onto_ordered occur qs cs)
 
 -- clauses of these queries
-abbrev joined : Queries → Queries → Queries → Clauses
+abbrev pub joined : Queries → Queries → Queries → Clauses
 joined musts shoulds must_nots = clauses_onto must musts (clauses_onto should shoulds (clauses_onto must_not must_nots no_clauses))
 
 joined_ordered : (ms ss ns : Queries) → joined (queries_in_order ms) (queries_in_order ss) (queries_in_order ns) ≡ clauses_in_order (joined ms ss ns)
@@ -63,7 +63,7 @@ joined_ordered ms ss ns =
     ∙ ap (clauses_onto must (queries_in_order ms)) (onto_ordered should ss (clauses_onto must_not ns no_clauses))
     ∙ onto_ordered must ms (clauses_onto should ss (clauses_onto must_not ns no_clauses))
 
-abbrev clauses_from : Option Queries → Option Queries → Option Queries → Option Clauses
+abbrev pub clauses_from : Option Queries → Option Queries → Option Queries → Option Clauses
 clauses_from a b c = option_and_then (λ musts. option_and_then (λ shoulds. option_and_then (λ must_nots. Some (joined musts shoulds must_nots)) c) b) a
 
 from_ordered : (a b c : Option Queries) → clauses_from (listed a) (listed b) (listed c) ≡ option_map clauses_in_order (clauses_from a b c)
@@ -100,7 +100,7 @@ guarded true o = refl
 guarded false o = refl
 
 -- the query of clauses
-abbrev body : json.Data → Clauses → Option Query
+abbrev pub body : json.Data → Clauses → Option Query
 body d cs = option_and_then (λ least. Some (boolean cs least)) (at_or (default_minimum cs) number_in (codes "min") d)
 
 least_ordered : (cs : Clauses) (o : Option ℕ) → option_map in_order (option_and_then (λ least. Some (boolean cs least)) o) ≡ option_and_then (λ least. Some (boolean (clauses_in_order cs) least)) o
