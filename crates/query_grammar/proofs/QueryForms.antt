@@ -1,5 +1,5 @@
 -- A query in order is its form, with queries in order in it.
-use Rattle.std.proofs.Common.{Err, IfErr, Ok, Result, ◌≢◌, Bool, None, Option, Some, ap, codes, false, option_and_then, option_map, pos, refl, sym, true, unwrap_or, ◌∙◌, ◌∷◌, ◌≡◌, [], List, ℕ, ℤ, cond}
+use Rattle.std.proofs.Common.{Err, IfErr, IfOk, Ok, Result, ◌≢◌, Bool, None, Option, Some, ap, codes, false, option_and_then, option_map, pos, refl, sym, true, unwrap_or, ◌∙◌, ◌∷◌, ◌≡◌, [], List, ℕ, ℤ, cond}
 use Rattle.definitions.specs.Json.{at_or, has_only, named, number_at, number_in, only_if, text_at}
 use Rattle.definitions.specs.Query.{Clauses, Occur, Queries, Query, all, boolean, boost, clause, const_score, default_minimum, disjunction_max, empty, must, must_not, no_clauses, no_queries, query, should, term, all_should}
 use Rattle.definitions.specs.QueryGrammar.{Form, all_form, bool_form, bool_query, boost_form, clauses_at, clauses_onto, const_form, dismax_form, dismax_query, forms, items_in, many_at, none_form, one_at, phrase_form, prefix_form, queries_in, query_formed, query_in, record_option_in, term_form}
@@ -7,7 +7,7 @@ use Rattle.definitions.specs.Schema.{IndexRecordOption, Schema, with_freqs}
 use Rattle.definitions.specs.TermGrammar.{term_beside}
 use Rattle.definitions.proofs.QueriesByKeys.{queries_by_keys}
 use Rattle.query_grammar.specs.OrderedQueries.{clauses_in_order, in_order, queries_in_order}
-use Rattle.query_grammar.specs.ReadQueries.{form_at, ordered_formed, ordered_items, ordered_many_at, ordered_one_at, ordered_queries_in, ordered_query_in}
+use Rattle.query_grammar.specs.ReadQueries.{Gives, form_at, ordered_formed, ordered_items, ordered_many_at, ordered_one_at, ordered_queries_in, ordered_query_in}
 use Rattle.definitions.specs.declared.fault.Fault.{Fault}
 use Rattle.definitions.specs.declared.fault.Fault.TheVariants as faults
 use Rattle.serde_json.specs.Data as json
@@ -181,12 +181,15 @@ pub none_if : (o : Option Query) → option_map in_order o ≡ None → o ≡ No
 none_if None none = refl
 none_if (Some q) none = cc
 
+-- what was read of the form of a query is the query
+pub answered : {X : Type 0} (view : X → Query) (schema : Schema) (d : json.Data) (form : Form) (r : Result X Fault) → ordered_query_in schema d ≡ ordered_formed form schema d → Gives view r (ordered_formed form schema d) → IfOk r (λ x. ordered_query_in schema d ≡ Some (view x))
+answered view schema d form (Ok x) same told = same ∙ told
+answered view schema d form (Err fault) same told = tt
+
 -- what refuses the form of a query refuses the query
-pub refused : {X : Type 0} (schema : Schema) (d : json.Data) (form : Form) (r : Result X Fault) → ordered_query_in schema d ≡ ordered_formed form schema d
-    → IfErr r (λ fault. fault ≢ faults.OutOfMemory → (fault ≡ faults.BadQuery) × (ordered_formed form schema d ≡ None))
-    → IfErr r (λ fault. fault ≢ faults.OutOfMemory → (fault ≡ faults.BadQuery) × (query_in schema d ≡ None))
-refused schema d form (Ok x) same told = told
-refused schema d form (Err fault) same told = λ other. let parts = told other in (parts.0, none_if (query_in schema d) (same ∙ parts.1))
+pub refused : {X : Type 0} (view : X → Query) (schema : Schema) (d : json.Data) (form : Form) (r : Result X Fault) → ordered_query_in schema d ≡ ordered_formed form schema d → Gives view r (ordered_formed form schema d) → IfErr r (λ fault. fault ≢ faults.OutOfMemory → (fault ≡ faults.BadQuery) × (query_in schema d ≡ None))
+refused view schema d form (Ok x) same told = tt
+refused view schema d form (Err fault) same told = λ other. let parts = told other in (parts.0, none_if (query_in schema d) (same ∙ parts.1))
 
 -- a value of no form has no query
 pub unformed : (schema : Schema) (d : json.Data) → None ≡ form_at d → query_in schema d ≡ None

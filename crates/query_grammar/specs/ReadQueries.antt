@@ -1,12 +1,19 @@
 -- Queries in JSON, their phrases in the order of offsets.
-use Rattle.std.specs.Prelude.{None, Option, Some, codes, option_map}
+use Rattle.std.specs.Prelude.{Err, None, Ok, Option, Result, Some, codes, option_map, ◌≡◌, ◌≢◌}
 use Rattle.definitions.specs.Json.{at_or, named, number_in, text_at, ◌>>=◌}
 use Rattle.definitions.specs.Query.{Clauses, Queries, Query, boolean, default_minimum, no_queries, query}
 use Rattle.definitions.specs.QueryGrammar.{Form, Many, One, forms, phrase_form, phrase_query, prefix_form, prefix_query, query_formed, query_in}
 use Rattle.definitions.specs.Schema.{Schema}
+use Rattle.definitions.specs.declared.fault.Fault.{Fault}
+use Rattle.definitions.specs.declared.fault.Fault.TheVariants as faults
 use Rattle.query_grammar.specs.OrderedQueries.{in_order}
 use Rattle.serde_json.specs.Data as json
 use Rattle.serde_json.specs.Find.{get}
+
+-- What was returned, seen by view, is what a definition gives, or it says that this gives nothing.
+abbrev pub Gives : {X Y : Type 0} → (X → Y) → Result X Fault → Option Y → Type 0
+Gives view (Ok x) given = given ≡ Some (view x)
+Gives view (Err fault) given = fault ≢ faults.OutOfMemory → (fault ≡ faults.BadQuery) × (given ≡ None)
 
 -- the form that `q` names
 abbrev pub form_at : json.Data → Option Form

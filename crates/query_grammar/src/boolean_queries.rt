@@ -1,8 +1,7 @@
 //! Clauses of queries, and how many of them have to match.
 
-ghost use Rattle.std.specs.Prelude.{◌++◌, ◌≡◌, IfErr, IfOk, None, OnOk, Some, map};
-ghost use Rattle.definitions.specs.declared.fault.Fault.TheVariants as faults;
-ghost use Rattle.query_grammar.specs.ReadQueries.{least_query};
+ghost use Rattle.std.specs.Prelude.{◌++◌, ◌≡◌, IfOk, OnOk, map};
+ghost use Rattle.query_grammar.specs.ReadQueries.{Gives, least_query};
 ghost use Rattle.query_trees.specs.Queries.{clauses_of, query_of};
 ghost use Rattle.serde_json.specs.View.{view};
 
@@ -14,8 +13,7 @@ use std::alloc::{AllocError, Global};
 
 /// The query for clauses, of which as many that may match have to as `min` says.
 pub(crate) fn read_minimum(json: &Json, clauses: Vec<(Occur, AnyQuery)>) -> Result<AnyQuery, Fault>
-    ensures ok { IfOk result (λ query. least_query (view json.now) (clauses_of clauses.items) ≡ Some (query_of query)) }
-    ensures err { IfErr result (λ fault. (fault ≡ faults.BadQuery) × (least_query (view json.now) (clauses_of clauses.items) ≡ None)) }
+    ensures { Gives query_of result (least_query (view json.now) (clauses_of clauses.items)) }
 {
     let Some(minimum) = json.get("min") else {
         return Ok(AnyQuery::Boolean(BooleanQuery::new(clauses)));

@@ -1,16 +1,15 @@
 //! Phrases read from JSON.
 
-ghost use Rattle.std.specs.Prelude.{◌≡◌, ◌≢◌, IfErr, IfOk, IfSome, None, Some, codes, length, option_map, true, zip};
+ghost use Rattle.std.specs.Prelude.{◌≡◌, IfOk, IfSome, codes, option_map, true, zip};
 ghost use Rattle.std.specs.List.{range_with_len};
 ghost use Rattle.definitions.specs.Json as keys;
 ghost use Rattle.definitions.specs.QueryGrammar as definitions;
-ghost use Rattle.definitions.specs.declared.fault.Fault.TheVariants as faults;
 ghost use Rattle.query_grammar.specs.OrderedQueries.{in_order};
 ghost use Rattle.query_grammar.specs.ReadPhrases.{given_terms, offsets_at, with_offsets};
 ghost use Rattle.definitions.specs.TermGrammar.{term_in};
+ghost use Rattle.query_grammar.specs.ReadQueries.{Gives};
 ghost use Rattle.query_trees.specs.PhraseTerms.{are_phrase_terms};
 ghost use Rattle.query_trees.specs.Queries.{query_of};
-ghost use Rattle.serde_json.specs.Find.{get};
 ghost use Rattle.serde_json.specs.View.{items_view, view};
 
 use definitions::Fault;
@@ -28,8 +27,7 @@ pub(crate) fn read_phrase_query(
     schema: &Schema,
     json: &Json,
 ) -> Result<AnyQuery, Fault>
-    ensures ok { IfOk result (λ query. option_map in_order (definitions.phrase_query schema.now (view json.now)) ≡ Some (query_of query)) }
-    ensures err { IfErr result (λ fault. fault ≢ faults.OutOfMemory → (fault ≡ faults.BadQuery) × (definitions.phrase_query schema.now (view json.now) ≡ None)) }
+    ensures { Gives query_of result (option_map in_order (definitions.phrase_query schema.now (view json.now))) }
 {
     if !has_only(json, &["q", "terms", "offsets", "slop"]) {
         return Err(Fault::BadQuery);
@@ -50,8 +48,7 @@ pub(crate) fn read_phrase_prefix_query(
     schema: &Schema,
     json: &Json,
 ) -> Result<AnyQuery, Fault>
-    ensures ok { IfOk result (λ query. option_map in_order (definitions.prefix_query schema.now (view json.now)) ≡ Some (query_of query)) }
-    ensures err { IfErr result (λ fault. fault ≢ faults.OutOfMemory → (fault ≡ faults.BadQuery) × (definitions.prefix_query schema.now (view json.now) ≡ None)) }
+    ensures { Gives query_of result (option_map in_order (definitions.prefix_query schema.now (view json.now))) }
 {
     if !has_only(json, &["q", "terms", "offsets"]) {
         return Err(Fault::BadQuery);

@@ -1,11 +1,11 @@
 //! The query for a term, read from JSON.
 
-ghost use Rattle.std.specs.Prelude.{◌≡◌, ◌≢◌, IfErr, IfOk, None, Some, codes, option_map};
+ghost use Rattle.std.specs.Prelude.{◌≡◌, codes, option_map};
 ghost use Rattle.definitions.specs.Json as keys;
 ghost use Rattle.definitions.specs.QueryGrammar as definitions;
 ghost use Rattle.definitions.specs.Schema.{with_freqs};
-ghost use Rattle.definitions.specs.declared.fault.Fault.TheVariants as faults;
 ghost use Rattle.options.specs.RecordOption.{record_option_of};
+ghost use Rattle.query_grammar.specs.ReadQueries.{Gives};
 ghost use Rattle.query_trees.specs.Queries.{query_of};
 ghost use Rattle.serde_json.specs.View.{view};
 
@@ -23,8 +23,7 @@ pub(crate) fn read_term_query(
     schema: &Schema,
     json: &Json,
 ) -> Result<AnyQuery, Fault>
-    ensures ok { IfOk result (λ query. definitions.term_query schema.now (view json.now) ≡ Some (query_of query)) }
-    ensures err { IfErr result (λ fault. fault ≢ faults.OutOfMemory → (fault ≡ faults.BadQuery) × (definitions.term_query schema.now (view json.now) ≡ None)) }
+    ensures { Gives query_of result (definitions.term_query schema.now (view json.now)) }
 {
     let Some(term) = term_beside(alloc, schema, json, &["q", "record"])? else {
         return Err(Fault::BadQuery);
