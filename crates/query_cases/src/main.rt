@@ -1,6 +1,6 @@
-//! `query_cases`: answers worked cases of queries, of what refuses them and of the terms that they read. Each line of
-//! standard input is a case, an operation and its arguments, and the line of standard output with the same number is
-//! its answer.
+//! `query_cases`: answers worked cases of queries, of how they are read from JSON, of what refuses them and of the
+//! terms that they read. Each line of standard input is a case, an operation and its arguments, and the line of standard
+//! output with the same number is its answer.
 #![tactic(auto)]
 
 mod operations;

@@ -2,6 +2,7 @@
 
 use case_lines::{Arguments, Cell, Operations, Refusal, cells, flag, hex, number, pair, text};
 use query::{AnyQuery, Query, QueryClone, check_query};
+use query_grammar::read_query;
 use query_lines::{items_in, query_by_steps, settings_in};
 use schema::Schema;
 use serde_json::Value;
@@ -47,6 +48,14 @@ impl Operations for QueryOperations {
                 check_query(&self.schema, &self.settings, &query)?;
                 Ok(flag(true))
             }
+            "read" => {
+                let query = read_query(alloc, &self.schema, arguments.value(0)?)?;
+                Ok(text(alloc, &format!(in alloc; "{query:?}")?)?)
+            }
+            "record" => {
+                let query = read_query(alloc, &self.schema, arguments.value(0)?)?;
+                record(alloc, &query)
+            }
             _ => told(
                 alloc,
                 operation,
@@ -54,6 +63,15 @@ impl Operations for QueryOperations {
             ),
         }
     }
+}
+
+/// What a term query reads of its term.
+fn record(alloc: Global, query: &AnyQuery) -> Result<Value, Refusal> {
+    let AnyQuery::Term(query) = query else {
+        return Err(Refusal::NotAsked);
+    };
+    let option = query.index_record_option();
+    Ok(text(alloc, &format!(in alloc; "{option:?}")?)?)
 }
 
 /// What a query tells: `terms` the terms that it reads, `copied` those of a copy, `clauses` the minimum of a bool,

@@ -1,0 +1,7 @@
+pub mod Numbers
+pub mod OrderedAnswers
+pub mod OrderedTerms
+pub mod PhraseSteps
+pub mod QueryForms
+pub mod QuerySteps
+pub mod SharedFields

@@ -1,0 +1,4 @@
+pub mod OrderedQueries
+pub mod QueryNames
+pub mod ReadPhrases
+pub mod ReadQueries
