@@ -3,6 +3,7 @@
 #![tactic(auto)]
 
 mod held;
+mod merged_segments;
 mod operations;
 mod record_bodies;
 mod searchers;

@@ -4,6 +4,7 @@ ghost use Rattle.std.specs.Prelude.{IfOk};
 ghost use Rattle.segment.specs.Opened.{IsOpened};
 
 use crate::held::Held;
+use crate::merged_segments;
 use crate::record_bodies::{alive_set, shown_set};
 use crate::written_segments::written;
 use bytes::Bytes;
@@ -16,7 +17,7 @@ use serde_json::Value;
 use std::alloc::Global;
 
 /// How many blocks the caches of segments keep.
-const CACHE_NUM_BLOCKS: usize = 2;
+pub(crate) const CACHE_NUM_BLOCKS: usize = 2;
 
 /// What an operation on segments answers.
 pub(crate) fn answer(
@@ -27,7 +28,8 @@ pub(crate) fn answer(
     let alloc = held.alloc;
     match operation {
         "segment-written" => {
-            held.bytes = written(alloc, &held.schema, arguments)?;
+            let block_size = arguments.number(1)? as usize;
+            held.bytes = written(alloc, &held.schema, arguments.list(0)?, block_size)?;
             num_docs(held)
         }
         "segment-opened" => {
@@ -40,6 +42,8 @@ pub(crate) fn answer(
         "segment-read" => documents(alloc, &held.schema, &arguments.bytes(alloc, 0)?),
         "segment-document" => document(held, arguments.small_number(0)?),
         "segment-deleted" => deleted(held, arguments),
+        "segment-same" => merged_segments::same(held, arguments),
+        "segments-merged" => merged_segments::merged(held, arguments),
         _ => Err(Refusal::NotAsked),
     }
 }

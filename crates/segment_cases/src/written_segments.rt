@@ -4,7 +4,7 @@ ghost use Rattle.std.specs.Prelude.{List, OnOk, ℕ};
 ghost use Rattle.definitions.specs.Values.{Document};
 ghost use Rattle.segment_writer.specs.Writers.{HasWritten};
 
-use case_lines::{Arguments, Refusal};
+use case_lines::Refusal;
 use common::{Analyzer, RawAndDefault};
 use document::CompactDoc;
 use document_lines::{document_of_values, number_in, part};
@@ -18,17 +18,11 @@ use std::alloc::Global;
 pub(crate) fn written(
     alloc: Global,
     schema: &Schema,
-    arguments: &Arguments,
+    docs: &[Value],
+    block_size: usize,
 ) -> Result<Vec<u8>, Refusal> {
-    let block_size = arguments.number(1)? as usize;
     let mut writer = SegmentWriter::new(alloc, schema, block_size)?;
-    add_all(
-        alloc,
-        &mut writer,
-        schema,
-        &RawAndDefault,
-        arguments.list(0)?,
-    )?;
+    add_all(alloc, &mut writer, schema, &RawAndDefault, docs)?;
     if writer.num_docs() == 0 {
         return Err(Refusal::NotAsked);
     }
