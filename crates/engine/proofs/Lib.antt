@@ -1,7 +1,4 @@
 -- Lemmas behind the index and its file.
-pub mod Faults
-pub mod ErrorsKept
-pub mod FieldLists
 pub mod HeldDocs
 pub mod Standings
 pub mod LastBodies

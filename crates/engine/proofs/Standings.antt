@@ -21,7 +21,7 @@ use Rattle.plain.specs.IndexedDocs.{Describes, IsOfSchema}
 use Rattle.engine.specs.Standing.{Stands, status_of}
 use Rattle.engine.specs.declared.collection.Collection.{Collection}
 use Rattle.plain.specs.declared.indexed_doc.IndexedDoc.{IndexedDoc}
-use Rattle.engine.proofs.Faults.{memory_or_other}
+use Rattle.making.proofs.Faults.{memory_or_other}
 use Rattle.plain.proofs.ScanSteps.{all_push}
 
 -- ---- made of the same

@@ -13,10 +13,10 @@ ghost use Rattle.records.specs.Kept.{IsKept};
 ghost use Rattle.records.specs.Outcomes.{CountsNoOther};
 
 use crate::body_reader::{BodyReader, Found};
-use crate::collection::are_analyzed;
 use common::{Analyzer, Device};
 use definitions::Fault;
 use document::CompactDoc;
+use making::are_analyzed;
 use plain::IndexedDoc;
 use records::read_records;
 use schema::Schema;

@@ -23,13 +23,13 @@ ghost use Rattle.records.specs.Kept.{IsKept, LeavesNow};
 ghost use Rattle.records.specs.Outcomes.{CountsNoOther};
 ghost use Rattle.serde_json.specs.View.{view};
 
-use crate::collection::{Collection, Status, check_making};
+use crate::collection::{Collection, Status};
 use crate::contents::{Contents, read_contents};
-use bodies::put_first_body;
 use common::{Analyzer, Device};
 use definitions::Fault;
+use making::first_frame;
 use plain::{AnyQuery, Hit};
-use records::{RecordFile, finish_frame, start_frame};
+use records::RecordFile;
 use schema::Schema;
 use serde_json::Value as Json;
 use settings::Settings;
@@ -359,26 +359,6 @@ fn status_after(fault: Fault) -> Status
         Fault::Device => Status::Closed,
         _ => Status::WriterClosed,
     }
-}
-
-/// The frame of a first record, if an index can be made of these.
-fn first_frame<A: Analyzer>(
-    alloc: Global,
-    analyzer: &A,
-    schema: &Schema,
-    settings: &Settings,
-) -> Result<Vec<u8>, Fault>
-    ensures ok { IfOk result (λ frame. frame.items ≡ frame_bytes (first_body schema.now settings.now)) }
-    ensures made { OnOk result (making_fault (A.knows_name analyzer.now) schema.now settings.now ≡ None) }
-    ensures read_back { OnOk result (first_in (first_body schema.now settings.now) ≡ Some (schema.now, settings.now)) }
-    ensures err { IfErr result (λ fault.
-        fault ≢ faults.OutOfMemory → making_fault (A.knows_name analyzer.now) schema.now settings.now ≡ Some fault) }
-{
-    check_making(alloc, analyzer, schema, settings)?;
-    let mut frame = start_frame(alloc)?;
-    put_first_body(alloc, &mut frame, schema, settings)?;
-    finish_frame(&mut frame)?;
-    Ok(frame)
 }
 
 /// The index of what was read of a device's file.

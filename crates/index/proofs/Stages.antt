@@ -29,7 +29,7 @@ use Rattle.index.specs.declared.stage.Stage.{Stage}
 use Rattle.index.specs.declared.stage.Stage.TheVariants.{Spare, Standing}
 use Rattle.index.proofs.Answering.{going_on}
 use Rattle.index.proofs.Causes.{error_in, making_goes_on}
-use Rattle.engine.proofs.Faults.{is_limit}
+use Rattle.making.proofs.Faults.{is_limit}
 use Rattle.engine.proofs.Openings.{same_saying}
 use Rattle.engine.proofs.FileSayings.{Found, file_is_index, file_is_whole, found, no_bytes, no_index_yet, one_saying}
 use Rattle.layouts.specs.RecordFiles.{IsNoIndex}

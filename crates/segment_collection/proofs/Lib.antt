@@ -11,3 +11,4 @@ pub mod Members
 pub mod WrittenDocs
 pub mod Parted
 pub mod Searching
+pub mod LongSlots

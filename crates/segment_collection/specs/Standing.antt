@@ -1,6 +1,7 @@
 -- What a collection of segments stands for.
-use Rattle.std.specs.Prelude.{◌<◌, ◌≡◌, Bool, List, drop, length, map, take, ℕ}
+use Rattle.std.specs.Prelude.{◌+◌, ◌<◌, ◌^◌, ◌≡◌, ◌≤◌, Bool, List, drop, length, map, take, ℕ}
 use Rattle.std.specs.List.{AllByRecursion, AllZip}
+use Rattle.std.specs.declared.alloc.Global.{Global}
 use Rattle.definitions.specs.Alive.{live_groups}
 use Rattle.definitions.specs.Analyzers.{Analyzer}
 use Rattle.definitions.specs.Calls as calls
@@ -12,6 +13,7 @@ use Rattle.definitions.specs.Values.{Document}
 use Rattle.segment.specs.Opened.{StandsFor}
 use Rattle.segment.specs.declared.segment.Segment as code
 use Rattle.segment_layouts.specs.SegmentBodies.{Member}
+use Rattle.segment_layouts.specs.Slots.{slot}
 use Rattle.segment_lists.specs.Waiting.{Waits}
 use Rattle.segment_collection.specs.Deletions.{IsSmall, numbered}
 use Rattle.segment_collection.specs.Flags.{flagged_each, members}
@@ -62,6 +64,14 @@ module _ {A : Type 0} where
   abbrev pub settings_of : SegmentCollection A → Settings
   settings_of index = index.settings
 
+  -- what it takes memory from
+  abbrev pub alloc_of : SegmentCollection A → Global
+  alloc_of index = index.alloc
+
+  -- what may still be done
+  abbrev pub state_of : SegmentCollection A → calls.Status
+  state_of index = status_of index.status
+
   -- the segments that are committed
   abbrev pub committed_of : SegmentCollection A → List code.Segment
   committed_of index = take (length index.alive.items) index.segments.items
@@ -85,3 +95,7 @@ module _ {A : Type 0} where
   -- a segment of these documents passes a limit
   abbrev pub PassesLimit : (A → Analyzer) → SegmentCollection A → List Document → Type 0
   PassesLimit analyze index docs = DocumentsPass index.schema (analyze index.analyzer) index.settings.block_size docs
+
+  -- the slot of this document is too long beside a block
+  abbrev pub HasLongSlot : SegmentCollection A → Document → Type 0
+  HasLongSlot index doc = 2 ^ 32 ≤ index.settings.block_size + length (slot index.schema doc) + 8

@@ -27,7 +27,7 @@ use crate::next_sets::next_sets;
 use crate::parts::parted;
 use crate::prepared::Prepared;
 use crate::status::Status;
-use crate::tests_of_calls::{check_deletion, check_document};
+use crate::tests_of_calls::{check_deletion, check_document, check_slot};
 use crate::written_segment::written_segment;
 use common::{AliveBitSet, Analyzer};
 use definitions::Fault;
@@ -38,7 +38,7 @@ use segment::Segment;
 use segment_files::Member;
 use segment_search::{Hit, count, search};
 use settings::Settings;
-use std::alloc::{AllocError, Global};
+use std::alloc::Global;
 use terms::Term;
 
 /// The most segments that an index commits.
@@ -69,7 +69,7 @@ pub struct SegmentCollection<A> {
 
 impl<A: Analyzer + Drop> SegmentCollection<A> {
     ghost use Rattle.segment_collection.specs.Commits.{AreSets, IsPrepared, frame_in, members_with, sets_in};
-    ghost use Rattle.segment_collection.specs.Standing.{IsMadeAlike, PassesLimit, Stands, alive_of, analyzer_of, committed_of, members_of, num_written, open_of, schema_of, settings_of, status_of};
+    ghost use Rattle.segment_collection.specs.Standing.{HasLongSlot, IsMadeAlike, PassesLimit, Stands, alive_of, alloc_of, analyzer_of, committed_of, members_of, num_written, open_of, schema_of, settings_of, state_of, status_of};
 
     /// A collection without documents.
     pub fn new(
@@ -122,14 +122,14 @@ impl<A: Analyzer + Drop> SegmentCollection<A> {
         }
     }
 
-    /// A collection of the members that a file lists, in which nothing waits.
+    /// A collection of the members that a file lists, in which nothing waits; where memory is wanting, the analyzer.
     pub fn of_members(
         alloc: Global,
         analyzer: A,
         schema: Schema,
         settings: Settings,
         members: Vec<Member>,
-    ) -> Result<SegmentCollection<A>, AllocError>
+    ) -> Result<SegmentCollection<A>, A>
         requires listed { AllByRecursion (IsListed schema) members.items }
         requires few { length members.items < 2 ^ 32 }
         ensures stands { (groups : List (List Document))
@@ -139,9 +139,14 @@ impl<A: Analyzer + Drop> SegmentCollection<A> {
         ensures made { IfOk result (λ index. (schema_of index ≡ schema) × (settings_of index ≡ settings)
             × (analyzer_of index ≡ analyzer)) }
         ensures members { IfOk result (λ index. members_of index ≡ map member_of members.items) }
+        ensures err { IfErr result (λ handed. handed ≡ analyzer) }
     {
-        let (segments, alive) = parted(alloc, members)?;
-        Ok(SegmentCollection::of_parts(alloc, analyzer, schema, settings, segments, alive))
+        match parted(alloc, members) {
+            Ok((segments, alive)) => Ok(SegmentCollection::of_parts(
+                alloc, analyzer, schema, settings, segments, alive,
+            )),
+            Err(_) => Err(analyzer),
+        }
     }
 
     /// The analyzer; what waits is dropped.
@@ -166,6 +171,13 @@ impl<A: Analyzer + Drop> SegmentCollection<A> {
         &self.settings
     }
 
+    /// What it takes memory from.
+    pub fn alloc(&self) -> Global
+        ensures { result ≡ alloc_of self.now }
+    {
+        self.alloc
+    }
+
     /// What the index may still do.
     pub fn state(&self) -> Status
         ensures { (c : calls.Configuration) (x : calls.Index) → Stands A.analyze self.now c x
@@ -186,8 +198,8 @@ impl<A: Analyzer + Drop> SegmentCollection<A> {
     }
 
     /// Whether changes are taken.
-    fn check_writer(&self) -> Result<(), Fault>
-        ensures value { result_err result ≡ calls.status_fault (status_of self.now.status) false }
+    pub fn check_writer(&self) -> Result<(), Fault>
+        ensures value { result_err result ≡ calls.status_fault (state_of self.now) false }
         ensures fault { IfErr result (λ fault. (fault ≡ faults.WriterClosed) ⊎ (fault ≡ faults.Closed)) }
     {
         match self.status {
@@ -198,8 +210,9 @@ impl<A: Analyzer + Drop> SegmentCollection<A> {
     }
 
     /// Adds a document; a search sees it after the next commit. One of an unknown field is `UnknownField`, and one with
-    /// a value that can't be indexed `NotIndexable`. Where it fills a segment, the segment is written: want of memory or
-    /// a limit then closes the writer.
+    /// a value that can't be indexed `NotIndexable`; one whose stored values are too long beside a block is `Limit`, and
+    /// changes nothing. Where a document fills a segment, the segment is written: want of memory or a limit then closes
+    /// the writer.
     pub fn add_document(&mut self, doc: CompactDoc) -> Result<(), Fault>
         ensures left { (c : calls.Configuration) (x : calls.Index) → Stands A.analyze self.old c x
             → (y : calls.Index) × calls.Leaves c x (calls.add_document doc) result y × Stands A.analyze self.new c y }
@@ -208,11 +221,15 @@ impl<A: Analyzer + Drop> SegmentCollection<A> {
             → calls.call_fault c x (calls.add_document doc) ≡ Some fault) }
         ensures limit { IfErr result (λ fault. fault ≡ faults.Limit
             → PassesLimit A.analyze self.old (open_of self.old ++ doc ∷ [])) }
+        ensures short { OnOk result (¬ HasLongSlot self.old doc) }
+        ensures long { (c : calls.Configuration) (x : calls.Index) → Stands A.analyze self.old c x
+            → HasLongSlot self.old doc → OnErr result (Stands A.analyze self.new c x) }
         ensures made { IsMadeAlike self.old self.new }
         ensures members { members_of self.new ≡ members_of self.old }
     {
         self.check_writer()?;
         check_document(&self.schema, &doc)?;
+        check_slot(self.alloc, &self.schema, self.settings.block_size(), &doc)?;
         self.open.push(doc)?;
         if self.open.len() < self.settings.docs_per_segment() as usize {
             return Ok(());
@@ -294,6 +311,8 @@ impl<A: Analyzer + Drop> SegmentCollection<A> {
         ensures exact { (c : calls.Configuration) (x : calls.Index) → Stands A.analyze self.old c x
             → IfErr result (λ fault. fault ≢ faults.OutOfMemory → fault ≢ faults.Limit
             → calls.call_fault c x calls.commit_pending ≡ Some fault) }
+        ensures fault { IfErr result (λ fault. (fault ≡ faults.OutOfMemory) ⊎ (fault ≡ faults.Limit)
+            ⊎ (fault ≡ faults.WriterClosed) ⊎ (fault ≡ faults.Closed)) }
         ensures limit { IfErr result (λ fault. fault ≡ faults.Limit
             → PassesLimit A.analyze self.old (open_of self.old) ⊎ (2 ^ 32 ≤ num_written self.new)) }
         ensures body { (c : calls.Configuration) (x : calls.Index) → Stands A.analyze self.old c x

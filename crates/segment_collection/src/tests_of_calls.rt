@@ -1,14 +1,16 @@
 //! What an add and a deletion are refused by.
 
-ghost use Rattle.std.specs.Prelude.{◌≡◌, ◌⊎◌, IfErr, OnOk};
+ghost use Rattle.std.specs.Prelude.{◌+◌, ◌<◌, ◌^◌, ◌≡◌, ◌≤◌, ◌⊎◌, IfErr, OnOk, length};
 ghost use Rattle.std.specs.Result.{result_err};
 ghost use Rattle.definitions.specs.Calls.{delete_fault, document_given, has_unknown_field};
 ghost use Rattle.definitions.specs.declared.fault.Fault.TheVariants as faults;
 ghost use Rattle.segment_collection.specs.Given.{IsGiven};
+ghost use Rattle.segment_layouts.specs.Slots.{slot};
 
 use definitions::Fault;
 use document::CompactDoc;
 use schema::Schema;
+use std::alloc::Global;
 use terms::Term;
 
 /// Why an add doesn't take a document: the schema lacks a field of it, or else a value can't be indexed.
@@ -22,6 +24,24 @@ pub(crate) fn check_document(schema: &Schema, doc: &CompactDoc) -> Result<(), Fa
     }
     if !doc.indexable(schema) {
         return Err(Fault::NotIndexable);
+    }
+    Ok(())
+}
+
+/// Why a document can't be stored: memory is wanting, or its slot is too long beside a block.
+pub(crate) fn check_slot(
+    alloc: Global,
+    schema: &Schema,
+    block_size: u32,
+    doc: &CompactDoc,
+) -> Result<(), Fault>
+    ensures ok { OnOk result (block_size + length (slot schema.now doc.now) + 8 < 2 ^ 32) }
+    ensures err { IfErr result (λ fault. (fault ≡ faults.OutOfMemory)
+        ⊎ ((fault ≡ faults.Limit) × (2 ^ 32 ≤ block_size + length (slot schema.now doc.now) + 8))) }
+{
+    let slot = doc.serialize(alloc, schema)?;
+    if slot.len() + block_size as usize + 8 >= 1 << 32 {
+        return Err(Fault::Limit);
     }
     Ok(())
 }

@@ -7,7 +7,7 @@ use Rattle.engine.specs.Files.{IsOpenRefusal, last_in}
 use Rattle.layouts.proofs.FilesOfRecords.{empty_is_no_index}
 use Rattle.layouts.specs.RecordFiles.{IsFile, IsNoIndex}
 use Rattle.plain.specs.Hits.{documents_of}
-use Rattle.engine.proofs.ErrorsKept.{err_has, memory_caused}
+use Rattle.making.proofs.ErrorsKept.{err_has, memory_caused}
 use Rattle.engine.proofs.LastBodies.{nothing_said, with_docs}
 use Rattle.engine.proofs.IndexedContents.{told_by}
 use Rattle.engine.proofs.contents.read_contents.Goals as goal

@@ -11,7 +11,7 @@ use Rattle.definitions.specs.declared.fault.Fault.TheVariants as faults
 use Rattle.definitions.proofs.Steps.{refused_call}
 use Rattle.plain.specs.Hits.{hit_of, scored}
 use Rattle.plain.specs.Queries.{query_of}
-use Rattle.engine.proofs.ErrorsKept.{err_has}
+use Rattle.making.proofs.ErrorsKept.{err_has}
 use Rattle.index.proofs.Answering.{err_weaker, ok_weaker, read_search, search_answered}
 use Rattle.serde_json.specs.View.{view}
 use Rattle.definitions.specs.Replying.{stops}

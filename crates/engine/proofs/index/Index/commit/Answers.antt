@@ -13,8 +13,8 @@ use Rattle.layouts.specs.RecordFiles.{IsOneOf}
 use Rattle.layouts.specs.RecordBodies.{docs_body}
 use Rattle.records.proofs.CallByCall.{resting}
 use Rattle.engine.proofs.Commits.{body_says, commit_says, stands_kept}
-use Rattle.engine.proofs.ErrorsKept.{limit_is_no_memory, no_limit, writer_caused}
-use Rattle.engine.proofs.Faults.{device_failed, memory_or_other, status_left}
+use Rattle.making.proofs.ErrorsKept.{limit_is_no_memory, no_limit, writer_caused}
+use Rattle.making.proofs.Faults.{device_failed, memory_or_other, status_left}
 use Rattle.engine.proofs.Openings.{same_saying}
 use Rattle.engine.proofs.Standings.{alike_then, err_same, own_refuses, status_refuses}
 use Rattle.engine.proofs.index.Index.commit.Goals as goal

@@ -3,7 +3,7 @@ use Rattle.definitions.proofs.CallRuns.{started}
 use Rattle.engine.specs.Files.{is_first}
 use Rattle.layouts.specs.RecordBodies.{first_body}
 use Rattle.layouts.specs.RecordFiles.{IsFresh}
-use Rattle.engine.proofs.Openings.{same_device}
+use Rattle.making.proofs.Openings.{same_device}
 use Rattle.engine.proofs.index.Index.create.Goals as goal
 
 pub returns-in-Err-clause-kept : goal.returns-in-Err-clause-kept

@@ -10,8 +10,9 @@ use Rattle.engine.specs.Standing.{IsReopened}
 use Rattle.layouts.specs.RecordFiles.{IsAtRest, IsFile, IsFresh, IsOneOf}
 use Rattle.plain.specs.Hits.{documents_of}
 use Rattle.records.specs.Kept.{IsKept, LeavesNow}
-use Rattle.engine.proofs.ErrorsKept.{caused_later}
-use Rattle.engine.proofs.Openings.{err_map, ok_three, ok_two, ok_under, same_saying}
+use Rattle.making.proofs.ErrorsKept.{caused_later}
+use Rattle.making.proofs.Openings.{err_map, ok_three, ok_two, ok_under}
+use Rattle.engine.proofs.Openings.{same_saying}
 use Rattle.engine.proofs.index.Index.open.Goals as goal
 
 pub returns-in-Ok-clause-opened : goal.returns-in-Ok-clause-opened

@@ -3,7 +3,7 @@ use Rattle.engine.specs.Accepting.{all_documents}
 use Rattle.engine.specs.Indexes.{device_of, gate_of}
 use Rattle.layouts.specs.RecordBodies.{docs_body}
 use Rattle.records.proofs.CallByCall.{resting}
-use Rattle.engine.proofs.ErrorsKept.{below_limit}
+use Rattle.making.proofs.ErrorsKept.{below_limit}
 use Rattle.engine.proofs.index.Index.write_commit.Goals as goal
 
 pub returns-in_err-reserve_commit-clause-any_moment : goal.returns-in_err-reserve_commit-clause-any_moment

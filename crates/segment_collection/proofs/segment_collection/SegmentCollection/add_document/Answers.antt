@@ -1,15 +1,17 @@
-use Rattle.std.proofs.Common.{[], ap, arith, false, length, refl, subst, sym, ◌++◌, ◌∙◌, ◌∷◌, ◌<◌, ◌≡◌, ◌≤◌}
+use Rattle.std.proofs.Common.{[], ap, arith, false, length, refl, subst, sym, ◌++◌, ◌+◌, ◌^◌, ◌∙◌, ◌∷◌, ◌<◌, ◌≡◌, ◌≤◌, ◌⊎◌}
 use Rattle.std.specs.List.{AllZip}
 use Rattle.std.specs.Result.{result_err}
 use Rattle.definitions.specs.Calls as calls
 use Rattle.definitions.specs.State as states
 use Rattle.definitions.specs.declared.fault.Fault.TheVariants as faults
 use Rattle.segment.specs.Opened.{StandsFor}
+use Rattle.segment_collection.proofs.LongSlots.{long_passes, long_slot}
 use Rattle.segment_collection.proofs.Outcomes.{err_has, err_same, own_refuses, ready_of, status_refuses}
 use Rattle.segment_collection.proofs.Committing.{half_left}
 use Rattle.segment_collection.proofs.Standings.{add_taken, added_closed_stands, added_open_stands, kept_stands, ready_status, sets_within}
 use Rattle.segment_collection.specs.Limits.{DocumentsPass}
 use Rattle.segment_collection.specs.Standing.{Stands}
+use Rattle.segment_layouts.specs.Slots.{slot}
 use Rattle.segment_collection.proofs.segment_collection.SegmentCollection.add_document.Goals as goal
 
 pub returns-in_err-check_writer-clause-left : goal.returns-in_err-check_writer-clause-left
@@ -27,8 +29,26 @@ returns-in_err-check_document-clause-left g c k x s =
     let fault = c.in_err-check_document.field-0.0 in
     let ready = ap (λ status. calls.status_fault status false) s.status ∙ sym c.check_writer.ensures.value ∙ ap result_err c.in_ok-check_writer.was in
     let refuses = own_refuses k x call ready ∙ ap (λ (m : calls.Configuration). result_err (calls.document_given m.schema doc)) s.made ∙ sym c.check_document.ensures.fault ∙ ap result_err c.in_err-check_document.was in
-    subst (λ r. (y : calls.Index) × calls.Leaves k x call r y × Stands g.A.Analyzer.analyze c.args.self.now k y) (err_same c.from_residual-in_err-check_document.result fault c.from_residual-in_err-check_document.ensures.1)
-    (x, calls.refused fault refuses, s)
+    (x, subst (λ r. calls.Leaves k x call r x) (err_same c.from_residual-in_err-check_document.result fault c.from_residual-in_err-check_document.ensures.1) (calls.refused fault refuses), kept_stands g.A.Analyzer.analyze c.args.self.now _ (record { analyzer = refl; schema = refl; settings = refl }) k x s refl refl refl refl refl)
+
+pub returns-in_err-check_slot-clause-left : goal.returns-in_err-check_slot-clause-left
+returns-in_err-check_slot-clause-left g c k x s =
+    let old = c.args.self.now in
+    let doc = c.args.doc in
+    let call = calls.add_document doc in
+    let fault = c.in_err-check_slot.field-0.0 in
+    let none = ap (λ status. calls.status_fault status false) s.status ∙ sym c.check_writer.ensures.value ∙ ap result_err c.in_ok-check_writer.was in
+    let taken = add_taken g.A.Analyzer.analyze old k x s doc c.in_ok-check_document.ensures.given none in
+    (x, subst (λ r. calls.Leaves k x call r x) (err_same c.from_residual-in_err-check_slot.result fault c.from_residual-in_err-check_slot.ensures.1) (long_slot k x call fault c.in_err-check_slot.ensures.err none taken refl), kept_stands g.A.Analyzer.analyze old _ (record { analyzer = refl; schema = refl; settings = refl }) k x s refl refl refl refl refl)
+
+pub returns-in_err-check_slot-clause-limit : goal.returns-in_err-check_slot-clause-limit
+returns-in_err-check_slot-clause-limit g c =
+    let old = c.args.self.now in
+    let analyze = g.A.Analyzer.analyze old.analyzer in
+    let fault = c.in_err-check_slot.field-0.0 in
+    let err = subst (λ n. (fault ≡ faults.OutOfMemory) ⊎ ((fault ≡ faults.Limit) × (2 ^ 32 ≤ n + length (slot old.schema c.args.doc) + 8))) c.block_size.ensures c.in_err-check_slot.ensures.err in
+    err_has c.from_residual-in_err-check_slot.result fault (λ f. f ≡ faults.Limit → DocumentsPass old.schema analyze old.settings.block_size (old.open.items ++ c.args.doc ∷ [])) c.from_residual-in_err-check_slot.ensures.1
+    (λ is. long_passes old.schema analyze old.settings.block_size old.open.items c.args.doc fault err is)
 
 pub returns-in_err-push-clause-left : goal.returns-in_err-push-clause-left
 returns-in_err-push-clause-left g c k x s =

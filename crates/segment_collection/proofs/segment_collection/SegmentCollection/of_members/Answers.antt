@@ -9,19 +9,19 @@ use Rattle.segment_collection.specs.Parts.{segment_in}
 use Rattle.segment_collection.proofs.segment_collection.SegmentCollection.of_members.Goals as goal
 
 pub of_parts-requires-clause-opened : goal.of_parts-requires-clause-opened
-of_parts-requires-clause-opened g c = subst (AllByRecursion (IsOpened c.args.schema)) (sym c.in_ok-segments.ensures.segments) (all_opened c.args.schema c.args.members.items c.requires.listed)
+of_parts-requires-clause-opened g c = subst (AllByRecursion (IsOpened c.args.schema)) (sym c.in-Ok.ensures.segments) (all_opened c.args.schema c.args.members.items c.requires.listed)
 
 pub of_parts-requires-clause-flagged : goal.of_parts-requires-clause-flagged
 of_parts-requires-clause-flagged g c =
     let listed = c.args.members.items in
-    let sets = c.in_ok-segments.alive.items in
-    subst (λ ss. AreFlagged ss sets) (sym c.in_ok-segments.ensures.segments) (subst (AreFlagged (map segment_in listed)) (sym c.in_ok-segments.ensures.alive) (all_flagged c.args.schema listed c.requires.listed))
+    let sets = c.in-Ok.alive.items in
+    subst (λ ss. AreFlagged ss sets) (sym c.in-Ok.ensures.segments) (subst (AreFlagged (map segment_in listed)) (sym c.in-Ok.ensures.alive) (all_flagged c.args.schema listed c.requires.listed))
 
-pub returns-clause-stands : goal.returns-clause-stands
-returns-clause-stands g c groups h =
+pub returns-in-Ok-clause-stands : goal.returns-in-Ok-clause-stands
+returns-in-Ok-clause-stands g c groups h =
     let listed = c.args.members.items in
-    let same : members c.in_ok-segments.segments.items c.in_ok-segments.alive.items ≡ map member_of listed = ap₂ members c.in_ok-segments.ensures.segments c.in_ok-segments.ensures.alive ∙ parts_are listed in
+    let same : members c.in-Ok.segments.items c.in-Ok.alive.items ≡ map member_of listed = ap₂ members c.in-Ok.ensures.segments c.in-Ok.ensures.alive ∙ parts_are listed in
     c.of_parts.ensures.stands groups (subst (λ ms. AllZip (IsGroup c.args.schema (g.A.Analyzer.analyze c.args.analyzer)) ms groups) (sym same) h)
 
-pub returns-clause-members : goal.returns-clause-members
-returns-clause-members g c = c.of_parts.ensures.members ∙ ap₂ members c.in_ok-segments.ensures.segments c.in_ok-segments.ensures.alive ∙ parts_are c.args.members.items
+pub returns-in-Ok-clause-members : goal.returns-in-Ok-clause-members
+returns-in-Ok-clause-members g c = c.of_parts.ensures.members ∙ ap₂ members c.in-Ok.ensures.segments c.in-Ok.ensures.alive ∙ parts_are c.args.members.items

@@ -1,7 +1,7 @@
 use Rattle.std.proofs.Common.{map, ◌≡◌}
 use Rattle.std.specs.List.{list_all}
 use Rattle.definitions.specs.Making.{is_analyzed}
-use Rattle.engine.proofs.collection.are_analyzed.Given as goal
+use Rattle.making.proofs.checks.are_analyzed.Given as goal
 
 -- the fields that are left decide
 abbrev pub invariant-loop-field : goal.invariant-loop-field

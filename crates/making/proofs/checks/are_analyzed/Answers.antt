@@ -1,8 +1,8 @@
 use Rattle.std.proofs.Common.{ap, map, ◌∙◌}
 use Rattle.std.specs.List.{list_all}
 use Rattle.definitions.specs.Making.{is_analyzed}
-use Rattle.engine.proofs.FieldLists.{numbered}
-use Rattle.engine.proofs.collection.are_analyzed.Goals as goal
+use Rattle.making.proofs.FieldLists.{numbered}
+use Rattle.making.proofs.checks.are_analyzed.Goals as goal
 
 pub loop-field-init : goal.loop-field-init
 loop-field-init g c =

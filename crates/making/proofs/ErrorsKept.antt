@@ -6,7 +6,7 @@ use Rattle.std.specs.Prelude.{IsErrAnd, IsErrOf}
 use Rattle.definitions.specs.Disk.{HasCause}
 use Rattle.definitions.specs.declared.fault.Fault.{Fault}
 use Rattle.definitions.specs.declared.fault.Fault.TheVariants as faults
-use Rattle.engine.proofs.Faults.{device_failed, is_limit, writer_faults}
+use Rattle.making.proofs.Faults.{device_failed, is_limit, writer_faults}
 
 -- what holds of an error holds of a result that has it
 pub err_has : {T : Type 0} (r : Result T Fault) (fault : Fault) (P : Fault → Type 0) → IsErrAnd r (λ e. e ≡ fault) → P fault → IfErr r P

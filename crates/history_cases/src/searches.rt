@@ -1,0 +1,35 @@
+//! Operations that ask the index.
+
+use crate::histories::Histories;
+use case_lines::{Arguments, Refusal, number, pair};
+use query_lines::query_by_steps;
+use segment_search::Hit;
+use serde_json::Value;
+use std::alloc::{AllocError, Global};
+
+impl Histories {
+    /// The best hits of a query, so many at most, each as its score and what is stored.
+    pub(crate) fn search(&mut self, arguments: &Arguments) -> Result<Value, Refusal> {
+        let limit = arguments.number(0)?;
+        let query = query_by_steps(self.alloc, arguments.list(1)?)?;
+        let alloc = self.alloc;
+        let hits = self.standing_mut()?.search(&query, limit as usize)?;
+        Ok(shown(alloc, &hits)?)
+    }
+
+    /// How many documents match a query.
+    pub(crate) fn count(&self, arguments: &Arguments) -> Result<Value, Refusal> {
+        let query = query_by_steps(self.alloc, arguments.list(0)?)?;
+        Ok(number(self.standing()?.count(&query)?))
+    }
+}
+
+/// The score of each hit, and what is stored of its document.
+fn shown(alloc: Global, hits: &[Hit]) -> Result<Value, AllocError> {
+    let mut values = Vec::new(alloc);
+    for hit in hits {
+        let doc = hit.doc.to_json_value(alloc)?;
+        values.push(pair(alloc, number(hit.score as u64), doc)?)?;
+    }
+    Ok(Value::Array(values))
+}

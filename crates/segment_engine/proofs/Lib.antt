@@ -1,0 +1,6 @@
+-- Lemmas behind the index over segments and its file.
+pub mod FileSayings
+pub mod Commits
+pub mod Refusals
+pub mod Adding
+pub mod Readings
