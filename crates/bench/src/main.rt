@@ -1,12 +1,13 @@
 //! `bench`: how fast the crates work, measured at their public calls.
 //!
-//! With one word it prints a table: `blocks`, `cursors`, `scores`, `texts` and `segments` (which read them from standard
-//! input), or `files`. Without a word it prints nothing.
+//! With one word it prints a table: `blocks`, `cursors`, `scores`, `texts`, `segments` and `merges` (which read them from
+//! standard input), or `files`. Without a word it prints nothing.
 #![tactic(auto)]
 
 mod block_codes;
 mod cursor_walks;
 mod files;
+mod merges;
 mod score_walks;
 mod segment_steps;
 mod segments;
@@ -28,6 +29,7 @@ enum Bench {
     Texts,
     Files,
     Segments,
+    Merges,
 }
 
 fn main(rt: HostRuntime) -> ExitCode {
@@ -47,6 +49,7 @@ fn measure(rt: &HostRuntime, bench: Bench) -> Result<(), Fault> {
         Bench::Texts => texts::measure_input(rt, rt.alloc()),
         Bench::Files => files::measure_all(rt),
         Bench::Segments => segments::measure_input(rt, rt.alloc()),
+        Bench::Merges => merges::measure_input(rt, rt.alloc()),
     }
 }
 
@@ -70,6 +73,7 @@ fn bench_of(word: &str) -> Bench {
         "texts" => Bench::Texts,
         "files" => Bench::Files,
         "segments" => Bench::Segments,
+        "merges" => Bench::Merges,
         _ => Bench::Nothing,
     }
 }

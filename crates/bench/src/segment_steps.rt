@@ -19,10 +19,10 @@ use std::alloc::Global;
 use store::{Bytes, StoreWriter};
 
 /// How many bytes of documents close a block of the store.
-const BLOCK_SIZE: usize = 16384;
+pub(crate) const BLOCK_SIZE: usize = 16384;
 
 /// How many blocks the cache of an open segment keeps.
-const CACHE_NUM_BLOCKS: usize = 100;
+pub(crate) const CACHE_NUM_BLOCKS: usize = 100;
 
 /// What was measured of documents: times in nanoseconds, and how many bytes their segment has.
 #[derive(Clone, Copy)]
@@ -115,7 +115,7 @@ fn storing(
 }
 
 /// How long the documents take to be added to a segment, and this to be closed, and its bytes.
-fn writing(
+pub(crate) fn writing(
     rt: &HostRuntime,
     alloc: Global,
     schema: &Schema,

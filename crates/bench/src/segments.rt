@@ -84,7 +84,7 @@ fn print_step(rt: &HostRuntime, name: &str, nanos: u128, len: usize) {
 }
 
 /// A value for each line; lines that are no JSON are left out.
-fn values(alloc: Global, text: &str) -> Result<Vec<Value>, Fault> {
+pub(crate) fn values(alloc: Global, text: &str) -> Result<Vec<Value>, Fault> {
     let mut values = Vec::new(alloc);
     for line in text.lines() {
         if let Ok(value) = Value::from_str(alloc, line) {
@@ -95,7 +95,11 @@ fn values(alloc: Global, text: &str) -> Result<Vec<Value>, Fault> {
 }
 
 /// A document for each value.
-fn documents(alloc: Global, schema: &Schema, lines: &[Value]) -> Result<Vec<CompactDoc>, Fault> {
+pub(crate) fn documents(
+    alloc: Global,
+    schema: &Schema,
+    lines: &[Value],
+) -> Result<Vec<CompactDoc>, Fault> {
     let mut docs = Vec::with_capacity(alloc, lines.len())?;
     for line in lines {
         docs.push(CompactDoc::from_json_object(alloc, schema, line)?)?;
@@ -104,7 +108,7 @@ fn documents(alloc: Global, schema: &Schema, lines: &[Value]) -> Result<Vec<Comp
 }
 
 /// All fields are stored, and keep their lengths.
-fn schema_with_lengths(alloc: Global) -> Result<Schema, Fault> {
+pub(crate) fn schema_with_lengths(alloc: Global) -> Result<Schema, Fault> {
     let mut fields = Schema::builder(alloc);
     fields.add_text_field("title", TEXT | STORED)?;
     fields.add_text_field("body", TEXT | STORED)?;

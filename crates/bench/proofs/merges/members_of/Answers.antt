@@ -1,0 +1,9 @@
+use Rattle.std.proofs.Common.{subst, sym}
+use Rattle.segment_merger.specs.Members.{AreOpened, IsMember}
+use Rattle.segment_writer.proofs.Adding.{all_more}
+use Rattle.bench.proofs.merges.members_of.Goals as goal
+
+pub loop-part-preserved : goal.loop-part-preserved
+loop-part-preserved c =
+    let schema = c.args.schema.now in
+    subst (AreOpened schema) (sym c.in_ok-push.ensures.items) (all_more (IsMember schema) c.loop-part.members.items _ c.loop-part.invariant c.in_ok-member_of.ensures)
