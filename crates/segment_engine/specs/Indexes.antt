@@ -92,10 +92,6 @@ module _ {D A : Type 0} {d : devices.Ghosts D} where
       (after : List Member) × Makes (IsSegment (schema_of index)) (members_of index) after body
       × AllZip (IsGroup (schema_of index) (analyze (analyzer_of index))) after groups
 
-  -- over an honest device a ready index rests in its file
-  abbrev pub IsInFile : Index D A d → calls.Index → Type 0
-  IsInFile index x = IsTrue (d.honest (device_of index)) → x.status ≡ calls.ready → IndexRests index
-
   -- a file with nothing after its closed gate has one record more, and that record makes these groups
   abbrev pub AppendsRecord : (A → Analyzer) → Index D A d → Index D A d → List (List Document) → Type 0
   AppendsRecord analyze old new groups =

@@ -57,6 +57,12 @@ impl<D: Device + Drop, A: Analyzer + Drop> Index<D, A> {
             → IfErr result (λ fault. fault ≡ faults.Limit
             → (doc : Document) × (read_json c.schema text.now ≡ Ok doc)
             × PassesLimit A.analyze self.old (open_of self.old ++ doc ∷ [])) }
+        ensures short { (c : calls.Configuration) (x : calls.Index) (doc : Document)
+            → IndexStands A.analyze self.old c x → read_json c.schema text.now ≡ Ok doc
+            → OnOk result (¬ HasLongSlot self.old doc) }
+        ensures long { (c : calls.Configuration) (x : calls.Index) (doc : Document)
+            → IndexStands A.analyze self.old c x → read_json c.schema text.now ≡ Ok doc → HasLongSlot self.old doc
+            → OnErr result (IndexStands A.analyze self.new c x) }
         ensures made { KeepsMaking self.old self.new }
         ensures file { KeepsFile self.old self.new }
     {
@@ -77,6 +83,12 @@ impl<D: Device + Drop, A: Analyzer + Drop> Index<D, A> {
             → IfErr result (λ fault. fault ≡ faults.Limit
             → (doc : Document) × (read_data c.schema (view value.now) ≡ Ok doc)
             × PassesLimit A.analyze self.old (open_of self.old ++ doc ∷ [])) }
+        ensures short { (c : calls.Configuration) (x : calls.Index) (doc : Document)
+            → IndexStands A.analyze self.old c x → read_data c.schema (view value.now) ≡ Ok doc
+            → OnOk result (¬ HasLongSlot self.old doc) }
+        ensures long { (c : calls.Configuration) (x : calls.Index) (doc : Document)
+            → IndexStands A.analyze self.old c x → read_data c.schema (view value.now) ≡ Ok doc → HasLongSlot self.old doc
+            → OnErr result (IndexStands A.analyze self.new c x) }
         ensures made { KeepsMaking self.old self.new }
         ensures file { KeepsFile self.old self.new }
     {

@@ -10,7 +10,7 @@ ghost use Rattle.segment_engine.specs.Files.{IsFileOf, LeavesMembers};
 ghost use Rattle.segment_layouts.specs.SegmentBodies.{Member};
 ghost use Rattle.segment_layouts.specs.SegmentFiles.{IsGroup, LeavesGroups};
 
-/// Bytes are the file of one index, with one list of segments. So they are opened with the same answers each time.
+/// Bytes are the file of at most one index, and leave at most one list of segments.
 pub fn a_file_leaves_one_list()
     ensures { (schema fields : Schema) (settings numbers : Settings) (members others : List Member) (bytes : List ℕ)
         → LeavesMembers schema settings members bytes → LeavesMembers fields numbers others bytes

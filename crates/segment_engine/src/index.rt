@@ -164,7 +164,7 @@ impl<D: Device + Drop, A: Analyzer + Drop> Index<D, A> {
         self.collection.settings()
     }
 
-    /// The allocator that the index was made with.
+    /// What it takes memory from.
     pub fn alloc(&self) -> Global
         ensures { result ≡ alloc_of self.now }
     {

@@ -6,8 +6,8 @@ use Rattle.definitions.specs.Values.{Document}
 use Rattle.definitions.specs.declared.fault.Fault.TheVariants as faults
 use Rattle.segment_collection.proofs.Outcomes.{err_has, err_map, err_same, own_refuses, status_refuses}
 use Rattle.segment_collection.specs.Standing.{Stands}
-use Rattle.segment_engine.specs.Indexes.{PassesLimit, open_of}
-use Rattle.segment_engine.proofs.Adding.{adds_json, adds_value, as_other, early_no_limit, no_limit, no_text_is, same_refusal, text_is, unread_left}
+use Rattle.segment_engine.specs.Indexes.{HasLongSlot, PassesLimit, open_of}
+use Rattle.segment_engine.proofs.Adding.{adds_json, adds_value, any_refusal, as_other, early_no_limit, no_limit, no_text_is, refused_no_ok, same_refusal, text_is, unread_left}
 use Rattle.serde_json.specs.View.{view}
 use Rattle.segment_engine.proofs.index.Index.add_json.Goals as goal
 
@@ -91,3 +91,27 @@ returns-clause-limit g c k x s =
     let is : read_json k.schema text ≡ read_data k.schema d = ap (λ o. elim o [ None ↦ Err faults.NotAnObject | Some v ↦ read_data k.schema v ]) c.in_ok-json.ensures.ok in
     err_map c.add_value.result (λ f. f ≡ faults.Limit → (doc : Document) × (read_data k.schema d ≡ Ok doc) × PassesLimit g.A.Analyzer.analyze c.args.self.now (open_of c.args.self.now ++ doc ∷ [])) (λ f. f ≡ faults.Limit → (doc : Document) × (read_json k.schema c.args.text.now ≡ Ok doc) × PassesLimit g.A.Analyzer.analyze c.args.self.now (open_of c.args.self.now ++ doc ∷ []))
     (λ f passes limit. let p = passes limit in (p.0, is ∙ p.1, p.2)) (c.add_value.ensures.limit k x s)
+
+pub returns-in_err-check_writer-clause-short : goal.returns-in_err-check_writer-clause-short
+returns-in_err-check_writer-clause-short g c k x doc s is = refused_no_ok c.from_residual.result c.in_err-check_writer.field-0.0 (¬ HasLongSlot c.args.self.now doc) c.from_residual.ensures.1
+
+pub returns-in_err-check_writer-clause-long : goal.returns-in_err-check_writer-clause-long
+returns-in_err-check_writer-clause-long g c k x doc s is long = any_refusal c.from_residual.result _ s
+
+pub returns-in_err-json-clause-short : goal.returns-in_err-json-clause-short
+returns-in_err-json-clause-short g c k x doc s is = refused_no_ok c.from_residual-in_err-json.result c.in_err-json.field-0.0 (¬ HasLongSlot c.args.self.now doc) c.from_residual-in_err-json.ensures.1
+
+pub returns-in_err-json-clause-long : goal.returns-in_err-json-clause-long
+returns-in_err-json-clause-long g c k x doc s is long = any_refusal c.from_residual-in_err-json.result _ s
+
+pub returns-clause-short : goal.returns-clause-short
+returns-clause-short g c k x doc s is =
+    let d = view c.in_ok-json.json in
+    let read : read_json k.schema c.args.text.now ≡ read_data k.schema d = ap (λ o. elim o [ None ↦ Err faults.NotAnObject | Some v ↦ read_data k.schema v ]) c.in_ok-json.ensures.ok in
+    c.add_value.ensures.short k x doc s (sym read ∙ is)
+
+pub returns-clause-long : goal.returns-clause-long
+returns-clause-long g c k x doc s is long =
+    let d = view c.in_ok-json.json in
+    let read : read_json k.schema c.args.text.now ≡ read_data k.schema d = ap (λ o. elim o [ None ↦ Err faults.NotAnObject | Some v ↦ read_data k.schema v ]) c.in_ok-json.ensures.ok in
+    c.add_value.ensures.long k x doc s (sym read ∙ is) long

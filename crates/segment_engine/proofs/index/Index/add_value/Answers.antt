@@ -1,4 +1,4 @@
-use Rattle.std.proofs.Common.{[], Ok, Some, ap, false, sym, subst, ◌++◌, ◌∙◌, ◌∷◌, ◌≡◌, ◌≢◌}
+use Rattle.std.proofs.Common.{[], Ok, Some, ap, false, sym, subst, ◌++◌, ◌∙◌, ◌∷◌, ◌≡◌, ◌≢◌, OnOk}
 use Rattle.std.specs.Result.{result_err}
 use Rattle.definitions.specs.Calls as calls
 use Rattle.definitions.specs.Reading.{read_data}
@@ -6,8 +6,8 @@ use Rattle.definitions.specs.Values.{Document}
 use Rattle.definitions.specs.declared.fault.Fault.TheVariants as faults
 use Rattle.segment_collection.proofs.Outcomes.{err_has, err_map, err_same, own_refuses, status_refuses}
 use Rattle.segment_collection.specs.Standing.{Stands}
-use Rattle.segment_engine.specs.Indexes.{PassesLimit, open_of}
-use Rattle.segment_engine.proofs.Adding.{adds_document, adds_value, as_other, early_no_limit, given_is, no_limit, same_refusal, unread_left}
+use Rattle.segment_engine.specs.Indexes.{HasLongSlot, PassesLimit, open_of}
+use Rattle.segment_engine.proofs.Adding.{adds_document, adds_value, any_refusal, as_other, early_no_limit, given_is, no_limit, one_document, refused_no_ok, same_refusal, unread_left}
 use Rattle.serde_json.specs.View.{view}
 use Rattle.segment_engine.proofs.index.Index.add_value.Goals as goal
 
@@ -93,3 +93,29 @@ returns-clause-limit g c k x s =
     let read : read_data k.schema d ≡ Ok doc = ap (λ (m : calls.Configuration). read_data m.schema d) s.made ∙ ap (λ t. read_data t d) (sym c.schema.ensures) ∙ c.in_ok-doc.ensures.ok in
     err_map c.add_document.result (λ f. f ≡ faults.Limit → PassesLimit g.A.Analyzer.analyze c.args.self.now (open_of c.args.self.now ++ doc ∷ [])) (λ f. f ≡ faults.Limit → (doc : Document) × (read_data k.schema (view c.args.value.now) ≡ Ok doc) × PassesLimit g.A.Analyzer.analyze c.args.self.now (open_of c.args.self.now ++ doc ∷ []))
     (λ f passes limit. (doc, read, passes limit)) c.add_document.ensures.limit
+
+pub returns-in_err-check_writer-clause-short : goal.returns-in_err-check_writer-clause-short
+returns-in_err-check_writer-clause-short g c k x doc s is = refused_no_ok c.from_residual.result c.in_err-check_writer.field-0.0 (¬ HasLongSlot c.args.self.now doc) c.from_residual.ensures.1
+
+pub returns-in_err-check_writer-clause-long : goal.returns-in_err-check_writer-clause-long
+returns-in_err-check_writer-clause-long g c k x doc s is long = any_refusal c.from_residual.result _ s
+
+pub returns-in_err-doc-clause-short : goal.returns-in_err-doc-clause-short
+returns-in_err-doc-clause-short g c k x doc s is = refused_no_ok c.from_residual-in_err-doc.result c.in_err-doc.field-0.0 (¬ HasLongSlot c.args.self.now doc) c.from_residual-in_err-doc.ensures.1
+
+pub returns-in_err-doc-clause-long : goal.returns-in_err-doc-clause-long
+returns-in_err-doc-clause-long g c k x doc s is long = any_refusal c.from_residual-in_err-doc.result _ s
+
+pub returns-clause-short : goal.returns-clause-short
+returns-clause-short g c k x doc s is =
+    let d = view c.args.value.now in
+    let found = c.in_ok-doc.doc in
+    let read : read_data k.schema d ≡ Ok found = ap (λ (m : calls.Configuration). read_data m.schema d) s.made ∙ ap (λ t. read_data t d) (sym c.schema.ensures) ∙ c.in_ok-doc.ensures.ok in
+    subst (λ e. OnOk c.add_document.result (¬ HasLongSlot c.args.self.now e)) (one_document (read_data k.schema d) found doc read is) c.add_document.ensures.short
+
+pub returns-clause-long : goal.returns-clause-long
+returns-clause-long g c k x doc s is long =
+    let d = view c.args.value.now in
+    let found = c.in_ok-doc.doc in
+    let read : read_data k.schema d ≡ Ok found = ap (λ (m : calls.Configuration). read_data m.schema d) s.made ∙ ap (λ t. read_data t d) (sym c.schema.ensures) ∙ c.in_ok-doc.ensures.ok in
+    c.add_document.ensures.long k x s (subst (HasLongSlot c.args.self.now) (sym (one_document (read_data k.schema d) found doc read is)) long)
