@@ -1,21 +1,26 @@
 //! Operations that make an index, open it again and change it.
 
-use crate::histories::Histories;
+use crate::histories::{CaseIndex, Histories};
 use crate::stopping_device::StoppingDevice;
 use case_lines::{Arguments, Refusal, flag, number};
 use common::RawAndDefault;
+use definitions::Fault;
+use document_lines::document_of_values;
 use query_lines::term_in;
 use schema::Schema;
-use segment_engine::Index;
+use segment_engine::{Index, Refused};
 use serde_json::Value;
 use settings::Settings;
+
+/// An index that was made or opened, or why not.
+type Made = Result<CaseIndex, Refused<StoppingDevice, RawAndDefault>>;
 
 impl Histories {
     /// Keeps the schema of the indexes that are made.
     pub(crate) fn make_schema(&mut self, arguments: &Arguments) -> Result<Value, Refusal> {
         let json = arguments.value(0)?;
         let schema = Schema::from_json_value(self.alloc, json)?;
-        self.schema = json.clone(self.alloc)?;
+        self.schema = json.clone()?;
         Ok(number(schema.num_fields() as u64))
     }
 
@@ -25,8 +30,7 @@ impl Histories {
         let schema = Schema::from_json_value(self.alloc, &self.schema)?;
         let settings = Settings::from_json_value(self.alloc, &schema, arguments.value(0)?)?;
         let device = StoppingDevice::new(self.alloc);
-        self.index = Some(Index::create(self.alloc, device, RawAndDefault, schema, settings)?);
-        Ok(flag(true))
+        self.put(Index::create(self.alloc, device, RawAndDefault, schema, settings))
     }
 
     /// Opens the file of the index that stands; what waits is lost.
@@ -41,6 +45,19 @@ impl Histories {
     /// Adds the document in an object.
     pub(crate) fn add(&mut self, arguments: &Arguments) -> Result<Value, Refusal> {
         self.standing_mut()?.add_value(arguments.value(0)?)?;
+        Ok(flag(true))
+    }
+
+    /// Adds the document in a text.
+    pub(crate) fn add_text(&mut self, arguments: &Arguments) -> Result<Value, Refusal> {
+        self.standing_mut()?.add_json(arguments.text(0)?)?;
+        Ok(flag(true))
+    }
+
+    /// Adds the values of fields, by their numbers.
+    pub(crate) fn add_values(&mut self, arguments: &Arguments) -> Result<Value, Refusal> {
+        let doc = document_of_values(self.alloc, arguments.list(0)?)?;
+        self.standing_mut()?.add_document(doc)?;
         Ok(flag(true))
     }
 
@@ -59,7 +76,17 @@ impl Histories {
 
     /// Lets the index of a device's file stand.
     pub(crate) fn put_opened(&mut self, device: StoppingDevice) -> Result<Value, Refusal> {
-        self.index = Some(Index::open(self.alloc, device, RawAndDefault)?);
-        Ok(flag(true))
+        self.put(Index::open(self.alloc, device, RawAndDefault))
+    }
+
+    /// Lets an index stand that was made or opened.
+    fn put(&mut self, made: Made) -> Result<Value, Refusal> {
+        match made {
+            Ok(index) => {
+                self.index = Some(index);
+                Ok(flag(true))
+            }
+            Err(refused) => Err(Refusal::Fault(Fault::from(refused))),
+        }
     }
 }

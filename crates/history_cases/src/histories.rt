@@ -62,6 +62,8 @@ impl Operations for Histories {
             "open" => self.open(),
             "open-until" => self.open_until(arguments),
             "add" => self.add(arguments),
+            "add-text" => self.add_text(arguments),
+            "add-values" => self.add_values(arguments),
             "delete" => self.delete(arguments),
             "commit" => self.commit(),
             "crash" => self.crash(arguments),

@@ -10,6 +10,7 @@ mod stopping_device;
 
 use case_lines::answers;
 use histories::Histories;
+use serde_json::Value;
 use std::io;
 use std::process::ExitCode;
 

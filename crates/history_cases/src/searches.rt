@@ -29,7 +29,7 @@ fn shown(alloc: Global, hits: &[Hit]) -> Result<Value, AllocError> {
     let mut values = Vec::new(alloc);
     for hit in hits {
         let doc = hit.doc.to_json_value(alloc)?;
-        values.push(pair(alloc, number(hit.score as u64), doc)?)?;
+        values.push(pair(alloc, number(hit.score.unsigned_abs()), doc)?)?;
     }
     Ok(Value::Array(values))
 }
