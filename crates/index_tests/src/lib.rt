@@ -3,6 +3,8 @@
 #![tactic(auto)]
 
 #[cfg(test)]
+mod creating;
+#[cfg(test)]
 mod files;
 #[cfg(test)]
 mod hits;
@@ -10,7 +12,5 @@ mod hits;
 mod indexes;
 #[cfg(test)]
 mod library;
-#[cfg(test)]
-mod making;
 #[cfg(test)]
 mod queries;
