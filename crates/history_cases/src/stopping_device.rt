@@ -1,6 +1,6 @@
 //! A device that stops at one of its calls, and what a crash leaves of it.
 
-ghost use Rattle.std.specs.Prelude.{◌≡◌, IfErr, OnOk};
+ghost use Rattle.std.specs.Prelude.{◌≡◌, IfErr, IsErrOf};
 ghost use Rattle.definitions.specs.declared.fault.Fault.TheVariants as faults;
 ghost use Rattle.definitions.specs.Disk.{HasCause};
 
@@ -60,7 +60,9 @@ impl StoppingDevice {
     }
 
     /// Writes over what stands at a place, and past the end.
-    fn put(&mut self, at: usize, bytes: &[u8]) -> Result<(), Fault> {
+    fn put(&mut self, at: usize, bytes: &[u8]) -> Result<(), Fault>
+        ensures { self.new.failed ≡ self.old.failed }
+    {
         if at > self.bytes.len() {
             return Err(Fault::Device);
         }
@@ -72,7 +74,9 @@ impl StoppingDevice {
     }
 
     /// Whether one more call is taken.
-    fn takes_call(&mut self) -> bool {
+    fn takes_call(&mut self) -> bool
+        ensures { self.new.failed ≡ self.old.failed }
+    {
         if self.left == 0 {
             return false;
         }
@@ -83,7 +87,7 @@ impl StoppingDevice {
     /// How a call ends that is done or isn't; one that isn't is counted as a failure.
     fn ended(&mut self, done: bool) -> Result<(), Fault>
         ensures cause { HasCause self.old.failed self.new.failed result }
-        ensures counted { OnOk result (self.new.failed ≡ self.old.failed) }
+        ensures counted { ¬ IsErrOf result faults.Device → self.new.failed ≡ self.old.failed }
         ensures fault { IfErr result (λ fault. fault ≡ faults.Device) }
     {
         if done {
