@@ -1,9 +1,9 @@
 -- A request that is read does what its call does.
 use Rattle.std.proofs.Common.{List, ℕ, ◌∙◌, ◌≡◌, Bool, Err, None, Ok, Option, Result, Some, ap, ap₂, cond, false, is_some, ok_or, option_map, refl, subst, true, true≢false, unwrap_or}
 use Rattle.std.specs.Prelude.{⊤}
-use Rattle.definitions.specs.Built.{built_query_in}
 use Rattle.definitions.specs.Calls.{Call, Configuration, Index, Status, call_fault, closed, count_all, delete_term, only_reads, own_fault, ready, search_best, status_fault, writer_closed}
 use Rattle.std.specs.Option.{option_or}
+use Rattle.definitions.specs.QueryGrammar.{query_in}
 use Rattle.definitions.specs.Requests.{Request, add_doc, commit_all, count_docs, create_index, delete_docs, merge_groups, open_index, search_docs}
 use Rattle.definitions.specs.Scanning.{scan}
 use Rattle.definitions.specs.Schema.{Schema}
@@ -32,8 +32,8 @@ reads_alike schema (add_doc d) = refl
 reads_alike schema (delete_docs d) = elim (term_in schema d) as (λ o. ReadsAs false (ok_or (option_map delete_term o) faults.BadTerm)) [ Some t ↦ refl | None ↦ tt ]
 reads_alike schema (merge_groups from to) = refl
 reads_alike schema commit_all = refl
-reads_alike schema (search_docs d k) = elim (built_query_in schema d) as (λ o. ReadsAs true (ok_or (option_map (λ q. search_best q k) o) faults.BadQuery)) [ Some q ↦ refl | None ↦ tt ]
-reads_alike schema (count_docs d) = elim (built_query_in schema d) as (λ o. ReadsAs true (ok_or (option_map count_all o) faults.BadQuery)) [ Some q ↦ refl | None ↦ tt ]
+reads_alike schema (search_docs d k) = elim (query_in schema d) as (λ o. ReadsAs true (ok_or (option_map (λ q. search_best q k) o) faults.BadQuery)) [ Some q ↦ refl | None ↦ tt ]
+reads_alike schema (count_docs d) = elim (query_in schema d) as (λ o. ReadsAs true (ok_or (option_map count_all o) faults.BadQuery)) [ Some q ↦ refl | None ↦ tt ]
 reads_alike schema (create_index s t) = tt
 reads_alike schema open_index = tt
 

@@ -2,6 +2,7 @@
 use Rattle.std.specs.Prelude.{[], ◌&&◌, ◌==◌, ◌^◌, ◌∷◌, Bool, List, None, Option, Some, bytes_eq, codes, false, find, length, nat_lt, option_map, pos, unwrap_or, zip, ℕ}
 use Rattle.std.specs.List.{list_all, range_with_len}
 use Rattle.definitions.specs.Json.{at_or, has_only, list_of, named, number_at, number_below, number_in, only_if, text_at, ◌>>=◌}
+use Rattle.definitions.specs.Phrases.{by_offset}
 use Rattle.definitions.specs.Query.{Clauses, Occur, Queries, Query, Terms, all, boolean, boost, clause, const_score, default_minimum, disjunction_max, empty, must, must_not, no_clauses, no_queries, phrase, phrase_prefix, query, should, term}
 use Rattle.definitions.specs.Refusing.{all_expansions}
 use Rattle.definitions.specs.Schema.{IndexRecordOption, Schema, basic, with_freqs, with_freqs_and_positions}
@@ -64,12 +65,12 @@ terms_in schema d = list_of (term_in schema) d >>= (λ ts. only_if (share_field 
 abbrev pub offset_limit : ℕ
 offset_limit = 2 ^ 32
 
--- the terms of a phrase, each with its offset, which is its place where none is given
+-- the terms of a phrase in the order of their offsets, which are their places where none are given
 abbrev pub terms_at : Schema → json.Data → Option Terms
 terms_at schema d = do
   ts ← get (codes "terms") d >>= terms_in schema
   offsets ← at_or (range_with_len 0 (length ts)) (list_of (number_below offset_limit)) (codes "offsets") d
-  only_if (length offsets == length ts) (Some (zip offsets ts))
+  only_if (length offsets == length ts) (Some (by_offset (zip offsets ts)))
 
 -- terms beside each other, with slop 0 where none is given
 abbrev pub phrase_query : Schema → json.Data → Option Query

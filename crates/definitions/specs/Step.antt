@@ -1,11 +1,12 @@
 -- A line in, a line out: what the program replies, and what stands after it.
 use Rattle.std.specs.Prelude.{[], ◌∷◌, Bool, Err, List, None, Ok, Option, Result, Some, false, if◌then◌else◌, ok_or, option_map, true, ℕ}
 use Rattle.definitions.specs.Analyzers.{Analyzer}
-use Rattle.definitions.specs.Built.{built_query_in, built_request_in}
+use Rattle.definitions.specs.Built.{built_request_in}
 use Rattle.definitions.specs.Calls.{Call, Configuration, Index, Status, add_value, after, closed, commit_pending, count_all, delete_term, merge_range, own_fault, ready, search_best, status_fault, writer_closed}
 use Rattle.definitions.specs.Json.{◌>>=◌}
 use Rattle.definitions.specs.Making.{are_analyzed, making_fault}
 use Rattle.std.specs.Option.{option_or}
+use Rattle.definitions.specs.QueryGrammar.{query_in}
 use Rattle.definitions.specs.Replies.{count_reply, error_reply, hits_reply, ok_reply, reply_of}
 use Rattle.definitions.specs.Requests.{Request, add_doc, commit_all, count_docs, create_index, delete_docs, merge_groups, open_index, search_docs}
 use Rattle.definitions.specs.Scanning.{scan, scan_count}
@@ -67,8 +68,8 @@ call_in schema (add_doc d) = Ok (add_value d)
 call_in schema (delete_docs d) = ok_or (option_map delete_term (term_in schema d)) faults.BadTerm
 call_in schema (merge_groups from to) = Ok (merge_range from to)
 call_in schema commit_all = Ok commit_pending
-call_in schema (search_docs d k) = ok_or (option_map (λ q. search_best q k) (built_query_in schema d)) faults.BadQuery
-call_in schema (count_docs d) = ok_or (option_map count_all (built_query_in schema d)) faults.BadQuery
+call_in schema (search_docs d k) = ok_or (option_map (λ q. search_best q k) (query_in schema d)) faults.BadQuery
+call_in schema (count_docs d) = ok_or (option_map count_all (query_in schema d)) faults.BadQuery
 call_in schema _ = Err faults.BadRequest
 
 -- ---- one request

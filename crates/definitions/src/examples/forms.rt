@@ -79,10 +79,10 @@ pub fn simple_queries_are_read()
     ensures array { from_text (query_in kinds_schema) "[{\"q\":\"all\"}]" ≡ None }
 {}
 
-/// The terms of a phrase stand at their places in the list unless offsets are given.
+/// The terms of a phrase stand at their places in the list unless offsets are given, and in the order of these.
 pub fn phrases_are_read()
     ensures in_a_row { from_text (query_in kinds_schema) "{\"q\":\"phrase\",\"terms\":[{\"field\":\"s\",\"value\":\"a\"},{\"field\":\"s\",\"value\":\"b\"}]}" ≡ Some (phrase ((0, 0 ∷ 0 ∷ 0 ∷ 0 ∷ codes "sa") ∷ (1, 0 ∷ 0 ∷ 0 ∷ 0 ∷ codes "sb") ∷ []) 0) }
-    ensures offsets { from_text (query_in kinds_schema) "{\"q\":\"phrase\",\"terms\":[{\"field\":\"s\",\"value\":\"a\"},{\"field\":\"s\",\"value\":\"b\"}],\"offsets\":[4294967295,0],\"slop\":4294967295}" ≡ Some (phrase ((4294967295, 0 ∷ 0 ∷ 0 ∷ 0 ∷ codes "sa") ∷ (0, 0 ∷ 0 ∷ 0 ∷ 0 ∷ codes "sb") ∷ []) 4294967295) }
+    ensures offsets { from_text (query_in kinds_schema) "{\"q\":\"phrase\",\"terms\":[{\"field\":\"s\",\"value\":\"a\"},{\"field\":\"s\",\"value\":\"b\"}],\"offsets\":[4294967295,0],\"slop\":4294967295}" ≡ Some (phrase ((0, 0 ∷ 0 ∷ 0 ∷ 0 ∷ codes "sb") ∷ (4294967295, 0 ∷ 0 ∷ 0 ∷ 0 ∷ codes "sa") ∷ []) 4294967295) }
     ensures one_term { from_text (query_in kinds_schema) "{\"q\":\"phrase\",\"terms\":[{\"field\":\"s\",\"value\":\"a\"}]}" ≡ None }
     ensures two_fields { from_text (query_in kinds_schema) "{\"q\":\"phrase\",\"terms\":[{\"field\":\"s\",\"value\":\"a\"},{\"field\":\"u\",\"value\":5}]}" ≡ None }
     ensures numbers { from_text (query_in kinds_schema) "{\"q\":\"phrase\",\"terms\":[{\"field\":\"o\",\"value\":true},{\"field\":\"o\",\"value\":false}]}" ≡ Some (phrase ((0, 0 ∷ 0 ∷ 0 ∷ 3 ∷ codes "o" ++ (replicate 7 0 ++ (1 ∷ []))) ∷ (1, 0 ∷ 0 ∷ 0 ∷ 3 ∷ codes "o" ++ replicate 8 0) ∷ []) 0) }
