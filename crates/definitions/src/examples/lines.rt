@@ -70,7 +70,8 @@ pub fn other_lines_are_refused()
     ensures missing_key { reply book_session "{\"op\":\"search\",\"query\":{\"q\":\"all\"}}" ≡ codes "{\"error\":\"BadRequest\"}" }
     ensures wrong_key { reply book_session "{\"op\":\"add\",\"document\":{}}" ≡ codes "{\"error\":\"BadRequest\"}" }
     ensures not_utf8 { answers_to book_session ((codes "{\"op\":\"add\",\"doc\":{\"title\":\"" ++ (255 ∷ codes "\"}}")) ∷ []) ≡ codes "{\"error\":\"BadRequest\"}" ∷ [] }
-    ensures not_yet { answers_to book_session (codes "{\"op\":\"delete\",\"term\":{\"field\":\"year\",\"value\":1}}" ∷ codes "{\"op\":\"merge\",\"from\":0,\"to\":1}" ∷ []) ≡ codes "{\"error\":\"BadRequest\"}" ∷ codes "{\"error\":\"BadRequest\"}" ∷ [] }
+    ensures deletion { answers_to book_session (codes "{\"op\":\"delete\",\"term\":{\"field\":\"year\",\"value\":1}}" ∷ codes "{\"op\":\"delete\",\"term\":{\"field\":\"year\"}}" ∷ []) ≡ codes "{\"ok\":true}" ∷ codes "{\"error\":\"BadTerm\"}" ∷ [] }
+    ensures not_yet { reply book_session "{\"op\":\"merge\",\"from\":0,\"to\":1}" ≡ codes "{\"error\":\"BadRequest\"}" }
 {}
 
 /// Numbers are whole, from 0 to 2 to the 63rd less 1.
@@ -114,7 +115,7 @@ pub fn queries_are_read_and_tested()
     ensures no_object { reply book_session "{\"op\":\"count\",\"query\":5}" ≡ codes "{\"error\":\"BadQuery\"}" }
     ensures unknown_field { reply book_session "{\"op\":\"count\",\"query\":{\"q\":\"term\",\"field\":\"x\",\"value\":5}}" ≡ codes "{\"error\":\"BadQuery\"}" }
     ensures other_kind { reply book_session "{\"op\":\"count\",\"query\":{\"q\":\"term\",\"field\":\"year\",\"value\":\"5\"}}" ≡ codes "{\"error\":\"BadQuery\"}" }
-    ensures not_yet { reply book_session "{\"op\":\"count\",\"query\":{\"q\":\"bool\",\"must\":[{\"q\":\"const\",\"score\":1,\"query\":{\"q\":\"all\"}}]}}" ≡ codes "{\"error\":\"BadQuery\"}" }
+    ensures inside { reply three_books_session "{\"op\":\"count\",\"query\":{\"q\":\"bool\",\"must\":[{\"q\":\"const\",\"score\":1,\"query\":{\"q\":\"all\"}}]}}" ≡ codes "{\"count\":3}" }
     ensures every { reply three_books_session "{\"op\":\"count\",\"query\":{\"q\":\"bool\",\"must\":[{\"q\":\"all\"}]}}" ≡ codes "{\"count\":3}" }
     ensures not_indexed { reply unindexed_session "{\"op\":\"search\",\"k\":1,\"query\":{\"q\":\"term\",\"field\":\"title\",\"value\":\"sea\"}}" ≡ codes "{\"error\":\"NotIndexed\"}" }
 {}
