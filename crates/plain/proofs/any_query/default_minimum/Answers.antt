@@ -1,7 +1,0 @@
-use Rattle.std.proofs.Common.{sym, ◌∙◌}
-use Rattle.plain.proofs.ClauseSteps.{minimum_of_all}
-use Rattle.plain.proofs.any_query.default_minimum.Goals as goal
-
--- src/any_query.rt:152:1
-pub returns-then-all_should : goal.returns-then-all_should
-returns-then-all_should c = minimum_of_all c.args.clauses.now (sym c.is_empty.ensures ∙ c.if-not-is_empty.true) (sym c.all_should.ensures ∙ c.if-all_should.true)

@@ -1,2 +1,0 @@
-pub mod QueryForms
-pub mod QuerySteps

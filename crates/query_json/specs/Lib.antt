@@ -1,2 +1,0 @@
-pub mod BuiltQueries
-pub mod QueryNames

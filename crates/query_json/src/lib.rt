@@ -1,6 +1,0 @@
-//! Queries read from JSON.
-#![tactic(auto)]
-
-mod json_queries;
-
-pub use json_queries::read_query;
