@@ -1,9 +1,10 @@
 -- The terms of a phrase by the steps in which they are read.
-use Rattle.std.proofs.Common.{[], ◌+◌, ◌++◌, zero, Bool, List, None, Option, Some, ap, ap₂, arith, false, length, nat_le, nat_lt, option_and_then, refl, reverse, suc, sym, true, true≢false, zip, ◌&&◌, ◌==◌, ◌∙◌, ◌∷◌, ◌≡◌, ℕ}
+use Rattle.std.proofs.Common.{[], ◌+◌, ◌++◌, zero, Bool, List, None, Option, Some, ap, ap₂, arith, false, length, nat_le, nat_lt, option_and_then, option_map, refl, reverse, suc, sym, true, true≢false, zip, ◌&&◌, ◌==◌, ◌∙◌, ◌∷◌, ◌≡◌, ℕ}
 use Rattle.std.proofs.lemmas.Bool.{eqb-true}
 use Rattle.std.proofs.lemmas.Bool.Decides.{nat_tests}
 use Rattle.std.specs.List.{list_all, range_with_len}
 use Rattle.definitions.specs.Json.{list_of, only_if}
+use Rattle.definitions.specs.Phrases.{by_offset}
 use Rattle.definitions.specs.Query.{Terms}
 use Rattle.definitions.specs.QueryGrammar.{share_field, terms_at, terms_in}
 use Rattle.definitions.specs.Schema.{Schema}
@@ -84,9 +85,23 @@ found_tested : (schema : Schema) (d : json.Data) (o : Option json.Data) → opti
 found_tested schema d None = refl
 found_tested schema d (Some x) = listed_tested d (list_of (term_in schema) x)
 
--- terms, each with its offset, are read and then tested
-pub by_steps : (schema : Schema) (d : json.Data) → terms_at schema d ≡ option_and_then tested (option_and_then (with_offsets d) (given_terms schema d))
-by_steps schema d = found_tested schema d (get (codes "terms") d)
+beside_sorted : (b : Bool) (ps : Terms) → only_if b (Some (by_offset ps)) ≡ option_map by_offset (only_if b (Some ps))
+beside_sorted true ps = refl
+beside_sorted false ps = refl
+
+offsets_sorted : (ts : List (List ℕ)) (o : Option (List ℕ)) → option_and_then (λ os. only_if (length os == length ts) (Some (by_offset (zip os ts)))) o ≡ option_map by_offset (option_and_then (beside ts) o)
+offsets_sorted ts None = refl
+offsets_sorted ts (Some os) = beside_sorted (length os == length ts) (zip os ts)
+
+terms_sorted : (d : json.Data) (o : Option (List (List ℕ))) → option_and_then (λ ts. option_and_then (λ os. only_if (length os == length ts) (Some (by_offset (zip os ts)))) (offsets_at (length ts) d)) o ≡ option_map by_offset (option_and_then (with_offsets d) o)
+terms_sorted d None = refl
+terms_sorted d (Some ts) = offsets_sorted ts (offsets_at (length ts) d)
+
+-- terms, each with its offset, are read, then tested, and then sorted
+pub by_steps : (schema : Schema) (d : json.Data) → terms_at schema d ≡ option_map by_offset (option_and_then tested (option_and_then (with_offsets d) (given_terms schema d)))
+by_steps schema d =
+    let found = get (codes "terms") d in
+    terms_sorted d (option_and_then (terms_in schema) found) ∙ ap (option_map by_offset) (found_tested schema d found)
 
 one_or_more : (n : ℕ) → nat_le 1 (suc n) ≡ true
 one_or_more n = grind (arith, nat_tests)

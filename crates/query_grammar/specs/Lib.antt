@@ -1,4 +1,3 @@
-pub mod OrderedQueries
 pub mod QueryNames
 pub mod ReadPhrases
 pub mod ReadQueries

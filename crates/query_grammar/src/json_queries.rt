@@ -5,9 +5,8 @@ ghost use Rattle.definitions.specs.Json as keys;
 ghost use Rattle.definitions.specs.Query.{no_queries};
 ghost use Rattle.definitions.specs.QueryGrammar as definitions;
 ghost use Rattle.definitions.specs.declared.fault.Fault.TheVariants as faults;
-ghost use Rattle.query_grammar.specs.OrderedQueries.{in_order};
 ghost use Rattle.query_grammar.specs.QueryNames.{form_of};
-ghost use Rattle.query_grammar.specs.ReadQueries.{Gives, ordered_formed, ordered_items, ordered_many_at, ordered_one_at, ordered_queries_in};
+ghost use Rattle.query_grammar.specs.ReadQueries.{Gives, formed};
 ghost use Rattle.query_trees.specs.Queries.{clauses_of, queries_of, query_of};
 ghost use Rattle.serde_json.specs.Data.{Data, depth};
 ghost use Rattle.serde_json.specs.Find.{get};
@@ -26,12 +25,10 @@ use schema::Schema;
 use serde_json::Value as Json;
 use std::alloc::Global;
 
-/// The query in a JSON object, whose key `q` names its form. Phrases have their terms in the order of offsets. Calls
-/// nest as deep as the object.
+/// The query in a JSON object, whose key `q` names its form. Calls nest as deep as the object.
 #[cycle(read_query)]
 pub fn read_query(alloc: Global, schema: &Schema, json: &Json) -> Result<AnyQuery, Fault>
-    ensures ok { IfOk result (λ query.
-        option_map in_order (definitions.query_in schema.now (view json.now)) ≡ Some (query_of query)) }
+    ensures ok { IfOk result (λ query. definitions.query_in schema.now (view json.now) ≡ Some (query_of query)) }
     ensures err { IfErr result (λ fault. fault ≢ faults.OutOfMemory
         → (fault ≡ faults.BadQuery) × (definitions.query_in schema.now (view json.now) ≡ None)) }
 {
@@ -44,7 +41,7 @@ pub fn read_query(alloc: Global, schema: &Schema, json: &Json) -> Result<AnyQuer
 /// The query of a form.
 #[cycle(read_query)]
 fn read_form(alloc: Global, schema: &Schema, form: Form, json: &Json) -> Result<AnyQuery, Fault>
-    ensures { Gives query_of result (ordered_formed (form_of form) schema.now (view json.now)) }
+    ensures { Gives query_of result (formed (form_of form) schema.now (view json.now)) }
 {
     match form {
         Form::All => read_all_query(json),
@@ -82,7 +79,7 @@ fn read_empty_query(json: &Json) -> Result<AnyQuery, Fault>
 /// The query for clauses.
 #[cycle(read_query)]
 fn read_boolean_query(alloc: Global, schema: &Schema, json: &Json) -> Result<AnyQuery, Fault>
-    ensures { Gives query_of result (definitions.bool_query (ordered_many_at schema.now (view json.now)) (view json.now)) }
+    ensures { Gives query_of result (definitions.bool_query (definitions.many_at schema.now (view json.now)) (view json.now)) }
 {
     if !has_only(json, &["q", "must", "should", "must_not", "min"]) {
         return Err(Fault::BadQuery);
@@ -98,7 +95,7 @@ fn read_clauses(
     schema: &Schema,
     json: &Json,
 ) -> Result<Vec<(Occur, AnyQuery)>, Fault>
-    ensures { Gives (λ clauses. clauses_of clauses.items) result (definitions.clauses_at (ordered_many_at schema.now (view json.now))) }
+    ensures { Gives (λ clauses. clauses_of clauses.items) result (definitions.clauses_at (definitions.many_at schema.now (view json.now))) }
 {
     let musts = read_queries_at(alloc, schema, json, "must")?;
     let shoulds = read_queries_at(alloc, schema, json, "should")?;
@@ -117,7 +114,7 @@ fn read_disjunction_max_query(
     schema: &Schema,
     json: &Json,
 ) -> Result<AnyQuery, Fault>
-    ensures { Gives query_of result (definitions.dismax_query (ordered_many_at schema.now (view json.now)) (view json.now)) }
+    ensures { Gives query_of result (definitions.dismax_query (definitions.many_at schema.now (view json.now)) (view json.now)) }
 {
     if !has_only(json, &["q", "queries", "tie"]) {
         return Err(Fault::BadQuery);
@@ -145,7 +142,7 @@ fn tie_at(json: &Json) -> Option<i64>
 /// The query for a query with a boost.
 #[cycle(read_query)]
 fn read_boost_query(alloc: Global, schema: &Schema, json: &Json) -> Result<AnyQuery, Fault>
-    ensures { Gives query_of result (definitions.boost_query (ordered_one_at schema.now (view json.now)) (view json.now)) }
+    ensures { Gives query_of result (definitions.boost_query (definitions.one_at schema.now (view json.now)) (view json.now)) }
 {
     if !has_only(json, &["q", "boost", "query"]) {
         return Err(Fault::BadQuery);
@@ -160,7 +157,7 @@ fn read_boost_query(alloc: Global, schema: &Schema, json: &Json) -> Result<AnyQu
 /// The query for a query with one score.
 #[cycle(read_query)]
 fn read_const_score_query(alloc: Global, schema: &Schema, json: &Json) -> Result<AnyQuery, Fault>
-    ensures { Gives query_of result (definitions.const_query (ordered_one_at schema.now (view json.now)) (view json.now)) }
+    ensures { Gives query_of result (definitions.const_query (definitions.one_at schema.now (view json.now)) (view json.now)) }
 {
     if !has_only(json, &["q", "score", "query"]) {
         return Err(Fault::BadQuery);
@@ -191,7 +188,7 @@ fn read_signed(json: &Json) -> Option<i64>
 /// The query at a key.
 #[cycle(read_query)]
 fn read_query_at(alloc: Global, schema: &Schema, json: &Json, key: &str) -> Result<AnyQuery, Fault>
-    ensures { Gives query_of result (ordered_one_at schema.now (view json.now) key.now) }
+    ensures { Gives query_of result (definitions.one_at schema.now (view json.now) key.now) }
 {
     match child_at(json, key) {
         Some(child) => read_query(alloc, schema, child),
@@ -207,7 +204,7 @@ fn read_queries_at(
     json: &Json,
     key: &str,
 ) -> Result<Vec<AnyQuery>, Fault>
-    ensures { Gives (λ queries. queries_of queries.items) result (unwrap_or (ordered_many_at schema.now (view json.now) key.now) (Some no_queries)) }
+    ensures { Gives (λ queries. queries_of queries.items) result (unwrap_or (definitions.many_at schema.now (view json.now) key.now) (Some no_queries)) }
 {
     match child_at(json, key) {
         Some(list) => read_queries(alloc, schema, list),
@@ -227,7 +224,7 @@ fn child_at<'a>(json: &'a Json, key: &str) -> Option<&'a Json>
 /// The queries in an array.
 #[cycle(read_query)]
 fn read_queries(alloc: Global, schema: &Schema, json: &Json) -> Result<Vec<AnyQuery>, Fault>
-    ensures { Gives (λ queries. queries_of queries.items) result (ordered_queries_in schema.now (view json.now)) }
+    ensures { Gives (λ queries. queries_of queries.items) result (definitions.queries_in schema.now (view json.now)) }
 {
     match json {
         Json::Array(items) => read_items(alloc, schema, items.as_slice()),
@@ -239,7 +236,7 @@ fn read_queries(alloc: Global, schema: &Schema, json: &Json) -> Result<Vec<AnyQu
 #[cycle(read_query)]
 #[tactic(auto, using(crate::proofs::QuerySteps::item_depth))]
 fn read_items(alloc: Global, schema: &Schema, items: &[Json]) -> Result<Vec<AnyQuery>, Fault>
-    ensures { Gives (λ queries. queries_of queries.items) result (ordered_items schema.now (items_view items.now)) }
+    ensures { Gives (λ queries. queries_of queries.items) result (definitions.items_in schema.now (items_view items.now)) }
 {
     let mut queries = Vec::with_capacity(alloc, items.len())?;
     for item in items {

@@ -3,8 +3,8 @@
 ghost use Rattle.std.specs.Prelude.{◌≡◌, IfOk, IfSome, codes, option_map, true, zip};
 ghost use Rattle.std.specs.List.{range_with_len};
 ghost use Rattle.definitions.specs.Json as keys;
+ghost use Rattle.definitions.specs.Phrases.{by_offset};
 ghost use Rattle.definitions.specs.QueryGrammar as definitions;
-ghost use Rattle.query_grammar.specs.OrderedQueries.{in_order};
 ghost use Rattle.query_grammar.specs.ReadPhrases.{given_terms, offsets_at, with_offsets};
 ghost use Rattle.definitions.specs.TermGrammar.{term_in};
 ghost use Rattle.query_grammar.specs.ReadQueries.{Gives};
@@ -27,7 +27,7 @@ pub(crate) fn read_phrase_query(
     schema: &Schema,
     json: &Json,
 ) -> Result<AnyQuery, Fault>
-    ensures { Gives query_of result (option_map in_order (definitions.phrase_query schema.now (view json.now))) }
+    ensures { Gives query_of result (definitions.phrase_query schema.now (view json.now)) }
 {
     if !has_only(json, &["q", "terms", "offsets", "slop"]) {
         return Err(Fault::BadQuery);
@@ -48,7 +48,7 @@ pub(crate) fn read_phrase_prefix_query(
     schema: &Schema,
     json: &Json,
 ) -> Result<AnyQuery, Fault>
-    ensures { Gives query_of result (option_map in_order (definitions.prefix_query schema.now (view json.now))) }
+    ensures { Gives query_of result (definitions.prefix_query schema.now (view json.now)) }
 {
     if !has_only(json, &["q", "terms", "offsets"]) {
         return Err(Fault::BadQuery);
@@ -61,14 +61,14 @@ pub(crate) fn read_phrase_prefix_query(
     Ok(AnyQuery::PhrasePrefix(query))
 }
 
-/// The terms of a phrase, each with its offset: two or more, all of one field.
+/// The terms of a phrase, each with its offset, as they are given: two or more, all of one field.
 #[tactic(auto, using(crate::proofs::PhraseSteps::by_steps))]
 fn terms_at(
     alloc: Global,
     schema: &Schema,
     json: &Json,
 ) -> Result<Option<Vec<(usize, Term)>>, AllocError>
-    ensures terms { IfOk result (λ found. option_map (λ terms. terms.items) found ≡ definitions.terms_at schema.now (view json.now)) }
+    ensures terms { IfOk result (λ found. option_map (λ terms. by_offset terms.items) found ≡ definitions.terms_at schema.now (view json.now)) }
     ensures phrase { IfOk result (λ found. IfSome found (λ terms. are_phrase_terms 2 terms.items ≡ true)) }
 {
     let Some(terms) = given_terms(alloc, schema, json)? else {

@@ -1,5 +1,5 @@
 use Rattle.std.proofs.Common.{drop, option_map, ◌*◌, ◌+◌, ◌≡◌}
-use Rattle.query_grammar.specs.ReadQueries.{ordered_items}
+use Rattle.definitions.specs.QueryGrammar.{items_in}
 use Rattle.query_grammar.proofs.QuerySteps.{before}
 use Rattle.serde_json.specs.Data.{depth, items_depth}
 use Rattle.serde_json.specs.View.{items_view, view}
@@ -41,4 +41,4 @@ decreases-read_items l = 7 * items_depth (items_view l.items.now) + 7
 
 -- the queries that were read, and what is left
 abbrev pub invariant-read_items-loop-item : goal.invariant-read_items-loop-item
-invariant-read_items-loop-item l = option_map (before l.queries.items) (ordered_items l.schema (items_view (drop l.item-index l.items))) ≡ ordered_items l.schema (items_view l.items)
+invariant-read_items-loop-item l = option_map (before l.queries.items) (items_in l.schema (items_view (drop l.item-index l.items))) ≡ items_in l.schema (items_view l.items)
