@@ -1,5 +1,5 @@
-//! Operations that make an index over a device, change it and end it: `create`, `open`, `add`, `add-value`, `commit`,
-//! `state` and `close`.
+//! Operations that make an index over a device, change it and end it: `create`, `open`, `add`, `add-value`, `delete`,
+//! `commit`, `state` and `close`.
 
 use crate::answers::{json_in, ok};
 use crate::cases::{Cases, MemoryIndex};
@@ -22,6 +22,7 @@ impl Cases {
             "open" => self.open()?,
             "add" => self.add(arguments)?,
             "add-value" => self.add_value(arguments)?,
+            "delete" => self.delete(arguments)?,
             "commit" => self.commit()?,
             "state" => return Ok(Some(self.state()?)),
             "close" => self.close()?,
@@ -39,7 +40,7 @@ impl Cases {
     }
 
     /// The index that stands, to be changed.
-    fn standing_mut(&mut self) -> Result<&mut MemoryIndex, Fault> {
+    pub(crate) fn standing_mut(&mut self) -> Result<&mut MemoryIndex, Fault> {
         match &mut self.index {
             Some(index) => Ok(index),
             None => Err(Fault::NotOpen),
@@ -66,6 +67,12 @@ impl Cases {
     /// Adds a document as a text.
     fn add(&mut self, text: &str) -> Result<(), Fault> {
         self.standing_mut()?.add_json(text)
+    }
+
+    /// Deletes the documents with a term, which is read by the schema of the index.
+    fn delete(&mut self, text: &str) -> Result<(), Fault> {
+        let term = self.term_in(text)?;
+        self.standing_mut()?.delete_term(&term)
     }
 
     /// Commits what waits.

@@ -5,12 +5,13 @@ use crate::cases::Cases;
 use crate::readings::{settings_text, term_text};
 use definitions::Fault;
 use index::{AnyQuery, Hit, Settings, read_query, read_term};
+use schema::Term;
 use std::alloc::{AllocError, Global};
 
 impl Cases {
     /// The answer, if this is such an operation.
     pub(crate) fn answer_of_search(
-        &self,
+        &mut self,
         operation: &str,
         arguments: &str,
     ) -> Result<Option<String>, Fault> {
@@ -31,13 +32,13 @@ impl Cases {
     }
 
     /// The best hits of a query; the arguments are how many, and the query.
-    fn search(&self, arguments: &str) -> Result<String, Fault> {
+    fn search(&mut self, arguments: &str) -> Result<String, Fault> {
         let (k, query) = arguments.split_once(' ').ok_or(Fault::BadRequest)?;
         let Ok(k) = k.parse::<usize>() else {
             return Err(Fault::BadRequest);
         };
         let query = self.query(query)?;
-        let hits = self.standing()?.search(&query, k)?;
+        let hits = self.standing_mut()?.search(&query, k)?;
         Ok(hits_text(self.alloc, &hits)?)
     }
 
@@ -61,9 +62,13 @@ impl Cases {
 
     /// The term in a text, read by the schema of the index.
     fn term(&self, text: &str) -> Result<String, Fault> {
+        Ok(term_text(self.alloc, &self.term_in(text)?)?)
+    }
+
+    /// The term in a text, as it is.
+    pub(crate) fn term_in(&self, text: &str) -> Result<Term, Fault> {
         let json = json_in(self.alloc, text)?;
-        let term = read_term(self.alloc, self.standing()?.schema(), &json)?;
-        Ok(term_text(self.alloc, &term)?)
+        read_term(self.alloc, self.standing()?.schema(), &json)
     }
 }
 
