@@ -32,7 +32,7 @@ fn with_two_books<D: Device + Drop>(alloc: Global, device: D) -> Result<D, Fault
 
 // Whether the hits of `sea` in the index of a file are these, downwards.
 fn is_sea_found(alloc: Global, device: FileDevice, scores: &[Score]) -> Result<bool, Fault> {
-    let index = Index::open(alloc, device, RawAndDefault)?;
+    let mut index = Index::open(alloc, device, RawAndDefault)?;
     let sea = Term::from_field_text(alloc, index.schema().get_field("title")?, "sea")?;
     let query = AnyQuery::Term(TermQuery::new(sea, IndexRecordOption::WithFreqs));
     let hits = index.search(&query, 10)?;

@@ -91,10 +91,11 @@ option_stops None = false
 option_stops (Some fault) = stops fault
 
 -- what a status refuses
-pub status_goes_on : (status : calls.Status) (fault : Fault) → calls.status_fault status true ≡ Some fault → stops fault ≡ false
-status_goes_on calls.ready fault is = absurd (none_is_no_fault fault is)
-status_goes_on calls.writer_closed fault is = absurd (none_is_no_fault fault is)
-status_goes_on calls.closed fault is = sym (ap option_stops is)
+pub status_goes_on : (status : calls.Status) (reads : Bool) (fault : Fault) → calls.status_fault status reads ≡ Some fault → stops fault ≡ false
+status_goes_on calls.ready reads fault is = absurd (none_is_no_fault fault is)
+status_goes_on calls.writer_closed true fault is = absurd (none_is_no_fault fault is)
+status_goes_on calls.writer_closed false fault is = sym (ap option_stops is)
+status_goes_on calls.closed reads fault is = sym (ap option_stops is)
 
 -- what no index can be made of
 pub making_goes_on : (knows : List ℕ → Bool) (schema : Schema) (settings : Settings) (fault : Fault) → making_fault knows schema settings ≡ Some fault → stops fault ≡ false
@@ -188,3 +189,22 @@ change_is_memory change (Err e) on same stop = stop_is_memory {T = ⊤} e (Err e
 pub any_answer : {T E : Type 0} (r : Result T E) (P : Type 0) → P → OnOk r P
 any_answer (Ok t) P p = p
 any_answer (Err e) P p = tt
+
+-- an add's error is no failure of the device, so that it needs no cause
+pub add_cause : {T U : Type 0} (c : calls.Configuration) (x : calls.Index) (call : calls.Call) (n : ℕ) (change : Result T Fault) (r : Result U Fault) → IfErr change (λ fault. fault ≢ faults.OutOfMemory → fault ≢ faults.Limit → calls.call_fault c x call ≡ Some fault) → IfErr r (λ e. change ≡ Err e) → HasCause n n r
+add_cause c x call n change (Ok u) exact same = record { later = omega arith; cause = λ device. absurd (let e = device in cc) }
+add_cause c x call n change (Err fault) exact same = record { later = omega arith; cause = λ device. absurd (no_device (sym (ap error_in device))) }
+  where
+    refused : fault ≢ faults.OutOfMemory → fault ≢ faults.Limit → calls.call_fault c x call ≡ Some fault
+    refused = (subst (λ ch. IfErr ch (λ e. e ≢ faults.OutOfMemory → e ≢ faults.Limit → calls.call_fault c x call ≡ Some e)) same exact)
+
+    no_device : faults.Device ≡ fault → ⊥
+    no_device is =
+        let other : fault ≢ faults.OutOfMemory = λ memory. device_failed (is ∙ memory) in
+        let no_limit : fault ≢ faults.Limit = λ limit. let e : faults.Device ≡ faults.Limit = is ∙ limit in cc in
+        true≢false (ap is_failure is ∙ refused_by_no_failure c x call fault (refused other no_limit))
+
+-- what holds of a limit holds where there is one
+pub met_limit : {T : Type 0} (r : Result T Fault) (P : Type 0) → IfErr r (λ fault. fault ≡ faults.Limit → P) → IsErrOf r faults.Limit → P
+met_limit (Ok t) P h limit = absurd (let e = limit in cc)
+met_limit (Err fault) P h limit = h (ap error_in limit)

@@ -1,6 +1,7 @@
 -- What want of memory or a limit leaves of an index, and of a session.
 use Rattle.std.proofs.Common.{Err, IfErr, IsTrue, Ok, Result, Some, ap, inl, inr, refl, subst, sym, ◌≡◌, ◌≢◌, ◌⊎◌, ◌∙◌}
 use Rattle.std.specs.Bool.{⊤}
+use Rattle.std.specs.Prelude.{OnErr}
 use Rattle.common.specs.declared.analyzer.Analyzer as analyzers
 use Rattle.common.specs.declared.device.Device as devices
 use Rattle.definitions.specs.Analyzers.{Analyzer}
@@ -11,8 +12,8 @@ use Rattle.definitions.specs.State.{State}
 use Rattle.definitions.specs.Step as steps
 use Rattle.definitions.specs.declared.fault.Fault.{Fault}
 use Rattle.definitions.specs.declared.fault.Fault.TheVariants as faults
-use Rattle.engine.specs.Indexes.{IndexStands, IsInFile, KeepsFile, KeepsMaking, device_of}
-use Rattle.engine.specs.declared.index.Index.{Index}
+use Rattle.segment_engine.specs.Indexes.{IndexStands, IsInFile, KeepsFile, KeepsMaking, device_of}
+use Rattle.segment_engine.specs.declared.index.Index.{Index}
 use Rattle.index.specs.Replying.{OnlyStops, closed_writer}
 use Rattle.index.specs.Sessions.{HasHeld, HasStage, IsIndex, IsLeft, StandsFor, analysis_of, without_writer}
 use Rattle.index.specs.declared.session.Session.{Session}
@@ -29,6 +30,11 @@ error_of_change change (Err e) P same h = subst (λ ch. IfErr ch P) same h
 pub any_error : {T : Type 0} (r : Result T Fault) (P : Type 0) → P → IfErr r (λ fault. fault ≢ faults.Device → P)
 any_error (Ok t) P p = tt
 any_error (Err e) P p = λ other. p
+
+-- what holds after an error holds under any
+pub after_error : {T : Type 0} (r : Result T Fault) (P Q : Type 0) → (P → Q) → OnErr r P → IfErr r (λ fault. fault ≢ faults.Device → Q)
+after_error (Ok t) P Q f h = tt
+after_error (Err e) P Q f h = λ other. f h
 
 -- of two facts of an error
 pub error_both : {T : Type 0} (r : Result T Fault) (P Q R : Type 0) → (P → Q → R) → IfErr r (λ fault. fault ≢ faults.Device → P) → IfErr r (λ fault. fault ≢ faults.Device → Q) → IfErr r (λ fault. fault ≢ faults.Device → R)
@@ -69,7 +75,7 @@ module _ {D A : Type 0} {d : devices.Ghosts D} {a : analyzers.Ghosts A} where
       → s.stage ≡ steps.index_of fields numbers x → after.stage ≡ Some (Standing new) → IsIndex a.knows_name a.analyze s.analysis old fields numbers x → KeepsMaking old new → IsTrue (d.honest (device_of old))
       → OnlyStops a.analyze old new (steps.configuration_of fields s.analysis.analyze numbers) x → (t : steps.Session) × IsLeft s t × StandsFor after t
   index_left s after old new fields numbers x same is index made honest left = elim left.stands [
-    | inl stands ↦ (session x, (refl, inl (sym same)), standing x refl stands (in_file_still old new x x made left.file refl refl index.rests))
+    | inl stands ↦ (session x, (refl, inl (sym same)), standing x refl stands (in_file_still old new x x made left.file refl index.rests))
     | inr stands ↦ (session (closed_writer x), (refl, inr (inl (ap without_writer (sym same)))), standing (closed_writer x) refl stands (λ h ready. absurd (not_ready ready)))
   ]
     where
@@ -83,6 +89,6 @@ module _ {D A : Type 0} {d : devices.Ghosts D} {a : analyzers.Ghosts A} where
         numbers = made.settings ∙ index.numbers;
         stands = stands;
         rests = rests;
-        known = inr (held_kept d.honest d.content (device_of old) (device_of new) (steps.file_of fields numbers y.state.groups)
-            (subst (λ (state : State). HasHeld d.honest d.content (device_of old) (steps.file_of fields numbers state.groups)) (sym state) (index_held d a.knows_name a.analyze s.analysis old fields numbers x index honest)) (ap d.honest left.file.0) (ap d.content left.file.0));
+        known = inr (held_kept d.honest d.content s.analysis.analyze (device_of old) (device_of new) (steps.file_of fields numbers y.state.groups)
+            (subst (λ (state : State). HasHeld d.honest d.content s.analysis.analyze (device_of old) (steps.file_of fields numbers state.groups)) (sym state) (index_held d a.knows_name a.analyze s.analysis old fields numbers x index honest)) (ap d.honest left.file.0) (ap d.content left.file.0));
       })

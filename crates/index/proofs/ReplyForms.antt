@@ -3,8 +3,9 @@ use Rattle.std.proofs.Common.{[], ◌∷◌, ◌≡◌, List, ap, ap₂, drop, m
 use Rattle.std.specs.Int.RustNames.{unsigned_abs}
 use Rattle.definitions.specs.Replies.{hit_data, hits_data}
 use Rattle.definitions.specs.Scanning as scanning
-use Rattle.plain.specs.Hits.{hit_of, scored, told}
-use Rattle.plain.specs.declared.scanning.Hit.{Hit}
+use Rattle.segment_search.specs.Hits.{hit_of, scored}
+use Rattle.index.specs.ToldHits.{told}
+use Rattle.segment_search.specs.declared.hits.Hit.{Hit}
 use Rattle.serde_json.specs.Data.{item}
 use Rattle.serde_json.specs.View.{items_of}
 

@@ -3,7 +3,7 @@ use Rattle.std.proofs.Common.{[], ◌∙◌, ◌∷◌, ◌≡◌, Bool, None, O
 use Rattle.std.proofs.lemmas.Slice.Eq.{bytes_eq-Decides}
 use Rattle.definitions.specs.Built.{built_request_in, is_built}
 use Rattle.definitions.specs.Json.{has_only, named, number_at, only_if, text_at}
-use Rattle.definitions.specs.Requests.{Op, Request, add_doc, add_op, add_request, commit_all, commit_op, commit_request, count_docs, count_op, count_request, create_index, create_op, create_request, delete_docs, delete_op, merge_groups, merge_op, open_index, open_op, open_request, ops, request_for, search_docs, search_op, search_request}
+use Rattle.definitions.specs.Requests.{Op, Request, add_doc, add_op, add_request, commit_all, commit_op, commit_request, count_docs, count_op, count_request, create_index, create_op, create_request, delete_docs, delete_op, delete_request, merge_groups, merge_op, open_index, open_op, open_request, ops, request_for, search_docs, search_op, search_request}
 use Rattle.serde_json.specs.Find.{get}
 use Rattle.serde_json.specs.Data as json
 
@@ -31,21 +31,18 @@ all_of_two : {A B : Type 0} (first : Option A) (second : Option B) (f : A → B 
 all_of_two None second f is = refl
 all_of_two (Some x) second f is = all_of_one second (f x) (is x)
 
--- a request made of one part, that is not answered
-none_of_one : {A : Type 0} (part : Option A) (f : A → Request) → ((x : A) → is_built (f x) ≡ false) → built (option_and_then (λ x. Some (f x)) part) ≡ None
-none_of_one None f is = refl
-none_of_one (Some x) f is = ap (λ b. only_if b (Some (f x))) (is x)
-
 -- a request made of two parts, that is not answered
 none_of_two : {A B : Type 0} (first : Option A) (second : Option B) (f : A → B → Request) → ((x : A) (y : B) → is_built (f x y) ≡ false) → built (option_and_then (λ x. option_and_then (λ y. Some (f x y)) second) first) ≡ None
 none_of_two None second f is = refl
-none_of_two (Some x) second f is = none_of_one second (f x) (is x)
+none_of_two (Some x) None f is = refl
+none_of_two (Some x) (Some y) f is = ap (λ b. only_if b (Some (f x y))) (is x y)
 
 -- the request of a name that is answered
 abbrev answered : Op → json.Data → Option Request
 answered create_op d = create_request d
 answered open_op d = open_request d
 answered add_op d = add_request d
+answered delete_op d = delete_request d
 answered commit_op d = commit_request d
 answered search_op d = search_request d
 answered count_op d = count_request d
@@ -56,7 +53,7 @@ built_for : (op : Op) (d : json.Data) → built (request_for op d) ≡ answered 
 built_for create_op d = guarded_all (has_only (codes "op" ∷ codes "schema" ∷ codes "settings" ∷ []) d) _ (all_of_one (get (codes "schema") d) (λ schema. create_index schema (get (codes "settings") d)) (λ schema. refl))
 built_for open_op d = guarded_all (has_only (codes "op" ∷ []) d) (Some open_index) refl
 built_for add_op d = guarded_all (has_only (codes "op" ∷ codes "doc" ∷ []) d) _ (all_of_one (get (codes "doc") d) add_doc (λ doc. refl))
-built_for delete_op d = guarded_none (has_only (codes "op" ∷ codes "term" ∷ []) d) _ (none_of_one (get (codes "term") d) delete_docs (λ t. refl))
+built_for delete_op d = guarded_all (has_only (codes "op" ∷ codes "term" ∷ []) d) _ (all_of_one (get (codes "term") d) delete_docs (λ t. refl))
 built_for merge_op d = guarded_none (has_only (codes "op" ∷ codes "from" ∷ codes "to" ∷ []) d) _ (none_of_two (number_at (codes "from") d) (number_at (codes "to") d) merge_groups (λ from to. refl))
 built_for commit_op d = guarded_all (has_only (codes "op" ∷ []) d) (Some commit_all) refl
 built_for search_op d = guarded_all (has_only (codes "op" ∷ codes "query" ∷ codes "k" ∷ []) d) _ (all_of_two (get (codes "query") d) (number_at (codes "k") d) search_docs (λ q k. refl))
@@ -92,18 +89,18 @@ after n = drop n ops
 
 -- the request of a name, if it is answered
 abbrev named_request : json.Data → List ℕ → Option Request
-named_request d name = if bytes_eq name (codes "create") then create_request d else (if bytes_eq name (codes "open") then open_request d else (if bytes_eq name (codes "add") then add_request d else (if bytes_eq name (codes "commit") then commit_request d else (if bytes_eq name (codes "search") then search_request d else (if bytes_eq name (codes "count") then count_request d else None)))))
+named_request d name = if bytes_eq name (codes "create") then create_request d else (if bytes_eq name (codes "open") then open_request d else (if bytes_eq name (codes "add") then add_request d else (if bytes_eq name (codes "delete") then delete_request d else (if bytes_eq name (codes "commit") then commit_request d else (if bytes_eq name (codes "search") then search_request d else (if bytes_eq name (codes "count") then count_request d else None))))))
 
 found_by_name : (d : json.Data) (name : List ℕ) → found_at d ops name ≡ named_request d name
 found_by_name d name =
     taken d (codes "create", create_op) (find (λ p. bytes_eq name p.0) (after 1)) (bytes_eq name (codes "create")) _
     (taken d (codes "open", open_op) (find (λ p. bytes_eq name p.0) (after 2)) (bytes_eq name (codes "open")) _
     (taken d (codes "add", add_op) (find (λ p. bytes_eq name p.0) (after 3)) (bytes_eq name (codes "add")) _
-    (passed d (codes "delete", delete_op) (after 4) name refl refl
-    ∙ passed d (codes "merge", merge_op) (after 5) name refl refl
+    (taken d (codes "delete", delete_op) (find (λ p. bytes_eq name p.0) (after 4)) (bytes_eq name (codes "delete")) _
+    (passed d (codes "merge", merge_op) (after 5) name refl refl
     ∙ taken d (codes "commit", commit_op) (find (λ p. bytes_eq name p.0) (after 6)) (bytes_eq name (codes "commit")) _
     (taken d (codes "search", search_op) (find (λ p. bytes_eq name p.0) (after 7)) (bytes_eq name (codes "search")) _
-    (taken d (codes "count", count_op) None (bytes_eq name (codes "count")) None refl)))))
+    (taken d (codes "count", count_op) None (bytes_eq name (codes "count")) None refl))))))
 
 -- what is found is built, or none of its name is
 built_found : (d : json.Data) (o : Option Op) → built (option_and_then (λ op. request_for op d) o) ≡ option_and_then (λ op. answered op d) o

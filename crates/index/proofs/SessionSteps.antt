@@ -6,7 +6,8 @@ use Rattle.std.specs.Cow.{cow_str_bytes}
 use Rattle.std.specs.declared.borrow.CowStr.{CowStr}
 use Rattle.common.specs.declared.analyzer.Analyzer as analyzers
 use Rattle.common.specs.declared.device.Device as devices
-use Rattle.definitions.specs.Built.{built_query_in, built_request_in}
+use Rattle.definitions.specs.Built.{built_request_in}
+use Rattle.definitions.specs.QueryGrammar.{query_in}
 use Rattle.definitions.specs.Calls as calls
 use Rattle.definitions.specs.Analyzers.{Analyzer}
 use Rattle.definitions.specs.FaultNames.{reply_text}
@@ -21,18 +22,19 @@ use Rattle.definitions.specs.declared.fault.Fault.{Fault}
 use Rattle.definitions.specs.declared.fault.Fault.TheVariants as faults
 use Rattle.definitions.proofs.ReplyTexts.{error_text}
 use Rattle.definitions.specs.Disk.{HasCause}
-use Rattle.definitions.specs.State.{State, committed}
-use Rattle.engine.specs.Indexes.{IndexStands, IsInFile, KeepsFile, KeepsMaking, PassesLimit, device_of}
+use Rattle.definitions.specs.State.{State}
+use Rattle.segment_engine.specs.Indexes.{IndexStands, IsInFile, KeepsFile, KeepsMaking, device_of}
 use Rattle.index.specs.AskedRequests.{index_request_of}
-use Rattle.index.specs.Replying.{Answers, GoesOn, OnlyStops, change_text}
-use Rattle.index.specs.Sessions.{CommitPasses, HasHeld, HasStage, IsIndex, IsKnown, IsLeft, LeavesStage, Replies, StandsFor, analysis_of, failures_of, failures_on, honest_of, honest_on}
-use Rattle.engine.specs.declared.index.Index.{Index}
+use Rattle.index.specs.Replying.{Answers, GoesOn, IndexMeets, OnlyStops, change_text}
+use Rattle.index.specs.Sessions.{HasHeld, HasStage, IsIndex, IsKnown, IsLeft, LeavesStage, MeetsLimit, Replies, StandsFor, analysis_of, failures_of, failures_on, honest_of, honest_on}
+use Rattle.segment_engine.specs.declared.index.Index.{Index}
 use Rattle.index.specs.declared.requests.IndexRequest.{IndexRequest}
-use Rattle.index.specs.declared.requests.IndexRequest.TheVariants.{Add, Commit, Count, Search}
+use Rattle.index.specs.declared.requests.IndexRequest.TheVariants.{Add, Commit, Count, Delete, Search}
 use Rattle.index.specs.declared.session.Session.{Session}
 use Rattle.index.specs.declared.stage.Stage.TheVariants.{Spare, Standing}
 use Rattle.index.proofs.Answering.{err_weaker}
 use Rattle.index.proofs.Causes.{memory_cause, memory_no_limit, same_cause, same_error}
+use Rattle.index.proofs.IndexFiles.{step_status}
 use Rattle.index.proofs.Leavings.{error_of_change, index_left}
 use Rattle.index.proofs.Stages.{held_kept}
 use Rattle.serde_json.specs.Read.{read}
@@ -71,23 +73,12 @@ opened_step s is = ap (λ (b : Bool). cond b (steps.refusing faults.AlreadyOpen 
 -- what is asked of an index goes to the one that stands
 asked_step : (a : steps.Analysis) (stage : steps.Stage) (r : IndexRequest) → steps.stage_step a stage (index_request_of r) ≡ steps.in_index a.analyze stage (index_request_of r)
 asked_step a stage (Add doc) = refl
+asked_step a stage (Delete term) = refl
 asked_step a stage Commit = refl
 asked_step a stage (Search query k) = refl
 asked_step a stage (Count query) = refl
 
 -- ---- what an index that isn't ready is left as
-
-refused_or_status : (o : Option Fault) (x : calls.Index) (p : json.Data × calls.Index) → p.1.status ≡ x.status → (steps.refused_or o x p).1.status ≡ x.status
-refused_or_status None x p is = is
-refused_or_status (Some fault) x p is = refl
-
-call_status : (c : calls.Configuration) (x : calls.Index) (call : Result calls.Call Fault) → (steps.call_step c x call).1.status ≡ x.status
-call_status c x (Err fault) = refl
-call_status c x (Ok call) = refused_or_status (calls.own_fault c x.state call) x (steps.answering c x call) refl
-
--- no request changes a status
-step_status : (c : calls.Configuration) (x : calls.Index) (r : requests.Request) → (steps.index_step c x r).1.status ≡ x.status
-step_status c x r = refused_or_status (calls.status_fault x.status (steps.only_asks r)) x (steps.call_step c x (steps.call_in c.schema r)) (call_status c x (steps.call_in c.schema r))
 
 refused_or_same : (o : Option Fault) (x : calls.Index) (p : json.Data × calls.Index) → p.1 ≡ x → (steps.refused_or o x p).1 ≡ x
 refused_or_same None x p is = is
@@ -107,17 +98,18 @@ unmoved : (c : calls.Configuration) (state : State) (status : calls.Status) (r :
 unmoved c state calls.ready r = inl refl
 unmoved c state calls.closed r = inr refl
 unmoved c state calls.writer_closed (Add doc) = inr refl
+unmoved c state calls.writer_closed (Delete term) = inr refl
 unmoved c state calls.writer_closed Commit = inr refl
-unmoved c state calls.writer_closed (Search query k) = inr (searched_same c (record { state = state; status = calls.writer_closed }) k (built_query_in c.schema (view query.now)))
-unmoved c state calls.writer_closed (Count query) = inr (counted_same c (record { state = state; status = calls.writer_closed }) (built_query_in c.schema (view query.now)))
+unmoved c state calls.writer_closed (Search query k) = inr (searched_same c (record { state = state; status = calls.writer_closed }) k (query_in c.schema (view query.now)))
+unmoved c state calls.writer_closed (Count query) = inr (counted_same c (record { state = state; status = calls.writer_closed }) (query_in c.schema (view query.now)))
 
 -- what an index is known by after a request
-known_after : {D : Type 0} (honest : D → Bool) (content : D → List ℕ) (old new : D) (c : calls.Configuration) (s : Schema) (u : Settings) (x : calls.Index) (r : IndexRequest) → (x.status ≡ calls.ready) ⊎ (new ≡ old) → IsKnown honest content old s u x → IsKnown honest content new s u ((steps.index_step c x (index_request_of r)).1)
-known_after honest content old new c s u x r (inl ready) known = inl (step_status c x (index_request_of r) ∙ ready)
-known_after honest content old new c s u x r (inr same) (inl ready) = inl (step_status c x (index_request_of r) ∙ ready)
-known_after honest content old new c s u x r (inr same) (inr held) = elim (unmoved c x.state x.status r) [
+known_after : {D : Type 0} (honest : D → Bool) (content : D → List ℕ) (cut : Analyzer) (old new : D) (c : calls.Configuration) (s : Schema) (u : Settings) (x : calls.Index) (r : IndexRequest) → (x.status ≡ calls.ready) ⊎ (new ≡ old) → IsKnown honest content cut old s u x → IsKnown honest content cut new s u ((steps.index_step c x (index_request_of r)).1)
+known_after honest content cut old new c s u x r (inl ready) known = inl (step_status c x (index_request_of r) ∙ ready)
+known_after honest content cut old new c s u x r (inr same) (inl ready) = inl (step_status c x (index_request_of r) ∙ ready)
+known_after honest content cut old new c s u x r (inr same) (inr held) = elim (unmoved c x.state x.status r) [
   | inl ready ↦ inl (step_status c x (index_request_of r) ∙ ready)
-  | inr stays ↦ inr (subst (λ (y : calls.Index). HasHeld honest content new (steps.file_of s u y.state.groups)) (sym stays) (held_kept honest content old new (steps.file_of s u x.state.groups) held (ap honest same) (ap content same)))
+  | inr stays ↦ inr (subst (λ (y : calls.Index). HasHeld honest content cut new (steps.file_of s u y.state.groups)) (sym stays) (held_kept honest content cut old new (steps.file_of s u x.state.groups) held (ap honest same) (ap content same)))
 ]
 
 -- ---- replies
@@ -181,7 +173,7 @@ module _ {D A Z : Type 0} {d : devices.Ghosts D} {a : analyzers.Ghosts A} where
     state = subst (λ t. OnOk result (HasStage a.knows_name a.analyze ((steps.step s o).1.analysis) t ((steps.step s o).1.stage))) (sym same) replies.state;
     honest = subst (λ t. honest_on t ≡ honest_of old) (sym same) replies.honest;
     failures = subst (λ t. HasCause (failures_of old) (failures_on t) result) (sym same) replies.failures;
-    limit = replies.limit;
+    limit = λ met. subst (λ t. MeetsLimit a.analyze s.analysis old.stage t s.stage o) (sym same) (replies.limit met);
     left = subst (λ o. IsTrue (honest_of old) → IfErr result (λ fault. fault ≢ faults.Device → (t : steps.Session) × IsLeft s t × HasStage a.knows_name a.analyze t.analysis o t.stage)) (sym same) replies.left;
   }
 
@@ -219,7 +211,7 @@ module _ {D A Z : Type 0} {d : devices.Ghosts D} {a : analyzers.Ghosts A} where
       → d.honest (device_of new) ≡ d.honest (device_of old)
       → ((c : calls.Configuration) (x : calls.Index) → IndexStands a.analyze old c x → IfErr result (λ fault. fault ≢ faults.Device → OnlyStops a.analyze old new c x))
       → ((c : calls.Configuration) (x : calls.Index) → IndexStands a.analyze old c x → HasCause (d.failed (device_of old)) (d.failed (device_of new)) result)
-      → ((c : calls.Configuration) (x : calls.Index) → IndexStands a.analyze old c x → IsErrOf result faults.Limit → (index_request_of r ≡ requests.commit_all) × PassesLimit old (committed (calls.after c x.state calls.commit_pending)))
+      → ((c : calls.Configuration) (x : calls.Index) → IndexStands a.analyze old c x → IsErrOf result faults.Limit → IndexMeets a.analyze old new c x (Some (index_request_of r)))
       → Replies before after s (Some (index_request_of r)) result
   index_reply s before after old new r result was is stands answered made kept rests honest left failures limit =
       at s.stage refl (subst (λ o. HasStage a.knows_name a.analyze s.analysis o s.stage) was stands)
@@ -244,14 +236,13 @@ module _ {D A Z : Type 0} {d : devices.Ghosts D} {a : analyzers.Ghosts A} where
                   numbers = made.settings ∙ index.numbers;
                   stands = standing;
                   rests = in_file;
-                  known = known_after d.honest d.content (device_of old) (device_of new) c fields numbers x r (elim still [ inl ready ↦ inl ready | inr file ↦ inr file.0 ]) index.known;
+                  known = known_after d.honest d.content s.analysis.analyze (device_of old) (device_of new) c fields numbers x r (elim still [ inl ready ↦ inl ready | inr file ↦ inr file.0 ]) index.known;
                 })));
             honest = ap honest_on is ∙ honest ∙ sym (ap honest_on was);
             left = λ is_honest. err_weaker result (λ fault. fault ≢ faults.Device → OnlyStops a.analyze old new c x) (λ fault. fault ≢ faults.Device → (t : steps.Session) × IsLeft s t × StandsFor after t)
                 (λ fault stops other. index_left s after old new fields numbers x same is index made (subst (λ o. IsTrue (honest_on o)) was is_honest) (stops other)) (left c x index.stands);
             failures = subst (λ o. HasCause (failures_on o) (failures_on after.stage) result) (sym was) (subst (λ o. HasCause (d.failed (device_of old)) (failures_on o) result) (sym is) (failures c x index.stands));
-            limit = λ met. let why = limit c x index.stands met in
-                (ap Some why.0, subst (λ o. CommitPasses s.analysis o s.stage) (sym was) (subst (λ t. CommitPasses s.analysis (Some (Standing old)) t) (sym same) why.1));
+            limit = λ met. subst (λ o. MeetsLimit a.analyze s.analysis o after.stage s.stage (Some (index_request_of r))) (sym was) (subst (λ o. MeetsLimit a.analyze s.analysis (Some (Standing old)) o s.stage (Some (index_request_of r))) (sym is) (subst (λ t. MeetsLimit a.analyze s.analysis (Some (Standing old)) (Some (Standing new)) t (Some (index_request_of r))) (sym same) (limit c x index.stands met)));
           }
 
 -- none stands to be asked

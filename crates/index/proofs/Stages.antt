@@ -1,5 +1,5 @@
 -- What stands after an index was made or opened.
-use Rattle.std.proofs.Common.{[], Bool, Err, IfErr, IfOk, IsTrue, List, None, Ok, OnOk, Option, Result, Some, ap, ap₂, cond, false, inl, inr, refl, subst, sym, true, true≢false, ◌∙◌, ◌≡◌, ◌≢◌, ◌⊎◌, ℕ}
+use Rattle.std.proofs.Common.{[], Bool, Err, IfErr, IfOk, IsTrue, List, None, Ok, OnOk, Option, Result, Some, ap, ap₂, arith, cond, false, inl, inr, refl, subst, sym, true, true≢false, ◌∙◌, ◌≡◌, ◌≢◌, ◌⊎◌, ℕ}
 use Rattle.common.specs.declared.device.Device as devices
 use Rattle.definitions.specs.Analyzers.{Analyzer}
 use Rattle.definitions.specs.Calls as calls
@@ -12,40 +12,46 @@ use Rattle.std.specs.Option.{option_or}
 use Rattle.definitions.specs.Replies.{ok_reply, reply_of}
 use Rattle.definitions.specs.Schema.{Schema}
 use Rattle.definitions.specs.Settings.{Settings}
-use Rattle.definitions.specs.State.{committed}
 use Rattle.definitions.specs.Step as steps
 use Rattle.definitions.specs.Values.{Document}
 use Rattle.definitions.specs.declared.fault.Fault.{Fault}
 use Rattle.definitions.specs.declared.fault.Fault.TheVariants as faults
 use Rattle.definitions.proofs.ReplyTexts.{error_text, ok_text}
-use Rattle.engine.specs.Files.{IsCreateRefusal, IsFileOf, IsKept, IsOpenRefusal}
-use Rattle.engine.specs.Indexes.{IndexRests, IndexStands, IsOpened, analyzer_after, analyzer_of, device_after, device_of, ending_of, schema_of, settings_of}
+use Rattle.records.specs.Kept.{IsKept}
+use Rattle.std.specs.List.{AllZip}
+use Rattle.segment_engine.specs.Files.{IsCreateRefusal, IsFileOf, IsOpenRefusal, LeavesMembers}
+use Rattle.segment_layouts.specs.SegmentBodies.{Member}
+use Rattle.segment_layouts.specs.SegmentFiles.{IsGroup}
+use Rattle.segment_engine.specs.Indexes.{IndexRests, IndexStands, IsOpened, analyzer_after, analyzer_of, device_after, device_of, ending_of, gate_of, members_of, schema_of, settings_of}
 use Rattle.index.specs.Replying.{change_text}
-use Rattle.index.specs.Sessions.{HasHeld, HasStage, IsIndex, IsSpare, IsStage, LeavesStage, all_of, analysis_of, analyzer_on, device_on, left_by, parts_on, stage_after}
-use Rattle.engine.specs.Standing.{IsReopened}
-use Rattle.engine.specs.declared.index.Index.{Index}
-use Rattle.engine.specs.declared.index.Refused.{Refused}
+use Rattle.index.specs.Sessions.{HasHeld, HasStage, IsIndex, IsSpare, IsStage, LeavesStage, analysis_of, analyzer_on, device_on, left_by, parts_on, stage_after}
+use Rattle.segment_engine.specs.declared.index.Index.{Index}
+use Rattle.segment_engine.specs.declared.refused.Refused.{Refused}
 use Rattle.index.specs.declared.stage.Stage.{Stage}
 use Rattle.index.specs.declared.stage.Stage.TheVariants.{Spare, Standing}
 use Rattle.index.proofs.Answering.{going_on}
 use Rattle.index.proofs.Causes.{error_in, making_goes_on}
 use Rattle.making.proofs.Faults.{is_limit}
-use Rattle.engine.proofs.Openings.{same_saying}
-use Rattle.engine.proofs.FileSayings.{Found, file_is_index, file_is_whole, found, no_bytes, no_index_yet, one_saying}
+use Rattle.segment_engine.proofs.Commits.{stands_groups}
+use Rattle.segment_engine.proofs.FileSayings.{file_is_index, file_is_whole, no_bytes, of_its_groups, rests_say}
 use Rattle.layouts.specs.RecordFiles.{IsNoIndex}
 use Rattle.serde_json.specs.Data as json
 
 -- ---- what a device holds
 
-module _ {D : Type 0} (honest : D → Bool) (content : D → List ℕ) where
-  pub held_honest : (device : D) (held : steps.Held) → HasHeld honest content device held → IsTrue (honest device)
+module _ {D : Type 0} (honest : D → Bool) (content : D → List ℕ) (cut : Analyzer) where
+  pub held_honest : (device : D) (held : steps.Held) → HasHeld honest content cut device held → IsTrue (honest device)
   held_honest device steps.no_file h = h.0
   held_honest device (steps.file_of s u d) h = h.0
 
   -- a device that is as it was holds what it held
-  pub held_kept : (old new : D) (held : steps.Held) → HasHeld honest content old held → honest new ≡ honest old → content new ≡ content old → HasHeld honest content new held
+  pub held_kept : (old new : D) (held : steps.Held) → HasHeld honest content cut old held → honest new ≡ honest old → content new ≡ content old → HasHeld honest content cut new held
   held_kept old new steps.no_file h same is = (subst (λ (b : Bool). IsTrue b) (sym same) h.0, is ∙ h.1)
-  held_kept old new (steps.file_of s u d) h same is = (subst (λ (b : Bool). IsTrue b) (sym same) h.0, subst (λ (l : List ℕ). IsFileOf s u (all_of d) l) (sym is) h.1)
+  held_kept old new (steps.file_of s u d) h same is = (subst (λ (b : Bool). IsTrue b) (sym same) h.0, subst (λ (l : List ℕ). IsFileOf s u cut d l) (sym is) h.1)
+
+-- no byte is no index
+no_index_yet : IsNoIndex []
+no_index_yet = inl (omega arith)
 
 -- ---- an index is made or opened
 
@@ -72,7 +78,7 @@ module _ {D A : Type 0} (d : devices.Ghosts D) (knows : A → List ℕ → Bool)
   -- an index was made
   pub made_stage : (a : steps.Analysis) (device : D) (analyzer : A) (held : steps.Held) (s : Schema) (u : Settings) (index : Index D A d) → IsSpare d.honest d.content knows analyze a device analyzer held
       → making_fault (knows analyzer) s u ≡ None → (IsTrue (d.honest device) → d.content device ≡ []) → IndexStands analyze index (steps.configuration_of s (analyze analyzer) u) steps.fresh_index
-      → (schema_of index ≡ s) × (settings_of index ≡ u) → analyzer_of index ≡ analyzer → (IsTrue (d.honest device) → IndexRests index [])
+      → (schema_of index ≡ s) × (settings_of index ≡ u) → analyzer_of index ≡ analyzer → (IsTrue (d.honest device) → IndexRests index)
       → LeavesStage knows analyze a held (Some (Standing index)) (Ok tt) (steps.created a.knows s u held)
   made_stage a device analyzer (steps.file_of t v e) s u index spare none empty stands of by rests = absurd (no_bytes spare.1.1.0 (d.content device) spare.1.1.1 (empty spare.1.0))
   made_stage a device analyzer steps.no_file s u index spare none empty stands of by rests =
@@ -90,7 +96,7 @@ module _ {D A : Type 0} (d : devices.Ghosts D) (knows : A → List ℕ → Bool)
 
   -- what is spare after a call that changed nothing
   spare_kept : (a : steps.Analysis) (old new : D) (analyzer given : A) (held : steps.Held) → IsSpare d.honest d.content knows analyze a old analyzer held → given ≡ analyzer → d.honest new ≡ d.honest old → d.content new ≡ d.content old → IsSpare d.honest d.content knows analyze a new given held
-  spare_kept a old new analyzer given held spare same honest content = (spare.0 ∙ ap (analysis_of knows analyze) (sym same), held_kept d.honest d.content old new held spare.1 honest content)
+  spare_kept a old new analyzer given held spare same honest content = (spare.0 ∙ ap (analysis_of knows analyze) (sym same), held_kept d.honest d.content a.analyze old new held spare.1 honest content)
 
   -- none was made
   pub unmade_stage : (a : steps.Analysis) (device : D) (analyzer : A) (held : steps.Held) (s : Schema) (u : Settings) (r : Refused D A) → IsSpare d.honest d.content knows analyze a device analyzer held
@@ -103,18 +109,18 @@ module _ {D A : Type 0} (d : devices.Ghosts D) (knows : A → List ℕ → Bool)
   }
     where
       stays : r.fault ≢ faults.Device → IsSpare d.honest d.content knows analyze a r.device r.analyzer held
-      stays other = spare_kept a device r.device analyzer r.analyzer held spare returned honest (kept (held_honest d.honest d.content device held spare.1) other).content_kept
+      stays other = spare_kept a device r.device analyzer r.analyzer held spare returned honest (kept (held_honest d.honest d.content a.analyze device held spare.1) other).content_kept
 
       from_analysis : (o : Option Fault) → making_fault (knows analyzer) s u ≡ o → making_fault a.knows s u ≡ o
       from_analysis o is = subst (λ (b : steps.Analysis). making_fault b.knows s u ≡ o) (sym spare.0) is
 
-      not_empty : (h : steps.Held) → HasHeld d.honest d.content device h → making_fault a.knows s u ≡ None → r.fault ≡ faults.NotEmpty → steps.created a.knows s u h ≡ steps.refusing r.fault (steps.no_index h)
+      not_empty : (h : steps.Held) → HasHeld d.honest d.content a.analyze device h → making_fault a.knows s u ≡ None → r.fault ≡ faults.NotEmpty → steps.created a.knows s u h ≡ steps.refusing r.fault (steps.no_index h)
       not_empty steps.no_file has none is = absurd (full has.0 is has.1)
       not_empty (steps.file_of t v e) has none is =
           ap (λ (o : Option Fault). steps.refused_or (option_or o (Some faults.NotEmpty)) (steps.no_index (steps.file_of t v e)) (ok_reply, steps.index_of s u steps.fresh_index)) none
           ∙ ap (λ (f : Fault). steps.refusing f (steps.no_index (steps.file_of t v e))) (sym is)
 
-      step : stops r.fault ≡ false → (h : steps.Held) → HasHeld d.honest d.content device h → (r.fault ≡ faults.OutOfMemory) ⊎ (making_fault (knows analyzer) s u ≡ Some r.fault) ⊎ ((making_fault (knows analyzer) s u ≡ None) × IsCreateRefusal r.fault) → steps.created a.knows s u h ≡ steps.refusing r.fault (steps.no_index h)
+      step : stops r.fault ≡ false → (h : steps.Held) → HasHeld d.honest d.content a.analyze device h → (r.fault ≡ faults.OutOfMemory) ⊎ (making_fault (knows analyzer) s u ≡ Some r.fault) ⊎ ((making_fault (knows analyzer) s u ≡ None) × IsCreateRefusal r.fault) → steps.created a.knows s u h ≡ steps.refusing r.fault (steps.no_index h)
       step on h has (inl memory) = absurd (going_on r.fault faults.OutOfMemory on refl memory)
       step on h has (inr (inl refused)) = ap (λ (o : Option Fault). steps.refused_or (option_or o (steps.if_empty h)) (steps.no_index h) (ok_reply, steps.index_of s u steps.fresh_index)) (from_analysis (Some r.fault) refused)
       step on h has (inr (inr (none, inl is_device))) = absurd (going_on r.fault faults.Device on refl is_device)
@@ -126,18 +132,20 @@ module _ {D A : Type 0} (d : devices.Ghosts D) (knows : A → List ℕ → Bool)
       → LeavesStage knows analyze a held (Some (Standing index)) (Ok tt) (steps.opened a.knows held)
   opened_stage a device analyzer steps.no_file index spare opened known by = let file = opened.file spare.1.0 in absurd (no_bytes file.0 (d.content device) file.1 spare.1.1)
   opened_stage a device analyzer (steps.file_of s u e) index spare opened known by =
-      let is : found (schema_of index) (settings_of index) opened.docs ≡ found s u (all_of e) = one_saying (schema_of index) s (settings_of index) u opened.docs (all_of e) (d.content device) (opened.file spare.1.0) spare.1.1 in
-      let schema : schema_of index ≡ s = ap (λ (f : Found). f.0.0) is in
-      let knows_all : are_analyzed a.knows s ≡ true = subst (λ (b : steps.Analysis). are_analyzed b.knows s ≡ true) (sym spare.0) (subst (λ (t : Schema). are_analyzed (knows analyzer) t ≡ true) schema known) in
+      let is = of_its_groups (schema_of index) s (settings_of index) u a.analyze (members_of index) e (d.content device) (opened.file spare.1.0) spare.1.1 in
+      let cut : a.analyze ≡ analyze analyzer = ap (λ (b : steps.Analysis). b.analyze) spare.0 in
+      let knows_all : are_analyzed a.knows s ≡ true = subst (λ (b : steps.Analysis). are_analyzed b.knows s ≡ true) (sym spare.0) (subst (λ (t : Schema). are_analyzed (knows analyzer) t ≡ true) is.0 known) in
       let step : steps.opened a.knows (steps.file_of s u e) ≡ (ok_reply, steps.index_of s u (steps.reopened e)) = ap (λ (b : Bool). cond b (ok_reply, steps.index_of s u (steps.reopened e)) (steps.refusing faults.UnknownTokenizer (steps.no_index (steps.file_of s u e)))) knows_all in
-      let stands : IndexStands analyze index (steps.configuration_of s (analyze analyzer) u) (steps.reopened e) = subst (λ (f : Found). IsReopened analyze index.collection (steps.configuration_of f.0.0 (analyze analyzer) f.0.1) f.1) is opened.stands e refl in
+      let stands : IndexStands analyze index (steps.configuration_of (schema_of index) (analyze analyzer) (settings_of index)) (steps.reopened e) = opened.stands e (subst (λ k. AllZip (IsGroup (schema_of index) k) (members_of index) e) cut is.2) in
+      let stand : IndexStands analyze index (steps.configuration_of s (analyze analyzer) u) (steps.reopened e) =
+      subst (λ (t : Schema). IndexStands analyze index (steps.configuration_of t (analyze analyzer) u) (steps.reopened e)) is.0 (subst (λ (v : Settings). IndexStands analyze index (steps.configuration_of (schema_of index) (analyze analyzer) v) (steps.reopened e)) is.1 stands) in
       answered_stage a (steps.file_of s u e) index s u (steps.reopened e) (steps.opened a.knows (steps.file_of s u e)) step
       (record {
         analysis = spare.0 ∙ ap (analysis_of knows analyze) (sym by);
-        fields = schema;
-        numbers = ap (λ (f : Found). f.0.1) is;
-        stands = subst (λ (b : steps.Analysis). IndexStands analyze index (steps.configuration_of s b.analyze u) (steps.reopened e)) (sym spare.0) stands;
-        rests = λ h ready. subst (IndexRests index) (ap (λ (f : Found). f.1) is) (opened.rests spare.1.0);
+        fields = is.0;
+        numbers = is.1;
+        stands = subst (λ (b : steps.Analysis). IndexStands analyze index (steps.configuration_of s b.analyze u) (steps.reopened e)) (sym spare.0) stand;
+        rests = λ h ready. opened.rests spare.1.0;
         known = inl refl;
       })
 
@@ -152,40 +160,40 @@ module _ {D A : Type 0} (d : devices.Ghosts D) (knows : A → List ℕ → Bool)
   }
     where
       is_honest : IsTrue (d.honest device)
-      is_honest = held_honest d.honest d.content device held spare.1
+      is_honest = held_honest d.honest d.content a.analyze device held spare.1
 
       stays : r.fault ≢ faults.Device → IsSpare d.honest d.content knows analyze a r.device r.analyzer held
       stays other = spare_kept a device r.device analyzer r.analyzer held spare returned honest (kept is_honest other).content_kept
 
-      unknown : (s t : Schema) (u v : Settings) (e : List (List Document)) (f : List Document) → IsFileOf s u (all_of e) (d.content device) → IsFileOf t v f (d.content device) → are_analyzed (knows analyzer) t ≡ false → r.fault ≡ faults.UnknownTokenizer → steps.opened a.knows (steps.file_of s u e) ≡ steps.refusing r.fault (steps.no_index (steps.file_of s u e))
-      unknown s t u v e f file other is fault =
-          let same : t ≡ s = ap (λ (g : Found). g.0.0) (one_saying t s v u f (all_of e) (d.content device) other file) in
+      unknown : (s t : Schema) (u v : Settings) (e : List (List Document)) (ms : List Member) → IsFileOf s u a.analyze e (d.content device) → LeavesMembers t v ms (d.content device) → are_analyzed (knows analyzer) t ≡ false → r.fault ≡ faults.UnknownTokenizer → steps.opened a.knows (steps.file_of s u e) ≡ steps.refusing r.fault (steps.no_index (steps.file_of s u e))
+      unknown s t u v e ms file other is fault =
+          let same : t ≡ s = (of_its_groups t s v u a.analyze ms e (d.content device) other file).0 in
           let lacks : are_analyzed a.knows s ≡ false = subst (λ (b : steps.Analysis). are_analyzed b.knows s ≡ false) (sym spare.0) (subst (λ (g : Schema). are_analyzed (knows analyzer) g ≡ false) same is) in
           ap (λ (b : Bool). cond b (ok_reply, steps.index_of s u (steps.reopened e)) (steps.refusing faults.UnknownTokenizer (steps.no_index (steps.file_of s u e)))) lacks
           ∙ ap (λ (g : Fault). steps.refusing g (steps.no_index (steps.file_of s u e))) (sym fault)
 
-      step : stops r.fault ≡ false → (h : steps.Held) → HasHeld d.honest d.content device h → (r.fault ≡ faults.Device) ⊎ (r.fault ≡ faults.OutOfMemory) ⊎ IsOpenRefusal (knows analyzer) (d.content device) r.fault → steps.opened a.knows h ≡ steps.refusing r.fault (steps.no_index h)
+      step : stops r.fault ≡ false → (h : steps.Held) → HasHeld d.honest d.content a.analyze device h → (r.fault ≡ faults.Device) ⊎ (r.fault ≡ faults.OutOfMemory) ⊎ IsOpenRefusal (knows analyzer) (d.content device) r.fault → steps.opened a.knows h ≡ steps.refusing r.fault (steps.no_index h)
       step on h has (inl is_device) = absurd (going_on r.fault faults.Device on refl is_device)
       step on h has (inr (inl memory)) = absurd (going_on r.fault faults.OutOfMemory on refl memory)
       step on steps.no_file has (inr (inr (inl (inl (is, none))))) = ap (λ (g : Fault). steps.refusing g (steps.no_index steps.no_file)) (sym is)
       step on steps.no_file has (inr (inr (inl (inr (place, is, damaged))))) = absurd (damaged.begins (subst (λ (l : List ℕ). IsNoIndex l) (sym has.1) no_index_yet))
       step on steps.no_file has (inr (inr (inr (is, (s, u, e, file, lacks))))) = absurd (no_bytes file.0 (d.content device) file.1 has.1)
-      step on (steps.file_of s u e) has (inr (inr (inl (inl (is, none))))) = absurd (file_is_index s u (all_of e) (d.content device) has.1 none)
-      step on (steps.file_of s u e) has (inr (inr (inl (inr (place, is, damaged))))) = absurd (file_is_whole s u (all_of e) (d.content device) place has.1 damaged)
+      step on (steps.file_of s u e) has (inr (inr (inl (inl (is, none))))) = absurd (file_is_index s u a.analyze e (d.content device) has.1 none)
+      step on (steps.file_of s u e) has (inr (inr (inl (inr (place, is, damaged))))) = absurd (file_is_whole s u a.analyze e (d.content device) place has.1 damaged)
       step on (steps.file_of s u e) has (inr (inr (inr (is, (t, v, f, file, lacks))))) = unknown s t u v e f has.1 file lacks is
 
   -- what a call that makes an index leaves
   pub create_left : (a : steps.Analysis) (device : D) (analyzer : A) (held : steps.Held) (s : Schema) (u : Settings) (outcome : Result (Index D A d) (Refused D A)) → IsSpare d.honest d.content knows analyze a device analyzer held
       → OnOk outcome (making_fault (knows analyzer) s u ≡ None) → (IsTrue (d.honest device) → OnOk outcome (d.content device ≡ []))
       → IfOk outcome (λ index. IndexStands analyze index (steps.configuration_of s (analyze analyzer) u) steps.fresh_index)
-      → IfOk outcome (λ index. (schema_of index ≡ s) × (settings_of index ≡ u))
+      → IfOk outcome (λ index. (schema_of index ≡ s) × (settings_of index ≡ u) × (members_of index ≡ []))
       → IfErr outcome (λ r. (r.fault ≡ faults.OutOfMemory) ⊎ (making_fault (knows analyzer) s u ≡ Some r.fault) ⊎ ((making_fault (knows analyzer) s u ≡ None) × IsCreateRefusal r.fault))
       → analyzer_after outcome ≡ analyzer → d.honest (device_after outcome) ≡ d.honest device
       → (IsTrue (d.honest device) → IfErr outcome (λ r. r.fault ≡ faults.NotEmpty → d.content device ≢ []))
       → (IsTrue (d.honest device) → IfErr outcome (λ r. r.fault ≢ faults.Device → IsKept d.moment d.left_since d.content d.unsynced device r.device))
-      → (IsTrue (d.honest device) → IfOk outcome (λ index. IndexRests index []))
+      → (IsTrue (d.honest device) → IfOk outcome IndexRests)
       → LeavesStage knows analyze a held (Some ((left_by outcome).0)) ((left_by outcome).1) (steps.created a.knows s u held)
-  create_left a device analyzer held s u (Ok index) spare none empty stands of exact by honest full kept rests = made_stage a device analyzer held s u index spare none empty stands of by rests
+  create_left a device analyzer held s u (Ok index) spare none empty stands of exact by honest full kept rests = made_stage a device analyzer held s u index spare none empty stands (of.0, of.1) by rests
   create_left a device analyzer held s u (Err r) spare none empty stands of exact by honest full kept rests = unmade_stage a device analyzer held s u r spare exact by honest full kept
 
   -- what a call that opens an index leaves
@@ -202,10 +210,15 @@ module _ {D A : Type 0} (d : devices.Ghosts D) (knows : A → List ℕ → Bool)
   -- ---- the device
 
   -- what an honest device of an index holds
-  pub index_held : (a : steps.Analysis) (index : Index D A d) (s : Schema) (u : Settings) (x : calls.Index) → IsIndex knows analyze a index s u x → IsTrue (d.honest (device_of index)) → HasHeld d.honest d.content (device_of index) (steps.file_of s u x.state.groups)
+  pub index_held : (a : steps.Analysis) (index : Index D A d) (s : Schema) (u : Settings) (x : calls.Index) → IsIndex knows analyze a index s u x → IsTrue (d.honest (device_of index)) → HasHeld d.honest d.content a.analyze (device_of index) (steps.file_of s u x.state.groups)
   index_held a index s u x h honest = elim h.known [
-    | inl ready ↦ let rests = h.rests honest ready in
-        (honest, (rests.bodies, rests.at_rest.file, rests.says ∙ same_saying (schema_of index) s (settings_of index) u (committed x.state) (sym h.fields) (sym h.numbers)))
+    | inl ready ↦
+        let rests = h.rests honest ready in
+        let cut : a.analyze ≡ analyze (analyzer_of index) = ap (λ (b : steps.Analysis). b.analyze) h.analysis in
+        let are = stands_groups analyze index.collection (steps.configuration_of s a.analyze u) x h.stands in
+        let says = rests_say (schema_of index) (settings_of index) (analyze (analyzer_of index)) (members_of index) x.state.groups (d.content (device_of index)) (d.unsynced (device_of index)) (gate_of index) rests are in
+        let file : IsFileOf (schema_of index) (settings_of index) (analyze (analyzer_of index)) x.state.groups (d.content (device_of index)) = (rests.bodies, rests.at_rest.file, says) in
+        (honest, subst (λ (t : Schema). IsFileOf t u a.analyze x.state.groups (d.content (device_of index))) h.fields (subst (λ (v : Settings). IsFileOf (schema_of index) v a.analyze x.state.groups (d.content (device_of index))) h.numbers (subst (λ (k : Analyzer). IsFileOf (schema_of index) (settings_of index) k x.state.groups (d.content (device_of index))) (sym cut) file)))
     | inr held ↦ held
   ]
 
@@ -214,7 +227,7 @@ module _ {D A : Type 0} (d : devices.Ghosts D) (knows : A → List ℕ → Bool)
   standing_spare a index device analyzer (steps.no_index held) same by h honest = absurd h
   standing_spare a index device analyzer (steps.index_of s u x) same by h honest = (
     h.analysis ∙ ap (analysis_of knows analyze) (sym by),
-    subst (λ (e : D). HasHeld d.honest d.content e (steps.file_of s u x.state.groups)) (sym same) (index_held a index s u x h (subst (λ (e : D). IsTrue (d.honest e)) same honest)),
+    subst (λ (e : D). HasHeld d.honest d.content a.analyze e (steps.file_of s u x.state.groups)) (sym same) (index_held a index s u x h (subst (λ (e : D). IsTrue (d.honest e)) same honest)),
   )
 
 -- the device after an index was to be made or opened

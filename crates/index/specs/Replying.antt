@@ -1,17 +1,19 @@
 -- What is replied to requests of an index.
-use Rattle.std.specs.Prelude.{⊤, ◌≡◌, ◌⊎◌, Err, IfOk, List, Ok, OnOk, Result, codes, false, ℕ}
+use Rattle.std.specs.Prelude.{[], ⊤, ◌++◌, ◌∷◌, ◌≡◌, ◌⊎◌, Err, IfOk, List, Ok, OnOk, Option, Result, Some, codes, false, ℕ}
 use Rattle.std.specs.Cow.{cow_str_bytes}
 use Rattle.std.specs.declared.borrow.CowStr.{CowStr}
 use Rattle.common.specs.declared.device.Device as devices
 use Rattle.definitions.specs.Analyzers.{Analyzer}
 use Rattle.definitions.specs.Calls as calls
 use Rattle.definitions.specs.FaultNames.{reply_text}
-use Rattle.definitions.specs.Replies.{reply_of}
+use Rattle.definitions.specs.Reading.{read_data}
+use Rattle.definitions.specs.Replies.{ok_reply, reply_of}
 use Rattle.definitions.specs.Requests as requests
 use Rattle.definitions.specs.Step as steps
+use Rattle.definitions.specs.Values.{Document}
 use Rattle.definitions.specs.declared.fault.Fault.{Fault}
-use Rattle.engine.specs.Indexes.{IndexStands, KeepsFile}
-use Rattle.engine.specs.declared.index.Index.{Index}
+use Rattle.segment_engine.specs.Indexes.{CommitPasses, IndexStands, KeepsFile, PassesLimit, open_of}
+use Rattle.segment_engine.specs.declared.index.Index.{Index}
 use Rattle.definitions.specs.Replying.{stops}
 
 -- the reply to a change
@@ -30,6 +32,10 @@ pub record Answers {D A Z : Type 0} {d : devices.Ghosts D} (analyze : A → Anal
   pub text : IfOk result (λ text. cow_str_bytes text ≡ reply_of ((steps.index_step c x r).0))
   pub state : OnOk result (IndexStands analyze new c ((steps.index_step c x r).1))
 
+-- the request is answered as a change is, and the index stands for what comes after
+abbrev pub TakesChange : {D A : Type 0} {d : devices.Ghosts D} → (A → Analyzer) → Index D A d → calls.Configuration → calls.Index → requests.Request → Type 0
+TakesChange analyze new c x r = ((steps.index_step c x r).0 ≡ ok_reply) × IndexStands analyze new c ((steps.index_step c x r).1)
+
 -- an index without its writer
 abbrev pub closed_writer : calls.Index → calls.Index
 closed_writer x = record { state = x.state; status = calls.writer_closed }
@@ -39,3 +45,9 @@ pub record OnlyStops {D A : Type 0} {d : devices.Ghosts D} (analyze : A → Anal
     (c : calls.Configuration) (x : calls.Index) : Type 0 where
   pub file : KeepsFile old new
   pub stands : IndexStands analyze new c x ⊎ IndexStands analyze new c (closed_writer x)
+
+-- an add or a commit meets a limit: documents of a segment pass one, or the commit does
+abbrev pub IndexMeets : {D A : Type 0} {d : devices.Ghosts D} → (A → Analyzer) → Index D A d → Index D A d → calls.Configuration → calls.Index → Option requests.Request → Type 0
+IndexMeets analyze old new c x (Some (requests.add_doc value)) = (doc : Document) × (read_data c.schema value ≡ Ok doc) × PassesLimit analyze old (open_of old ++ doc ∷ [])
+IndexMeets analyze old new c x (Some requests.commit_all) = CommitPasses analyze old new (calls.after c x.state calls.commit_pending).groups
+IndexMeets analyze old new c x _ = ⊥

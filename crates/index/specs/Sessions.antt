@@ -1,5 +1,5 @@
 -- What a session stands for, and what it answers.
-use Rattle.std.specs.Prelude.{[], ⊤, ◌≡◌, ◌≢◌, ◌⊎◌, Bool, Err, IfErr, IfOk, IsErrOf, IsTrue, List, None, Ok, OnOk, Option, Result, Some, false, flat_map, option_map, ℕ}
+use Rattle.std.specs.Prelude.{[], ⊤, ◌≡◌, ◌≢◌, ◌⊎◌, Bool, Err, IfErr, IfOk, IsErrOf, IsTrue, List, None, Ok, OnOk, Option, Result, Some, false, option_map, ℕ}
 use Rattle.std.specs.Cow.{cow_str_bytes}
 use Rattle.std.specs.declared.borrow.CowStr.{CowStr}
 use Rattle.common.specs.declared.analyzer.Analyzer as analyzers
@@ -11,30 +11,24 @@ use Rattle.definitions.specs.Replies.{reply_of}
 use Rattle.definitions.specs.Requests as requests
 use Rattle.definitions.specs.Schema.{Schema}
 use Rattle.definitions.specs.Settings.{Settings}
-use Rattle.definitions.specs.State.{committed}
 use Rattle.definitions.specs.Step as steps
-use Rattle.definitions.specs.Values.{Document}
 use Rattle.definitions.specs.declared.fault.Fault.{Fault}
 use Rattle.definitions.specs.declared.fault.Fault.TheVariants as faults
-use Rattle.engine.specs.Files.{IsFileOf}
-use Rattle.engine.specs.Indexes.{IndexStands, IsInFile, PassesLimit, analyzer_of, device_of, ending_of, schema_of, settings_of}
-use Rattle.index.specs.Replying.{GoesOn, change_text, closed_writer}
-use Rattle.engine.specs.declared.index.Index.{Index}
-use Rattle.engine.specs.declared.index.Refused.{Refused}
+use Rattle.segment_engine.specs.Files.{IsFileOf}
+use Rattle.segment_engine.specs.Indexes.{IndexStands, IsInFile, analyzer_of, device_of, ending_of, schema_of, settings_of}
+use Rattle.index.specs.Replying.{GoesOn, IndexMeets, change_text, closed_writer}
+use Rattle.segment_engine.specs.declared.index.Index.{Index}
+use Rattle.segment_engine.specs.declared.refused.Refused.{Refused}
 use Rattle.index.specs.declared.session.Session.{Session}
 use Rattle.index.specs.declared.stage.Stage.{Stage}
 use Rattle.index.specs.declared.stage.Stage.TheVariants.{Spare, Standing}
 use Rattle.serde_json.specs.Data as json
 
--- the documents of all groups
-abbrev pub all_of : List (List Document) → List Document
-all_of groups = flat_map (λ group. group) groups
-
--- an honest device that holds this: its file tells the documents, in whatever groups they are
-abbrev pub HasHeld : {D : Type 0} → (D → Bool) → (D → List ℕ) → D → steps.Held → Type 0
-HasHeld honest content device steps.no_file = IsTrue (honest device) × (content device ≡ [])
-HasHeld honest content device (steps.file_of schema settings groups) =
-    IsTrue (honest device) × IsFileOf schema settings (all_of groups) (content device)
+-- an honest device that holds this: its file is of these groups, as this analyzer cuts texts
+abbrev pub HasHeld : {D : Type 0} → (D → Bool) → (D → List ℕ) → Analyzer → D → steps.Held → Type 0
+HasHeld honest content analyze device steps.no_file = IsTrue (honest device) × (content device ≡ [])
+HasHeld honest content analyze device (steps.file_of schema settings groups) =
+    IsTrue (honest device) × IsFileOf schema settings analyze groups (content device)
 
 -- what an analyzer knows, and how it cuts a text
 abbrev pub analysis_of : {A : Type 0} → (A → List ℕ → Bool) → (A → Analyzer) → A → steps.Analysis
@@ -50,16 +44,16 @@ session_of a schema settings x = record { analysis = a; stage = steps.index_of s
 
 -- an index is ready, or else it is known by the file of its device, which says what is committed
 abbrev pub IsKnown :
-    {D : Type 0} → (D → Bool) → (D → List ℕ) → D → Schema → Settings → calls.Index → Type 0
-IsKnown honest content device schema settings x =
-    (x.status ≡ calls.ready) ⊎ HasHeld honest content device (steps.file_of schema settings x.state.groups)
+    {D : Type 0} → (D → Bool) → (D → List ℕ) → Analyzer → D → Schema → Settings → calls.Index → Type 0
+IsKnown honest content analyze device schema settings x =
+    (x.status ≡ calls.ready) ⊎ HasHeld honest content analyze device (steps.file_of schema settings x.state.groups)
 
 -- the device holds this, and the analyzer is the session's
 abbrev pub IsSpare :
     {D A : Type 0} → (D → Bool) → (D → List ℕ) → (A → List ℕ → Bool) → (A → Analyzer)
     → steps.Analysis → D → A → steps.Held → Type 0
 IsSpare honest content knows analyze a device analyzer held =
-    (a ≡ analysis_of knows analyze analyzer) × HasHeld honest content device held
+    (a ≡ analysis_of knows analyze analyzer) × HasHeld honest content a.analyze device held
 
 module _ {D A : Type 0} {d : devices.Ghosts D} (knows : A → List ℕ → Bool) (analyze : A → Analyzer) where
   -- the index is made of these, stands for this one, and has in its file what is committed
@@ -70,7 +64,7 @@ module _ {D A : Type 0} {d : devices.Ghosts D} (knows : A → List ℕ → Bool)
     pub numbers : settings_of index ≡ settings
     pub stands : IndexStands analyze index (steps.configuration_of schema a.analyze settings) x
     pub rests : IsInFile index x
-    pub known : IsKnown d.honest d.content (device_of index) schema settings x
+    pub known : IsKnown d.honest d.content a.analyze (device_of index) schema settings x
 
   -- what stands on a device stands for this
   abbrev pub IsStage : steps.Analysis → Stage D A d → steps.Stage → Type 0
@@ -117,14 +111,11 @@ module _ {D A : Type 0} {d : devices.Ghosts D} where
   abbrev pub parts_on : Option (Stage D A d) → Option (D × A)
   parts_on stage = option_map (λ s. (device_on s, analyzer_on s)) stage
 
-  -- an index stands whose next commit would pass the limit of a file
-  abbrev pub CommitPasses : steps.Analysis → Option (Stage D A d) → steps.Stage → Type 0
-  CommitPasses a None s = ⊥
-  CommitPasses a (Some (Spare device analyzer)) s = ⊥
-  CommitPasses a (Some (Standing index)) (steps.no_index held) = ⊥
-  CommitPasses a (Some (Standing index)) (steps.index_of schema settings x) =
-      PassesLimit index
-      (committed (calls.after (steps.configuration_of schema a.analyze settings) x.state calls.commit_pending))
+  -- an add or a commit of the index that stands meets a limit
+  abbrev pub MeetsLimit : (A → Analyzer) → steps.Analysis → Option (Stage D A d) → Option (Stage D A d) → steps.Stage → Option requests.Request → Type 0
+  MeetsLimit analyze a (Some (Standing old)) (Some (Standing new)) (steps.index_of schema settings x) asked =
+      IndexMeets analyze old new (steps.configuration_of schema a.analyze settings) x asked
+  MeetsLimit analyze a _ _ _ _ = ⊥
 
   -- what stands after an index was to be made or opened
   abbrev pub stage_after : Result (Index D A d) (Refused D A) → Stage D A d
@@ -153,10 +144,10 @@ abbrev pub parts_of :
     {D A : Type 0} {d : devices.Ghosts D} {a : analyzers.Ghosts A} → Session D A d a → Option (D × A)
 parts_of session = parts_on session.stage
 
--- the next commit of the index that stands would pass the limit of a file
-abbrev pub PassesByCommit :
-    {D A : Type 0} {d : devices.Ghosts D} {a : analyzers.Ghosts A} → Session D A d a → steps.Session → Type 0
-PassesByCommit session s = CommitPasses s.analysis session.stage s.stage
+-- an add or a commit meets a limit in what stands
+abbrev pub MeetsLimitIn :
+    {D A : Type 0} {d : devices.Ghosts D} {a : analyzers.Ghosts A} → Session D A d a → Session D A d a → steps.Session → Option requests.Request → Type 0
+MeetsLimitIn {a = a} old new s asked = MeetsLimit a.analyze s.analysis old.stage new.stage s.stage asked
 
 -- what stands with its writer closed, if it has one
 abbrev pub without_writer : steps.Stage → steps.Stage
@@ -175,7 +166,7 @@ abbrev pub IsLeft : steps.Session → steps.Session → Type 0
 IsLeft s t = (t.analysis ≡ s.analysis) × IsLeftStage s.stage t.stage
 
 -- the reply to what was asked is the definitions', and the session stands for what comes after; `Device` has its cause,
--- and `Limit` is the answer to a commit that would pass the limit; over an honest device the session stands for what
+-- and `Limit` is the answer to an add or a commit that meets one; over an honest device the session stands for what
 -- other errors leave
 pub record Replies {D A Z : Type 0} {d : devices.Ghosts D} {a : analyzers.Ghosts A} (old new : Session D A d a)
     (s : steps.Session) (asked : Option requests.Request) (result : Result (CowStr Z) Fault) : Type 0 where
@@ -183,7 +174,7 @@ pub record Replies {D A Z : Type 0} {d : devices.Ghosts D} {a : analyzers.Ghosts
   pub state : OnOk result (StandsFor new ((steps.step s asked).1))
   pub honest : honest_of new ≡ honest_of old
   pub failures : HasCause (failures_of old) (failures_of new) result
-  pub limit : IsErrOf result faults.Limit → (asked ≡ Some requests.commit_all) × PassesByCommit old s
+  pub limit : IsErrOf result faults.Limit → MeetsLimitIn old new s asked
   pub left :
       IsTrue (honest_of old)
       → IfErr result (λ fault. fault ≢ faults.Device → (t : steps.Session) × IsLeft s t × StandsFor new t)

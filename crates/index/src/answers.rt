@@ -1,6 +1,6 @@
 //! What is replied to requests of the index that stands.
 
-ghost use Rattle.std.specs.Prelude.{◌≡◌, ◌≢◌, ◌⊎◌, Err, IfErr, IfOk, IsErrOf, IsTrue, List, OnOk, false, map};
+ghost use Rattle.std.specs.Prelude.{◌≡◌, ◌≢◌, ◌⊎◌, Err, IfErr, IfOk, IsErrOf, IsTrue, List, OnErr, OnOk, Some, false, map};
 ghost use Rattle.std.specs.Cow.{cow_str_bytes};
 ghost use Rattle.definitions.specs.Calls as calls;
 ghost use Rattle.definitions.specs.Disk.{HasCause};
@@ -8,13 +8,12 @@ ghost use Rattle.definitions.specs.FaultNames.{reply_text};
 ghost use Rattle.definitions.specs.Replies.{count_reply, hits_reply};
 ghost use Rattle.definitions.specs.Requests as requests;
 ghost use Rattle.definitions.specs.Scanning as scanning;
-ghost use Rattle.definitions.specs.State.{committed};
 ghost use Rattle.definitions.specs.Step as steps;
 ghost use Rattle.definitions.specs.declared.fault.Fault.TheVariants as faults;
 ghost use Rattle.index.specs.AskedRequests.{index_request_of};
-ghost use Rattle.index.specs.Replying.{Answers, GoesOn, OnlyStops, change_text};
-ghost use Rattle.engine.specs.Indexes.{IndexStands, IsInFile, KeepsFile, KeepsMaking, PassesLimit, device_of};
-ghost use Rattle.plain.specs.Hits.{hit_of, scored};
+ghost use Rattle.index.specs.Replying.{Answers, GoesOn, IndexMeets, OnlyStops, TakesChange, change_text};
+ghost use Rattle.segment_engine.specs.Indexes.{IndexStands, IsInFile, KeepsFile, KeepsMaking, device_of};
+ghost use Rattle.segment_search.specs.Hits.{hit_of, scored};
 ghost use Rattle.definitions.specs.Replying.{stops};
 ghost use Rattle.serde_json.specs.View.{view};
 
@@ -22,11 +21,12 @@ use crate::json_replies::{count_text, hits_text};
 use crate::requests::IndexRequest;
 use common::{Analyzer, Device};
 use definitions::Fault;
-use engine::Index;
-use plain::Hit;
-use query_json::read_query;
+use query_grammar::read_query;
+use segment_engine::Index;
+use segment_search::Hit;
 use serde_json::Value as Json;
 use std::borrow::CowStr;
+use term_json::read_term;
 
 /// What is replied to a request that changed something.
 const OK_REPLY: &str = "{\"ok\":true}";
@@ -39,13 +39,11 @@ pub(crate) fn answer<D: Device + Drop, A: Analyzer + Drop>(
     ensures answered { (c : calls.Configuration) (x : calls.Index) → IndexStands A.analyze index.old c x
         → Answers A.analyze index.new c x (index_request_of request.entry) result }
     ensures made { KeepsMaking index.old index.new }
-
     ensures kept { (c : calls.Configuration) (x : calls.Index) → IndexStands A.analyze index.old c x
         → OnOk result ((x.status ≡ calls.ready) ⊎ KeepsFile index.old index.new) }
     ensures rests { (c : calls.Configuration) (x : calls.Index) → IndexStands A.analyze index.old c x
         → IsInFile index.old x
         → OnOk result (IsInFile index.new ((steps.index_step c x (index_request_of request.entry)).1)) }
-
     ensures err { IfErr result (λ fault. IsTrue (stops fault)) }
     ensures honest { D.honest (device_of index.new) ≡ D.honest (device_of index.old) }
     ensures left { (c : calls.Configuration) (x : calls.Index) → IndexStands A.analyze index.old c x
@@ -54,28 +52,54 @@ pub(crate) fn answer<D: Device + Drop, A: Analyzer + Drop>(
         → HasCause (D.failed (device_of index.old)) (D.failed (device_of index.new)) result }
     ensures limit { (c : calls.Configuration) (x : calls.Index) → IndexStands A.analyze index.old c x
         → IsErrOf result faults.Limit
-        → (index_request_of request.entry ≡ requests.commit_all)
-        × PassesLimit index.old (committed (calls.after c x.state calls.commit_pending)) }
+        → IndexMeets A.analyze index.old index.new c x (Some (index_request_of request.entry)) }
 {
     match request {
         IndexRequest::Add(doc) => answer_change(index.add_value(doc)),
+        IndexRequest::Delete(term) => answer_change(delete(index, term)),
         IndexRequest::Commit => answer_change(index.commit()),
         IndexRequest::Search(query, k) => search(index, query, k),
         IndexRequest::Count(query) => count(index, query),
     }
 }
 
+/// Deletes the documents with a term that is read from JSON.
+fn delete<D: Device + Drop, A: Analyzer + Drop>(
+    index: &mut Index<D, A>,
+    term: &Json,
+) -> Result<(), Fault>
+    ensures ok { (c : calls.Configuration) (x : calls.Index) → IndexStands A.analyze index.old c x
+        → OnOk result (TakesChange A.analyze index.new c x (requests.delete_docs (view term.now))) }
+    ensures err { (c : calls.Configuration) (x : calls.Index) → IndexStands A.analyze index.old c x
+        → IfErr result (λ fault. fault ≢ faults.OutOfMemory
+        → steps.index_step c x (requests.delete_docs (view term.now)) ≡ steps.refusing fault x) }
+    ensures left { (c : calls.Configuration) (x : calls.Index) → IndexStands A.analyze index.old c x
+        → OnErr result (IndexStands A.analyze index.new c x) }
+    ensures goes_on { (c : calls.Configuration) (x : calls.Index) → IndexStands A.analyze index.old c x
+        → IfErr result (λ fault. fault ≢ faults.OutOfMemory → stops fault ≡ false) }
+    ensures made { KeepsMaking index.old index.new }
+    ensures file { KeepsFile index.old index.new }
+{
+    index.check_writer()?;
+    let term = read_term(index.alloc(), index.schema(), term)?;
+    index.delete_term(&term)
+}
+
 /// The reply to a search.
 fn search<D: Device + Drop, A: Analyzer + Drop>(
-    index: &Index<D, A>,
+    index: &mut Index<D, A>,
     query: &Json,
     k: u64,
 ) -> Result<CowStr<'static>, Fault>
-    ensures answered { (c : calls.Configuration) (x : calls.Index) → IndexStands A.analyze index.now c x
-        → Answers A.analyze index.now c x (requests.search_docs (view query.now) k) result }
-    ensures err { (c : calls.Configuration) (x : calls.Index) → IndexStands A.analyze index.now c x
+    ensures answered { (c : calls.Configuration) (x : calls.Index) → IndexStands A.analyze index.old c x
+        → Answers A.analyze index.new c x (requests.search_docs (view query.now) k) result }
+    ensures err { (c : calls.Configuration) (x : calls.Index) → IndexStands A.analyze index.old c x
         → IfErr result (λ fault. fault ≡ faults.OutOfMemory) }
     ensures stops { IfErr result (λ fault. IsTrue (stops fault)) }
+    ensures left { (c : calls.Configuration) (x : calls.Index) → IndexStands A.analyze index.old c x
+        → IndexStands A.analyze index.new c x }
+    ensures made { KeepsMaking index.old index.new }
+    ensures file { KeepsFile index.old index.new }
 {
     match find(index, query, k) {
         Ok(hits) => Ok(CowStr::Owned(hits_text(index.alloc(), &hits)?)),
@@ -102,18 +126,22 @@ fn count<D: Device + Drop, A: Analyzer + Drop>(
 
 /// The hits of a query that is read from JSON.
 fn find<D: Device + Drop, A: Analyzer + Drop>(
-    index: &Index<D, A>,
+    index: &mut Index<D, A>,
     query: &Json,
     k: u64,
 ) -> Result<Vec<Hit>, Fault>
-    ensures ok { (c : calls.Configuration) (x : calls.Index) → IndexStands A.analyze index.now c x
+    ensures ok { (c : calls.Configuration) (x : calls.Index) → IndexStands A.analyze index.old c x
         → IfOk result (λ hits. (hs : List scanning.Hit) × (map hit_of hits.items ≡ map scored hs)
         × (steps.index_step c x (requests.search_docs (view query.now) k) ≡ (hits_reply hs, x))) }
-    ensures err { (c : calls.Configuration) (x : calls.Index) → IndexStands A.analyze index.now c x
+    ensures err { (c : calls.Configuration) (x : calls.Index) → IndexStands A.analyze index.old c x
         → IfErr result (λ fault. fault ≢ faults.OutOfMemory
         → steps.index_step c x (requests.search_docs (view query.now) k) ≡ steps.refusing fault x) }
-    ensures goes_on { (c : calls.Configuration) (x : calls.Index) → IndexStands A.analyze index.now c x
+    ensures goes_on { (c : calls.Configuration) (x : calls.Index) → IndexStands A.analyze index.old c x
         → IfErr result (λ fault. fault ≢ faults.OutOfMemory → stops fault ≡ false) }
+    ensures left { (c : calls.Configuration) (x : calls.Index) → IndexStands A.analyze index.old c x
+        → IndexStands A.analyze index.new c x }
+    ensures made { KeepsMaking index.old index.new }
+    ensures file { KeepsFile index.old index.new }
 {
     index.check_open()?;
     let query = read_query(index.alloc(), index.schema(), query)?;

@@ -3,10 +3,11 @@
 ghost use Rattle.std.specs.Prelude.{◌≡◌, IfOk, List, map, string_bytes};
 ghost use Rattle.definitions.specs.Replies as definitions;
 ghost use Rattle.definitions.specs.Scanning as scanning;
-ghost use Rattle.plain.specs.Hits.{hit_of, scored, told};
+ghost use Rattle.index.specs.ToldHits.{told};
+ghost use Rattle.segment_search.specs.Hits.{hit_of, scored};
 ghost use Rattle.serde_json.specs.View.{items_view, view};
 
-use plain::Hit;
+use segment_search::Hit;
 use serde_json::{Value as Json, json};
 use std::alloc::{AllocError, Global};
 

@@ -11,11 +11,15 @@ mod stage;
 
 pub use document::NamedDocument;
 pub use document_values::OwnedValue;
-pub use engine::{Index, Refused, Status, file_laws};
 pub use exit_status::status_of;
-pub use plain::{AnyQuery, BooleanQuery, Hit, Occur, TermQuery};
-pub use query_json::read_query;
+pub use query_grammar::read_query;
+pub use query_trees::{
+    AllQuery, AnyQuery, BooleanQuery, BoostQuery, ConstScoreQuery, DisjunctionMaxQuery, EmptyQuery,
+    Occur, PhrasePrefixQuery, PhraseQuery, TermQuery,
+};
 pub use running::{reply, run, run_session};
+pub use segment_engine::{Index, Refused, Status, file_laws};
+pub use segment_search::Hit;
 pub use session::Session;
 pub use settings::Settings;
 pub use term_json::read_term;

@@ -33,6 +33,8 @@ pub(crate) enum Request<'a> {
 pub(crate) enum IndexRequest<'a> {
     /// That a document be added.
     Add(&'a Json),
+    /// That the documents with a term be deleted.
+    Delete(&'a Json),
     /// That all that waits be seen.
     Commit,
     /// The best documents that match, and how many of them.
@@ -41,7 +43,7 @@ pub(crate) enum IndexRequest<'a> {
     Count(&'a Json),
 }
 
-/// The request in a JSON object, whose key `op` names it. These six are the only ones that are read.
+/// The request in a JSON object, whose key `op` names it. Merging is the only one that is not read.
 #[tactic(auto, using(crate::proofs::RequestForms::built_by_name))]
 pub(crate) fn request_in(value: &Json) -> Option<Request<'_>>
     ensures { option_map request_of result ≡ built_request_in (view value.now) }
@@ -50,6 +52,7 @@ pub(crate) fn request_in(value: &Json) -> Option<Request<'_>>
         "create" => create_in(value),
         "open" => open_in(value),
         "add" => add_in(value),
+        "delete" => delete_in(value),
         "commit" => commit_in(value),
         "search" => search_in(value),
         "count" => count_in(value),
@@ -86,6 +89,16 @@ fn add_in(value: &Json) -> Option<Request<'_>>
         return None;
     }
     Some(Request::Index(IndexRequest::Add(value.get("doc")?)))
+}
+
+/// The request for a deletion.
+fn delete_in(value: &Json) -> Option<Request<'_>>
+    ensures { option_map request_of result ≡ definitions.delete_request (view value.now) }
+{
+    if !has_only(value, &["op", "term"]) {
+        return None;
+    }
+    Some(Request::Index(IndexRequest::Delete(value.get("term")?)))
 }
 
 /// The request for a commit.

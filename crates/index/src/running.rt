@@ -5,10 +5,9 @@ ghost use Rattle.std.specs.Prelude.{◌≡◌, ◌≢◌, IfErr, IfOk, IfSome, I
 ghost use Rattle.std.specs.Cow.{cow_str_bytes};
 ghost use Rattle.definitions.specs.Disk.{HasCause};
 ghost use Rattle.definitions.specs.Lines.{lines_of};
-ghost use Rattle.definitions.specs.Requests as requests;
 ghost use Rattle.definitions.specs.Step as steps;
 ghost use Rattle.definitions.specs.declared.fault.Fault.TheVariants as faults;
-ghost use Rattle.index.specs.Sessions.{HasHeld, IsLeft, PassesByCommit, StandsFor, analysis_of, failures_of, honest_of, session_on};
+ghost use Rattle.index.specs.Sessions.{HasHeld, IsLeft, MeetsLimitIn, StandsFor, analysis_of, failures_of, honest_of, session_on};
 ghost use Rattle.definitions.specs.Replying.{Writes, stops};
 ghost use Rattle.serve_lines.specs.Serving.{ServesAll};
 
@@ -28,7 +27,7 @@ pub fn run<R: BufRead, W: Write, D: Device + Drop, A: Analyzer + Drop>(
     analyzer: A,
 ) -> Result<(), RunFault>
     // Of an honest device that holds no byte, or an index's file, the replies follow from that and from the lines.
-    ensures { (held : steps.Held) → HasHeld D.honest D.content device held
+    ensures { (held : steps.Held) → HasHeld D.honest D.content (A.analyze analyzer) device held
         → OnOk result (IfSome (R.remaining reader.old) (λ input.
         Writes steps.answer_of steps.after_line (session_on (analysis_of A.knows_name A.analyze analyzer) held)
         (lines_of input) (W.contents writer.old) (W.contents writer.new))) }
@@ -59,7 +58,7 @@ pub fn run_session<R: BufRead, W: Write, D: Device + Drop, A: Analyzer + Drop>(
 
 /// The reply to one line of JSON, and what the session stands for after it. `OutOfMemory`, `Limit` and `Device` are
 /// the errors. `Device` comes only where the device failed, and after it the session need not stand for any state;
-/// `Limit` comes only where a commit was asked for whose record would pass the limit of a file.
+/// `Limit` comes only where an add or a commit meets a limit: of a document's stored values, of a segment or of the file.
 pub fn reply<D: Device + Drop, A: Analyzer + Drop>(
     session: &mut Session<D, A>,
     line: &str,
@@ -72,7 +71,7 @@ pub fn reply<D: Device + Drop, A: Analyzer + Drop>(
     ensures failures { (s : steps.Session) → StandsFor session.old s
         → HasCause (failures_of session.old) (failures_of session.new) result }
     ensures limit { (s : steps.Session) → StandsFor session.old s → IsErrOf result faults.Limit
-        → (steps.line_request line.now ≡ Some requests.commit_all) × PassesByCommit session.old s }
+        → MeetsLimitIn session.old session.new s (steps.line_request line.now) }
     ensures err { IfErr result (λ fault. IsTrue (stops fault)) }
     // Over an honest device what is committed stays, and stays in the file.
     ensures left { (s : steps.Session) → StandsFor session.old s → IsTrue (honest_of session.old)

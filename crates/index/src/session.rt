@@ -8,7 +8,7 @@ ghost use Rattle.definitions.specs.Requests as requests;
 ghost use Rattle.definitions.specs.Step as steps;
 ghost use Rattle.definitions.specs.declared.fault.Fault.TheVariants as faults;
 ghost use Rattle.index.specs.AskedRequests.{index_request_of, request_of};
-ghost use Rattle.engine.specs.Indexes.{IndexStands, IsInFile, analyzer_of, device_of, schema_of, settings_of};
+ghost use Rattle.segment_engine.specs.Indexes.{IndexStands, IsInFile, analyzer_of, device_of, schema_of, settings_of};
 ghost use Rattle.definitions.specs.Replying.{stops};
 ghost use Rattle.serde_json.specs.Read.{read};
 ghost use Rattle.serde_json.specs.View.{view};
@@ -18,8 +18,8 @@ use crate::requests::{IndexRequest, Request, read_making, request_in};
 use crate::stage::Stage;
 use common::{Analyzer, Device};
 use definitions::Fault;
-use engine::Index;
 use schema::Schema;
+use segment_engine::Index;
 use serde_json::Value as Json;
 use serve_lines::Service;
 use settings::Settings;
@@ -40,7 +40,7 @@ impl<D: Device + Drop, A: Analyzer + Drop> Session<D, A> {
 
     /// A session over a device, in which no index stands.
     pub fn new(alloc: Global, device: D, analyzer: A) -> Session<D, A>
-        ensures stands { (held : steps.Held) → HasHeld D.honest D.content device held
+        ensures stands { (held : steps.Held) → HasHeld D.honest D.content (A.analyze analyzer) device held
             → StandsFor result (session_on (analysis_of A.knows_name A.analyze analyzer) held) }
         ensures parts { parts_of result ≡ Some (device, analyzer) }
     {
@@ -56,7 +56,8 @@ impl<D: Device + Drop, A: Analyzer + Drop> Session<D, A> {
             → IndexStands A.analyze index
             (steps.configuration_of (schema_of index) (A.analyze (analyzer_of index)) (settings_of index)) x
             → IsInFile index x
-            → IsKnown D.honest D.content (device_of index) (schema_of index) (settings_of index) x
+            → IsKnown D.honest D.content (A.analyze (analyzer_of index)) (device_of index) (schema_of index)
+            (settings_of index) x
             → StandsFor result (session_of (analysis_of A.knows_name A.analyze (analyzer_of index))
             (schema_of index) (settings_of index) x) }
         ensures parts { parts_of result ≡ Some (device_of index, analyzer_of index) }

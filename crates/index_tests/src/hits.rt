@@ -43,7 +43,7 @@ fn told(alloc: Global, hits: &[Hit]) -> Result<Vec<(Score, Stored<'_>)>, AllocEr
 
 // Whether the hits of `sea` have their values.
 fn have_hits_their_values(alloc: Global) -> Result<bool, Fault> {
-    let index = index_of(alloc, &DOCS)?;
+    let mut index = index_of(alloc, &DOCS)?;
     let hits = index.search(&sea(alloc)?, 10)?;
     let expected = [(40, B), (30, A)];
     Ok(told(alloc, &hits)?.as_slice() == expected.as_slice())
@@ -51,7 +51,7 @@ fn have_hits_their_values(alloc: Global) -> Result<bool, Fault> {
 
 // Whether a document of an unknown key alone is found without fields.
 fn is_key_skipped(alloc: Global) -> Result<bool, Fault> {
-    let index = index_of(alloc, &[r#"{"x":1.5}"#])?;
+    let mut index = index_of(alloc, &[r#"{"x":1.5}"#])?;
     let hits = index.search(&AnyQuery::All, 10)?;
     Ok(hits.len() == 1 && hits[0].doc.fields().is_empty() && hits[0].doc.get("x").is_none())
 }

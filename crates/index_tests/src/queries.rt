@@ -16,21 +16,21 @@ fn index_with_note(alloc: Global) -> Result<MemoryIndex, Fault> {
 }
 
 // Whether a search and a count of a term are both refused so.
-fn is_refused(index: &MemoryIndex, term: Term, k: usize, fault: Fault) -> bool {
+fn is_refused(index: &mut MemoryIndex, term: Term, k: usize, fault: Fault) -> bool {
     let query = query_for(term);
     index.search(&query, k).err() == Some(fault) && index.count(&query) == Err(fault)
 }
 
 // Whether texts are refused by the test that comes first for their field.
 fn are_texts_refused(alloc: Global) -> Result<bool, Fault> {
-    let index = index_with_note(alloc)?;
+    let mut index = index_with_note(alloc)?;
     for (field, fault) in [
         (3, Fault::UnknownField),
         (2, Fault::NotIndexed),
         (1, Fault::TypeMismatch),
     ] {
         let term = Term::from_field_text(alloc, Field::from_field_id(field), "sea")?;
-        if !is_refused(&index, term, 10, fault) {
+        if !is_refused(&mut index, term, 10, fault) {
             return Ok(false);
         }
     }
@@ -39,14 +39,14 @@ fn are_texts_refused(alloc: Global) -> Result<bool, Fault> {
 
 // Whether numbers are. One in field 2 would be of the wrong type too.
 fn are_numbers_refused(alloc: Global) -> Result<bool, Fault> {
-    let index = index_with_note(alloc)?;
+    let mut index = index_with_note(alloc)?;
     for (field, fault) in [
         (3, Fault::UnknownField),
         (2, Fault::NotIndexed),
         (0, Fault::TypeMismatch),
     ] {
         let term = Term::from_field_u64(alloc, Field::from_field_id(field), 1952)?;
-        if !is_refused(&index, term, 0, fault) {
+        if !is_refused(&mut index, term, 0, fault) {
             return Ok(false);
         }
     }

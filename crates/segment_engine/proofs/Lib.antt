@@ -1,6 +1,5 @@
 -- Lemmas behind the index over segments and its file.
 pub mod FileSayings
 pub mod Commits
-pub mod Refusals
 pub mod Adding
 pub mod Readings

@@ -86,6 +86,10 @@ module _ {D A : Type 0} {d : devices.Ghosts D} where
       Rests (schema_of index) (settings_of index) (members_of index)
       (d.content (device_of index)) (d.unsynced (device_of index)) (gate_of index)
 
+  -- over an honest device a ready index rests in its file
+  abbrev pub IsInFile : Index D A d → calls.Index → Type 0
+  IsInFile index x = IsTrue (d.honest (device_of index)) → x.status ≡ calls.ready → IndexRests index
+
   -- the body of a record that makes of the segments of the index others, of which these documents stand in groups
   abbrev pub IsBodyOf : (A → Analyzer) → Index D A d → List (List Document) → List ℕ → Type 0
   IsBodyOf analyze index groups body =

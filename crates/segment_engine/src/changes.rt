@@ -16,7 +16,7 @@ use crate::index::Index;
 use common::{Analyzer, Device};
 use definitions::Fault;
 use document::CompactDoc;
-use segment_collection::{Prepared, Status};
+use segment_collection::Status;
 use serde_json::Value as Json;
 use std::alloc::Global;
 use terms::Term;

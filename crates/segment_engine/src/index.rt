@@ -1,6 +1,6 @@
 //! The index: its segments, and the file that keeps each commit.
 
-ghost use Rattle.std.specs.Prelude.{[], ◌≡◌, ◌≢◌, ◌⊎◌, IfErr, IfOk, IsTrue, List, None, OnOk, Some, true, ℕ};
+ghost use Rattle.std.specs.Prelude.{[], ◌≡◌, ◌≢◌, ◌⊎◌, IfErr, IfOk, IsTrue, List, None, OnOk, Some, false, true, ℕ};
 ghost use Rattle.std.specs.Result.{result_err};
 ghost use Rattle.definitions.specs.Calls as calls;
 ghost use Rattle.definitions.specs.Disk.{HasCause};
@@ -177,6 +177,14 @@ impl<D: Device + Drop, A: Analyzer + Drop> Index<D, A> {
             → result_err result ≡ calls.status_fault x.status true }
     {
         self.collection.check_open()
+    }
+
+    /// Whether changes are taken.
+    pub fn check_writer(&self) -> Result<(), Fault>
+        ensures { (c : calls.Configuration) (x : calls.Index) → IndexStands A.analyze self.now c x
+            → result_err result ≡ calls.status_fault x.status false }
+    {
+        self.collection.check_writer()
     }
 
     /// How many segments are committed, those without living documents too.

@@ -5,13 +5,13 @@ use Rattle.definitions.specs.Replying.{stops}
 use Rattle.definitions.specs.Requests as requests
 use Rattle.definitions.specs.Step as steps
 use Rattle.definitions.specs.declared.fault.Fault.TheVariants as faults
-use Rattle.engine.specs.Indexes.{IndexStands, IsInFile, KeepsFile, device_of}
+use Rattle.segment_engine.specs.Indexes.{IndexStands, IsInFile, KeepsFile, device_of}
 use Rattle.index.specs.AskedRequests.{index_request_of}
-use Rattle.index.specs.Replying.{Answers, OnlyStops}
-use Rattle.index.proofs.Answering.{add_refused, change_answers, commit_kept, commit_refused, err_weaker}
-use Rattle.index.proofs.Causes.{any_answer, call_goes_on, change_is_memory, memory_cause, memory_no_limit, same_cause, same_error}
-use Rattle.index.proofs.IndexFiles.{added_same, added_status, commit_in_file, counted_still, in_file_still, searched_still}
-use Rattle.index.proofs.Leavings.{any_error, reply_stops}
+use Rattle.index.specs.Replying.{Answers, IndexMeets, OnlyStops}
+use Rattle.index.proofs.Answering.{add_refused, change_answers, commit_kept, commit_refused, taken_answers}
+use Rattle.index.proofs.Causes.{add_cause, any_answer, change_is_memory, memory_cause, memory_no_limit, met_limit, same_cause, same_error}
+use Rattle.index.proofs.IndexFiles.{step_status, commit_in_file, counted_still, in_file_still, searched_still}
+use Rattle.index.proofs.Leavings.{after_error, any_error, error_of_change, reply_stops}
 use Rattle.serde_json.specs.View.{view}
 use Rattle.index.proofs.answers.answer.Goals as goal
 
@@ -32,21 +32,19 @@ returns-in-Add-clause-rests g c k x s is =
     let new = c.add_value.new.self in
     subst (λ r. OnOk c.answer_change.result (IsInFile new ((steps.index_step k x (index_request_of r)).1))) (sym c.in-Add.is)
     (any_answer c.answer_change.result (IsInFile new ((steps.index_step k x (requests.add_doc d)).1))
-    (in_file_still c.args.index.now new x ((steps.index_step k x (requests.add_doc d)).1) c.add_value.ensures.made c.add_value.ensures.file (added_status k x d) (added_same k x d) is))
+    (in_file_still c.args.index.now new x ((steps.index_step k x (requests.add_doc d)).1) c.add_value.ensures.made c.add_value.ensures.file (step_status k x (requests.add_doc d)) is))
 
 pub returns-in-Add-clause-failures : goal.returns-in-Add-clause-failures
 returns-in-Add-clause-failures g c k x s =
     let d = g.D.Device in
     let call = calls.add_value (view c.in-Add.doc.now) in
-    let on = err_weaker c.add_value.result (λ fault. fault ≢ faults.OutOfMemory → calls.call_fault k x call ≡ Some fault) (λ fault. fault ≢ faults.OutOfMemory → stops fault ≡ false) (λ fault refused other. call_goes_on k x call fault (refused other)) (c.add_value.ensures.exact k x s) in
     subst (λ e. HasCause (d.failed (device_of c.args.index.now)) (d.failed e) c.answer_change.result) (sym c.add_value.ensures.file.0)
-    (memory_cause (d.failed (device_of c.args.index.now)) c.answer_change.result (change_is_memory c.add_value.result c.answer_change.result on c.answer_change.ensures.same c.answer_change.ensures.err))
+    (add_cause k x call (d.failed (device_of c.args.index.now)) c.add_value.result c.answer_change.result (c.add_value.ensures.exact k x s) c.answer_change.ensures.same)
 
 pub returns-in-Add-clause-limit : goal.returns-in-Add-clause-limit
 returns-in-Add-clause-limit g c k x s limit =
-    let call = calls.add_value (view c.in-Add.doc.now) in
-    let on = err_weaker c.add_value.result (λ fault. fault ≢ faults.OutOfMemory → calls.call_fault k x call ≡ Some fault) (λ fault. fault ≢ faults.OutOfMemory → stops fault ≡ false) (λ fault refused other. call_goes_on k x call fault (refused other)) (c.add_value.ensures.exact k x s) in
-    absurd (memory_no_limit c.answer_change.result (change_is_memory c.add_value.result c.answer_change.result on c.answer_change.ensures.same c.answer_change.ensures.err) limit)
+    subst (λ r. IndexMeets g.A.Analyzer.analyze c.args.index.now c.add_value.new.self k x (Some (index_request_of r))) (sym c.in-Add.is)
+    (met_limit c.add_value.result _ (c.add_value.ensures.limit k x s) (same_error c.add_value.result c.answer_change.result faults.Limit c.answer_change.ensures.same limit))
 
 pub returns-in-Add-clause-honest : goal.returns-in-Add-clause-honest
 returns-in-Add-clause-honest g c = ap g.D.Device.honest c.add_value.ensures.file.0
@@ -56,6 +54,48 @@ returns-in-Add-clause-left g c k x s =
     let old = c.args.index.now in
     let new = c.add_value.new.self in
     reply_stops g.A.Analyzer.analyze new k x old (calls.add_value (view c.in-Add.doc.now)) c.add_value.result c.answer_change.result c.answer_change.ensures.same (c.add_value.ensures.left k x s) (any_error c.add_value.result (KeepsFile old new) c.add_value.ensures.file)
+
+-- ---- a deletion
+
+pub returns-in-Delete-clause-answered : goal.returns-in-Delete-clause-answered
+returns-in-Delete-clause-answered g c k x s =
+    let d = view c.in-Delete.term.now in
+    subst (λ r. Answers g.A.Analyzer.analyze c.delete.new.index k x (index_request_of r) c.answer_change-in-Delete.result) (sym c.in-Delete.is)
+    (taken_answers g.A.Analyzer.analyze c.delete.new.index k x (requests.delete_docs d) c.delete.result c.answer_change-in-Delete.result (c.delete.ensures.ok k x s) (c.delete.ensures.err k x s) (c.delete.ensures.left k x s) c.answer_change-in-Delete.ensures.text c.answer_change-in-Delete.ensures.on)
+
+pub returns-in-Delete-clause-kept : goal.returns-in-Delete-clause-kept
+returns-in-Delete-clause-kept g c k x s = any_answer c.answer_change-in-Delete.result ((x.status ≡ calls.ready) ⊎ KeepsFile c.args.index.now c.delete.new.index) (inr c.delete.ensures.file)
+
+pub returns-in-Delete-clause-rests : goal.returns-in-Delete-clause-rests
+returns-in-Delete-clause-rests g c k x s is =
+    let r = requests.delete_docs (view c.in-Delete.term.now) in
+    let new = c.delete.new.index in
+    subst (λ r. OnOk c.answer_change-in-Delete.result (IsInFile new ((steps.index_step k x (index_request_of r)).1))) (sym c.in-Delete.is)
+    (any_answer c.answer_change-in-Delete.result (IsInFile new ((steps.index_step k x r).1))
+    (in_file_still c.args.index.now new x ((steps.index_step k x r).1) c.delete.ensures.made c.delete.ensures.file (step_status k x r) is))
+
+pub returns-in-Delete-clause-failures : goal.returns-in-Delete-clause-failures
+returns-in-Delete-clause-failures g c k x s =
+    let d = g.D.Device in
+    let before = d.failed (device_of c.args.index.now) in
+    let r = c.answer_change-in-Delete.result in
+    subst (λ e. HasCause before (d.failed e) r) (sym c.delete.ensures.file.0)
+    (memory_cause before r (change_is_memory c.delete.result r (c.delete.ensures.goes_on k x s) c.answer_change-in-Delete.ensures.same c.answer_change-in-Delete.ensures.err))
+
+pub returns-in-Delete-clause-limit : goal.returns-in-Delete-clause-limit
+returns-in-Delete-clause-limit g c k x s limit =
+    let r = c.answer_change-in-Delete.result in
+    absurd (memory_no_limit r (change_is_memory c.delete.result r (c.delete.ensures.goes_on k x s) c.answer_change-in-Delete.ensures.same c.answer_change-in-Delete.ensures.err) limit)
+
+pub returns-in-Delete-clause-honest : goal.returns-in-Delete-clause-honest
+returns-in-Delete-clause-honest g c = ap g.D.Device.honest c.delete.ensures.file.0
+
+pub returns-in-Delete-clause-left : goal.returns-in-Delete-clause-left
+returns-in-Delete-clause-left g c k x s =
+    let old = c.args.index.now in
+    let new = c.delete.new.index in
+    error_of_change c.delete.result c.answer_change-in-Delete.result (λ fault. fault ≢ faults.Device → OnlyStops g.A.Analyzer.analyze old new k x) c.answer_change-in-Delete.ensures.same
+    (after_error c.delete.result (IndexStands g.A.Analyzer.analyze new k x) (OnlyStops g.A.Analyzer.analyze old new k x) (λ stands. record { file = c.delete.ensures.file; stands = inl stands }) (c.delete.ensures.left k x s))
 
 -- ---- a commit
 
@@ -80,7 +120,8 @@ returns-in-Commit-clause-failures g c k x s =
 
 pub returns-in-Commit-clause-limit : goal.returns-in-Commit-clause-limit
 returns-in-Commit-clause-limit g c k x s limit =
-    (ap index_request_of c.in-Commit.is, c.commit.ensures.limit k x s (same_error c.commit.result c.answer_change-in-Commit.result faults.Limit c.answer_change-in-Commit.ensures.same limit))
+    subst (λ r. IndexMeets g.A.Analyzer.analyze c.args.index.now c.commit.new.self k x (Some (index_request_of r))) (sym c.in-Commit.is)
+    (c.commit.ensures.limit k x s (same_error c.commit.result c.answer_change-in-Commit.result faults.Limit c.answer_change-in-Commit.ensures.same limit))
 
 pub returns-in-Commit-clause-left : goal.returns-in-Commit-clause-left
 returns-in-Commit-clause-left g c k x s =
@@ -88,31 +129,43 @@ returns-in-Commit-clause-left g c k x s =
 
 -- ---- a search
 
+pub returns-in-Search-clause-answered : goal.returns-in-Search-clause-answered
+returns-in-Search-clause-answered g c k x s =
+    subst (λ r. Answers g.A.Analyzer.analyze c.search.new.index k x (index_request_of r) c.search.result) (sym c.in-Search.is) (c.search.ensures.answered k x s)
+
 pub returns-in-Search-clause-kept : goal.returns-in-Search-clause-kept
-returns-in-Search-clause-kept g c k x s = any_answer c.search.result ((x.status ≡ calls.ready) ⊎ KeepsFile c.args.index.now c.args.index.now) (inr (refl, refl))
+returns-in-Search-clause-kept g c k x s = any_answer c.search.result ((x.status ≡ calls.ready) ⊎ KeepsFile c.args.index.now c.search.new.index) (inr c.search.ensures.file)
 
 pub returns-in-Search-clause-rests : goal.returns-in-Search-clause-rests
 returns-in-Search-clause-rests g c k x s is =
-    let index = c.args.index.now in
+    let new = c.search.new.index in
     let r = requests.search_docs (view c.in-Search.query.now) c.in-Search.k in
-    subst (λ r. OnOk c.search.result (IsInFile index ((steps.index_step k x (index_request_of r)).1))) (sym c.in-Search.is)
-    (any_answer c.search.result (IsInFile index ((steps.index_step k x r).1)) (subst (λ y. IsInFile index y) (sym (searched_still k x (view c.in-Search.query.now) c.in-Search.k)) is))
+    subst (λ r. OnOk c.search.result (IsInFile new ((steps.index_step k x (index_request_of r)).1))) (sym c.in-Search.is)
+    (any_answer c.search.result (IsInFile new ((steps.index_step k x r).1)) (subst (λ y. IsInFile new y) (sym (searched_still k x (view c.in-Search.query.now) c.in-Search.k)) (in_file_still c.args.index.now new x x c.search.ensures.made c.search.ensures.file refl is)))
 
 pub returns-in-Search-clause-failures : goal.returns-in-Search-clause-failures
-returns-in-Search-clause-failures g c k x s = memory_cause (g.D.Device.failed (device_of c.args.index.now)) c.search.result (c.search.ensures.err k x s)
+returns-in-Search-clause-failures g c k x s =
+    let d = g.D.Device in
+    let before = d.failed (device_of c.args.index.now) in
+    subst (λ e. HasCause before (d.failed e) c.search.result) (sym c.search.ensures.file.0) (memory_cause before c.search.result (c.search.ensures.err k x s))
 
 pub returns-in-Search-clause-limit : goal.returns-in-Search-clause-limit
 returns-in-Search-clause-limit g c k x s limit = absurd (memory_no_limit c.search.result (c.search.ensures.err k x s) limit)
 
+pub returns-in-Search-clause-honest : goal.returns-in-Search-clause-honest
+returns-in-Search-clause-honest g c = ap g.D.Device.honest c.search.ensures.file.0
+
 pub returns-in-Search-clause-left : goal.returns-in-Search-clause-left
-returns-in-Search-clause-left g c k x s =
-    let index = c.args.index.now in
-    any_error c.search.result (OnlyStops g.A.Analyzer.analyze index index k x) (record { file = (refl, refl); stands = inl s })
+returns-in-Search-clause-left g c k x s = any_error c.search.result (OnlyStops g.A.Analyzer.analyze c.args.index.now c.search.new.index k x) (record { file = c.search.ensures.file; stands = inl (c.search.ensures.left k x s) })
 
 -- ---- a count
 
+pub returns-in-Count-clause-answered : goal.returns-in-Count-clause-answered
+returns-in-Count-clause-answered g c k x s =
+    subst (λ r. Answers g.A.Analyzer.analyze c.args.index.now k x (index_request_of r) c.count.result) (sym c.in-Count.is) (c.count.ensures.answered k x s)
+
 pub returns-in-Count-clause-kept : goal.returns-in-Count-clause-kept
-returns-in-Count-clause-kept g c k x s = any_answer c.count.result ((x.status ≡ calls.ready) ⊎ KeepsFile c.args.index.now c.args.index.now) (inr (refl, refl))
+returns-in-Count-clause-kept g c k x s = any_answer c.count.result ((x.status ≡ calls.ready) ⊎ KeepsFile c.args.index.now c.args.index.now) (inr (refl, refl, refl))
 
 pub returns-in-Count-clause-rests : goal.returns-in-Count-clause-rests
 returns-in-Count-clause-rests g c k x s is =
@@ -130,4 +183,4 @@ returns-in-Count-clause-limit g c k x s limit = absurd (memory_no_limit c.count.
 pub returns-in-Count-clause-left : goal.returns-in-Count-clause-left
 returns-in-Count-clause-left g c k x s =
     let index = c.args.index.now in
-    any_error c.count.result (OnlyStops g.A.Analyzer.analyze index index k x) (record { file = (refl, refl); stands = inl s })
+    any_error c.count.result (OnlyStops g.A.Analyzer.analyze index index k x) (record { file = (refl, refl, refl); stands = inl s })

@@ -1,6 +1,6 @@
 use Rattle.std.proofs.Common.{false, None, Some, true, ap, map, subst, sym, ◌∙◌, ◌≡◌, ◌≢◌, List}
 use Rattle.std.specs.Result.{result_err}
-use Rattle.definitions.specs.Built.{built_query_in}
+use Rattle.definitions.specs.QueryGrammar.{query_in}
 use Rattle.definitions.specs.Calls as calls
 use Rattle.definitions.specs.Replies.{hits_reply}
 use Rattle.definitions.specs.Requests as requests
@@ -9,10 +9,10 @@ use Rattle.definitions.specs.State.{committed}
 use Rattle.definitions.specs.Step as steps
 use Rattle.definitions.specs.declared.fault.Fault.TheVariants as faults
 use Rattle.definitions.proofs.Steps.{refused_call}
-use Rattle.plain.specs.Hits.{hit_of, scored}
-use Rattle.plain.specs.Queries.{query_of}
+use Rattle.segment_search.specs.Hits.{hit_of, scored}
+use Rattle.query_trees.specs.Queries.{query_of}
 use Rattle.making.proofs.ErrorsKept.{err_has}
-use Rattle.index.proofs.Answering.{err_weaker, ok_weaker, read_search, search_answered}
+use Rattle.index.proofs.Answering.{err_weaker, ok_weaker, read_search, search_answered, unread_search}
 use Rattle.serde_json.specs.View.{view}
 use Rattle.definitions.specs.Replying.{stops}
 use Rattle.index.proofs.Causes.{call_goes_on, status_goes_on}
@@ -22,7 +22,7 @@ pub returns-clause-ok : goal.returns-clause-ok
 returns-clause-ok g c k x s =
     let d = view c.args.query.now in
     let q = query_of c.in_ok-query.query in
-    let read = subst (λ m. built_query_in m.schema d ≡ Some q) (sym s.made) (subst (λ fields. built_query_in fields d ≡ Some q) c.schema.ensures c.in_ok-query.ensures.ok) in
+    let read = subst (λ m. query_in m.schema d ≡ Some q) (sym s.made) (subst (λ fields. query_in fields d ≡ Some q) c.schema.ensures c.in_ok-query.ensures.ok) in
     let hs = scanning.scan k.schema k.analyze k.similarity (committed x.state) q c.args.k in
     ok_weaker c.search.result
     (λ hits. (calls.call_fault k x (calls.search_best q c.args.k) ≡ None) × (map hit_of hits.items ≡ map scored hs))
@@ -35,7 +35,7 @@ returns-clause-err g c k x s =
     let d = view c.args.query.now in
     let q = query_of c.in_ok-query.query in
     let call = calls.search_best q c.args.k in
-    let read = subst (λ m. built_query_in m.schema d ≡ Some q) (sym s.made) (subst (λ fields. built_query_in fields d ≡ Some q) c.schema.ensures c.in_ok-query.ensures.ok) in
+    let read = subst (λ m. query_in m.schema d ≡ Some q) (sym s.made) (subst (λ fields. query_in fields d ≡ Some q) c.schema.ensures c.in_ok-query.ensures.ok) in
     err_weaker c.search.result
     (λ fault. fault ≢ faults.OutOfMemory → calls.call_fault k x call ≡ Some fault)
     (λ fault. fault ≢ faults.OutOfMemory → steps.index_step k x (requests.search_docs d c.args.k) ≡ steps.refusing fault x)
@@ -55,7 +55,18 @@ pub returns-in_err-check_open-clause-goes_on : goal.returns-in_err-check_open-cl
 returns-in_err-check_open-clause-goes_on g c k x s =
     let fault = c.in_err-check_open.field-0.0 in
     let closed : calls.status_fault x.status true ≡ Some fault = sym (c.check_open.ensures k x s) ∙ ap result_err c.in_err-check_open.was in
-    err_has c.from_residual.result fault (λ e. e ≢ faults.OutOfMemory → stops e ≡ false) c.from_residual.ensures.1 (λ other. status_goes_on x.status fault closed)
+    err_has c.from_residual.result fault (λ e. e ≢ faults.OutOfMemory → stops e ≡ false) c.from_residual.ensures.1 (λ other. status_goes_on x.status true fault closed)
+
+pub returns-in_err-query-clause-err : goal.returns-in_err-query-clause-err
+returns-in_err-query-clause-err g c k x s =
+    let d = view c.args.query.now in
+    let fault = c.in_err-query.field-0.0 in
+    let ready : calls.status_fault x.status true ≡ None = sym (c.check_open.ensures k x s) ∙ ap result_err c.in_ok-check_open.was in
+    err_has c.from_residual-in_err-query.result fault (λ e. e ≢ faults.OutOfMemory → steps.index_step k x (requests.search_docs d c.args.k) ≡ steps.refusing e x) c.from_residual-in_err-query.ensures.1
+    (λ other.
+    let unread = c.in_err-query.ensures.err other in
+    let none = subst (λ m. query_in m.schema d ≡ None) (sym s.made) (subst (λ fields. query_in fields d ≡ None) c.schema.ensures unread.1) in
+    subst (λ e. steps.index_step k x (requests.search_docs d c.args.k) ≡ steps.refusing e x) (sym unread.0) (unread_search k x d c.args.k ready none))
 
 pub returns-in_err-query-clause-goes_on : goal.returns-in_err-query-clause-goes_on
 returns-in_err-query-clause-goes_on g c k x s =

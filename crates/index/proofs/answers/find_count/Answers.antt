@@ -1,6 +1,6 @@
 use Rattle.std.proofs.Common.{false, None, Some, true, subst, sym, ◌≡◌, ◌≢◌}
 use Rattle.std.specs.Result.{result_err}
-use Rattle.definitions.specs.Built.{built_query_in}
+use Rattle.definitions.specs.QueryGrammar.{query_in}
 use Rattle.definitions.specs.Calls as calls
 use Rattle.definitions.specs.Replies.{count_reply}
 use Rattle.definitions.specs.Requests as requests
@@ -9,9 +9,9 @@ use Rattle.definitions.specs.State.{committed}
 use Rattle.definitions.specs.Step as steps
 use Rattle.definitions.specs.declared.fault.Fault.TheVariants as faults
 use Rattle.definitions.proofs.Steps.{refused_call}
-use Rattle.plain.specs.Queries.{query_of}
+use Rattle.query_trees.specs.Queries.{query_of}
 use Rattle.making.proofs.ErrorsKept.{err_has}
-use Rattle.index.proofs.Answering.{count_answered, err_weaker, ok_weaker, read_count}
+use Rattle.index.proofs.Answering.{count_answered, err_weaker, ok_weaker, read_count, unread_count}
 use Rattle.serde_json.specs.View.{view}
 use Rattle.std.proofs.Common.{ap, ◌∙◌}
 use Rattle.definitions.specs.Replying.{stops}
@@ -22,7 +22,7 @@ pub returns-clause-ok : goal.returns-clause-ok
 returns-clause-ok g c k x s =
     let d = view c.args.query.now in
     let q = query_of c.in_ok-query.query in
-    let read = subst (λ m. built_query_in m.schema d ≡ Some q) (sym s.made) (subst (λ fields. built_query_in fields d ≡ Some q) c.schema.ensures c.in_ok-query.ensures.ok) in
+    let read = subst (λ m. query_in m.schema d ≡ Some q) (sym s.made) (subst (λ fields. query_in fields d ≡ Some q) c.schema.ensures c.in_ok-query.ensures.ok) in
     ok_weaker c.count.result
     (λ count. (calls.call_fault k x (calls.count_all q) ≡ None) × (count ≡ scanning.scan_count k.schema k.analyze (committed x.state) q))
     (λ count. steps.index_step k x (requests.count_docs d) ≡ (count_reply count, x))
@@ -33,7 +33,7 @@ pub returns-clause-err : goal.returns-clause-err
 returns-clause-err g c k x s =
     let d = view c.args.query.now in
     let q = query_of c.in_ok-query.query in
-    let read = subst (λ m. built_query_in m.schema d ≡ Some q) (sym s.made) (subst (λ fields. built_query_in fields d ≡ Some q) c.schema.ensures c.in_ok-query.ensures.ok) in
+    let read = subst (λ m. query_in m.schema d ≡ Some q) (sym s.made) (subst (λ fields. query_in fields d ≡ Some q) c.schema.ensures c.in_ok-query.ensures.ok) in
     err_weaker c.count.result
     (λ fault. fault ≢ faults.OutOfMemory → calls.call_fault k x (calls.count_all q) ≡ Some fault)
     (λ fault. fault ≢ faults.OutOfMemory → steps.index_step k x (requests.count_docs d) ≡ steps.refusing fault x)
@@ -53,7 +53,18 @@ pub returns-in_err-check_open-clause-goes_on : goal.returns-in_err-check_open-cl
 returns-in_err-check_open-clause-goes_on g c k x s =
     let fault = c.in_err-check_open.field-0.0 in
     let closed : calls.status_fault x.status true ≡ Some fault = sym (c.check_open.ensures k x s) ∙ ap result_err c.in_err-check_open.was in
-    err_has c.from_residual.result fault (λ e. e ≢ faults.OutOfMemory → stops e ≡ false) c.from_residual.ensures.1 (λ other. status_goes_on x.status fault closed)
+    err_has c.from_residual.result fault (λ e. e ≢ faults.OutOfMemory → stops e ≡ false) c.from_residual.ensures.1 (λ other. status_goes_on x.status true fault closed)
+
+pub returns-in_err-query-clause-err : goal.returns-in_err-query-clause-err
+returns-in_err-query-clause-err g c k x s =
+    let d = view c.args.query.now in
+    let fault = c.in_err-query.field-0.0 in
+    let ready : calls.status_fault x.status true ≡ None = sym (c.check_open.ensures k x s) ∙ ap result_err c.in_ok-check_open.was in
+    err_has c.from_residual-in_err-query.result fault (λ e. e ≢ faults.OutOfMemory → steps.index_step k x (requests.count_docs d) ≡ steps.refusing e x) c.from_residual-in_err-query.ensures.1
+    (λ other.
+    let unread = c.in_err-query.ensures.err other in
+    let none = subst (λ m. query_in m.schema d ≡ None) (sym s.made) (subst (λ fields. query_in fields d ≡ None) c.schema.ensures unread.1) in
+    subst (λ e. steps.index_step k x (requests.count_docs d) ≡ steps.refusing e x) (sym unread.0) (unread_count k x d ready none))
 
 pub returns-in_err-query-clause-goes_on : goal.returns-in_err-query-clause-goes_on
 returns-in_err-query-clause-goes_on g c k x s =

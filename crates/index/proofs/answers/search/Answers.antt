@@ -1,7 +1,7 @@
 use Rattle.std.proofs.Common.{ap, map, ◌∙◌}
 use Rattle.definitions.specs.Replies.{hits_reply}
 use Rattle.definitions.specs.Requests as requests
-use Rattle.plain.specs.Hits.{hit_of}
+use Rattle.segment_search.specs.Hits.{hit_of}
 use Rattle.index.proofs.Answering.{refusal_answered, text_answered}
 use Rattle.serde_json.specs.View.{view}
 use Rattle.index.proofs.Causes.{stop_is_memory}
@@ -10,10 +10,10 @@ use Rattle.index.proofs.answers.search.Goals as goal
 pub returns-in_ok-hits_text-in-Ok-clause-answered : goal.returns-in_ok-hits_text-in-Ok-clause-answered
 returns-in_ok-hits_text-in-Ok-clause-answered g c k x s =
     let (hs, same, step) = c.in-Ok.ensures.ok k x s in
-    text_answered g.A.Analyzer.analyze c.args.index.now k x (requests.search_docs (view c.args.query.now) c.args.k) (hits_reply hs) _ s step (c.in_ok-hits_text-in-Ok.ensures hs (ap (map hit_of) c.deref.ensures.value ∙ same))
+    text_answered g.A.Analyzer.analyze c.find.new.index k x (requests.search_docs (view c.args.query.now) c.args.k) (hits_reply hs) _ (c.find.ensures.left k x s) step (c.in_ok-hits_text-in-Ok.ensures hs (ap (map hit_of) c.deref.ensures.value ∙ same))
 
 pub returns-in-Err-clause-answered : goal.returns-in-Err-clause-answered
-returns-in-Err-clause-answered g c k x s = refusal_answered g.A.Analyzer.analyze c.args.index.now k x (requests.search_docs (view c.args.query.now) c.args.k) c.in-Err.fault c.refusal.result s (c.in-Err.ensures.err k x s) c.refusal.ensures.text c.refusal.ensures.on
+returns-in-Err-clause-answered g c k x s = refusal_answered g.A.Analyzer.analyze c.find.new.index k x (requests.search_docs (view c.args.query.now) c.args.k) c.in-Err.fault c.refusal.result (c.find.ensures.left k x s) (c.in-Err.ensures.err k x s) c.refusal.ensures.text c.refusal.ensures.on
 
 pub returns-in-Err-clause-err : goal.returns-in-Err-clause-err
 returns-in-Err-clause-err g c k x s = stop_is_memory c.in-Err.fault c.refusal.result (c.in-Err.ensures.goes_on k x s) c.refusal.ensures.same c.refusal.ensures.err

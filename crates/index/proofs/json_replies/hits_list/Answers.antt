@@ -3,7 +3,7 @@ use Rattle.std.proofs.Common.{◌∙◌, ap, arith, ◌≡◌, map}
 use Rattle.std.proofs.lemmas.Grind.{common_steps}
 use Rattle.definitions.specs.Replies.{hit_data}
 use Rattle.index.proofs.ReplyForms.{items_of_hits}
-use Rattle.plain.specs.Hits.{told}
+use Rattle.index.specs.ToldHits.{told}
 use Rattle.serde_json.specs.View.{items_of, view}
 use Rattle.index.proofs.json_replies.hits_list.Goals as goal
 

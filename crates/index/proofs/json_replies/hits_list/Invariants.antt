@@ -1,7 +1,7 @@
 -- The hits so far are those before.
 use Rattle.std.proofs.Common.{◌≡◌, map, take}
 use Rattle.definitions.specs.Replies.{hit_data}
-use Rattle.plain.specs.Hits.{told}
+use Rattle.index.specs.ToldHits.{told}
 use Rattle.serde_json.specs.View.{view}
 use Rattle.index.proofs.json_replies.hits_list.Given as goal
 

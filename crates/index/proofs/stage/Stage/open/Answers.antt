@@ -33,4 +33,4 @@ returns-clause-limit g c a s h not_ready =
     let device = c.into_device-device.result.0 in
     let spare = c.into_device-device.ensures.spare a s h not_ready in
     subst (λ r. ¬ IsErrOf r.1 faults.Limit) (sym c.leave.ensures)
-    (opened_no_limit (g.A.Analyzer.knows_name c.into_device-device.result.1) (d.content device) c.open.result (c.open.ensures.refused (held_honest d.honest d.content device (steps.held_by s) spare.1)))
+    (opened_no_limit (g.A.Analyzer.knows_name c.into_device-device.result.1) (d.content device) c.open.result (c.open.ensures.refused (held_honest d.honest d.content a.analyze device (steps.held_by s) spare.1)))
