@@ -3,7 +3,7 @@
 use crate::indexes::{DOCS, index_of, sea};
 use common::Score;
 use definitions::Fault;
-use index::{AnyQuery, Hit, OwnedValue};
+use index::{AllQuery, AnyQuery, Hit, OwnedValue};
 use std::alloc::{AllocError, Global};
 use std::test::Fail;
 
@@ -52,7 +52,7 @@ fn have_hits_their_values(alloc: Global) -> Result<bool, Fault> {
 // Whether a document of an unknown key alone is found without fields.
 fn is_key_skipped(alloc: Global) -> Result<bool, Fault> {
     let mut index = index_of(alloc, &[r#"{"x":1.5}"#])?;
-    let hits = index.search(&AnyQuery::All, 10)?;
+    let hits = index.search(&AnyQuery::All(AllQuery), 10)?;
     Ok(hits.len() == 1 && hits[0].doc.fields().is_empty() && hits[0].doc.get("x").is_none())
 }
 
