@@ -39,7 +39,6 @@ pub mod TermData
 pub mod SettingsGrammar
 pub mod Making
 pub mod Lines
-pub mod Built
 pub mod Step
 pub mod Replying
 pub mod Alive

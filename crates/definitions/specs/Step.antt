@@ -1,14 +1,13 @@
 -- A line in, a line out: what the program replies, and what stands after it.
 use Rattle.std.specs.Prelude.{[], ◌∷◌, Bool, Err, List, None, Ok, Option, Result, Some, false, if◌then◌else◌, ok_or, option_map, true, ℕ}
 use Rattle.definitions.specs.Analyzers.{Analyzer}
-use Rattle.definitions.specs.Built.{built_request_in}
 use Rattle.definitions.specs.Calls.{Call, Configuration, Index, Status, add_value, after, closed, commit_pending, count_all, delete_term, merge_range, own_fault, ready, search_best, status_fault, writer_closed}
 use Rattle.definitions.specs.Json.{◌>>=◌}
 use Rattle.definitions.specs.Making.{are_analyzed, making_fault}
 use Rattle.std.specs.Option.{option_or}
 use Rattle.definitions.specs.QueryGrammar.{query_in}
 use Rattle.definitions.specs.Replies.{count_reply, error_reply, hits_reply, ok_reply, reply_of}
-use Rattle.definitions.specs.Requests.{Request, add_doc, commit_all, count_docs, create_index, delete_docs, merge_groups, open_index, search_docs}
+use Rattle.definitions.specs.Requests.{Request, add_doc, commit_all, count_docs, create_index, delete_docs, merge_groups, open_index, request_in, search_docs}
 use Rattle.definitions.specs.Scanning.{scan, scan_count}
 use Rattle.definitions.specs.Schema.{Schema}
 use Rattle.definitions.specs.SchemaGrammar.{schema_in}
@@ -175,7 +174,7 @@ step session (Some r) = let p = stage_step session.analysis session.stage r in (
 
 -- what a text says: JSON of a request
 abbrev pub line_request : List ℕ → Option Request
-line_request line = read line >>= built_request_in
+line_request line = read line >>= request_in
 
 -- the reply to a line that is a text, without its newline
 abbrev pub answer_of : Session → List ℕ → List ℕ

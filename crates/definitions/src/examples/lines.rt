@@ -58,7 +58,7 @@ pub fn a_query_says_what_it_reads()
     ensures null_record { reply three_books_session "{\"op\":\"count\",\"query\":{\"q\":\"term\",\"field\":\"title\",\"value\":\"sea\",\"record\":null}}" ≡ codes "{\"error\":\"BadQuery\"}" }
 {}
 
-/// What is no request, or isn't answered yet.
+/// What is no request.
 pub fn other_lines_are_refused()
     ensures open_brace { reply book_session "{" ≡ codes "{\"error\":\"BadRequest\"}" }
     ensures empty { reply book_session "" ≡ codes "{\"error\":\"BadRequest\"}" }
@@ -70,8 +70,14 @@ pub fn other_lines_are_refused()
     ensures missing_key { reply book_session "{\"op\":\"search\",\"query\":{\"q\":\"all\"}}" ≡ codes "{\"error\":\"BadRequest\"}" }
     ensures wrong_key { reply book_session "{\"op\":\"add\",\"document\":{}}" ≡ codes "{\"error\":\"BadRequest\"}" }
     ensures not_utf8 { answers_to book_session ((codes "{\"op\":\"add\",\"doc\":{\"title\":\"" ++ (255 ∷ codes "\"}}")) ∷ []) ≡ codes "{\"error\":\"BadRequest\"}" ∷ [] }
+{}
+
+/// A deletion names a term, and a merge a range of the segments that stand.
+pub fn deletions_and_merges_are_requests()
     ensures deletion { answers_to book_session (codes "{\"op\":\"delete\",\"term\":{\"field\":\"year\",\"value\":1}}" ∷ codes "{\"op\":\"delete\",\"term\":{\"field\":\"year\"}}" ∷ []) ≡ codes "{\"ok\":true}" ∷ codes "{\"error\":\"BadTerm\"}" ∷ [] }
-    ensures not_yet { reply book_session "{\"op\":\"merge\",\"from\":0,\"to\":1}" ≡ codes "{\"error\":\"BadRequest\"}" }
+    ensures no_segment { reply book_session "{\"op\":\"merge\",\"from\":0,\"to\":1}" ≡ codes "{\"error\":\"BadRange\"}" }
+    ensures merge { answers_to three_books_session (codes "{\"op\":\"merge\",\"from\":0,\"to\":1}" ∷ codes "{\"op\":\"merge\",\"from\":0,\"to\":2}" ∷ []) ≡ codes "{\"ok\":true}" ∷ codes "{\"error\":\"BadRange\"}" ∷ [] }
+    ensures half_a_range { reply book_session "{\"op\":\"merge\",\"from\":0}" ≡ codes "{\"error\":\"BadRequest\"}" }
 {}
 
 /// Numbers are whole, from 0 to 2 to the 63rd less 1.
