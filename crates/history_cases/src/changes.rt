@@ -74,6 +74,14 @@ impl Histories {
         Ok(flag(true))
     }
 
+    /// Merges the committed segments from one place to another.
+    pub(crate) fn merge(&mut self, arguments: &Arguments) -> Result<Value, Refusal> {
+        let from = arguments.number(0)? as usize;
+        let to = arguments.number(1)? as usize;
+        self.standing_mut()?.merge(from..to)?;
+        Ok(flag(true))
+    }
+
     /// Lets the index of a device's file stand.
     pub(crate) fn put_opened(&mut self, device: StoppingDevice) -> Result<Value, Refusal> {
         self.put(Index::open(self.alloc, device, RawAndDefault))

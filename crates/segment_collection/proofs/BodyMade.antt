@@ -25,19 +25,19 @@ members_more [] more (flags ∷ sets) l = absurd (omega (arith, l))
 members_more (s ∷ segments) more [] l = refl
 members_more (s ∷ segments) more (flags ∷ sets) l = ap (λ ms. (bytes_of s, flags) ∷ ms) (members_more segments more sets (omega (arith, l)))
 
-zip_flags : (segs : List (List ℕ)) (sets : List (List Bool)) → length sets ≤ length segs → map (λ (m : Member). m.1) (zip segs sets) ≡ sets
+pub zip_flags : (segs : List (List ℕ)) (sets : List (List Bool)) → length sets ≤ length segs → map (λ (m : Member). m.1) (zip segs sets) ≡ sets
 zip_flags [] [] l = refl
 zip_flags [] (flags ∷ sets) l = absurd (omega (arith, l))
 zip_flags (b ∷ segs) [] l = refl
 zip_flags (b ∷ segs) (flags ∷ sets) l = ap (λ fs. flags ∷ fs) (zip_flags segs sets (omega (arith, l)))
 
-length-zip : (segs : List (List ℕ)) (sets : List (List Bool)) → length sets ≤ length segs → length (zip segs sets) ≡ length sets
+pub length-zip : (segs : List (List ℕ)) (sets : List (List Bool)) → length sets ≤ length segs → length (zip segs sets) ≡ length sets
 length-zip [] [] l = refl
 length-zip [] (flags ∷ sets) l = absurd (omega (arith, l))
 length-zip (b ∷ segs) [] l = refl
 length-zip (b ∷ segs) (flags ∷ sets) l = ap suc (length-zip segs sets (omega (arith, l)))
 
-are_members : (schema : Schema) (segments : List code.Segment) (sets : List (List Bool)) → AllByRecursion (IsOpened schema) segments → AreFlagged segments sets → AllByRecursion (IsMember (IsSegment schema)) (members segments sets)
+pub are_members : (schema : Schema) (segments : List code.Segment) (sets : List (List Bool)) → AllByRecursion (IsOpened schema) segments → AreFlagged segments sets → AllByRecursion (IsMember (IsSegment schema)) (members segments sets)
 are_members schema [] [] o f = tt
 are_members schema [] (flags ∷ sets) o f = absurd f
 are_members schema (s ∷ segments) [] o f = tt
@@ -55,7 +55,7 @@ of_parts before [] (flags ∷ sets) e = absurd (omega (arith, e))
 of_parts before (b ∷ segs) [] e = absurd (omega (arith, e))
 of_parts before (b ∷ segs) (flags ∷ sets) e = (refl, of_parts before segs sets (omega (arith, e)))
 
-get_seam : (pre rest : List Member) (m : Member) → slice_get (pre ++ m ∷ rest) (length pre) ≡ Some m
+pub get_seam : (pre rest : List Member) (m : Member) → slice_get (pre ++ m ∷ rest) (length pre) ≡ Some m
 get_seam [] rest m = refl
 get_seam (x ∷ pre) rest m = get_seam pre rest m
 
@@ -88,11 +88,11 @@ below len i zero bs l = none_below len bs
 below len i (suc k) bs l = (omega (arith, l), below len (suc i) k bs (omega (arith, l)))
 
 -- they fit in their bytes
-all_both : {X : Type 0} (P : X → Type 0) (xs ys : List X) → AllByRecursion P xs → AllByRecursion P ys → AllByRecursion P (xs ++ ys)
+pub all_both : {X : Type 0} (P : X → Type 0) (xs ys : List X) → AllByRecursion P xs → AllByRecursion P ys → AllByRecursion P (xs ++ ys)
 all_both P [] ys h k = k
 all_both P (x ∷ xs) ys h k = (h.0, all_both P xs ys h.1 k)
 
-kept_fit : (i k : ℕ) → i + k < 2 ^ 32 → AllByRecursion Fits (kept_from i k)
+pub kept_fit : (i k : ℕ) → i + k < 2 ^ 32 → AllByRecursion Fits (kept_from i k)
 kept_fit i zero l = tt
 kept_fit i (suc k) l = (omega (arith, l), kept_fit (suc i) k (omega (arith, l)))
 
@@ -102,7 +102,7 @@ fresh_fit schema zero (s ∷ segments) o = (o.0.written.short, fresh_fit schema 
 fresh_fit schema (suc k) [] o = tt
 fresh_fit schema (suc k) (s ∷ segments) o = fresh_fit schema k segments o.1
 
-length-kept : (i k : ℕ) → length (kept_from i k) ≡ k
+pub length-kept : (i k : ℕ) → length (kept_from i k) ≡ k
 length-kept i zero = refl
 length-kept i (suc k) = ap suc (length-kept (suc i) k)
 

@@ -12,3 +12,6 @@ pub mod WrittenDocs
 pub mod Parted
 pub mod Searching
 pub mod LongSlots
+pub mod MergedLists
+pub mod MergeMade
+pub mod Merging

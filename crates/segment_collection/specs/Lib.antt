@@ -7,3 +7,4 @@ pub mod Limits
 pub mod Parts
 pub mod Standing
 pub mod Commits
+pub mod Merges

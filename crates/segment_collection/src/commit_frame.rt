@@ -1,6 +1,6 @@
 //! The frame of a commit's record.
 
-ghost use Rattle.std.specs.Prelude.{◌++◌, ◌<◌, ◌^◌, ◌≡◌, ◌≤◌, IfOk, List, OnOk, drop, length, map, ℕ};
+ghost use Rattle.std.specs.Prelude.{◌++◌, ◌-◌, ◌<◌, ◌^◌, ◌≡◌, ◌≤◌, IfOk, List, OnOk, drop, length, map, ℕ};
 ghost use Rattle.std.specs.List.{AllZip};
 ghost use Rattle.definitions.specs.Analyzers.{Analyzer};
 ghost use Rattle.definitions.specs.Schema.{Schema};
@@ -35,8 +35,20 @@ pub(crate) fn commit_frame(
     let fresh = fresh_bytes(alloc, &segments[num_committed..])?;
     let mut parts = kept_parts(alloc, num_committed)?;
     push_fresh(&mut parts, &fresh)?;
+    framed(alloc, &parts, alive)
+}
+
+/// The frame of a record of these parts and alive sets.
+pub(crate) fn framed(
+    alloc: Global,
+    parts: &[Part<'_>],
+    alive: &[AliveBitSet],
+) -> Result<Vec<u8>, AllocError>
+    requires { length parts.now < 2 ^ 32 }
+    ensures { IfOk result (λ frame. frame.items ≡ frame_bytes (segments_body (map part_of parts.now) alive.now)) }
+{
     let mut frame = start_frame(alloc)?;
-    put_segments_body(alloc, &mut frame, &parts, alive)?;
+    put_segments_body(alloc, &mut frame, parts, alive)?;
     finish_frame(&mut frame)?;
     Ok(frame)
 }
@@ -53,15 +65,32 @@ fn fresh_bytes(alloc: Global, segments: &[Segment]) -> Result<Vec<Bytes>, AllocE
 }
 
 /// The parts of so many segments that are kept, by their places.
-fn kept_parts<'a>(alloc: Global, num_kept: usize) -> Result<Vec<Part<'a>>, AllocError>
+pub(crate) fn kept_parts<'a>(
+    alloc: Global,
+    num_kept: usize,
+) -> Result<Vec<Part<'a>>, AllocError>
     requires { num_kept < 2 ^ 32 }
     ensures { IfOk result (λ parts. map part_of parts.items ≡ kept_from 0 num_kept) }
 {
     let mut parts = Vec::new(alloc);
-    for place in 0..num_kept as u32 {
+    push_kept(&mut parts, 0, num_kept)?;
+    Ok(parts)
+}
+
+/// Appends the parts of the segments from one place to another, which are kept.
+pub(crate) fn push_kept(
+    parts: &mut Vec<Part<'_>>,
+    from: usize,
+    to: usize,
+) -> Result<(), AllocError>
+    requires within { from ≤ to }
+    requires few { to < 2 ^ 32 }
+    ensures { OnOk result (map part_of parts.new.items ≡ map part_of parts.old.items ++ kept_from from (to - from)) }
+{
+    for place in from as u32..to as u32 {
         parts.push(Part::Kept(place))?;
     }
-    Ok(parts)
+    Ok(())
 }
 
 /// Appends the parts of new segments, by their bytes.

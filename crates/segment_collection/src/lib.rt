@@ -5,14 +5,20 @@
 mod clearing;
 mod commit_frame;
 mod deletion;
+mod merge_frame;
+mod merged_sets;
+mod merging;
 mod next_sets;
 mod parts;
 mod prepared;
+mod prepared_merge;
+mod replacing;
 mod segment_collection;
 mod status;
 mod tests_of_calls;
 mod written_segment;
 
 pub use prepared::Prepared;
+pub use prepared_merge::PreparedMerge;
 pub use segment_collection::SegmentCollection;
 pub use status::Status;

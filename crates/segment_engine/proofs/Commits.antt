@@ -12,7 +12,7 @@ use Rattle.segment_collection.specs.Flags.{members}
 use Rattle.segment_collection.specs.Standing.{IsMadeAlike, Stands, members_of}
 use Rattle.segment_collection.specs.declared.prepared.Prepared.{Prepared}
 use Rattle.segment_collection.specs.declared.segment_collection.SegmentCollection.{SegmentCollection}
-use Rattle.segment_layouts.specs.SegmentBodies.{Makes}
+use Rattle.segment_layouts.specs.SegmentBodies.{Makes, Member}
 use Rattle.segment_layouts.specs.SegmentFiles.{IsGroup}
 use Rattle.segment_layouts.specs.Segments.{IsSegment}
 
@@ -28,16 +28,16 @@ module _ {A : Type 0} (analyze : A → Analyzer) where
       let cut = analyze index.analyzer in
       subst (AllZip (IsGroup index.schema cut) (members segments sets)) (sym s.groups) (in_groups index.schema cut s.docs segments sets s.segments index.flagged)
 
-  -- a body of these groups, which is framed
-  pub record Written (old mid : SegmentCollection A) (prepared : Prepared) (groups : List (List Document)) : Type 0 where
+  -- a body that makes these members, which are of these groups, and is framed
+  pub record Written (old : SegmentCollection A) (after : List Member) (frame : List ℕ) (groups : List (List Document)) : Type 0 where
     pub body : List ℕ
-    pub framed : frame_in prepared ≡ frame_bytes body
-    pub makes : Makes (IsSegment old.schema) (members_of old) (members_with mid prepared) body
-    pub are_groups : AllZip (IsGroup old.schema (analyze old.analyzer)) (members_with mid prepared) groups
+    pub framed : frame ≡ frame_bytes body
+    pub makes : Makes (IsSegment old.schema) (members_of old) after body
+    pub are_groups : AllZip (IsGroup old.schema (analyze old.analyzer)) after groups
 
   pub commit_written : (old mid : SegmentCollection A) (prepared : Prepared) (c : calls.Configuration) (x : calls.Index) → IsMadeAlike old mid → Stands analyze old c x → IsPrepared analyze mid (sets_in prepared) c x → AreSets mid (sets_in prepared)
       → (body : List ℕ) × (frame_in prepared ≡ frame_bytes body) × Makes (IsSegment c.schema) (members_of old) (members_with mid prepared) body
-      → Written old mid prepared (calls.after c x.state calls.commit_pending).groups
+      → Written old (members_with mid prepared) (frame_in prepared) (calls.after c x.state calls.commit_pending).groups
   commit_written old mid prepared c x alike s p flagged (body, framed, makes) =
       let sets = sets_in prepared in
       let segments = mid.segments.items in

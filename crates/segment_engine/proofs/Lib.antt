@@ -3,3 +3,4 @@ pub mod FileSayings
 pub mod Commits
 pub mod Adding
 pub mod Readings
+pub mod Merges

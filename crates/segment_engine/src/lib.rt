@@ -5,6 +5,7 @@
 mod changes;
 pub mod file_laws;
 mod index;
+mod merging;
 mod open_file;
 mod refused;
 mod searches;

@@ -1,7 +1,8 @@
 -- How many documents of members are alive.
-use Rattle.std.proofs.Common.{[], Bool, List, ap, arith, cond, false, length, map, refl, subst, suc, sym, take, true, zero, ◌++◌, ◌+◌, ◌<◌, ◌≡◌, ◌≤◌, ◌∙◌, ◌∷◌, ℕ}
+use Rattle.std.proofs.Common.{[], Bool, List, ap, ap₂, arith, cond, false, length, map, refl, subst, suc, sym, take, true, zero, ◌++◌, ◌+◌, ◌<◌, ◌≡◌, ◌≤◌, ◌∙◌, ◌∷◌, ℕ}
 use Rattle.std.proofs.lemmas.List.Recursion.{is_count_by}
-use Rattle.std.specs.List.{items_where_true, slice_index_or}
+use Rattle.std.proofs.lemmas.List.{length-map}
+use Rattle.std.specs.List.{items_where_true, slice_index_or, zip}
 use Rattle.common.specs.BitSets.{count_set}
 use Rattle.definitions.specs.Merging.{num_living}
 use Rattle.definitions.specs.Schema.{Schema}
@@ -60,3 +61,29 @@ mapped_more {X = X} f k xs x is within = ap (λ n. map f (take n xs)) (let e : k
     go i [] w = absurd (omega (arith, w))
     go zero (y ∷ ys) w = refl
     go (suc i) (y ∷ ys) w = ap (λ zs. f y ∷ zs) (go i ys (omega (arith, w)))
+
+-- ---- of what is made of each
+
+-- what is made of the element at a place stands at that place
+pub mapped_at : {X Y : Type 0} (f : X → Y) (k : ℕ) (xs : List X) (x : X) → x ≡ slice_index_or xs k x → k < length xs → f x ≡ slice_index_or (map f xs) k (f x)
+mapped_at f k [] x is within = absurd (omega (arith, within))
+mapped_at f zero (y ∷ xs) x is within = ap f is
+mapped_at f (suc k) (y ∷ xs) x is within = mapped_at f k xs x is (omega (arith, within))
+
+pub mapped_within : {X Y : Type 0} (f : X → Y) (k : ℕ) (xs : List X) → k < length xs → k < length (map f xs)
+mapped_within f k xs within = (let long = length-map xs f in omega (arith, long, within))
+
+pub mapped_twice : {X Y Z : Type 0} (f : X → Y) (g : Y → Z) (xs : List X) → map g (map f xs) ≡ map (λ x. g (f x)) xs
+mapped_twice f g [] = refl
+mapped_twice f g (x ∷ xs) = ap (λ zs. g (f x) ∷ zs) (mapped_twice f g xs)
+
+-- ---- pairs of two lists
+
+-- one pair more
+pub zipped_more : {X Y : Type 0} (k : ℕ) (xs : List X) (ys : List Y) (x : X) (y : Y) → x ≡ slice_index_or xs k x → y ≡ slice_index_or ys k y → k < length xs → k < length ys → zip (take (k + 1) xs) (take (k + 1) ys) ≡ zip (take k xs) (take k ys) ++ (x, y) ∷ []
+zipped_more k [] ys x y one other within inside = absurd (omega (arith, within))
+zipped_more k (a ∷ xs) [] x y one other within inside = absurd (omega (arith, inside))
+zipped_more zero (a ∷ xs) (b ∷ ys) x y one other within inside = ap₂ (λ (p : _) (q : _). (p, q) ∷ []) (sym one) (sym other)
+zipped_more (suc k) (a ∷ xs) (b ∷ ys) x y one other within inside =
+    ap (λ n. zip (take n (a ∷ xs)) (take n (b ∷ ys))) (let e : suc k + 1 ≡ suc (k + 1) = omega arith in e)
+    ∙ ap (λ ps. (a, b) ∷ ps) (zipped_more k xs ys x y one other (omega (arith, within)) (omega (arith, inside)))

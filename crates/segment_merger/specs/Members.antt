@@ -9,10 +9,15 @@ use Rattle.inverted_index_reader.specs.Readers.{Reader}
 use Rattle.merged_postings.specs.Mappings.{Mapping}
 use Rattle.segment.specs.Opened.{IsOpened, StandsFor, index_of, lengths_of, num_docs_of}
 use Rattle.segment.specs.declared.segment.Segment.{Segment}
+use Rattle.segment_merger.specs.declared.member_segments.MemberSegment.{MemberSegment}
 
 -- a segment, and which of its documents are alive
 abbrev pub Member : Type 0
 Member = Segment × List Bool
+
+-- the member that is lent
+abbrev pub member_of : MemberSegment → Member
+member_of m = (m.segment.now, m.alive.now)
 
 -- it was opened under the schema, and has a flag for each of its documents
 abbrev pub IsMember : Schema → Member → Type 0

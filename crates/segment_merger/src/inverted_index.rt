@@ -10,16 +10,15 @@ ghost use Rattle.definitions.specs.declared.fault.Fault.TheVariants as faults;
 ghost use Rattle.layouts.specs.InvertedIndexes.{AreIndexed, AreSections, IndexedField};
 ghost use Rattle.layouts.specs.Stores.{max_docs};
 ghost use Rattle.postings_writer.specs.Limits.{IsSerializeRefusal};
-ghost use Rattle.segment_merger.specs.Members.{AreOpened, StandFor, living_count, numbered};
+ghost use Rattle.segment_merger.specs.Members.{AreOpened, StandFor, living_count, member_of, numbered};
 
-use common::AliveBitSet;
+use crate::member_segments::MemberSegment;
 use definitions::Fault;
 use fieldnorms::FieldNormReaders;
 use merged_fields::{Member, merge_fields};
 use merged_postings::DocIdMapping;
 use postings_serializer::InvertedIndexSerializer;
 use schema::Schema;
-use segment::Segment;
 use std::alloc::{AllocError, Global};
 
 /// The sections of terms, postings and positions of the members' living documents, of whose lengths these are the
@@ -27,25 +26,26 @@ use std::alloc::{AllocError, Global};
 pub(crate) fn merge_terms(
     alloc: Global,
     schema: &Schema,
-    members: &[(Segment, AliveBitSet)],
+    members: &[MemberSegment<'_>],
     fieldnorm_readers: &FieldNormReaders<'_>,
 ) -> Result<(Vec<u8>, Vec<u8>, Vec<u8>), Fault>
-    requires opened { ∥ AreOpened schema.now members.now ∥₁ }
-    requires some { 0 < living_count members.now }
-    requires few { living_count members.now ≤ max_docs }
-    requires lengths { AllByRecursion (λ p. length p.1 ≡ living_count members.now) fieldnorm_readers.now }
-    ensures sections { AreOpened schema.now members.now → IfOk result (λ sections. (fields : List IndexedField)
-        × AreSections schema.now (living_count members.now) fieldnorm_readers.now fields
+    requires opened { ∥ AreOpened schema.now (map member_of members.now) ∥₁ }
+    requires some { 0 < living_count (map member_of members.now) }
+    requires few { living_count (map member_of members.now) ≤ max_docs }
+    requires lengths { AllByRecursion (λ p. length p.1 ≡ living_count (map member_of members.now)) fieldnorm_readers.now }
+    ensures sections { AreOpened schema.now (map member_of members.now)
+        → IfOk result (λ sections. (fields : List IndexedField)
+        × AreSections schema.now (living_count (map member_of members.now)) fieldnorm_readers.now fields
         sections.0.items sections.1.items sections.2.items) }
     ensures stands { (analyze : Analyzer) (segments : List alive.Segment)
-        → StandFor schema.now analyze members.now segments
+        → StandFor schema.now analyze (map member_of members.now) segments
         → IfOk result (λ sections. (fields : List IndexedField)
-        × AreSections schema.now (living_count members.now) fieldnorm_readers.now fields
+        × AreSections schema.now (living_count (map member_of members.now)) fieldnorm_readers.now fields
         sections.0.items sections.1.items sections.2.items
         × AreIndexed schema.now analyze (live segments) fields) }
     ensures err { IfErr result (λ fault. fault ≢ faults.OutOfMemory → fault ≡ faults.Limit) }
     ensures limit { (analyze : Analyzer) (segments : List alive.Segment)
-        → StandFor schema.now analyze members.now segments
+        → StandFor schema.now analyze (map member_of members.now) segments
         → IfErr result (λ fault. IsSerializeRefusal fault schema.now fieldnorm_readers.now
         (λ t. postings schema.now analyze t (live segments))) }
 {
@@ -58,18 +58,19 @@ pub(crate) fn merge_terms(
 /// The terms of each member, and the numbers that its living documents get, behind those of the members before.
 fn numbered_members<'a>(
     alloc: Global,
-    members: &'a [(Segment, AliveBitSet)],
+    members: &[MemberSegment<'a>],
 ) -> Result<Vec<Member<'a>>, AllocError>
-    requires { living_count members.now ≤ max_docs }
-    ensures { IfOk result (λ ms. map (λ m. (m.inverted_index.now, m.doc_ids)) ms.items ≡ numbered 0 members.now) }
+    requires { living_count (map member_of members.now) ≤ max_docs }
+    ensures { IfOk result (λ ms. map (λ m. (m.inverted_index.now, m.doc_ids)) ms.items
+        ≡ numbered 0 (map member_of members.now)) }
 {
     let mut numbered = Vec::with_capacity(alloc, members.len())?;
     let mut base = 0;
     for member in members {
-        let doc_ids = DocIdMapping::new(alloc, base, &member.1)?;
+        let doc_ids = DocIdMapping::new(alloc, base, member.alive)?;
         base = doc_ids.end();
         numbered.push(Member {
-            inverted_index: member.0.inverted_index(),
+            inverted_index: member.segment.inverted_index(),
             doc_ids,
         })?;
     }

@@ -3,8 +3,9 @@
 
 mod inverted_index;
 mod living;
+mod member_segments;
 mod merger;
 mod norms;
 mod slots;
 
-pub use merger::merge_segments;
+pub use merger::{merge_lists, merge_segments};

@@ -1,6 +1,7 @@
 //! Merges segments.
 
-ghost use Rattle.std.specs.Prelude.{[], ◌<◌, ◌≡◌, ◌≢◌, ◌≤◌, IfErr, IfOk, IfSome, List, MatchOption, None, ℕ};
+ghost use Rattle.std.specs.Prelude.{[], ◌<◌, ◌≡◌, ◌≢◌, ◌≤◌, IfErr, IfOk, IfSome, List, MatchOption, None, length, map, ℕ};
+ghost use Rattle.std.specs.List.{zip};
 ghost use Rattle.definitions.specs.Alive as alive;
 ghost use Rattle.definitions.specs.Alive.{live};
 ghost use Rattle.definitions.specs.Analyzers.{Analyzer};
@@ -9,12 +10,13 @@ ghost use Rattle.layouts.specs.Stores.{max_docs};
 ghost use Rattle.segment.specs.Opened.{IsOpened, StandsFor, num_docs_of};
 ghost use Rattle.segment_layouts.specs.Segments as layout;
 ghost use Rattle.segment_layouts.specs.Segments.{AreWritten, IsSegment, IsSegmentOf};
-ghost use Rattle.segment_merger.specs.Members.{AreOpened, StandFor, living_count};
+ghost use Rattle.segment_merger.specs.Members.{AreOpened, StandFor, living_count, member_of};
 ghost use Rattle.segment_merger.specs.Limits.{DocumentsPass};
 ghost use Rattle.segment_merger.specs.Slots.{AreHeld};
 
 use crate::inverted_index::merge_terms;
 use crate::living::num_living;
+use crate::member_segments::{MemberSegment, members_of_lists, members_of_pairs};
 use crate::norms::merge_lengths;
 use crate::slots::merge_slots;
 use bytes::Bytes;
@@ -53,6 +55,66 @@ pub fn merge_segments(
         → IfErr result (λ fault. fault ≢ faults.OutOfMemory → (fault ≡ faults.Limit)
         × DocumentsPass schema.now analyze block_size (live segments)) }
 {
+    let members = members_of_pairs(alloc, members)?;
+    merge_members(alloc, schema, block_size, cache_num_blocks, &members)
+}
+
+/// The same of segments and alive sets in lists of their own: the set of each segment stands at its place.
+pub fn merge_lists(
+    alloc: Global,
+    schema: &Schema,
+    block_size: usize,
+    cache_num_blocks: usize,
+    segments: &[Segment],
+    sets: &[AliveBitSet],
+) -> Result<Option<Segment>, Fault>
+    requires each { length segments.now ≡ length sets.now }
+    requires opened { ∥ AreOpened schema.now (zip segments.now sets.now) ∥₁ }
+    ensures living { IfOk result (λ merged. MatchOption merged (living_count (zip segments.now sets.now) ≡ 0)
+        (λ segment. (0 < living_count (zip segments.now sets.now))
+        × (num_docs_of segment ≡ living_count (zip segments.now sets.now)))) }
+    ensures opened { IfOk result (λ merged. IfSome merged (IsOpened schema.now)) }
+    ensures stands { (analyze : Analyzer) (rows : List alive.Segment)
+        → StandFor schema.now analyze (zip segments.now sets.now) rows
+        → IfOk result (λ merged. MatchOption merged (live rows ≡ [])
+        (StandsFor schema.now analyze (live rows))) }
+    ensures err { IfErr result (λ fault. fault ≢ faults.OutOfMemory → fault ≢ faults.Limit
+        → (fault ≡ faults.Damaged None)
+        × ((all : List (List (List ℕ))) → ¬ AreHeld (zip segments.now sets.now) all)) }
+    ensures limit { (analyze : Analyzer) (rows : List alive.Segment)
+        → StandFor schema.now analyze (zip segments.now sets.now) rows
+        → IfErr result (λ fault. fault ≢ faults.OutOfMemory → (fault ≡ faults.Limit)
+        × DocumentsPass schema.now analyze block_size (live rows)) }
+{
+    let members = members_of_lists(alloc, segments, sets)?;
+    merge_members(alloc, schema, block_size, cache_num_blocks, &members)
+}
+
+/// The same of members that are lent.
+fn merge_members(
+    alloc: Global,
+    schema: &Schema,
+    block_size: usize,
+    cache_num_blocks: usize,
+    members: &[MemberSegment<'_>],
+) -> Result<Option<Segment>, Fault>
+    requires { ∥ AreOpened schema.now (map member_of members.now) ∥₁ }
+    ensures living { IfOk result (λ merged. MatchOption merged (living_count (map member_of members.now) ≡ 0)
+        (λ segment. (0 < living_count (map member_of members.now))
+        × (num_docs_of segment ≡ living_count (map member_of members.now)))) }
+    ensures opened { IfOk result (λ merged. IfSome merged (IsOpened schema.now)) }
+    ensures stands { (analyze : Analyzer) (segments : List alive.Segment)
+        → StandFor schema.now analyze (map member_of members.now) segments
+        → IfOk result (λ merged. MatchOption merged (live segments ≡ [])
+        (StandsFor schema.now analyze (live segments))) }
+    ensures err { IfErr result (λ fault. fault ≢ faults.OutOfMemory → fault ≢ faults.Limit
+        → (fault ≡ faults.Damaged None)
+        × ((all : List (List (List ℕ))) → ¬ AreHeld (map member_of members.now) all)) }
+    ensures limit { (analyze : Analyzer) (segments : List alive.Segment)
+        → StandFor schema.now analyze (map member_of members.now) segments
+        → IfErr result (λ fault. fault ≢ faults.OutOfMemory → (fault ≡ faults.Limit)
+        × DocumentsPass schema.now analyze block_size (live segments)) }
+{
     let num_docs = num_living(members)?;
     if num_docs == 0 {
         return Ok(None);
@@ -68,23 +130,25 @@ fn merged_bytes(
     alloc: Global,
     schema: &Schema,
     block_size: usize,
-    members: &[(Segment, AliveBitSet)],
+    members: &[MemberSegment<'_>],
     num_docs: u32,
 ) -> Result<Vec<u8>, Fault>
-    requires opened { ∥ AreOpened schema.now members.now ∥₁ }
-    requires living { num_docs ≡ living_count members.now }
+    requires opened { ∥ AreOpened schema.now (map member_of members.now) ∥₁ }
+    requires living { num_docs ≡ living_count (map member_of members.now) }
     requires some { 0 < num_docs }
     requires few { num_docs ≤ max_docs }
     ensures written { IfOk result (λ bytes. (sections : layout.Sections) × AreWritten num_docs sections bytes.items) }
-    ensures held { (all : List (List (List ℕ))) → AreOpened schema.now members.now → AreHeld members.now all
+    ensures held { (all : List (List (List ℕ))) → AreOpened schema.now (map member_of members.now)
+        → AreHeld (map member_of members.now) all
         → IfOk result (λ bytes. IsSegment schema.now num_docs bytes.items) }
     ensures stands { (analyze : Analyzer) (segments : List alive.Segment)
-        → StandFor schema.now analyze members.now segments
+        → StandFor schema.now analyze (map member_of members.now) segments
         → IfOk result (λ bytes. IsSegmentOf schema.now analyze (live segments) bytes.items) }
     ensures err { IfErr result (λ fault. fault ≢ faults.OutOfMemory → fault ≢ faults.Limit
-        → (fault ≡ faults.Damaged None) × ((all : List (List (List ℕ))) → ¬ AreHeld members.now all)) }
+        → (fault ≡ faults.Damaged None)
+        × ((all : List (List (List ℕ))) → ¬ AreHeld (map member_of members.now) all)) }
     ensures limit { (analyze : Analyzer) (segments : List alive.Segment)
-        → StandFor schema.now analyze members.now segments
+        → StandFor schema.now analyze (map member_of members.now) segments
         → IfErr result (λ fault. fault ≢ faults.OutOfMemory → (fault ≡ faults.Limit)
         × DocumentsPass schema.now analyze block_size (live segments)) }
 {

@@ -3,25 +3,24 @@
 ghost use Rattle.std.specs.Prelude.{◌≡◌, IfErr, IfOk, List, map, ℕ};
 ghost use Rattle.definitions.specs.Schema.{Schema};
 ghost use Rattle.layouts.specs.Stores.{IsStore};
-ghost use Rattle.segment_merger.specs.Members.{AreOpened};
+ghost use Rattle.segment_merger.specs.Members.{AreOpened, member_of};
 ghost use Rattle.segment_merger.specs.Slots.{AreHeld, IsStoreRefusal, merged_slots, with_blocks};
 
-use common::AliveBitSet;
+use crate::member_segments::MemberSegment;
 use definitions::Fault;
 use merged_store::{MemberStore, merge_stores};
-use segment::Segment;
 use std::alloc::{AllocError, Global};
 
 /// The store of the living documents of the members.
 pub(crate) fn merge_slots(
     alloc: Global,
     block_size: usize,
-    members: &[(Segment, AliveBitSet)],
+    members: &[MemberSegment<'_>],
 ) -> Result<Vec<u8>, Fault>
-    requires { ∥ ((schema : Schema) × AreOpened schema members.now) ∥₁ }
-    ensures ok { (all : List (List (List ℕ))) → AreHeld members.now all
-        → IfOk result (λ bytes. IsStore (merged_slots members.now all) bytes.items) }
-    ensures err { IfErr result (λ fault. IsStoreRefusal fault block_size members.now) }
+    requires { ∥ ((schema : Schema) × AreOpened schema (map member_of members.now)) ∥₁ }
+    ensures ok { (all : List (List (List ℕ))) → AreHeld (map member_of members.now) all
+        → IfOk result (λ bytes. IsStore (merged_slots (map member_of members.now) all) bytes.items) }
+    ensures err { IfErr result (λ fault. IsStoreRefusal fault block_size (map member_of members.now)) }
 {
     let stores = member_stores(alloc, members)?;
     merge_stores(alloc, block_size, &stores)
@@ -30,16 +29,16 @@ pub(crate) fn merge_slots(
 /// The store of each member, and which of its documents are alive.
 fn member_stores<'a>(
     alloc: Global,
-    members: &'a [(Segment, AliveBitSet)],
+    members: &[MemberSegment<'a>],
 ) -> Result<Vec<MemberStore<'a>>, AllocError>
     ensures { IfOk result (λ stores. map (λ s. (s.store.now.blocks, s.alive.now)) stores.items
-        ≡ map with_blocks members.now) }
+        ≡ map with_blocks (map member_of members.now)) }
 {
     let mut stores = Vec::with_capacity(alloc, members.len())?;
     for member in members {
         stores.push(MemberStore {
-            store: member.0.store(),
-            alive: &member.1,
+            store: member.segment.store(),
+            alive: member.alive,
         })?;
     }
     Ok(stores)

@@ -8,7 +8,7 @@ use Rattle.segment_merger.proofs.IndexedTerms.{limit_passed, terms_indexed}
 use Rattle.segment_merger.proofs.MergedNorms.{standing_opened}
 use Rattle.segment_merger.proofs.MergedTerms.{sections_stand}
 use Rattle.segment_merger.proofs.NumberedMembers.{few_fields, members_from_zero, opened_read, standing_read}
-use Rattle.segment_merger.specs.Members.{living_count}
+use Rattle.segment_merger.specs.Members.{living_count, member_of}
 use Rattle.segment_merger.proofs.inverted_index.merge_terms.Goals as goal
 
 -- no fewer lengths than documents
@@ -18,7 +18,7 @@ enough n (p ∷ norms) all = ((let long = all.0 in omega (arith, long)), enough 
 
 pub merge_fields-requires : goal.merge_fields-requires
 merge_fields-requires c =
-    let ms = c.args.members.now in
+    let ms = map member_of c.args.members.now in
     let same = ap (map (λ (m : Member). (m.inverted_index.now, m.doc_ids))) c.deref.ensures.value ∙ c.in_ok-numbered.ensures in
     ∥∥₁_map c.requires.opened (λ opened.
     (let read = opened_read c.args.schema.now ms opened in
@@ -26,7 +26,7 @@ merge_fields-requires c =
 
 pub returns-in_err-serializer-2-clause-err : goal.returns-in_err-serializer-2-clause-err
 returns-in_err-serializer-2-clause-err c =
-    let ms = c.args.members.now in
+    let ms = map member_of c.args.members.now in
     let same = ap (map (λ (m : Member). (m.inverted_index.now, m.doc_ids))) c.deref.ensures.value ∙ c.in_ok-numbered.ensures in
     let p = err_from_is_err_and c.from_residual-in_err-serializer-2.result c.from_residual-in_err-serializer-2.ensures.1 in
     rw (p.1, p.2) (λ other. ∥∥₁_elim c.requires.opened (hlevel props) (λ opened.
@@ -36,7 +36,7 @@ returns-in_err-serializer-2-clause-err c =
 
 pub returns-in_err-serializer-2-clause-limit : goal.returns-in_err-serializer-2-clause-limit
 returns-in_err-serializer-2-clause-limit c analyze segments stand =
-    let ms = c.args.members.now in
+    let ms = map member_of c.args.members.now in
     let schema = c.args.schema.now in
     let xs = c.deref.result.now in
     let same = ap (map (λ (m : Member). (m.inverted_index.now, m.doc_ids))) c.deref.ensures.value ∙ c.in_ok-numbered.ensures in
@@ -47,7 +47,7 @@ returns-in_err-serializer-2-clause-limit c analyze segments stand =
 
 pub returns-clause-sections : goal.returns-clause-sections
 returns-clause-sections c opened =
-    let ms = c.args.members.now in
+    let ms = map member_of c.args.members.now in
     let schema = c.args.schema.now in
     let xs = c.deref.result.now in
     let same = ap (map (λ (m : Member). (m.inverted_index.now, m.doc_ids))) c.deref.ensures.value ∙ c.in_ok-numbered.ensures in
@@ -58,7 +58,7 @@ returns-clause-sections c opened =
 
 pub returns-clause-stands : goal.returns-clause-stands
 returns-clause-stands c analyze segments stand =
-    let ms = c.args.members.now in
+    let ms = map member_of c.args.members.now in
     let schema = c.args.schema.now in
     let xs = c.deref.result.now in
     let readers = c.args.fieldnorm_readers.now in

@@ -1,11 +1,11 @@
-use Rattle.std.proofs.Common.{take, ◌≡◌, ◌≤◌}
+use Rattle.std.proofs.Common.{map, take, ◌≡◌, ◌≤◌}
 use Rattle.layouts.specs.Stores.{max_docs}
-use Rattle.segment_merger.specs.Members.{living_count}
+use Rattle.segment_merger.specs.Members.{living_count, member_of}
 use Rattle.segment_merger.proofs.living.num_living.Given as goal
 
 -- the living documents of the members so far
 abbrev pub invariant-loop-member : goal.invariant-loop-member
 invariant-loop-member l = record {
-  sum : l.sum ≡ living_count (take l.member-index l.members);
+  sum : l.sum ≡ living_count (take l.member-index (map member_of l.members));
   few : l.sum ≤ max_docs;
 }

@@ -1,4 +1,4 @@
-use Rattle.std.proofs.Common.{List, arith, inl, inr, length, subst, sym, ◌≡◌, ◌∙◌, ℕ}
+use Rattle.std.proofs.Common.{List, arith, inl, inr, length, subst, sym, ◌≡◌, ◌∙◌, ℕ, map}
 use Rattle.std.proofs.Math.Logic.{∥∥₁_elim, ∥∥₁_map}
 use Rattle.std.proofs.Props.{props}
 use Rattle.std.proofs.lemmas.Result.{err_from_is_err_and}
@@ -17,7 +17,7 @@ use Rattle.segment_layouts.specs.Segments.{AreWritten, IsSegment, Sections}
 use Rattle.segment_merger.proofs.MergedSegments.{living_is, none_damaged, segment_is, segment_of}
 use Rattle.segment_merger.proofs.LongSlots.{long_slot}
 use Rattle.segment_merger.proofs.MergedStores.{slots_of, standing_held}
-use Rattle.segment_merger.specs.Members.{living_count}
+use Rattle.segment_merger.specs.Members.{living_count, member_of}
 use Rattle.segment_merger.proofs.merger.merged_bytes.Goals as goal
 
 -- the section of lengths, by other names of its fields, of its bytes and of how many documents there are
@@ -35,12 +35,12 @@ new-readers-requires-clause-known c =
     let schema = c.args.schema.now in
     ∥∥₁_map c.requires.opened (λ opened.
     (let found = c.in_ok-norms.ensures.opened schema (c.deref.ensures.value ∙ c.in_ok-fields.ensures) opened in
-    (found.0, lent schema c.args.num_docs (living_count c.args.members.now) c.deref-3.result.now c.in_ok-norms.norms.items c.deref-2.result.now found.0 c.requires.living (c.deref-3.ensures.value ∙ c.in_ok-fields.ensures) c.deref-2.ensures.value found.1)))
+    (found.0, lent schema c.args.num_docs (living_count (map member_of c.args.members.now)) c.deref-3.result.now c.in_ok-norms.norms.items c.deref-2.result.now found.0 c.requires.living (c.deref-3.ensures.value ∙ c.in_ok-fields.ensures) c.deref-2.ensures.value found.1)))
 
 pub merge_terms-requires-clause-lengths : goal.merge_terms-requires-clause-lengths
 merge_terms-requires-clause-lengths c =
     let schema = c.args.schema.now in
-    let many = living_count c.args.members.now in
+    let many = living_count (map member_of c.args.members.now) in
     ∥∥₁_elim c.requires.opened (AllByRecursion-prop (λ (p : ℕ × List ℕ). length p.1 ≡ many) (λ p. hlevel props) c.new-readers.result) (λ opened.
     (let found = c.in_ok-norms.ensures.opened schema (c.deref.ensures.value ∙ c.in_ok-fields.ensures) opened in
     let readers = c.new-readers.ensures found.0 (lent schema c.args.num_docs many c.deref-3.result.now c.in_ok-norms.norms.items c.deref-2.result.now found.0 c.requires.living (c.deref-3.ensures.value ∙ c.in_ok-fields.ensures) c.deref-2.ensures.value found.1) in
@@ -54,7 +54,7 @@ returns-in_err-terms-clause-limit c analyze segments stand =
     let schema = c.args.schema.now in
     let fault = c.in_err-terms.field-0.0 in
     let documents = c.in_ok-norms.ensures.stands schema analyze segments (c.deref.ensures.value ∙ c.in_ok-fields.ensures) stand in
-    let readers = c.new-readers.ensures (norms_of schema analyze (live segments)) (lent schema c.args.num_docs (living_count c.args.members.now) c.deref-3.result.now c.in_ok-norms.norms.items c.deref-2.result.now (norms_of schema analyze (live segments)) c.requires.living (c.deref-3.ensures.value ∙ c.in_ok-fields.ensures) c.deref-2.ensures.value documents) in
+    let readers = c.new-readers.ensures (norms_of schema analyze (live segments)) (lent schema c.args.num_docs (living_count (map member_of c.args.members.now)) c.deref-3.result.now c.in_ok-norms.norms.items c.deref-2.result.now (norms_of schema analyze (live segments)) c.requires.living (c.deref-3.ensures.value ∙ c.in_ok-fields.ensures) c.deref-2.ensures.value documents) in
     let refused = subst (λ ns. IsSerializeRefusal fault schema ns (λ t. postings schema analyze t (live segments))) readers (c.in_err-terms.ensures.limit analyze segments stand) in
     let p = err_from_is_err_and c.from_residual-in_err-terms.result c.from_residual-in_err-terms.ensures.1 in
     rw (p.1, p.2) (λ other. elim refused [ inl memory ↦ absurd (other memory) | inr limit ↦ (limit.0, inr (inl limit.1)) ])
@@ -64,13 +64,13 @@ returns-in_err-merge_slots-clause-err c =
     let p = err_from_is_err_and c.from_residual-in_err-merge_slots.result c.from_residual-in_err-merge_slots.ensures.1 in
     rw (p.1, p.2) (λ other no_limit. elim c.in_err-merge_slots.ensures.err [
       | inl memory ↦ absurd (other memory)
-      | inr r ↦ elim r [ inl limit ↦ absurd (no_limit limit.0) | inr damaged ↦ (damaged.0, λ all held. none_damaged c.args.members.now all damaged.1 held) ]
+      | inr r ↦ elim r [ inl limit ↦ absurd (no_limit limit.0) | inr damaged ↦ (damaged.0, λ all held. none_damaged (map member_of c.args.members.now) all damaged.1 held) ]
     ])
 
 pub returns-in_err-merge_slots-clause-limit : goal.returns-in_err-merge_slots-clause-limit
 returns-in_err-merge_slots-clause-limit c analyze segments stand =
     let schema = c.args.schema.now in
-    let ms = c.args.members.now in
+    let ms = map member_of c.args.members.now in
     let many = living_is schema analyze ms segments stand in
     let p = err_from_is_err_and c.from_residual-in_err-merge_slots.result c.from_residual-in_err-merge_slots.ensures.1 in
     rw (p.1, p.2) (λ other. elim c.in_err-merge_slots.ensures.err [
@@ -89,7 +89,7 @@ returns-clause-written c =
 pub returns-clause-held : goal.returns-clause-held
 returns-clause-held c all opened held =
     let schema = c.args.schema.now in
-    let ms = c.args.members.now in
+    let ms = map member_of c.args.members.now in
     let bytes = c.in_ok-to_segment.field-0.items in
     let sections : Sections = record { terms = c.in_ok-terms.terms.items; postings = c.in_ok-terms.postings.items; positions = c.in_ok-terms.positions.items; norms = c.in_ok-norms.norms.items; store = c.in_ok-merge_slots.field-0.items } in
     let written : AreWritten c.args.num_docs sections bytes = record { some = c.requires.some; few = c.requires.few; short = c.in_ok-to_segment.ensures.short; whole = c.in_ok-to_segment.ensures.whole } in
@@ -102,7 +102,7 @@ returns-clause-held c all opened held =
 pub returns-clause-stands : goal.returns-clause-stands
 returns-clause-stands c analyze segments stand =
     let schema = c.args.schema.now in
-    let ms = c.args.members.now in
+    let ms = map member_of c.args.members.now in
     let bytes = c.in_ok-to_segment.field-0.items in
     let sections : Sections = record { terms = c.in_ok-terms.terms.items; postings = c.in_ok-terms.postings.items; positions = c.in_ok-terms.positions.items; norms = c.in_ok-norms.norms.items; store = c.in_ok-merge_slots.field-0.items } in
     let written : AreWritten c.args.num_docs sections bytes = record { some = c.requires.some; few = c.requires.few; short = c.in_ok-to_segment.ensures.short; whole = c.in_ok-to_segment.ensures.whole } in

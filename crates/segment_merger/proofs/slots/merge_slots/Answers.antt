@@ -7,19 +7,20 @@ use Rattle.layouts.specs.Stores.{IsStore}
 use Rattle.merged_store.specs.MemberStores.{IsFlagged}
 use Rattle.merged_store.specs.declared.member_stores.MemberStore.{MemberStore}
 use Rattle.segment_merger.proofs.MergedStores.{slots_same, store_refused, stores_flagged, stores_held}
+use Rattle.segment_merger.specs.Members.{member_of}
 use Rattle.segment_merger.proofs.slots.merge_slots.Goals as goal
 
 pub merge_stores-requires : goal.merge_stores-requires
-merge_stores-requires c = ∥∥₁_elim c.requires (AllByRecursion-prop IsFlagged (λ s. hlevel props) c.deref.result.now) (λ o. stores_flagged o.0 c.deref.result.now c.args.members.now (ap (map (λ (s : MemberStore). (s.store.now.blocks, s.alive.now))) c.deref.ensures.value ∙ c.in_ok-stores.ensures) o.1)
+merge_stores-requires c = ∥∥₁_elim c.requires (AllByRecursion-prop IsFlagged (λ s. hlevel props) c.deref.result.now) (λ o. stores_flagged o.0 c.deref.result.now (map member_of c.args.members.now) (ap (map (λ (s : MemberStore). (s.store.now.blocks, s.alive.now))) c.deref.ensures.value ∙ c.in_ok-stores.ensures) o.1)
 
 pub returns-clause-ok : goal.returns-clause-ok
 returns-clause-ok c all held =
     let ss = c.deref.result.now in
     let same = ap (map (λ (s : MemberStore). (s.store.now.blocks, s.alive.now))) c.deref.ensures.value ∙ c.in_ok-stores.ensures in
-    IfOk-weaker c.merge_stores.result _ _ (λ bytes is. subst (λ xs. IsStore xs bytes.items) (slots_same ss c.args.members.now all same) is) (c.merge_stores.ensures.ok all (stores_held ss c.args.members.now all same held))
+    IfOk-weaker c.merge_stores.result _ _ (λ bytes is. subst (λ xs. IsStore xs bytes.items) (slots_same ss (map member_of c.args.members.now) all same) is) (c.merge_stores.ensures.ok all (stores_held ss (map member_of c.args.members.now) all same held))
 
 pub returns-clause-err : goal.returns-clause-err
 returns-clause-err c =
     let ss = c.deref.result.now in
     let same = ap (map (λ (s : MemberStore). (s.store.now.blocks, s.alive.now))) c.deref.ensures.value ∙ c.in_ok-stores.ensures in
-    IfErr-weaker c.merge_stores.result _ _ (λ fault refused. store_refused fault c.args.block_size ss c.args.members.now same refused) c.merge_stores.ensures.err
+    IfErr-weaker c.merge_stores.result _ _ (λ fault refused. store_refused fault c.args.block_size ss (map member_of c.args.members.now) same refused) c.merge_stores.ensures.err

@@ -1,0 +1,28 @@
+//! A merge that is prepared.
+
+ghost use Rattle.std.specs.Prelude.{◌≡◌};
+ghost use Rattle.segment_collection.specs.Merges.{merge_frame_in};
+
+use common::AliveBitSet;
+use segment::Segment;
+
+/// What a merge writes and then installs.
+#[derive(Drop)]
+pub struct PreparedMerge {
+    pub(crate) frame: Vec<u8>,
+    // Those from one place to another give way to it; where no document is alive there is none.
+    pub(crate) segment: Option<Segment>,
+    pub(crate) from: usize,
+    pub(crate) to: usize,
+    // One for each segment that is committed afterwards.
+    pub(crate) alive: Vec<AliveBitSet>,
+}
+
+impl PreparedMerge {
+    /// The frame of the merge's record.
+    pub fn frame(&self) -> &[u8]
+        ensures { result.now ≡ merge_frame_in self.now }
+    {
+        &self.frame
+    }
+}

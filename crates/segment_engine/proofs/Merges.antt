@@ -1,0 +1,44 @@
+-- What a merge writes: a body that makes the groups after it.
+use Rattle.std.proofs.Common.{List, ap, subst, sym, ◌≡◌, ◌≢◌, ◌∙◌, ◌<◌, ◌⊎◌, Err, Ok, Result, arith, inl, inr, ℕ}
+use Rattle.std.specs.Prelude.{IsErrAnd, IsErrOf}
+use Rattle.std.specs.List.{AllZip}
+use Rattle.definitions.specs.Analyzers.{Analyzer}
+use Rattle.definitions.specs.Calls as calls
+use Rattle.definitions.specs.Disk.{HasCause}
+use Rattle.definitions.specs.Schema.{Schema}
+use Rattle.definitions.specs.State.{merged}
+use Rattle.definitions.specs.Values.{Document}
+use Rattle.definitions.specs.declared.fault.Fault.{Fault}
+use Rattle.definitions.specs.declared.fault.Fault.TheVariants as faults
+use Rattle.records.specs.Frames.{frame_bytes}
+use Rattle.segment_collection.proofs.Merging.{merged_in_groups}
+use Rattle.segment_collection.specs.Merges.{Joins, members_merged, merge_frame_in}
+use Rattle.segment_collection.specs.Standing.{Stands, members_of}
+use Rattle.segment_collection.specs.declared.prepared_merge.PreparedMerge.{PreparedMerge}
+use Rattle.segment_collection.specs.declared.segment_collection.SegmentCollection.{SegmentCollection}
+use Rattle.segment_layouts.specs.SegmentBodies.{Makes}
+use Rattle.segment_layouts.specs.Segments.{IsSegment}
+use Rattle.segment_engine.proofs.Commits.{Written, stands_groups}
+
+pub merge_written : {A : Type 0} (analyze : A → Analyzer) (old : SegmentCollection A) (p : PreparedMerge) (c : calls.Configuration) (x : calls.Index) (from to : ℕ) → Stands analyze old c x → Joins analyze old from to x.state.groups p
+    → (body : List ℕ) × (merge_frame_in p ≡ frame_bytes body) × Makes (IsSegment c.schema) (members_of old) (members_merged old p) body
+    → Written analyze old (members_merged old p) (merge_frame_in p) (merged from to x.state.groups)
+merge_written analyze old p c x from to s joins (body, framed, makes) =
+    let schema : c.schema ≡ old.schema = ap (λ (k : calls.Configuration). k.schema) s.made in
+    record {
+      body = body;
+      framed = framed;
+      makes = subst (λ (t : Schema). Makes (IsSegment t) (members_of old) (members_merged old p) body) schema makes;
+      are_groups = merged_in_groups analyze old from to x.state.groups p joins (stands_groups analyze old c x s);
+    }
+
+-- ---- refusals
+
+abbrev error_or_memory : {T : Type 0} → Result T Fault → Fault
+error_or_memory (Ok x) = faults.OutOfMemory
+error_or_memory (Err e) = e
+
+-- what is no failure of the device needs no cause
+pub refused_caused : {T : Type 0} (now : ℕ) (r : Result T Fault) (fault : Fault) → IsErrAnd r (λ e. e ≡ fault) → fault ≢ faults.Device → HasCause now now r
+refused_caused now (Ok x) fault is other = absurd is
+refused_caused now (Err e) fault is other = record { later = omega arith; cause = λ device. absurd (other (sym is ∙ ap error_or_memory device)) }

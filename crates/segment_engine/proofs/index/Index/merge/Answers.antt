@@ -1,0 +1,88 @@
+use Rattle.std.proofs.Common.{[], Err, List, Ok, Some, ap, false, inl, inr, length, refl, subst, sym, ◌++◌, ◌+◌, ◌<◌, ◌^◌, ◌∙◌, ◌∷◌, ◌≡◌, ◌≢◌, ℕ}
+use Rattle.definitions.specs.Calls as calls
+use Rattle.definitions.specs.State.{merged}
+use Rattle.definitions.specs.declared.fault.Fault.{Fault}
+use Rattle.definitions.specs.declared.fault.Fault.TheVariants as faults
+use Rattle.records.proofs.CallByCall.{resting}
+use Rattle.segment_collection.proofs.Outcomes.{err_has, err_same}
+use Rattle.segment_collection.specs.Merges.{members_merged}
+use Rattle.segment_collection.specs.Standing.{Stands, members_of, status_of}
+use Rattle.segment_engine.proofs.Commits.{stands_groups}
+use Rattle.segment_engine.proofs.FileSayings.{leave_next, leave_same, rests_say}
+use Rattle.segment_engine.proofs.Merges.{merge_written, refused_caused}
+use Rattle.segment_engine.specs.Files.{BodiesLeave}
+use Rattle.segment_engine.specs.Indexes.{device_of, gate_of}
+use Rattle.segment_engine.proofs.index.Index.merge.Goals as goal
+
+pub returns-in_err-prepared-clause-left : goal.returns-in_err-prepared-clause-left
+returns-in_err-prepared-clause-left g c k x s =
+    let call = calls.merge_range c.args.range.start c.args.range.end in
+    let fault = c.in_err-prepared.field-0.0 in
+    (x, subst (λ r. calls.Leaves k x call r x) (err_same c.from_residual.result fault c.from_residual.ensures.1) (c.in_err-prepared.ensures.left k x s), s)
+
+pub returns-in_err-prepared-clause-exact : goal.returns-in_err-prepared-clause-exact
+returns-in_err-prepared-clause-exact g c k x s =
+    let fault = c.in_err-prepared.field-0.0 in
+    err_has c.from_residual.result fault (λ f. f ≢ faults.OutOfMemory → f ≢ faults.Device → f ≢ faults.Limit → calls.call_fault k x (calls.merge_range c.args.range.start c.args.range.end) ≡ Some f) c.from_residual.ensures.1
+    (λ memory device limit. c.in_err-prepared.ensures.exact k x s memory limit)
+
+pub returns-in_err-prepared-clause-any_moment : goal.returns-in_err-prepared-clause-any_moment
+returns-in_err-prepared-clause-any_moment g c k x s h rests =
+    let d = g.D.Device in
+    let old = c.args.self.now in
+    let collection = old.collection in
+    let analyze = g.A.Analyzer.analyze in
+    let device = device_of old in
+    let says = rests_say collection.schema collection.settings (analyze collection.analyzer) (members_of collection) x.state.groups (d.content device) (d.unsynced device) (gate_of old) rests (stands_groups analyze collection k x s) in
+    record {
+      first = rests.bodies;
+      second = rests.bodies;
+      says_one = says;
+      says_other = inl says;
+      images = resting d.moment d.left_since d.content d.unsynced device (gate_of old) rests.bodies rests.bodies rests.at_rest rests.synced (λ image left. g.met.D.Device.only_now device image h left);
+    }
+
+pub returns-in-Ok-clause-left : goal.returns-in-Ok-clause-left
+returns-in-Ok-clause-left g c k x s =
+    let from = c.args.range.start in
+    let to = c.args.range.end in
+    let call = calls.merge_range from to in
+    (record { state = calls.after k x.state call; status = x.status }, calls.answered (c.in_ok-prepared.ensures.taken k x s), c.install_merge.ensures.left k x from to s (c.in_ok-prepared.ensures.joins k x s))
+
+pub returns-in-Ok-clause-appended : goal.returns-in-Ok-clause-appended
+returns-in-Ok-clause-appended g c k x s h bodies rest =
+    let old = c.args.self.now.collection in
+    let p = c.in_ok-prepared.prepared in
+    let w = merge_written g.A.Analyzer.analyze old p k x c.args.range.start c.args.range.end s (c.in_ok-prepared.ensures.joins k x s) (c.in_ok-prepared.ensures.body k x s) in
+    (w.body, (members_merged old p, w.makes, w.are_groups), c.in-Ok.ensures.appended bodies w.body h (c.frame.ensures ∙ w.framed) rest)
+
+pub returns-in-Ok-clause-rests : goal.returns-in-Ok-clause-rests
+returns-in-Ok-clause-rests g c k x s h rests =
+    let old = c.args.self.now.collection in
+    let new = c.install_merge.new.self in
+    let p = c.in_ok-prepared.prepared in
+    let w = merge_written g.A.Analyzer.analyze old p k x c.args.range.start c.args.range.end s (c.in_ok-prepared.ensures.joins k x s) (c.in_ok-prepared.ensures.body k x s) in
+    let bodies = rests.bodies ++ w.body ∷ [] in
+    let leave : BodiesLeave old.schema old.settings bodies (members_merged old p) = leave_next old.schema old.settings rests.bodies (members_of old) (members_merged old p) w.body rests.leave w.makes in
+    record {
+      bodies = bodies;
+      at_rest = c.in-Ok.ensures.appended rests.bodies w.body h (c.frame.ensures ∙ w.framed) rests.at_rest;
+      leave = leave_same old.schema new.schema old.settings new.settings bodies (members_merged old p) (members_of new) c.install_merge.ensures.made.schema c.install_merge.ensures.made.settings c.install_merge.ensures.members leave;
+      synced = c.in-Ok.ensures.unsynced h;
+    }
+
+pub returns-in-Ok-clause-any_moment : goal.returns-in-Ok-clause-any_moment
+returns-in-Ok-clause-any_moment g c k x s h rests =
+    let d = g.D.Device in
+    let analyze = g.A.Analyzer.analyze in
+    let old = c.args.self.now.collection in
+    let device = device_of c.args.self.now in
+    let p = c.in_ok-prepared.prepared in
+    let w = merge_written analyze old p k x c.args.range.start c.args.range.end s (c.in_ok-prepared.ensures.joins k x s) (c.in_ok-prepared.ensures.body k x s) in
+    record {
+      first = rests.bodies;
+      second = rests.bodies ++ w.body ∷ [];
+      says_one = rests_say old.schema old.settings (analyze old.analyzer) (members_of old) x.state.groups (d.content device) (d.unsynced device) (gate_of c.args.self.now) rests (stands_groups analyze old k x s);
+      says_other = inr (record { members = members_merged old p; leave = leave_next old.schema old.settings rests.bodies (members_of old) (members_merged old p) w.body rests.leave w.makes; are_groups = w.are_groups });
+      images = c.append.ensures.any_moment rests.bodies w.body h (c.frame.ensures ∙ w.framed) rests.at_rest rests.synced;
+    }
