@@ -8,7 +8,7 @@ use index::run;
 use std::{fs, io};
 
 /// What the files of the examples are called by.
-const NAMES: [&str; 3] = ["catalogue", "log", "mail"];
+const NAMES: [&str; 4] = ["catalogue", "log", "mail", "page"];
 
 fn main(rt: HostRuntime) -> io::Result<()> {
     for name in NAMES {
