@@ -14,4 +14,4 @@ pub mod Searching
 pub mod LongSlots
 pub mod MergedLists
 pub mod MergeMade
-pub mod Merging
+pub mod MergedGroups

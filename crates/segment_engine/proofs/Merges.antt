@@ -11,7 +11,7 @@ use Rattle.definitions.specs.Values.{Document}
 use Rattle.definitions.specs.declared.fault.Fault.{Fault}
 use Rattle.definitions.specs.declared.fault.Fault.TheVariants as faults
 use Rattle.records.specs.Frames.{frame_bytes}
-use Rattle.segment_collection.proofs.Merging.{merged_in_groups}
+use Rattle.segment_collection.proofs.MergedGroups.{merged_in_groups}
 use Rattle.segment_collection.specs.Merges.{Joins, members_merged, merge_frame_in}
 use Rattle.segment_collection.specs.Standing.{Stands, members_of}
 use Rattle.segment_collection.specs.declared.prepared_merge.PreparedMerge.{PreparedMerge}

@@ -7,7 +7,7 @@ use Rattle.segment.specs.Opened.{bytes_of}
 use Rattle.segment.specs.declared.segment.Segment.{Segment}
 use Rattle.segment_bodies.specs.Parts.{part_of}
 use Rattle.segment_collection.proofs.MergeMade.{length-merged}
-use Rattle.segment_collection.proofs.Merging.{few_new}
+use Rattle.segment_collection.proofs.MergedGroups.{few_new}
 use Rattle.segment_collection.specs.Bodies.{kept_from, merged_parts}
 use Rattle.segment_layouts.specs.SegmentBodies.{fresh, segments_body}
 use Rattle.segment_collection.proofs.merge_frame.merge_frame.Goals as goal

@@ -5,7 +5,7 @@ use Rattle.std.specs.List.{AllByRecursion}
 use Rattle.segment.specs.Opened.{IsOpened}
 use Rattle.segment_search.proofs.Flagging.{flagged_within}
 use Rattle.segment_collection.proofs.MergedLists.{all_replaced, length-replaced}
-use Rattle.segment_collection.proofs.Merging.{few_new, flagged_replaced, members_replaced, merged_stands, new_opened}
+use Rattle.segment_collection.proofs.MergedGroups.{few_new, flagged_replaced, members_replaced, merged_stands, new_opened}
 use Rattle.segment_collection.specs.Flags.{AreFlagged, members}
 use Rattle.segment_collection.specs.Merges.{all_alive, new_in, replaced}
 use Rattle.segment_collection.proofs.segment_collection.SegmentCollection.install_merge.Goals as goal

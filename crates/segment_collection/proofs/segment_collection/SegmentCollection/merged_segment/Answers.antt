@@ -7,7 +7,7 @@ use Rattle.definitions.specs.declared.fault.Fault.TheVariants as faults
 use Rattle.segment.specs.Opened.{StandsFor}
 use Rattle.segment_merger.specs.Limits.{DocumentsPass}
 use Rattle.segment_merger.specs.Members.{AreOpened, StandFor}
-use Rattle.segment_collection.proofs.Merging.{range_opened, range_stands, refused_otherwise}
+use Rattle.segment_collection.proofs.MergedGroups.{range_opened, range_stands, refused_otherwise}
 use Rattle.segment_collection.proofs.segment_collection.SegmentCollection.merged_segment.Goals as goal
 
 pub merge_lists-requires-clause-opened : goal.merge_lists-requires-clause-opened

@@ -5,7 +5,7 @@ use Rattle.definitions.specs.Calls as calls
 use Rattle.definitions.specs.declared.fault.Fault.TheVariants as faults
 use Rattle.records.specs.Frames.{frame_bytes}
 use Rattle.segment.specs.Opened.{bytes_of}
-use Rattle.segment_collection.proofs.Merging.{few_new, merge_body, merge_refused, new_opened, range_answered}
+use Rattle.segment_collection.proofs.MergedGroups.{few_new, merge_body, merge_refused, new_opened, range_answered}
 use Rattle.segment_collection.proofs.Outcomes.{err_has, memory_is_no_limit, status_refuses}
 use Rattle.segment_collection.proofs.Standings.{opened_each}
 use Rattle.segment_collection.specs.Bodies.{merged_parts}
