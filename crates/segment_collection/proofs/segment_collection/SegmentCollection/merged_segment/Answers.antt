@@ -7,6 +7,7 @@ use Rattle.definitions.specs.declared.fault.Fault.TheVariants as faults
 use Rattle.segment.specs.Opened.{StandsFor}
 use Rattle.segment_merger.specs.Limits.{DocumentsPass}
 use Rattle.segment_merger.specs.Members.{AreOpened, StandFor}
+use Rattle.segment_collection.specs.Merges.{joined_groups}
 use Rattle.segment_collection.proofs.MergedGroups.{range_opened, range_stands, refused_otherwise}
 use Rattle.segment_collection.proofs.segment_collection.SegmentCollection.merged_segment.Goals as goal
 
@@ -43,4 +44,4 @@ returns-clause-limit g c k x s =
     let stand = subst (λ ss. StandFor index.schema cut (zip (take n (drop from ss)) (take n (drop from c.deref-2.result.now))) r.rows) (sym c.deref.ensures.value)
     (subst (λ fs. StandFor index.schema cut (zip (take n (drop from index.segments.items)) (take n (drop from fs))) r.rows) (sym c.deref-2.ensures.value) r.stand) in
     let limit = subst (λ ds. IfErr c.merge_lists.result (λ fault. fault ≢ faults.OutOfMemory → (fault ≡ faults.Limit) × DocumentsPass index.schema cut c.block_size.result ds)) r.whole (c.merge_lists.ensures.limit cut r.rows stand) in
-    subst (λ size. IfErr c.merge_lists.result (λ fault. fault ≢ faults.OutOfMemory → (fault ≡ faults.Limit) × DocumentsPass index.schema cut size _)) c.block_size.ensures limit
+    subst (λ size. IfErr c.merge_lists.result (λ fault. fault ≢ faults.OutOfMemory → (fault ≡ faults.Limit) × DocumentsPass index.schema cut size (joined_groups from c.args.to x.state.groups))) c.block_size.ensures limit
