@@ -1,4 +1,4 @@
-use Rattle.std.proofs.Common.{List, None, ap, drop, length, subst, sym, take, ◌-◌, ◌∙◌, ◌≡◌, ◌≢◌, []}
+use Rattle.std.proofs.Common.{List, None, ap, arith, drop, length, subst, sym, take, ◌-◌, ◌∙◌, ◌≡◌, ◌≢◌, []}
 use Rattle.std.specs.Prelude.{IfErr, IfOk, MatchOption}
 use Rattle.std.specs.List.{zip}
 use Rattle.std.proofs.Math.Logic.{∥∥₁_map}
@@ -8,8 +8,17 @@ use Rattle.segment.specs.Opened.{StandsFor}
 use Rattle.segment_merger.specs.Limits.{DocumentsPass}
 use Rattle.segment_merger.specs.Members.{AreOpened, StandFor}
 use Rattle.segment_collection.specs.Merges.{joined_groups}
+use Rattle.segment_search.proofs.Flagging.{flagged_within}
 use Rattle.segment_collection.proofs.MergedGroups.{range_opened, range_stands, refused_otherwise}
 use Rattle.segment_collection.proofs.segment_collection.SegmentCollection.merged_segment.Goals as goal
+
+pub slice_bounds-merge_lists-end : goal.slice_bounds-merge_lists-end
+slice_bounds-merge_lists-end g c =
+    let index = c.args.self.now in
+    let few = flagged_within index.segments.items index.alive.items index.flagged in
+    let same = ap length c.deref.ensures.value in
+    let within = c.requires.within in
+    omega (arith, few, same, within)
 
 pub merge_lists-requires-clause-opened : goal.merge_lists-requires-clause-opened
 merge_lists-requires-clause-opened g c =
