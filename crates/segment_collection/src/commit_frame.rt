@@ -65,10 +65,7 @@ fn fresh_bytes(alloc: Global, segments: &[Segment]) -> Result<Vec<Bytes>, AllocE
 }
 
 /// The parts of so many segments that are kept, by their places.
-pub(crate) fn kept_parts<'a>(
-    alloc: Global,
-    num_kept: usize,
-) -> Result<Vec<Part<'a>>, AllocError>
+pub(crate) fn kept_parts<'a>(alloc: Global, num_kept: usize) -> Result<Vec<Part<'a>>, AllocError>
     requires { num_kept < 2 ^ 32 }
     ensures { IfOk result (λ parts. map part_of parts.items ≡ kept_from 0 num_kept) }
 {
@@ -78,11 +75,7 @@ pub(crate) fn kept_parts<'a>(
 }
 
 /// Appends the parts of the segments from one place to another, which are kept.
-pub(crate) fn push_kept(
-    parts: &mut Vec<Part<'_>>,
-    from: usize,
-    to: usize,
-) -> Result<(), AllocError>
+pub(crate) fn push_kept(parts: &mut Vec<Part<'_>>, from: usize, to: usize) -> Result<(), AllocError>
     requires within { from ≤ to }
     requires few { to < 2 ^ 32 }
     ensures { OnOk result (map part_of parts.new.items ≡ map part_of parts.old.items ++ kept_from from (to - from)) }

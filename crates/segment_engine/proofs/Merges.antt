@@ -42,3 +42,8 @@ error_or_memory (Err e) = e
 pub refused_caused : {T : Type 0} (now : ℕ) (r : Result T Fault) (fault : Fault) → IsErrAnd r (λ e. e ≡ fault) → fault ≢ faults.Device → HasCause now now r
 refused_caused now (Ok x) fault is other = absurd is
 refused_caused now (Err e) fault is other = record { later = omega arith; cause = λ device. absurd (other (sym is ∙ ap error_or_memory device)) }
+
+-- what follows of a limit
+pub limit_told : {T : Type 0} (r : Result T Fault) (fault : Fault) (P : Type 0) → IsErrAnd r (λ e. e ≡ fault) → (fault ≡ faults.Limit → P) → IsErrOf r faults.Limit → P
+limit_told (Ok x) fault P is follows h = absurd is
+limit_told (Err e) fault P is follows h = follows (sym is ∙ ap error_or_memory h)

@@ -57,11 +57,13 @@ impl<D: Device + Drop, A: Analyzer + Drop> Index<D, A> {
                 self.collection.install_merge(prepared);
                 Ok(())
             }
-            Err(Fault::Device) => {
-                self.collection.stop(Status::Closed);
-                Err(Fault::Device)
-            }
-            Err(fault) => Err(fault),
+            Err(fault) => match fault {
+                Fault::Device => {
+                    self.collection.stop(Status::Closed);
+                    Err(fault)
+                }
+                _ => Err(fault),
+            },
         }
     }
 }

@@ -9,7 +9,7 @@ use Rattle.segment_collection.specs.Merges.{members_merged}
 use Rattle.segment_collection.specs.Standing.{Stands, members_of, status_of}
 use Rattle.segment_engine.proofs.Commits.{stands_groups}
 use Rattle.segment_engine.proofs.FileSayings.{leave_next, leave_same, rests_say}
-use Rattle.segment_engine.proofs.Merges.{merge_written, refused_caused}
+use Rattle.segment_engine.proofs.Merges.{limit_told, merge_written, refused_caused}
 use Rattle.segment_engine.specs.Files.{BodiesLeave}
 use Rattle.segment_engine.specs.Indexes.{device_of, gate_of}
 use Rattle.segment_engine.proofs.index.Index.merge.Goals as goal
@@ -73,6 +73,28 @@ returns-in-Ok-clause-rests g c k x s h rests =
 
 pub returns-in-Ok-clause-any_moment : goal.returns-in-Ok-clause-any_moment
 returns-in-Ok-clause-any_moment g c k x s h rests =
+    let d = g.D.Device in
+    let analyze = g.A.Analyzer.analyze in
+    let old = c.args.self.now.collection in
+    let device = device_of c.args.self.now in
+    let p = c.in_ok-prepared.prepared in
+    let w = merge_written analyze old p k x c.args.range.start c.args.range.end s (c.in_ok-prepared.ensures.joins k x s) (c.in_ok-prepared.ensures.body k x s) in
+    record {
+      first = rests.bodies;
+      second = rests.bodies ++ w.body ∷ [];
+      says_one = rests_say old.schema old.settings (analyze old.analyzer) (members_of old) x.state.groups (d.content device) (d.unsynced device) (gate_of c.args.self.now) rests (stands_groups analyze old k x s);
+      says_other = inr (record { members = members_merged old p; leave = leave_next old.schema old.settings rests.bodies (members_of old) (members_merged old p) w.body rests.leave w.makes; are_groups = w.are_groups });
+      images = c.append.ensures.any_moment rests.bodies w.body h (c.frame.ensures ∙ w.framed) rests.at_rest rests.synced;
+    }
+
+pub returns-in_err-prepared-clause-limit : goal.returns-in_err-prepared-clause-limit
+returns-in_err-prepared-clause-limit g c k x s = limit_told c.from_residual.result c.in_err-prepared.field-0.0 _ c.from_residual.ensures.1 (λ limit. inl (c.in_err-prepared.ensures.limit k x s limit))
+
+pub returns-in-Err-Device-clause-left : goal.returns-in-Err-Device-clause-left
+returns-in-Err-Device-clause-left g c k x s = (record { state = x.state; status = calls.closed }, calls.device_failed (c.in_ok-prepared.ensures.taken k x s) refl, c.stop.ensures.left k x s)
+
+pub returns-in-Err-Device-clause-any_moment : goal.returns-in-Err-Device-clause-any_moment
+returns-in-Err-Device-clause-any_moment g c k x s h rests =
     let d = g.D.Device in
     let analyze = g.A.Analyzer.analyze in
     let old = c.args.self.now.collection in
