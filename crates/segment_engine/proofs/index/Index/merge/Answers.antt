@@ -90,11 +90,14 @@ returns-in-Ok-clause-any_moment g c k x s h rests =
 pub returns-in_err-prepared-clause-limit : goal.returns-in_err-prepared-clause-limit
 returns-in_err-prepared-clause-limit g c k x s = limit_told c.from_residual.result c.in_err-prepared.field-0.0 _ c.from_residual.ensures.1 (λ limit. inl (c.in_err-prepared.ensures.limit k x s limit))
 
-pub returns-in-Err-Device-clause-left : goal.returns-in-Err-Device-clause-left
-returns-in-Err-Device-clause-left g c k x s = (record { state = x.state; status = calls.closed }, calls.device_failed (c.in_ok-prepared.ensures.taken k x s) refl, c.stop.ensures.left k x s)
+pub returns-in-Device-clause-left : goal.returns-in-Device-clause-left
+returns-in-Device-clause-left g c k x s =
+    let y : calls.Index = record { state = x.state; status = calls.closed } in
+    let call = calls.merge_range c.args.range.start c.args.range.end in
+    (y, subst (λ e. calls.Leaves k x call (Err e) y) (sym c.in-Device.is) (calls.device_failed (c.in_ok-prepared.ensures.taken k x s) refl), c.stop.ensures.left k x s)
 
-pub returns-in-Err-Device-clause-any_moment : goal.returns-in-Err-Device-clause-any_moment
-returns-in-Err-Device-clause-any_moment g c k x s h rests =
+pub returns-in-Device-clause-any_moment : goal.returns-in-Device-clause-any_moment
+returns-in-Device-clause-any_moment g c k x s h rests =
     let d = g.D.Device in
     let analyze = g.A.Analyzer.analyze in
     let old = c.args.self.now.collection in
@@ -107,4 +110,45 @@ returns-in-Err-Device-clause-any_moment g c k x s h rests =
       says_one = rests_say old.schema old.settings (analyze old.analyzer) (members_of old) x.state.groups (d.content device) (d.unsynced device) (gate_of c.args.self.now) rests (stands_groups analyze old k x s);
       says_other = inr (record { members = members_merged old p; leave = leave_next old.schema old.settings rests.bodies (members_of old) (members_merged old p) w.body rests.leave w.makes; are_groups = w.are_groups });
       images = c.append.ensures.any_moment rests.bodies w.body h (c.frame.ensures ∙ w.framed) rests.at_rest rests.synced;
+    }
+
+pub returns : goal.returns
+returns g c =
+    let d = g.D.Device in
+    let analyze = g.A.Analyzer.analyze in
+    let from = c.args.range.start in
+    let to = c.args.range.end in
+    let call = calls.merge_range from to in
+    let old = c.args.self.now.collection in
+    let device = device_of c.args.self.now in
+    let p = c.in_ok-prepared.prepared in
+    let fault = c.in-Err.fault in
+    let limit : fault ≡ faults.Limit = elim c.in-Err.ensures.fault [
+      | inl failed ↦ absurd (c.in_default.not-Device failed)
+      | inr met ↦ met
+    ] in
+    let unchanged = c.in-Err.ensures.unchanged (ap Err limit) in
+    record {
+      left = λ k x s. (x, subst (λ e. calls.Leaves k x call (Err e) x) (sym limit) (calls.limit_refused (c.in_ok-prepared.ensures.taken k x s) refl), s);
+      exact = λ k x s memory failed other. absurd (other limit);
+      made = search;
+      honest = c.append.ensures.honest;
+      cause = c.in-Err.ensures.cause;
+      counted = c.in-Err.ensures.counted;
+      limit = λ k x s met. (
+        let w = merge_written analyze old p k x from to s (c.in_ok-prepared.ensures.joins k x s) (c.in_ok-prepared.ensures.body k x s) in
+        inr (w.body, (members_merged old p, w.makes, w.are_groups), subst (λ (bytes : List ℕ). 2 ^ 63 < gate_of c.args.self.now + 1 + length bytes) (c.frame.ensures ∙ w.framed) (c.append.ensures.limit.0 (c.in-Err.is ∙ met))));
+      short = tt;
+      kept = λ other. (unchanged.0, unchanged.1, refl);
+      appended = λ k x s h. tt;
+      rests = λ k x s h rests. tt;
+      any_moment = λ k x s h rests. (
+        let w = merge_written analyze old p k x from to s (c.in_ok-prepared.ensures.joins k x s) (c.in_ok-prepared.ensures.body k x s) in
+        record {
+          first = rests.bodies;
+          second = rests.bodies ++ w.body ∷ [];
+          says_one = rests_say old.schema old.settings (analyze old.analyzer) (members_of old) x.state.groups (d.content device) (d.unsynced device) (gate_of c.args.self.now) rests (stands_groups analyze old k x s);
+          says_other = inr (record { members = members_merged old p; leave = leave_next old.schema old.settings rests.bodies (members_of old) (members_merged old p) w.body rests.leave w.makes; are_groups = w.are_groups });
+          images = c.append.ensures.any_moment rests.bodies w.body h (c.frame.ensures ∙ w.framed) rests.at_rest rests.synced;
+        });
     }
