@@ -162,25 +162,25 @@ pub deletion_left : {D A : Type 0} {d : devices.Ghosts D} (analyze : A → Analy
 deletion_left analyze new c x term (Ok u) left = tt
 deletion_left analyze new c x term (Err fault) (y, left, stands) = subst (IndexStands analyze new c) (failed_deletion c x y term fault left) stands
 
--- ---- a commit
+-- ---- a merge or a commit
 
--- a commit that isn't refused was ready
+-- an index whose writer refuses nothing was ready
 ready_then : (status : calls.Status) (own : Option Fault) → option_or (calls.status_fault status false) own ≡ None → status ≡ calls.ready
 ready_then calls.ready own h = refl
 ready_then calls.writer_closed own h = absurd (none≢some (sym h))
 ready_then calls.closed own h = absurd (none≢some (sym h))
 
 -- the index was ready, or its file is as it was
-pub commit_kept : {Z : Type 0} (Kept : Type 0) (stands : calls.Index → Type 0) (change : Result ⊤ Fault) (result : Result Z Fault) (c : calls.Configuration) (x : calls.Index) → (y : calls.Index) × calls.Leaves c x calls.commit_pending change y × stands y → IfErr change (λ fault. fault ≢ faults.Device → Kept) → OnOk result (GoesOn change) → OnOk result ((x.status ≡ calls.ready) ⊎ Kept)
-commit_kept Kept stands change (Err e) c x left kept on = tt
-commit_kept Kept stands (Ok u) (Ok z) c x (y, left, stood) kept on = inl (ready_then x.status (calls.own_fault c x.state calls.commit_pending) ((answered_leaves c x y calls.commit_pending left).0))
-commit_kept Kept stands (Err fault) (Ok z) c x left kept on = inr (kept (going_on fault faults.Device on refl))
+pub write_kept : {Z : Type 0} (Kept : Type 0) (stands : calls.Index → Type 0) (call : calls.Call) (change : Result ⊤ Fault) (result : Result Z Fault) (c : calls.Configuration) (x : calls.Index) → calls.only_reads call ≡ false → (y : calls.Index) × calls.Leaves c x call change y × stands y → IfErr change (λ fault. fault ≢ faults.Device → Kept) → OnOk result (GoesOn change) → OnOk result ((x.status ≡ calls.ready) ⊎ Kept)
+write_kept Kept stands call change (Err e) c x writes left kept on = tt
+write_kept Kept stands call (Ok u) (Ok z) c x writes (y, left, stood) kept on = inl (ready_then x.status (calls.own_fault c x.state call) (subst (λ reads. option_or (calls.status_fault x.status reads) (calls.own_fault c x.state call) ≡ None) writes ((answered_leaves c x y call left).0)))
+write_kept Kept stands call (Err fault) (Ok z) c x writes left kept on = inr (kept (going_on fault faults.Device on refl))
 
 -- what is refused unless memory is wanted is refused where the run goes on
 pub add_refused : {T : Type 0} (r : Result T Fault) (P : Fault → Type 0) → IfErr r (λ fault. fault ≢ faults.OutOfMemory → fault ≢ faults.Limit → P fault) → IfErr r (λ fault. stops fault ≡ false → P fault)
 add_refused (Ok t) P h = tt
 add_refused (Err fault) P h = λ on. h (going_on fault faults.OutOfMemory on refl) (going_on fault faults.Limit on refl)
 
-pub commit_refused : {T : Type 0} (r : Result T Fault) (P : Fault → Type 0) → IfErr r (λ fault. fault ≢ faults.OutOfMemory → fault ≢ faults.Device → fault ≢ faults.Limit → P fault) → IfErr r (λ fault. stops fault ≡ false → P fault)
-commit_refused (Ok t) P h = tt
-commit_refused (Err fault) P h = λ on. h (going_on fault faults.OutOfMemory on refl) (going_on fault faults.Device on refl) (going_on fault faults.Limit on refl)
+pub write_refused : {T : Type 0} (r : Result T Fault) (P : Fault → Type 0) → IfErr r (λ fault. fault ≢ faults.OutOfMemory → fault ≢ faults.Device → fault ≢ faults.Limit → P fault) → IfErr r (λ fault. stops fault ≡ false → P fault)
+write_refused (Ok t) P h = tt
+write_refused (Err fault) P h = λ on. h (going_on fault faults.OutOfMemory on refl) (going_on fault faults.Device on refl) (going_on fault faults.Limit on refl)

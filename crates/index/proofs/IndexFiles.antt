@@ -71,21 +71,22 @@ module _ {D A : Type 0} {d : devices.Ghosts D} where
   in_file_still old new x y made file status is honest ready =
       rests_still old new made file (is (subst (λ (e : D). IsTrue (d.honest e)) file.0 honest) (sym status ∙ ready))
 
-  -- after a commit the file has what is committed then
-  pub commit_in_file : {Z : Type 0} (analyze : A → Analyzer) (old new : Index D A d) (change : Result ⊤ Fault) (result : Result Z Fault) (c : calls.Configuration) (x : calls.Index)
-      → (y : calls.Index) × calls.Leaves c x calls.commit_pending change y × IndexStands analyze new c y
-      → IfErr change (λ fault. stops fault ≡ false → calls.call_fault c x calls.commit_pending ≡ Some fault)
+  -- after a merge or a commit the file has what is committed then
+  pub written_in_file : {Z : Type 0} (analyze : A → Analyzer) (old new : Index D A d) (r : requests.Request) (call : calls.Call) (change : Result ⊤ Fault) (result : Result Z Fault) (c : calls.Configuration) (x : calls.Index)
+      → steps.call_in c.schema r ≡ Ok call
+      → (y : calls.Index) × calls.Leaves c x call change y × IndexStands analyze new c y
+      → IfErr change (λ fault. stops fault ≡ false → calls.call_fault c x call ≡ Some fault)
       → KeepsMaking old new → d.honest (device_of new) ≡ d.honest (device_of old)
       → IfErr change (λ fault. fault ≢ faults.Device → KeepsFile old new)
       → (IsTrue (d.honest (device_of old)) → IndexRests old → OnOk change (IndexRests new))
-      → OnOk result (GoesOn change) → IsInFile old x → OnOk result (IsInFile new ((steps.index_step c x requests.commit_all).1))
-  commit_in_file analyze old new change (Err e) c x left exact made honest kept rests on is = tt
-  commit_in_file analyze old new (Ok u) (Ok z) c x (y, left, stands) exact made honest kept rests on is =
-      let told = answered_leaves c x y calls.commit_pending left in
-      let step = answered_call c x requests.commit_all calls.commit_pending refl told.0 in
+      → OnOk result (GoesOn change) → IsInFile old x → OnOk result (IsInFile new ((steps.index_step c x r).1))
+  written_in_file analyze old new r call change (Err e) c x read left exact made honest kept rests on is = tt
+  written_in_file analyze old new r call (Ok u) (Ok z) c x read (y, left, stands) exact made honest kept rests on is =
+      let told = answered_leaves c x y call left in
+      let step = answered_call c x r call read told.0 in
       subst (λ (p : json.Data × calls.Index). IsInFile new p.1) (sym step)
       (λ is_honest ready. let before = subst (λ b. IsTrue b) honest is_honest in rests before (is before ready))
-  commit_in_file analyze old new (Err fault) (Ok z) c x left exact made honest kept rests on is =
-      let step = refused_call c x requests.commit_all calls.commit_pending fault refl (exact on) in
+  written_in_file analyze old new r call (Err fault) (Ok z) c x read left exact made honest kept rests on is =
+      let step = refused_call c x r call fault read (exact on) in
       subst (λ (p : json.Data × calls.Index). IsInFile new p.1) (sym step)
       (in_file_still old new x x made (kept (going_on fault faults.Device on refl)) refl is)

@@ -6,7 +6,6 @@ use Rattle.std.specs.Cow.{cow_str_bytes}
 use Rattle.std.specs.declared.borrow.CowStr.{CowStr}
 use Rattle.common.specs.declared.analyzer.Analyzer as analyzers
 use Rattle.common.specs.declared.device.Device as devices
-use Rattle.definitions.specs.Built.{built_request_in}
 use Rattle.definitions.specs.QueryGrammar.{query_in}
 use Rattle.definitions.specs.Calls as calls
 use Rattle.definitions.specs.Analyzers.{Analyzer}
@@ -29,7 +28,7 @@ use Rattle.index.specs.Replying.{Answers, GoesOn, IndexMeets, OnlyStops, change_
 use Rattle.index.specs.Sessions.{HasHeld, HasStage, IsIndex, IsKnown, IsLeft, LeavesStage, MeetsLimit, Replies, StandsFor, analysis_of, failures_of, failures_on, honest_of, honest_on}
 use Rattle.segment_engine.specs.declared.index.Index.{Index}
 use Rattle.index.specs.declared.requests.IndexRequest.{IndexRequest}
-use Rattle.index.specs.declared.requests.IndexRequest.TheVariants.{Add, Commit, Count, Delete, Search}
+use Rattle.index.specs.declared.requests.IndexRequest.TheVariants.{Add, Commit, Count, Delete, Merge, Search}
 use Rattle.index.specs.declared.session.Session.{Session}
 use Rattle.index.specs.declared.stage.Stage.TheVariants.{Spare, Standing}
 use Rattle.index.proofs.Answering.{err_weaker}
@@ -74,6 +73,7 @@ opened_step s is = ap (λ (b : Bool). cond b (steps.refusing faults.AlreadyOpen 
 asked_step : (a : steps.Analysis) (stage : steps.Stage) (r : IndexRequest) → steps.stage_step a stage (index_request_of r) ≡ steps.in_index a.analyze stage (index_request_of r)
 asked_step a stage (Add doc) = refl
 asked_step a stage (Delete term) = refl
+asked_step a stage (Merge from to) = refl
 asked_step a stage Commit = refl
 asked_step a stage (Search query k) = refl
 asked_step a stage (Count query) = refl
@@ -99,6 +99,7 @@ unmoved c state calls.ready r = inl refl
 unmoved c state calls.closed r = inr refl
 unmoved c state calls.writer_closed (Add doc) = inr refl
 unmoved c state calls.writer_closed (Delete term) = inr refl
+unmoved c state calls.writer_closed (Merge from to) = inr refl
 unmoved c state calls.writer_closed Commit = inr refl
 unmoved c state calls.writer_closed (Search query k) = inr (searched_same c (record { state = state; status = calls.writer_closed }) k (query_in c.schema (view query.now)))
 unmoved c state calls.writer_closed (Count query) = inr (counted_same c (record { state = state; status = calls.writer_closed }) (query_in c.schema (view query.now)))
@@ -253,8 +254,8 @@ none_asked d knows analyze a (steps.index_of fields numbers x) device analyzer r
 -- ---- a line
 
 -- a line of a text asks for what its value does
-pub line_asks : (line : List ℕ) (found : Option json.Data) → found ≡ read line → steps.line_request line ≡ option_and_then built_request_in found
-line_asks line found is = ap (λ o. option_and_then built_request_in o) (sym is)
+pub line_asks : (line : List ℕ) (found : Option json.Data) → found ≡ read line → steps.line_request line ≡ option_and_then requests.request_in found
+line_asks line found is = ap (λ o. option_and_then requests.request_in o) (sym is)
 
 -- the reply where nothing is asked for
 pub unasked_text : (s : steps.Session) (o : Option requests.Request) → None ≡ o → reply_text faults.BadRequest ≡ reply_of ((steps.step s o).0)

@@ -2,7 +2,7 @@
 use Rattle.std.specs.Prelude.{option_map}
 use Rattle.definitions.specs.Requests as definitions
 use Rattle.index.specs.declared.requests.IndexRequest.{IndexRequest}
-use Rattle.index.specs.declared.requests.IndexRequest.TheVariants.{Add, Commit, Count, Delete, Search}
+use Rattle.index.specs.declared.requests.IndexRequest.TheVariants.{Add, Commit, Count, Delete, Merge, Search}
 use Rattle.index.specs.declared.requests.Request.{Request}
 use Rattle.index.specs.declared.requests.Request.TheVariants.{Create, Index, Open}
 use Rattle.serde_json.specs.View.{view}
@@ -11,6 +11,7 @@ use Rattle.serde_json.specs.View.{view}
 abbrev pub index_request_of : IndexRequest → definitions.Request
 index_request_of (Add doc) = definitions.add_doc (view doc.now)
 index_request_of (Delete term) = definitions.delete_docs (view term.now)
+index_request_of (Merge from to) = definitions.merge_groups from to
 index_request_of Commit = definitions.commit_all
 index_request_of (Search query k) = definitions.search_docs (view query.now) k
 index_request_of (Count query) = definitions.count_docs (view query.now)

@@ -13,6 +13,7 @@ use Rattle.definitions.specs.Step as steps
 use Rattle.definitions.specs.Values.{Document}
 use Rattle.definitions.specs.declared.fault.Fault.{Fault}
 use Rattle.segment_engine.specs.Indexes.{CommitPasses, IndexStands, KeepsFile, PassesLimit, open_of}
+use Rattle.segment_engine.specs.Merges.{MergePasses}
 use Rattle.segment_engine.specs.declared.index.Index.{Index}
 use Rattle.definitions.specs.Replying.{stops}
 
@@ -46,8 +47,9 @@ pub record OnlyStops {D A : Type 0} {d : devices.Ghosts D} (analyze : A → Anal
   pub file : KeepsFile old new
   pub stands : IndexStands analyze new c x ⊎ IndexStands analyze new c (closed_writer x)
 
--- an add or a commit meets a limit: documents of a segment pass one, or the commit does
+-- an add, a merge or a commit meets a limit: documents of a segment pass one, or the merge or the commit does
 abbrev pub IndexMeets : {D A : Type 0} {d : devices.Ghosts D} → (A → Analyzer) → Index D A d → Index D A d → calls.Configuration → calls.Index → Option requests.Request → Type 0
 IndexMeets analyze old new c x (Some (requests.add_doc value)) = (doc : Document) × (read_data c.schema value ≡ Ok doc) × PassesLimit analyze old (open_of old ++ doc ∷ [])
+IndexMeets analyze old new c x (Some (requests.merge_groups from to)) = MergePasses analyze old from to x.state.groups
 IndexMeets analyze old new c x (Some requests.commit_all) = CommitPasses analyze old new (calls.after c x.state calls.commit_pending).groups
 IndexMeets analyze old new c x _ = ⊥

@@ -111,7 +111,7 @@ module _ {D A : Type 0} {d : devices.Ghosts D} where
   abbrev pub parts_on : Option (Stage D A d) → Option (D × A)
   parts_on stage = option_map (λ s. (device_on s, analyzer_on s)) stage
 
-  -- an add or a commit of the index that stands meets a limit
+  -- an add, a merge or a commit of the index that stands meets a limit
   abbrev pub MeetsLimit : (A → Analyzer) → steps.Analysis → Option (Stage D A d) → Option (Stage D A d) → steps.Stage → Option requests.Request → Type 0
   MeetsLimit analyze a (Some (Standing old)) (Some (Standing new)) (steps.index_of schema settings x) asked =
       IndexMeets analyze old new (steps.configuration_of schema a.analyze settings) x asked
@@ -144,7 +144,7 @@ abbrev pub parts_of :
     {D A : Type 0} {d : devices.Ghosts D} {a : analyzers.Ghosts A} → Session D A d a → Option (D × A)
 parts_of session = parts_on session.stage
 
--- an add or a commit meets a limit in what stands
+-- an add, a merge or a commit meets a limit in what stands
 abbrev pub MeetsLimitIn :
     {D A : Type 0} {d : devices.Ghosts D} {a : analyzers.Ghosts A} → Session D A d a → Session D A d a → steps.Session → Option requests.Request → Type 0
 MeetsLimitIn {a = a} old new s asked = MeetsLimit a.analyze s.analysis old.stage new.stage s.stage asked
@@ -166,7 +166,7 @@ abbrev pub IsLeft : steps.Session → steps.Session → Type 0
 IsLeft s t = (t.analysis ≡ s.analysis) × IsLeftStage s.stage t.stage
 
 -- the reply to what was asked is the definitions', and the session stands for what comes after; `Device` has its cause,
--- and `Limit` is the answer to an add or a commit that meets one; over an honest device the session stands for what
+-- and `Limit` is the answer to an add, a merge or a commit that meets one; over an honest device the session stands for what
 -- other errors leave
 pub record Replies {D A Z : Type 0} {d : devices.Ghosts D} {a : analyzers.Ghosts A} (old new : Session D A d a)
     (s : steps.Session) (asked : Option requests.Request) (result : Result (CowStr Z) Fault) : Type 0 where

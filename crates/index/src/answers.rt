@@ -57,6 +57,7 @@ pub(crate) fn answer<D: Device + Drop, A: Analyzer + Drop>(
     match request {
         IndexRequest::Add(doc) => answer_change(index.add_value(doc)),
         IndexRequest::Delete(term) => answer_change(delete(index, term)),
+        IndexRequest::Merge(from, to) => answer_change(index.merge(from..to)),
         IndexRequest::Commit => answer_change(index.commit()),
         IndexRequest::Search(query, k) => search(index, query, k),
         IndexRequest::Count(query) => count(index, query),

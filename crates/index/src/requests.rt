@@ -1,7 +1,6 @@
 //! Requests read from JSON, and what an index is to be made of.
 
 ghost use Rattle.std.specs.Prelude.{◌≡◌, ◌≢◌, ◌⊎◌, Err, IfErr, IfOk, Ok, option_map};
-ghost use Rattle.definitions.specs.Built.{built_request_in};
 ghost use Rattle.definitions.specs.Requests as definitions;
 ghost use Rattle.definitions.specs.Schema.{Schema as Fields};
 ghost use Rattle.definitions.specs.SchemaGrammar.{schema_in};
@@ -35,6 +34,8 @@ pub(crate) enum IndexRequest<'a> {
     Add(&'a Json),
     /// That the documents with a term be deleted.
     Delete(&'a Json),
+    /// That the committed segments from one place to another be made one.
+    Merge(usize, usize),
     /// That all that waits be seen.
     Commit,
     /// The best documents that match, and how many of them.
@@ -43,16 +44,17 @@ pub(crate) enum IndexRequest<'a> {
     Count(&'a Json),
 }
 
-/// The request in a JSON object, whose key `op` names it. Merging is the only one that is not read.
-#[tactic(auto, using(crate::proofs::RequestForms::built_by_name))]
+/// The request in a JSON object, whose key `op` names it.
+#[tactic(auto, using(crate::proofs::RequestForms::request_by_name))]
 pub(crate) fn request_in(value: &Json) -> Option<Request<'_>>
-    ensures { option_map request_of result ≡ built_request_in (view value.now) }
+    ensures { option_map request_of result ≡ definitions.request_in (view value.now) }
 {
     match text_at(value, "op")? {
         "create" => create_in(value),
         "open" => open_in(value),
         "add" => add_in(value),
         "delete" => delete_in(value),
+        "merge" => merge_in(value),
         "commit" => commit_in(value),
         "search" => search_in(value),
         "count" => count_in(value),
@@ -99,6 +101,18 @@ fn delete_in(value: &Json) -> Option<Request<'_>>
         return None;
     }
     Some(Request::Index(IndexRequest::Delete(value.get("term")?)))
+}
+
+/// The request for a merge.
+fn merge_in(value: &Json) -> Option<Request<'_>>
+    ensures { option_map request_of result ≡ definitions.merge_request (view value.now) }
+{
+    if !has_only(value, &["op", "from", "to"]) {
+        return None;
+    }
+    let from = number_at(value, "from")?;
+    let to = number_at(value, "to")?;
+    Some(Request::Index(IndexRequest::Merge(from as usize, to as usize)))
 }
 
 /// The request for a commit.

@@ -58,7 +58,8 @@ pub fn run_session<R: BufRead, W: Write, D: Device + Drop, A: Analyzer + Drop>(
 
 /// The reply to one line of JSON, and what the session stands for after it. `OutOfMemory`, `Limit` and `Device` are
 /// the errors. `Device` comes only where the device failed, and after it the session need not stand for any state;
-/// `Limit` comes only where an add or a commit meets a limit: of a document's stored values, of a segment or of the file.
+/// `Limit` comes only where an add, a merge or a commit meets a limit: of a document's stored values, of a segment or of
+/// the file.
 pub fn reply<D: Device + Drop, A: Analyzer + Drop>(
     session: &mut Session<D, A>,
     line: &str,

@@ -1,7 +1,6 @@
 //! A session: lines of JSON that speak to the index of a device.
 
 ghost use Rattle.std.specs.Prelude.{◌≡◌, IfErr, IfOk, IsErrOf, IsTrue, Some, false, is_some, option_map, true};
-ghost use Rattle.definitions.specs.Built.{built_request_in};
 ghost use Rattle.definitions.specs.Calls as calls;
 ghost use Rattle.definitions.specs.Disk.{HasCause};
 ghost use Rattle.definitions.specs.Requests as requests;
@@ -123,7 +122,7 @@ impl<D: Device + Drop, A: Analyzer + Drop> Session<D, A> {
     /// Does what a value asks for.
     fn answer_value(&mut self, json: &Json) -> Result<CowStr<'static>, Fault>
         ensures answered { (s : steps.Session) → StandsFor self.old s
-            → Replies self.old self.new s (built_request_in (view json.now)) result }
+            → Replies self.old self.new s (requests.request_in (view json.now)) result }
         ensures honest { honest_of self.new ≡ honest_of self.old }
         ensures err { IfErr result (λ fault. IsTrue (stops fault)) }
     {

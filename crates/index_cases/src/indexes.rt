@@ -1,5 +1,5 @@
 //! Operations that make an index over a device, change it and end it: `create`, `open`, `add`, `add-value`, `delete`,
-//! `commit`, `state` and `close`.
+//! `commit`, `merge`, `state`, `counts` and `close`.
 
 use crate::answers::{json_in, ok};
 use crate::cases::{Cases, MemoryIndex};
@@ -24,7 +24,9 @@ impl Cases {
             "add-value" => self.add_value(arguments)?,
             "delete" => self.delete(arguments)?,
             "commit" => self.commit()?,
+            "merge" => self.merge(arguments)?,
             "state" => return Ok(Some(self.state()?)),
+            "counts" => return Ok(Some(self.counts()?)),
             "close" => self.close()?,
             _ => return Ok(None),
         }
@@ -78,6 +80,21 @@ impl Cases {
     /// Commits what waits.
     fn commit(&mut self) -> Result<(), Fault> {
         self.standing_mut()?.commit()
+    }
+
+    /// Makes one segment of those from one place to another.
+    fn merge(&mut self, arguments: &str) -> Result<(), Fault> {
+        let (from, to) = arguments.split_once(' ').ok_or(Fault::BadRequest)?;
+        let (Ok(from), Ok(to)) = (from.parse::<usize>(), to.parse::<usize>()) else {
+            return Err(Fault::BadRequest);
+        };
+        self.standing_mut()?.merge(from..to)
+    }
+
+    /// How many segments and how many documents are committed.
+    fn counts(&self) -> Result<String, Fault> {
+        let index = self.standing()?;
+        Ok(format!(in self.alloc; "{} {}", index.num_segments(), index.num_docs())?)
     }
 
     /// Adds a document as a value that was read.

@@ -8,9 +8,9 @@ use Rattle.definitions.specs.declared.fault.Fault.TheVariants as faults
 use Rattle.segment_engine.specs.Indexes.{IndexStands, IsInFile, KeepsFile, device_of}
 use Rattle.index.specs.AskedRequests.{index_request_of}
 use Rattle.index.specs.Replying.{Answers, IndexMeets, OnlyStops}
-use Rattle.index.proofs.Answering.{add_refused, change_answers, commit_kept, commit_refused, taken_answers}
+use Rattle.index.proofs.Answering.{add_refused, change_answers, taken_answers, write_kept, write_refused}
 use Rattle.index.proofs.Causes.{add_cause, any_answer, change_is_memory, memory_cause, memory_no_limit, met_limit, same_cause, same_error}
-use Rattle.index.proofs.IndexFiles.{step_status, commit_in_file, counted_still, in_file_still, searched_still}
+use Rattle.index.proofs.IndexFiles.{counted_still, in_file_still, searched_still, step_status, written_in_file}
 use Rattle.index.proofs.Leavings.{after_error, any_error, error_of_change, reply_stops}
 use Rattle.serde_json.specs.View.{view}
 use Rattle.index.proofs.answers.answer.Goals as goal
@@ -97,21 +97,53 @@ returns-in-Delete-clause-left g c k x s =
     error_of_change c.delete.result c.answer_change-in-Delete.result (λ fault. fault ≢ faults.Device → OnlyStops g.A.Analyzer.analyze old new k x) c.answer_change-in-Delete.ensures.same
     (after_error c.delete.result (IndexStands g.A.Analyzer.analyze new k x) (OnlyStops g.A.Analyzer.analyze old new k x) (λ stands. record { file = c.delete.ensures.file; stands = inl stands }) (c.delete.ensures.left k x s))
 
+-- ---- a merge
+
+pub returns-in-Merge-clause-answered : goal.returns-in-Merge-clause-answered
+returns-in-Merge-clause-answered g c k x s =
+    let call = calls.merge_range c.in-Merge.from c.in-Merge.to in
+    subst (λ r. Answers g.A.Analyzer.analyze c.merge.new.self k x (index_request_of r) c.answer_change-in-Merge.result) (sym c.in-Merge.is)
+    (change_answers g.A.Analyzer.analyze c.merge.new.self k x (requests.merge_groups c.in-Merge.from c.in-Merge.to) call c.merge.result c.answer_change-in-Merge.result refl refl (c.merge.ensures.left k x s) (write_refused c.merge.result (λ fault. calls.call_fault k x call ≡ Some fault) (c.merge.ensures.exact k x s)) c.answer_change-in-Merge.ensures.text c.answer_change-in-Merge.ensures.on)
+
+pub returns-in-Merge-clause-kept : goal.returns-in-Merge-clause-kept
+returns-in-Merge-clause-kept g c k x s = write_kept (KeepsFile c.args.index.now c.merge.new.self) (IndexStands g.A.Analyzer.analyze c.merge.new.self k) (calls.merge_range c.in-Merge.from c.in-Merge.to) c.merge.result c.answer_change-in-Merge.result k x refl (c.merge.ensures.left k x s) c.merge.ensures.kept c.answer_change-in-Merge.ensures.on
+
+pub returns-in-Merge-clause-rests : goal.returns-in-Merge-clause-rests
+returns-in-Merge-clause-rests g c k x s is =
+    let new = c.merge.new.self in
+    let call = calls.merge_range c.in-Merge.from c.in-Merge.to in
+    subst (λ r. OnOk c.answer_change-in-Merge.result (IsInFile new ((steps.index_step k x (index_request_of r)).1))) (sym c.in-Merge.is)
+    (written_in_file g.A.Analyzer.analyze c.args.index.now new (requests.merge_groups c.in-Merge.from c.in-Merge.to) call c.merge.result c.answer_change-in-Merge.result k x refl (c.merge.ensures.left k x s) (write_refused c.merge.result (λ fault. calls.call_fault k x call ≡ Some fault) (c.merge.ensures.exact k x s)) c.merge.ensures.made c.merge.ensures.honest c.merge.ensures.kept (c.merge.ensures.rests k x s) c.answer_change-in-Merge.ensures.on is)
+
+pub returns-in-Merge-clause-failures : goal.returns-in-Merge-clause-failures
+returns-in-Merge-clause-failures g c k x s =
+    let d = g.D.Device in
+    same_cause (d.failed (device_of c.args.index.now)) (d.failed (device_of c.merge.new.self)) c.merge.result c.answer_change-in-Merge.result c.answer_change-in-Merge.ensures.same c.merge.ensures.cause
+
+pub returns-in-Merge-clause-limit : goal.returns-in-Merge-clause-limit
+returns-in-Merge-clause-limit g c k x s limit =
+    subst (λ r. IndexMeets g.A.Analyzer.analyze c.args.index.now c.merge.new.self k x (Some (index_request_of r))) (sym c.in-Merge.is)
+    (c.merge.ensures.limit k x s (same_error c.merge.result c.answer_change-in-Merge.result faults.Limit c.answer_change-in-Merge.ensures.same limit))
+
+pub returns-in-Merge-clause-left : goal.returns-in-Merge-clause-left
+returns-in-Merge-clause-left g c k x s =
+    reply_stops g.A.Analyzer.analyze c.merge.new.self k x c.args.index.now (calls.merge_range c.in-Merge.from c.in-Merge.to) c.merge.result c.answer_change-in-Merge.result c.answer_change-in-Merge.ensures.same (c.merge.ensures.left k x s) c.merge.ensures.kept
+
 -- ---- a commit
 
 pub returns-in-Commit-clause-answered : goal.returns-in-Commit-clause-answered
 returns-in-Commit-clause-answered g c k x s =
     subst (λ r. Answers g.A.Analyzer.analyze c.commit.new.self k x (index_request_of r) c.answer_change-in-Commit.result) (sym c.in-Commit.is)
-    (change_answers g.A.Analyzer.analyze c.commit.new.self k x requests.commit_all calls.commit_pending c.commit.result c.answer_change-in-Commit.result refl refl (c.commit.ensures.left k x s) (commit_refused c.commit.result (λ fault. calls.call_fault k x calls.commit_pending ≡ Some fault) (c.commit.ensures.exact k x s)) c.answer_change-in-Commit.ensures.text c.answer_change-in-Commit.ensures.on)
+    (change_answers g.A.Analyzer.analyze c.commit.new.self k x requests.commit_all calls.commit_pending c.commit.result c.answer_change-in-Commit.result refl refl (c.commit.ensures.left k x s) (write_refused c.commit.result (λ fault. calls.call_fault k x calls.commit_pending ≡ Some fault) (c.commit.ensures.exact k x s)) c.answer_change-in-Commit.ensures.text c.answer_change-in-Commit.ensures.on)
 
 pub returns-in-Commit-clause-kept : goal.returns-in-Commit-clause-kept
-returns-in-Commit-clause-kept g c k x s = commit_kept (KeepsFile c.args.index.now c.commit.new.self) (IndexStands g.A.Analyzer.analyze c.commit.new.self k) c.commit.result c.answer_change-in-Commit.result k x (c.commit.ensures.left k x s) c.commit.ensures.kept c.answer_change-in-Commit.ensures.on
+returns-in-Commit-clause-kept g c k x s = write_kept (KeepsFile c.args.index.now c.commit.new.self) (IndexStands g.A.Analyzer.analyze c.commit.new.self k) calls.commit_pending c.commit.result c.answer_change-in-Commit.result k x refl (c.commit.ensures.left k x s) c.commit.ensures.kept c.answer_change-in-Commit.ensures.on
 
 pub returns-in-Commit-clause-rests : goal.returns-in-Commit-clause-rests
 returns-in-Commit-clause-rests g c k x s is =
     let new = c.commit.new.self in
     subst (λ r. OnOk c.answer_change-in-Commit.result (IsInFile new ((steps.index_step k x (index_request_of r)).1))) (sym c.in-Commit.is)
-    (commit_in_file g.A.Analyzer.analyze c.args.index.now new c.commit.result c.answer_change-in-Commit.result k x (c.commit.ensures.left k x s) (commit_refused c.commit.result (λ fault. calls.call_fault k x calls.commit_pending ≡ Some fault) (c.commit.ensures.exact k x s)) c.commit.ensures.made c.commit.ensures.honest c.commit.ensures.kept (c.commit.ensures.rests k x s) c.answer_change-in-Commit.ensures.on is)
+    (written_in_file g.A.Analyzer.analyze c.args.index.now new requests.commit_all calls.commit_pending c.commit.result c.answer_change-in-Commit.result k x refl (c.commit.ensures.left k x s) (write_refused c.commit.result (λ fault. calls.call_fault k x calls.commit_pending ≡ Some fault) (c.commit.ensures.exact k x s)) c.commit.ensures.made c.commit.ensures.honest c.commit.ensures.kept (c.commit.ensures.rests k x s) c.answer_change-in-Commit.ensures.on is)
 
 pub returns-in-Commit-clause-failures : goal.returns-in-Commit-clause-failures
 returns-in-Commit-clause-failures g c k x s =
