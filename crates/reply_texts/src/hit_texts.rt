@@ -27,7 +27,8 @@ pub fn hits_text(alloc: Global, hits: &[Hit]) -> Result<String, AllocError>
 
 /// Writes what a search is answered.
 fn write_reply(alloc: Global, hits: &[Hit], out: &mut Writer) -> Result<(), AllocError>
-    ensures ok { OnOk result (out.new.tokens ≡ out.old.tokens ++ json_tokens (outline (definitions.hits_reply (map told hits.now)))) }
+    ensures ok { OnOk result (out.new.tokens
+        ≡ out.old.tokens ++ json_tokens (outline (definitions.hits_reply (map told hits.now)))) }
     ensures before { out.new.before ≡ out.old.before }
 {
     out.begin_object()?;
@@ -39,7 +40,8 @@ fn write_reply(alloc: Global, hits: &[Hit], out: &mut Writer) -> Result<(), Allo
 
 /// Writes the hits as one list.
 fn write_hits(alloc: Global, hits: &[Hit], out: &mut Writer) -> Result<(), AllocError>
-    ensures ok { OnOk result (out.new.tokens ≡ out.old.tokens ++ json_tokens (outline (array (definitions.hits_data (map told hits.now))))) }
+    ensures ok { OnOk result (out.new.tokens
+        ≡ out.old.tokens ++ json_tokens (outline (array (definitions.hits_data (map told hits.now))))) }
     ensures before { out.new.before ≡ out.old.before }
 {
     out.begin_array()?;
@@ -52,7 +54,8 @@ fn write_hits(alloc: Global, hits: &[Hit], out: &mut Writer) -> Result<(), Alloc
 
 /// Writes a hit's document and its score.
 fn write_hit(alloc: Global, hit: &Hit, out: &mut Writer) -> Result<(), AllocError>
-    ensures ok { OnOk result (out.new.tokens ≡ out.old.tokens ++ json_tokens (outline (definitions.hit_data (told hit.now)))) }
+    ensures ok { OnOk result (out.new.tokens
+        ≡ out.old.tokens ++ json_tokens (outline (definitions.hit_data (told hit.now)))) }
     ensures before { out.new.before ≡ out.old.before }
 {
     out.begin_object()?;

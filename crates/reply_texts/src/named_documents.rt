@@ -46,7 +46,8 @@ fn write_fields(
     fields: BTreeMap<&str, &[OwnedValue]>,
     out: &mut Writer,
 ) -> Result<(), AllocError>
-    ensures ok { OnOk result (out.new.tokens ≡ out.old.tokens ++ json_tokens (outline (object (lent_fields fields.entry.entries)))) }
+    ensures ok { OnOk result (out.new.tokens
+        ≡ out.old.tokens ++ json_tokens (outline (object (lent_fields fields.entry.entries)))) }
     ensures before { out.new.before ≡ out.old.before }
 {
     out.begin_object()?;

@@ -18,7 +18,8 @@ use values_json::{address_text, bytes_text, date_text};
 /// Writes a value: dates, facets, byte strings and addresses as texts, a pre-tokenised text as its text.
 #[cycle(write_json)]
 fn write_value(alloc: Global, value: &OwnedValue, out: &mut Writer) -> Result<(), AllocError>
-    ensures ok { OnOk result (out.new.tokens ≡ out.old.tokens ++ json_tokens (outline (printed (owned_value value.now)))) }
+    ensures ok { OnOk result (out.new.tokens
+        ≡ out.old.tokens ++ json_tokens (outline (printed (owned_value value.now)))) }
     ensures before { out.new.before ≡ out.old.before }
 {
     match value {
@@ -44,7 +45,8 @@ pub(crate) fn write_list(
     values: &[OwnedValue],
     out: &mut Writer,
 ) -> Result<(), AllocError>
-    ensures ok { OnOk result (out.new.tokens ≡ out.old.tokens ++ json_tokens (outline (array (printed_list (owned_values values.now))))) }
+    ensures ok { OnOk result (out.new.tokens
+        ≡ out.old.tokens ++ json_tokens (outline (array (printed_list (owned_values values.now))))) }
     ensures before { out.new.before ≡ out.old.before }
 {
     out.begin_array()?;
@@ -62,7 +64,8 @@ fn write_object(
     members: BTreeMap<&str, &OwnedValue>,
     out: &mut Writer,
 ) -> Result<(), AllocError>
-    ensures ok { OnOk result (out.new.tokens ≡ out.old.tokens ++ json_tokens (outline (object (lent_members members.entry.entries)))) }
+    ensures ok { OnOk result (out.new.tokens
+        ≡ out.old.tokens ++ json_tokens (outline (object (lent_members members.entry.entries)))) }
     ensures before { out.new.before ≡ out.old.before }
 {
     out.begin_object()?;
@@ -79,7 +82,8 @@ fn by_key<'a>(
     alloc: Global,
     members: &'a [(String, OwnedValue)],
 ) -> Result<BTreeMap<&'a str, &'a OwnedValue>, AllocError>
-    ensures { IfOk result (λ sorted. lent_members sorted.entries ≡ printed_onto no_members (to_members (owned_members members.now))) }
+    ensures { IfOk result (λ sorted. lent_members sorted.entries
+        ≡ printed_onto no_members (to_members (owned_members members.now))) }
 {
     let mut sorted = BTreeMap::new(alloc);
     for (key, value) in members {
