@@ -1,6 +1,5 @@
 -- Lemmas behind requests, replies and sessions.
 pub mod RequestForms
-pub mod ReplyForms
 pub mod Causes
 pub mod IndexFiles
 pub mod Answering

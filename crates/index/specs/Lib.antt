@@ -2,4 +2,3 @@
 pub mod AskedRequests
 pub mod Replying
 pub mod Sessions
-pub mod ToldHits

@@ -17,11 +17,12 @@ ghost use Rattle.segment_search.specs.Hits.{hit_of, scored};
 ghost use Rattle.definitions.specs.Replying.{stops};
 ghost use Rattle.serde_json.specs.View.{view};
 
-use crate::json_replies::{count_text, hits_text};
+use crate::json_replies::count_text;
 use crate::requests::IndexRequest;
 use common::{Analyzer, Device};
 use definitions::Fault;
 use query_grammar::read_query;
+use reply_texts::hits_text;
 use segment_engine::Index;
 use segment_search::Hit;
 use serde_json::Value as Json;

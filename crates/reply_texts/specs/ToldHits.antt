@@ -1,8 +1,8 @@
--- Hits as replies tell them.
+-- Hits as they are told.
 use Rattle.std.specs.Int.RustNames.{unsigned_abs}
 use Rattle.definitions.specs.Scanning as scanning
 use Rattle.segment_search.specs.declared.hits.Hit.{Hit}
 
--- a hit, its score without a sign
+-- a hit that was made, its score without a sign
 abbrev pub told : Hit → scanning.Hit
 told h = (unsigned_abs h.score, h.doc)

@@ -1,27 +1,19 @@
--- Replies by what is written of each hit.
+-- Hits are told with the scores that they have.
 use Rattle.std.proofs.Common.{[], ◌∷◌, ◌≡◌, List, ap, ap₂, drop, map, refl}
 use Rattle.std.specs.Int.RustNames.{unsigned_abs}
-use Rattle.definitions.specs.Replies.{hit_data, hits_data}
 use Rattle.definitions.specs.Scanning as scanning
+use Rattle.reply_texts.specs.ToldHits.{told}
 use Rattle.segment_search.specs.Hits.{hit_of, scored}
-use Rattle.index.specs.ToldHits.{told}
 use Rattle.segment_search.specs.declared.hits.Hit.{Hit}
-use Rattle.serde_json.specs.Data.{item}
-use Rattle.serde_json.specs.View.{items_of}
 
 -- the first of a list that has one
 abbrev first_or : {X : Type 0} → X → List X → X
 first_or x [] = x
 first_or x (y ∷ ys) = y
 
--- hits are told with the scores that they have
+-- hits that are these are told as these
 pub told_scored : (hits : List Hit) (hs : List scanning.Hit) → map hit_of hits ≡ map scored hs → map told hits ≡ hs
 told_scored [] [] same = refl
 told_scored [] (h ∷ hs) same = cc
 told_scored (x ∷ xs) [] same = cc
 told_scored (x ∷ xs) (h ∷ hs) same = ap₂ ◌∷◌ (ap (λ p. (unsigned_abs p.0, p.1)) (ap (first_or (hit_of x)) same)) (told_scored xs hs (ap (drop 1) same))
-
--- hits one after another are their list
-pub items_of_hits : (hs : List Hit) → items_of (map (λ h. hit_data (told h)) hs) ≡ hits_data (map told hs)
-items_of_hits [] = refl
-items_of_hits (h ∷ hs) = ap (item (hit_data (told h))) (items_of_hits hs)

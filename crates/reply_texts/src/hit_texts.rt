@@ -1,0 +1,68 @@
+//! What a search is answered, written as a text.
+
+ghost use Rattle.std.specs.Prelude.{◌++◌, ◌≡◌, IfOk, List, OnOk, map, string_bytes};
+ghost use Rattle.definitions.specs.Replies as definitions;
+ghost use Rattle.definitions.specs.Scanning as scanning;
+ghost use Rattle.json.specs.Tree.{json_tokens};
+ghost use Rattle.reply_texts.specs.ToldHits.{told};
+ghost use Rattle.segment_search.specs.Hits.{hit_of, scored};
+ghost use Rattle.serde_json.specs.Data.{array};
+ghost use Rattle.serde_json.specs.Written.{outline};
+
+use crate::named_documents::write_document;
+use json::Writer;
+use segment_search::Hit;
+use std::alloc::{AllocError, Global};
+
+/// The text that a search is answered, written hit by hit. A score is not negative.
+pub fn hits_text(alloc: Global, hits: &[Hit]) -> Result<String, AllocError>
+    ensures { (hs : List scanning.Hit) → map hit_of hits.now ≡ map scored hs
+        → IfOk result (λ text. string_bytes text ≡ definitions.reply_of (definitions.hits_reply hs)) }
+{
+    let mut out = Writer::new(Vec::new(alloc));
+    write_reply(alloc, hits, &mut out)?;
+    // What the writer holds is UTF-8.
+    Ok(unsafe { String::from_utf8_unchecked(out.into_inner()) })
+}
+
+/// Writes what a search is answered.
+fn write_reply(alloc: Global, hits: &[Hit], out: &mut Writer) -> Result<(), AllocError>
+    ensures ok { OnOk result (out.new.tokens
+        ≡ out.old.tokens ++ json_tokens (outline (definitions.hits_reply (map told hits.now)))) }
+    ensures before { out.new.before ≡ out.old.before }
+{
+    out.begin_object()?;
+    out.key("hits")?;
+    write_hits(alloc, hits, out)?;
+    out.end_object()?;
+    Ok(())
+}
+
+/// Writes the hits as one list.
+fn write_hits(alloc: Global, hits: &[Hit], out: &mut Writer) -> Result<(), AllocError>
+    ensures ok { OnOk result (out.new.tokens
+        ≡ out.old.tokens ++ json_tokens (outline (array (definitions.hits_data (map told hits.now))))) }
+    ensures before { out.new.before ≡ out.old.before }
+{
+    out.begin_array()?;
+    for hit in hits {
+        write_hit(alloc, hit, out)?;
+    }
+    out.end_array()?;
+    Ok(())
+}
+
+/// Writes a hit's document and its score.
+fn write_hit(alloc: Global, hit: &Hit, out: &mut Writer) -> Result<(), AllocError>
+    ensures ok { OnOk result (out.new.tokens
+        ≡ out.old.tokens ++ json_tokens (outline (definitions.hit_data (told hit.now)))) }
+    ensures before { out.new.before ≡ out.old.before }
+{
+    out.begin_object()?;
+    out.key("doc")?;
+    write_document(alloc, &hit.doc, out)?;
+    out.key("score")?;
+    out.u64(hit.score.unsigned_abs())?;
+    out.end_object()?;
+    Ok(())
+}
