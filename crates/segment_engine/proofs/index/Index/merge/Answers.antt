@@ -136,19 +136,19 @@ returns g c =
       cause = c.in-Err.ensures.cause;
       counted = c.in-Err.ensures.counted;
       limit = λ k x s met. (
-        let w = merge_written analyze old p k x from to s (c.in_ok-prepared.ensures.joins k x s) (c.in_ok-prepared.ensures.body k x s) in
-        inr (w.body, (members_merged old p, w.makes, w.are_groups), subst (λ (bytes : List ℕ). 2 ^ 63 < gate_of c.args.self.now + 1 + length bytes) (c.frame.ensures ∙ w.framed) (c.append.ensures.limit.0 (c.in-Err.is ∙ met))));
+          let w = merge_written analyze old p k x from to s (c.in_ok-prepared.ensures.joins k x s) (c.in_ok-prepared.ensures.body k x s) in
+          inr (w.body, (members_merged old p, w.makes, w.are_groups), subst (λ (bytes : List ℕ). 2 ^ 63 < gate_of c.args.self.now + 1 + length bytes) (c.frame.ensures ∙ w.framed) (c.append.ensures.limit.0 (c.in-Err.is ∙ met))));
       short = tt;
       kept = λ other. (unchanged.0, unchanged.1, refl);
       appended = λ k x s h. tt;
       rests = λ k x s h rests. tt;
       any_moment = λ k x s h rests. (
-        let w = merge_written analyze old p k x from to s (c.in_ok-prepared.ensures.joins k x s) (c.in_ok-prepared.ensures.body k x s) in
-        record {
-          first = rests.bodies;
-          second = rests.bodies ++ w.body ∷ [];
-          says_one = rests_say old.schema old.settings (analyze old.analyzer) (members_of old) x.state.groups (d.content device) (d.unsynced device) (gate_of c.args.self.now) rests (stands_groups analyze old k x s);
-          says_other = inr (record { members = members_merged old p; leave = leave_next old.schema old.settings rests.bodies (members_of old) (members_merged old p) w.body rests.leave w.makes; are_groups = w.are_groups });
-          images = c.append.ensures.any_moment rests.bodies w.body h (c.frame.ensures ∙ w.framed) rests.at_rest rests.synced;
-        });
+          let w = merge_written analyze old p k x from to s (c.in_ok-prepared.ensures.joins k x s) (c.in_ok-prepared.ensures.body k x s) in
+          record {
+            first = rests.bodies;
+            second = rests.bodies ++ w.body ∷ [];
+            says_one = rests_say old.schema old.settings (analyze old.analyzer) (members_of old) x.state.groups (d.content device) (d.unsynced device) (gate_of c.args.self.now) rests (stands_groups analyze old k x s);
+            says_other = inr (record { members = members_merged old p; leave = leave_next old.schema old.settings rests.bodies (members_of old) (members_merged old p) w.body rests.leave w.makes; are_groups = w.are_groups });
+            images = c.append.ensures.any_moment rests.bodies w.body h (c.frame.ensures ∙ w.framed) rests.at_rest rests.synced;
+          });
     }
