@@ -1,5 +1,5 @@
 -- What an index has in its file, as requests are answered.
-use Rattle.std.proofs.Common.{Err, IfErr, IsTrue, List, None, Ok, OnOk, Option, Result, Some, false, length, ok_or, option_map, refl, subst, sym, ◌∙◌, ◌≡◌, ◌≢◌, ℕ}
+use Rattle.std.proofs.Common.{Err, IfErr, IsTrue, None, Ok, OnOk, Option, Result, Some, false, length, ok_or, option_map, refl, subst, sym, ◌∙◌, ◌≡◌, ◌≢◌, ℕ}
 use Rattle.std.specs.Bool.{⊤}
 use Rattle.common.specs.declared.device.Device as devices
 use Rattle.definitions.specs.Analyzers.{Analyzer}

@@ -1,12 +1,12 @@
 -- The body of a merge makes the members after it of those before.
-use Rattle.std.proofs.Common.{[], ◌++◌, ◌+◌, ◌-◌, ◌<◌, ◌∙◌, ◌∷◌, ◌≡◌, ◌≤◌, ◌^◌, Bool, List, ap, ap₂, append_assoc, arith, drop, filter_map, length, length-append, map, refl, subst, suc, sym, take, true, zero, ℕ}
+use Rattle.std.proofs.Common.{[], ◌++◌, ◌+◌, ◌-◌, ◌<◌, ◌∙◌, ◌∷◌, ◌≡◌, ◌≤◌, ◌^◌, List, ap, append_assoc, arith, drop, filter_map, length, length-append, map, refl, subst, suc, take, true, zero, ℕ}
 use Rattle.std.proofs.lemmas.List.{append-nil, length-drop, length-map, length-replicate, length-take-le, take-append-drop}
 use Rattle.std.specs.List.{AllByRecursion, AllZip}
 use Rattle.definitions.specs.Schema.{Schema}
 use Rattle.layouts.specs.Deltas.{IsAscendingFrom}
 use Rattle.segment.specs.Opened.{IsOpened, bytes_of, num_docs_of}
 use Rattle.segment.specs.declared.segment.Segment as code
-use Rattle.segment_layouts.specs.SegmentBodies.{Fits, IsMember, IsOfPart, Makes, Member, Part, fresh, kept, place_of, segments_body}
+use Rattle.segment_layouts.specs.SegmentBodies.{Fits, IsMember, IsOfPart, Makes, Member, Part, fresh, place_of, segments_body}
 use Rattle.segment_layouts.specs.Segments.{IsSegment}
 use Rattle.segment_search.proofs.Places.{zip_more}
 use Rattle.segment_collection.proofs.BodyMade.{all_both, are_members, get_seam, kept_fit, length-kept}

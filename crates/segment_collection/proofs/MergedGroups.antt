@@ -1,9 +1,8 @@
 -- What a merge prepares and installs.
-use Rattle.std.proofs.Common.{[], ◌++◌, ◌+◌, ◌-◌, ◌<◌, ◌∙◌, ◌∷◌, ◌≡◌, ◌≢◌, ◌≤◌, ◌⊎◌, ◌^◌, Bool, Err, IfErr, List, None, Option, Result, Some, ap, ap₂, arith, drop, flat_map, length, map, refl, replicate, subst, suc, sym, take, true, zero, false, ⊎_elim, ℕ}
+use Rattle.std.proofs.Common.{[], ◌++◌, ◌+◌, ◌-◌, ◌<◌, ◌∙◌, ◌∷◌, ◌≡◌, ◌≢◌, ◌≤◌, ◌⊎◌, ◌^◌, Bool, Err, List, None, Option, Result, Some, ap, ap₂, arith, drop, flat_map, length, map, refl, replicate, subst, suc, sym, take, true, zero, false, ⊎_elim, ℕ}
 use Rattle.std.specs.Prelude.{IfSome, MatchOption, option_to_list}
 use Rattle.std.specs.Bool.{⊤}
 use Rattle.std.specs.Result.{result_err}
-use Rattle.std.proofs.Math.Logic.{∥∥₁_map}
 use Rattle.std.proofs.lemmas.List.{drop-map, length-drop, length-map, length-replicate, length-take-le, take-map}
 use Rattle.std.specs.List.{AllByRecursion, AllZip, items_where_true, zip}
 use Rattle.definitions.specs.Alive as alive
@@ -32,9 +31,9 @@ use Rattle.segment_collection.proofs.BodyMade.{are_members, length-zip, zip_flag
 use Rattle.segment_collection.proofs.EachFlagged.{length-each}
 use Rattle.segment_collection.proofs.Members.{zip_take}
 use Rattle.segment_collection.proofs.MergeMade.{alive_bytes, alive_flags, alive_members, merge_makes, short_bytes}
-use Rattle.segment_collection.proofs.MergedLists.{all_drop, all_replaced, drop_replaced, length-replaced, map_replaced, zip_drop, zip_replaced, zipped_drop, zipped_replaced, zipped_take}
+use Rattle.segment_collection.proofs.MergedLists.{all_drop, drop_replaced, map_replaced, zip_drop, zip_replaced, zipped_drop, zipped_replaced, zipped_take}
 use Rattle.segment_collection.proofs.Outcomes.{own_refuses}
-use Rattle.segment_collection.proofs.Standings.{opened_each, sets_within, stands_with}
+use Rattle.segment_collection.proofs.Standings.{sets_within, stands_with}
 use Rattle.segment_collection.specs.Bodies.{merged_parts}
 use Rattle.segment_collection.specs.Flags.{AreFlagged, flagged_each, members}
 use Rattle.segment_collection.specs.Merges.{Joins, Replaces, alive_member, all_alive, joined_groups, members_merged, new_in, range_fault, replaced}

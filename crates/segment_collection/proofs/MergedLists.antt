@@ -1,6 +1,6 @@
 -- Lists of which some elements give way to others, and pairs of lists.
-use Rattle.std.proofs.Common.{[], ◌++◌, ◌+◌, ◌-◌, ◌<◌, ◌∙◌, ◌∷◌, ◌≡◌, ◌≤◌, List, ap, ap₂, arith, drop, length, length-append, map, refl, suc, sym, take, zero, ℕ}
-use Rattle.std.proofs.lemmas.List.{drop-drop, drop-map, length-drop, length-take-le, map-append, take-append-drop, take-map}
+use Rattle.std.proofs.Common.{[], ◌++◌, ◌+◌, ◌-◌, ◌∙◌, ◌∷◌, ◌≡◌, ◌≤◌, List, ap, ap₂, arith, drop, length, length-append, map, refl, suc, sym, take, zero, ℕ}
+use Rattle.std.proofs.lemmas.List.{drop-drop, drop-map, length-drop, length-take-le, map-append, take-map}
 use Rattle.std.specs.List.{AllByRecursion, AllZip, zip}
 use Rattle.segment_search.proofs.Places.{all_take, zip_more}
 use Rattle.segment_collection.proofs.BodyMade.{all_both}

@@ -1,10 +1,6 @@
 //! The frame of a commit's record.
 
-ghost use Rattle.std.specs.Prelude.{◌++◌, ◌-◌, ◌<◌, ◌^◌, ◌≡◌, ◌≤◌, IfOk, List, OnOk, drop, length, map, ℕ};
-ghost use Rattle.std.specs.List.{AllZip};
-ghost use Rattle.definitions.specs.Analyzers.{Analyzer};
-ghost use Rattle.definitions.specs.Schema.{Schema};
-ghost use Rattle.definitions.specs.Values.{Document};
+ghost use Rattle.std.specs.Prelude.{◌++◌, ◌-◌, ◌<◌, ◌^◌, ◌≡◌, ◌≤◌, IfOk, OnOk, length, map};
 ghost use Rattle.records.specs.Frames.{frame_bytes};
 ghost use Rattle.segment.specs.Opened.{bytes_of};
 ghost use Rattle.segment_bodies.specs.Parts.{part_of};

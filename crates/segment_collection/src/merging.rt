@@ -1,6 +1,6 @@
 //! Merges of neighbouring segments that are committed.
 
-ghost use Rattle.std.specs.Prelude.{[], ◌<◌, ◌≡◌, ◌≢◌, ◌≤◌, ◌⊎◌, Err, IfErr, IfOk, IfSome, List, MatchOption, None, OnOk, Some, length, ℕ};
+ghost use Rattle.std.specs.Prelude.{[], ◌<◌, ◌≡◌, ◌≢◌, ◌≤◌, Err, IfErr, IfOk, IfSome, List, MatchOption, None, OnOk, Some, length, ℕ};
 ghost use Rattle.std.specs.Result.{result_err};
 ghost use Rattle.definitions.specs.Calls as calls;
 ghost use Rattle.definitions.specs.declared.fault.Fault.TheVariants as faults;

@@ -1,13 +1,10 @@
 -- What a merge writes: a body that makes the groups after it.
-use Rattle.std.proofs.Common.{List, ap, subst, sym, ◌≡◌, ◌≢◌, ◌∙◌, ◌<◌, ◌⊎◌, Err, Ok, Result, arith, inl, inr, ℕ}
+use Rattle.std.proofs.Common.{List, ap, subst, sym, ◌≡◌, ◌∙◌, Err, Ok, Result, ℕ}
 use Rattle.std.specs.Prelude.{IsErrAnd, IsErrOf}
-use Rattle.std.specs.List.{AllZip}
 use Rattle.definitions.specs.Analyzers.{Analyzer}
 use Rattle.definitions.specs.Calls as calls
-use Rattle.definitions.specs.Disk.{HasCause}
 use Rattle.definitions.specs.Schema.{Schema}
 use Rattle.definitions.specs.State.{merged}
-use Rattle.definitions.specs.Values.{Document}
 use Rattle.definitions.specs.declared.fault.Fault.{Fault}
 use Rattle.definitions.specs.declared.fault.Fault.TheVariants as faults
 use Rattle.records.specs.Frames.{frame_bytes}
@@ -37,11 +34,6 @@ merge_written analyze old p c x from to s joins (body, framed, makes) =
 abbrev error_or_memory : {T : Type 0} → Result T Fault → Fault
 error_or_memory (Ok x) = faults.OutOfMemory
 error_or_memory (Err e) = e
-
--- what is no failure of the device needs no cause
-pub refused_caused : {T : Type 0} (now : ℕ) (r : Result T Fault) (fault : Fault) → IsErrAnd r (λ e. e ≡ fault) → fault ≢ faults.Device → HasCause now now r
-refused_caused now (Ok x) fault is other = absurd is
-refused_caused now (Err e) fault is other = record { later = omega arith; cause = λ device. absurd (other (sym is ∙ ap error_or_memory device)) }
 
 -- what follows of a limit
 pub limit_told : {T : Type 0} (r : Result T Fault) (fault : Fault) (P : Type 0) → IsErrAnd r (λ e. e ≡ fault) → (fault ≡ faults.Limit → P) → IsErrOf r faults.Limit → P

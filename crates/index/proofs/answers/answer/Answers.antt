@@ -1,7 +1,6 @@
-use Rattle.std.proofs.Common.{OnOk, Some, ap, false, inl, inr, refl, subst, sym, ◌≡◌, ◌≢◌, ◌⊎◌}
+use Rattle.std.proofs.Common.{OnOk, Some, ap, inl, inr, refl, subst, sym, ◌≡◌, ◌≢◌, ◌⊎◌}
 use Rattle.definitions.specs.Calls as calls
 use Rattle.definitions.specs.Disk.{HasCause}
-use Rattle.definitions.specs.Replying.{stops}
 use Rattle.definitions.specs.Requests as requests
 use Rattle.definitions.specs.Step as steps
 use Rattle.definitions.specs.declared.fault.Fault.TheVariants as faults

@@ -1,4 +1,4 @@
-use Rattle.std.proofs.Common.{List, None, ap, arith, drop, length, subst, sym, take, ◌-◌, ◌∙◌, ◌≡◌, ◌≢◌, []}
+use Rattle.std.proofs.Common.{ap, arith, drop, length, subst, sym, take, ◌-◌, ◌≡◌, ◌≢◌, []}
 use Rattle.std.specs.Prelude.{IfErr, IfOk, MatchOption}
 use Rattle.std.specs.List.{zip}
 use Rattle.std.proofs.Math.Logic.{∥∥₁_map}

@@ -1,4 +1,4 @@
-use Rattle.std.proofs.Common.{List, None, Err, Some, ap, arith, false, length, map, refl, subst, sym, ◌+◌, ◌<◌, ◌^◌, ◌∙◌, ◌≡◌, ◌≢◌, ◌≤◌, ℕ}
+use Rattle.std.proofs.Common.{List, Err, Some, ap, arith, false, map, refl, subst, sym, ◌∙◌, ◌≡◌, ◌≢◌, ℕ}
 use Rattle.std.specs.Prelude.{option_to_list}
 use Rattle.std.specs.Result.{result_err}
 use Rattle.definitions.specs.Calls as calls
@@ -9,7 +9,7 @@ use Rattle.segment_collection.proofs.MergedGroups.{few_new, merge_body, merge_re
 use Rattle.segment_collection.proofs.Outcomes.{err_has, memory_is_no_limit, status_refuses}
 use Rattle.segment_collection.proofs.Standings.{opened_each}
 use Rattle.segment_collection.specs.Bodies.{merged_parts}
-use Rattle.segment_collection.specs.Merges.{MergePasses, alive_member, all_alive, range_fault, replaced}
+use Rattle.segment_collection.specs.Merges.{MergePasses, alive_member, all_alive, replaced}
 use Rattle.segment_collection.specs.Standing.{members_of}
 use Rattle.segment_layouts.specs.SegmentBodies.{Makes, segments_body}
 use Rattle.segment_layouts.specs.Segments.{IsSegment}

@@ -1,15 +1,13 @@
-use Rattle.std.proofs.Common.{[], Err, List, Ok, Some, ap, false, inl, inr, length, refl, subst, sym, ◌++◌, ◌+◌, ◌<◌, ◌^◌, ◌∙◌, ◌∷◌, ◌≡◌, ◌≢◌, ℕ}
+use Rattle.std.proofs.Common.{[], Err, List, Some, ap, inl, inr, length, refl, subst, sym, ◌++◌, ◌+◌, ◌<◌, ◌^◌, ◌∙◌, ◌∷◌, ◌≡◌, ◌≢◌, ℕ}
 use Rattle.definitions.specs.Calls as calls
-use Rattle.definitions.specs.State.{merged}
-use Rattle.definitions.specs.declared.fault.Fault.{Fault}
 use Rattle.definitions.specs.declared.fault.Fault.TheVariants as faults
 use Rattle.records.proofs.CallByCall.{resting}
 use Rattle.segment_collection.proofs.Outcomes.{err_has, err_same}
 use Rattle.segment_collection.specs.Merges.{members_merged}
-use Rattle.segment_collection.specs.Standing.{Stands, members_of, status_of}
+use Rattle.segment_collection.specs.Standing.{members_of}
 use Rattle.segment_engine.proofs.Commits.{stands_groups}
 use Rattle.segment_engine.proofs.FileSayings.{leave_next, leave_same, rests_say}
-use Rattle.segment_engine.proofs.Merges.{limit_told, merge_written, refused_caused}
+use Rattle.segment_engine.proofs.Merges.{limit_told, merge_written}
 use Rattle.segment_engine.specs.Files.{BodiesLeave}
 use Rattle.segment_engine.specs.Indexes.{device_of, gate_of}
 use Rattle.segment_engine.proofs.index.Index.merge.Goals as goal
