@@ -11,7 +11,7 @@ use Rattle.layouts.specs.Deltas.{IsAscendingFrom, next_of}
 use Rattle.layouts.specs.SkipEntries.{SkipEntry}
 use Rattle.layouts.specs.VintBlocks.{take_documents, take_numbers}
 use Rattle.segment_postings.proofs.BlockLists.{length-block_counts, length-block_docs}
-use Rattle.segment_postings.specs.Reading.{AreReadable, IsHeld, block_counts, block_docs, counts_in, docs_in, found, rest_counts, rest_docs}
+use Rattle.segment_postings.specs.Reading.{AreReadable, IsHeld, IsSummed, block_counts, block_docs, counts_in, docs_in, found, rest_counts, rest_docs}
 use Rattle.skips.specs.SkipBlocks.{block_size, info_of}
 use Rattle.skips.specs.declared.skip_reader.BlockInfo.{BlockInfo}
 use Rattle.skips.specs.declared.skip_reader.BlockInfo.TheVariants.{BitPacked, VInt}
@@ -126,3 +126,7 @@ at_held place len docs inside long = go (cases_lt place (length docs))
         ∙ (get_or-append_right docs (replicate (128 - len) terminated) (length docs) place 0 refl beyond
         ∙ (get_or-replicate (128 - len) (place - length docs) terminated 0 (omega (arith, long, beyond, inside))
         ∙ sym (get_or_past docs place terminated beyond)))
+
+-- nothing is added up
+pub none_summed : (counts : List ℕ) → IsSummed counts 0 0
+none_summed counts = record { within = omega arith; total_is = omega arith; few = omega arith }

@@ -100,6 +100,12 @@ pub record IsHeld (docs counts : List ℕ) (len : ℕ) (all_docs all_counts : Li
   pub counts_are : take len counts ≡ take 128 all_counts
   pub len_is : len ≡ min 128 (length all_docs)
 
+-- the sum of a block's counts before a place
+pub record IsSummed (counts : List ℕ) (place total : ℕ) : Type 0 where
+  pub within : place ≤ 128
+  pub total_is : total ≡ sum (take place counts)
+  pub few : total ≤ 4294967295 * place
+
 -- blocks that end before a document are passed, and no other
 pub record HasPassed (reads sums : Bool) (target before : ℕ) (s : Skips) (after : ℕ) (t : Skips) (bytes : List ℕ) : Type 0 where
   pub stands : StandsIn reads sums after t bytes

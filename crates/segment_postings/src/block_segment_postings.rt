@@ -6,7 +6,7 @@ ghost use Rattle.definitions.specs.NumberCodes.{take_bytes};
 ghost use Rattle.definitions.specs.Postings.{terminated};
 ghost use Rattle.layouts.specs.TermPostings.{skip_entries};
 ghost use Rattle.segment_postings.specs.CountBounds.{TellCounts};
-ghost use Rattle.segment_postings.specs.Reading.{Ascends, HasPassed, HasPostings, IsHeld, StandsIn, below, counts_at, docs_at};
+ghost use Rattle.segment_postings.specs.Reading.{Ascends, HasPassed, HasPostings, IsHeld, IsSummed, StandsIn, below, counts_at, docs_at};
 ghost use Rattle.segment_postings.specs.ReadingLaws.{Ascends-prop, StandsIn-prop};
 
 use crate::decoding::decode_block;
@@ -30,10 +30,14 @@ pub struct BlockSegmentPostings<'a> {
     counts: [u32; COMPRESSION_BLOCK_SIZE],
     len: usize,
     decoded: u64,
+    // a place of the block, and the sum of its counts before that
+    summed_len: usize,
+    summed: u64,
     ghost stands: { StandsIn reads_counts reads_positions before skips bytes.now } by { StandsIn-prop reads_counts reads_positions before skips bytes.now },
     ghost held: { IsHeld docs counts len (docs_at before skips bytes.now) (counts_at reads_counts before skips bytes.now) },
     ghost ascends: { Ascends 0 (docs_at before skips bytes.now) } by { Ascends-prop 0 (docs_at before skips bytes.now) },
     ghost few: { decoded + length (docs_at before skips bytes.now) ≤ 4294967296 },
+    ghost adds_up: { IsSummed counts summed_len summed },
 }
 
 impl<'a> BlockSegmentPostings<'a> {
@@ -122,6 +126,8 @@ impl<'a> BlockSegmentPostings<'a> {
             counts,
             len,
             decoded,
+            summed_len: 0,
+            summed: 0,
         }
     }
 
@@ -176,12 +182,27 @@ impl<'a> BlockSegmentPostings<'a> {
         self.docs().len()
     }
 
-    /// How many positions stand before those of a document of the block, in all blocks.
-    pub(crate) fn positions_before(&self, place: usize) -> u64
-        requires { place ≤ min block_len (length (docs_left self.now)) }
-        ensures { result ≡ self.now.skips.position_offset + sum (take place (counts_left self.now)) }
+    /// How many positions stand before those of a document of the block, in all blocks. Adds up from the place
+    /// of the call before, where that isn't behind: documents are asked for in order.
+    pub(crate) fn positions_before(&mut self, place: usize) -> u64
+        requires { place ≤ min block_len (length (docs_left self.old)) }
+        ensures value { result ≡ self.old.skips.position_offset + sum (take place (counts_left self.old)) }
+        ensures docs { docs_left self.new ≡ docs_left self.old }
+        ensures counts { counts_left self.new ≡ counts_left self.old }
+        ensures entries { skips_left self.new ≡ skips_left self.old }
+        ensures decoded { blocks_decoded self.new ≡ blocks_decoded self.old }
+        ensures offset { positions_passed self.new ≡ positions_passed self.old }
+        ensures kept { (doc_freq_of self.new ≡ doc_freq_of self.old)
+            × (counts_are_read self.new ≡ counts_are_read self.old)
+            × (positions_are_read self.new ≡ positions_are_read self.old) }
     {
-        self.skips.position_offset() + sum_of(&self.counts[..place])
+        if place < self.summed_len {
+            self.summed_len = 0;
+            self.summed = 0;
+        }
+        self.summed += sum_of(&self.counts[self.summed_len..place]);
+        self.summed_len = place;
+        self.skips.position_offset() + self.summed
     }
 
     /// A number that no count from the block on is above, where there are a given number of positions in all.
@@ -223,6 +244,8 @@ impl<'a> BlockSegmentPostings<'a> {
             &mut self.counts,
         );
         count_block(&mut self.decoded, self.len);
+        self.summed_len = 0;
+        self.summed = 0;
     }
 
     /// Goes on to the first block that may hold a document, which may be the one that is held, and answers the
@@ -253,6 +276,8 @@ impl<'a> BlockSegmentPostings<'a> {
             &mut self.counts,
         );
         count_block(&mut self.decoded, self.len);
+        self.summed_len = 0;
+        self.summed = 0;
         first_from(&self.docs, target)
     }
 }
@@ -319,7 +344,7 @@ fn split_entries(bytes: &[u8], doc_freq: u32) -> (&[u8], &[u8])
 fn sum_of(counts: &[u32]) -> u64
     requires { length counts.now ≤ block_len }
     ensures value { result ≡ sum counts.now }
-    ensures few { result ≤ 549755813888 }
+    ensures few { result ≤ 4294967295 * length counts.now }
 {
     let mut total = 0;
     for count in counts {

@@ -1,5 +1,6 @@
 use Rattle.std.proofs.Common.{ap, arith, length, length-drop, subst, sym}
 use Rattle.segment_postings.proofs.BlockLists.{Ascends-drop}
+use Rattle.segment_postings.proofs.HeldBlocks.{none_summed}
 use Rattle.segment_postings.proofs.Passing.{Moved, moved_on}
 use Rattle.segment_postings.specs.Reading.{Ascends, docs_at}
 use Rattle.segment_postings.proofs.block_segment_postings.BlockSegmentPostings.advance.Goals.{After-advance}
@@ -24,6 +25,7 @@ invariant_of-self c =
       held = held;
       ascends = subst (λ xs. Ascends 0 xs) (sym on.docs) (Ascends-drop 128 0 (docs_at c.args.self.now.before c.args.self.now.skips c.args.self.now.bytes.now) c.args.self.now.ascends);
       few = omega (arith, few, long, len, one, length-drop 128 (docs_at c.args.self.now.before c.args.self.now.skips c.args.self.now.bytes.now));
+      adds_up = none_summed c.decode_block-self.new.counts;
     }
 
 pub returns-clause-docs : goal.returns-clause-docs

@@ -1,13 +1,73 @@
-use Rattle.std.proofs.Common.{ap, arith, sum, sym, take, ◌∙◌}
+use Rattle.std.proofs.Common.{ap, arith, drop, length, length-take, sum, sym, take, ◌+◌, ◌-◌, ◌∙◌, ◌≡◌, ◌≤◌}
 use Rattle.std.proofs.lemmas.List.{take-take}
-use Rattle.segment_postings.specs.Cursors.{counts_left}
+use Rattle.segment_postings.proofs.Passing.{sum_of_more}
+use Rattle.segment_postings.specs.Cursors.{counts_left, docs_left}
+use Rattle.segment_postings.specs.Reading.{IsSummed}
+use Rattle.segment_postings.specs.declared.block_segment_postings.BlockSegmentPostings.{BlockSegmentPostings}
+use Rattle.segment_postings.proofs.block_segment_postings.BlockSegmentPostings.positions_before.Goals.{After-sum_of, else-place-self, then-place-self}
 use Rattle.segment_postings.proofs.block_segment_postings.BlockSegmentPostings.positions_before.Goals as goal
 
-pub returns : goal.returns
-returns c =
-    let offset = c.position_offset.ensures.offset in
+-- what is known where it is added up from is not behind the place
+record FromThere (c : After-sum_of) : Type 0 where
+  ahead : c.if-place-self.self.summed_len ≤ c.args.place
+  offset : c.if-place-self.self.skips.position_offset ≡ c.args.self.now.skips.position_offset
+  docs : docs_left c.if-place-self.self ≡ docs_left c.args.self.now
+  counts : counts_left c.if-place-self.self ≡ counts_left c.args.self.now
+
+from_there : (c : After-sum_of) → FromThere c
+from_there c = elim c.if-place-self.branch [
+  | then-place-self w ↦ record {
+    ahead = (let is = ap (λ (b : BlockSegmentPostings). b.summed_len) w.self-is in omega (arith, is));
+    offset = ap (λ (b : BlockSegmentPostings). b.skips.position_offset) w.self-is;
+    docs = ap (λ (b : BlockSegmentPostings). docs_left b) w.self-is;
+    counts = ap (λ (b : BlockSegmentPostings). counts_left b) w.self-is;
+  }
+  | else-place-self w ↦ record {
+    ahead = (let is = ap (λ (b : BlockSegmentPostings). b.summed_len) w.self-is in omega (arith, is, w.if-place-self.false));
+    offset = ap (λ (b : BlockSegmentPostings). b.skips.position_offset) w.self-is;
+    docs = ap (λ (b : BlockSegmentPostings). docs_left b) w.self-is;
+    counts = ap (λ (b : BlockSegmentPostings). counts_left b) w.self-is;
+  }
+]
+
+-- all counts before the place are added up
+added : (c : After-sum_of) → IsSummed c.if-place-self.self.counts c.args.place (c.if-place-self.self.summed + c.sum_of.result)
+added c =
+    let there = from_there c in
+    let self = c.if-place-self.self in
+    let first = self.summed_len in
+    let more = c.args.place - first in
+    let ahead = there.ahead in
+    let before = self.adds_up.total_is in
+    let few = self.adds_up.few in
     let value = c.sum_of.ensures.value in
-    let len = c.args.self.now.held.len_is in
+    let most = c.sum_of.ensures.few in
+    let len = length-take more (drop first self.counts) in
+    let whole = sum_of_more first more self.counts in
+    let place : first + more ≡ c.args.place = omega (arith, ahead) in
+    let all = ap (λ k. sum (take k self.counts)) place in
+    let block = c.requires in
+    record {
+      within = omega (arith, block);
+      total_is = omega (arith, before, value, whole, all);
+      few = omega (arith, few, most, len, ahead);
+    }
+
+pub invariant_of-self-2 : goal.invariant_of-self-2
+invariant_of-self-2 c =
+    let self = c.if-place-self.self in
+    record { stands = self.stands; held = self.held; ascends = self.ascends; few = self.few; adds_up = added (goal.at.invariant_of-self-2 c).After-sum_of }
+
+pub returns-clause-value : goal.returns-clause-value
+returns-clause-value c =
+    let at = (goal.at.returns-clause-value c).After-sum_of in
+    let there = from_there at in
+    let self = c.if-place-self.self in
+    let offset = c.position_offset.ensures.offset in
+    let same_offset = there.offset in
+    let value = (added at).total_is in
+    let len = self.held.len_is in
     let place = c.requires in
-    let same = ap sum (sym (take-take c.args.place c.args.self.now.len c.args.self.now.counts (omega (arith, len, place))) ∙ (ap (take c.args.place) c.args.self.now.held.counts_are ∙ take-take c.args.place 128 (counts_left c.args.self.now) (omega (arith, place)))) in
-    omega (arith, offset, value, same)
+    let docs = ap length there.docs in
+    let same = ap sum (sym (take-take c.args.place self.len self.counts (omega (arith, len, place, docs))) ∙ (ap (take c.args.place) self.held.counts_are ∙ (take-take c.args.place 128 (counts_left self) (omega (arith, place)) ∙ ap (take c.args.place) there.counts))) in
+    omega (arith, offset, same_offset, value, same)

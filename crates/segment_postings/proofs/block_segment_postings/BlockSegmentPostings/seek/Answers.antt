@@ -1,6 +1,7 @@
 use Rattle.std.proofs.Common.{List, ap, arith, cond, drop, false, length, length-drop, min, nat_lt, subst, sum, sym, take, true, ◌*◌, ◌/◌, ◌<◌, ◌∙◌, ◌≡◌, ◌≤◌, ℕ}
 use Rattle.std.proofs.lemmas.Bool.Decides.{nat_tests}
 use Rattle.segment_postings.proofs.BlockLists.{Ascends-drop}
+use Rattle.segment_postings.proofs.HeldBlocks.{none_summed}
 use Rattle.segment_postings.proofs.Passing.{room_of, below_held, order_held, passes_some, stops_here}
 use Rattle.segment_postings.specs.Reading.{Ascends, HasPassed, below, counts_at, docs_at}
 use Rattle.segment_postings.proofs.block_segment_postings.BlockSegmentPostings.seek.Goals.{After-pass_blocks-self, Then-target-last_doc_in_block}
@@ -87,6 +88,7 @@ invariant_of-self c =
       held = held;
       ascends = ascends_on k all _ on.docs c.args.self.now.ascends;
       few = omega (arith, few, long, len, one, cut, some);
+      adds_up = none_summed c.decode_block-self.new.counts;
     }
 
 held_then : (c : After-pass_blocks-self) → below c.args.target (docs_at c.pass_blocks-self.result c.pass_blocks-self.new.skips c.args.self.now.bytes.now) < 128

@@ -1,4 +1,4 @@
-use Rattle.std.proofs.Common.{ap, arith, drop, max, subst, sum, sym, take, ◌+◌, ◌<◌, ◌≡◌, ◌≤◌}
+use Rattle.std.proofs.Common.{ap, arith, drop, max, subst, sum, take, ◌+◌, ◌≡◌, ◌≤◌}
 use Rattle.cursors.specs.DangerLaws.{missed-seek}
 use Rattle.cursors.specs.Entries.{first, from}
 use Rattle.cursors.specs.EntryLaws.{first-from}

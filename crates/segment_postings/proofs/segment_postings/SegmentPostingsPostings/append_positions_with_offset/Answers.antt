@@ -13,14 +13,14 @@ there c =
     let numbers = numbers_of c.args.self.now.positions in
     let behind = drop (c.args.self.now.blocks.skips.position_offset + sum (take c.args.self.now.cur counts)) numbers in
     let within = stands_within c.args.self.now.cur docs (drop c.args.self.now.cur counts) behind c.requires.on in
-    positions_there c.args.self.now.cur docs counts behind within ∙ ap₂ (λ k m. places 0 (take k (drop m numbers))) (sym c.freq-count.ensures) (sym c.positions_before-begin.ensures)
+    positions_there c.args.self.now.cur docs counts behind within ∙ ap₂ (λ k m. places 0 (take k (drop m numbers))) (sym c.freq-count.ensures) (sym c.positions_before-begin.ensures.value)
 
 pub append_positions-requires-clause-room : goal.append_positions-requires-clause-room
 append_positions-requires-clause-room c = λ some.
     (let room = c.args.self.now.counted some in
     let one = count_within c.args.self.now.cur (counts_left c.args.self.now.blocks) in
     let count = c.freq-count.ensures in
-    let begin = c.positions_before-begin.ensures in
+    let begin = c.positions_before-begin.ensures.value in
     omega (arith, room, one, count, begin))
 
 pub append_positions-requires-clause-fits : goal.append_positions-requires-clause-fits
