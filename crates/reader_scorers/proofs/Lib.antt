@@ -1,3 +1,4 @@
 -- Lemmas behind the scorers of segments.
 pub mod FormScores
 pub mod SamePairs
+pub mod TermEntries

@@ -1,2 +1,3 @@
 -- Words of the contracts.
 pub mod Scored
+pub mod Terms

@@ -10,6 +10,7 @@ ghost use Rattle.node_scorers.specs.Scores.{AllScore, Scores};
 use crate::any_query_scorer::AnyScorer;
 use crate::forms::{of_all, of_list, of_none, of_phrase, of_phrase_prefix, of_term, with_score};
 use crate::leaf_weights::LeafWeights;
+use crate::terms_alone::{are_terms, into_terms};
 use common::Score;
 use cursors::DocSet;
 use leaf_scorers::{AllScorer, BoostScorer};
@@ -112,6 +113,18 @@ impl<'r, 'a, W: LeafWeights<'a>> SegmentScorers for ReaderScorers<'r, 'a, W> {
             (⟦<ScorerBy<'a, W> as DocSet>⟧.entries scorer)) }
     {
         let minimum = minimum_number_should_match;
+        if are_terms(&musts) && are_terms(&shoulds) && are_terms(&must_nots) {
+            // Then each move and each score is that of a term, without a look at which form the scorer has.
+            let list = clauses_scorer(
+                alloc,
+                into_terms(alloc, musts)?,
+                into_terms(alloc, shoulds)?,
+                into_terms(alloc, must_nots)?,
+                minimum,
+                self.reader,
+            )?;
+            return Ok(of_list(list));
+        }
         let list = clauses_scorer(alloc, musts, shoulds, must_nots, minimum, self.reader)?;
         Ok(of_list(list))
     }
