@@ -7,3 +7,4 @@ pub mod Adjusted
 pub mod MeetingEntries
 pub mod SuffixCounts
 pub mod BlockLaws
+pub mod BehindLaws

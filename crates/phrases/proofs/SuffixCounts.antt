@@ -17,10 +17,6 @@ pub single-ascends : (es : List Entry) → AreSingle es → first es < terminate
 single-ascends [] s l = absurd (omega (arith, l))
 single-ascends (e ∷ es) s l = ascends-from (single e.positions) s.1
 
-pub single-most : (es : List Entry) → length (single (first_positions es)) ≤ most_positions es
-single-most [] = omega arith
-single-most (e ∷ es) = omega arith
-
 -- of one entry
 pub continued-one : (moved : ℕ) (places : List ℕ) (es : List Entry) → first es < terminated → continued_by moved places (take 1 es) ≡ continued moved places (single (first_positions es))
 continued-one moved places [] l = absurd (omega (arith, l))
@@ -57,8 +53,3 @@ follow-same moved doc ess fss gss es fs same cut kept at r =
     ap (λ xss. prefixed moved xss fs) (same ∙ cut)
     ∙ (ap (prefixed moved (map (from doc) ess)) kept
     ∙ prefixed-cut moved ess doc es (subst (λ d. Rising d es) (sym at) (Rising-first 0 es r)))
-
-pub follow-none : (moved doc count : ℕ) (places : List ℕ) (fss gss : List (List Entry)) (es fs : List Entry) → gss ≡ fss → fs ≡ es → doc ≡ first es → places ≡ single (first_positions es) → count ≡ continued_by moved places (entries_at doc fss) → count ≤ 0 → first_follows moved gss fs ≡ 0
-follow-none moved doc count places fss gss es fs same kept at is counted none =
-    let all : first_follows moved gss fs ≡ count = ap (λ xss. first_follows moved xss fs) same ∙ (ap (first_follows moved fss) kept ∙ (ap (λ d. continued_by moved (single (first_positions es)) (entries_at d fss)) (sym at) ∙ (ap (λ ps. continued_by moved ps (entries_at doc fss)) (sym is) ∙ sym counted))) in
-    omega (arith, all, none)

@@ -13,6 +13,7 @@ pub mod PlacesLaws
 pub mod PrefixEntries
 pub mod PrefixEntryLaws
 pub mod OneTermLaws
+pub mod ChunkBounds
 pub mod Following
 pub mod Standings
 pub mod StandingLaws

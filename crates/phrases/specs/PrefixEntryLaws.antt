@@ -2,7 +2,7 @@
 use Rattle.std.proofs.Common.{[], List, ap, arith, drop, false, if◌then◌else◌, map, max, nat_lt, refl, sym, true, ◌+◌, ◌<◌, ◌∙◌, ◌∷◌, ◌≡◌, ◌≤◌, ℕ}
 use Rattle.std.proofs.lemmas.Bool.Decides.{nat_tests}
 use Rattle.cursors.specs.Entries.{Entry, IsRest, Rising, first, first_count, first_positions, first_score, from, most_positions, single}
-use Rattle.cursors.specs.EntryLaws.{Rising-lower, from-in, from-out, most-drop, most-from}
+use Rattle.cursors.specs.EntryLaws.{Rising-lower, drop-one, from-in, from-out, from-step, most-drop, most-from}
 use Rattle.definitions.specs.Postings.{terminated}
 use Rattle.leaf_scorers.specs.ScoredEntryLaws.{by_place}
 use Rattle.members.specs.MemberLaws.{entries_at-kept}
@@ -30,6 +30,27 @@ first_follows moved ess es = continued_by moved (single (first_positions es)) (e
 pub prefixed-pass : (moved : ℕ) (ess : List (List Entry)) (es : List Entry) → first_follows moved ess es ≡ 0 → prefixed moved ess (drop 1 es) ≡ prefixed moved ess es
 prefixed-pass moved ess [] none = refl
 prefixed-pass moved ess (e ∷ es) none = sym (prefixed-none moved ess e es none)
+
+-- nor is a document lost where no suffix has it
+prefixed-skip : (moved t : ℕ) (ess : List (List Entry)) (es : List Entry) → ((d : ℕ) → d < t → entries_at d ess ≡ []) → prefixed moved ess (from t es) ≡ prefixed moved ess es
+prefixed-skip moved t ess [] none = refl
+prefixed-skip moved t ess (e ∷ es) none =
+    let ih = prefixed-skip moved t ess es none in
+    by_place t e.doc (prefixed moved ess (from t (e ∷ es)) ≡ prefixed moved ess (e ∷ es))
+    (λ i. ap (prefixed moved ess) (from-in t e es i) ∙ ap (λ xs. if nat_lt 0 (follows moved ess e) then counted e (follows moved ess e) ∷ xs else xs) ih)
+    (λ o. ap (prefixed moved ess) (from-out t e es o) ∙ (ih ∙ sym (prefixed-none moved ess e es (ap (continued_by moved (single e.positions)) (none e.doc o)))))
+
+-- where none follows the first document, those up to a suffix can be passed
+pub prefixed-next : (moved bound target : ℕ) (ess : List (List Entry)) (es : List Entry) → target ≡ max bound (first es + 1) → ((d : ℕ) → d < bound → entries_at d ess ≡ []) → first_follows moved ess es ≡ 0 → Rising 0 es → prefixed moved ess (from target es) ≡ prefixed moved ess es
+prefixed-next moved bound target ess es at none nil r =
+    by_place (first es + 1) bound (prefixed moved ess (from target es) ≡ prefixed moved ess es)
+    (λ i. let there : target ≡ bound = omega (arith, at, i) in
+    ap (λ t. prefixed moved ess (from t es)) there
+    ∙ (ap (prefixed moved ess) (sym (from-step bound es (omega (arith, i))))
+    ∙ (prefixed-skip moved bound ess (drop 1 es) none ∙ prefixed-pass moved ess es nil)))
+    (λ o. let next : target ≡ first es + 1 = omega (arith, at, o) in
+    ap (λ t. prefixed moved ess (from t es)) next
+    ∙ (ap (prefixed moved ess) (sym (drop-one 0 es r)) ∙ prefixed-pass moved ess es nil))
 
 -- where some do it is the first
 pub prefixed-stands : (moved : ℕ) (ess : List (List Entry)) (es : List Entry) → (first es < terminated → 0 < first_follows moved ess es) → Rising 0 es → (first (prefixed moved ess es) ≡ first es) × (prefixed moved ess (drop 1 es) ≡ drop 1 (prefixed moved ess es))

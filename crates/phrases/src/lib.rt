@@ -3,6 +3,7 @@
 
 mod adjusting;
 mod block_sink;
+mod chunked_docs;
 mod following;
 mod merging;
 mod one_term_phrase;

@@ -7,6 +7,7 @@ ghost use Rattle.phrases.specs.PrefixEntryLaws.{most_suffix_positions};
 ghost use Rattle.phrases.specs.Following.{IsFollowing, IsFollowing-prop};
 ghost use Rattle.phrases.specs.PrefixEntries.{prefixed};
 
+use crate::chunked_docs::ChunkedDocs;
 use crate::following::follow;
 use common::{DocId, Score};
 use cursors::{DocSet, Postings};
@@ -20,11 +21,12 @@ use std::alloc::{AllocError, Global};
 pub struct PhrasePrefixScorer<W: Scorer + Positioned, P: Postings> {
     phrase_scorer: W,
     suffixes: Vec<P>,
+    docs: ChunkedDocs,
     suffix_offset: u32,
     phrase_count: u64,
     places: Vec<u32>,
     positions: Vec<u32>,
-    ghost following: { IsFollowing suffix_offset phrase_count (vec_capacity places) (vec_capacity positions) (length suffixes.items) (map P.entries suffixes.items) (W.entries phrase_scorer) } by { IsFollowing-prop suffix_offset phrase_count (vec_capacity places) (vec_capacity positions) (length suffixes.items) (map P.entries suffixes.items) (W.entries phrase_scorer) },
+    ghost following: { IsFollowing suffix_offset phrase_count (vec_capacity places) (vec_capacity positions) (length suffixes.items) docs.docs.items (map P.entries suffixes.items) (W.entries phrase_scorer) } by { IsFollowing-prop suffix_offset phrase_count (vec_capacity places) (vec_capacity positions) (length suffixes.items) docs.docs.items (map P.entries suffixes.items) (W.entries phrase_scorer) },
 }
 
 /// A number of positions that no document of any of the cursors has more of.
@@ -56,9 +58,11 @@ impl<W: Scorer + Positioned + Drop, P: Postings + Drop> PhrasePrefixScorer<W, P>
         let mut suffixes = suffixes;
         let mut places = Vec::with_capacity(alloc, phrase_scorer.most_positions())?;
         let mut positions = Vec::with_capacity(alloc, most_of_suffixes(&suffixes))?;
+        let mut docs = ChunkedDocs::new(alloc, suffixes.len())?;
         let phrase_count = follow(
             &mut phrase_scorer,
             &mut suffixes,
+            &mut docs,
             suffix_offset,
             &mut places,
             &mut positions,
@@ -66,6 +70,7 @@ impl<W: Scorer + Positioned + Drop, P: Postings + Drop> PhrasePrefixScorer<W, P>
         Ok(PhrasePrefixScorer {
             phrase_scorer,
             suffixes,
+            docs,
             suffix_offset,
             phrase_count,
             places,
@@ -97,6 +102,7 @@ impl<W: Scorer + Positioned, P: Postings> DocSet for PhrasePrefixScorer<W, P> {
         self.phrase_count = follow(
             &mut self.phrase_scorer,
             &mut self.suffixes,
+            &mut self.docs,
             self.suffix_offset,
             &mut self.places,
             &mut self.positions,
@@ -109,6 +115,7 @@ impl<W: Scorer + Positioned, P: Postings> DocSet for PhrasePrefixScorer<W, P> {
         self.phrase_count = follow(
             &mut self.phrase_scorer,
             &mut self.suffixes,
+            &mut self.docs,
             self.suffix_offset,
             &mut self.places,
             &mut self.positions,

@@ -35,7 +35,7 @@ invariant_of-self g c =
     let next = g.W.DocSet.entries c.seek.new.self in
     let rest = g.W.DocSet.entries f.new.phrase in
     let sought = IsRest-along next (from c.args.target es) es c.seek.ensures.rest (IsRest-from c.args.target 0 es (g.met.W.DocSet.rising s.phrase_scorer)) in
-    record { following = follows-on s.suffix_offset f.result (vec_capacity s.places) (vec_capacity f.new.places) (vec_capacity s.positions) (vec_capacity f.new.positions) (length s.suffixes.items) (length f.new.suffixes.items) (map g.P.DocSet.entries s.suffixes.items) (map g.P.DocSet.entries f.new.suffixes.items) es rest (IsRest-on rest next es f.ensures.rest sought) was.places was.few_places was.positions was.few_suffixes f.ensures.count f.ensures.some f.ensures.places f.ensures.positions f.ensures.long f.ensures.most }
+    record { following = follows-on s.suffix_offset f.result (vec_capacity s.places) (vec_capacity f.new.places) (vec_capacity s.positions) (vec_capacity f.new.positions) (length s.suffixes.items) (length f.new.suffixes.items) f.new.docs.docs.items (map g.P.DocSet.entries s.suffixes.items) (map g.P.DocSet.entries f.new.suffixes.items) es rest (IsRest-on rest next es f.ensures.rest sought) was.places was.few_places was.positions was.few_suffixes f.ensures.count f.ensures.some f.ensures.places f.ensures.positions f.ensures.long f.ensures.most f.ensures.behind }
 
 pub returns-clause-rest : goal.returns-clause-rest
 returns-clause-rest g c =
