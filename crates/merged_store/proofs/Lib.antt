@@ -1,2 +1,3 @@
 pub mod SlotsLeft
 pub mod MembersHeld
+pub mod WrittenBlocks

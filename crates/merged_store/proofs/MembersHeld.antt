@@ -67,6 +67,9 @@ count_suc (suc k) (m ∷ ms) d within = (let later = count_suc k ms d (omega (ar
 pub count_more : (k : ℕ) (ms : List MemberStore) (m : MemberStore) → m ≡ slice_index_or ms k m → k < length ms → living_count (take (k + 1) ms) ≡ living_count (take k ms) + count_set m.alive.now
 count_more k ms m is within = ap (λ n. living_count (take n ms)) (let e : k + 1 ≡ suc k = omega arith in e) ∙ count_suc k ms m within ∙ ap (λ (x : MemberStore). living_count (take k ms) + count_set x.alive.now) (sym is)
 
+pub all_counted : (k : ℕ) (ms : List MemberStore) → length ms ≤ k → living_count (take k ms) ≡ living_count ms
+all_counted k ms long = ap living_count (take_whole k ms long)
+
 count_front : (k : ℕ) (ms : List MemberStore) → living_count (take k ms) ≤ living_count ms
 count_front zero ms = omega arith
 count_front (suc k) [] = omega arith

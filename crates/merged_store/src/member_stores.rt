@@ -2,8 +2,9 @@
 
 ghost use Rattle.std.specs.Prelude.{◌≡◌, IfErr, IfOk, List, length, ℕ};
 ghost use Rattle.std.specs.List.{AllByRecursion};
-ghost use Rattle.layouts.specs.Stores.{IsStore};
-ghost use Rattle.merged_store.specs.MemberStores.{AreHeld, IsFlagged, IsMergeRefusal, merged_slots};
+ghost use Rattle.layouts.specs.Stores.{AreBlocks, Block, IsStore, store_bytes};
+ghost use Rattle.merged_store.specs.MemberStores.{AreHeld, IsFlagged, IsMergeRefusal, living_count, merged_slots};
+ghost use Rattle.store.specs.Writing.{count_of};
 
 use crate::living_slots::append_living;
 use common::AliveBitSet;
@@ -28,6 +29,8 @@ pub fn merge_stores(
     requires { AllByRecursion IsFlagged members.now }
     ensures ok { (all : List (List (List ℕ))) → AreHeld members.now all
         → IfOk result (λ bytes. IsStore (merged_slots members.now all) bytes.items) }
+    ensures blocks { IfOk result (λ bytes. (blocks : List Block) × AreBlocks blocks × (bytes.items ≡ store_bytes blocks)
+        × (count_of blocks ≡ living_count members.now)) }
     ensures err { IfErr result (λ fault. IsMergeRefusal fault block_size members.now) }
 {
     let mut writer = StoreWriter::new(alloc, block_size);

@@ -71,7 +71,7 @@ all_behind a b c d e f =
     ∙ append_assoc a b (c ++ (d ++ (e ++ f)))
     ∙ ap (λ l. a ++ (b ++ (c ++ (d ++ (e ++ l))))) (sym (append-nil f))
 
-bytes_listed : (n : ℕ) (s : Sections) → segment_bytes n s ≡ u32_bytes n ++ flat_map section_bytes (listed s)
+pub bytes_listed : (n : ℕ) (s : Sections) → segment_bytes n s ≡ u32_bytes n ++ flat_map section_bytes (listed s)
 bytes_listed n s = all_behind (u32_bytes n) (section_bytes s.terms) (section_bytes s.postings) (section_bytes s.positions) (section_bytes s.norms) (section_bytes s.store)
 
 pub all_short : (xs : List (List ℕ)) → length (flat_map section_bytes xs) < 2 ^ 64 → AllByRecursion IsShort xs

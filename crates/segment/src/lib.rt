@@ -4,6 +4,7 @@
 mod checks;
 mod deleting;
 mod documents;
+mod known;
 mod sections;
 mod segment;
 

@@ -27,6 +27,7 @@ impl Sections {
     /// The sections that the bytes consist of. What is in them isn't looked at.
     pub(crate) fn of_bytes(bytes: Bytes) -> Result<Sections, Fault>
         ensures ok { IfOk result (λ s. AreWritten s.num_docs (sections_in s) bytes) }
+        ensures bytes { IfOk result (λ _. AreBytes bytes) }
         ensures err { IfErr result (λ fault. fault ≢ faults.OutOfMemory → (fault ≡ faults.Damaged None)
             × ((num_docs : ℕ) (sections : layout.Sections) → ¬ AreWritten num_docs sections bytes)) }
     {

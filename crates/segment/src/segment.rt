@@ -15,11 +15,13 @@ ghost use Rattle.store.specs.Slots.{IsPast};
 
 use crate::checks::{checked_norms, open_store};
 use crate::documents::read_slot;
+use crate::known::{known_sections, known_store};
 use crate::sections::Sections;
 use bytes::Bytes;
 use common::{AliveBitSet, DocId};
 use definitions::Fault;
 use document::CompactDoc;
+use document_indexer::length_fields;
 use fieldnorms::FieldNormReaders;
 use inverted_index_reader::InvertedIndexReader;
 use schema::Schema;
@@ -74,6 +76,39 @@ impl Segment {
             inverted_index,
             length_fields,
             norms,
+            store,
+        })
+    }
+
+    /// The same of bytes that are known to be a segment, since they were just written. Nothing is checked again: the
+    /// section of terms is walked once, and memory alone may be wanting.
+    pub fn new(
+        alloc: Global,
+        schema: &Schema,
+        bytes: Bytes,
+        cache_num_blocks: usize,
+    ) -> Result<Segment, AllocError>
+        requires { ∥ ((num_docs : ℕ) × IsSegment schema.now num_docs bytes) ∥₁ }
+        ensures ok { IfOk result (IsOpened schema.now) }
+        ensures bytes { IfOk result (λ segment. bytes_of segment ≡ bytes) }
+    {
+        let sections = known_sections(bytes.clone()?)?;
+        let num_docs = sections.num_docs;
+        let length_fields = length_fields(alloc, schema)?;
+        let inverted_index = InvertedIndexReader::new(
+            alloc,
+            schema,
+            sections.terms,
+            sections.postings,
+            sections.positions,
+        )?;
+        let store = known_store(alloc, sections.store, num_docs, cache_num_blocks)?;
+        Ok(Segment {
+            bytes,
+            num_docs,
+            inverted_index,
+            length_fields,
+            norms: sections.norms,
             store,
         })
     }

@@ -1,5 +1,6 @@
 use Rattle.std.proofs.Common.{[], ap, arith, refl, subst, sym, take, ◌∙◌}
-use Rattle.merged_store.proofs.MembersHeld.{all_slots, count_more, flagged_at, held_at, member_refused, more_slots}
+use Rattle.merged_store.proofs.MembersHeld.{all_counted, all_slots, count_more, flagged_at, held_at, member_refused, more_slots}
+use Rattle.merged_store.proofs.WrittenBlocks.{blocks_kept}
 use Rattle.merged_store.specs.MemberStores.{merged_slots}
 use Rattle.store.proofs.SlotLaws.{slots_kept}
 use Rattle.std.proofs.lemmas.Result.{err_from_is_err_and}
@@ -49,3 +50,12 @@ returns-clause-ok c all held =
     let holds = subst (HoldsSlots w) (all_slots c.loop-member.member-index c.args.members.now all held c.loop-member-test.false) (c.loop-member.invariant.held all held) in
     let kept = slots_kept w.blocks w.pending slots w.block_size c.num_docs-docs.ensures.valid holds in
     (blocks_of w, kept.0, kept.1, c.in_ok-close.ensures)
+
+pub returns-clause-blocks : goal.returns-clause-blocks
+returns-clause-blocks c =
+    let w = c.loop-member.writer in
+    let docs = c.loop-member.invariant.docs in
+    let all = all_counted c.loop-member.member-index c.args.members.now c.loop-member-test.false in
+    let kept = blocks_kept w.blocks w.pending w.block_size c.num_docs-docs.ensures.valid in
+    let count = kept.1 in
+    (blocks_of w, kept.0, c.in_ok-close.ensures, omega (arith, count, docs, all))

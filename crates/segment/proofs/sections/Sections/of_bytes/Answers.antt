@@ -72,3 +72,6 @@ returns-clause-ok c =
     let found = all_five c.advance.new.self c.take_section.new.rest c.take_section-2.new.rest c.take_section-3.new.rest c.take_section-4.new.rest c.take_section-5.new.rest c.in_ok-terms.terms c.in_ok-postings.postings c.in_ok-positions.positions c.in_ok-norms.norms c.in_ok-store.store c.in_ok-terms.ensures.ok c.in_ok-postings.ensures.ok c.in_ok-positions.ensures.ok c.in_ok-norms.ensures.ok c.in_ok-store.ensures.ok in
     let none : length c.take_section-5.new.rest ≡ 0 = grind (arith, nat_tests) in
     written_so c.args.bytes c.advance.new.self c.in_ok-num_docs.num_docs (record { terms = c.in_ok-terms.terms; postings = c.in_ok-postings.postings; positions = c.in_ok-positions.positions; norms = c.in_ok-norms.norms; store = c.in_ok-store.store }) (subst AreBytes c.as_slice.ensures n.bytes) (subst (λ (bs : List ℕ). length bs < 2 ^ 64) c.as_slice.ensures n.short) number n.ok.2 n.ok.3 (found ∙ ap (λ r. Some ((c.in_ok-terms.terms ∷ c.in_ok-postings.postings ∷ c.in_ok-positions.positions ∷ c.in_ok-norms.norms ∷ c.in_ok-store.store ∷ []), r)) (nothing_more c.take_section-5.new.rest none))
+
+pub returns-clause-bytes : goal.returns-clause-bytes
+returns-clause-bytes c = subst AreBytes c.as_slice.ensures c.in_ok-num_docs.ensures.bytes

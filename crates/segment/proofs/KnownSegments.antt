@@ -1,0 +1,101 @@
+-- What is told of the sections of bytes that are known to be a segment.
+use Rattle.std.proofs.Common.{[], List, arith, flat_map, length, subst, sum_by, sym, ◌++◌, ◌<◌, ◌≡◌, ◌≤◌, ◌∙◌, ◌∷◌, ◌^◌, ℕ}
+use Rattle.std.proofs.Math.Logic.{∥∥₁_elim, ∥∥₁_map}
+use Rattle.std.proofs.Props.{props}
+use Rattle.std.proofs.lemmas.List.{length-map}
+use Rattle.common.proofs.Many.{bytes_after}
+use Rattle.definitions.specs.Analyzers.{Analyzer}
+use Rattle.definitions.specs.KeptLengths as documents
+use Rattle.definitions.specs.KeptLengths.{length_fields}
+use Rattle.definitions.specs.NumberCodes.{AreBytes, u32_bytes, u64_bytes}
+use Rattle.definitions.specs.Postings.{terminated}
+use Rattle.definitions.specs.Schema.{Schema}
+use Rattle.definitions.specs.Values.{Document}
+use Rattle.fieldnorms.proofs.Sections.{norms_lent}
+use Rattle.fieldnorms.specs.Readers.{norms_in}
+use Rattle.inverted_index_reader.specs.CheckedTerms as reading
+use Rattle.inverted_index_reader.specs.Readers.{AreKnown, IsReader, Reader}
+use Rattle.layouts.specs.FieldNorms.{IsNorms}
+use Rattle.layouts.specs.InvertedIndexes.{AreSections, IndexedField}
+use Rattle.layouts.specs.Stores.{AreBlocks, Block, store_bytes}
+use Rattle.segment_layouts.specs.Segments.{AreWritten, IsSegment, IsSegmentOf, Sections, section_bytes}
+use Rattle.segment_layouts.specs.Slots.{slot, slots}
+use Rattle.segment.proofs.OneReading.{AreKept, HasFields, bytes_before, fields_found, norms_found}
+use Rattle.segment.proofs.Opening.{AreParts, parts_told}
+use Rattle.segment.proofs.SectionsBack.{bytes_listed, listed}
+use Rattle.store.proofs.Opened.{count_is}
+use Rattle.store.proofs.Readers.{hold_length}
+
+-- the sections of terms, of postings and of positions
+abbrev pub terms_of : Sections → reading.Sections
+terms_of s = record { terms = s.terms; postings = s.postings; positions = s.positions }
+
+-- the length ids of its section
+abbrev pub norms_of : Schema → ℕ → Sections → List (ℕ × List ℕ)
+norms_of schema n s = norms_in n (length_fields schema) s.norms
+
+-- a reader of the sections is made, whatever their fields are
+abbrev pub Makes : Schema → Reader → reading.Sections → Type 0
+Makes schema r s = (n : ℕ) (norms : List (ℕ × List ℕ)) (fields : List IndexedField) → n ≤ terminated → AreSections schema n norms fields s.terms s.postings s.positions → IsReader schema n norms fields r
+
+-- its parts are there
+pub parts_known : (schema : Schema) (n : ℕ) (s : Sections) (bytes : List ℕ) → AreWritten n s bytes → ∥ ((m : ℕ) × IsSegment schema m bytes) ∥₁ → ∥ AreParts schema n s ∥₁
+parts_known schema n s bytes written known = ∥∥₁_map known (λ is. parts_told schema n is.0 s bytes written is.1)
+
+pub terms_known : (schema : Schema) (n : ℕ) (s : Sections) (bytes : List ℕ) → AreWritten n s bytes → ∥ AreParts schema n s ∥₁ → ∥ AreKnown schema (terms_of s) ∥₁
+terms_known schema n s bytes written known = (let few = written.few in ∥∥₁_map known (λ parts. record { num_docs = n; norms = parts.norms; fields = parts.fields; docs_few = omega (arith, few); are = parts.terms_are }))
+
+pub store_known : (schema : Schema) (n : ℕ) (s : Sections) → ∥ AreParts schema n s ∥₁ → ∥ ((blocks : List Block) × AreBlocks blocks × (s.store ≡ store_bytes blocks) × (sum_by (λ (b : Block). b.count) blocks ≡ n)) ∥₁
+store_known schema n s known = ∥∥₁_map known (λ parts. (parts.blocks, parts.blocks_are, parts.store_is, parts.counted))
+
+-- the bytes of its postings are bytes
+pub postings_are_bytes : (n : ℕ) (s : Sections) (bytes : List ℕ) → AreWritten n s bytes → AreBytes bytes → AreBytes s.postings
+postings_are_bytes n s bytes written are =
+    let rest = flat_map section_bytes (s.positions ∷ s.norms ∷ s.store ∷ []) in
+    let all : AreBytes (u32_bytes n ++ flat_map section_bytes (listed s)) = subst AreBytes (written.whole ∙ bytes_listed n s) are in
+    let behind : AreBytes (section_bytes s.postings ++ rest) = bytes_after (section_bytes s.terms) (section_bytes s.postings ++ rest) (bytes_after (u32_bytes n) (flat_map section_bytes (listed s)) all) in
+    bytes_after (u64_bytes (length s.postings)) s.postings (bytes_before (section_bytes s.postings) rest behind)
+
+kept_of : (schema : Schema) (n : ℕ) (s : Sections) (r : Reader) → n ≤ terminated → AreBytes s.postings → r.sections ≡ terms_of s → Makes schema r (terms_of s) → ∥ AreParts schema n s ∥₁ → AreKept schema (terms_of s)
+kept_of schema n s r few bytes same makes known = ∥∥₁_elim known (hlevel props) (λ parts.
+    (let is = makes n parts.norms parts.fields few parts.terms_are in
+    record {
+      few = is.few;
+      terms_short = subst (λ (t : reading.Sections). length t.terms < 2 ^ 63) same is.terms_short;
+      postings_short = subst (λ (t : reading.Sections). length t.postings < 2 ^ 63) same is.postings_short;
+      positions_short = subst (λ (t : reading.Sections). length t.positions < 2 ^ 63) same is.positions_short;
+      bytes = bytes;
+    }))
+
+-- its length ids
+pub lengths_known : (schema : Schema) (n : ℕ) (s : Sections) → ∥ AreParts schema n s ∥₁ → IsNorms (length_fields schema) n s.norms (norms_of schema n s)
+lengths_known schema n s known = norms_found schema n s.norms (∥∥₁_map known (λ parts. (parts.norms, parts.norms_are)))
+
+-- its fields, of which a reader was made
+pub fields_known : (schema : Schema) (n : ℕ) (s : Sections) (bytes : List ℕ) (r : Reader) → AreWritten n s bytes → AreBytes bytes → r.sections ≡ terms_of s → Makes schema r (terms_of s) → ∥ AreParts schema n s ∥₁ → HasFields schema n (norms_of schema n s) (terms_of s)
+fields_known schema n s bytes r written are same makes known =
+    let few = written.few in
+    let kept = kept_of schema n s r (omega (arith, few)) (postings_are_bytes n s bytes written are) same makes known in
+    fields_found schema n (norms_of schema n s) (terms_of s) kept (omega (arith, few)) (∥∥₁_map known (λ parts. (parts.fields, subst (λ norms. AreSections schema n norms parts.fields s.terms s.postings s.positions) (sym (norms_lent n (length_fields schema) s.norms parts.norms parts.norms_are)) parts.terms_are)))
+
+-- ---- documents
+
+-- a segment of documents is a segment
+pub segment_known : (schema : Schema) (analyze : Analyzer) (docs : List Document) (bytes : List ℕ) → IsSegmentOf schema analyze docs bytes → IsSegment schema (length docs) bytes
+segment_known schema analyze docs bytes is =
+    let store = is.store_is in
+    let sum = count_is store.0 in
+    let many = hold_length store.0 (slots schema docs) store.2 in
+    let each = length-map docs (slot schema) in
+    record {
+      sections = is.sections;
+      norms = documents.norms_of schema analyze docs;
+      fields = is.fields;
+      blocks = store.0;
+      written = is.written;
+      terms_are = is.terms_are;
+      norms_are = is.norms_are;
+      store_is = store.3;
+      blocks_are = store.1;
+      counted = omega (arith, sum, many, each);
+    }
