@@ -97,15 +97,22 @@ impl SegmentWriter {
             → IfErr result (λ fault. IsSerializeRefusal fault schema.now (norms_of schema.now analyze docs)
             (λ t. postings schema.now analyze t docs)) }
     {
-        let num_docs = self.store.num_docs();
-        let (terms, postings, positions, norms) = self.indexer.serialize(self.alloc, schema)?;
+        let SegmentWriter {
+            alloc,
+            indexer,
+            store,
+        } = self;
+        let num_docs = store.num_docs();
+        let (terms, postings, positions, norms) = indexer.serialize(alloc, schema)?;
+        // What was recorded is let go before the bytes of the segment are put together.
+        drop(indexer);
         let sections = Sections {
             terms,
             postings,
             positions,
             norms,
-            store: self.store.close(self.alloc)?,
+            store: store.close(alloc)?,
         };
-        Ok(sections.to_segment(self.alloc, num_docs)?)
+        Ok(sections.to_segment(alloc, num_docs)?)
     }
 }
