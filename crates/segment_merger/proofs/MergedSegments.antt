@@ -1,6 +1,6 @@
 -- The sections of a merge are a segment.
 use Rattle.std.proofs.Common.{[], List, Some, ap, arith, false, length, length-append, refl, slice_get, subst, suc, true, zero, ◌++◌, ◌≡◌, ◌∷◌, ℕ}
-use Rattle.std.specs.List.{AllByRecursion, items_where_true}
+use Rattle.std.specs.List.{AllByRecursion}
 use Rattle.definitions.specs.Alive as alive
 use Rattle.definitions.specs.Alive.{live}
 use Rattle.definitions.specs.Analyzers.{Analyzer}
@@ -11,16 +11,16 @@ use Rattle.definitions.specs.State.{living}
 use Rattle.definitions.specs.Values.{Document}
 use Rattle.layouts.specs.FieldNorms.{IsNorms}
 use Rattle.layouts.specs.InvertedIndexes.{AreIndexed, AreSections, IndexedField}
-use Rattle.layouts.specs.Stores.{Hold, IsStore}
+use Rattle.layouts.specs.Stores.{AreBlocks, Block, Hold, IsStore, store_bytes}
 use Rattle.merged_store.specs.LivingSlots.{HasBadSlot}
 use Rattle.segment.specs.Opened.{blocks_of}
 use Rattle.segment_layouts.specs.Segments.{AreWritten, IsSegment, IsSegmentOf, IsTaken, Sections}
-use Rattle.segment_merger.proofs.Counts.{living_long}
 use Rattle.segment_merger.proofs.MergedStores.{slots_living, slots_of}
-use Rattle.segment_merger.specs.Members.{AreOpened, Member, StandFor, living_count}
+use Rattle.segment_merger.specs.Members.{Member, StandFor, living_count}
 use Rattle.segment_merger.specs.Slots.{HasBadMember, AreHeld, merged_slots}
 use Rattle.store.proofs.Opened.{count_is}
-use Rattle.store.proofs.Readers.{hold_length, none_bad}
+use Rattle.store.proofs.Readers.{none_bad}
+use Rattle.store.specs.Writing.{count_of}
 
 -- ---- how many documents
 
@@ -76,40 +76,24 @@ segment_of schema analyze ms segments sections bytes fields stand written terms 
       store_is = subst (λ xs. IsStore xs sections.store) (slots_living schema analyze ms segments stand) store;
     }
 
--- ---- a segment, whatever it stands for
+-- ---- a segment, whatever it stands for and whatever its blocks hold
 
-slots_counted : (schema : Schema) (ms : List Member) (all : List (List (List ℕ))) → AreOpened schema ms → AreHeld ms all → length (merged_slots ms all) ≡ living_count ms
-slots_counted schema [] [] opened held = refl
-slots_counted schema [] (slots ∷ all) opened held = absurd held
-slots_counted schema (m ∷ ms) [] opened held = absurd held
-slots_counted schema (m ∷ ms) (slots ∷ all) opened held =
-    let many = hold_length m.0.store.blocks slots held.0 in
-    let sum = count_is m.0.store.blocks in
-    let counted = opened.0.0.counted in
-    let flagged = opened.0.1 in
-    let here = living_long m.1 slots (omega (arith, many, sum, counted, flagged)) in
-    let later = slots_counted schema ms all opened.1 held.1 in
-    let whole = length-append (items_where_true m.1 slots) (merged_slots ms all) in
-    omega (arith, here, later, whole)
-
-pub segment_is : (schema : Schema) (ms : List Member) (all : List (List (List ℕ))) (sections : Sections) (bytes : List ℕ) (fields : List IndexedField) (norms : List (ℕ × List ℕ)) → AreOpened schema ms → AreHeld ms all → AreWritten (living_count ms) sections bytes
-    → AreSections schema (living_count ms) norms fields sections.terms sections.postings sections.positions → IsNorms (length_fields schema) (living_count ms) sections.norms norms
-    → IsStore (merged_slots ms all) sections.store → IsSegment schema (living_count ms) bytes
-segment_is schema ms all sections bytes fields norms opened held written terms lengths store =
-    let sum = count_is store.0 in
-    let many = hold_length store.0 (merged_slots ms all) store.2 in
-    let count = slots_counted schema ms all opened held in
+pub segment_is : (schema : Schema) (n : ℕ) (sections : Sections) (bytes : List ℕ) (fields : List IndexedField) (norms : List (ℕ × List ℕ)) (blocks : List Block) → AreWritten n sections bytes
+    → AreSections schema n norms fields sections.terms sections.postings sections.positions → IsNorms (length_fields schema) n sections.norms norms
+    → AreBlocks blocks → sections.store ≡ store_bytes blocks → count_of blocks ≡ n → IsSegment schema n bytes
+segment_is schema n sections bytes fields norms blocks written terms lengths are is many =
+    let sum = count_is blocks in
     record {
       sections = sections;
       norms = norms;
       fields = fields;
-      blocks = store.0;
+      blocks = blocks;
       written = written;
       terms_are = terms;
       norms_are = lengths;
-      store_is = store.3;
-      blocks_are = store.1;
-      counted = omega (arith, sum, many, count);
+      store_is = is;
+      blocks_are = are;
+      counted = omega (arith, sum, many);
     }
 
 -- ---- damage

@@ -53,7 +53,7 @@ slots_same (s ∷ ss) [] all same = absurd (let long = ap length same in omega (
 slots_same (s ∷ ss) (m ∷ ms) [] same = refl
 slots_same (s ∷ ss) (m ∷ ms) (slots ∷ all) same = ap₂ (λ xs ys. xs ++ ys) (ap (λ v. items_where_true v.1 slots) (first_same s ss m ms same)) (slots_same ss ms all (ap (drop 1) same))
 
-count_same : (ss : List MemberStore) (ms : List Member) → AreSame ss ms → stores.living_count ss ≡ living_count ms
+pub count_same : (ss : List MemberStore) (ms : List Member) → AreSame ss ms → stores.living_count ss ≡ living_count ms
 count_same [] [] same = refl
 count_same [] (m ∷ ms) same = absurd (let long = ap length same in omega (arith, long))
 count_same (s ∷ ss) [] same = absurd (let long = ap length same in omega (arith, long))

@@ -121,7 +121,7 @@ fn merge_members(
     }
     let bytes = merged_bytes(alloc, schema, block_size, members, num_docs)?;
     let bytes = Bytes::from_vec(bytes)?;
-    let segment = Segment::open(alloc, schema, bytes, cache_num_blocks)?;
+    let segment = Segment::new(alloc, schema, bytes, cache_num_blocks)?;
     Ok(Some(segment))
 }
 
@@ -138,9 +138,7 @@ fn merged_bytes(
     requires some { 0 < num_docs }
     requires few { num_docs ≤ max_docs }
     ensures written { IfOk result (λ bytes. (sections : layout.Sections) × AreWritten num_docs sections bytes.items) }
-    ensures held { (all : List (List (List ℕ))) → AreOpened schema.now (map member_of members.now)
-        → AreHeld (map member_of members.now) all
-        → IfOk result (λ bytes. IsSegment schema.now num_docs bytes.items) }
+    ensures known { IfOk result (λ bytes. ∥ IsSegment schema.now num_docs bytes.items ∥₁) }
     ensures stands { (analyze : Analyzer) (segments : List alive.Segment)
         → StandFor schema.now analyze (map member_of members.now) segments
         → IfOk result (λ bytes. IsSegmentOf schema.now analyze (live segments) bytes.items) }

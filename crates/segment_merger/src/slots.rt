@@ -2,9 +2,10 @@
 
 ghost use Rattle.std.specs.Prelude.{◌≡◌, IfErr, IfOk, List, map, ℕ};
 ghost use Rattle.definitions.specs.Schema.{Schema};
-ghost use Rattle.layouts.specs.Stores.{IsStore};
-ghost use Rattle.segment_merger.specs.Members.{AreOpened, member_of};
+ghost use Rattle.layouts.specs.Stores.{AreBlocks, Block, IsStore, store_bytes};
+ghost use Rattle.segment_merger.specs.Members.{AreOpened, living_count, member_of};
 ghost use Rattle.segment_merger.specs.Slots.{AreHeld, IsStoreRefusal, merged_slots, with_blocks};
+ghost use Rattle.store.specs.Writing.{count_of};
 
 use crate::member_segments::MemberSegment;
 use definitions::Fault;
@@ -20,6 +21,8 @@ pub(crate) fn merge_slots(
     requires { ∥ ((schema : Schema) × AreOpened schema (map member_of members.now)) ∥₁ }
     ensures ok { (all : List (List (List ℕ))) → AreHeld (map member_of members.now) all
         → IfOk result (λ bytes. IsStore (merged_slots (map member_of members.now) all) bytes.items) }
+    ensures blocks { IfOk result (λ bytes. (blocks : List Block) × AreBlocks blocks × (bytes.items ≡ store_bytes blocks)
+        × (count_of blocks ≡ living_count (map member_of members.now))) }
     ensures err { IfErr result (λ fault. IsStoreRefusal fault block_size (map member_of members.now)) }
 {
     let stores = member_stores(alloc, members)?;

@@ -1,15 +1,12 @@
 use Rattle.std.proofs.Common.{[], List, arith, inl, length, refl, subst, sym, ◌≡◌, ◌∙◌, ◌∷◌, map}
-use Rattle.std.proofs.Math.Logic.{∥∥₁_elim}
-use Rattle.std.proofs.Props.{props}
+use Rattle.std.proofs.Math.Logic.{∥∥₁_map}
 use Rattle.std.proofs.lemmas.Result.{err_from_is_err_and}
 use Rattle.definitions.specs.Alive.{live}
 use Rattle.definitions.specs.Values.{Document}
 use Rattle.segment.proofs.Opening.{one_segment}
 use Rattle.segment.specs.Opened.{bytes_of}
 use Rattle.segment_layouts.specs.Segments.{AreWritten, IsSegment, IsSegmentOf}
-use Rattle.segment_merger.proofs.MergedNorms.{standing_opened}
 use Rattle.segment_merger.proofs.MergedSegments.{living_is}
-use Rattle.segment_merger.proofs.MergedStores.{slots_of, standing_held}
 use Rattle.segment_merger.specs.Members.{member_of}
 use Rattle.segment_merger.proofs.merger.merge_members.Goals as goal
 
@@ -32,20 +29,8 @@ returns-then-num_docs-eq0-clause-stands c analyze segments stand =
     let none = c.if-num_docs-eq0.true in
     none_of (live segments) (omega (arith, many, count, none))
 
-pub returns-in_err-segment-clause-limit : goal.returns-in_err-segment-clause-limit
-returns-in_err-segment-clause-limit c analyze segments stand =
-    let p = err_from_is_err_and c.from_residual-in_err-segment.result c.from_residual-in_err-segment.ensures.1 in
-    rw (p.1, p.2) (λ other.
-    (let held = c.in_ok-bytes.ensures.held (slots_of c.args.schema.now segments) (standing_opened c.args.schema.now analyze (map member_of c.args.members.now) segments stand) (standing_held c.args.schema.now analyze (map member_of c.args.members.now) segments stand) in
-    absurd ((c.in_err-segment.ensures.err other).1 c.in_ok-num_docs.num_docs (subst (IsSegment c.args.schema.now c.in_ok-num_docs.num_docs) (sym c.in_ok-bytes-2.ensures.ok) held))))
-
-pub returns-in_err-segment-clause-err : goal.returns-in_err-segment-clause-err
-returns-in_err-segment-clause-err c =
-    let p = err_from_is_err_and c.from_residual-in_err-segment.result c.from_residual-in_err-segment.ensures.1 in
-    rw (p.1, p.2) (λ other no_limit. (
-      (c.in_err-segment.ensures.err other).0,
-      λ all held. ∥∥₁_elim c.requires (hlevel props) (λ opened. (c.in_err-segment.ensures.err other).1 c.in_ok-num_docs.num_docs (subst (IsSegment c.args.schema.now c.in_ok-num_docs.num_docs) (sym c.in_ok-bytes-2.ensures.ok) (c.in_ok-bytes.ensures.held all opened held))),
-    ))
+pub new-requires : goal.new-requires
+new-requires c = ∥∥₁_map c.in_ok-bytes.ensures.known (λ is. (c.in_ok-num_docs.num_docs, subst (IsSegment c.args.schema.now c.in_ok-num_docs.num_docs) (sym c.in_ok-bytes-2.ensures.ok) is))
 
 pub returns-clause-living : goal.returns-clause-living
 returns-clause-living c =

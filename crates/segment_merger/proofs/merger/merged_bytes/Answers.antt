@@ -86,18 +86,21 @@ returns-clause-written c =
     let sections : Sections = record { terms = c.in_ok-terms.terms.items; postings = c.in_ok-terms.postings.items; positions = c.in_ok-terms.positions.items; norms = c.in_ok-norms.norms.items; store = c.in_ok-merge_slots.field-0.items } in
     (sections, record { some = c.requires.some; few = c.requires.few; short = c.in_ok-to_segment.ensures.short; whole = c.in_ok-to_segment.ensures.whole })
 
-pub returns-clause-held : goal.returns-clause-held
-returns-clause-held c all opened held =
+pub returns-clause-known : goal.returns-clause-known
+returns-clause-known c =
     let schema = c.args.schema.now in
     let ms = map member_of c.args.members.now in
+    let many = living_count ms in
     let bytes = c.in_ok-to_segment.field-0.items in
     let sections : Sections = record { terms = c.in_ok-terms.terms.items; postings = c.in_ok-terms.postings.items; positions = c.in_ok-terms.positions.items; norms = c.in_ok-norms.norms.items; store = c.in_ok-merge_slots.field-0.items } in
     let written : AreWritten c.args.num_docs sections bytes = record { some = c.requires.some; few = c.requires.few; short = c.in_ok-to_segment.ensures.short; whole = c.in_ok-to_segment.ensures.whole } in
-    let found = c.in_ok-norms.ensures.opened schema (c.deref.ensures.value ∙ c.in_ok-fields.ensures) opened in
-    let readers = c.new-readers.ensures found.0 (lent schema c.args.num_docs (living_count ms) c.deref-3.result.now c.in_ok-norms.norms.items c.deref-2.result.now found.0 c.requires.living (c.deref-3.ensures.value ∙ c.in_ok-fields.ensures) c.deref-2.ensures.value found.1) in
+    let blocks = c.in_ok-merge_slots.ensures.blocks in
+    ∥∥₁_map c.requires.opened (λ opened.
+    (let found = c.in_ok-norms.ensures.opened schema (c.deref.ensures.value ∙ c.in_ok-fields.ensures) opened in
+    let readers = c.new-readers.ensures found.0 (lent schema c.args.num_docs many c.deref-3.result.now c.in_ok-norms.norms.items c.deref-2.result.now found.0 c.requires.living (c.deref-3.ensures.value ∙ c.in_ok-fields.ensures) c.deref-2.ensures.value found.1) in
     let terms = c.in_ok-terms.ensures.sections opened in
-    let own = subst (λ ns. AreSections schema (living_count ms) ns terms.0 sections.terms sections.postings sections.positions) readers terms.1 in
-    subst (λ n. IsSegment schema n bytes) (sym c.requires.living) (segment_is schema ms all sections bytes terms.0 found.0 opened held (subst (λ n. AreWritten n sections bytes) c.requires.living written) own found.1 (c.in_ok-merge_slots.ensures.ok all held))
+    let own = subst (λ ns. AreSections schema many ns terms.0 sections.terms sections.postings sections.positions) readers terms.1 in
+    subst (λ n. IsSegment schema n bytes) (sym c.requires.living) (segment_is schema many sections bytes terms.0 found.0 blocks.0 (subst (λ n. AreWritten n sections bytes) c.requires.living written) own found.1 blocks.1 blocks.2 blocks.3)))
 
 pub returns-clause-stands : goal.returns-clause-stands
 returns-clause-stands c analyze segments stand =

@@ -6,7 +6,7 @@ use Rattle.std.specs.List.{AllByRecursion-prop}
 use Rattle.layouts.specs.Stores.{IsStore}
 use Rattle.merged_store.specs.MemberStores.{IsFlagged}
 use Rattle.merged_store.specs.declared.member_stores.MemberStore.{MemberStore}
-use Rattle.segment_merger.proofs.MergedStores.{slots_same, store_refused, stores_flagged, stores_held}
+use Rattle.segment_merger.proofs.MergedStores.{count_same, slots_same, store_refused, stores_flagged, stores_held}
 use Rattle.segment_merger.specs.Members.{member_of}
 use Rattle.segment_merger.proofs.slots.merge_slots.Goals as goal
 
@@ -18,6 +18,13 @@ returns-clause-ok c all held =
     let ss = c.deref.result.now in
     let same = ap (map (λ (s : MemberStore). (s.store.now.blocks, s.alive.now))) c.deref.ensures.value ∙ c.in_ok-stores.ensures in
     IfOk-weaker c.merge_stores.result _ _ (λ bytes is. subst (λ xs. IsStore xs bytes.items) (slots_same ss (map member_of c.args.members.now) all same) is) (c.merge_stores.ensures.ok all (stores_held ss (map member_of c.args.members.now) all same held))
+
+pub returns-clause-blocks : goal.returns-clause-blocks
+returns-clause-blocks c =
+    let ss = c.deref.result.now in
+    let ms = map member_of c.args.members.now in
+    let same = ap (map (λ (s : MemberStore). (s.store.now.blocks, s.alive.now))) c.deref.ensures.value ∙ c.in_ok-stores.ensures in
+    IfOk-weaker c.merge_stores.result _ _ (λ bytes is. (is.0, is.1, is.2, is.3 ∙ count_same ss ms same)) c.merge_stores.ensures.blocks
 
 pub returns-clause-err : goal.returns-clause-err
 returns-clause-err c =
