@@ -292,7 +292,8 @@ impl<A: Analyzer + Drop> SegmentCollection<A> {
             &self.open,
         )?;
         self.segments.push(segment)?;
-        self.open.clear();
+        // With its room, which is that of the most documents of a segment.
+        self.open = Vec::new(self.alloc);
         Ok(())
     }
 
@@ -346,7 +347,7 @@ impl<A: Analyzer + Drop> SegmentCollection<A> {
     {
         let Prepared { alive, .. } = prepared;
         self.alive = alive;
-        self.deletions.clear();
+        self.deletions = Vec::new(self.alloc);
         self.status = Status::Ready;
     }
 

@@ -41,11 +41,8 @@ pub(crate) fn written_segment<A: Analyzer>(
         docs,
     )?;
     let bytes = Bytes::from_vec(bytes)?;
-    // It is a segment, so that memory alone may be wanting.
-    match Segment::open(alloc, schema, bytes, settings.cache_blocks() as usize) {
-        Ok(segment) => Ok(segment),
-        Err(_) => Err(Fault::OutOfMemory),
-    }
+    let segment = Segment::new(alloc, schema, bytes, settings.cache_blocks() as usize)?;
+    Ok(segment)
 }
 
 /// The bytes of the segment of these documents; `Limit` where they pass one.

@@ -41,7 +41,7 @@ invariant_of-self-2 g c =
     record {
       opened = opened_more old.schema old.segments.items c.push.new.self.items segment old.opened c.in_ok-segment.ensures.ok.opened c.in_ok-push.ensures.items;
       flagged = subst (λ ss. AreFlagged ss old.alive.items) (sym c.in_ok-push.ensures.items) (flagged_more old.segments.items (segment ∷ []) old.alive.items old.flagged);
-      given = subst (AllByRecursion (IsGiven old.schema)) (sym c.clear.ensures.items) tt;
+      given = subst (AllByRecursion (IsGiven old.schema)) (sym c.new.ensures.items) tt;
       few = old.few;
     }
 
@@ -52,7 +52,7 @@ returns-clause-closed g c docs h =
     let segment = c.in_ok-segment.segment in
     let stands = subst (λ ds. StandsFor old.schema analyze ds segment) c.deref.ensures.value c.in_ok-segment.ensures.ok in
     let some : length old.open.items ≢ 0 = λ e. true≢false (sym (c.is_empty.ensures ∙ ap (λ n. n == 0) (old.open.ok.0 ∙ e)) ∙ c.if-is_empty.false) in
-    (closed_group old.schema analyze docs old.segments.items c.push.new.self.items old.open.items segment h stands c.in_ok-push.ensures.items some, c.clear.ensures.items)
+    (closed_group old.schema analyze docs old.segments.items c.push.new.self.items old.open.items segment h stands c.in_ok-push.ensures.items some, c.new.ensures.items)
 
 pub returns-clause-members : goal.returns-clause-members
 returns-clause-members g c =
