@@ -13,7 +13,7 @@ ghost use Rattle.definitions.specs.declared.fault.Fault.TheVariants as faults;
 ghost use Rattle.index.specs.AskedRequests.{index_request_of};
 ghost use Rattle.index.specs.Replying.{Answers, GoesOn, IndexMeets, OnlyStops, TakesChange, change_text};
 ghost use Rattle.segment_engine.specs.Indexes.{IndexStands, IsInFile, KeepsFile, KeepsMaking, device_of};
-ghost use Rattle.segment_search.specs.Hits.{hit_of, scored};
+ghost use Rattle.segment_engine.specs.Hits.{hit_of, scored};
 ghost use Rattle.definitions.specs.Replying.{stops};
 ghost use Rattle.serde_json.specs.View.{view};
 
@@ -23,8 +23,7 @@ use common::{Analyzer, Device};
 use definitions::Fault;
 use query_grammar::read_query;
 use reply_texts::hits_text;
-use segment_engine::Index;
-use segment_search::Hit;
+use segment_engine::{Hit, Index};
 use serde_json::Value as Json;
 use std::borrow::CowStr;
 use term_json::read_term;

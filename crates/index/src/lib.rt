@@ -18,8 +18,7 @@ pub use query_trees::{
     Occur, PhrasePrefixQuery, PhraseQuery, TermQuery,
 };
 pub use running::{reply, run, run_session};
-pub use segment_engine::{Index, Refused, Status, file_laws};
-pub use segment_search::Hit;
+pub use segment_engine::{Hit, Index, Refused, Status, file_laws};
 pub use session::Session;
 pub use settings::Settings;
 pub use term_json::read_term;

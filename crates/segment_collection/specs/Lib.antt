@@ -8,3 +8,4 @@ pub mod Parts
 pub mod Standing
 pub mod Commits
 pub mod Merges
+pub use Rattle.segment_search.specs.Hits

@@ -21,4 +21,5 @@ mod written_segment;
 pub use prepared::Prepared;
 pub use prepared_merge::PreparedMerge;
 pub use segment_collection::SegmentCollection;
+pub use segment_search::Hit;
 pub use status::Status;

@@ -2,3 +2,5 @@
 pub mod Files
 pub mod Indexes
 pub mod Merges
+pub use Rattle.segment_collection.specs.Hits
+pub use Rattle.segment_collection.specs.Standing

@@ -12,4 +12,4 @@ mod searches;
 
 pub use index::Index;
 pub use refused::Refused;
-pub use segment_collection::Status;
+pub use segment_collection::{Hit, Status};

@@ -7,13 +7,13 @@ ghost use Rattle.definitions.specs.State.{committed};
 ghost use Rattle.definitions.specs.declared.fault.Fault.TheVariants as faults;
 ghost use Rattle.query_trees.specs.Queries.{query_of};
 ghost use Rattle.segment_engine.specs.Indexes.{IndexStands, KeepsFile, KeepsMaking};
-ghost use Rattle.segment_search.specs.Hits.{hit_of, scored};
+ghost use Rattle.segment_collection.specs.Hits.{hit_of, scored};
 
 use crate::index::Index;
 use common::{Analyzer, Device};
 use definitions::Fault;
 use query_trees::AnyQuery;
-use segment_search::Hit;
+use segment_collection::Hit;
 
 impl<D: Device + Drop, A: Analyzer + Drop> Index<D, A> {
     /// The best k of the committed documents that match, by score, and then by addition. The caches of the segments'

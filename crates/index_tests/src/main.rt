@@ -14,3 +14,6 @@ mod indexes;
 mod library;
 #[cfg(test)]
 mod queries;
+
+/// Nothing: the tests are what this crate is for.
+fn main() {}

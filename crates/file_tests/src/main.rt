@@ -5,3 +5,6 @@
 mod file_bytes;
 #[cfg(test)]
 mod refused_calls;
+
+/// Nothing: the tests are what this crate is for.
+fn main() {}
