@@ -1,4 +1,5 @@
 -- Documents in memory and as bytes.
+pub mod DocumentHeaps
 pub mod IndexedKinds
 pub mod JsonRead
 pub mod NamedDocs

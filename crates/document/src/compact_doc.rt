@@ -5,7 +5,7 @@ ghost use Rattle.std.specs.Int.{from_bool};
 ghost use Rattle.definitions.specs.NumberCodes.{sized_bytes, u32_bytes, u64_bytes};
 ghost use Rattle.definitions.specs.Values as values;
 ghost use Rattle.definitions.specs.Values.{Value as DocValue, values_of};
-ghost use Rattle.document_values.specs.Docs.{IsGoodPair};
+ghost use Rattle.document_values.specs.Docs.{IsGoodPair, IsHeap, pairs_at};
 ghost use Rattle.document_values.specs.Held.{IsHeldValue, held_bytes, held_pair};
 ghost use Rattle.document_values.specs.Owned.{owned_members, owned_value};
 ghost use Rattle.layouts.specs.DocumentReading.{deepest, read_document, to_members};
@@ -73,6 +73,28 @@ impl CompactDoc {
         ensures { result ≡ nat_eq (length self.now) 0 }
     {
         self.count == 0
+    }
+
+    /// Its bytes, and how many pairs they are.
+    pub(crate) fn held(&self) -> (&[u8], usize)
+        ensures heap { IsHeap result.0.now result.1 }
+        ensures pairs { pairs_at result.1 result.0.now ≡ self.now }
+    {
+        (self.heap.as_slice(), self.count)
+    }
+
+    /// The document of bytes that are so many pairs.
+    pub(crate) fn of_held(
+        alloc: Global,
+        bytes: &[u8],
+        count: usize,
+    ) -> Result<CompactDoc, AllocError>
+        requires { IsHeap bytes.now count }
+        ensures { IfOk result (λ doc. doc ≡ pairs_at count bytes.now) }
+    {
+        let mut heap = Vec::with_capacity(alloc, bytes.len())?;
+        heap.extend_from_slice(bytes)?;
+        Ok(CompactDoc { heap, count })
     }
 
     /// The pairs, in order of addition.

@@ -2,6 +2,7 @@
 #![tactic(auto)]
 
 mod compact_doc;
+mod compact_docs;
 mod document_json;
 pub mod document_laws;
 mod indexable;
@@ -11,6 +12,7 @@ mod reading;
 mod serialize;
 
 pub use compact_doc::CompactDoc;
+pub use compact_docs::CompactDocs;
 pub use document_values::{
     CompactDocArrayIter, CompactDocObjectIter, CompactDocTokens, CompactDocValue,
     FieldValueIterRef, OwnedValue, ValuesOfField, put_value, take_value, value_to_json,

@@ -31,7 +31,7 @@ use crate::tests_of_calls::{check_deletion, check_document, check_slot};
 use crate::written_segment::written_segment;
 use common::{AliveBitSet, Analyzer};
 use definitions::Fault;
-use document::CompactDoc;
+use document::{CompactDoc, CompactDocs};
 use query_trees::AnyQuery;
 use schema::Schema;
 use segment::Segment;
@@ -39,6 +39,7 @@ use segment_files::Member;
 use segment_search::{Hit, count, search};
 use settings::Settings;
 use std::alloc::Global;
+use std::mem::replace;
 use terms::Term;
 
 /// The most segments that an index commits.
@@ -58,12 +59,12 @@ pub struct SegmentCollection<A> {
     // One for each that is committed.
     pub(crate) alive: Vec<AliveBitSet>,
     // The documents of the segment that isn't full.
-    pub(crate) open: Vec<CompactDoc>,
+    pub(crate) open: CompactDocs,
     pub(crate) deletions: Vec<Deletion>,
     pub(crate) status: Status,
     ghost opened: { ∥ AllByRecursion (IsOpened schema) segments.items ∥₁ },
     ghost flagged: { AreFlagged segments.items alive.items } by { AreFlagged-prop segments.items alive.items },
-    ghost given: { AllByRecursion (IsGiven schema) open.items } by { AreGiven-prop schema open.items },
+    ghost given: { AllByRecursion (IsGiven schema) open } by { AreGiven-prop schema open },
     ghost few: { length alive.items < 2 ^ 32 },
 }
 
@@ -107,7 +108,7 @@ impl<A: Analyzer + Drop> SegmentCollection<A> {
         ensures members { members_of result ≡ members segments.items alive.items }
     {
         let _docs_per_segment = settings.docs_per_segment();
-        let open = Vec::new(alloc);
+        let open = CompactDocs::new(alloc);
         let deletions = Vec::new(alloc);
         SegmentCollection {
             alloc,
@@ -230,7 +231,7 @@ impl<A: Analyzer + Drop> SegmentCollection<A> {
         self.check_writer()?;
         check_document(&self.schema, &doc)?;
         check_slot(self.alloc, &self.schema, self.settings.block_size(), &doc)?;
-        self.open.push(doc)?;
+        self.open.push(&doc)?;
         if self.open.len() < self.settings.docs_per_segment() as usize {
             return Ok(());
         }
@@ -271,7 +272,7 @@ impl<A: Analyzer + Drop> SegmentCollection<A> {
         ensures closed { (docs : List (List Document))
             → AllZip (StandsFor self.old.schema (A.analyze self.old.analyzer)) docs self.old.segments.items
             → OnOk result (AllZip (StandsFor self.old.schema (A.analyze self.old.analyzer))
-            (docs ++ states.as_group self.old.open.items) self.new.segments.items × (self.new.open.items ≡ [])) }
+            (docs ++ states.as_group self.old.open) self.new.segments.items × (self.new.open ≡ [])) }
         ensures stands { (docs : List (List Document))
             → AllZip (StandsFor self.old.schema (A.analyze self.old.analyzer)) docs self.old.segments.items
             → OnErr result (AllZip (StandsFor self.old.schema (A.analyze self.old.analyzer)) docs
@@ -284,16 +285,15 @@ impl<A: Analyzer + Drop> SegmentCollection<A> {
         if self.open.is_empty() {
             return Ok(());
         }
+        let docs = replace(&mut self.open, CompactDocs::new(self.alloc));
         let segment = written_segment(
             self.alloc,
             &self.analyzer,
             &self.schema,
             &self.settings,
-            &self.open,
+            docs,
         )?;
         self.segments.push(segment)?;
-        // With its room, which is that of the most documents of a segment.
-        self.open = Vec::new(self.alloc);
         Ok(())
     }
 

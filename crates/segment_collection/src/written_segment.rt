@@ -11,7 +11,7 @@ ghost use Rattle.segment_layouts.specs.Segments.{IsSegmentOf};
 use bytes::Bytes;
 use common::Analyzer;
 use definitions::Fault;
-use document::CompactDoc;
+use document::CompactDocs;
 use schema::Schema;
 use segment::Segment;
 use segment_writer::SegmentWriter;
@@ -24,14 +24,14 @@ pub(crate) fn written_segment<A: Analyzer>(
     analyzer: &A,
     schema: &Schema,
     settings: &Settings,
-    docs: &[CompactDoc],
+    docs: CompactDocs,
 ) -> Result<Segment, Fault>
-    requires some { 0 < length docs.now }
-    requires given { AllByRecursion (IsGiven schema.now) docs.now }
-    ensures ok { IfOk result (StandsFor schema.now (A.analyze analyzer.now) docs.now) }
+    requires some { 0 < length docs }
+    requires given { AllByRecursion (IsGiven schema.now) docs }
+    ensures ok { IfOk result (StandsFor schema.now (A.analyze analyzer.now) docs) }
     ensures err { IfErr result (λ fault. (fault ≡ faults.OutOfMemory) ⊎ (fault ≡ faults.Limit)) }
     ensures limit { IfErr result (λ fault. fault ≡ faults.Limit
-        → DocumentsPass schema.now (A.analyze analyzer.now) settings.now.block_size docs.now) }
+        → DocumentsPass schema.now (A.analyze analyzer.now) settings.now.block_size docs) }
 {
     let bytes = written_bytes(
         alloc,
@@ -51,19 +51,22 @@ fn written_bytes<A: Analyzer>(
     analyzer: &A,
     schema: &Schema,
     block_size: usize,
-    docs: &[CompactDoc],
+    docs: CompactDocs,
 ) -> Result<Vec<u8>, Fault>
-    requires some { 0 < length docs.now }
-    requires given { AllByRecursion (IsGiven schema.now) docs.now }
-    ensures ok { IfOk result (λ bytes. IsSegmentOf schema.now (A.analyze analyzer.now) docs.now bytes.items) }
+    requires some { 0 < length docs }
+    requires given { AllByRecursion (IsGiven schema.now) docs }
+    ensures ok { IfOk result (λ bytes. IsSegmentOf schema.now (A.analyze analyzer.now) docs bytes.items) }
     ensures err { IfErr result (λ fault. (fault ≡ faults.OutOfMemory) ⊎ (fault ≡ faults.Limit)) }
     ensures limit { IfErr result (λ fault. fault ≡ faults.Limit
-        → DocumentsPass schema.now (A.analyze analyzer.now) block_size docs.now) }
+        → DocumentsPass schema.now (A.analyze analyzer.now) block_size docs) }
 {
     let mut writer = SegmentWriter::new(alloc, schema, block_size)?;
-    for doc in docs {
+    for at in 0..docs.len() {
+        let doc = docs.get(alloc, at)?;
         let _pairs = doc.len();
-        writer.add(schema, analyzer, doc)?;
+        writer.add(schema, analyzer, &doc)?;
     }
+    // The documents are let go before the bytes of the segment are put together.
+    drop(docs);
     writer.close(schema)
 }
