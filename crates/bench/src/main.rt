@@ -1,13 +1,14 @@
 //! `bench`: how fast the crates work, measured at their public calls.
 //!
-//! With one word it prints a table: `blocks`, `cursors`, `scores`, `texts`, `segments` and `merges` (which read them from
-//! standard input), or `files`. Without a word it prints nothing.
+//! With one word it prints a table: `blocks`, `cursors`, `openings`, `scores`, `texts`, `segments` and `merges` (which read
+//! them from standard input), or `files`. Without a word it prints nothing.
 #![tactic(auto)]
 
 mod block_codes;
 mod cursor_walks;
 mod files;
 mod merges;
+mod openings;
 mod score_walks;
 mod segment_steps;
 mod segments;
@@ -25,6 +26,7 @@ enum Bench {
     Nothing,
     Blocks,
     Cursors,
+    Openings,
     Scores,
     Texts,
     Files,
@@ -45,6 +47,7 @@ fn measure(rt: &HostRuntime, bench: Bench) -> Result<(), Fault> {
         Bench::Nothing => Ok(()),
         Bench::Blocks => block_codes::measure(rt),
         Bench::Cursors => cursor_walks::measure(rt, rt.alloc()),
+        Bench::Openings => openings::measure(rt, rt.alloc()),
         Bench::Scores => score_walks::measure(rt, rt.alloc()),
         Bench::Texts => texts::measure_input(rt, rt.alloc()),
         Bench::Files => files::measure_all(rt),
@@ -69,6 +72,7 @@ fn bench_of(word: &str) -> Bench {
     match word {
         "blocks" => Bench::Blocks,
         "cursors" => Bench::Cursors,
+        "openings" => Bench::Openings,
         "scores" => Bench::Scores,
         "texts" => Bench::Texts,
         "files" => Bench::Files,

@@ -71,7 +71,7 @@ fn read(alloc: Global, arguments: &Arguments) -> Result<Value, Refusal> {
 /// How many numbers there are.
 fn count(alloc: Global, arguments: &Arguments) -> Result<Value, Refusal> {
     let bytes = arguments.bytes(alloc, 0)?;
-    let mut reader = PositionReader::open(&bytes)?;
+    let reader = PositionReader::open(&bytes)?;
     Ok(how_many(reader.num_positions()))
 }
 
@@ -154,7 +154,7 @@ fn right_in_run(alloc: Global, arguments: &Arguments) -> Result<Value, Refusal> 
 /// Whether there are fewer numbers than that.
 fn fewer(alloc: Global, arguments: &Arguments) -> Result<Value, Refusal> {
     let bytes = arguments.bytes(alloc, 0)?;
-    let mut reader = PositionReader::open(&bytes)?;
+    let reader = PositionReader::open(&bytes)?;
     Ok(flag(reader.num_positions() < u128::from(arguments.small_number(1)?)))
 }
 

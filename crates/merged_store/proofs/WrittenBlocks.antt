@@ -1,5 +1,5 @@
 -- The blocks of a writer are those of a store, whatever stands in them.
-use Rattle.std.proofs.Common.{[], List, arith, length, ◌++◌, ◌+◌, ◌<◌, ◌≡◌, ◌∷◌, ℕ}
+use Rattle.std.proofs.Common.{[], List, arith, length, ◌++◌, ◌+◌, ◌≡◌, ◌∷◌, ℕ}
 use Rattle.layouts.specs.Stores.{AreBlocks, Block}
 use Rattle.store.proofs.Opened.{count_is}
 use Rattle.store.proofs.Writes.{all_last, count_more}

@@ -183,13 +183,13 @@ numbers_least (w ∷ ws) bytes =
     omega (arith, long, count)
 
 -- the blocks and the rest are all
-pub all_counted : (ws packed held : List ℕ) (block at : ℕ) → Holds ws packed held block at → block ≡ length ws → 128 * length ws + length held ≡ length (numbers_in ws packed)
-all_counted ws packed held block at holds last =
+pub all_counted : (ws packed rest : List ℕ) → rest ≡ take 128 (drop (128 * length ws) (numbers_in ws packed)) → 128 * length ws + length rest ≡ length (numbers_in ws packed)
+all_counted ws packed rest are =
     let numbers = numbers_in ws packed in
-    let is : length held ≡ length (take 128 (drop (128 * length ws) numbers)) = ap length holds.numbers ∙ ap (λ k. length (take 128 (drop (128 * k) numbers))) last in
     let few = numbers_few ws packed in
     let least = numbers_least ws packed in
-    omega (arith, is, length-take 128 (drop (128 * length ws) numbers), length-drop (128 * length ws) numbers)
+    let long = ap length are in
+    omega (arith, few, least, long, length-take 128 (drop (128 * length ws) numbers), length-drop (128 * length ws) numbers)
 
 -- ---- one reading
 

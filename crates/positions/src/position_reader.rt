@@ -78,21 +78,15 @@ impl<'a> PositionReader<'a> {
         })
     }
 
-    /// How many numbers there are.
-    pub fn num_positions(&mut self) -> u128
-        ensures count { result ≡ length self.old }
-        ensures same { self.new ≡ self.old }
+    /// How many numbers there are. Passes the widths of all blocks that follow, and reads the rest.
+    pub fn num_positions(&self) -> u128
+        ensures { result ≡ length self.now }
     {
-        load(
-            self.widths,
-            self.packed,
-            &mut self.decoder,
-            &mut self.block,
-            &mut self.at,
-            self.widths.len(),
-        );
-        self.widths.len() as u128 * COMPRESSION_BLOCK_SIZE as u128
-            + self.decoder.output_array().len() as u128
+        let blocks = self.widths.len();
+        let at = place_of(self.widths, self.block, self.at, blocks);
+        let mut rest = BlockDecoder::with_val(0);
+        decode(self.widths, self.packed, blocks, at, &mut rest);
+        blocks as u128 * COMPRESSION_BLOCK_SIZE as u128 + rest.output_array().len() as u128
     }
 
     /// Reads as many numbers as the output has, from a place on.

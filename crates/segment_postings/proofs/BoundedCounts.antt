@@ -1,9 +1,13 @@
 -- Bounds of counts, told by skip entries.
-use Rattle.std.proofs.Common.{[], Bool, List, ap, arith, drop, false, get_or, if◌then◌else◌, max, min, nat_eq, nat_lt, refl, subst, suc, sum, sym, take, true, zero, ◌+◌, ◌-◌, ◌<◌, ◌≡◌, ◌≤◌, ◌∙◌, ◌∷◌, ◌^◌, ℕ}
+use Rattle.std.proofs.Common.{[], Bool, List, ap, arith, drop, false, get_or, if◌then◌else◌, max, min, nat_eq, nat_lt, refl, subst, suc, sum, sym, take, true, zero, ◌*◌, ◌+◌, ◌-◌, ◌<◌, ◌≡◌, ◌≤◌, ◌∙◌, ◌∷◌, ◌^◌, ℕ}
 use Rattle.std.proofs.lemmas.Bool.Decides.{nat_tests}
+use Rattle.std.proofs.Math.Logic.{∥∥₁_elim}
+use Rattle.std.proofs.Props.{props}
+use Rattle.std.proofs.lemmas.List.{drop-drop}
 use Rattle.std.proofs.lemmas.List.Sums.{sum_by-cons}
 use Rattle.definitions.specs.Scoring.{greatest_of}
 use Rattle.layouts.specs.SkipEntries.{SkipEntry, count_code}
+use Rattle.definitions.specs.Schema.{IndexRecordOption}
 use Rattle.layouts.specs.TermPostings.{next_after, skip_entries, skip_entry}
 use Rattle.segment_postings.proofs.PlacedEntries.{below_sum}
 use Rattle.segment_postings.specs.CountBounds.{TellCounts}
@@ -146,3 +150,44 @@ first_told (x ∷ xs) rest a b c d e is = record {
   left_is = refl;
   bound_is = ap (λ n. if nat_eq n 255 then x.count_sum else n) (ap greatest_in is) ∙ ap (λ n. if nat_eq e 255 then n else e) (ap sum_in is);
 }
+
+-- ---- behind some blocks
+
+record Behind (option : IndexRecordOption) (ids : List ℕ) (left : List SkipEntry) (counts : List ℕ) : Type 0 where
+  blocks : ℕ
+  next : ℕ
+  docs : List ℕ
+  are : left ≡ skip_entries option ids blocks next docs counts
+
+behind : (option : IndexRecordOption) (ids : List ℕ) (k n next : ℕ) (docs counts : List ℕ) → Behind option ids (drop k (skip_entries option ids n next docs counts)) (drop (128 * k) counts)
+behind option ids zero n next docs counts = record { blocks = n; next = next; docs = docs; are = refl }
+behind option ids (suc k) zero next docs counts = record { blocks = 0; next = next; docs = docs; are = refl }
+behind option ids (suc k) (suc n) next docs counts =
+    let later = behind option ids k n (next_after docs) (drop 128 docs) (drop 128 counts) in
+    let more : 128 + 128 * k ≡ 128 * suc k = omega arith in
+    record {
+      blocks = later.blocks;
+      next = later.next;
+      docs = later.docs;
+      are = later.are ∙ ap (λ xs. skip_entries option ids later.blocks later.next later.docs xs) (drop-drop (128 * k) 128 counts ∙ ap (λ j. drop j counts) more);
+    }
+
+-- the entries that are left still tell the counts that are
+pub still_told : (k num : ℕ) (s t : Skips) (counts rest : List ℕ) → t.left ≡ drop k s.left → rest ≡ drop (128 * k) counts → t.position_offset + sum rest ≤ s.position_offset + sum counts → TellCounts num s counts → TellCounts num t rest
+still_told k num s t counts rest left are room told =
+    let there = behind told.option told.ids k told.blocks told.next told.docs counts in
+    record {
+      option = told.option;
+      ids = told.ids;
+      blocks = there.blocks;
+      next = there.next;
+      docs = there.docs;
+      entries = left ∙ ap (drop k) told.entries ∙ there.are ∙ ap (λ xs. skip_entries told.option told.ids there.blocks there.next there.docs xs) (sym are);
+      positions = told.positions;
+      fit = λ i. subst (λ xs. get_or xs i 0 < 2 ^ 32) (sym are) (fits_behind (128 * k) counts told.fit i);
+      total = (let all = told.total in omega (arith, room, all));
+    }
+
+-- the positions that they count are there
+pub told_room : (num : ℕ) (s : Skips) (counts : List ℕ) → ∥ TellCounts num s counts ∥₁ → s.position_offset + sum counts ≤ num
+told_room num s counts told = ∥∥₁_elim told (hlevel props) (λ known. known.total)

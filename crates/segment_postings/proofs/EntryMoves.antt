@@ -8,7 +8,7 @@ use Rattle.definitions.specs.Postings.{terminated}
 use Rattle.segment_postings.proofs.Passing.{below_stops, sum_of_more}
 use Rattle.definitions.specs.Scoring.{DontFall}
 use Rattle.cursors.specs.Entries.{AreSingle, Entry, first, first_count, first_positions, from, highest, most_positions, single}
-use Rattle.cursors.specs.EntryLaws.{AreSingle-drop, AreSingle-from, from-low, from-out, most-drop, most-from}
+use Rattle.cursors.specs.EntryLaws.{AreSingle-drop, AreSingle-from, from-low, from-out}
 use Rattle.segment_postings.specs.Reading.{Ascends, below}
 use Rattle.segment_postings.specs.TermEntries.{entries_from, entries_of, numbers_of, places}
 use Rattle.segment_postings.specs.TermEntryLaws.{Ascends-behind, Rising-entries_of, first-entries_of}
@@ -188,14 +188,8 @@ no_positions (d ∷ ds) counts numbers none =
 pub single_on : (before after : List Entry) → after ≡ drop 1 before → AreSingle before → AreSingle after
 single_on before after is s = subst AreSingle (sym is) (AreSingle-drop 1 before s)
 
-pub most_on : (before after : List Entry) (most : ℕ) → after ≡ drop 1 before → most_positions before ≤ most → most_positions after ≤ most
-most_on before after most is few = (let same = ap most_positions is in omega (arith, same, few, most-drop 1 before))
-
 pub single_from : (t : ℕ) (before after : List Entry) → after ≡ from t before → AreSingle before → AreSingle after
 single_from t before after is s = subst AreSingle (sym is) (AreSingle-from t before s)
-
-pub most_after : (t : ℕ) (before after : List Entry) (most : ℕ) → after ≡ from t before → most_positions before ≤ most → most_positions after ≤ most
-most_after t before after most is few = (let same = ap most_positions is in omega (arith, same, few, most-from t before))
 
 -- ---- the document on which a cursor stands
 

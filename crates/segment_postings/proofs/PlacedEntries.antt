@@ -1,11 +1,13 @@
 -- Entries with the positions of their documents.
-use Rattle.std.proofs.Common.{[], List, ap, ap₂, arith, drop, get_or, length, length-append, map, refl, subst, suc, sum, sym, take, zero, ◌++◌, ◌+◌, ◌-◌, ◌≡◌, ◌≤◌, ◌∙◌, ◌∷◌, ℕ}
+use Rattle.std.proofs.Common.{[], List, ap, ap₂, arith, drop, get_or, length, length-append, length-take, map, refl, subst, suc, sum, sym, take, zero, ◌++◌, ◌+◌, ◌-◌, ◌≡◌, ◌≤◌, ◌∙◌, ◌∷◌, ℕ}
 use Rattle.std.proofs.Math.Seq.{drop-append_seam, take-append_seam}
+use Rattle.std.proofs.lemmas.List.{get_or-drop}
 use Rattle.std.proofs.lemmas.List.Sums.{sum_by-cons}
 use Rattle.std.specs.List.{AllByRecursion}
 use Rattle.definitions.specs.Scoring.{DontFall}
 use Rattle.layouts.specs.Positions.{differences, position_numbers}
 use Rattle.cursors.specs.Entries.{AreSingle, most_positions}
+use Rattle.segment_postings.proofs.PositionLists.{length-places}
 use Rattle.segment_postings.specs.TermEntries.{HasPositions, IsPlaced, entries_from, entries_of, places, term_entries}
 
 length-differences : (before : ℕ) (ps : List ℕ) → length (differences before ps) ≡ length ps
@@ -52,10 +54,15 @@ count_of_numbers (ps ∷ pss) =
     let total = sum_by-cons (λ x. x) (length ps) (map length pss) in
     omega (arith, ih, long, total, length-append (differences 0 ps) (position_numbers pss))
 
-pub most_entries : (docs counts : List ℕ) (lists : List (List ℕ)) (most : ℕ) → ((i : ℕ) → get_or (map length lists) i 0 ≤ most) → most_positions (term_entries docs counts lists) ≤ most
-most_entries [] counts lists most few = omega arith
-most_entries (d ∷ ds) counts [] most few = (let ih = most_entries ds (drop 1 counts) [] most few in omega (arith, ih))
-most_entries (d ∷ ds) counts (ps ∷ pss) most few = (let ih = most_entries ds (drop 1 counts) pss most (λ i. few (suc i)) in let here = few 0 in omega (arith, ih, here))
+-- none has more positions than a bound of the counts
+pub most_counted : (docs counts numbers : List ℕ) (most : ℕ) → ((i : ℕ) → get_or counts i 0 ≤ most) → most_positions (entries_of docs counts numbers) ≤ most
+most_counted [] counts numbers most few = omega arith
+most_counted (d ∷ ds) counts numbers most few =
+    let n = get_or counts 0 0 in
+    let rest = most_counted ds (drop 1 counts) (drop n numbers) most (λ i. (let at = get_or-drop 1 counts i 0 in let small = few (1 + i) in omega (arith, at, small))) in
+    let here = few 0 in
+    let long = length-places 0 (take n numbers) in
+    omega (arith, rest, here, long, length-take n numbers)
 
 -- no number is above the sum
 pub below_sum : (xs : List ℕ) (i : ℕ) → get_or xs i 0 ≤ sum xs
@@ -77,9 +84,3 @@ opened_entries offset all all_counts numbers docs counts lists docs_are counts_a
 -- there are as many positions as the counts say
 pub all_positions : (counts numbers : List ℕ) (lists : List (List ℕ)) → HasPositions counts lists numbers → length numbers ≡ sum counts
 all_positions counts numbers lists has = ap length has.whole ∙ count_of_numbers lists ∙ ap sum has.counted
-
-pub opened_room : (offset : ℕ) (all_counts numbers counts : List ℕ) (lists : List (List ℕ)) → all_counts ≡ counts → offset ≡ 0 → HasPositions counts lists numbers → offset + sum all_counts ≤ length numbers
-opened_room offset all_counts numbers counts lists counts_are begins has =
-    let total = ap length has.whole ∙ count_of_numbers lists in
-    let same = ap sum (counts_are ∙ sym has.counted) in
-    omega (arith, begins, total, same)

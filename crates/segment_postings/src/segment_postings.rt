@@ -1,10 +1,11 @@
 //! One term's postings, document by document.
 
-ghost use Rattle.std.specs.Prelude.{[], ◌+◌, ◌/◌, ◌<◌, ◌≡◌, ◌≤◌, IsSome, List, if◌then◌else◌, length, min, replicate, sum, true, ℕ};
+ghost use Rattle.std.specs.Prelude.{[], ◌+◌, ◌/◌, ◌<◌, ◌≡◌, ◌≤◌, IsSome, List, if◌then◌else◌, length, min, replicate, true, ℕ};
 ghost use Rattle.definitions.specs.Blocks.{block_len};
 ghost use Rattle.cursors.specs.Entries.{AreSingle, most_positions};
 ghost use Rattle.cursors.specs.EntryLaws.{AreSingle-prop};
 ghost use Rattle.layouts.specs.TermPostings.{skip_entries};
+ghost use Rattle.segment_postings.specs.CountBounds.{TellCounts};
 ghost use Rattle.segment_postings.specs.Reading.{HasPostings, counts_at, docs_at};
 ghost use Rattle.segment_postings.specs.TermEntries.{HasPositions, entries_from, entries_of, numbers_of, term_entries};
 
@@ -22,13 +23,10 @@ pub struct SegmentPostings<'a> {
     blocks: BlockSegmentPostings<'a>,
     cur: usize,
     positions: Option<PositionReader<'a>>,
-    most: usize,
     ghost inside: { cur < block_len },
     ghost placed: { IsSome positions → blocks.reads_positions ≡ true },
-    ghost counted: { IsSome positions → blocks.skips.position_offset + sum (counts_at blocks.reads_counts blocks.before blocks.skips blocks.bytes.now) ≤ length (numbers_of positions) },
+    ghost told: { IsSome positions → ∥ TellCounts (length (numbers_of positions)) blocks.skips (counts_at blocks.reads_counts blocks.before blocks.skips blocks.bytes.now) ∥₁ },
     ghost of_one_term: { AreSingle (entries_from cur blocks.skips.position_offset (docs_at blocks.before blocks.skips blocks.bytes.now) (counts_at blocks.reads_counts blocks.before blocks.skips blocks.bytes.now) (numbers_of positions)) } by { AreSingle-prop (entries_from cur blocks.skips.position_offset (docs_at blocks.before blocks.skips blocks.bytes.now) (counts_at blocks.reads_counts blocks.before blocks.skips blocks.bytes.now) (numbers_of positions)) },
-    ghost few: { most ≤ length (numbers_of positions) },
-    ghost bounded: { most_positions (entries_from cur blocks.skips.position_offset (docs_at blocks.before blocks.skips blocks.bytes.now) (counts_at blocks.reads_counts blocks.before blocks.skips blocks.bytes.now) (numbers_of positions)) ≤ most },
 }
 
 impl<'a> SegmentPostings<'a> {
@@ -47,7 +45,6 @@ impl<'a> SegmentPostings<'a> {
             blocks: BlockSegmentPostings::empty(),
             cur: 0,
             positions: None,
-            most: 0,
         }
     }
 
@@ -78,7 +75,6 @@ impl<'a> SegmentPostings<'a> {
             blocks: BlockSegmentPostings::new(bytes, doc_freq, recorded, reads_counts, false),
             cur: 0,
             positions: None,
-            most: 0,
         }
     }
 
@@ -104,14 +100,10 @@ impl<'a> SegmentPostings<'a> {
             ≡ skip_entries known.option known.ids (length docs / block_len) 0 docs counts }
         ensures place { cursor_place result ≡ 0 }
     {
-        let mut positions = positions;
-        let blocks = BlockSegmentPostings::new(bytes, doc_freq, recorded, true, true);
-        let most = blocks.greatest_count(positions.num_positions()) as usize;
         SegmentPostings {
-            blocks,
+            blocks: BlockSegmentPostings::new(bytes, doc_freq, recorded, true, true),
             cur: 0,
             positions: Some(positions),
-            most,
         }
     }
 
@@ -225,11 +217,15 @@ impl<'a> Postings for SegmentPostings<'a> {
         Ok(())
     }
 
+    /// Looks at each skip entry that is left, and counts the positions.
     fn most_positions(&self) -> usize
         ensures most { most_positions (entries_left self.now) ≤ result }
         ensures few { result ≤ cursor_positions self.now }
     {
-        self.most
+        match &self.positions {
+            Some(positions) => self.blocks.greatest_count(positions.num_positions()) as usize,
+            None => 0,
+        }
     }
 
     ghost of_one_term = { single_left };

@@ -33,10 +33,9 @@ pub are_bounded-requires-clause-many : goal.are_bounded-requires-clause-many
 are_bounded-requires-clause-many c = ∥∥₁_elim c.requires (Coded-set coded_ℕ _ _) (λ k.
     (let counts = ap sum (c.new-blocks.ensures.counts k.0 k.1 k.2) in
     let total = k.3 in
-    let many = c.num_positions.ensures.count in
-    let same = ap length c.num_positions.ensures.same in
+    let many = c.num_positions.ensures in
     let told = c.if-num_positions-total.false in
-    omega (arith, counts, total, many, same, told)))
+    omega (arith, counts, total, many, told)))
 
 pub are_bounded-requires-clause-few : goal.are_bounded-requires-clause-few
 are_bounded-requires-clause-few c = ∥∥₁_elim c.requires (hlevel props) (λ k.
@@ -48,7 +47,7 @@ pub returns-then-num_positions-total-clause-err : goal.returns-then-num_position
 returns-then-num_positions-total-clause-err c =
     let here = (goal.at.returns-then-num_positions-total-clause-err c).After-new-blocks in
     let other = c.if-num_positions-total.true in
-    let many = c.num_positions.ensures.count in (
+    let many = c.num_positions.ensures in (
       refl,
       λ docs counts known h.
           (let same = ap length (c.in_ok-reader.ensures.one h.numbers h.stand) in
@@ -60,19 +59,19 @@ returns-then-num_positions-total-clause-err c =
 
 pub returns-then-not-are_bounded-clause-err : goal.returns-then-not-are_bounded-clause-err
 returns-then-not-are_bounded-clause-err c =
-    let other : AreBounded (counts_left c.new-blocks.result) c.num_positions.new.self → ⊥ = search rules in
-    (refl, λ docs counts known h. other (subst (λ xs. AreBounded (counts_left c.new-blocks.result) xs) (c.in_ok-reader.ensures.one h.numbers h.stand ∙ sym c.num_positions.ensures.same) (subst (λ ns. AreBounded ns h.numbers) (sym (c.new-blocks.ensures.counts docs counts known)) h.bounded)))
+    let other : AreBounded (counts_left c.new-blocks.result) c.in_ok-reader.reader → ⊥ = search rules in
+    (refl, λ docs counts known h. other (subst (λ xs. AreBounded (counts_left c.new-blocks.result) xs) (c.in_ok-reader.ensures.one h.numbers h.stand) (subst (λ ns. AreBounded ns h.numbers) (sym (c.new-blocks.ensures.counts docs counts known)) h.bounded)))
 
 pub returns-clause-ok : goal.returns-clause-ok
 returns-clause-ok c = λ docs counts known.
     (let here = (goal.at.returns-clause-ok c).After-new-blocks in
-    let bounded : AreBounded (counts_left c.new-blocks.result) c.num_positions.new.self = search rules in
+    let bounded : AreBounded (counts_left c.new-blocks.result) c.in_ok-reader.reader = search rules in
     let total = total_is here docs counts known in
-    let many = c.num_positions.ensures.count in
+    let many = c.num_positions.ensures in
     let told = c.if-num_positions-total.false in
     record {
       numbers = c.in_ok-reader.reader;
       stand = c.in_ok-reader.ensures.ok;
       many = omega (arith, many, told, total);
-      bounded = subst (λ xs. AreBounded counts xs) c.num_positions.ensures.same (subst (λ ns. AreBounded ns c.num_positions.new.self) (c.new-blocks.ensures.counts docs counts known) bounded);
+      bounded = subst (λ ns. AreBounded ns c.in_ok-reader.reader) (c.new-blocks.ensures.counts docs counts known) bounded;
     })

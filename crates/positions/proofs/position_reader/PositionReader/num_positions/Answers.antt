@@ -2,9 +2,9 @@ use Rattle.std.proofs.Common.{ap, arith, length}
 use Rattle.positions.proofs.PositionsOpened.{all_counted}
 use Rattle.positions.proofs.position_reader.PositionReader.num_positions.Goals as goal
 
-pub returns-clause-count : goal.returns-clause-count
-returns-clause-count c =
-    let all = all_counted c.self.inside.widths.now c.self.inside.packed.now _ c.load.new.block c.load.new.at c.load.ensures.holds c.load.ensures.wanted in
-    let held = ap length c.output_array.ensures in
+pub returns : goal.returns
+returns c =
+    let all = all_counted c.self.inside.widths.now c.self.inside.packed.now _ c.decode.ensures in
+    let rest = ap length c.output_array.ensures in
     let view = ap length c.self.view_is in
-    omega (arith, all, held, view)
+    omega (arith, all, rest, view)

@@ -12,5 +12,4 @@ returns-clause-entries c = λ docs counts h.
 pub invariant_of-result : goal.invariant_of-result
 invariant_of-result c =
     let none = no_positions (drop 0 (docs_left c.new.result)) (drop 0 (counts_left c.new.result)) (drop (c.new.result.skips.position_offset + sum (take 0 (counts_left c.new.result))) []) (numbers_same None (c.new.result.skips.position_offset + sum (take 0 (counts_left c.new.result))) 0 (λ some. absurd cc)) in
-    let most = none.1 in
-    record { inside = omega arith; placed = λ some. absurd cc; counted = λ some. absurd cc; of_one_term = none.0; few = omega arith; bounded = omega (arith, most) }
+    record { inside = omega arith; placed = λ some. absurd cc; told = λ some. absurd cc; of_one_term = none.0 }

@@ -1,6 +1,8 @@
 use Rattle.std.proofs.Common.{ap, arith, cond, drop, false, length, min, nat_lt, refl, true, ◌*◌, ◌+◌, ◌/◌, ◌<◌, ◌∙◌, ◌≡◌}
+use Rattle.std.proofs.Math.Logic.{∥∥₁_map}
 use Rattle.std.proofs.lemmas.Bool.Decides.{nat_tests}
-use Rattle.segment_postings.proofs.EntryMoves.{block_on, most_on, one_on, single_on}
+use Rattle.segment_postings.proofs.BoundedCounts.{still_told}
+use Rattle.segment_postings.proofs.EntryMoves.{block_on, one_on, single_on}
 use Rattle.segment_postings.specs.Cursors.{counts_left, docs_left, entries_left}
 use Rattle.segment_postings.specs.TermEntries.{entries_from, numbers_of}
 use Rattle.segment_postings.proofs.segment_postings.SegmentPostingsDocSet.advance.Goals.{After-advance, Else-self-eq127}
@@ -19,10 +21,8 @@ invariant_of-self c =
     record {
       inside = omega arith;
       placed = λ some. kept ∙ c.args.self.now.placed some;
-      counted = λ some. (let old = c.args.self.now.counted some in let room = c.advance.ensures.room (c.args.self.now.placed some) in omega (arith, old, room));
+      told = λ some. ∥∥₁_map (c.args.self.now.told some) (still_told 1 _ c.args.self.now.blocks.skips c.advance.new.self.skips (counts_left c.args.self.now.blocks) (counts_left c.advance.new.self) c.advance.ensures.entries c.advance.ensures.counts (c.advance.ensures.room (c.args.self.now.placed some)));
       of_one_term = single_on (entries_left c.args.self.now) _ is c.args.self.now.of_one_term;
-      few = c.args.self.now.few;
-      bounded = most_on (entries_left c.args.self.now) _ c.args.self.now.most is c.args.self.now.bounded;
     }
 
 pub invariant_of-self-2 : goal.invariant_of-self-2
@@ -32,10 +32,8 @@ invariant_of-self-2 c =
     record {
       inside = omega (arith, inside, c.if-self-eq127.false);
       placed = c.args.self.now.placed;
-      counted = c.args.self.now.counted;
+      told = c.args.self.now.told;
       of_one_term = single_on (entries_left c.args.self.now) _ is c.args.self.now.of_one_term;
-      few = c.args.self.now.few;
-      bounded = most_on (entries_left c.args.self.now) _ c.args.self.now.most is c.args.self.now.bounded;
     }
 
 pub returns-then-self-eq127-clause-rest : goal.returns-then-self-eq127-clause-rest

@@ -1,5 +1,7 @@
-use Rattle.std.proofs.Common.{arith, refl, sym, ◌∙◌, ◌≡◌}
-use Rattle.segment_postings.proofs.EntryMoves.{from_place, most_after, place_on, single_from}
+use Rattle.std.proofs.Common.{arith, refl, sym, ◌/◌, ◌∙◌, ◌≡◌}
+use Rattle.std.proofs.Math.Logic.{∥∥₁_map}
+use Rattle.segment_postings.proofs.BoundedCounts.{still_told}
+use Rattle.segment_postings.proofs.EntryMoves.{from_place, place_on, single_from}
 use Rattle.segment_postings.specs.Cursors.{counts_left, docs_left, entries_left}
 use Rattle.cursors.specs.Entries.{from}
 use Rattle.segment_postings.specs.Reading.{below}
@@ -20,10 +22,8 @@ invariant_of-self c =
     record {
       inside = omega (arith, place);
       placed = λ some. kept ∙ c.args.self.now.placed some;
-      counted = λ some. (let old = c.args.self.now.counted some in let room = c.seek-self.ensures.room (c.args.self.now.placed some) in omega (arith, old, room));
+      told = λ some. ∥∥₁_map (c.args.self.now.told some) (still_told (below c.args.target (docs_left c.args.self.now.blocks) / 128) _ c.args.self.now.blocks.skips c.seek-self.new.self.skips (counts_left c.args.self.now.blocks) (counts_left c.seek-self.new.self) c.seek-self.ensures.entries c.seek-self.ensures.counts (c.seek-self.ensures.room (c.args.self.now.placed some)));
       of_one_term = single_from c.args.target (entries_left c.args.self.now) _ is c.args.self.now.of_one_term;
-      few = c.args.self.now.few;
-      bounded = most_after c.args.target (entries_left c.args.self.now) _ c.args.self.now.most is c.args.self.now.bounded;
     }
 
 pub returns-clause-rest : goal.returns-clause-rest

@@ -1,5 +1,8 @@
-use Rattle.std.proofs.Common.{ap, ap₂, arith, drop, length, map, rules, sum, sym, take, vec_capacity, ◌++◌, ◌+◌, ◌<◌, ◌∙◌, ◌≡◌}
+use Rattle.std.proofs.Common.{IsSome, ap, ap₂, arith, drop, length, map, rules, subst, sum, sym, take, vec_capacity, ◌++◌, ◌+◌, ◌<◌, ◌∙◌, ◌≡◌}
+use Rattle.std.proofs.Math.Logic.{∥∥₁_map}
+use Rattle.segment_postings.proofs.BoundedCounts.{still_told, told_room}
 use Rattle.segment_postings.proofs.EntryMoves.{count_within, positions_there, stands_within}
+use Rattle.segment_postings.specs.CountBounds.{TellCounts}
 use Rattle.segment_postings.specs.Cursors.{counts_left, docs_left, entries_left}
 use Rattle.cursors.specs.Entries.{first_positions, highest, single}
 use Rattle.segment_postings.specs.TermEntries.{numbers_of, places}
@@ -17,7 +20,7 @@ there c =
 
 pub append_positions-requires-clause-room : goal.append_positions-requires-clause-room
 append_positions-requires-clause-room c = λ some.
-    (let room = c.args.self.now.counted some in
+    (let room = told_room _ c.args.self.now.blocks.skips (counts_left c.args.self.now.blocks) (c.args.self.now.told some) in
     let one = count_within c.args.self.now.cur (counts_left c.args.self.now.blocks) in
     let count = c.freq-count.ensures in
     let begin = c.positions_before-begin.ensures.value in
@@ -28,6 +31,15 @@ append_positions-requires-clause-fits c =
     let same = ap highest (there (goal.at.append_positions-requires-clause-fits c).After-positions_before-begin) in
     let fits = c.requires.fits in
     omega (arith, same, fits)
+
+pub invariant_of-self-clause-told : goal.invariant_of-self-clause-told
+invariant_of-self-clause-told c = λ some.
+    (let same = c.append_positions.ensures.same in
+    let old = c.args.self.now.blocks in
+    let new = c.positions_before-begin.new.self in
+    let offset = c.positions_before-begin.ensures.offset in
+    let total = ap sum c.positions_before-begin.ensures.counts in
+    ∥∥₁_map (c.args.self.now.told (subst IsSome same some)) (λ known. subst (λ o. TellCounts (length (numbers_of o)) new.skips (counts_left new)) (sym same) (still_told 0 _ old.skips new.skips (counts_left old) (counts_left new) c.positions_before-begin.ensures.entries c.positions_before-begin.ensures.counts (omega (arith, offset, total)) known)))
 
 pub returns-in_err-append_positions-clause-full : goal.returns-in_err-append_positions-clause-full
 returns-in_err-append_positions-clause-full c =

@@ -1,0 +1,21 @@
+-- The positions of documents, one each.
+use Rattle.std.proofs.Common.{[], List, ap, ap₂, arith, length, sym, ◌++◌, ◌-◌, ◌<◌, ◌≡◌, ◌∙◌, ◌∷◌, ◌^◌, ℕ}
+use Rattle.std.proofs.lemmas.Grind.{flat_map-append}
+use Rattle.std.proofs.lemmas.List.{map-append}
+use Rattle.std.specs.List.{AllByRecursion}
+use Rattle.layouts.specs.Positions.{differences}
+use Rattle.segment_postings.specs.TermEntries.{HasPositions, IsPlaced}
+
+all_and : (xss : List (List ℕ)) (ps : List ℕ) → AllByRecursion IsPlaced xss → IsPlaced ps → AllByRecursion IsPlaced (xss ++ ps ∷ [])
+all_and [] ps all one = (one, tt)
+all_and (xs ∷ xss) ps all one = (all.0, all_and xss ps all.1 one)
+
+-- one document more
+pub one_more : (counts : List ℕ) (lists : List (List ℕ)) (numbers : List ℕ) (p : ℕ) → HasPositions counts lists numbers → p < 2 ^ 31 → HasPositions (counts ++ 1 ∷ []) (lists ++ (p ∷ []) ∷ []) (numbers ++ p ∷ [])
+one_more counts lists numbers p has small =
+    let first : p ≡ p - 0 = omega arith in
+    record {
+      counted = map-append length lists ((p ∷ []) ∷ []) ∙ ap (λ ns. ns ++ 1 ∷ []) has.counted;
+      placed = all_and lists (p ∷ []) has.placed (tt, omega (arith, small));
+      whole = ap₂ (λ ns n. ns ++ n ∷ []) has.whole first ∙ sym (flat_map-append (differences 0) lists ((p ∷ []) ∷ []));
+    }
