@@ -2,12 +2,12 @@
 use Rattle.std.proofs.Common.{[], List, ap, arith, filter, get_or, length, map, refl, reverse, subst, suc, sym, take, zero, ◌+◌, ◌-◌, ◌<◌, ◌∙◌, ◌∷◌, ◌≡◌, ◌≤◌, ℕ}
 use Rattle.std.proofs.lemmas.List.{length-map}
 use Rattle.std.proofs.Math.Seq.{take-length}
-use Rattle.phrases.specs.Costs.{IsTable, cheap, column_costs, costs, least_cost, nearest_costs}
+use Rattle.phrases.specs.Costs.{IsGradual, IsTable, cheap, column_costs, costs, least_cost, nearest_costs}
 use Rattle.phrases.specs.PhraseEntries.{AreColumns, longest}
 use Rattle.phrases.specs.Places.{AscendEach, Ascends, distinct, has, places_of, reached}
 use Rattle.phrases.proofs.PhrasePlaces.{earlier-next, places-reached}
 use Rattle.phrases.specs.PlaceLaws.{IsTable-costs, cheap-led, reached-next, reached-one}
-use Rattle.phrases.proofs.SweepCosts.{nearest-small}
+use Rattle.phrases.proofs.NearestCosts.{costs-gradual, nearest-small}
 
 pub columns-ascend : (columns : List (List ℕ)) → AreColumns columns → AscendEach columns
 columns-ascend [] c = tt
@@ -57,6 +57,9 @@ near-first most (ps ∷ columns) l = refl
 
 pub near-table : (most : ℕ) (columns : List (List ℕ)) (i : ℕ) → AreColumns columns → 0 < i → i ≤ length columns → IsTable most 0 (column_costs most (reverse (take i columns)))
 near-table most columns i c some l = subst (λ cs. IsTable most 0 (column_costs most cs)) (sym (taken columns i some l)) (IsTable-costs most 0 (reverse (take (i - 1) columns)) (get_or columns (i - 1) []) (column-ascends columns (i - 1) c (omega (arith, some, l))) (λ p. least-small most p (reverse (take (i - 1) columns))))
+
+pub near-gradual : (most : ℕ) (columns : List (List ℕ)) (i : ℕ) → 0 < i → i ≤ length columns → IsGradual (column_costs most (reverse (take i columns)))
+near-gradual most columns i some l = subst (λ cs. IsGradual (column_costs most cs)) (sym (taken columns i some l)) (costs-gradual most (get_or columns (i - 1) []) (reverse (take (i - 1) columns)))
 
 pub near-length : (most : ℕ) (columns : List (List ℕ)) (i : ℕ) → 0 < i → i ≤ length columns → length (column_costs most (reverse (take i columns))) ≤ longest columns
 near-length most columns i some l =

@@ -4,7 +4,7 @@ use Rattle.std.proofs.lemmas.Bool.Decides.{nat_tests}
 use Rattle.std.proofs.lemmas.List.{drop_all, drop_more}
 use Rattle.phrases.specs.Places.{Ascends, has}
 use Rattle.phrases.specs.PrefixEntries.{continued}
-use Rattle.phrases.specs.MergeLaws.{Ascends-step, has-low}
+use Rattle.phrases.specs.MergeLaws.{Ascends-step, IsStep, by_order, has-low}
 
 -- tests that agree on what ascends keep alike
 filter-ascending : (f g : ℕ → Bool) (low : ℕ) (xs : List ℕ) → Ascends low xs → ((x : ℕ) → low ≤ x → f x ≡ g x) → filter f xs ≡ filter g xs
@@ -47,6 +47,32 @@ count-end moved i j places positions l = ap (λ xs. continued moved xs (drop j p
 
 pub count-over : (moved i j : ℕ) (places positions : List ℕ) → length positions ≤ j → continued moved (drop i places) (drop j positions) ≡ 0
 count-over moved i j places positions l = ap (continued moved (drop i places)) (drop_all j positions l) ∙ continued-none moved (drop i places)
+
+-- what is counted and what is left to count are the same after a step
+pub count-step : (moved i j kept passed skipped : ℕ) (places positions : List ℕ) → i < length places → j < length positions → Ascends 0 (drop i places) → Ascends 0 (drop j positions) → IsStep (get_or places i 0 + moved) (get_or positions j 0) kept passed skipped → kept + continued moved (drop (i + passed) places) (drop (j + skipped) positions) ≡ continued moved (drop i places) (drop j positions)
+count-step moved i j kept passed skipped places positions li lj ascends further step =
+    by_order (get_or places i 0 + moved) (get_or positions j 0) (kept + continued moved (drop (i + passed) places) (drop (j + skipped) positions) ≡ continued moved (drop i places) (drop j positions))
+    (λ less. (let s = step.less less in
+    let left_on : i + passed ≡ i + 1 = omega (arith, s.1) in
+    let right_on : j + skipped ≡ j = omega (arith, s.2) in
+    let is = ap (λ m. continued moved (drop m places) (drop (j + skipped) positions)) left_on in
+    let on = ap (λ m. continued moved (drop (i + 1) places) (drop m positions)) right_on in
+    let left = count-left moved i j places positions li lj further less in
+    omega (arith, s.0, is, on, left)))
+    (λ both. (let s = step.same both in
+    let left_on : i + passed ≡ i + 1 = omega (arith, s.1) in
+    let right_on : j + skipped ≡ j = omega (arith, s.2) in
+    let is = ap (λ m. continued moved (drop m places) (drop (j + skipped) positions)) left_on in
+    let on = ap (λ m. continued moved (drop (i + 1) places) (drop m positions)) right_on in
+    let left = count-both moved i j places positions li lj both in
+    omega (arith, s.0, is, on, left)))
+    (λ more. (let s = step.more more in
+    let left_on : i + passed ≡ i = omega (arith, s.1) in
+    let right_on : j + skipped ≡ j + 1 = omega (arith, s.2) in
+    let is = ap (λ m. continued moved (drop m places) (drop (j + skipped) positions)) left_on in
+    let on = ap (λ m. continued moved (drop i places) (drop m positions)) right_on in
+    let left = count-right moved i j places positions li lj ascends more in
+    omega (arith, s.0, is, on, left)))
 
 -- no more than there are places
 pub continued-few : (moved : ℕ) (places positions : List ℕ) → continued moved places positions ≤ length places

@@ -1,4 +1,5 @@
-pub mod SweepCosts
+pub mod NearestCosts
+pub mod MarkLaws
 pub mod PhrasePlaces
 pub mod Columns
 pub mod Greatest

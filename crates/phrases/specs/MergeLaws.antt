@@ -1,8 +1,9 @@
 -- Laws of positions that two terms share.
-use Rattle.std.proofs.Common.{[], Bool, List, ap, arith, drop, false, filter, get_or, if◌then◌else◌, le-leb, length, nat_le, refl, subst, sym, true, ◌+◌, ◌<◌, ◌==◌, ◌∙◌, ◌∷◌, ◌||◌, ◌≡◌, ◌≤◌, ℕ}
+use Rattle.std.proofs.Common.{[], Bool, List, ap, arith, drop, false, filter, get_or, if◌then◌else◌, le-leb, length, nat_le, nat_lt, refl, set, subst, sym, take, true, ◌++◌, ◌+◌, ◌<◌, ◌==◌, ◌∙◌, ◌∷◌, ◌||◌, ◌≡◌, ◌≤◌, ℕ}
+use mir.Val.{bool_byte as from_bool}
 use Rattle.std.proofs.lemmas.Bool.{lt-leb}
 use Rattle.std.proofs.lemmas.Bool.Decides.{nat_tests}
-use Rattle.std.proofs.lemmas.List.{drop_more, drop_all}
+use Rattle.std.proofs.lemmas.List.{append_assoc, drop-set-lt, drop_all, drop_more, set-get_or, take-set, take_more_set}
 use Rattle.definitions.specs.Scoring.{DontFall}
 use Rattle.phrases.specs.Places.{Ascends, Rises, distinct, has}
 
@@ -124,3 +125,100 @@ merge-end i j left right l = ap (filter (has (drop j right))) (drop_all i left l
 
 pub merge-over : (i j : ℕ) (left right : List ℕ) → length right ≤ j → filter (has (drop j right)) (drop i left) ≡ []
 merge-over i j left right l = ap (λ ps. filter (has ps) (drop i left)) (drop_all j right l) ∙ filter-none (drop i left)
+
+-- ---- a merge, one step for all
+
+pub by_order : (t d : ℕ) (P : Type 0) → (t < d → P) → (t ≡ d → P) → (d < t → P) → P
+by_order t d P less same more =
+    elim (nat_le t d) as (λ b. nat_le t d ≡ b → P) [
+      | true ↦ (λ e. elim (nat_le d t) as (λ b. nat_le d t ≡ b → P) [ true ↦ (λ f. same (grind (arith, nat_tests, e, f))) | false ↦ (λ f. less (grind (arith, nat_tests, f))) ] refl)
+      | false ↦ (λ e. more (grind (arith, nat_tests, e)))
+    ] refl
+
+-- a position that is written in front of what is left
+pub written : (i n : ℕ) (left : List ℕ) → n ≤ i → drop i (set left n (get_or left i 0)) ≡ drop i left
+written i n left before = by_order n i (drop i (set left n (get_or left i 0)) ≡ drop i left)
+    (λ less. drop-set-lt i left n (get_or left i 0) less)
+    (λ same. ap (λ m. drop i (set left m (get_or left i 0))) same ∙ ap (drop i) (set-get_or left i 0))
+    (λ more. absurd (omega (arith, before, more)))
+
+-- how far a step of a merge goes, where it is at one position on the left and one on the right
+pub record IsStep (l r kept passed skipped : ℕ) : Type 0 where
+  pub less : l < r → (kept ≡ 0) × (passed ≡ 1) × (skipped ≡ 0)
+  pub same : l ≡ r → (kept ≡ 1) × (passed ≡ 1) × (skipped ≡ 0)
+  pub more : r < l → (kept ≡ 0) × (passed ≡ 0) × (skipped ≡ 1)
+
+-- what is kept and what is left to keep are the same after a step
+pub merge-step : (i j n kept passed skipped : ℕ) (left right : List ℕ) → i < length left → j < length right → n ≤ i → Rises 0 (drop i left) → Ascends 0 (drop j right) → IsStep (get_or left i 0) (get_or right j 0) kept passed skipped → take (n + kept) (set left n (get_or left i 0)) ++ filter (has (drop (j + skipped) right)) (drop (i + passed) (set left n (get_or left i 0))) ≡ take n left ++ filter (has (drop j right)) (drop i left)
+merge-step i j n kept passed skipped left right li lj before rises ascends step =
+    let l : ℕ = get_or left i 0 in
+    let ys : List ℕ = set left n l in
+    let front : take n ys ≡ take n left = take-set left n l in
+    let same : drop i ys ≡ drop i left = written i n left before in
+    let rest : drop (i + 1) ys ≡ drop (i + 1) left = drop-set-lt (i + 1) left n l (omega (arith, before)) in
+    let all : ℕ → ℕ → ℕ → List ℕ = λ a b c. take (n + a) ys ++ filter (has (drop (j + c) right)) (drop (i + b) ys) in
+    by_order l (get_or right j 0) (all kept passed skipped ≡ take n left ++ filter (has (drop j right)) (drop i left))
+    (λ less. (let s = step.less less in
+    let count : n + kept ≡ n = omega (arith, s.0) in
+    let left_on : i + passed ≡ i + 1 = omega (arith, s.1) in
+    let right_on : j + skipped ≡ j = omega (arith, s.2) in
+    ap (λ m. take m ys ++ filter (has (drop (j + skipped) right)) (drop (i + passed) ys)) count
+    ∙ (ap (λ m. take n ys ++ filter (has (drop m right)) (drop (i + passed) ys)) right_on
+    ∙ (ap (λ m. take n ys ++ filter (has (drop j right)) (drop m ys)) left_on
+    ∙ (ap (λ xs. xs ++ filter (has (drop j right)) (drop (i + 1) ys)) front
+    ∙ (ap (λ xs. take n left ++ filter (has (drop j right)) xs) rest
+    ∙ ap (λ xs. take n left ++ xs) (sym (merge-left i j left right li lj ascends less))))))))
+    (λ both. (let s = step.same both in
+    let count : n + kept ≡ n + 1 = omega (arith, s.0) in
+    let left_on : i + passed ≡ i + 1 = omega (arith, s.1) in
+    let right_on : j + skipped ≡ j = omega (arith, s.2) in
+    ap (λ m. take m ys ++ filter (has (drop (j + skipped) right)) (drop (i + passed) ys)) count
+    ∙ (ap (λ m. take (n + 1) ys ++ filter (has (drop m right)) (drop (i + passed) ys)) right_on
+    ∙ (ap (λ m. take (n + 1) ys ++ filter (has (drop j right)) (drop m ys)) left_on
+    ∙ (ap (λ xs. xs ++ filter (has (drop j right)) (drop (i + 1) ys)) (take_more_set left n l (omega (arith, before, li)))
+    ∙ (ap (λ xs. (take n left ++ l ∷ []) ++ filter (has (drop j right)) xs) rest
+    ∙ (append_assoc (take n left) (l ∷ []) (filter (has (drop j right)) (drop (i + 1) left))
+    ∙ ap (λ xs. take n left ++ xs) (sym (merge-both i j left right li lj both)))))))))
+    (λ more. (let s = step.more more in
+    let count : n + kept ≡ n = omega (arith, s.0) in
+    let left_on : i + passed ≡ i = omega (arith, s.1) in
+    let right_on : j + skipped ≡ j + 1 = omega (arith, s.2) in
+    ap (λ m. take m ys ++ filter (has (drop (j + skipped) right)) (drop (i + passed) ys)) count
+    ∙ (ap (λ m. take n ys ++ filter (has (drop m right)) (drop (i + passed) ys)) right_on
+    ∙ (ap (λ m. take n ys ++ filter (has (drop (j + 1) right)) (drop m ys)) left_on
+    ∙ (ap (λ xs. xs ++ filter (has (drop (j + 1) right)) (drop i ys)) front
+    ∙ (ap (λ xs. take n left ++ filter (has (drop (j + 1) right)) xs) same
+    ∙ ap (λ xs. take n left ++ xs) (sym (merge-right i j left right li lj rises more))))))))
+
+-- what is left after a step of one or none
+pub Ascends-past : (i n : ℕ) (ps : List ℕ) → i < length ps → n ≤ 1 → Ascends 0 (drop i ps) → Ascends 0 (drop (i + n) ps)
+Ascends-past i n ps l few a = by_order n 1 (Ascends 0 (drop (i + n) ps))
+    (λ less. (let e : i ≡ i + n = omega (arith, less) in subst (λ m. Ascends 0 (drop m ps)) e a))
+    (λ same. (let e : i + 1 ≡ i + n = omega (arith, same) in subst (λ m. Ascends 0 (drop m ps)) e (Ascends-lower 0 (get_or ps i 0) (drop (i + 1) ps) (omega arith) (Ascends-step 0 i ps l a).1)))
+    (λ more. absurd (omega (arith, few, more)))
+
+pub Rises-past : (i n : ℕ) (ps : List ℕ) → i < length ps → n ≤ 1 → Rises 0 (drop i ps) → Rises 0 (drop (i + n) ps)
+Rises-past i n ps l few r = by_order n 1 (Rises 0 (drop (i + n) ps))
+    (λ less. (let e : i ≡ i + n = omega (arith, less) in subst (λ m. Rises 0 (drop m ps)) e r))
+    (λ same. (let e : i + 1 ≡ i + n = omega (arith, same) in subst (λ m. Rises 0 (drop m ps)) e (Rises-lower 0 (get_or ps i 0 + 1) (drop (i + 1) ps) (omega arith) (Rises-step 0 i ps l r).1)))
+    (λ more. absurd (omega (arith, few, more)))
+
+-- the tests of two positions say how far a step goes
+pub step-by-tests : (l r kept passed skipped : ℕ) → kept ≡ from_bool (l == r) → passed ≡ from_bool (nat_le l r) → skipped ≡ from_bool (nat_lt r l) → IsStep l r kept passed skipped
+step-by-tests l r kept passed skipped k p s = record {
+  less = λ less. (k ∙ ap from_bool (let e : (l == r) ≡ false = grind (arith, nat_tests, less) in e), p ∙ ap from_bool (let e : nat_le l r ≡ true = grind (arith, nat_tests, less) in e), s ∙ ap from_bool (let e : nat_lt r l ≡ false = grind (arith, nat_tests, less) in e));
+  same = λ same. (k ∙ ap from_bool (let e : (l == r) ≡ true = grind (arith, nat_tests, same) in e), p ∙ ap from_bool (let e : nat_le l r ≡ true = grind (arith, nat_tests, same) in e), s ∙ ap from_bool (let e : nat_lt r l ≡ false = grind (arith, nat_tests, same) in e));
+  more = λ more. (k ∙ ap from_bool (let e : (l == r) ≡ false = grind (arith, nat_tests, more) in e), p ∙ ap from_bool (let e : nat_le l r ≡ false = grind (arith, nat_tests, more) in e), s ∙ ap from_bool (let e : nat_lt r l ≡ true = grind (arith, nat_tests, more) in e));
+}
+
+-- a step goes no further than one on
+pub step-few : (l r kept passed skipped : ℕ) → IsStep l r kept passed skipped → (kept ≤ passed) × (passed ≤ 1) × (skipped ≤ 1) × (passed + skipped ≡ 1)
+step-few l r kept passed skipped step = by_order l r ((kept ≤ passed) × (passed ≤ 1) × (skipped ≤ 1) × (passed + skipped ≡ 1))
+    (λ less. (let s = step.less less in (omega (arith, s.0, s.1), omega (arith, s.1), omega (arith, s.2), omega (arith, s.1, s.2))))
+    (λ same. (let s = step.same same in (omega (arith, s.0, s.1), omega (arith, s.1), omega (arith, s.2), omega (arith, s.1, s.2))))
+    (λ more. (let s = step.more more in (omega (arith, s.0, s.1), omega (arith, s.1), omega (arith, s.2), omega (arith, s.1, s.2))))
+
+-- what rises ascends
+pub ascends-rising : (low : ℕ) (ps : List ℕ) → Rises low ps → Ascends low ps
+ascends-rising low [] r = tt
+ascends-rising low (p ∷ ps) r = (r.0, Ascends-lower p (p + 1) ps (omega arith) (ascends-rising (p + 1) ps r.1))

@@ -1,4 +1,4 @@
--- Laws of places: what the sweeps and the merge find are those of the definitions.
+-- Laws of places: what the costs and the merge find are those of the definitions.
 use Rattle.std.proofs.Common.{[], Bool, List, ap, arith, false, filter, if◌then◌else◌, le-leb, min, nat_le, not, refl, subst, sym, true, ◌&&◌, ◌+◌, ◌-◌, ◌<◌, ◌==◌, ◌∙◌, ◌∷◌, ◌||◌, ◌≡◌, ◌≤◌, ℕ}
 use Rattle.std.proofs.lemmas.Bool.{lt-leb, true≢false}
 use Rattle.std.proofs.lemmas.Map.Views.{any-filter_same}

@@ -1,6 +1,6 @@
 //! Positions that two terms share.
 
-ghost use Rattle.std.specs.Prelude.{[], ◌≡◌, ◌≤◌, filter, length, vec_capacity};
+ghost use Rattle.std.specs.Prelude.{◌≡◌, ◌≤◌, filter, length, vec_capacity};
 ghost use Rattle.phrases.specs.Places.{Ascends, Rises, distinct, has};
 ghost use Rattle.phrases.specs.PrefixEntries.{continued};
 
@@ -34,15 +34,10 @@ pub(crate) fn intersection(left: &mut Vec<u32>, right: &[u32])
     let mut j = 0;
     while i < left.len() && j < right.len() {
         let (l, r) = (left[i], right[j]);
-        if l < r {
-            i += 1;
-        } else if r < l {
-            j += 1;
-        } else {
-            left[count] = l;
-            count += 1;
-            i += 1;
-        }
+        left[count] = l;
+        count += usize::from(l == r);
+        i += usize::from(l <= r);
+        j += usize::from(r < l);
     }
     left.truncate(count);
 }
@@ -59,14 +54,9 @@ pub(crate) fn count_continued(places: &[u32], moved: u32, positions: &[u32]) -> 
     while i < places.len() && j < positions.len() {
         let place = u64::from(places[i]) + u64::from(moved);
         let position = u64::from(positions[j]);
-        if place < position {
-            i += 1;
-        } else if position < place {
-            j += 1;
-        } else {
-            count += 1;
-            i += 1;
-        }
+        count += usize::from(place == position);
+        i += usize::from(place <= position);
+        j += usize::from(position < place);
     }
     count
 }

@@ -7,14 +7,18 @@ ghost use Rattle.phrases.specs.PhraseEntries.{AreColumns, longest};
 ghost use Rattle.phrases.specs.Places.{places_of};
 ghost use Rattle.phrases.specs.Finders.{HasRoom};
 
-use crate::merging::{copy_distinct, intersection};
-use crate::sweeps::{Cost, begin, copy_cheap, reach};
+use crate::marking::Marks;
+use crate::merging::copy_distinct;
+use crate::reaching::{Cost, begin, copy_cheap, reach};
 use cursors::DocSet;
 use intersections::{Intersection, Positioned};
 use std::alloc::{AllocError, Global};
 use std::mem::swap;
 
-/// A slop, the places that were found last, and room for columns and for their costs.
+/// Below which position terms without a slop are marked. Most texts are shorter.
+const MARKED: usize = 4096;
+
+/// A slop, the places that were found last, and room for columns, for their costs and for marks.
 #[derive(Drop)]
 pub(crate) struct PlaceFinder {
     pub(crate) slop: u32,
@@ -22,6 +26,7 @@ pub(crate) struct PlaceFinder {
     pub(crate) positions: Vec<u32>,
     pub(crate) costs: Vec<Cost>,
     pub(crate) further_costs: Vec<Cost>,
+    pub(crate) marks: Marks,
 }
 
 impl PlaceFinder {
@@ -30,13 +35,14 @@ impl PlaceFinder {
         ensures slop { IfOk result (λ finder. finder.slop ≡ slop) }
         ensures room { IfOk result (λ finder. HasRoom finder room) }
     {
-        let costs_room = if slop == 0 { 0 } else { room };
+        let (costs_room, marked) = if slop == 0 { (0, MARKED) } else { (room, 0) };
         Ok(PlaceFinder {
             slop,
             places: Vec::with_capacity(alloc, room)?,
             positions: Vec::with_capacity(alloc, room)?,
             costs: Vec::with_capacity(alloc, costs_room)?,
             further_costs: Vec::with_capacity(alloc, costs_room)?,
+            marks: Marks::new(alloc, marked)?,
         })
     }
 
@@ -80,7 +86,7 @@ impl PlaceFinder {
         copy_distinct(&self.positions, &mut self.places);
         for i in 1..terms.num_columns() {
             terms.column(i, &mut self.positions);
-            intersection(&mut self.places, &self.positions);
+            self.marks.keep_shared(&mut self.places, &self.positions);
         }
     }
 

@@ -1,52 +1,9 @@
-use Rattle.std.proofs.Common.{[], ap, arith, drop, filter, get_or, length, set, subst, sym, take, ◌++◌, ◌+◌, ◌<◌, ◌∙◌, ◌∷◌, ◌≡◌, ℕ}
-use Rattle.std.proofs.lemmas.List.{append_assoc, append-nil, drop-set-lt, get_or_read, length-set, take_more_set}
+use Rattle.std.proofs.Common.{[], ap, arith, drop, filter, get_or, length, set, subst, sym, take, ◌++◌, ◌+◌, ◌<◌, ◌∙◌, ◌≡◌, ℕ}
+use Rattle.std.proofs.lemmas.List.{append-nil, get_or_read, length-set}
 use Rattle.phrases.specs.Places.{Rises, has}
-use Rattle.phrases.specs.MergeLaws.{Ascends-lower, Ascends-step, Rises-lower, Rises-step, merge-both, merge-end, merge-left, merge-over, merge-right}
+use Rattle.phrases.specs.MergeLaws.{Ascends-past, IsStep, Rises-past, merge-end, merge-over, merge-step, step-by-tests, step-few, written}
 use Rattle.phrases.proofs.merging.intersection.Goals as goal
 use Rattle.phrases.proofs.merging.intersection.Goals.{else-loop-i-test, then-loop-i-test+else-j-right}
-
-pub loop-i-preserved-then-l-r : goal.loop-i-preserved-then-l-r
-loop-i-preserved-then-l-r c =
-    let inv = c.loop-i.invariant in
-    let i = c.loop-i.i in
-    let j = c.loop-i.j in
-    let left = c.loop-i.left.items in
-    let right = c.args.right.now in
-    let before = inv.before in
-    let within : i < length left = omega (arith, c.loop-i-test.true) in
-    let inside : j < length right = omega (arith, c.if-j-right.true) in
-    let rises = Rises-step 0 i left within inv.rises in
-    let read : c.index.result.now ≡ get_or left i 0 = get_or_read left i c.index.result.now within c.index.ensures 0 in
-    record {
-      within = omega (arith, within);
-      before = omega (arith, before);
-      inside = inv.inside;
-      rises = Rises-lower 0 (get_or left i 0 + 1) (drop (i + 1) left) (omega arith) rises.1;
-      ascends = inv.ascends;
-      items = ap (λ xs. take c.loop-i.count left ++ xs) (sym (merge-left i j left right within inside inv.ascends (omega (arith, read, c.if-l-r.true)))) ∙ inv.items;
-      room = inv.room;
-    }
-
-pub loop-i-preserved-then-r-l : goal.loop-i-preserved-then-r-l
-loop-i-preserved-then-r-l c =
-    let inv = c.loop-i.invariant in
-    let i = c.loop-i.i in
-    let j = c.loop-i.j in
-    let left = c.loop-i.left.items in
-    let right = c.args.right.now in
-    let within : i < length left = omega (arith, c.loop-i-test.true) in
-    let inside : j < length right = omega (arith, c.if-j-right.true) in
-    let ascends = Ascends-step 0 j right inside inv.ascends in
-    let read : c.index.result.now ≡ get_or left i 0 = get_or_read left i c.index.result.now within c.index.ensures 0 in
-    record {
-      within = inv.within;
-      before = inv.before;
-      inside = omega (arith, inside);
-      rises = inv.rises;
-      ascends = Ascends-lower 0 (get_or right j 0) (drop (j + 1) right) (omega arith) ascends.1;
-      items = ap (λ xs. take c.loop-i.count left ++ xs) (sym (merge-right i j left right within inside inv.rises (omega (arith, read, c.if-r-l.true)))) ∙ inv.items;
-      room = inv.room;
-    }
 
 pub loop-i-preserved : goal.loop-i-preserved
 loop-i-preserved c =
@@ -56,30 +13,42 @@ loop-i-preserved c =
     let n = c.loop-i.count in
     let left = c.loop-i.left.items in
     let right = c.args.right.now in
+    let x : ℕ = c.index.result.now in
+    let kept = c.from-count.result in
+    let passed = c.from-i.result in
+    let skipped = c.from-j.result in
     let before = inv.before in
     let within : i < length left = omega (arith, c.loop-i-test.true) in
     let inside : j < length right = omega (arith, c.if-j-right.true) in
-    let x : ℕ = c.index.result.now in
     let read : x ≡ get_or left i 0 = get_or_read left i x within c.index.ensures 0 in
-    let both : get_or left i 0 ≡ get_or right j 0 = omega (arith, read, c.if-r-l.false, c.if-l-r.false) in
-    let rises = Rises-step 0 i left within inv.rises in
+    let test = step-by-tests x (get_or right j 0) kept passed skipped c.from-count.ensures c.from-i.ensures c.from-j.ensures in
+    let step : IsStep (get_or left i 0) (get_or right j 0) kept passed skipped = subst (λ l. IsStep l (get_or right j 0) kept passed skipped) read test in
+    let few = step-few (get_or left i 0) (get_or right j 0) kept passed skipped step in
     let long = length-set left n x in
-    let rest : drop (i + 1) (set left n x) ≡ drop (i + 1) left = drop-set-lt (i + 1) left n x (omega (arith, before)) in
-    let front : take (n + 1) (set left n x) ≡ take n left ++ x ∷ [] = take_more_set left n x (omega (arith, before, within)) in
+    let same : drop i (set left n x) ≡ drop i left = ap (λ l. drop i (set left n l)) read ∙ written i n left before in
     record {
-      within = omega (arith, within, long);
-      before = omega (arith, before);
-      inside = inv.inside;
-      rises = subst (Rises 0) (sym rest) (Rises-lower 0 (get_or left i 0 + 1) (drop (i + 1) left) (omega arith) rises.1);
-      ascends = inv.ascends;
-      items = ap (λ xs. xs ++ filter (has (drop j right)) (drop (i + 1) (set left n x))) front
-          ∙ (ap (λ xs. (take n left ++ x ∷ []) ++ filter (has (drop j right)) xs) rest
-          ∙ (append_assoc (take n left) (x ∷ []) (filter (has (drop j right)) (drop (i + 1) left))
-          ∙ (ap (λ y. take n left ++ y ∷ filter (has (drop j right)) (drop (i + 1) left)) read
-          ∙ (ap (λ xs. take n left ++ xs) (sym (merge-both i j left right within inside both))
-          ∙ inv.items))));
+      within = omega (arith, within, long, few.1);
+      before = omega (arith, before, few.0);
+      inside = omega (arith, inside, few.2);
+      rises = Rises-past i passed (set left n x) (omega (arith, within, long)) few.1 (subst (Rises 0) (sym same) inv.rises);
+      ascends = Ascends-past j skipped right inside few.2 inv.ascends;
+      items = ap (λ l. take (n + kept) (set left n l) ++ filter (has (drop (j + skipped) right)) (drop (i + passed) (set left n l))) read
+          ∙ (merge-step i j n kept passed skipped left right within inside before inv.rises inv.ascends step ∙ inv.items);
       room = inv.room;
     }
+
+pub loop-i-smaller : goal.loop-i-smaller
+loop-i-smaller c =
+    let i = c.loop-i.i in
+    let j = c.loop-i.j in
+    let left = c.loop-i.left.items in
+    let right = c.args.right.now in
+    let x : ℕ = c.index.result.now in
+    let within : i < length left = omega (arith, c.loop-i-test.true) in
+    let inside : j < length right = omega (arith, c.if-j-right.true) in
+    let few = step-few x (get_or right j 0) c.from-count.result c.from-i.result c.from-j.result (step-by-tests x (get_or right j 0) c.from-count.result c.from-i.result c.from-j.result c.from-count.ensures c.from-i.ensures c.from-j.ensures) in
+    let long = length-set left c.loop-i.count x in
+    omega (arith, within, inside, long, few.3)
 
 pub returns-clause-items : goal.returns-clause-items
 returns-clause-items c =

@@ -1,10 +1,10 @@
 use Rattle.std.proofs.Common.{[], List, ap, arith, get_or, length, map, reverse, subst, sym, take, vec_capacity, ◌+◌, ◌∙◌, ◌≡◌, ◌≤◌, ℕ}
 use Rattle.cursors.specs.Entries.{first_positions}
 use Rattle.intersections.specs.Meetings.{meeting}
-use Rattle.phrases.specs.Costs.{IsTable, cheap, column_costs, nearest_costs}
+use Rattle.phrases.specs.Costs.{IsGradual, IsTable, cheap, column_costs, nearest_costs}
 use Rattle.phrases.specs.PhraseEntries.{longest}
 use Rattle.phrases.specs.Places.{Ascends}
-use Rattle.phrases.proofs.Columns.{column-ascends, column-length, near-all, near-length, near-next, near-table}
+use Rattle.phrases.proofs.Columns.{column-ascends, column-length, near-all, near-gradual, near-length, near-next, near-table}
 use Rattle.phrases.proofs.place_finder.PlaceFinder.find_near.Goals as goal
 
 pub column-requires-in-loop-i-clause-room : goal.column-requires-in-loop-i-clause-room
@@ -23,6 +23,15 @@ reach-requires-clause-table g c =
     let count = c.num_columns-i-end.ensures in
     let same = ap (λ es. length (first_positions es)) c.column.ensures.same in
     subst (IsTable most 0) (sym (c.deref-in-loop-i.ensures.value ∙ c.loop-i.invariant.costs)) (near-table most columns c.loop-i.i c.requires.columns (omega (arith, begun)) (omega (arith, count, same, c.loop-i-test.true)))
+
+pub reach-requires-clause-gradual : goal.reach-requires-clause-gradual
+reach-requires-clause-gradual g c =
+    let columns : List (List ℕ) = first_positions (meeting (map g.S.DocSet.entries c.args.terms.now.docsets.items)) in
+    let most : ℕ = c.from-most.result + 1 in
+    let begun = c.loop-i.auto.i in
+    let count = c.num_columns-i-end.ensures in
+    let same = ap (λ es. length (first_positions es)) c.column.ensures.same in
+    subst IsGradual (sym (c.deref-in-loop-i.ensures.value ∙ c.loop-i.invariant.costs)) (near-gradual most columns c.loop-i.i (omega (arith, begun)) (omega (arith, count, same, c.loop-i-test.true)))
 
 pub reach-requires-clause-ascends : goal.reach-requires-clause-ascends
 reach-requires-clause-ascends g c =

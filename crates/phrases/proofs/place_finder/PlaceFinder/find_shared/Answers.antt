@@ -32,11 +32,11 @@ column-requires-in-loop-i-clause-room g c =
     let same = ap (λ es. length (get_or (first_positions es) c.loop-i.i [])) c.loop-i.invariant.same in
     let goal : length (get_or (first_positions (meeting (map g.S.DocSet.entries c.loop-i.terms.docsets.items))) c.loop-i.i []) ≤ vec_capacity c.loop-i.self.positions = omega (arith, same, small, room) in goal
 
-pub intersection-requires-clause-rises : goal.intersection-requires-clause-rises
-intersection-requires-clause-rises g c = subst (Rises 0) (sym c.loop-i.invariant.places) (Rises-reached 0 (reverse (take c.loop-i.i (first_positions (meeting (map g.S.DocSet.entries c.args.terms.now.docsets.items))))))
+pub keep_shared-requires-clause-rises : goal.keep_shared-requires-clause-rises
+keep_shared-requires-clause-rises g c = subst (Rises 0) (sym c.loop-i.invariant.places) (Rises-reached 0 (reverse (take c.loop-i.i (first_positions (meeting (map g.S.DocSet.entries c.args.terms.now.docsets.items))))))
 
-pub intersection-requires-clause-ascends : goal.intersection-requires-clause-ascends
-intersection-requires-clause-ascends g c =
+pub keep_shared-requires-clause-ascends : goal.keep_shared-requires-clause-ascends
+keep_shared-requires-clause-ascends g c =
     let columns : List (List ℕ) = first_positions (meeting (map g.S.DocSet.entries c.args.terms.now.docsets.items)) in
     let count = c.num_columns-i-end.ensures in
     let same = ap (λ es. length (first_positions es)) c.column.ensures.same in
@@ -53,11 +53,11 @@ loop-i-preserved g c =
     let begun = c.loop-i.auto.i in
     let column = c.deref-in-loop-i.ensures.value ∙ (c.column-in-loop-i.ensures.items ∙ ap (λ es. get_or (first_positions es) i []) inv.same) in
     let positions = c.column-in-loop-i.ensures.room in
-    let places = c.intersection.ensures.room in
+    let places = c.keep_shared.ensures.room in
     record {
       same = c.column-in-loop-i.ensures.same ∙ inv.same;
       slop = inv.slop;
-      places = c.intersection.ensures.items ∙ (ap (λ ps. filter (has ps) c.loop-i.self.places.items) column ∙ (ap (filter (has (get_or columns i []))) inv.places ∙ shared-next columns i c.requires.columns (omega (arith, begun)) (omega (arith, count, same, c.loop-i-test.true))));
+      places = c.keep_shared.ensures.items ∙ (ap (λ ps. filter (has ps) c.loop-i.self.places.items) column ∙ (ap (filter (has (get_or columns i []))) inv.places ∙ shared-next columns i c.requires.columns (omega (arith, begun)) (omega (arith, count, same, c.loop-i-test.true))));
       room = λ n h. (let was = inv.room n h in let in_places = was.places in let in_positions = was.positions in record {
         places = omega (arith, places, in_places);
         positions = omega (arith, positions, in_positions);

@@ -1,0 +1,132 @@
+//! Positions of a term, each with the least cost of coming to it from those of the term before.
+
+ghost use Rattle.std.specs.Prelude.{[], ◌+◌, ◌<◌, ◌≡◌, ◌≤◌, length, map, slice_index_or, vec_capacity, ℕ};
+ghost use Rattle.phrases.specs.Costs.{IsGradual, IsInOrder, IsTable, cheap, nearest, nearest_costs};
+ghost use Rattle.phrases.specs.Places.{Ascends};
+
+/// A position and what the terms before it cost.
+pub(crate) type Cost = (u32, u64);
+
+/// How many of four neighbours in a table aren't behind a position.
+#[inline]
+fn count_passed(table: &[Cost], place: usize, position: u32) -> usize
+    requires within { place + 4 ≤ length table.now }
+    requires order { IsInOrder table.now }
+    ensures few { result ≤ 4 }
+    ensures passed { (k : ℕ) → k < place + result → place ≤ k → (slice_index_or table.now k (0, 0)).0 ≤ position }
+    ensures behind { result < 4 → position < (slice_index_or table.now (place + result) (0, 0)).0 }
+{
+    usize::from(table[place].0 <= position)
+        + usize::from(table[place + 1].0 <= position)
+        + usize::from(table[place + 2].0 <= position)
+        + usize::from(table[place + 3].0 <= position)
+}
+
+/// The place of the first of a table that is behind a position, or its length, where none before a place is behind it.
+/// Four neighbours are counted at once, as no processor foresees which of them is the first.
+#[inline]
+fn first_behind(table: &[Cost], passed: usize, position: u32) -> usize
+    requires within { passed ≤ length table.now }
+    requires order { IsInOrder table.now }
+    requires passed { (k : ℕ) → k < passed → (slice_index_or table.now k (0, 0)).0 ≤ position }
+    ensures within { result ≤ length table.now }
+    ensures passed { (k : ℕ) → k < result → (slice_index_or table.now k (0, 0)).0 ≤ position }
+    ensures behind { result < length table.now → position < (slice_index_or table.now result (0, 0)).0 }
+{
+    let mut place = passed;
+    while place + 4 <= table.len() {
+        let count = count_passed(table, place, position);
+        place += count;
+        if count < 4 {
+            return place;
+        }
+    }
+    while place < table.len() && table[place].0 <= position {
+        place += 1;
+    }
+    place
+}
+
+/// The least cost of coming to a position from a table, from one place on behind it: that from one of two neighbours.
+#[inline]
+fn cost_at(table: &[Cost], behind: usize, position: u32, most: u64) -> u64
+    requires most { most ≤ 4294967296 }
+    requires table { IsTable most 0 table.now }
+    requires gradual { IsGradual table.now }
+    requires within { behind ≤ length table.now }
+    requires passed { (k : ℕ) → k < behind → (slice_index_or table.now k (0, 0)).0 ≤ position }
+    requires behind { behind < length table.now → position < (slice_index_or table.now behind (0, 0)).0 }
+    ensures { result ≡ nearest most table.now position }
+{
+    if table.is_empty() {
+        return most;
+    }
+    let (below, below_cost) = table[behind.saturating_sub(1)];
+    let (above, above_cost) = table[behind.min(table.len() - 1)];
+    let from_below = below_cost + u64::from(position.abs_diff(below));
+    let from_above = above_cost + u64::from(position.abs_diff(above));
+    most.min(from_below.min(from_above))
+}
+
+/// Puts positions with the least cost of coming to each from a table in place of what an output holds.
+pub(crate) fn reach(table: &[Cost], positions: &[u32], most: u64, output: &mut Vec<Cost>)
+    requires most { most ≤ 4294967296 }
+    requires table { IsTable most 0 table.now }
+    requires gradual { IsGradual table.now }
+    requires ascends { Ascends 0 positions.now }
+    requires room { length positions.now ≤ vec_capacity output.old }
+    ensures items { output.new.items ≡ nearest_costs most table.now positions.now }
+    ensures room { vec_capacity output.new ≡ vec_capacity output.old }
+{
+    output.clear();
+    let mut behind = 0;
+    for i in 0..positions.len() {
+        let position = positions[i];
+        behind = first_behind(table, behind, position);
+        output.push_reserved((position, cost_at(table, behind, position, most)));
+    }
+}
+
+/// Puts positions that cost nothing in place of what an output holds.
+pub(crate) fn begin(positions: &[u32], output: &mut Vec<Cost>)
+    requires room { length positions.now ≤ vec_capacity output.old }
+    ensures items { output.new.items ≡ map (λ p. (p, 0)) positions.now }
+    ensures room { vec_capacity output.new ≡ vec_capacity output.old }
+{
+    output.clear();
+    for i in 0..positions.len() {
+        output.push_reserved((positions[i], 0));
+    }
+}
+
+/// Puts the positions of a table in place of those that an output holds.
+fn copy_positions(table: &[Cost], output: &mut Vec<u32>)
+    requires room { length table.now ≤ vec_capacity output.old }
+    ensures items { output.new.items ≡ map (λ l. l.0) table.now }
+    ensures room { vec_capacity output.new ≡ vec_capacity output.old }
+{
+    output.clear();
+    for i in 0..table.len() {
+        output.push_reserved(table[i].0);
+    }
+}
+
+/// Puts the positions of a table within the slop, each once, in place of those that an output holds.
+pub(crate) fn copy_cheap(table: &[Cost], slop: u64, output: &mut Vec<u32>)
+    requires room { length table.now ≤ vec_capacity output.old }
+    ensures items { output.new.items ≡ cheap slop 0 table.now }
+    ensures room { vec_capacity output.new ≡ vec_capacity output.old }
+{
+    copy_positions(table, output);
+    let mut count = 0;
+    let mut next: u64 = 0;
+    for i in 0..table.len() {
+        let (position, cost) = table[i];
+        output[count] = position;
+        if u64::from(position) >= next && cost <= slop {
+            count += 1;
+        }
+        next = next.max(u64::from(position) + 1);
+    }
+    output.truncate(count);
+}
