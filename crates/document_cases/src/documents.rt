@@ -2,7 +2,7 @@
 
 use crate::shown_values::{owned_value, shown, value_list};
 use case_lines::{Arguments, Refusal, flag, hex, number, pair, text};
-use document::{CompactDoc, CompactDocValue, OwnedValue, put_value, take_value};
+use document::{CompactDoc, CompactDocValue, CompactDocs, OwnedValue, put_value, take_value};
 use document_lines::document_of_values;
 use schema::{Field, Schema};
 use serde_json::Value;
@@ -19,6 +19,9 @@ pub(crate) fn answer(
     if operation == "of-json" {
         let doc = CompactDoc::from_json_object(alloc, schema, arguments.value(0)?)?;
         return Ok(values(alloc, &doc)?);
+    }
+    if operation == "held-together" {
+        return held_together(alloc, schema, arguments.list(0)?);
     }
     match operation.strip_prefix("value-") {
         Some(rest) => answer_on_value(alloc, rest, arguments),
@@ -80,6 +83,25 @@ pub(crate) fn document(
         Value::Array(values) => document_of_values(alloc, values),
         json => Ok(CompactDoc::from_json_object(alloc, schema, json)?),
     }
+}
+
+/// The values of each of several documents that were held together, by their JSON or what is added to an empty one;
+/// and whether there is none.
+fn held_together(alloc: Global, schema: &Schema, given: &[Value]) -> Result<Value, Refusal> {
+    let mut docs = CompactDocs::new(alloc);
+    for value in given {
+        let doc = match value {
+            Value::Array(values) => document_of_values(alloc, values)?,
+            json => CompactDoc::from_json_object(alloc, schema, json)?,
+        };
+        docs.push(&doc)?;
+    }
+    let mut list = Vec::new(alloc);
+    for at in 0..docs.len() {
+        let doc = docs.get(alloc, at)?;
+        list.push(values(alloc, &doc)?)?;
+    }
+    Ok(pair(alloc, Value::Array(list), flag(docs.is_empty()))?)
 }
 
 /// The document of the bytes at a place.
