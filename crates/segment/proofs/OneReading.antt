@@ -1,5 +1,5 @@
 -- Sections are those of one list of fields, so that it is found where it is known to be there.
-use Rattle.std.proofs.Common.{[], List, ap, append_assoc, arith, ap₂, flat_map, length, length-append, map, refl, subst, suc, sym, zero, ◌++◌, ◌<◌, ◌≡◌, ◌≤◌, ◌∙◌, ◌∷◌, ◌^◌, ℕ}
+use Rattle.std.proofs.Common.{[], List, ap, append_assoc, arith, ap₂, length, length-append, map, refl, subst, suc, sym, zero, ◌++◌, ◌<◌, ◌≡◌, ◌≤◌, ◌∙◌, ◌∷◌, ◌^◌, ℕ}
 use Rattle.std.proofs.Math.Logic.{∥∥₁_elim}
 use Rattle.std.proofs.Props.{props}
 use Rattle.std.specs.List.{AllByRecursion}
@@ -8,7 +8,6 @@ use Rattle.checked_postings.specs.Placed.{term_of}
 use Rattle.common.proofs.Many.{bytes_after}
 use Rattle.definitions.specs.KeptLengths.{length_fields}
 use Rattle.definitions.specs.NumberCodes.{AreBytes}
-use Rattle.definitions.specs.Postings.{Posting}
 use Rattle.definitions.specs.Schema.{IndexRecordOption, Schema, max_fields}
 use Rattle.fieldnorms.proofs.Sections.{norms_lent}
 use Rattle.fieldnorms.specs.Readers.{norms_in}

@@ -1,4 +1,4 @@
-use Rattle.std.proofs.Common.{List, arith, refl, subst, sym, ◌∙◌, ℕ}
+use Rattle.std.proofs.Common.{arith, refl, subst, sym}
 use Rattle.std.proofs.Math.Logic.{∥∥₁_map}
 use Rattle.segment.proofs.KnownSegments.{Makes, fields_known, lengths_known, norms_of, parts_known, store_known, terms_known, terms_of}
 use Rattle.segment.proofs.Opening.{store_short}
