@@ -26,7 +26,9 @@ fn keeps_what_is_recorded(alloc: Global, option: IndexRecordOption) -> Result<bo
             counts.counts() == [(3, 3), (5, 1)].as_slice()
         }
         (IndexRecordOption::WithFreqsAndPositions, Recorder::TfAndPositions(places)) => {
-            places.places() == PLACES.as_slice()
+            let mut copied = Vec::new(alloc);
+            places.copy_places(&mut copied)?;
+            places.len() == PLACES.len() && copied.as_slice() == PLACES.as_slice()
         }
         _ => false,
     })

@@ -1,8 +1,8 @@
 -- Recorders of places as postings, and what is recorded of a term by its value bytes.
-use Rattle.std.proofs.Common.{[], ◌<◌, ◌^◌, ◌≡◌, ◌∙◌, ◌∷◌, Bool, List, None, Some, ap, cond, false, length, map, refl, slice_get, true, ℕ}
+use Rattle.std.proofs.Common.{[], ◌<◌, ◌^◌, ◌≡◌, ◌∙◌, ◌∷◌, List, Some, ap, cond, length, map, refl, slice_get, ℕ}
 use Rattle.std.specs.Option.{option_map_or}
-use Rattle.definitions.specs.Schema.{Entry, IndexRecordOption, Kind, Schema, basic, bool_kind, bytes_kind, date_kind, facet_kind, i64_kind, ip_addr_kind, is_text, json_kind, text_kind, u64_kind, with_freqs, with_freqs_and_positions}
-use Rattle.definitions.specs.Terms.{field_of, is_text_term, term_bytes}
+use Rattle.definitions.specs.Schema.{Entry, IndexRecordOption, Schema, basic, with_freqs, with_freqs_and_positions}
+use Rattle.definitions.specs.Terms.{field_of, term_bytes}
 use Rattle.layouts.specs.InvertedIndexes.{option_of_term}
 use Rattle.postings_writer.specs.Fields.{option_of_key}
 use Rattle.postings_writer.specs.Occurrences.{by_document, posting_in, postings_at}

@@ -69,12 +69,6 @@ counts_more [] p new = refl
 counts_more (g ∷ []) p new = ap (λ b. counts (pick b ((g.0, g.1 ++ p.1 ∷ []) ∷ []) (g ∷ (p.0, p.1 ∷ []) ∷ []))) new
 counts_more (g ∷ h ∷ gs) p new = ap (λ ds. (g.0, length g.1) ∷ ds) (counts_more (h ∷ gs) p new)
 
-last_more : (gs : List (ℕ × List ℕ)) (p : ℕ × ℕ) → ends_in p.0 (docs gs) ≡ false → last_count (extended gs p) ≡ 1
-last_more [] p new = refl
-last_more (g ∷ []) p new = ap (λ b. last_count (pick b ((g.0, g.1 ++ p.1 ∷ []) ∷ []) (g ∷ (p.0, p.1 ∷ []) ∷ []))) new
-last_more (g ∷ h ∷ []) p new = ap (λ b. last_count (g ∷ pick b ((h.0, h.1 ++ p.1 ∷ []) ∷ []) (h ∷ (p.0, p.1 ∷ []) ∷ []))) new
-last_more (g ∷ h ∷ k ∷ gs) p new = last_more (h ∷ k ∷ gs) p new
-
 last_same : (gs : List (ℕ × List ℕ)) (p : ℕ × ℕ) → ends_in p.0 (docs gs) ≡ true → last_count (extended gs p) ≡ last_count gs + 1
 last_same [] p again = cc
 last_same (g ∷ []) p again = ap (λ b. last_count (pick b ((g.0, g.1 ++ p.1 ∷ []) ∷ []) (g ∷ (p.0, p.1 ∷ []) ∷ []))) again ∙ length-append g.1 (p.1 ∷ [])
@@ -94,36 +88,6 @@ last_is (g ∷ []) zero long = refl
 last_is (g ∷ []) (suc m) long = absurd (omega arith)
 last_is (g ∷ h ∷ gs) zero long = absurd (omega arith)
 last_is (g ∷ h ∷ gs) (suc m) long = last_is (h ∷ gs) m (omega arith)
-
--- the last document of the groups is that of the last place
-abbrev ends : ℕ → List (ℕ × ℕ) → Bool
-ends doc ps = ends_in doc (map (λ p. p.0) ps)
-
-pub ends_with_last : (doc : ℕ) (ps : List (ℕ × ℕ)) → ends_in doc (docs_of ps) ≡ ends_in doc (map (λ p. p.0) ps)
-ends_with_last doc [] = refl
-ends_with_last doc (p ∷ []) = refl
-ends_with_last doc (p ∷ q ∷ ps) = go (by_document (q ∷ ps)) (some q (by_document ps)) ∙ ends_with_last doc (q ∷ ps)
-  where
-    some : (q : ℕ × ℕ) (gs : List (ℕ × List ℕ)) → 0 < length (grouped q gs)
-    some q [] = omega arith
-    some q (g ∷ gs) = either (nat_eq q.0 g.0)
-      where
-        either : (b : Bool) → 0 < length (pick b ((g.0, q.1 ∷ g.1) ∷ gs) ((q.0, q.1 ∷ []) ∷ g ∷ gs))
-        either true = omega arith
-        either false = omega arith
-
-    go : (gs : List (ℕ × List ℕ)) → 0 < length gs → ends_in doc (docs (grouped p gs)) ≡ ends_in doc (docs gs)
-    go [] more = absurd (omega arith)
-    go (g ∷ []) more = either (nat_eq p.0 g.0)
-      where
-        either : (b : Bool) → ends_in doc (docs (pick b ((g.0, p.1 ∷ g.1) ∷ []) ((p.0, p.1 ∷ []) ∷ g ∷ []))) ≡ nat_eq g.0 doc
-        either true = refl
-        either false = refl
-    go (g ∷ h ∷ gs) more = either (nat_eq p.0 g.0)
-      where
-        either : (b : Bool) → ends_in doc (docs (pick b ((g.0, p.1 ∷ g.1) ∷ h ∷ gs) ((p.0, p.1 ∷ []) ∷ g ∷ h ∷ gs))) ≡ ends_in doc (docs (h ∷ gs))
-        either true = refl
-        either false = refl
 
 -- where a last document stands there is one
 pub ends_some : (doc : ℕ) (ds : List ℕ) → ends_in doc ds ≡ true → 0 < length ds
@@ -151,9 +115,6 @@ counts_of-new ps doc position new = ap counts (by_document-push ps (doc, positio
 
 pub counts_of-again : (ps : List (ℕ × ℕ)) (doc position m : ℕ) → ends_in doc (docs_of ps) ≡ true → length (counts_of ps) ≡ suc m → counts_of (ps ++ (doc, position) ∷ []) ≡ set (counts_of ps) m ((get_or (counts_of ps) m (0, 0)).0, (get_or (counts_of ps) m (0, 0)).1 + 1)
 counts_of-again ps doc position m again long = ap counts (by_document-push ps (doc, position)) ∙ counts_same (by_document ps) (doc, position) m again (sym (length-map (by_document ps) (λ g. (g.0, length g.1))) ∙ long)
-
-pub last_count-new : (ps : List (ℕ × ℕ)) (doc position : ℕ) → ends_in doc (docs_of ps) ≡ false → last_count (by_document (ps ++ (doc, position) ∷ [])) ≡ 1
-last_count-new ps doc position new = ap last_count (by_document-push ps (doc, position)) ∙ last_more (by_document ps) (doc, position) new
 
 pub last_count-again : (ps : List (ℕ × ℕ)) (doc position : ℕ) → ends_in doc (docs_of ps) ≡ true → last_count (by_document (ps ++ (doc, position) ∷ [])) ≡ last_count (by_document ps) + 1
 last_count-again ps doc position again = ap last_count (by_document-push ps (doc, position)) ∙ last_same (by_document ps) (doc, position) again

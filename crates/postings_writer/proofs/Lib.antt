@@ -1,4 +1,5 @@
 -- Lemmas behind the writer of postings.
+pub mod PlaceBytes
 pub mod Groups
 pub mod KeptRecorders
 pub mod Standing

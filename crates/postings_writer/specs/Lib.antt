@@ -1,4 +1,5 @@
 -- Words of the contracts.
+pub mod PlaceBytes
 pub mod Occurrences
 pub mod Recorders
 pub mod Fields

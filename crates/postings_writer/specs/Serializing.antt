@@ -35,6 +35,12 @@ postings_from (DocIds docs) at = map of_doc (drop at docs)
 postings_from (TermFrequencies counts) at = map of_count (drop at counts)
 postings_from (TfAndPositions places) at = postings_at with_freqs_and_positions (drop at places)
 
+-- these are the places of a recorder, where it has positions
+abbrev pub HoldsPlaces : Recorder → List (ℕ × ℕ) → Type 0
+HoldsPlaces (DocIds docs) ps = Unit {0}
+HoldsPlaces (TermFrequencies counts) ps = Unit {0}
+HoldsPlaces (TfAndPositions places) ps = ps ≡ places
+
 -- how many tokens a recorder was told of: a document whose count isn't recorded counts 1
 abbrev pub tokens_of : Recorder → ℕ
 tokens_of r = sum_by (λ (p : Posting). p.count) (postings_from r 0)

@@ -3,6 +3,7 @@
 
 mod field_postings;
 mod index_text;
+mod position_recorder;
 mod postings_writer;
 mod recorder;
 mod serialize;
@@ -10,5 +11,6 @@ mod serialize_field;
 mod serialize_term;
 
 pub use index_text::IndexedText;
+pub use position_recorder::TfAndPositionRecorder;
 pub use postings_writer::PostingsWriter;
-pub use recorder::{DocIdRecorder, Recorder, TermFrequencyRecorder, TfAndPositionRecorder};
+pub use recorder::{DocIdRecorder, Recorder, TermFrequencyRecorder};

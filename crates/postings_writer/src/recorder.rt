@@ -1,12 +1,13 @@
 //! What is recorded of one term: the documents that it stands in, how often, and where.
 
-ghost use Rattle.std.specs.Prelude.{[], ◌++◌, ◌+◌, ◌<◌, ◌^◌, ◌≡◌, ◌≤◌, ◌∷◌, IfErr, IfOk, List, OnOk, length, map, slice_index_or as get_or, slice_set as set, suc, ℕ};
+ghost use Rattle.std.specs.Prelude.{[], ◌++◌, ◌+◌, ◌<◌, ◌^◌, ◌≡◌, ◌≤◌, ◌∷◌, IfErr, List, OnOk, length, map, slice_index_or as get_or, slice_set as set, suc, ℕ};
 ghost use Rattle.definitions.specs.Schema as definitions;
 ghost use Rattle.definitions.specs.declared.fault.Fault.TheVariants as faults;
 ghost use Rattle.options.specs.RecordOption.{record_option_of};
-ghost use Rattle.postings_writer.specs.Occurrences.{by_document, counts_of, docs_of, ends_in, last_count as count_at_end};
+ghost use Rattle.postings_writer.specs.Occurrences.{counts_of, docs_of, ends_in};
 ghost use Rattle.postings_writer.specs.Recorders.{IsCountRefusal, recorded_as};
 
+use crate::position_recorder::TfAndPositionRecorder;
 use definitions::Fault;
 use options::IndexRecordOption;
 use std::alloc::{AllocError, Global};
@@ -130,68 +131,6 @@ impl TermFrequencyRecorder {
         ensures { result.now ≡ self.now }
     {
         &self.counts
-    }
-}
-
-/// The documents of a term, and its positions in each.
-#[derive(Drop)]
-pub struct TfAndPositionRecorder {
-    places: Vec<(u32, u32)>,
-    // How many places the last document has.
-    last_count: u32,
-}
-
-impl Model for TfAndPositionRecorder {
-    ghost use Rattle.std.specs.Prelude.{List, ◌≡◌, ℕ};
-    ghost use Rattle.postings_writer.specs.Occurrences as occurrences;
-
-    ghost Value = { List (ℕ × ℕ) };
-
-    ghost view = { λ r. r.places.items };
-
-    ghost invariant = { λ r. r.last_count ≡ occurrences.last_count (occurrences.by_document r.places.items) };
-}
-
-impl TfAndPositionRecorder {
-    /// No document.
-    pub fn new(alloc: Global) -> TfAndPositionRecorder
-        ensures { result ≡ [] }
-    {
-        TfAndPositionRecorder {
-            places: Vec::new(alloc),
-            last_count: 0,
-        }
-    }
-
-    /// Records that the term stands in the document, which isn't below the last one, at the position. A count
-    /// past 4294967295 is refused.
-    pub fn record(&mut self, doc: u32, position: u32) -> Result<(), Fault>
-        ensures ok { OnOk result (self.new ≡ self.old ++ (doc, position) ∷ []) }
-        ensures err { IfErr result (λ fault. IsCountRefusal fault (self.old ++ (doc, position) ∷ [])) }
-    {
-        let last_count = self.next_count(doc)?;
-        self.places.push((doc, position))?;
-        self.last_count = last_count;
-        Ok(())
-    }
-
-    /// How many places the document has with one more.
-    fn next_count(&self, doc: u32) -> Result<u32, Fault>
-        ensures ok { IfOk result (λ n. (position : ℕ) → n ≡ count_at_end (by_document (self.now ++ (doc, position) ∷ []))) }
-        ensures err { IfErr result (λ fault. (fault ≡ faults.Limit) × ((position : ℕ) → 2 ^ 32 ≤ count_at_end (by_document (self.now ++ (doc, position) ∷ [])))) }
-    {
-        if !stands_last(&self.places, doc) {
-            return Ok(1);
-        }
-        let count = self.last_count.checked_add(1).ok_or(Fault::Limit)?;
-        Ok(count)
-    }
-
-    /// Documents and positions, in the order in which they were recorded.
-    pub fn places(&self) -> &[(u32, u32)]
-        ensures { result.now ≡ self.now }
-    {
-        &self.places
     }
 }
 

@@ -46,7 +46,7 @@ impl Recorder {
         match self {
             Recorder::DocIds(recorder) => Some(recorder.docs().len() as u64),
             Recorder::TermFrequencies(recorder) => sum_counts(recorder.counts()),
-            Recorder::TfAndPositions(recorder) => Some(recorder.places().len() as u64),
+            Recorder::TfAndPositions(recorder) => Some(recorder.len() as u64),
         }
     }
 }
@@ -85,12 +85,14 @@ fn serialize_terms<'a>(
     ensures ok { OnOk result ((ts : List IndexedTerm) × AreAdded (kind_of kind) serializer.old serializer.new (map (λ t. (t.0.now, t.1.now)) terms.now) ts) }
     ensures err { IfErr result (λ fault. (fault ≡ faults.OutOfMemory) ⊎ ((fault ≡ faults.Limit) × AnyTermPasses (kind_of kind) serializer.old (map (λ t. (t.0.now, t.1.now)) terms.now))) }
 {
+    let mut places = Vec::new(alloc);
     let mut deltas = Vec::new(alloc);
     for (key, recorder) in terms {
         serialize_term(
             key,
             kind.is_text_value(key),
             recorder,
+            &mut places,
             &mut deltas,
             serializer,
         )?;

@@ -12,7 +12,7 @@ ghost use Rattle.postings_serializer.specs.FieldWriting.{IsOpen};
 ghost use Rattle.postings_serializer.specs.TermWriting.{recorded_count};
 ghost use Rattle.postings_writer.specs.Limits.{CountsPass, SumsPass, TermPasses};
 ghost use Rattle.postings_writer.specs.Occurrences.{by_document};
-ghost use Rattle.postings_writer.specs.Serializing.{CanWrite, IsWrittenTerm, StandsAt, length_of, postings_from};
+ghost use Rattle.postings_writer.specs.Serializing.{CanWrite, HoldsPlaces, IsWrittenTerm, StandsAt, length_of, postings_from};
 ghost use Rattle.postings_writer.specs.declared.recorder.Recorder.TheVariants as recorders;
 
 use crate::recorder::Recorder;
@@ -82,14 +82,30 @@ impl Recorder {
         match self {
             Recorder::DocIds(recorder) => recorder.docs().len(),
             Recorder::TermFrequencies(recorder) => recorder.counts().len(),
-            Recorder::TfAndPositions(recorder) => recorder.places().len(),
+            Recorder::TfAndPositions(recorder) => recorder.len(),
+        }
+    }
+
+    /// Puts its places, where it has positions, in the place of what a buffer holds.
+    fn copy_places(&self, places: &mut Vec<(u32, u32)>) -> Result<(), AllocError>
+        ensures { OnOk result (HoldsPlaces self.now places.new.items) }
+    {
+        match self {
+            Recorder::TfAndPositions(recorder) => recorder.copy_places(places),
+            _ => Ok(()),
         }
     }
 
     /// The document and the count of the posting that stands at a place, and the place of the next one. Its
     /// first position and the differences are put into the buffer.
-    fn posting_at(&self, at: usize, deltas: &mut Vec<u32>) -> Result<(u32, u32, usize), Fault>
-        requires { at < length_of self.now }
+    fn posting_at(
+        &self,
+        places: &[(u32, u32)],
+        at: usize,
+        deltas: &mut Vec<u32>,
+    ) -> Result<(u32, u32, usize), Fault>
+        requires holds { HoldsPlaces self.now places.now }
+        requires within { at < length_of self.now }
         ensures ok { IfOk result (λ p. StandsAt self.now at p.0 p.1 p.2 deltas.new.items) }
         ensures err { IfErr result (λ fault. (fault ≡ faults.OutOfMemory) ⊎ ((fault ≡ faults.Limit) × CountsPass (postings_from self.now at))) }
     {
@@ -100,7 +116,7 @@ impl Recorder {
                 let (doc, count) = recorder.counts()[at];
                 Ok((doc, count, at + 1))
             }
-            Recorder::TfAndPositions(recorder) => position_posting(recorder.places(), at, deltas),
+            Recorder::TfAndPositions(_) => position_posting(places, at, deltas),
         }
     }
 }
@@ -128,17 +144,19 @@ fn position_posting(
 /// Writes what a recorder stands for.
 fn write_postings<'a>(
     recorder: &Recorder,
+    places: &[(u32, u32)],
     deltas: &mut Vec<u32>,
     serializer: &mut FieldSerializer<'a>,
 ) -> Result<(), Fault>
-    requires { CanWrite serializer.old.writing.next serializer.old.writing.norms (postings_from recorder.now 0) }
+    requires holds { HoldsPlaces recorder.now places.now }
+    requires can { CanWrite serializer.old.writing.next serializer.old.writing.norms (postings_from recorder.now 0) }
     ensures ok { (docs counts numbers : List ℕ) → IsOpen serializer.old docs counts numbers → OnOk result (IsOpen serializer.new (docs ++ map (λ p. p.doc) (postings_from recorder.now 0)) (counts ++ map (λ p. recorded_count serializer.old.writing.option p.count) (postings_from recorder.now 0)) (numbers ++ position_numbers (map (λ p. p.positions) (postings_from recorder.now 0)))) }
     ensures same { OnOk result ((serializer.new.field ≡ serializer.old.field) × (serializer.new.num_tokens ≡ serializer.old.num_tokens) × (serializer.new.terms ≡ serializer.old.terms) × (serializer.new.postings ≡ serializer.old.postings) × (serializer.new.key ≡ serializer.old.key) × (serializer.new.writing.mode ≡ serializer.old.writing.mode) × (serializer.new.writing.option ≡ serializer.old.writing.option) × (serializer.new.writing.norms ≡ serializer.old.writing.norms) × (serializer.new.positions.0 ≡ serializer.old.positions.0)) }
     ensures err { IsOpen serializer.old [] [] [] → IfErr result (λ fault. (fault ≡ faults.OutOfMemory) ⊎ ((fault ≡ faults.Limit) × (CountsPass (postings_from recorder.now 0) ⊎ SumsPass serializer.old.writing.option (postings_from recorder.now 0)))) }
 {
     let mut at = 0;
     while at < recorder.len() {
-        let (doc, count, next) = recorder.posting_at(at, deltas)?;
+        let (doc, count, next) = recorder.posting_at(places, at, deltas)?;
         serializer.write_doc(doc, count, deltas)?;
         at = next;
     }
@@ -151,6 +169,7 @@ pub(crate) fn serialize_term<'a>(
     key: &[u8],
     is_text: bool,
     recorder: &Recorder,
+    places: &mut Vec<(u32, u32)>,
     deltas: &mut Vec<u32>,
     serializer: &mut FieldSerializer<'a>,
 ) -> Result<(), Fault>
@@ -159,8 +178,9 @@ pub(crate) fn serialize_term<'a>(
     ensures ok { OnOk result (IsWrittenTerm serializer.old serializer.new key.now (if is_text then serializer.old.writing.mode else basic) (postings_from recorder.now 0)) }
     ensures err { IfErr result (λ fault. (fault ≡ faults.OutOfMemory) ⊎ ((fault ≡ faults.Limit) × (TermPasses (if is_text then serializer.old.writing.mode else basic) (listed serializer.old.writing.norms) (postings_from recorder.now 0) ⊎ (serializer.old.terms.num_terms ≡ 4294967295)))) }
 {
+    recorder.copy_places(places)?;
     serializer.new_term(key, is_text)?;
-    write_postings(recorder, deltas, serializer)?;
+    write_postings(recorder, places, deltas, serializer)?;
     serializer.close_term()?;
     Ok(())
 }

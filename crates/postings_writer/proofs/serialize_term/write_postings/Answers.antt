@@ -6,7 +6,7 @@ use Rattle.postings_writer.proofs.WrittenTerms.{all_opened, doc_refused, none_le
 use Rattle.postings_writer.proofs.serialize_term.write_postings.Goals as goal
 
 pub loop-at-init : goal.loop-at-init
-loop-at-init c = none_written c.args.serializer.now (postings_from c.args.recorder.now 0) c.requires
+loop-at-init c = none_written c.args.serializer.now (postings_from c.args.recorder.now 0) c.requires.can
 
 pub write_doc-requires-clause-positions : goal.write_doc-requires-clause-positions
 write_doc-requires-clause-positions c =

@@ -1,4 +1,4 @@
-use Rattle.std.proofs.Common.{List, Some, arith, ap, rules, subst, sym, slice_get, ◌≡◌, ◌∙◌, ◌∷◌, [], ℕ}
+use Rattle.std.proofs.Common.{List, Some, arith, rules, subst, sym, slice_get, ◌≡◌, ◌∙◌, ◌∷◌, [], ℕ}
 use Rattle.std.specs.List.{AllByRecursion, enumerate_from}
 use Rattle.std.proofs.lemmas.Result.{err_from_is_err_and}
 use Rattle.definitions.specs.Schema.{Entry, Schema}

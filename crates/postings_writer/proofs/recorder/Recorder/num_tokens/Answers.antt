@@ -7,4 +7,4 @@ pub returns-in-DocIds : goal.returns-in-DocIds
 returns-in-DocIds c = ap length c.docs.ensures ∙ tokens_of-docs c.in-DocIds.recorder ∙ ap tokens_of (sym c.in-DocIds.is)
 
 pub returns-in-TfAndPositions : goal.returns-in-TfAndPositions
-returns-in-TfAndPositions c = ap length c.places.ensures ∙ tokens_of-places c.in-TfAndPositions.recorder ∙ ap tokens_of (sym c.in-TfAndPositions.is)
+returns-in-TfAndPositions c = c.len.ensures ∙ tokens_of-places c.in-TfAndPositions.recorder ∙ ap tokens_of (sym c.in-TfAndPositions.is)

@@ -1,0 +1,122 @@
+//! What is recorded of a term with positions: its documents and places, as bytes.
+//!
+//! Of each place two numbers of seven bits a byte are kept: how far its document is behind that of the place before
+//! it, and the position. Most take a byte each.
+
+ghost use Rattle.std.specs.Prelude.{[], ◌++◌, ◌<◌, ◌^◌, ◌≡◌, ◌∷◌, IfErr, IsSomeAnd, List, OnErr, OnOk, Some, length, ℕ};
+ghost use Rattle.definitions.specs.NumberCodes.{take_vint, vint_bytes};
+ghost use Rattle.postings_writer.specs.Recorders.{IsCountRefusal};
+
+use common::{put_vint, take_vint};
+use definitions::Fault;
+use std::alloc::{AllocError, Global};
+use std::marker::Model;
+
+/// Appends two numbers. Where memory is wanting nothing is appended.
+fn put_two(bytes: &mut Vec<u8>, first: u32, second: u32) -> Result<(), AllocError>
+    ensures ok { OnOk result (bytes.new.items ≡ bytes.old.items ++ vint_bytes first ++ vint_bytes second) }
+    ensures err { OnErr result (bytes.new.items ≡ bytes.old.items) }
+{
+    if first >= 128 || second >= 128 {
+        return put_long(bytes, first, second);
+    }
+    bytes.reserve(2)?;
+    bytes.push_reserved(128 + first as u8);
+    bytes.push_reserved(128 + second as u8);
+    Ok(())
+}
+
+/// The same, whatever they take.
+fn put_long(bytes: &mut Vec<u8>, first: u32, second: u32) -> Result<(), AllocError>
+    ensures ok { OnOk result (bytes.new.items ≡ bytes.old.items ++ vint_bytes first ++ vint_bytes second) }
+    ensures err { OnErr result (bytes.new.items ≡ bytes.old.items) }
+{
+    let before = bytes.len();
+    if put_vint(bytes, u64::from(first)).is_err() || put_vint(bytes, u64::from(second)).is_err() {
+        bytes.truncate(before);
+        return Err(AllocError);
+    }
+    Ok(())
+}
+
+/// A number that stands first, and what follows it.
+fn take_number(bytes: &[u8]) -> (u32, &[u8])
+    requires { IsSomeAnd (take_vint bytes.now) (λ p. p.0 < 2 ^ 32) }
+    ensures { take_vint bytes.now ≡ Some (result.0, result.1.now) }
+{
+    match take_vint(bytes) {
+        Ok((n, rest)) => (n as u32, rest),
+        Err(_) => unreachable!(),
+    }
+}
+
+/// The documents of a term, and its positions in each.
+#[derive(Drop)]
+pub struct TfAndPositionRecorder {
+    bytes: Vec<u8>,
+    // How many places there are.
+    len: usize,
+    // The last document, or 0.
+    doc: u32,
+}
+
+impl Model for TfAndPositionRecorder {
+    ghost use Rattle.std.specs.Prelude.{List, ℕ};
+    ghost use Rattle.postings_writer.specs.PlaceBytes.{AreBytesOf, places_in};
+
+    ghost Value = { List (ℕ × ℕ) };
+
+    ghost view = { λ r. places_in r.len 0 r.bytes.items };
+
+    ghost invariant = { λ r. AreBytesOf (places_in r.len 0 r.bytes.items) r.bytes.items r.len r.doc };
+}
+
+impl TfAndPositionRecorder {
+    /// No document.
+    pub fn new(alloc: Global) -> TfAndPositionRecorder
+        ensures { result ≡ [] }
+    {
+        TfAndPositionRecorder {
+            bytes: Vec::new(alloc),
+            len: 0,
+            doc: 0,
+        }
+    }
+
+    /// Records that the term stands in the document, which isn't below the last one, at the position. A count past
+    /// 4294967295 is refused when the postings are written.
+    pub fn record(&mut self, doc: u32, position: u32) -> Result<(), Fault>
+        ensures ok { OnOk result (self.new ≡ self.old ++ (doc, position) ∷ []) }
+        ensures err { IfErr result (λ fault. IsCountRefusal fault (self.old ++ (doc, position) ∷ [])) }
+    {
+        put_two(&mut self.bytes, doc.wrapping_sub(self.doc), position)?;
+        self.len += 1;
+        self.doc = doc;
+        Ok(())
+    }
+
+    /// How many places it has.
+    pub fn len(&self) -> usize
+        ensures { result ≡ length self.now }
+    {
+        self.len
+    }
+
+    /// Puts documents and positions, in the order in which they were recorded, in the place of what the output holds.
+    pub fn copy_places(&self, output: &mut Vec<(u32, u32)>) -> Result<(), AllocError>
+        ensures { OnOk result (output.new.items ≡ self.now) }
+    {
+        output.clear();
+        output.reserve(self.len)?;
+        let mut doc: u32 = 0;
+        let mut rest = self.bytes.as_slice();
+        for _ in 0..self.len {
+            let (gap, after_gap) = take_number(rest);
+            let (position, after) = take_number(after_gap);
+            doc = doc.wrapping_add(gap);
+            output.push((doc, position))?;
+            rest = after;
+        }
+        Ok(())
+    }
+}
