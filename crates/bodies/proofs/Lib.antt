@@ -1,6 +1,3 @@
--- Lemmas behind the bodies of records.
-pub mod BodiesGrow
-pub mod DocumentsBack
+-- Lemmas behind the body of the first record.
 pub mod MadeTexts
-pub mod PairsBelow
 pub mod PlainData

@@ -7,7 +7,7 @@ use schema::Schema;
 use serde_json::Value;
 use std::alloc::Global;
 
-/// Operations on values, documents, stores and the bodies of records.
+/// Operations on values, documents, stores and the body of a first record.
 #[derive(Drop)]
 pub(crate) struct DocumentOperations {
     pub(crate) alloc: Global,
@@ -35,7 +35,7 @@ impl Operations for DocumentOperations {
             "value" => values::answer(alloc, call, arguments),
             "document" => documents::answer(alloc, schema, call, arguments),
             "store" => stores::answer(alloc, schema, call, arguments),
-            "body" => record_bodies::answer(alloc, schema, call, arguments),
+            "body" => record_bodies::answer(alloc, call, arguments),
             _ => Err(Refusal::NotAsked),
         }
     }

@@ -1,8 +1,7 @@
-//! The bodies of a file's records.
+//! The body of a file's first record.
 
-use bodies::{put_docs_head, put_document, put_first_body, read_docs_body, read_first_body};
-use case_lines::{Arguments, Refusal, hex, number, pair};
-use document::CompactDoc;
+use bodies::{put_first_body, read_first_body};
+use case_lines::{Arguments, Refusal, number, pair};
 use schema::Schema;
 use serde_json::Value;
 use settings::Settings;
@@ -11,43 +10,13 @@ use std::alloc::{AllocError, Global};
 /// What an operation on bodies answers.
 pub(crate) fn answer(
     alloc: Global,
-    schema: &Schema,
     operation: &str,
     arguments: &Arguments,
 ) -> Result<Value, Refusal> {
     match operation {
-        "of-documents" => of_documents(alloc, schema, arguments),
-        "documents" => documents(alloc, schema, arguments),
         "first" => first(alloc, arguments),
         _ => Err(Refusal::NotAsked),
     }
-}
-
-/// The body of a document, by its JSON.
-fn of_documents(alloc: Global, schema: &Schema, arguments: &Arguments) -> Result<Value, Refusal> {
-    let docs = arguments.list(0)?;
-    let mut body = Vec::new(alloc);
-    put_docs_head(&mut body, docs.len())?;
-    for json in docs {
-        put_document(
-            &mut body,
-            &CompactDoc::from_json_object(alloc, schema, json)?,
-        )?;
-    }
-    Ok(hex(alloc, &body)?)
-}
-
-/// The documents of a body, as JSON texts.
-fn documents(alloc: Global, schema: &Schema, arguments: &Arguments) -> Result<Value, Refusal> {
-    let body = arguments.bytes(alloc, 0)?;
-    let Some(docs) = read_docs_body(alloc, schema, &body)? else {
-        return Ok(Value::Null);
-    };
-    let mut list = Vec::new(alloc);
-    for doc in &docs {
-        list.push(Value::String(doc.to_json(alloc, schema)?))?;
-    }
-    Ok(Value::Array(list))
 }
 
 /// How many fields the first body's schema has and its settings' weights; both again of the body put anew.

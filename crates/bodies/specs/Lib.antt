@@ -1,2 +1,0 @@
--- What bodies hold.
-pub mod Fitting
