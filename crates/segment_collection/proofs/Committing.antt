@@ -42,17 +42,17 @@ terms_of n (d ∷ dels) = ap (λ ts. d.term ∷ ts) (terms_of n dels)
 -- with these sets all segments are those of the state after the commit
 pub prepared_stands : {A : Type 0} (analyze : A → Analyzer) (old new : SegmentCollection A) (alike : IsMadeAlike old new) (c : calls.Configuration) (x : calls.Index) (s : Stands analyze old c x) (sets : List (List Bool))
     → x.status ≡ calls.ready → length old.alive.items ≤ length s.docs
-    → AllZip (StandsFor old.schema (analyze old.analyzer)) (s.docs ++ states.as_group old.open.items) new.segments.items → new.open.items ≡ [] → length sets ≡ length (s.docs ++ states.as_group old.open.items)
-    → flagged_each (s.docs ++ states.as_group old.open.items) sets
-    ≡ map (left_rows (holds old.schema (analyze old.analyzer)) (map term_of old.deletions.items)) (flagged_each (s.docs ++ states.as_group old.open.items) old.alive.items)
-    ++ pending_rows (holds old.schema (analyze old.analyzer)) (map (numbered old.settings.docs_per_segment) old.deletions.items) old.settings.docs_per_segment 0 (drop (length old.alive.items) (s.docs ++ states.as_group old.open.items))
+    → AllZip (StandsFor old.schema (analyze old.analyzer)) (s.docs ++ states.as_group old.open) new.segments.items → new.open ≡ [] → length sets ≡ length (s.docs ++ states.as_group old.open)
+    → flagged_each (s.docs ++ states.as_group old.open) sets
+    ≡ map (left_rows (holds old.schema (analyze old.analyzer)) (map term_of old.deletions.items)) (flagged_each (s.docs ++ states.as_group old.open) old.alive.items)
+    ++ pending_rows (holds old.schema (analyze old.analyzer)) (map (numbered old.settings.docs_per_segment) old.deletions.items) old.settings.docs_per_segment 0 (drop (length old.alive.items) (s.docs ++ states.as_group old.open))
     → IsPrepared analyze new sets c x
 prepared_stands analyze old new alike c x s sets ready few segments opened each rows =
     let w = s.waits ready in
     let n = old.settings.docs_per_segment in
-    let docs = s.docs ++ states.as_group old.open.items in
+    let docs = s.docs ++ states.as_group old.open in
     let terms = sym (terms_of n old.deletions.items) ∙ ap (map (λ d. d.0)) (sym w.waits.deletions) ∙ sym (terms_numbered x.state.pending 0) in
-    let groups = groups_committed old.schema (analyze old.analyzer) n x.state s.docs old.open.items (map (numbered n) old.deletions.items) old.alive.items sets (map term_of old.deletions.items) few s.groups w.waits terms rows in
+    let groups = groups_committed old.schema (analyze old.analyzer) n x.state s.docs old.open (map (numbered n) old.deletions.items) old.alive.items sets (map term_of old.deletions.items) few s.groups w.waits terms rows in
     record {
       made = same_made analyze old new alike (λ schema analyzer settings. c ≡ configuration_of schema (analyze analyzer) settings) s.made;
       sized = same_made analyze old new alike (λ schema analyzer settings. 0 < settings.docs_per_segment) s.sized;
@@ -65,13 +65,13 @@ prepared_stands analyze old new alike c x s sets ready few segments opened each 
 
 -- what was prepared is committed
 pub installed_stands : {A : Type 0} (analyze : A → Analyzer) (old new : SegmentCollection A) (alike : IsMadeAlike old new) (c : calls.Configuration) (x : calls.Index) (sets : List (List Bool)) (p : IsPrepared analyze old sets c x)
-    → new.segments.items ≡ old.segments.items → new.alive.items ≡ sets → new.open.items ≡ old.open.items → new.deletions.items ≡ [] → new.status ≡ status.Ready
+    → new.segments.items ≡ old.segments.items → new.alive.items ≡ sets → new.open ≡ old.open → new.deletions.items ≡ [] → new.status ≡ status.Ready
     → Stands analyze new c (record { state = calls.after c x.state calls.commit_pending; status = calls.ready })
 installed_stands analyze old new alike c x sets p segments alive opened dels ready =
     let n = old.settings.docs_per_segment in
     let none : drop (length new.alive.items) p.docs ≡ [] = drop_all (length new.alive.items) p.docs (let e = ap length alive in let each = p.each in omega (arith, e, each)) in
     let one : IsWaiting n [] [] [] [] = record { waits = nothing_waits n p.sized; small = tt } in
-    let waiting = subst (λ gs. IsWaiting n [] gs new.open.items new.deletions.items) (sym none) (subst (λ ds. IsWaiting n [] [] ds new.deletions.items) (sym (opened ∙ p.empty)) (subst (λ ds. IsWaiting n [] [] [] ds) (sym dels) one)) in
+    let waiting = subst (λ gs. IsWaiting n [] gs new.open new.deletions.items) (sym none) (subst (λ ds. IsWaiting n [] [] ds new.deletions.items) (sym (opened ∙ p.empty)) (subst (λ ds. IsWaiting n [] [] [] ds) (sym dels) one)) in
     record {
       made = same_made analyze old new alike (λ schema analyzer settings. c ≡ configuration_of schema (analyze analyzer) settings) p.made;
       status = ap status_of (sym ready);
@@ -79,7 +79,7 @@ installed_stands analyze old new alike c x sets p segments alive opened dels rea
       docs = p.docs;
       segments = same_made analyze old new alike (λ schema analyzer settings. AllZip (StandsFor schema (analyze analyzer)) p.docs new.segments.items) (subst (AllZip (StandsFor old.schema (analyze old.analyzer)) p.docs) (sym segments) p.segments);
       groups = p.groups ∙ ap (λ fs. live_groups (flagged_each p.docs fs)) (sym alive);
-      waits = λ _. same_made analyze old new alike (λ schema analyzer settings. IsWaiting settings.docs_per_segment [] (drop (length new.alive.items) p.docs) new.open.items new.deletions.items) waiting;
+      waits = λ _. same_made analyze old new alike (λ schema analyzer settings. IsWaiting settings.docs_per_segment [] (drop (length new.alive.items) p.docs) new.open new.deletions.items) waiting;
     }
 
 -- segments behind the committed ones change no group
@@ -101,20 +101,20 @@ half_left analyze old new alike c x s fault want none closed alive docs segments
 -- the rows after the commit, of segments, sets and deletions that are those of the collection
 pub next_rows : {A : Type 0} (analyze : A → Analyzer) (old : SegmentCollection A) (c : calls.Configuration) (x : calls.Index) (s : Stands analyze old c x) (segments : List code.Segment) (alive sets : List (List Bool)) (dels : List Deletion)
     → x.status ≡ calls.ready → length old.alive.items ≤ length s.docs → alive ≡ old.alive.items → dels ≡ old.deletions.items
-    → AllZip (StandsFor old.schema (analyze old.analyzer)) (s.docs ++ states.as_group old.open.items) segments
+    → AllZip (StandsFor old.schema (analyze old.analyzer)) (s.docs ++ states.as_group old.open) segments
     → ((schema : Schema) (analyze : Analyzer) (n : ℕ) (docs : List (List Document)) → AllZip (StandsFor schema analyze) docs segments → AllByRecursion (λ ds. length ds ≤ n) (drop (length alive) docs) → AllByRecursion (IsSmall n) dels
     → flagged_each docs sets ≡ map (left_rows (holds schema analyze) (map term_of dels)) (flagged_each docs alive) ++ pending_rows (holds schema analyze) (map (numbered n) dels) n 0 (drop (length alive) docs))
-    → flagged_each (s.docs ++ states.as_group old.open.items) sets
-    ≡ map (left_rows (holds old.schema (analyze old.analyzer)) (map term_of old.deletions.items)) (flagged_each (s.docs ++ states.as_group old.open.items) old.alive.items)
-    ++ pending_rows (holds old.schema (analyze old.analyzer)) (map (numbered old.settings.docs_per_segment) old.deletions.items) old.settings.docs_per_segment 0 (drop (length old.alive.items) (s.docs ++ states.as_group old.open.items))
+    → flagged_each (s.docs ++ states.as_group old.open) sets
+    ≡ map (left_rows (holds old.schema (analyze old.analyzer)) (map term_of old.deletions.items)) (flagged_each (s.docs ++ states.as_group old.open) old.alive.items)
+    ++ pending_rows (holds old.schema (analyze old.analyzer)) (map (numbered old.settings.docs_per_segment) old.deletions.items) old.settings.docs_per_segment 0 (drop (length old.alive.items) (s.docs ++ states.as_group old.open))
 next_rows analyze old c x s segments alive sets dels ready few same_alive same_dels stands rows =
     let w = s.waits ready in
     let n = old.settings.docs_per_segment in
     let has = holds old.schema (analyze old.analyzer) in
-    let docs = s.docs ++ states.as_group old.open.items in
+    let docs = s.docs ++ states.as_group old.open in
     let full = drop (length old.alive.items) s.docs in
-    let behind : drop (length old.alive.items) docs ≡ full ++ states.as_group old.open.items = drop-append-le (length old.alive.items) s.docs (states.as_group old.open.items) few in
-    let within = subst (AllByRecursion (λ (ds : List Document). length ds ≤ n)) (sym behind) (all_within n full old.open.items w.waits.long w.waits.short) in
+    let behind : drop (length old.alive.items) docs ≡ full ++ states.as_group old.open = drop-append-le (length old.alive.items) s.docs (states.as_group old.open) few in
+    let within = subst (AllByRecursion (λ (ds : List Document). length ds ≤ n)) (sym behind) (all_within n full old.open w.waits.long w.waits.short) in
     let within' = subst (λ fs. AllByRecursion (λ (ds : List Document). length ds ≤ n) (drop (length fs) docs)) (sym same_alive) within in
     let small = subst (AllByRecursion (IsSmall n)) (sym same_dels) w.small in
     let all = rows old.schema (analyze old.analyzer) n docs stands within' small in
@@ -149,7 +149,7 @@ commit_body schema frame segments others alive sets same k before e1 e2 e3 frame
 
 -- what is there when nothing waits
 pub first_stands : {A : Type 0} (analyze : A → Analyzer) (index : SegmentCollection A) (docs groups : List (List Document)) → index.status ≡ status.Ready → 0 < index.settings.docs_per_segment
-    → AllZip (StandsFor index.schema (analyze index.analyzer)) docs index.segments.items → groups ≡ live_groups (flagged_each docs index.alive.items) → length index.alive.items ≡ length docs → index.open.items ≡ [] → index.deletions.items ≡ []
+    → AllZip (StandsFor index.schema (analyze index.analyzer)) docs index.segments.items → groups ≡ live_groups (flagged_each docs index.alive.items) → length index.alive.items ≡ length docs → index.open ≡ [] → index.deletions.items ≡ []
     → Stands analyze index (configuration_of index.schema (analyze index.analyzer) index.settings) (reopened groups)
 first_stands analyze index docs groups ready sized segments are each opened dels =
     let n = index.settings.docs_per_segment in
@@ -162,5 +162,5 @@ first_stands analyze index docs groups ready sized segments are each opened dels
       docs = docs;
       segments = segments;
       groups = are;
-      waits = λ _. subst (λ gs. IsWaiting n [] gs index.open.items index.deletions.items) (sym none) (subst (λ ds. IsWaiting n [] [] ds index.deletions.items) (sym opened) (subst (λ ds. IsWaiting n [] [] [] ds) (sym dels) one));
+      waits = λ _. subst (λ gs. IsWaiting n [] gs index.open index.deletions.items) (sym none) (subst (λ ds. IsWaiting n [] [] ds index.deletions.items) (sym opened) (subst (λ ds. IsWaiting n [] [] [] ds) (sym dels) one));
     }

@@ -209,7 +209,7 @@ are_opened schema (t ∷ segments) (flags ∷ sets) o f = ((o.0, f.0), are_opene
 
 module _ {A : Type 0} (analyze : A → Analyzer) (old new : SegmentCollection A) (alike : IsMadeAlike old new) (c : calls.Configuration) (x : calls.Index) (s : Stands analyze old c x) (p : PreparedMerge) (r : Replaces old p) where
   stands_replaced : MatchOption p.segment (joined_groups p.from p.to x.state.groups ≡ []) (StandsFor old.schema (analyze old.analyzer) (joined_groups p.from p.to x.state.groups))
-      → new.segments.items ≡ replaced p.from p.to (new_in p) old.segments.items → new.alive.items ≡ p.alive.items → new.open.items ≡ old.open.items → new.deletions.items ≡ old.deletions.items → new.status ≡ old.status
+      → new.segments.items ≡ replaced p.from p.to (new_in p) old.segments.items → new.alive.items ≡ p.alive.items → new.open ≡ old.open → new.deletions.items ≡ old.deletions.items → new.status ≡ old.status
       → Stands analyze new c (record { state = states.after_merge p.from p.to x.state; status = x.status })
   stands_replaced of segments alive opened dels status =
       let cut = analyze old.analyzer in
@@ -234,13 +234,13 @@ module _ {A : Type 0} (analyze : A → Analyzer) (old new : SegmentCollection A)
       stands_with analyze old new alike c x s y docs (subst (AllZip (StandsFor old.schema cut) docs) (sym segments) shown)
       (s.status ∙ ap status_of (sym status)) (groups ∙ ap (λ fs. live_groups (flagged_each docs fs)) (sym kept))
       (λ ready.
-      subst (λ gs. IsWaiting n x.state.pending gs new.open.items new.deletions.items) (sym behind)
+      subst (λ gs. IsWaiting n x.state.pending gs new.open new.deletions.items) (sym behind)
       (subst (λ ds. IsWaiting n x.state.pending (drop (length sets) s.docs) ds new.deletions.items) (sym opened)
-      (subst (λ ds. IsWaiting n x.state.pending (drop (length sets) s.docs) old.open.items ds) (sym dels) (s.waits ready))))
+      (subst (λ ds. IsWaiting n x.state.pending (drop (length sets) s.docs) old.open ds) (sym dels) (s.waits ready))))
 
   -- after a merge the collection stands for what is left
   pub merged_stands : (from to : ℕ) → Joins analyze old from to x.state.groups p
-      → new.segments.items ≡ replaced p.from p.to (new_in p) old.segments.items → new.alive.items ≡ p.alive.items → new.open.items ≡ old.open.items → new.deletions.items ≡ old.deletions.items → new.status ≡ old.status
+      → new.segments.items ≡ replaced p.from p.to (new_in p) old.segments.items → new.alive.items ≡ p.alive.items → new.open ≡ old.open → new.deletions.items ≡ old.deletions.items → new.status ≡ old.status
       → Stands analyze new c (record { state = states.after_merge from to x.state; status = x.status })
   merged_stands from to joins segments alive opened dels status =
       let cut = analyze old.analyzer in

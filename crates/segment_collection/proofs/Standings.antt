@@ -1,5 +1,5 @@
 -- What a collection stands for, as calls are made.
-use Rattle.std.proofs.Common.{[], ◌*◌, ◌++◌, ◌+◌, ◌-◌, ◌<◌, ◌∙◌, ◌∷◌, ◌≡◌, ◌≢◌, ◌≤◌, Bool, Err, List, None, Ok, Result, ap, ap₂, arith, drop, false, if◌then◌else◌, length, map, refl, subst, sym, ℕ}
+use Rattle.std.proofs.Common.{[], ◌*◌, ◌++◌, ◌+◌, ◌-◌, ◌<◌, ◌∙◌, ◌∷◌, ◌≡◌, ◌≢◌, ◌≤◌, Bool, Err, List, None, Ok, Result, ap, ap₂, arith, drop, false, if◌then◌else◌, length, map, refl, subst, sym, true, ℕ}
 use Rattle.std.proofs.Math.Logic.{∥∥₁_map}
 use Rattle.std.proofs.lemmas.List.{append-nil, drop-append-le, length-drop, map-append}
 use Rattle.std.specs.List.{AllByRecursion, AllZip}
@@ -18,7 +18,7 @@ use Rattle.segment.specs.Opened.{IsOpened, StandsFor}
 use Rattle.segment.specs.declared.segment.Segment as code
 use Rattle.segment_lists.specs.Waiting.{Waits}
 use Rattle.segment_collection.proofs.EachFlagged.{each_more}
-use Rattle.segment_search.proofs.Flagging.{flagged_within}
+use Rattle.segment_search.proofs.Flagging.{flagged_more, flagged_within}
 use Rattle.segment_search.proofs.RowsRead.{docs_counted}
 use Rattle.segment_collection.proofs.Groups.{HaveFlags}
 use Rattle.segment_collection.proofs.Outcomes.{closed_is_not_ready, own_refuses, writer_is_not_ready}
@@ -74,6 +74,15 @@ opened_more schema segments new s h o e = ∥∥₁_map h (λ all. subst (AllByR
 pub opened_same : (schema : Schema) (segments new : List code.Segment) → ∥ AllByRecursion (IsOpened schema) segments ∥₁ → new ≡ segments → ∥ AllByRecursion (IsOpened schema) new ∥₁
 opened_same schema segments new h e = ∥∥₁_map h (λ all. subst (AllByRecursion (IsOpened schema)) (sym e) all)
 
+-- the same whether one more was pushed or not
+pub opened_either : (schema : Schema) (segments new : List code.Segment) (s : code.Segment) (pushed : Bool) → ∥ AllByRecursion (IsOpened schema) segments ∥₁ → IsOpened schema s → new ≡ (if pushed then segments ++ s ∷ [] else segments) → ∥ AllByRecursion (IsOpened schema) new ∥₁
+opened_either schema segments new s true h o e = opened_more schema segments new s h o e
+opened_either schema segments new s false h o e = opened_same schema segments new h e
+
+pub flagged_either : (segments new : List code.Segment) (s : code.Segment) (alive : List (List Bool)) (pushed : Bool) → AreFlagged segments alive → new ≡ (if pushed then segments ++ s ∷ [] else segments) → AreFlagged new alive
+flagged_either segments new s alive true h e = subst (λ ss. AreFlagged ss alive) (sym e) (flagged_more segments (s ∷ []) alive h)
+flagged_either segments new s alive false h e = subst (λ ss. AreFlagged ss alive) (sym e) h
+
 -- ---- documents that an add takes
 
 pub given_ok : (schema : Schema) (doc : Document) → IsGiven schema doc → calls.document_given schema doc ≡ Ok doc
@@ -104,7 +113,7 @@ module _ {A : Type 0} (analyze : A → Analyzer) (old new : SegmentCollection A)
 
   module _ (c : calls.Configuration) (x : calls.Index) (s : Stands analyze old c x) where
     -- with segments of these documents, which stand for these groups, and what waits
-    pub stands_with : (y : calls.Index) (docs : List (List Document)) → AllZip (StandsFor old.schema (analyze old.analyzer)) docs new.segments.items → y.status ≡ status_of new.status → y.state.groups ≡ live_groups (flagged_each docs new.alive.items) → (y.status ≡ calls.ready → IsWaiting old.settings.docs_per_segment y.state.pending (drop (length new.alive.items) docs) new.open.items new.deletions.items) → Stands analyze new c y
+    pub stands_with : (y : calls.Index) (docs : List (List Document)) → AllZip (StandsFor old.schema (analyze old.analyzer)) docs new.segments.items → y.status ≡ status_of new.status → y.state.groups ≡ live_groups (flagged_each docs new.alive.items) → (y.status ≡ calls.ready → IsWaiting old.settings.docs_per_segment y.state.pending (drop (length new.alive.items) docs) new.open new.deletions.items) → Stands analyze new c y
     stands_with y docs segments status groups waits = record {
       made = same_made (λ schema analyzer settings. c ≡ configuration_of schema (analyze analyzer) settings) s.made;
       status = status;
@@ -112,18 +121,18 @@ module _ {A : Type 0} (analyze : A → Analyzer) (old new : SegmentCollection A)
       docs = docs;
       segments = same_made (λ schema analyzer settings. AllZip (StandsFor schema (analyze analyzer)) docs new.segments.items) segments;
       groups = groups;
-      waits = λ ready. same_made (λ schema analyzer settings. IsWaiting settings.docs_per_segment y.state.pending (drop (length new.alive.items) docs) new.open.items new.deletions.items) (waits ready);
+      waits = λ ready. same_made (λ schema analyzer settings. IsWaiting settings.docs_per_segment y.state.pending (drop (length new.alive.items) docs) new.open new.deletions.items) (waits ready);
     }
 
     -- the same segments, and what waits
-    pub kept_stands : new.status ≡ old.status → new.alive.items ≡ old.alive.items → new.segments.items ≡ old.segments.items → new.open.items ≡ old.open.items → new.deletions.items ≡ old.deletions.items → Stands analyze new c x
+    pub kept_stands : new.status ≡ old.status → new.alive.items ≡ old.alive.items → new.segments.items ≡ old.segments.items → new.open ≡ old.open → new.deletions.items ≡ old.deletions.items → Stands analyze new c x
     kept_stands status alive segments opened dels =
         stands_with x s.docs (subst (AllZip (StandsFor old.schema (analyze old.analyzer)) s.docs) (sym segments) s.segments)
         (s.status ∙ ap status_of (sym status)) (s.groups ∙ ap (λ sets. live_groups (flagged_each s.docs sets)) (sym alive))
         (λ ready.
-        subst (λ sets. IsWaiting old.settings.docs_per_segment x.state.pending (drop (length sets) s.docs) new.open.items new.deletions.items) (sym alive)
+        subst (λ sets. IsWaiting old.settings.docs_per_segment x.state.pending (drop (length sets) s.docs) new.open new.deletions.items) (sym alive)
         (subst (λ ds. IsWaiting old.settings.docs_per_segment x.state.pending (drop (length old.alive.items) s.docs) ds new.deletions.items) (sym opened)
-        (subst (λ ds. IsWaiting old.settings.docs_per_segment x.state.pending (drop (length old.alive.items) s.docs) old.open.items ds) (sym dels) (s.waits ready))))
+        (subst (λ ds. IsWaiting old.settings.docs_per_segment x.state.pending (drop (length old.alive.items) s.docs) old.open ds) (sym dels) (s.waits ready))))
 
     -- a status in which no more changes are taken, with the same sets
     pub stands_stopped : (status : calls.Status) → status ≢ calls.ready → status ≡ status_of new.status → new.alive.items ≡ old.alive.items → (docs : List (List Document)) → AllZip (StandsFor old.schema (analyze old.analyzer)) docs new.segments.items → x.state.groups ≡ live_groups (flagged_each docs old.alive.items) → Stands analyze new c (record { state = x.state; status = status })
@@ -146,31 +155,31 @@ module _ {A : Type 0} (analyze : A → Analyzer) (old : SegmentCollection A) (c 
 
   module _ (new : SegmentCollection A) (alike : IsMadeAlike old new) (ready : x.status ≡ calls.ready) (status : new.status ≡ old.status) (alive : new.alive.items ≡ old.alive.items) (dels : new.deletions.items ≡ old.deletions.items) where
     -- in the segment that isn't full
-    pub added_open_stands : new.segments.items ≡ old.segments.items → new.open.items ≡ old.open.items ++ doc ∷ [] → length new.open.items < old.settings.docs_per_segment → Stands analyze new c (record { state = calls.after c x.state (calls.add_document doc); status = x.status })
+    pub added_open_stands : new.segments.items ≡ old.segments.items → new.open ≡ old.open ++ doc ∷ [] → length new.open < old.settings.docs_per_segment → Stands analyze new c (record { state = calls.after c x.state (calls.add_document doc); status = x.status })
     added_open_stands segments opened less =
         let w = s.waits ready in
         let n = old.settings.docs_per_segment in
         let y : calls.Index = record { state = states.after_add doc x.state; status = x.status } in
         let short = subst (λ ds. length ds < n) opened less in
-        let before : IsWaiting n y.state.pending (drop (length old.alive.items) s.docs) (old.open.items ++ doc ∷ []) old.deletions.items = record { waits = added_open n x.state.pending (drop (length old.alive.items) s.docs) old.open.items (map (numbered n) old.deletions.items) w.waits doc short; small = w.small } in
-        let waiting = subst (λ sets. IsWaiting n y.state.pending (drop (length sets) s.docs) new.open.items new.deletions.items) (sym alive) (subst (λ ds. IsWaiting n y.state.pending (drop (length old.alive.items) s.docs) ds new.deletions.items) (sym opened) (subst (λ ds. IsWaiting n y.state.pending (drop (length old.alive.items) s.docs) (old.open.items ++ doc ∷ []) ds) (sym dels) before)) in
+        let before : IsWaiting n y.state.pending (drop (length old.alive.items) s.docs) (old.open ++ doc ∷ []) old.deletions.items = record { waits = added_open n x.state.pending (drop (length old.alive.items) s.docs) old.open (map (numbered n) old.deletions.items) w.waits doc short; small = w.small } in
+        let waiting = subst (λ sets. IsWaiting n y.state.pending (drop (length sets) s.docs) new.open new.deletions.items) (sym alive) (subst (λ ds. IsWaiting n y.state.pending (drop (length old.alive.items) s.docs) ds new.deletions.items) (sym opened) (subst (λ ds. IsWaiting n y.state.pending (drop (length old.alive.items) s.docs) (old.open ++ doc ∷ []) ds) (sym dels) before)) in
         subst (λ (t : states.State). Stands analyze new c (record { state = t; status = x.status })) (sym add_waits)
         (stands_with analyze old new alike c x s y s.docs (subst (λ ss. AllZip (StandsFor old.schema (analyze old.analyzer)) s.docs ss) (sym segments) s.segments)
         (s.status ∙ ap status_of (sym status)) (s.groups ∙ ap (λ sets. live_groups (flagged_each s.docs sets)) (sym alive)) (λ _. waiting))
 
     -- and where it fills that
-    pub added_closed_stands : length old.alive.items ≤ length s.docs → AllZip (StandsFor old.schema (analyze old.analyzer)) (s.docs ++ states.as_group (old.open.items ++ doc ∷ [])) new.segments.items → new.open.items ≡ [] → old.settings.docs_per_segment ≤ length (old.open.items ++ doc ∷ []) → Stands analyze new c (record { state = calls.after c x.state (calls.add_document doc); status = x.status })
+    pub added_closed_stands : length old.alive.items ≤ length s.docs → AllZip (StandsFor old.schema (analyze old.analyzer)) (s.docs ++ states.as_group (old.open ++ doc ∷ [])) new.segments.items → new.open ≡ [] → old.settings.docs_per_segment ≤ length (old.open ++ doc ∷ []) → Stands analyze new c (record { state = calls.after c x.state (calls.add_document doc); status = x.status })
     added_closed_stands few segments opened more =
         let w = s.waits ready in
         let n = old.settings.docs_per_segment in
         let y : calls.Index = record { state = states.after_add doc x.state; status = x.status } in
-        let last = old.open.items ++ doc ∷ [] in
-        let one : states.as_group last ≡ last ∷ [] = as_one old.open.items doc in
+        let last = old.open ++ doc ∷ [] in
+        let one : states.as_group last ≡ last ∷ [] = as_one old.open doc in
         let docs = s.docs ++ last ∷ [] in
         let full = drop (length old.alive.items) s.docs in
         let behind : drop (length old.alive.items) docs ≡ full ++ last ∷ [] = drop-append-le (length old.alive.items) s.docs (last ∷ []) few in
-        let before : IsWaiting n y.state.pending (full ++ last ∷ []) [] old.deletions.items = record { waits = added_closed n x.state.pending full old.open.items (map (numbered n) old.deletions.items) w.waits doc more; small = w.small } in
-        let waiting = subst (λ sets. IsWaiting n y.state.pending (drop (length sets) docs) new.open.items new.deletions.items) (sym alive) (subst (λ ds. IsWaiting n y.state.pending (drop (length old.alive.items) docs) ds new.deletions.items) (sym opened) (subst (λ ds. IsWaiting n y.state.pending (drop (length old.alive.items) docs) [] ds) (sym dels) (subst (λ gs. IsWaiting n y.state.pending gs [] old.deletions.items) (sym behind) before))) in
+        let before : IsWaiting n y.state.pending (full ++ last ∷ []) [] old.deletions.items = record { waits = added_closed n x.state.pending full old.open (map (numbered n) old.deletions.items) w.waits doc more; small = w.small } in
+        let waiting = subst (λ sets. IsWaiting n y.state.pending (drop (length sets) docs) new.open new.deletions.items) (sym alive) (subst (λ ds. IsWaiting n y.state.pending (drop (length old.alive.items) docs) ds new.deletions.items) (sym opened) (subst (λ ds. IsWaiting n y.state.pending (drop (length old.alive.items) docs) [] ds) (sym dels) (subst (λ gs. IsWaiting n y.state.pending gs [] old.deletions.items) (sym behind) before))) in
         let shown = subst (λ gs. AllZip (StandsFor old.schema (analyze old.analyzer)) (s.docs ++ gs) new.segments.items) one segments in
         subst (λ (t : states.State). Stands analyze new c (record { state = t; status = x.status })) (sym add_waits)
         (stands_with analyze old new alike c x s y docs shown (s.status ∙ ap status_of (sym status))
@@ -184,8 +193,8 @@ module _ {A : Type 0} (analyze : A → Analyzer) (old : SegmentCollection A) (c 
 
 -- a deletion more waits
 pub deleted_stands : {A : Type 0} (analyze : A → Analyzer) (old new : SegmentCollection A) (alike : IsMadeAlike old new) (c : calls.Configuration) (x : calls.Index) (s : Stands analyze old c x) (d : Deletion)
-    → x.status ≡ calls.ready → new.status ≡ old.status → new.alive.items ≡ old.alive.items → new.segments.items ≡ old.segments.items → new.open.items ≡ old.open.items → new.deletions.items ≡ old.deletions.items ++ d ∷ []
-    → d.segments ≡ length old.segments.items - length old.alive.items → d.docs ≡ length old.open.items → (t : List ℕ) → d.term ≡ t
+    → x.status ≡ calls.ready → new.status ≡ old.status → new.alive.items ≡ old.alive.items → new.segments.items ≡ old.segments.items → new.open ≡ old.open → new.deletions.items ≡ old.deletions.items ++ d ∷ []
+    → d.segments ≡ length old.segments.items - length old.alive.items → d.docs ≡ length old.open → (t : List ℕ) → d.term ≡ t
     → Stands analyze new c (record { state = calls.after c x.state (calls.delete_term t); status = x.status })
 deleted_stands analyze old new alike c x s d ready status alive segments opened dels before docs t named =
     let w = s.waits ready in
@@ -194,12 +203,12 @@ deleted_stands analyze old new alike c x s d ready status alive segments opened 
     let y : calls.Index = record { state = states.after_delete d.term x.state; status = x.status } in
     let longs = zip_length (StandsFor old.schema (analyze old.analyzer)) s.docs old.segments.items s.segments in
     let count : d.segments ≡ length full = before ∙ ap (λ k. k - length old.alive.items) (sym longs) ∙ sym (length-drop (length old.alive.items) s.docs) in
-    let number : n * length full + length old.open.items ≡ n * d.segments + d.docs = ap₂ (λ (a b : ℕ). n * a + b) (sym count) (sym docs) in
+    let number : n * length full + length old.open ≡ n * d.segments + d.docs = ap₂ (λ (a b : ℕ). n * a + b) (sym count) (sym docs) in
     let more = ap (λ k. map (numbered n) old.deletions.items ++ (d.term, k) ∷ []) number ∙ sym (map-append (numbered n) old.deletions.items (d ∷ [])) in
     let short = w.waits.short in
-    let waits = subst (Waits n y.state.pending full old.open.items) more (deleted_more n x.state.pending full old.open.items (map (numbered n) old.deletions.items) w.waits d.term) in
-    let one : IsWaiting n y.state.pending full old.open.items (old.deletions.items ++ d ∷ []) = record { waits = waits; small = all_more (IsSmall n) old.deletions.items d w.small (omega (arith, short, docs)) } in
-    let waiting = subst (λ sets. IsWaiting n y.state.pending (drop (length sets) s.docs) new.open.items new.deletions.items) (sym alive) (subst (λ ds. IsWaiting n y.state.pending full ds new.deletions.items) (sym opened) (subst (λ ds. IsWaiting n y.state.pending full old.open.items ds) (sym dels) one)) in
+    let waits = subst (Waits n y.state.pending full old.open) more (deleted_more n x.state.pending full old.open (map (numbered n) old.deletions.items) w.waits d.term) in
+    let one : IsWaiting n y.state.pending full old.open (old.deletions.items ++ d ∷ []) = record { waits = waits; small = all_more (IsSmall n) old.deletions.items d w.small (omega (arith, short, docs)) } in
+    let waiting = subst (λ sets. IsWaiting n y.state.pending (drop (length sets) s.docs) new.open new.deletions.items) (sym alive) (subst (λ ds. IsWaiting n y.state.pending full ds new.deletions.items) (sym opened) (subst (λ ds. IsWaiting n y.state.pending full old.open ds) (sym dels) one)) in
     subst (λ u. Stands analyze new c (record { state = calls.after c x.state (calls.delete_term u); status = x.status })) named
     (stands_with analyze old new alike c x s y s.docs (subst (λ ss. AllZip (StandsFor old.schema (analyze old.analyzer)) s.docs ss) (sym segments) s.segments)
     (s.status ∙ ap status_of (sym status)) (s.groups ∙ ap (λ sets. live_groups (flagged_each s.docs sets)) (sym alive)) (λ _. waiting))

@@ -36,4 +36,4 @@ pub record IsPrepared {A : Type 0} (analyze : A → Analyzer) (index : SegmentCo
   pub segments : AllZip (StandsFor index.schema (analyze index.analyzer)) docs index.segments.items
   pub each : length sets ≡ length docs
   pub groups : (calls.after c x.state calls.commit_pending).groups ≡ live_groups (flagged_each docs sets)
-  pub empty : index.open.items ≡ []
+  pub empty : index.open ≡ []

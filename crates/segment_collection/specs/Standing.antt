@@ -43,7 +43,7 @@ pub record Stands {A : Type 0} (analyze : A → Analyzer) (index : SegmentCollec
   pub docs : List (List Document)
   pub segments : AllZip (StandsFor index.schema (analyze index.analyzer)) docs index.segments.items
   pub groups : x.state.groups ≡ live_groups (flagged_each docs index.alive.items)
-  pub waits : x.status ≡ calls.ready → IsWaiting index.settings.docs_per_segment x.state.pending (drop (length index.alive.items) docs) index.open.items index.deletions.items
+  pub waits : x.status ≡ calls.ready → IsWaiting index.settings.docs_per_segment x.state.pending (drop (length index.alive.items) docs) index.open index.deletions.items
 
 -- made of the same schema, analyzer and settings
 pub record IsMadeAlike {A : Type 0} (old new : SegmentCollection A) : Type 0 where
@@ -86,7 +86,7 @@ module _ {A : Type 0} where
 
   -- the documents of the segment that isn't full
   abbrev pub open_of : SegmentCollection A → List Document
-  open_of index = index.open.items
+  open_of index = index.open
 
   -- how many segments there are, those that wait too
   abbrev pub num_written : SegmentCollection A → ℕ

@@ -64,7 +64,7 @@ pub struct SegmentCollection<A> {
     pub(crate) status: Status,
     ghost opened: { ∥ AllByRecursion (IsOpened schema) segments.items ∥₁ },
     ghost flagged: { AreFlagged segments.items alive.items } by { AreFlagged-prop segments.items alive.items },
-    ghost given: { AllByRecursion (IsGiven schema) open } by { AreGiven-prop schema open },
+    ghost given: { AllByRecursion (IsGiven schema) «open» } by { AreGiven-prop schema «open» },
     ghost few: { length alive.items < 2 ^ 32 },
 }
 

@@ -7,6 +7,7 @@ ghost use Rattle.segment.specs.Opened.{StandsFor};
 ghost use Rattle.segment_collection.specs.Given.{IsGiven};
 ghost use Rattle.segment_collection.specs.Limits.{DocumentsPass};
 ghost use Rattle.segment_layouts.specs.Segments.{IsSegmentOf};
+ghost use Rattle.segment_writer.specs.Writers.{HasWritten};
 
 use bytes::Bytes;
 use common::Analyzer;
@@ -60,13 +61,31 @@ fn written_bytes<A: Analyzer>(
     ensures limit { IfErr result (λ fault. fault ≡ faults.Limit
         → DocumentsPass schema.now (A.analyze analyzer.now) block_size docs) }
 {
+    let writer = written(alloc, analyzer, schema, block_size, &docs)?;
+    // The documents are let go before the bytes of the segment are put together.
+    drop(docs);
+    writer.close(schema)
+}
+
+/// A writer of a segment to which these documents were added; `Limit` where they pass one.
+fn written<A: Analyzer>(
+    alloc: Global,
+    analyzer: &A,
+    schema: &Schema,
+    block_size: usize,
+    docs: &CompactDocs,
+) -> Result<SegmentWriter, Fault>
+    requires { AllByRecursion (IsGiven schema.now) docs.now }
+    ensures ok { IfOk result (λ writer. HasWritten schema.now (A.analyze analyzer.now) block_size writer docs.now) }
+    ensures err { IfErr result (λ fault. (fault ≡ faults.OutOfMemory) ⊎ (fault ≡ faults.Limit)) }
+    ensures limit { IfErr result (λ fault. fault ≡ faults.Limit
+        → DocumentsPass schema.now (A.analyze analyzer.now) block_size docs.now) }
+{
     let mut writer = SegmentWriter::new(alloc, schema, block_size)?;
     for at in 0..docs.len() {
         let doc = docs.get(alloc, at)?;
         let _pairs = doc.len();
         writer.add(schema, analyzer, &doc)?;
     }
-    // The documents are let go before the bytes of the segment are put together.
-    drop(docs);
-    writer.close(schema)
+    Ok(writer)
 }

@@ -6,5 +6,5 @@ use Rattle.segment_collection.proofs.written_segment.written_segment.Goals as go
 pub new-requires : goal.new-requires
 new-requires g c =
     let schema = c.args.schema.now in
-    let docs = c.args.docs.now in
+    let docs = c.args.docs in
     ∣ (length docs, subst (IsSegment schema (length docs)) (sym c.in_ok-bytes-2.ensures.ok) (segment_known schema (g.A.Analyzer.analyze c.args.analyzer.now) docs c.in_ok-bytes.bytes.items c.in_ok-bytes.ensures.ok)) ∣₁

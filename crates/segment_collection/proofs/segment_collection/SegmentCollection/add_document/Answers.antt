@@ -47,15 +47,15 @@ returns-in_err-check_slot-clause-limit g c =
     let analyze = g.A.Analyzer.analyze old.analyzer in
     let fault = c.in_err-check_slot.field-0.0 in
     let err = subst (λ n. (fault ≡ faults.OutOfMemory) ⊎ ((fault ≡ faults.Limit) × (2 ^ 32 ≤ n + length (slot old.schema c.args.doc) + 8))) c.block_size.ensures c.in_err-check_slot.ensures.err in
-    err_has c.from_residual-in_err-check_slot.result fault (λ f. f ≡ faults.Limit → DocumentsPass old.schema analyze old.settings.block_size (old.open.items ++ c.args.doc ∷ [])) c.from_residual-in_err-check_slot.ensures.1
-    (λ is. long_passes old.schema analyze old.settings.block_size old.open.items c.args.doc fault err is)
+    err_has c.from_residual-in_err-check_slot.result fault (λ f. f ≡ faults.Limit → DocumentsPass old.schema analyze old.settings.block_size (old.open ++ c.args.doc ∷ [])) c.from_residual-in_err-check_slot.ensures.1
+    (λ is. long_passes old.schema analyze old.settings.block_size old.open c.args.doc fault err is)
 
 pub returns-in_err-push-clause-left : goal.returns-in_err-push-clause-left
 returns-in_err-push-clause-left g c k x s =
     let old = c.args.self.now in
     let call = calls.add_document c.args.doc in
     let ready = ap (λ status. calls.status_fault status false) s.status ∙ sym c.check_writer.ensures.value ∙ ap result_err c.in_ok-check_writer.was in
-    (x, subst (λ r. calls.Leaves k x call r x) (err_same c.from_residual-in_err-push.result faults.OutOfMemory c.from_residual-in_err-push.ensures.1) (calls.memory_refused ready refl), kept_stands g.A.Analyzer.analyze old _ (record { analyzer = refl; schema = refl; settings = refl }) k x s refl refl refl c.in_err-push.ensures.items refl)
+    (x, subst (λ r. calls.Leaves k x call r x) (err_same c.from_residual-in_err-push.result faults.OutOfMemory c.from_residual-in_err-push.ensures.1) (calls.memory_refused ready refl), kept_stands g.A.Analyzer.analyze old _ (record { analyzer = refl; schema = refl; settings = refl }) k x s refl refl refl c.in_err-push.ensures.err refl)
 
 pub returns-then-len-docs_per_segment-clause-left : goal.returns-then-len-docs_per_segment-clause-left
 returns-then-len-docs_per_segment-clause-left g c k x s =
@@ -63,13 +63,13 @@ returns-then-len-docs_per_segment-clause-left g c k x s =
     let doc = c.args.doc in
     let given = c.in_ok-check_document.ensures.given in
     let none = ap (λ status. calls.status_fault status false) s.status ∙ sym c.check_writer.ensures.value ∙ ap result_err c.in_ok-check_writer.was in
-    let len = c.len.ensures ∙ c.push.new.self.ok.0 in
+    let len = c.len.ensures in
     let below = c.if-len-docs_per_segment.true in
     let n = c.docs_per_segment.ensures.value in
-    let less : length c.push.new.self.items < old.settings.docs_per_segment = omega (arith, len, below, n) in (
+    let less : length c.push.new.self < old.settings.docs_per_segment = omega (arith, len, below, n) in (
       record { state = calls.after k x.state (calls.add_document doc); status = x.status },
       calls.answered (add_taken g.A.Analyzer.analyze old k x s doc given none),
-      added_open_stands g.A.Analyzer.analyze old k x s doc given _ (record { analyzer = refl; schema = refl; settings = refl }) (ready_of x.status none) refl refl refl refl c.in_ok-push.ensures.items less,
+      added_open_stands g.A.Analyzer.analyze old k x s doc given _ (record { analyzer = refl; schema = refl; settings = refl }) (ready_of x.status none) refl refl refl refl c.in_ok-push.ensures.ok less,
     )
 
 pub returns-in_err-close_open-clause-left : goal.returns-in_err-close_open-clause-left
@@ -88,8 +88,8 @@ pub returns-in_err-close_open-clause-limit : goal.returns-in_err-close_open-clau
 returns-in_err-close_open-clause-limit g c =
     let old = c.args.self.now in
     let pass = DocumentsPass old.schema (g.A.Analyzer.analyze old.analyzer) old.settings.block_size in
-    err_has c.from_residual-in_err-close_open.result c.in_err-close_open.field-0.0 (λ fault. fault ≡ faults.Limit → pass (old.open.items ++ c.args.doc ∷ [])) c.from_residual-in_err-close_open.ensures.1
-    (λ is. subst pass c.in_ok-push.ensures.items (c.in_err-close_open.ensures.limit is))
+    err_has c.from_residual-in_err-close_open.result c.in_err-close_open.field-0.0 (λ fault. fault ≡ faults.Limit → pass (old.open ++ c.args.doc ∷ [])) c.from_residual-in_err-close_open.ensures.1
+    (λ is. subst pass c.in_ok-push.ensures.ok (c.in_err-close_open.ensures.limit is))
 
 pub returns-clause-left : goal.returns-clause-left
 returns-clause-left g c k x s =
@@ -104,12 +104,12 @@ returns-clause-left g c k x s =
     let ready = ready_of x.status none in
     let few = sets_within old.schema analyze s.docs old.segments.items old.alive.items s.segments old.flagged in
     let closed = c.in_ok-close_open.ensures.closed s.docs s.segments in
-    let segments = subst (λ ds. AllZip (StandsFor old.schema analyze) (s.docs ++ states.as_group ds) mid.segments.items) c.in_ok-push.ensures.items closed.0 in
-    let len = c.len.ensures ∙ c.push.new.self.ok.0 in
+    let segments = subst (λ ds. AllZip (StandsFor old.schema analyze) (s.docs ++ states.as_group ds) mid.segments.items) c.in_ok-push.ensures.ok closed.0 in
+    let len = c.len.ensures in
     let past = c.if-len-docs_per_segment.false in
     let n = c.docs_per_segment.ensures.value in
-    let pushed = ap length c.in_ok-push.ensures.items in
-    let more : old.settings.docs_per_segment ≤ length (old.open.items ++ doc ∷ []) = omega (arith, len, past, n, pushed) in
+    let pushed = ap length c.in_ok-push.ensures.ok in
+    let more : old.settings.docs_per_segment ≤ length (old.open ++ doc ∷ []) = omega (arith, len, past, n, pushed) in
     let status = sym (ready_status old.status (sym s.status ∙ ready)) in (
       record { state = calls.after k x.state (calls.add_document doc); status = x.status },
       calls.answered (add_taken g.A.Analyzer.analyze old k x s doc given none),

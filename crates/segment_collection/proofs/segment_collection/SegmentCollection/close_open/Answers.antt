@@ -1,12 +1,13 @@
 use Rattle.std.proofs.Common.{[], ap, length, refl, subst, sym, true≢false, ◌==◌, ◌∙◌, ◌∷◌, ◌≡◌, ◌≢◌}
 use Rattle.std.specs.List.{AllByRecursion}
+use Rattle.std.specs.Result.{is_ok}
 use Rattle.definitions.specs.declared.fault.Fault.TheVariants as faults
 use Rattle.segment.specs.Opened.{StandsFor}
 use Rattle.segment_collection.proofs.BodyMade.{members_more}
-use Rattle.segment_search.proofs.Flagging.{flagged_more, flagged_within}
+use Rattle.segment_search.proofs.Flagging.{flagged_within}
 use Rattle.segment_collection.proofs.Outcomes.{err_has, err_no_limit, memory_is_no_limit}
-use Rattle.segment_collection.proofs.Standings.{closed_group, opened_more, opened_same}
-use Rattle.segment_collection.specs.Flags.{AreFlagged, members}
+use Rattle.segment_collection.proofs.Standings.{closed_group, flagged_either, opened_either}
+use Rattle.segment_collection.specs.Flags.{members}
 use Rattle.segment_collection.specs.Given.{IsGiven}
 use Rattle.segment_collection.specs.Limits.{DocumentsPass}
 use Rattle.segment_collection.specs.Standing.{PassesLimit, open_of}
@@ -16,32 +17,22 @@ pub returns-in_err-segment-clause-limit : goal.returns-in_err-segment-clause-lim
 returns-in_err-segment-clause-limit g c =
     let old = c.args.self.now in
     let pass = DocumentsPass old.schema (g.A.Analyzer.analyze old.analyzer) old.settings.block_size in
-    err_has c.from_residual.result c.in_err-segment.field-0.0 (λ fault. fault ≡ faults.Limit → pass old.open.items) c.from_residual.ensures.1
-    (λ is. subst pass c.deref.ensures.value (c.in_err-segment.ensures.limit is))
+    err_has c.from_residual.result c.in_err-segment.field-0.0 (λ fault. fault ≡ faults.Limit → pass old.open) c.from_residual.ensures.1
+    (λ is. subst pass c.replace-docs.ensures.value (c.in_err-segment.ensures.limit is))
 
 pub returns-in_err-push-clause-limit : goal.returns-in_err-push-clause-limit
 returns-in_err-push-clause-limit g c =
     let old = c.args.self.now in
     err_no_limit c.from_residual-in_err-push.result faults.OutOfMemory (PassesLimit g.A.Analyzer.analyze old (open_of old)) c.from_residual-in_err-push.ensures.1 (memory_is_no_limit faults.OutOfMemory refl)
 
-pub invariant_of-self-in-Break-branch-2 : goal.invariant_of-self-in-Break-branch-2
-invariant_of-self-in-Break-branch-2 g c =
-    let old = c.args.self.now in
-    record {
-      opened = opened_same old.schema old.segments.items c.push.new.self.items old.opened c.in_err-push.ensures.items;
-      flagged = subst (λ ss. AreFlagged ss old.alive.items) (sym c.in_err-push.ensures.items) old.flagged;
-      given = old.given;
-      few = old.few;
-    }
-
 pub invariant_of-self-2 : goal.invariant_of-self-2
 invariant_of-self-2 g c =
     let old = c.args.self.now in
     let segment = c.in_ok-segment.segment in
     record {
-      opened = opened_more old.schema old.segments.items c.push.new.self.items segment old.opened c.in_ok-segment.ensures.ok.opened c.in_ok-push.ensures.items;
-      flagged = subst (λ ss. AreFlagged ss old.alive.items) (sym c.in_ok-push.ensures.items) (flagged_more old.segments.items (segment ∷ []) old.alive.items old.flagged);
-      given = subst (AllByRecursion (IsGiven old.schema)) (sym c.new.ensures.items) tt;
+      opened = opened_either old.schema old.segments.items c.push.new.self.items segment (is_ok c.push.result) old.opened c.in_ok-segment.ensures.ok.opened c.push.ensures.items;
+      flagged = flagged_either old.segments.items c.push.new.self.items segment old.alive.items (is_ok c.push.result) old.flagged c.push.ensures.items;
+      given = subst (AllByRecursion (IsGiven old.schema)) (sym (c.replace-docs.ensures.after ∙ c.new.ensures)) tt;
       few = old.few;
     }
 
@@ -50,9 +41,9 @@ returns-clause-closed g c docs h =
     let old = c.args.self.now in
     let analyze = g.A.Analyzer.analyze old.analyzer in
     let segment = c.in_ok-segment.segment in
-    let stands = subst (λ ds. StandsFor old.schema analyze ds segment) c.deref.ensures.value c.in_ok-segment.ensures.ok in
-    let some : length old.open.items ≢ 0 = λ e. true≢false (sym (c.is_empty.ensures ∙ ap (λ n. n == 0) (old.open.ok.0 ∙ e)) ∙ c.if-is_empty.false) in
-    (closed_group old.schema analyze docs old.segments.items c.push.new.self.items old.open.items segment h stands c.in_ok-push.ensures.items some, c.new.ensures.items)
+    let stands = subst (λ ds. StandsFor old.schema analyze ds segment) c.replace-docs.ensures.value c.in_ok-segment.ensures.ok in
+    let some : length old.open ≢ 0 = λ e. true≢false (sym (c.is_empty.ensures ∙ ap (λ n. n == 0) e) ∙ c.if-is_empty.false) in
+    (closed_group old.schema analyze docs old.segments.items c.push.new.self.items old.open segment h stands c.in_ok-push.ensures.items some, c.replace-docs.ensures.after ∙ c.new.ensures)
 
 pub returns-clause-members : goal.returns-clause-members
 returns-clause-members g c =

@@ -63,5 +63,5 @@ returns-clause-left g c k x s =
     let before = ap₂ (λ (a b : ℕ). a - b) (c.len.ensures ∙ old.segments.ok.0) (c.len-2.ensures ∙ old.alive.ok.0) in (
       record { state = calls.after k x.state call; status = x.status },
       calls.answered taken,
-      deleted_stands g.A.Analyzer.analyze old _ (record { analyzer = refl; schema = refl; settings = refl }) k x s d (ready_of x.status none) refl refl refl refl c.in_ok-push.ensures.items before (c.len-3.ensures ∙ old.open.ok.0) term c.in_ok-copied.ensures.value,
+      deleted_stands g.A.Analyzer.analyze old _ (record { analyzer = refl; schema = refl; settings = refl }) k x s d (ready_of x.status none) refl refl refl refl c.in_ok-push.ensures.items before c.len-3.ensures term c.in_ok-copied.ensures.value,
     )

@@ -13,4 +13,4 @@ returns-clause-stands g c groups h =
     let n = c.docs_per_segment-docs_per_segment.ensures.value in
     let some = c.docs_per_segment-docs_per_segment.ensures.within.0 in
     let sized : 0 < c.args.settings.docs_per_segment = omega (arith, n, some) in
-    first_stands g.A.Analyzer.analyze _ of.docs groups refl sized of.shown of.groups_are of.each c.new-open.ensures.items c.new-deletions.ensures.items
+    first_stands g.A.Analyzer.analyze _ of.docs groups refl sized of.shown of.groups_are of.each c.new-open.ensures c.new-deletions.ensures.items

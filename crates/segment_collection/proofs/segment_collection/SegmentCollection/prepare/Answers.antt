@@ -40,7 +40,7 @@ returns-then-len-gt-MAX_SEGMENTS-clause-left g c k x s =
     let few = sets_within old.schema (g.A.Analyzer.analyze old.analyzer) s.docs old.segments.items old.alive.items s.segments old.flagged in
     let closed = c.in_ok-close_open.ensures.closed s.docs s.segments in
     half_left g.A.Analyzer.analyze old _ (record { analyzer = made.analyzer; schema = made.schema; settings = made.settings }) k x s faults.Limit (inr refl) none c.close_open.ensures.same.2 c.close_open.ensures.same.0
-    (s.docs ++ states.as_group old.open.items) closed.0 (groups_more g.A.Analyzer.analyze old k x s (states.as_group old.open.items) few) calls.commit_pending (commit_taken k x none) refl
+    (s.docs ++ states.as_group old.open) closed.0 (groups_more g.A.Analyzer.analyze old k x s (states.as_group old.open) few) calls.commit_pending (commit_taken k x none) refl
 
 pub next_sets-requires-clause-opened : goal.next_sets-requires-clause-opened
 next_sets-requires-clause-opened g c =
@@ -55,7 +55,7 @@ returns-in_err-alive-clause-left g c k x s =
     let few = sets_within old.schema (g.A.Analyzer.analyze old.analyzer) s.docs old.segments.items old.alive.items s.segments old.flagged in
     let closed = c.in_ok-close_open.ensures.closed s.docs s.segments in
     prepare_left g.A.Analyzer.analyze old _ (record { analyzer = made.analyzer; schema = made.schema; settings = made.settings }) k x s c.from_residual-in_err-alive.result faults.OutOfMemory c.from_residual-in_err-alive.ensures.1
-    (inl refl) none c.close_open.ensures.same.2 c.close_open.ensures.same.0 (s.docs ++ states.as_group old.open.items) closed.0 (groups_more g.A.Analyzer.analyze old k x s (states.as_group old.open.items) few)
+    (inl refl) none c.close_open.ensures.same.2 c.close_open.ensures.same.0 (s.docs ++ states.as_group old.open) closed.0 (groups_more g.A.Analyzer.analyze old k x s (states.as_group old.open) few)
 
 pub commit_frame-requires-clause-within : goal.commit_frame-requires-clause-within
 commit_frame-requires-clause-within g c =
@@ -73,7 +73,7 @@ returns-in_err-frame-clause-left g c k x s =
     let few = sets_within old.schema (g.A.Analyzer.analyze old.analyzer) s.docs old.segments.items old.alive.items s.segments old.flagged in
     let closed = c.in_ok-close_open.ensures.closed s.docs s.segments in
     prepare_left g.A.Analyzer.analyze old _ (record { analyzer = made.analyzer; schema = made.schema; settings = made.settings }) k x s c.from_residual-in_err-frame.result faults.OutOfMemory c.from_residual-in_err-frame.ensures.1
-    (inl refl) none c.close_open.ensures.same.2 c.close_open.ensures.same.0 (s.docs ++ states.as_group old.open.items) closed.0 (groups_more g.A.Analyzer.analyze old k x s (states.as_group old.open.items) few)
+    (inl refl) none c.close_open.ensures.same.2 c.close_open.ensures.same.0 (s.docs ++ states.as_group old.open) closed.0 (groups_more g.A.Analyzer.analyze old k x s (states.as_group old.open) few)
 
 pub returns-clause-prepared : goal.returns-clause-prepared
 returns-clause-prepared g c k x s =
@@ -86,7 +86,7 @@ returns-clause-prepared g c k x s =
     let ready = ready_of x.status none in
     let few = sets_within old.schema analyze s.docs old.segments.items old.alive.items s.segments old.flagged in
     let closed = c.in_ok-close_open.ensures.closed s.docs s.segments in
-    let docs = s.docs ++ states.as_group old.open.items in
+    let docs = s.docs ++ states.as_group old.open in
     let sets = c.in_ok-alive.alive.items in
     let shown = subst (AllZip (StandsFor old.schema analyze) docs) (sym c.deref.ensures.value) closed.0 in
     let each : length sets ≡ length docs = c.in_ok-alive.ensures.each ∙ sym (zip_length (StandsFor old.schema analyze) docs c.deref.result.now shown) in
@@ -101,7 +101,7 @@ returns-clause-stopped g c k x s =
     let few = sets_within old.schema (g.A.Analyzer.analyze old.analyzer) s.docs old.segments.items old.alive.items s.segments old.flagged in
     let closed = c.in_ok-close_open.ensures.closed s.docs s.segments in
     stands_stopped g.A.Analyzer.analyze old _ (record { analyzer = made.analyzer; schema = made.schema; settings = made.settings }) k x s calls.writer_closed writer_is_not_ready (ap status_of (sym same.2)) same.0
-    (s.docs ++ states.as_group old.open.items) closed.0 (groups_more g.A.Analyzer.analyze old k x s (states.as_group old.open.items) few)
+    (s.docs ++ states.as_group old.open) closed.0 (groups_more g.A.Analyzer.analyze old k x s (states.as_group old.open) few)
 
 pub returns-clause-body : goal.returns-clause-body
 returns-clause-body g c k x s =
@@ -111,7 +111,7 @@ returns-clause-body g c k x s =
     let segments = mid.segments.items in
     let sets = c.in_ok-alive.alive.items in
     let closed = c.in_ok-close_open.ensures.closed s.docs s.segments in
-    let opened = opened_each old.schema analyze (s.docs ++ states.as_group old.open.items) segments closed.0 in
+    let opened = opened_each old.schema analyze (s.docs ++ states.as_group old.open) segments closed.0 in
     let flagged = subst (λ ss. AreFlagged ss sets) c.deref.ensures.value c.in_ok-alive.ensures.flagged in
     let few = flagged_within segments mid.alive.items mid.flagged in
     let each : length sets ≡ length segments = c.in_ok-alive.ensures.each ∙ ap length c.deref.ensures.value in
