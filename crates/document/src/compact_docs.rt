@@ -7,8 +7,8 @@ use crate::compact_doc::CompactDoc;
 use std::alloc::{AllocError, Global};
 use std::marker::Model;
 
-/// Documents, whose pairs stand one after another in one list of bytes, so that many small ones take few pieces of
-/// memory and no more room than they need.
+/// Documents, whose pairs stand one after another in one list of bytes: however many there are, they take two pieces of
+/// memory, which grow as a `Vec` does.
 #[derive(Drop)]
 pub struct CompactDocs {
     heap: Vec<u8>,
