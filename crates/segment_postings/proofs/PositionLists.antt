@@ -1,7 +1,8 @@
 -- Positions by their differences.
-use Rattle.std.proofs.Common.{[], List, ap, ap₂, append-nil, append_assoc, arith, drop, get_or, length, length-append, length-drop, length-take, map, refl, set, suc, sym, take, ◌++◌, ◌+◌, ◌<◌, ◌≡◌, ◌≤◌, ◌∙◌, ◌∷◌, ℕ}
+use Rattle.std.proofs.Common.{[], List, ap, ap₂, append-nil, append_assoc, arith, drop, get_or, length, length-append, map, refl, set, suc, sym, take, ◌++◌, ◌+◌, ◌-◌, ◌<◌, ◌≡◌, ◌≤◌, ◌∙◌, ◌∷◌, ℕ}
 use Rattle.std.proofs.lemmas.List.{drop-set-lt, drop_all, drop_more, length-map, length-set, take_all, take_more_set}
 use Rattle.cursors.specs.Entries.{highest}
+use Rattle.layouts.specs.Positions.{differences}
 use Rattle.segment_postings.specs.TermEntries.{places}
 
 pub places_moved : (before offset : ℕ) (xs : List ℕ) → map (λ p. p + offset) (places before xs) ≡ places (before + offset) xs
@@ -58,9 +59,15 @@ adds_none offset numbers few =
 pub all_moved : (offset : ℕ) (numbers out : List ℕ) → out ≡ places offset numbers → out ≡ map (λ p. p + offset) (places 0 numbers)
 all_moved offset numbers out is = (let zero_on : offset ≡ 0 + offset = omega arith in is ∙ (ap (λ k. places k numbers) zero_on ∙ sym (places_moved 0 offset numbers)))
 
--- how many positions are taken
-pub many_taken : (begin count offset : ℕ) (numbers held : List ℕ) → begin + count ≤ length numbers → length (held ++ map (λ p. p + offset) (places 0 (take count (drop begin numbers)))) ≡ length held + count
-many_taken begin count offset numbers held room =
-    let ps = places 0 (take count (drop begin numbers)) in
-    let long = length-places 0 (take count (drop begin numbers)) in
-    omega (arith, length-append held (map (λ p. p + offset) ps), length-map ps (λ p. p + offset), long, length-take count (drop begin numbers), length-drop begin numbers, room)
+-- there are as many positions as numbers
+pub as_many : (offset : ℕ) (numbers held : List ℕ) → length (held ++ map (λ p. p + offset) (places 0 numbers)) ≡ length (held ++ numbers)
+as_many offset numbers held =
+    let ps = places 0 numbers in
+    omega (arith, length-append held (map (λ p. p + offset) ps), length-append held numbers, length-map ps (λ p. p + offset), length-places 0 numbers)
+
+-- positions that differences add up to give these again
+pub differences_of_places : (before : ℕ) (xs : List ℕ) → differences before (places before xs) ≡ xs
+differences_of_places before [] = refl
+differences_of_places before (x ∷ xs) =
+    let here : before + x - before ≡ x = omega arith in
+    ap₂ (λ d ds. d ∷ ds) here (differences_of_places (before + x) xs)

@@ -7,6 +7,31 @@ ghost use Rattle.segment_postings.specs.TermEntries.{numbers_of, places};
 use positions::PositionReader;
 use std::alloc::AllocError;
 
+/// Puts a given number of numbers from a place on behind those that the output holds; none where none are read. They
+/// are positions by their differences.
+pub(crate) fn append_numbers(
+    positions: &mut Option<PositionReader>,
+    begin: u64,
+    count: usize,
+    output: &mut Vec<u32>,
+) -> Result<(), AllocError>
+    requires few { count ≤ 4294967295 }
+    requires room { IsSome positions.old → begin + count ≤ length (numbers_of positions.old) }
+    ensures same { positions.new ≡ positions.old }
+    ensures ok { OnOk result (output.new.items ≡ output.old.items ++ take count (drop begin (numbers_of positions.old))) }
+    ensures err { OnErr result (output.new.items ≡ output.old.items) }
+    ensures full { OnErr result (vec_capacity output.old < length (output.old.items ++ take count (drop begin (numbers_of positions.old)))) }
+    ensures room { vec_capacity output.old ≤ vec_capacity output.new }
+{
+    let Some(reader) = positions else {
+        return Ok(());
+    };
+    let start = output.len();
+    output.resize(start + count, 0)?;
+    reader.read(begin, &mut output[start..]);
+    Ok(())
+}
+
 /// Puts a given number of positions from a place on, each plus an offset, behind those that the output holds; none
 /// where none are read.
 pub(crate) fn append_positions(
@@ -25,12 +50,8 @@ pub(crate) fn append_positions(
     ensures full { OnErr result (vec_capacity output.old < length (output.old.items ++ map (λ p. p + offset) (places 0 (take count (drop begin (numbers_of positions.old)))))) }
     ensures room { vec_capacity output.old ≤ vec_capacity output.new }
 {
-    let Some(reader) = positions else {
-        return Ok(());
-    };
     let start = output.len();
-    output.resize(start + count, 0)?;
-    reader.read(begin, &mut output[start..]);
+    append_numbers(positions, begin, count, output)?;
     add_up(&mut output[start..], offset);
     Ok(())
 }

@@ -1,16 +1,18 @@
 //! One term's postings, document by document.
 
-ghost use Rattle.std.specs.Prelude.{[], ◌+◌, ◌/◌, ◌<◌, ◌≡◌, ◌≤◌, IsSome, List, if◌then◌else◌, length, min, replicate, true, ℕ};
+ghost use Rattle.std.specs.Prelude.{[], ◌+◌, ◌/◌, ◌<◌, ◌≡◌, ◌≤◌, IsSome, List, OnOk, if◌then◌else◌, length, min, replicate, true, ℕ};
 ghost use Rattle.definitions.specs.Blocks.{block_len};
-ghost use Rattle.cursors.specs.Entries.{AreSingle, most_positions};
+ghost use Rattle.definitions.specs.Postings.{terminated};
+ghost use Rattle.cursors.specs.Entries.{AreSingle, first, first_positions, most_positions, single};
 ghost use Rattle.cursors.specs.EntryLaws.{AreSingle-prop};
+ghost use Rattle.layouts.specs.Positions.{differences};
 ghost use Rattle.layouts.specs.TermPostings.{skip_entries};
 ghost use Rattle.segment_postings.specs.CountBounds.{TellCounts};
 ghost use Rattle.segment_postings.specs.Reading.{HasPostings, counts_at, docs_at};
 ghost use Rattle.segment_postings.specs.TermEntries.{HasPositions, entries_from, entries_of, numbers_of, term_entries};
 
 use crate::block_segment_postings::BlockSegmentPostings;
-use crate::position_lists::append_positions;
+use crate::position_lists::{append_numbers, append_positions};
 use common::DocId;
 use cursors::{DocSet, Postings, SeekDangerResult};
 use positions::PositionReader;
@@ -121,6 +123,20 @@ impl<'a> SegmentPostings<'a> {
         ensures { result ≡ cursor_doc_freq self.now }
     {
         self.blocks.doc_freq()
+    }
+
+    /// Puts the first position in the current document, and then the differences, in place of what the output holds: as
+    /// they are written, so that a merge hands them on. None where no positions are read.
+    pub fn position_deltas(&mut self, output: &mut Vec<u32>) -> Result<(), AllocError>
+        requires on { first (entries_left self.old) < terminated }
+        ensures same { entries_left self.new ≡ entries_left self.old }
+        ensures ok { OnOk result (output.new.items ≡ differences 0 (single (first_positions (entries_left self.old)))) }
+    {
+        output.clear();
+        let count = self.blocks.freq(self.cur) as usize;
+        let begin = self.blocks.positions_before(self.cur);
+        append_numbers(&mut self.positions, begin, count, output)?;
+        Ok(())
     }
 }
 
