@@ -1,11 +1,11 @@
 -- A field of a merge has the terms for which there are postings.
-use Rattle.std.proofs.Common.{[], Bool, IsSomeAnd, List, None, Option, Some, ap, append_assoc, arith, bytes_eq, false, find, flat_map, if◌then◌else◌, inl, inr, length, map, option_map, refl, slice_get, subst, suc, sum_by, sym, true, true≢false, zero, ◌++◌, ◌+◌, ◌<◌, ◌^◌, ◌||◌, ◌≡◌, ◌≤◌, ◌⊎◌, ◌∙◌, ◌∷◌, ℕ}
+use Rattle.std.proofs.Common.{[], Bool, IsSomeAnd, List, None, Option, Some, ap, append_assoc, arith, bytes_eq, false, find, flat_map, if◌then◌else◌, inl, inr, length, map, option_map, refl, slice_get, subst, suc, sum_by, sym, true, true≢false, zero, ◌++◌, ◌+◌, ◌<◌, ◌^◌, ◌||◌, ◌≡◌, ◌≤◌, ◌∙◌, ◌∷◌, ℕ}
 use Rattle.std.proofs.lemmas.List.{length-map}
 use Rattle.std.proofs.lemmas.List.Sums.{sum_by-cons}
 use Rattle.std.specs.List.{AllByRecursion, list_any}
 use Rattle.definitions.specs.NumberCodes.{u32_bytes, u64_bytes, vint_bytes}
 use Rattle.definitions.specs.Postings.{Posting}
-use Rattle.definitions.specs.Schema.{Entry, IndexRecordOption, Kind, Schema}
+use Rattle.definitions.specs.Schema.{Entry, Kind, Schema}
 use Rattle.definitions.specs.declared.fault.Fault.{Fault}
 use Rattle.definitions.specs.declared.fault.Fault.TheVariants as faults
 use Rattle.inverted_index_reader.proofs.DictionariesPlaced.{is_dictionary}
@@ -17,9 +17,8 @@ use Rattle.layouts.specs.TermSections.{TermsAscend, entry_of_term, field_terms_b
 use Rattle.merged_fields.proofs.MemberPostings.{contents_of, none_held}
 use Rattle.merged_fields.specs.Members.{AreMembers, IsMember, living_of, merged_in}
 use Rattle.merged_fields.specs.MergedFields.{IsFieldGiven, IsTermGiven}
-use Rattle.merged_fields.specs.MergedTerms.{AreAdded, IsTermsRefusal, Told, told_in, with_term}
+use Rattle.merged_fields.specs.MergedTerms.{AreAdded, IsTermsRefusal, Told, told_in, tokens_in, tokens_of, with_term}
 use Rattle.merged_fields.specs.ToldFields.{told_of_all}
-use Rattle.merged_fields.specs.Tokens.{tokens_in, tokens_of}
 use Rattle.merged_fields.specs.declared.member.Member.{Member}
 use Rattle.merged_postings.specs.Mappings.{end_of}
 use Rattle.merged_terms.proofs.MergedKeys.{AllAbove, all_above, any_has, ascends_behind, behind, keys_ascend, merged_among, same_key, turned}
@@ -186,31 +185,31 @@ terms_given e ids given [] told spelled = tt
 terms_given e ids given (t ∷ ts) told spelled = (record { some = told.0.1; postings_are = told.0.0; spelled = spelled.0 }, terms_given e ids given ts told.1 spelled.1)
 
 -- the field that was begun, with the terms that were added, closed
-module _ (s now : Sections) (field tokens : ℕ) (e : Entry) (norms : Option (List ℕ)) (w : FieldWriting) (told : Told) (ts : List IndexedTerm) (added : AreAdded e.kind (field_begun s field tokens e.record_option norms) w told ts) (given : List ℕ → List Posting) where
-  total_is : sum_by (λ (t : IndexedTerm). sum_by (λ p. p.count) t.postings) ts ≡ tokens_in told
-  total_is = told_tokens ts ∙ ap tokens_in added.told_are
+module _ (s now : Sections) (field : ℕ) (e : Entry) (norms : Option (List ℕ)) (w : FieldWriting) (told : Told) (ts : List IndexedTerm) (added : AreAdded e.kind (field_begun s field e.record_option norms) w told ts) (given : List ℕ → List Posting) where
+  tokens_are : w.num_tokens ≡ sum_by (λ (t : IndexedTerm). sum_by (λ p. p.count) t.postings) ts
+  tokens_are = (let whole = added.tokens in let same = told_tokens ts ∙ ap tokens_in added.told_are in omega (arith, whole, same))
 
-  terms_added : tokens ≡ tokens_in told → (field_closed w).terms ≡ s.terms ++ flat_map field_terms_bytes (field_terms (record { field = field; terms = ts }) ∷ [])
-  terms_added tokens_are =
+  terms_added : (field_closed w).terms ≡ s.terms ++ flat_map field_terms_bytes (field_terms (record { field = field; terms = ts }) ∷ [])
+  terms_added =
       spelled_same w.terms.closed s.terms w.field field w.num_tokens (sum_by (λ (t : IndexedTerm). sum_by (λ p. p.count) t.postings) ts) w.terms.num_terms (length (map lengths_of ts)) w.terms.entries (flat_map entry_of_term (map lengths_of ts))
-      (ap (λ (x : writing.Terms). x.closed) added.terms) added.same.0 (added.same.1 ∙ tokens_are ∙ sym total_is)
+      (ap (λ (x : writing.Terms). x.closed) added.terms) added.same.0 tokens_are
       (ap (λ (x : writing.Terms). x.num_terms) added.terms ∙ (let long = length-map ts lengths_of in let P : 0 + length ts ≡ length (map lengths_of ts) = omega arith in P))
       (ap (λ (x : writing.Terms). x.entries) added.terms)
       ∙ regroup s.terms (u32_bytes field) (u64_bytes (sum_by (λ (t : IndexedTerm). sum_by (λ p. p.count) t.postings) ts)) (vint_bytes (length (map lengths_of ts))) (flat_map entry_of_term (map lengths_of ts))
 
-  pub field_added : tokens ≡ tokens_in told → now ≡ field_closed w → AreFieldsAdded s now (record { field = field; terms = ts } ∷ [])
-  field_added tokens_are is = record {
-    terms = ap (λ (x : Sections). x.terms) is ∙ terms_added tokens_are;
+  pub field_added : now ≡ field_closed w → AreFieldsAdded s now (record { field = field; terms = ts } ∷ [])
+  field_added is = record {
+    terms = ap (λ (x : Sections). x.terms) is ∙ terms_added;
     postings = ap (λ (x : Sections). x.postings) is ∙ added.postings ∙ ap (λ xs. s.postings ++ xs) (sym (append_nil (flat_map (λ (t : IndexedTerm). t.postings_bytes) ts)));
     positions = ap (λ (x : Sections). x.positions) is ∙ ap (λ (x : List ℕ × List ℕ). x.0) added.positions ∙ ap (λ xs. s.positions ++ xs) (sym (append_nil (flat_map (λ (t : IndexedTerm). t.positions_bytes) ts)));
   }
 
-  pub field_given : tokens ≡ tokens_in told → tokens < 2 ^ 64 → TermsAscend (keys_told told) → AllByRecursion (IsOf given) told → ((key : List ℕ) → 0 < length (given key) → list_any (bytes_eq key) (keys_told told) ≡ true) → IsFieldGiven e (listed norms) given (record { field = field; terms = ts })
-  field_given tokens_are fit ascend each all =
+  pub field_given : TermsAscend (keys_told told) → AllByRecursion (IsOf given) told → ((key : List ℕ) → 0 < length (given key) → list_any (bytes_eq key) (keys_told told) ≡ true) → IsFieldGiven e (listed norms) given (record { field = field; terms = ts })
+  field_given ascend each all =
       let keys = told_keys ts ∙ ap keys_told added.told_are in
       record {
         ascend = subst TermsAscend (sym keys) ascend;
-        tokens_fit = subst (λ n. n < 2 ^ 64) (tokens_are ∙ sym total_is) fit;
+        tokens_fit = subst (λ n. n < 2 ^ 64) tokens_are (added.tokens_fit (omega arith));
         few = few_terms ts added.few;
         each = terms_given e (listed norms) given ts (subst (AllByRecursion (IsOf given)) (sym added.told_are) each) added.each;
         all = λ key some. subst (λ ks. list_any (bytes_eq key) ks ≡ true) (sym keys) (all key some);
@@ -231,7 +230,7 @@ some_given : (given : List ℕ → List Posting) (told : Told) → AllByRecursio
 some_given given [] each = tt
 some_given given (t ∷ told) each = (subst (λ ps. 0 < length ps) each.0.0 each.0.1, some_given given told each.1)
 
-pub tokens_pass : (given : List ℕ → List Posting) (told : Told) → TermsAscend (keys_told told) → AllByRecursion (IsOf given) told → 2 ^ 64 ≤ tokens_in told → TooMany given
+tokens_pass : (given : List ℕ → List Posting) (told : Told) → TermsAscend (keys_told told) → AllByRecursion (IsOf given) told → 2 ^ 64 ≤ tokens_in told → TooMany given
 tokens_pass given told ascend each past = record { keys = keys_told told; ascend = ascend; some = some_given given told each; many = inr (subst (λ n. 2 ^ 64 ≤ n) (tokens_given given told each) past) }
 
 among : {X : Type 0} (P Q : X → Type 0) (xs : List X) (i : ℕ) → AllByRecursion Q xs → IsSomeAnd (slice_get xs i) P → (x : X) × P x × Q x
@@ -239,14 +238,15 @@ among P Q [] i all at = absurd at
 among P Q (x ∷ xs) zero all at = (x, at, all.0)
 among P Q (x ∷ xs) (suc i) all at = among P Q xs i all.1 at
 
-pub terms_pass : (fault : Fault) (e : Entry) (norms : Option (List ℕ)) (given : List ℕ → List Posting) (told : Told) (was : FieldWriting) → was.terms.num_terms ≡ 0 → was.writing.mode ≡ e.record_option → was.writing.norms ≡ norms → TermsAscend (keys_told told) → AllByRecursion (IsOf given) told → IsTermsRefusal fault e.kind was told → IsFieldRefusal fault (option_of_key e) (listed norms) given
-terms_pass fault e norms given told was none mode ids ascend each (inl memory) = inl memory
-terms_pass fault e norms given told was none mode ids ascend each (inr (limit, inl (i, passes))) =
+pub terms_pass : (fault : Fault) (e : Entry) (norms : Option (List ℕ)) (given : List ℕ → List Posting) (told : Told) (was : FieldWriting) → was.terms.num_terms ≡ 0 → was.num_tokens ≡ 0 → was.writing.mode ≡ e.record_option → was.writing.norms ≡ norms → TermsAscend (keys_told told) → AllByRecursion (IsOf given) told → IsTermsRefusal fault e.kind was told → IsFieldRefusal fault (option_of_key e) (listed norms) given
+terms_pass fault e norms given told was none empty mode ids ascend each (inl memory) = inl memory
+terms_pass fault e norms given told was none empty mode ids ascend each (inr (limit, inl (i, passes))) =
     let r = among (λ (t : List ℕ × List Posting). TermPasses (option_in e.kind was.writing.mode t.0) (listed was.writing.norms) t.1) (IsOf given) told i each passes in
     let one = subst (λ m. TermPasses (option_in e.kind m r.0.0) (listed was.writing.norms) r.0.1) mode r.1 in
     let two = subst (λ o. TermPasses (option_of_key e r.0.0) (listed o) r.0.1) ids one in
     inr (limit, inl (r.0.0, subst (TermPasses (option_of_key e r.0.0) (listed norms)) r.2.0 two))
-terms_pass fault e norms given told was none mode ids ascend each (inr (limit, inr many)) = inr (limit, inr (record { keys = keys_told told; ascend = ascend; some = some_given given told each; many = inl (let long = length-map told (λ (t : List ℕ × List Posting). t.0) in omega (arith, many, none, long)) }))
+terms_pass fault e norms given told was none empty mode ids ascend each (inr (limit, inr (inl many))) = inr (limit, inr (record { keys = keys_told told; ascend = ascend; some = some_given given told each; many = inl (let long = length-map told (λ (t : List ℕ × List Posting). t.0) in omega (arith, many, none, long)) }))
+terms_pass fault e norms given told was none empty mode ids ascend each (inr (limit, inr (inr past))) = inr (limit, inr (tokens_pass given told ascend each (omega (arith, past, empty))))
 
 -- ---- all terms of a field
 
@@ -256,28 +256,24 @@ given_in field ms all key = merged_in field key ms all
 ascending : (field : ℕ) (ms : List Member) (all : List (List IndexedField)) → TermsAscend (keys_told (told_of_all field ms all))
 ascending field ms all = told_ascend field (merged_keys (dictionaries field ms)) ms all (keys_ascend (flat_map keys_of (dictionaries field ms)))
 
-pub tokens_refused : (fault : Fault) (option : List ℕ → IndexRecordOption) (ids : List ℕ) (field : ℕ) (ms : List Member) (all : List (List IndexedField)) → (fault ≡ faults.OutOfMemory) ⊎ ((fault ≡ faults.Limit) × (2 ^ 64 ≤ tokens_in (told_of_all field ms all))) → IsFieldRefusal fault option ids (given_in field ms all)
-tokens_refused fault option ids field ms all (inl memory) = inl memory
-tokens_refused fault option ids field ms all (inr (limit, past)) = inr (limit, inr (tokens_pass (given_in field ms all) (told_of_all field ms all) (ascending field ms all) (told_given field (merged_keys (dictionaries field ms)) ms all) past))
-
-pub terms_refused : (fault : Fault) (e : Entry) (norms : Option (List ℕ)) (s : Sections) (number tokens field : ℕ) (ms : List Member) (all : List (List IndexedField)) (was : FieldWriting) (kind : Kind) → was ≡ field_begun s number tokens e.record_option norms → kind ≡ e.kind → IsTermsRefusal fault kind was (told_of_all field ms all) → IsFieldRefusal fault (option_of_key e) (listed norms) (given_in field ms all)
-terms_refused fault e norms s number tokens field ms all was kind begun kind_is refused =
+pub terms_refused : (fault : Fault) (e : Entry) (norms : Option (List ℕ)) (s : Sections) (number field : ℕ) (ms : List Member) (all : List (List IndexedField)) (was : FieldWriting) (kind : Kind) → was ≡ field_begun s number e.record_option norms → kind ≡ e.kind → IsTermsRefusal fault kind was (told_of_all field ms all) → IsFieldRefusal fault (option_of_key e) (listed norms) (given_in field ms all)
+terms_refused fault e norms s number field ms all was kind begun kind_is refused =
     terms_pass fault e norms (given_in field ms all) (told_of_all field ms all) was
-    (ap (λ (x : FieldWriting). x.terms.num_terms) begun) (ap (λ (x : FieldWriting). x.writing.mode) begun) (ap (λ (x : FieldWriting). x.writing.norms) begun)
+    (ap (λ (x : FieldWriting). x.terms.num_terms) begun) (ap (λ (x : FieldWriting). x.num_tokens) begun) (ap (λ (x : FieldWriting). x.writing.mode) begun) (ap (λ (x : FieldWriting). x.writing.norms) begun)
     (ascending field ms all) (told_given field (merged_keys (dictionaries field ms)) ms all)
     (subst (λ k. IsTermsRefusal fault k was (told_of_all field ms all)) kind_is refused)
 
-pub field_merged : (schema : Schema) (end : ℕ) (e : Entry) (norms : Option (List ℕ)) (s now : Sections) (number tokens field : ℕ) (ms : List Member) (all : List (List IndexedField)) (was w : FieldWriting) (kind : Kind) (ts : List IndexedTerm)
-    → AreMembers schema 0 end ms all → number ≡ field → was ≡ field_begun s number tokens e.record_option norms → kind ≡ e.kind → tokens ≡ tokens_in (told_of_all field ms all) → tokens < 2 ^ 64
+pub field_merged : (schema : Schema) (end : ℕ) (e : Entry) (norms : Option (List ℕ)) (s now : Sections) (number field : ℕ) (ms : List Member) (all : List (List IndexedField)) (was w : FieldWriting) (kind : Kind) (ts : List IndexedTerm)
+    → AreMembers schema 0 end ms all → number ≡ field → was ≡ field_begun s number e.record_option norms → kind ≡ e.kind
     → AreAdded kind was w (told_of_all field ms all) ts → now ≡ field_closed w
     → (f : IndexedField) × (f.field ≡ field) × IsFieldGiven e (listed norms) (given_in field ms all) f × AreFieldsAdded s now (f ∷ [])
-field_merged schema end e norms s now number tokens field ms all was w kind ts are number_is begun kind_is tokens_are fit added closed =
+field_merged schema end e norms s now number field ms all was w kind ts are number_is begun kind_is added closed =
     let told = told_of_all field ms all in
-    let own : AreAdded e.kind (field_begun s field tokens e.record_option norms) w told ts =
-    subst (λ n. AreAdded e.kind (field_begun s n tokens e.record_option norms) w told ts) number_is (subst (λ x. AreAdded e.kind x w told ts) begun (subst (λ k. AreAdded k was w told ts) kind_is added)) in
+    let own : AreAdded e.kind (field_begun s field e.record_option norms) w told ts =
+    subst (λ n. AreAdded e.kind (field_begun s n e.record_option norms) w told ts) number_is (subst (λ x. AreAdded e.kind x w told ts) begun (subst (λ k. AreAdded k was w told ts) kind_is added)) in
     let given = given_in field ms all in (
       record { field = field; terms = ts },
       refl,
-      field_given s now field tokens e norms w told ts own given tokens_are fit (ascending field ms all) (told_given field (merged_keys (dictionaries field ms)) ms all) (λ key some. all_among schema end ms all field key are some),
-      field_added s now field tokens e norms w told ts own given tokens_are closed,
+      field_given s now field e norms w told ts own given (ascending field ms all) (told_given field (merged_keys (dictionaries field ms)) ms all) (λ key some. all_among schema end ms all field key are some),
+      field_added s now field e norms w told ts own given closed,
     )

@@ -1,6 +1,7 @@
 -- Members that are written one after another.
 use Rattle.std.proofs.Common.{[], List, ap, ap₂, append_assoc, arith, inl, inr, length, map, refl, subst, suc, sym, take, zero, ◌++◌, ◌+◌, ◌<◌, ◌||◌, ◌≡◌, ◌≤◌, ◌∙◌, ◌∷◌, ℕ}
 use Rattle.std.proofs.lemmas.List.{map-append}
+use Rattle.std.proofs.lemmas.List.Sums.{sum_by-append}
 use Rattle.std.specs.List.{slice_index_or}
 use Rattle.definitions.specs.Merging.{merged_postings, num_living, renumbered}
 use Rattle.definitions.specs.Postings.{Posting}
@@ -34,6 +35,7 @@ written_both was mid now ps qs first second = record {
       subst (λ ds. IsOpen now ds (counts ++ counts_in was (ps ++ qs)) (numbers ++ position_numbers (map (λ (p : Posting). p.positions) (ps ++ qs)))) (docs_are docs)
       (subst (λ cs. IsOpen now ((docs ++ map (λ (p : Posting). p.doc) ps) ++ map (λ (p : Posting). p.doc) qs) cs (numbers ++ position_numbers (map (λ (p : Posting). p.positions) (ps ++ qs)))) (counts_are counts)
       (subst (λ ns. IsOpen now ((docs ++ map (λ (p : Posting). p.doc) ps) ++ map (λ (p : Posting). p.doc) qs) ((counts ++ counts_in was ps) ++ counts_in mid qs) ns) (numbers_are numbers) e)));
+  total = (let before = first.total in let after = second.total in omega (arith, before, after, sum_by-append (λ (p : Posting). p.count) ps qs));
   same = (second.same.0 ∙ first.same.0, second.same.1 ∙ first.same.1, second.same.2 ∙ first.same.2, second.same.3 ∙ first.same.3, second.same.4 ∙ first.same.4, second.same.5 ∙ first.same.5, second.same.6 ∙ first.same.6, second.same.7 ∙ first.same.7, second.same.8 ∙ first.same.8);
 }
   where
@@ -53,9 +55,6 @@ some_both [] qs = refl
 some_both (p ∷ ps) qs = refl
 
 -- ---- one member
-
-fields_at : ℕ → List (List IndexedField) → List IndexedField
-fields_at k all = slice_index_or all k []
 
 pub record MemberAt (schema : Schema) (end next k : ℕ) (ms : List Member) (all : List (List IndexedField)) (m : Member) : Type 0 where
   pub fields : List IndexedField

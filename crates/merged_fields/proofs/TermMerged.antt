@@ -1,20 +1,18 @@
 -- A term of a merge that was begun, written and closed, or not.
-use Rattle.std.proofs.Common.{[], Bool, List, ap, ap₂, false, if◌then◌else◌, inl, inr, refl, subst, sym, true, true≢false, ◌/◌, ◌≡◌, ◌⊎◌, ◌∙◌, ◌∷◌, ℕ}
+use Rattle.std.proofs.Common.{[], Bool, List, ap, ap₂, false, if◌then◌else◌, inl, inr, refl, subst, sym, true, true≢false, ◌/◌, ◌≡◌, ◌∙◌, ◌∷◌, ℕ}
 use Rattle.std.proofs.lemmas.List.{length-map}
 use Rattle.definitions.specs.Blocks.{block_len}
 use Rattle.definitions.specs.Postings.{Posting}
 use Rattle.definitions.specs.Schema.{IndexRecordOption, has_positions}
 use Rattle.definitions.specs.declared.fault.Fault.{Fault}
-use Rattle.definitions.specs.declared.fault.Fault.TheVariants as faults
 use Rattle.layouts.specs.TermPostings.{SumsFit}
 use Rattle.merged_fields.specs.MergedTerm.{IsMergedTerm, IsTermRefusal}
 use Rattle.merged_postings.specs.Living.{has_some}
 use Rattle.merged_postings.specs.Written.{AreWritten, IsWriteRefusal, counts_in}
 use Rattle.postings_serializer.specs.FieldWriting.{FieldWriting, IsOpen}
 use Rattle.postings_serializer.specs.TermWriting.{recorded_count}
+use Rattle.postings_writer.proofs.WrittenTerms as terms
 use Rattle.postings_writer.proofs.WrittenTerms.{write_passes}
-use Rattle.packed_blocks.specs.UnpackedBlocks.{listed}
-use Rattle.postings_writer.specs.Limits.{TermPasses}
 use Rattle.postings_writer.specs.Serializing.{IsWrittenTerm}
 
 -- why its documents weren't written
@@ -25,7 +23,7 @@ write_refused fault was begun option (p ∷ ps) is (inl memory) = inl memory
 write_refused fault was begun option (p ∷ ps) is (inr (limit, pass)) = write_passes fault was begun option (p ∷ ps) is (inr (limit, inr (λ fit. pass (subst (λ n. SumsFit (n / block_len) (counts_in begun (p ∷ ps))) (sym (length-map (p ∷ ps) (λ (q : Posting). recorded_count begun.writing.option q.count))) fit))))
 
 -- why a term with postings wasn't closed
-pub close_refused : (fault : Fault) (was : FieldWriting) (option : IndexRecordOption) (ps : List Posting) → true ≡ has_some ps → (fault ≡ faults.OutOfMemory) ⊎ ((fault ≡ faults.Limit) × (TermPasses option (listed was.writing.norms) ps ⊎ (was.terms.num_terms ≡ 4294967295))) → IsTermRefusal fault was option ps
+pub close_refused : (fault : Fault) (was : FieldWriting) (option : IndexRecordOption) (ps : List Posting) → true ≡ has_some ps → terms.IsTermRefusal fault was option ps → IsTermRefusal fault was option ps
 close_refused fault was option [] some refused = absurd (true≢false some)
 close_refused fault was option (p ∷ ps) some refused = refused
 

@@ -1,6 +1,7 @@
 -- Terms of a merge that are written one after another.
 use Rattle.std.proofs.Common.{[], IsSomeAnd, List, None, Some, ap, ap₂, append_assoc, arith, drop, flat_map, inl, inr, length, length-append, map, refl, slice_get, subst, sym, ◌++◌, ◌+◌, ◌<◌, ◌^◌, ◌≡◌, ◌∙◌, ◌∷◌, ℕ}
 use Rattle.std.proofs.lemmas.List.{length-map, map-append}
+use Rattle.std.proofs.lemmas.List.Sums.{sum_by-append, sum_by-cons, sum_by_push}
 use Rattle.definitions.specs.Postings.{Posting}
 use Rattle.definitions.specs.Schema.{IndexRecordOption, Kind}
 use Rattle.definitions.specs.declared.fault.Fault.{Fault}
@@ -8,7 +9,7 @@ use Rattle.layouts.specs.InvertedIndexes.{IndexedTerm, lengths_of}
 use Rattle.layouts.specs.TermPostings.{postings_bytes}
 use Rattle.layouts.specs.TermSections.{entry_of_term}
 use Rattle.merged_fields.specs.MergedTerm.{IsMergedTerm, IsPassed, IsTermRefusal}
-use Rattle.merged_fields.specs.MergedTerms.{AreAdded, IsTermsRefusal, Told, with_term}
+use Rattle.merged_fields.specs.MergedTerms.{AreAdded, IsTermsRefusal, Told, tokens_in, tokens_of, with_term}
 use Rattle.packed_blocks.specs.UnpackedBlocks.{listed}
 use Rattle.postings_serializer.specs.FieldWriting.{FieldWriting, Terms, inserted}
 use Rattle.postings_serializer.specs.TermWriting.{recorded_count}
@@ -36,7 +37,9 @@ none_added kind was nothing = record {
   postings = sym (append_nil was.postings);
   positions = ap₂ (λ xs ys. (xs, ys)) (sym (append_nil was.positions.0)) nothing;
   few = λ some. absurd (omega arith);
-  same = (refl, refl, refl, refl);
+  tokens = omega arith;
+  tokens_fit = λ fit. fit;
+  same = (refl, refl, refl);
 }
 
 -- one term more
@@ -48,7 +51,7 @@ module _ (kind : Kind) (was now new : FieldWriting) (told : Told) (ts : List Ind
   t = term_of key ps option (listed was.writing.norms) w.bytes
 
   bytes_are : postings_bytes option (listed now.writing.norms) (map (λ (p : Posting). p.doc) ps) (map (λ (p : Posting). recorded_count option p.count) ps) ≡ t.postings_bytes
-  bytes_are = ap (λ o. postings_bytes option (listed o) (map (λ (p : Posting). p.doc) ps) (map (λ (p : Posting). recorded_count option p.count) ps)) before.same.3
+  bytes_are = ap (λ o. postings_bytes option (listed o) (map (λ (p : Posting). p.doc) ps) (map (λ (p : Posting). recorded_count option p.count) ps)) before.same.2
 
   spelled : IsSpelled option (listed was.writing.norms) t
   spelled = record { postings_are = record { posted = w.posted; whole = refl }; positions_are = w.positions_are; within = record { sums = w.sums_fit; postings = subst (λ (xs : List ℕ). length xs < 2 ^ 32) bytes_are w.postings_fit; positions = w.positions_fit } }
@@ -77,7 +80,9 @@ module _ (kind : Kind) (was now new : FieldWriting) (told : Told) (ts : List Ind
         let fit = w.terms_fit in
         let count = ap (λ (x : Terms). x.num_terms) before.terms in
         omega arith);
-    same = (w.same.0 ∙ before.same.0, w.same.1 ∙ before.same.1, w.same.2 ∙ before.same.2, w.same.3 ∙ before.same.3);
+    tokens = (let first = before.tokens in let more = w.tokens in omega (arith, first, more, sum_by_push (λ (x : List ℕ × List Posting). tokens_of x.1) told (key, ps)));
+    tokens_fit = λ fit. (let more = w.tokens in let within = w.tokens_fit in omega (arith, more, within));
+    same = (w.same.0 ∙ before.same.0, w.same.1 ∙ before.same.1, w.same.2 ∙ before.same.2);
   }
 
 -- a term of which nothing is written
@@ -89,7 +94,9 @@ added_same kind was now new told ts before passed = record {
   postings = passed.postings ∙ before.postings;
   positions = passed.positions ∙ ap (λ (xs : List ℕ × List ℕ). (xs.0, [])) before.positions;
   few = before.few;
-  same = (passed.same.0 ∙ before.same.0, passed.same.1 ∙ before.same.1, passed.same.2 ∙ before.same.2, passed.same.3 ∙ before.same.3);
+  tokens = passed.same.1 ∙ before.tokens;
+  tokens_fit = λ fit. subst (λ n. n < 2 ^ 64) (sym passed.same.1) (before.tokens_fit fit);
+  same = (passed.same.0 ∙ before.same.0, passed.same.2 ∙ before.same.1, passed.same.3 ∙ before.same.2);
 }
 
 -- ---- terms so far
@@ -131,17 +138,28 @@ term_refused fault kind was now rest whole key (p ∷ ps) before (inr (limit, in
     P t = TermPasses (option_in kind was.writing.mode t.0) (listed was.writing.norms) t.1
 
     passes : P (key, p ∷ ps)
-    passes = subst (λ o. TermPasses (option_in kind was.writing.mode key) (listed o) (p ∷ ps)) before.added.same.3 pass
-term_refused fault kind was now rest whole key (p ∷ ps) before (inr (limit, inr many)) = inr (
+    passes = subst (λ o. TermPasses (option_in kind was.writing.mode key) (listed o) (p ∷ ps)) before.added.same.2 pass
+term_refused fault kind was now rest whole key (p ∷ ps) before (inr (limit, inr (inl many))) = inr (
   limit,
-  inr (
+  inr (inl (
       let a = ap length before.split in
       let b = length-append before.told ((key, p ∷ ps) ∷ rest) in
       let c = ap length before.added.told_are in
       let d = length-map before.terms told_of in
       let e = ap (λ (t : Terms). t.num_terms) before.added.terms in
       omega arith
-      ),
+      )),
+)
+term_refused fault kind was now rest whole key (p ∷ ps) before (inr (limit, inr (inr past))) = inr (
+  limit,
+  inr (inr (
+      let f : List ℕ × List Posting → ℕ = λ t. tokens_of t.1 in
+      let a = ap tokens_in before.split in
+      let b = sum_by-append f before.told ((key, p ∷ ps) ∷ rest) in
+      let d = sum_by-cons f (key, p ∷ ps) rest in
+      let e = before.added.tokens in
+      omega (arith, past, a, b, d, e)
+      )),
 )
 
 -- ---- keys that are left

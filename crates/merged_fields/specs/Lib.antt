@@ -2,6 +2,5 @@
 pub mod Members
 pub mod MergedTerm
 pub mod MergedTerms
-pub mod Tokens
 pub mod MergedFields
 pub mod ToldFields

@@ -2,7 +2,6 @@
 #![tactic(auto)]
 
 mod field_terms;
-mod field_tokens;
 mod member;
 pub mod merge_laws;
 mod merged_field;

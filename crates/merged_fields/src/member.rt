@@ -1,12 +1,11 @@
 //! A member of a merge.
 
-ghost use Rattle.std.specs.Prelude.{◌++◌, ◌^◌, ◌≡◌, ◌≤◌, IfErr, IfOk, IfSome, List, MatchOption, OnErr, OnOk, length, option_map, ℕ};
+ghost use Rattle.std.specs.Prelude.{◌++◌, ◌≡◌, ◌≤◌, IfErr, IfOk, IfSome, List, OnErr, OnOk, length, option_map, ℕ};
 ghost use Rattle.definitions.specs.Postings.{terminated};
 ghost use Rattle.definitions.specs.Schema.{Schema};
 ghost use Rattle.inverted_index_reader.specs.Readers.{dictionary_in, info_in, postings_in};
 ghost use Rattle.layouts.specs.InvertedIndexes.{IndexedField};
 ghost use Rattle.merged_fields.specs.Members.{IsMember, living_of};
-ghost use Rattle.merged_fields.specs.Tokens.{tokens_of};
 ghost use Rattle.merged_postings.specs.Living.{has_some};
 ghost use Rattle.merged_postings.specs.Mappings.{end_of};
 ghost use Rattle.merged_postings.specs.Written.{AreWritten, IsWriteRefusal, counts_in};
@@ -14,7 +13,7 @@ ghost use Rattle.postings_serializer.specs.FieldWriting.{AreKept, IsOpen};
 
 use definitions::Fault;
 use inverted_index_reader::{InvertedIndexReader, TermInfo};
-use merged_postings::{DocIdMapping, count_tokens, write_postings};
+use merged_postings::{DocIdMapping, write_postings};
 use options::IndexRecordOption;
 use postings_serializer::FieldSerializer;
 use terms::Field;
@@ -63,29 +62,5 @@ impl<'a> Member<'a> {
             .inverted_index
             .read_postings_from_terminfo(field, key, info, option);
         write_postings(&mut postings, &self.doc_ids, deltas, serializer)
-    }
-
-    /// How many tokens the living documents have that have a term, where that has 64 bits.
-    pub(crate) fn num_tokens(
-        &self,
-        field: Field,
-        key: &[u8],
-        info: Option<&TermInfo>,
-    ) -> Option<u64>
-        requires known { ∥ ((schema : Schema) × (fields : List IndexedField) × IsMember schema self.now fields) ∥₁ }
-        requires info { option_map (λ i. i.now) info
-            ≡ info_in key.now (dictionary_in self.now.inverted_index.now field) }
-        ensures { (schema : Schema) (fields : List IndexedField) → IsMember schema self.now fields
-            → MatchOption result (2 ^ 64 ≤ tokens_of (living_of self.now.doc_ids (postings_in fields field key.now)))
-            (λ n. n ≡ tokens_of (living_of self.now.doc_ids (postings_in fields field key.now))) }
-    {
-        let Some(info) = info else {
-            return Some(0);
-        };
-        let option = IndexRecordOption::WithFreqs;
-        let mut postings = self
-            .inverted_index
-            .read_postings_from_terminfo(field, key, info, option);
-        count_tokens(&mut postings, &self.doc_ids)
     }
 }

@@ -1,16 +1,14 @@
 //! Writes a field of a merge.
 
-ghost use Rattle.std.specs.Prelude.{[], ◌^◌, ◌≡◌, ◌≤◌, ◌⊎◌, ◌∷◌, IfErr, IfOk, IfSome, List, OnOk, length, map, true, ℕ};
+ghost use Rattle.std.specs.Prelude.{[], ◌≡◌, ◌≤◌, ◌∷◌, IfErr, IfOk, IfSome, List, OnOk, length, map, true, ℕ};
 ghost use Rattle.definitions.specs.Postings.{terminated};
 ghost use Rattle.definitions.specs.Schema.{Schema, is_indexed};
-ghost use Rattle.definitions.specs.declared.fault.Fault.TheVariants as faults;
 ghost use Rattle.inverted_index_reader.specs.Readers.{dictionary_in};
 ghost use Rattle.layouts.specs.InvertedIndexes.{IndexedField, IndexedTerm};
 ghost use Rattle.merged_fields.specs.MergedFields.{IsFieldGiven};
 ghost use Rattle.merged_fields.specs.Members.{AreMembers, merged_in};
 ghost use Rattle.merged_fields.specs.MergedTerms.{AreAdded, IsTermsRefusal};
 ghost use Rattle.merged_fields.specs.ToldFields.{told_of_all};
-ghost use Rattle.merged_fields.specs.Tokens.{tokens_in};
 ghost use Rattle.merged_terms.specs.MergedTerms.{merged_keys};
 ghost use Rattle.options.specs.RecordOption.{record_option_of};
 ghost use Rattle.packed_blocks.specs.UnpackedBlocks.{listed};
@@ -20,7 +18,6 @@ ghost use Rattle.postings_writer.specs.Sections.{AreFieldsAdded};
 ghost use Rattle.terms.specs.Kinds.{kind_of};
 
 use crate::field_terms::merge_terms;
-use crate::field_tokens::field_tokens;
 use crate::member::Member;
 use definitions::Fault;
 use fieldnorms::FieldNormReader;
@@ -55,11 +52,9 @@ pub(crate) fn merge_field(
         → IfErr result (λ fault. IsFieldRefusal fault (option_of_key entry.now) (listed fieldnorm_reader.entry)
         (λ key. merged_in field key members.now all)) }
 {
-    let num_tokens = num_tokens(alloc, members, field)?;
     let mut field_serializer = serializer.new_field(
         alloc,
         field.field_id(),
-        num_tokens,
         index_record_option(entry),
         fieldnorm_reader,
     );
@@ -71,25 +66,6 @@ pub(crate) fn merge_field(
         &mut field_serializer,
     )?;
     Ok(field_serializer.close()?)
-}
-
-/// How many tokens of living documents a field has in all members.
-fn num_tokens(alloc: Global, members: &[Member<'_>], field: Field) -> Result<u64, Fault>
-    requires { ∥ ((schema : Schema) × (num_docs : ℕ) × (all : List (List IndexedField))
-        × AreMembers schema 0 num_docs members.now all) ∥₁ }
-    ensures ok { (schema : Schema) (num_docs : ℕ) (all : List (List IndexedField))
-        → AreMembers schema 0 num_docs members.now all
-        → IfOk result (λ n. n ≡ tokens_in (told_of_all field members.now all)) }
-    ensures err { (schema : Schema) (num_docs : ℕ) (all : List (List IndexedField))
-        → AreMembers schema 0 num_docs members.now all
-        → IfErr result (λ fault. (fault ≡ faults.OutOfMemory)
-        ⊎ ((fault ≡ faults.Limit) × (2 ^ 64 ≤ tokens_in (told_of_all field members.now all)))) }
-{
-    let terms = all_terms(alloc, members, field)?;
-    match field_tokens(members, field, terms) {
-        Some(tokens) => Ok(tokens),
-        None => Err(Fault::Limit),
-    }
 }
 
 /// Writes the terms of a field that living documents of the members have.

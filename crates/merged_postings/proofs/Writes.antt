@@ -1,7 +1,6 @@
 -- Living documents of a cursor, written one after another.
-use Rattle.std.proofs.Common.{[], Bool, IfSome, List, None, Option, Some, ap, append_assoc, arith, drop, false, if◌then◌else◌, inl, inr, length, length-append, refl, slice_index, subst, suc, sum, sum_by, sym, true, zero, ◌*◌, ◌++◌, ◌+◌, ◌/◌, ◌<◌, ◌^◌, ◌||◌, ◌≡◌, ◌≢◌, ◌≤◌, ◌∙◌, ◌∷◌, ℕ}
+use Rattle.std.proofs.Common.{[], Bool, IfSome, List, None, Option, Some, ap, append_assoc, arith, drop, false, if◌then◌else◌, inl, inr, length, length-append, refl, slice_index, subst, suc, sum, sym, true, zero, ◌*◌, ◌++◌, ◌+◌, ◌/◌, ◌<◌, ◌^◌, ◌||◌, ◌≡◌, ◌≢◌, ◌≤◌, ◌∙◌, ◌∷◌, ℕ}
 use Rattle.std.proofs.lemmas.List.{drop-append-le, length-drop, map-append, take-append-le}
-use Rattle.std.proofs.lemmas.List.Sums.{sum_by-cons}
 use Rattle.std.specs.List.{AllByRecursion, slice_index_or}
 use Rattle.cursors.specs.Entries.{AreSingle, Entry, Rising, first, first_positions, highest, single}
 use Rattle.definitions.specs.Blocks.{block_len}
@@ -17,7 +16,7 @@ use Rattle.merged_postings.specs.Mappings.{Mapping, end_of, new_doc}
 use Rattle.merged_postings.specs.Written.{AreWritten, IsSame, IsWriteRefusal, counts_in}
 use Rattle.postings_serializer.specs.FieldWriting.{FieldWriting, IsOpen}
 use Rattle.postings_serializer.specs.TermWriting.{IsSumRefusal, recorded_count}
-use Rattle.postings_writer.proofs.WrittenTerms.{Written, all_opened, small_differences, written_more}
+use Rattle.postings_writer.proofs.WrittenTerms.{Written, all_counted as all_tokens, all_opened, small_differences, written_more}
 use Rattle.postings_writer.specs.Serializing.{CanWrite}
 
 -- ---- what may be written
@@ -45,6 +44,10 @@ can_write m es next norms rising single_ones counted few before kept = record {
 pub entry_there : (es : List Entry) → first es ≢ terminated → (e : Entry) × (rest : List Entry) × (es ≡ e ∷ rest)
 entry_there [] on = absurd (on refl)
 entry_there (e ∷ rest) on = (e, rest, refl)
+
+pub on_document : (es : List Entry) → Rising 0 es → first es ≢ terminated → first es < terminated
+on_document [] rising on = absurd (on refl)
+on_document (e ∷ es) rising on = rising.1
 
 pub none_left : (es : List Entry) → Rising 0 es → first es ≡ terminated → es ≡ []
 none_left [] rising at = refl
@@ -80,12 +83,12 @@ module _ (m : Mapping) (was now : FieldWriting) (all : List Posting) (e : Entry)
 
   pub living_written : (new : FieldWriting) (n : ℕ) → Some n ≡ new_doc m e.doc
       → ((docs counts numbers : List ℕ) → IsOpen now docs counts numbers → IsOpen new (docs ++ n ∷ []) (counts ++ recorded_count now.writing.option e.count ∷ []) (numbers ++ differences 0 (single e.positions)))
-      → IsSame now new → new.writing.next ≡ n + 1 → Written was new all (living_in m es)
-  living_written new n is more same next =
+      → new.total_term_freq ≡ now.total_term_freq + e.count → IsSame now new → new.writing.next ≡ n + 1 → Written was new all (living_in m es)
+  living_written new n is more counted same next =
       let k = number_of m e.doc n is in
       written_more was now new all (living_in m (e ∷ es)) (living_in m es) here (differences 0 (single e.positions)) before (living_first m e es k.0) refl
       (λ docs counts numbers opened. subst (λ d. IsOpen new (docs ++ d ∷ []) (counts ++ recorded_count now.writing.option e.count ∷ []) (numbers ++ differences 0 (single e.positions))) k.1 (more docs counts numbers opened))
-      same (next ∙ ap (λ d. d + 1) k.1)
+      counted same (next ∙ ap (λ d. d + 1) k.1)
 
   pub some_here : (some : Bool) (n : ℕ) → Some n ≡ new_doc m e.doc → (some || has_some (living_in m (e ∷ es))) ≡ has_some all → (true || has_some (living_in m es)) ≡ has_some all
   some_here some n is told = sym (sym told ∙ ap (λ ps. some || has_some ps) (living_first m e es (number_of m e.doc n is).0) ∙ either some)
@@ -103,7 +106,11 @@ module _ (m : Mapping) (was now : FieldWriting) (all : List Posting) (e : Entry)
 -- ---- all documents
 
 pub all_written : (m : Mapping) (was now : FieldWriting) (all : List Posting) (es : List Entry) (w : Written was now all (living_in m es)) → es ≡ [] → AreWritten was now all
-all_written m was now all es w none = record { open_is = λ docs counts numbers is. all_opened was now all (living_in m es) w (ap (living_in m) none) docs counts numbers is; same = w.same }
+all_written m was now all es w none = record {
+  open_is = λ docs counts numbers is. all_opened was now all (living_in m es) w (ap (living_in m) none) docs counts numbers is;
+  total = all_tokens was now all (living_in m es) w (ap (living_in m) none);
+  same = w.same;
+}
 
 pub some_of_all : (m : Mapping) (some : Bool) (all : List Posting) (es : List Entry) → (some || has_some (living_in m es)) ≡ has_some all → es ≡ [] → some ≡ has_some all
 some_of_all m some all es told none = sym (either some) ∙ ap (λ xs. some || has_some (living_in m xs)) (sym none) ∙ told
@@ -156,14 +163,3 @@ small_deltas ps i small = small_differences 0 ps i (small_list ps (2 ^ 31) small
 pub highest_first : (es : List Entry) → AreSingle es → highest (single (first_positions es)) < 2 ^ 31
 highest_first [] all = omega arith
 highest_first (e ∷ es) all = all.2
-
--- ---- tokens
-
-abbrev pub tokens : List Posting → ℕ
-tokens ps = sum_by (λ (p : Posting). p.count) ps
-
-pub tokens_first : (m : Mapping) (e : Entry) (es : List Entry) (n : ℕ) → Some n ≡ new_doc m e.doc → tokens (living_in m (e ∷ es)) ≡ e.count + tokens (living_in m es)
-tokens_first m e es n is = ap tokens (living_first m e es (number_of m e.doc n is).0) ∙ sum_by-cons (λ (p : Posting). p.count) (at_document (m.base + rank m.flags e.doc) (posting_in e)) (living_in m es)
-
-pub tokens_dead : (m : Mapping) (e : Entry) (es : List Entry) → None ≡ new_doc m e.doc → tokens (living_in m (e ∷ es)) ≡ tokens (living_in m es)
-tokens_dead m e es is = ap tokens (dead_first m e es (dead_one m e.doc is))

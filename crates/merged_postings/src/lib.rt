@@ -3,8 +3,6 @@
 
 mod doc_id_mapping;
 mod living_postings;
-mod living_tokens;
 
 pub use doc_id_mapping::DocIdMapping;
 pub use living_postings::write_postings;
-pub use living_tokens::count_tokens;

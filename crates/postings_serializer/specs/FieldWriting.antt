@@ -21,8 +21,8 @@ pub record Terms : Type 0 where
 abbrev pub inserted : List ℕ → TermLengths → Terms → Terms
 inserted key lengths t = record { closed = t.closed; entries = t.entries ++ entry_of_term (key, lengths); num_terms = t.num_terms + 1 }
 
--- terms, postings and positions of what is closed, the positions that wait, and the term that is written: its
--- value bytes and how many documents it has
+-- how many tokens the closed terms have, terms, postings and positions of what is closed, the positions that wait, and
+-- the term that is written: its value bytes, how many documents it has, and the sum of the counts that were told of them
 pub record FieldWriting : Type 0 where
   pub field : ℕ
   pub num_tokens : ℕ
@@ -31,6 +31,7 @@ pub record FieldWriting : Type 0 where
   pub positions : List ℕ × List ℕ
   pub key : List ℕ
   pub doc_freq : ℕ
+  pub total_term_freq : ℕ
   pub writing : Writing
 
 -- these documents of the term were written, with their counts and, where positions are recorded, these numbers
@@ -77,16 +78,16 @@ pub record Sections : Type 0 where
   pub positions : List ℕ
 
 -- a field behind them, of which no term is written yet
-abbrev pub field_begun : Sections → ℕ → ℕ → IndexRecordOption → Option (List ℕ) → FieldWriting
-field_begun s field num_tokens mode norms = record { field = field; num_tokens = num_tokens; terms = record { closed = s.terms; entries = []; num_terms = 0 }; postings = s.postings; positions = (s.positions, []); key = []; doc_freq = 0; writing = begun mode mode norms }
+abbrev pub field_begun : Sections → ℕ → IndexRecordOption → Option (List ℕ) → FieldWriting
+field_begun s field mode norms = record { field = field; num_tokens = 0; terms = record { closed = s.terms; entries = []; num_terms = 0 }; postings = s.postings; positions = (s.positions, []); key = []; doc_freq = 0; total_term_freq = 0; writing = begun mode mode norms }
 
 -- the sections with the field
 abbrev pub field_closed : FieldWriting → Sections
 field_closed w = record { terms = w.terms.closed ++ u32_bytes w.field ++ u64_bytes w.num_tokens ++ vint_bytes w.terms.num_terms ++ w.terms.entries; postings = w.postings; positions = w.positions.0 }
 
--- whether a limit is met where the term is closed: by its postings, its positions, or its field's terms
+-- whether a limit is met where the term is closed: by its postings, its positions, or its field's terms and tokens
 abbrev pub MeetsLimit : FieldWriting → List ℕ → List ℕ → List ℕ → Type 0
-MeetsLimit w docs counts numbers = (2 ^ 32 ≤ length (postings_of w.writing docs counts)) ⊎ (w.terms.num_terms ≡ 4294967295) ⊎ ((bytes : List ℕ) × HasPositions (has_positions w.writing.option) numbers bytes × (2 ^ 32 ≤ length bytes))
+MeetsLimit w docs counts numbers = (2 ^ 32 ≤ length (postings_of w.writing docs counts)) ⊎ (w.terms.num_terms ≡ 4294967295) ⊎ (2 ^ 64 ≤ w.num_tokens + w.total_term_freq) ⊎ ((bytes : List ℕ) × HasPositions (has_positions w.writing.option) numbers bytes × (2 ^ 32 ≤ length bytes))
 
 -- memory was wanting, or a limit is met
 abbrev pub IsCloseRefusal : Fault → FieldWriting → List ℕ → List ℕ → List ℕ → Type 0

@@ -25,19 +25,20 @@ pub struct FieldSerializer<'a> {
     pub(crate) positions_serializer: PositionSerializer,
     pub(crate) key: Vec<u8>,
     pub(crate) doc_freq: u32,
+    pub(crate) total_term_freq: u64,
     pub(crate) field: u32,
     pub(crate) num_tokens: u64,
 }
 
 impl<'a> Model for FieldSerializer<'a> {
-    ghost use Rattle.std.specs.Prelude.{◌≤◌};
+    ghost use Rattle.std.specs.Prelude.{◌*◌, ◌≤◌};
     ghost use Rattle.postings_serializer.specs.FieldWriting.{FieldWriting};
 
     ghost Value = { FieldWriting };
 
-    ghost view = { λ s. record { field = s.field; num_tokens = s.num_tokens; terms = s.terms; postings = s.postings.items; positions = s.positions_serializer; key = s.key.items; doc_freq = s.doc_freq; writing = s.postings_serializer } };
+    ghost view = { λ s. record { field = s.field; num_tokens = s.num_tokens; terms = s.terms; postings = s.postings.items; positions = s.positions_serializer; key = s.key.items; doc_freq = s.doc_freq; total_term_freq = s.total_term_freq; writing = s.postings_serializer } };
 
-    ghost invariant = { λ s. s.doc_freq ≤ s.postings_serializer.next };
+    ghost invariant = { λ s. (s.doc_freq ≤ s.postings_serializer.next) × (s.total_term_freq ≤ s.postings_serializer.next * 4294967295) };
 }
 
 impl<'a> FieldSerializer<'a> {
@@ -47,12 +48,14 @@ impl<'a> FieldSerializer<'a> {
         ensures key { OnOk result (self.new.key ≡ key.now) }
         ensures option { OnOk result (self.new.writing.option ≡ (if record_term_freq then self.old.writing.mode else basic)) }
         ensures same { OnOk result ((self.new.field ≡ self.old.field) × (self.new.num_tokens ≡ self.old.num_tokens) × (self.new.terms ≡ self.old.terms) × (self.new.postings ≡ self.old.postings) × (self.new.positions ≡ (self.old.positions.0, [])) × (self.new.writing.mode ≡ self.old.writing.mode) × (self.new.writing.norms ≡ self.old.writing.norms) × (self.new.writing.next ≡ 0)) }
+        ensures total { OnOk result (self.new.total_term_freq ≡ 0) }
         ensures refused { OnErr result (AreKept self.old self.new) }
         ensures waiting { OnErr result (self.new.positions.1 ≡ []) }
     {
         self.postings_serializer.new_term(record_term_freq);
         self.positions_serializer.clear();
         self.doc_freq = 0;
+        self.total_term_freq = 0;
         self.key.clear();
         self.key.extend_from_slice(key)?;
         Ok(())
@@ -64,6 +67,7 @@ impl<'a> FieldSerializer<'a> {
         ensures key { OnOk result (self.new.key ≡ key.now) }
         ensures option { OnOk result (self.new.writing.option ≡ basic) }
         ensures same { OnOk result ((self.new.field ≡ self.old.field) × (self.new.num_tokens ≡ self.old.num_tokens) × (self.new.terms ≡ self.old.terms) × (self.new.postings ≡ self.old.postings) × (self.new.positions ≡ (self.old.positions.0, [])) × (self.new.writing.mode ≡ self.old.writing.mode) × (self.new.writing.norms ≡ self.old.writing.norms) × (self.new.writing.next ≡ 0)) }
+        ensures total { OnOk result (self.new.total_term_freq ≡ 0) }
         ensures refused { OnErr result (AreKept self.old self.new) }
         ensures waiting { OnErr result (self.new.positions.1 ≡ []) }
     {
@@ -85,12 +89,14 @@ impl<'a> FieldSerializer<'a> {
         requires positions { (i : ℕ) → slice_index position_deltas.now i < 2 ^ 31 }
         ensures written { (docs counts numbers : List ℕ) → IsOpen self.old docs counts numbers → OnOk result (IsOpen self.new (docs ++ doc ∷ []) (counts ++ recorded_count self.old.writing.option term_freq ∷ []) (numbers ++ position_deltas.now)) }
         ensures same { OnOk result ((self.new.field ≡ self.old.field) × (self.new.num_tokens ≡ self.old.num_tokens) × (self.new.terms ≡ self.old.terms) × (self.new.postings ≡ self.old.postings) × (self.new.key ≡ self.old.key) × (self.new.writing.mode ≡ self.old.writing.mode) × (self.new.writing.option ≡ self.old.writing.option) × (self.new.writing.norms ≡ self.old.writing.norms) × (self.new.writing.next ≡ doc + 1) × (self.new.positions.0 ≡ self.old.positions.0)) }
+        ensures total { OnOk result (self.new.total_term_freq ≡ self.old.total_term_freq + term_freq) }
         ensures err { (docs counts numbers : List ℕ) → IsOpen self.old docs counts numbers → IfErr result (λ fault. IsSumRefusal fault (counts ++ recorded_count self.old.writing.option term_freq ∷ [])) }
         ensures refused { OnErr result (AreKept self.old self.new) }
     {
         self.postings_serializer.write_doc(doc, term_freq)?;
         self.write_positions(position_deltas)?;
         self.doc_freq += 1;
+        self.total_term_freq += u64::from(term_freq);
         Ok(())
     }
 
@@ -108,15 +114,24 @@ impl<'a> FieldSerializer<'a> {
         Ok(())
     }
 
-    /// Closes the term: its postings and positions stand behind those of the terms before.
+    /// Closes the term: its postings and positions stand behind those of the terms before, and its tokens, the sum of
+    /// the counts that `write_doc` was told, count for the field.
     pub fn close_term(&mut self) -> Result<(), Fault>
         ensures ok { (docs counts numbers : List ℕ) → IsOpen self.old docs counts numbers → OnOk result (IsClosed self.old self.new docs counts numbers) }
-        ensures same { OnOk result ((self.new.field ≡ self.old.field) × (self.new.num_tokens ≡ self.old.num_tokens) × (self.new.writing.mode ≡ self.old.writing.mode) × (self.new.writing.norms ≡ self.old.writing.norms)) }
+        ensures tokens { OnOk result ((self.new.num_tokens ≡ self.old.num_tokens + self.old.total_term_freq)
+            × (self.old.num_tokens + self.old.total_term_freq < 2 ^ 64)) }
+        ensures same { OnOk result ((self.new.field ≡ self.old.field) × (self.new.writing.mode ≡ self.old.writing.mode)
+            × (self.new.writing.norms ≡ self.old.writing.norms)) }
         ensures err { (docs counts numbers : List ℕ) → IsOpen self.old docs counts numbers → IfErr result (λ fault. IsCloseRefusal fault self.old docs counts numbers) }
         ensures refused { OnErr result (IsSameField self.old self.new) }
     {
+        let num_tokens = self
+            .num_tokens
+            .checked_add(self.total_term_freq)
+            .ok_or(Fault::Limit)?;
         let doc_freq = self.doc_freq;
         self.doc_freq = 0;
+        self.total_term_freq = 0;
         let postings_start = self.postings.len();
         self.postings_serializer
             .close_term(doc_freq, &mut self.postings)?;
@@ -129,6 +144,7 @@ impl<'a> FieldSerializer<'a> {
         }
         self.terms
             .insert(&self.key, doc_freq, postings_len, positions_len)?;
+        self.num_tokens = num_tokens;
         Ok(())
     }
 

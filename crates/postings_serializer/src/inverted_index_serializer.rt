@@ -46,16 +46,15 @@ impl InvertedIndexSerializer {
         })
     }
 
-    /// Begins a field of so many tokens, which records so much, and keeps these lengths, if any.
+    /// Begins a field that records so much, and keeps these lengths, if any.
     pub fn new_field<'a>(
         self,
         alloc: Global,
         field: u32,
-        total_num_tokens: u64,
         mode: IndexRecordOption,
         fieldnorm_reader: Option<FieldNormReader<'a>>,
     ) -> FieldSerializer<'a>
-        ensures { result ≡ field_begun self field total_num_tokens (record_option_of mode) fieldnorm_reader.entry }
+        ensures { result ≡ field_begun self field (record_option_of mode) fieldnorm_reader.entry }
     {
         FieldSerializer {
             terms: self.terms,
@@ -64,8 +63,9 @@ impl InvertedIndexSerializer {
             positions_serializer: self.positions_serializer,
             key: Vec::new(alloc),
             doc_freq: 0,
+            total_term_freq: 0,
             field,
-            num_tokens: total_num_tokens,
+            num_tokens: 0,
         }
     }
 

@@ -1,5 +1,5 @@
 -- A field that was written has the terms that have places, with their postings.
-use Rattle.std.proofs.Common.{[], ◌++◌, ◌⊎◌, ◌≤◌, IsSomeAnd, inl, inr, slice_get, suc, zero, ◌+◌, ◌<◌, ◌^◌, ◌≡◌, ◌∙◌, ◌∷◌, IsSome, List, Option, Some, ap, ap₂, append_assoc, arith, bytes_eq, length, map, refl, subst, sum_by, sym, true, ℕ}
+use Rattle.std.proofs.Common.{[], ◌++◌, ◌⊎◌, ◌≤◌, IsSomeAnd, inl, inr, slice_get, suc, zero, ◌+◌, ◌<◌, ◌^◌, ◌≡◌, ◌∙◌, ◌∷◌, IsSome, List, Option, Some, ap, ap₂, append_assoc, arith, bytes_eq, length, map, refl, subst, sum_by, sym, true, zero-add, ℕ}
 use Rattle.std.specs.List.{AllByRecursion, flat_map, list_any}
 use Rattle.std.specs.Map.{lookup}
 use Rattle.std.proofs.lemmas.List.{length-map}
@@ -17,7 +17,7 @@ use Rattle.postings_writer.specs.Fields.{HasPlaces, Terms, option_of_key}
 use Rattle.postings_writer.specs.Limits.{IsFieldRefusal, TermPasses, TooMany}
 use Rattle.postings_writer.specs.Occurrences.{postings_at}
 use Rattle.postings_writer.specs.Recorders.{recorder_of}
-use Rattle.postings_writer.specs.Sections.{AnyTermPasses, AreAdded, AreFieldsAdded, IsFieldOf, IsSpelled, IsTermOf, option_in}
+use Rattle.postings_writer.specs.Sections.{AnyTermPasses, AreAdded, AreFieldsAdded, IsFieldOf, IsSpelled, IsTermOf, option_in, tokens_in}
 use Rattle.postings_writer.specs.Serializing.{postings_from, tokens_of}
 use Rattle.postings_writer.specs.declared.recorder.Recorder.{Recorder}
 use Rattle.postings_writer.proofs.Bridges.{recorded_postings}
@@ -74,20 +74,6 @@ keys_told (t ∷ ts) (r ∷ rs) told =
     let rest : map told_of ts ≡ map stands_for rs = cc in
     ap₂ (λ k ks. k ∷ ks) (ap (λ (x : List ℕ × List Posting). x.0) first) (keys_told ts rs rest)
 
--- so are the tokens
-pub tokens_told : (ts : List IndexedTerm) (rs : List Recorded) → map told_of ts ≡ map stands_for rs → sum_by (λ (t : IndexedTerm). sum_by (λ p. p.count) t.postings) ts ≡ sum_by (λ (r : Recorded). tokens_of r.1) rs
-tokens_told [] [] told = refl
-tokens_told [] (r ∷ rs) told = cc
-tokens_told (t ∷ ts) [] told = cc
-tokens_told (t ∷ ts) (r ∷ rs) told =
-    let first : told_of t ≡ stands_for r = cc in
-    let rest : map told_of ts ≡ map stands_for rs = cc in
-    let here : sum_by (λ (p : Posting). p.count) t.postings ≡ tokens_of r.1 = ap (λ (x : List ℕ × List Posting). sum_by (λ (p : Posting). p.count) x.1) first in
-    let later = tokens_told ts rs rest in
-    let a = sum_by-cons (λ (t : IndexedTerm). sum_by (λ p. p.count) t.postings) t ts in
-    let b = sum_by-cons (λ (r : Recorded). tokens_of r.1) r rs in
-    omega arith
-
 -- ---- a field behind the others
 
 append_nil : {A : Type 0} (xs : List A) → xs ++ [] ≡ xs
@@ -109,21 +95,24 @@ spelled_same c d f g t u n m xs ys to_d to_g to_u to_m to_ys =
     ∙ ap (λ x. spelled_field d g u m x) to_ys
 
 -- the field that was begun, with the terms that were added, closed
-module _ (s now : Sections) (field tokens : ℕ) (mode : IndexRecordOption) (norms : Option (List ℕ)) (kind : Kind) (w : FieldWriting) (rs : List Recorded) (ts : List IndexedTerm) (added : AreAdded kind (field_begun s field tokens mode norms) w rs ts) where
-  abbrev total : ℕ
-  total = sum_by (λ (t : IndexedTerm). sum_by (λ p. p.count) t.postings) ts
+module _ (s now : Sections) (field : ℕ) (mode : IndexRecordOption) (norms : Option (List ℕ)) (kind : Kind) (w : FieldWriting) (rs : List Recorded) (ts : List IndexedTerm) (added : AreAdded kind (field_begun s field mode norms) w rs ts) where
+  tokens_are : w.num_tokens ≡ tokens_in ts
+  tokens_are = added.tokens ∙ zero-add (tokens_in ts)
 
-  terms_added : tokens ≡ total → (field_closed w).terms ≡ s.terms ++ flat_map field_terms_bytes (field_terms (record { field = field; terms = ts }) ∷ [])
-  terms_added tokens_are =
-      spelled_same w.terms.closed s.terms w.field field w.num_tokens total w.terms.num_terms (length (map lengths_of ts)) w.terms.entries (flat_map entry_of_term (map lengths_of ts))
-      (ap (λ (x : Rattle.postings_serializer.specs.FieldWriting.Terms). x.closed) added.terms) added.same.0 (added.same.1 ∙ tokens_are)
+  pub tokens_within : tokens_in ts < 2 ^ 64
+  tokens_within = (let none : 0 < 2 ^ 64 = omega arith in subst (λ n. n < 2 ^ 64) tokens_are (added.tokens_fit none))
+
+  terms_added : (field_closed w).terms ≡ s.terms ++ flat_map field_terms_bytes (field_terms (record { field = field; terms = ts }) ∷ [])
+  terms_added =
+      spelled_same w.terms.closed s.terms w.field field w.num_tokens (tokens_in ts) w.terms.num_terms (length (map lengths_of ts)) w.terms.entries (flat_map entry_of_term (map lengths_of ts))
+      (ap (λ (x : Rattle.postings_serializer.specs.FieldWriting.Terms). x.closed) added.terms) added.same.0 tokens_are
       (ap (λ (x : Rattle.postings_serializer.specs.FieldWriting.Terms). x.num_terms) added.terms ∙ (let long = length-map ts lengths_of in let P : 0 + length ts ≡ length (map lengths_of ts) = omega arith in P))
       (ap (λ (x : Rattle.postings_serializer.specs.FieldWriting.Terms). x.entries) added.terms)
-      ∙ regroup s.terms (u32_bytes field) (u64_bytes total) (vint_bytes (length (map lengths_of ts))) (flat_map entry_of_term (map lengths_of ts))
+      ∙ regroup s.terms (u32_bytes field) (u64_bytes (tokens_in ts)) (vint_bytes (length (map lengths_of ts))) (flat_map entry_of_term (map lengths_of ts))
 
-  pub field_added : tokens ≡ total → now ≡ field_closed w → AreFieldsAdded s now (record { field = field; terms = ts } ∷ [])
-  field_added tokens_are is = record {
-    terms = ap (λ (x : Sections). x.terms) is ∙ terms_added tokens_are;
+  pub field_added : now ≡ field_closed w → AreFieldsAdded s now (record { field = field; terms = ts } ∷ [])
+  field_added is = record {
+    terms = ap (λ (x : Sections). x.terms) is ∙ terms_added;
     postings = ap (λ (x : Sections). x.postings) is ∙ added.postings ∙ ap (λ xs. s.postings ++ xs) (sym (append_nil (flat_map (λ (t : IndexedTerm). t.postings_bytes) ts)));
     positions = ap (λ (x : Sections). x.positions) is ∙ ap (λ (x : List ℕ × List ℕ). x.0) added.positions ∙ ap (λ xs. s.positions ++ xs) (sym (append_nil (flat_map (λ (t : IndexedTerm). t.positions_bytes) ts)));
   }
@@ -136,44 +125,33 @@ few_terms (t ∷ ts) few = (let all = few (omega arith) in omega arith)
 -- ---- the field of places
 
 -- what was written of the recorders of places
-pub field_of_places : (e : Entry) (places : List ℕ → List (ℕ × ℕ)) (terms : Terms) (s now : Sections) (field tokens : ℕ) (norms : Option (List ℕ)) (w : FieldWriting) (rs : List Recorded) (ts : List IndexedTerm)
-    → HasPlaces e places terms → AreAdded e.kind (field_begun s field tokens e.record_option norms) w rs ts → now ≡ field_closed w
-    → tokens ≡ sum_by (λ (r : Recorded). tokens_of r.1) rs → tokens < 2 ^ 64
+pub field_of_places : (e : Entry) (places : List ℕ → List (ℕ × ℕ)) (terms : Terms) (s now : Sections) (field : ℕ) (norms : Option (List ℕ)) (w : FieldWriting) (rs : List Recorded) (ts : List IndexedTerm)
+    → HasPlaces e places terms → AreAdded e.kind (field_begun s field e.record_option norms) w rs ts → now ≡ field_closed w
     → TermsAscend (map (λ (r : Recorded). r.0) rs) → AllByRecursion (λ (r : Recorded). lookup (bytes_eq r.0) terms ≡ Some r.1) rs
     → ((key : List ℕ) → IsSome (lookup (bytes_eq key) terms) → list_any (bytes_eq key) (map (λ (r : Recorded). r.0) rs) ≡ true)
     → (f : IndexedField) × (f.field ≡ field) × IsFieldOf e (listed norms) places f × AreFieldsAdded s now (f ∷ [])
-field_of_places e places terms s now field tokens norms w rs ts has added is tokens_are fit ascend found all =
-    let keys = keys_told ts rs added.told in
-    let same = tokens_told ts rs added.told in (
+field_of_places e places terms s now field norms w rs ts has added is ascend found all =
+    let keys = keys_told ts rs added.told in (
       record { field = field; terms = ts },
       refl,
       record {
         ascend = subst TermsAscend (sym keys) ascend;
-        tokens_fit = subst (λ n. n < 2 ^ 64) (tokens_are ∙ sym same) fit;
+        tokens_fit = tokens_within s now field e.record_option norms e.kind w rs ts added;
         few = few_terms ts added.few;
         each = all_terms e places terms has (listed norms) ts rs added.told added.each found;
         all = λ key some. subst (λ ks. list_any (bytes_eq key) ks ≡ true) (sym keys) (all key (subst IsSome (sym (has key)) (some_recorder (option_of_key e key) (places key) some)));
       },
-      field_added s now field tokens e.record_option norms e.kind w rs ts added (tokens_are ∙ sym same) is,
+      field_added s now field e.record_option norms e.kind w rs ts added is,
     )
 
-tokens_mapped : {A : Type 0} (v : A → Recorded) (items : List A) → sum_by (λ x. tokens_of (v x).1) items ≡ sum_by (λ (r : Recorded). tokens_of r.1) (map v items)
-tokens_mapped v [] = refl
-tokens_mapped v (x ∷ items) =
-    let later = tokens_mapped v items in
-    let a = sum_by-cons (λ y. tokens_of (v y).1) x items in
-    let b = sum_by-cons (λ (r : Recorded). tokens_of r.1) (v x) (map v items) in
-    omega arith
-
 -- the same of items that show the recorders
-pub field_of_items : {A : Type 0} (v : A → Recorded) (items : List A) (e : Entry) (places : List ℕ → List (ℕ × ℕ)) (terms : Terms) (s now : Sections) (field tokens : ℕ) (norms : Option (List ℕ)) (w : FieldWriting) (ts : List IndexedTerm)
-    → HasPlaces e places terms → AreAdded e.kind (field_begun s field tokens e.record_option norms) w (map v items) ts → now ≡ field_closed w
-    → tokens ≡ sum_by (λ x. tokens_of (v x).1) items → tokens < 2 ^ 64
+pub field_of_items : {A : Type 0} (v : A → Recorded) (items : List A) (e : Entry) (places : List ℕ → List (ℕ × ℕ)) (terms : Terms) (s now : Sections) (field : ℕ) (norms : Option (List ℕ)) (w : FieldWriting) (ts : List IndexedTerm)
+    → HasPlaces e places terms → AreAdded e.kind (field_begun s field e.record_option norms) w (map v items) ts → now ≡ field_closed w
     → TermsAscend (map (λ x. (v x).0) items) → AllByRecursion (λ x. lookup (bytes_eq (v x).0) terms ≡ Some (v x).1) items
     → ((key : List ℕ) → IsSome (lookup (bytes_eq key) terms) → list_any (bytes_eq key) (map (λ x. (v x).0) items) ≡ true)
     → (f : IndexedField) × (f.field ≡ field) × IsFieldOf e (listed norms) places f × AreFieldsAdded s now (f ∷ [])
-field_of_items v items e places terms s now field tokens norms w ts has added is tokens_are fit ascend found all =
-    field_of_places e places terms s now field tokens norms w (map v items) ts has added is (tokens_are ∙ tokens_mapped v items) fit
+field_of_items v items e places terms s now field norms w ts has added is ascend found all =
+    field_of_places e places terms s now field norms w (map v items) ts has added is
     (subst TermsAscend (sym (keys_are v items)) ascend)
     (all_mapped (λ (r : Recorded). lookup (bytes_eq r.0) terms ≡ Some r.1) v items found)
     (λ key some. subst (λ ks. list_any (bytes_eq key) ks ≡ true) (sym (keys_are v items)) (all key some))
@@ -198,12 +176,13 @@ module _ {A : Type 0} (v : A → Recorded) (items : List A) (e : Entry) (places 
   some_found : (key : List ℕ) (r : Recorder) → lookup (bytes_eq key) terms ≡ Some r → 0 < length (given key)
   some_found key r at = some_postings (option_of_key e key) (places key) (recorder_some (option_of_key e key) (places key) r (recorder_at key r at))
 
-  tokens_given : (xs : List A) → AllByRecursion (λ x. lookup (bytes_eq (v x).0) terms ≡ Some (v x).1) xs → sum_by (λ x. tokens_of (v x).1) xs ≡ sum_by (λ key. sum_by (λ (p : Posting). p.count) (given key)) (map (λ x. (v x).0) xs)
+  -- the tokens of the recorders are those of their places
+  tokens_given : (xs : List A) → AllByRecursion (λ x. lookup (bytes_eq (v x).0) terms ≡ Some (v x).1) xs → sum_by (λ (r : Recorded). tokens_of r.1) (map v xs) ≡ sum_by (λ key. sum_by (λ (p : Posting). p.count) (given key)) (map (λ x. (v x).0) xs)
   tokens_given [] all = refl
   tokens_given (x ∷ xs) all =
       let here : tokens_of (v x).1 ≡ sum_by (λ (p : Posting). p.count) (given (v x).0) = ap (sum_by (λ (p : Posting). p.count)) (postings_found (v x).0 (v x).1 all.0) in
       let later = tokens_given xs all.1 in
-      let a = sum_by-cons (λ y. tokens_of (v y).1) x xs in
+      let a = sum_by-cons (λ (r : Recorded). tokens_of r.1) (v x) (map v xs) in
       let b = sum_by-cons (λ key. sum_by (λ (p : Posting). p.count) (given key)) (v x).0 (map (λ y. (v y).0) xs) in
       omega arith
 
@@ -215,18 +194,15 @@ module _ {A : Type 0} (v : A → Recorded) (items : List A) (e : Entry) (places 
     many = many;
   }
 
-  -- tokens that pass 64 bits
-  pub tokens_pass : 2 ^ 64 ≤ sum_by (λ x. tokens_of (v x).1) items → TooMany given
-  tokens_pass past = too_many (inr (subst (λ n. 2 ^ 64 ≤ n) (tokens_given items found) past))
-
-  -- a term of the field that passes a limit, or their number
-  pub terms_pass : (fault : Fault) (norms : Option (List ℕ)) (was : FieldWriting) → was.terms.num_terms ≡ 0 → was.writing.mode ≡ e.record_option → was.writing.norms ≡ norms → (fault ≡ faults.OutOfMemory) ⊎ ((fault ≡ faults.Limit) × AnyTermPasses e.kind was (map v items)) → IsFieldRefusal fault (option_of_key e) (listed norms) given
-  terms_pass fault norms was none mode ids (inl memory) = inl memory
-  terms_pass fault norms was none mode ids (inr (limit, inl (i, passes))) =
+  -- a term of the field that passes a limit, or their number, or their tokens
+  pub terms_pass : (fault : Fault) (norms : Option (List ℕ)) (was : FieldWriting) → was.terms.num_terms ≡ 0 → was.num_tokens ≡ 0 → was.writing.mode ≡ e.record_option → was.writing.norms ≡ norms → (fault ≡ faults.OutOfMemory) ⊎ ((fault ≡ faults.Limit) × AnyTermPasses e.kind was (map v items)) → IsFieldRefusal fault (option_of_key e) (listed norms) given
+  terms_pass fault norms was none empty mode ids (inl memory) = inl memory
+  terms_pass fault norms was none empty mode ids (inr (limit, inl (i, passes))) =
       let P : Recorded → Type 0 = λ r. TermPasses (option_in e.kind was.writing.mode r.0) (listed was.writing.norms) (postings_from r.1 0) in
       let Q : Recorded → Type 0 = λ r. lookup (bytes_eq r.0) terms ≡ Some r.1 in
       let r = among P Q (map v items) i (all_mapped Q v items found) passes in
       let one = subst (λ m. TermPasses (option_in e.kind m r.0.0) (listed was.writing.norms) (postings_from r.0.1 0)) mode r.1 in
       let two = subst (λ o. TermPasses (option_of_key e r.0.0) (listed o) (postings_from r.0.1 0)) ids one in
       inr (limit, inl (r.0.0, subst (λ ps. TermPasses (option_of_key e r.0.0) (listed norms) ps) (postings_found r.0.0 r.0.1 r.2) two))
-  terms_pass fault norms was none mode ids (inr (limit, inr many)) = inr (limit, inr (too_many (inl (let a = length-map items v in let b = length-map items (λ x. (v x).0) in omega arith))))
+  terms_pass fault norms was none empty mode ids (inr (limit, inr (inl many))) = inr (limit, inr (too_many (inl (let a = length-map items v in let b = length-map items (λ x. (v x).0) in omega arith))))
+  terms_pass fault norms was none empty mode ids (inr (limit, inr (inr past))) = inr (limit, inr (too_many (inr (let told = tokens_given items found in omega arith))))

@@ -10,7 +10,6 @@ pub mod WrittenTerms
 pub mod Bridges
 pub mod SortedTerms
 pub mod Places
-pub mod Tokens
 pub mod WrittenFields
 pub mod FieldsOfPlaces
 pub mod StandingFields

@@ -1,8 +1,7 @@
 -- Places of one document in a row, and differences of positions.
-use Rattle.std.proofs.Common.{[], ◌++◌, ◌+◌, ◌-◌, ◌<◌, ◌≡◌, ◌≢◌, ◌≤◌, ◌∙◌, ◌∷◌, Bool, List, add-one, ap, ap₂, append_assoc, arith, cond, drop, false, get_or, length, map, nat_eq, refl, set, subst, suc, sym, take, true, zero, zero-add, ℕ}
-use Rattle.std.proofs.Math.Seq.{drop-cons, take-suc-set}
+use Rattle.std.proofs.Common.{[], ◌+◌, ◌-◌, ◌<◌, ◌≡◌, ◌≢◌, ◌≤◌, ◌∙◌, ◌∷◌, Bool, List, ap, arith, cond, drop, false, get_or, length, map, nat_eq, refl, suc, sym, take, true, zero, zero-add, ℕ}
 use Rattle.std.proofs.lemmas.Bool.Decides.{nat_tests}
-use Rattle.std.proofs.lemmas.List.{drop-drop, drop-set-lt, drop_all, length-drop, length-map, length-take-le, take_all}
+use Rattle.std.proofs.lemmas.List.{drop-drop, length-drop, length-map, length-take-le}
 use Rattle.definitions.specs.Scoring.{DontFall}
 use Rattle.layouts.specs.Positions.{differences}
 use Rattle.definitions.specs.Postings.{Posting}
@@ -68,34 +67,7 @@ run_from ps start end doc above within all ends =
 
 -- ---- differences
 
--- one difference more
-pub differences_more : (before here i : ℕ) (xs all : List ℕ) → i < length xs → here ≡ get_or xs i 0 → take i xs ++ differences before (drop i xs) ≡ all → take (i + 1) (set xs i (here - before)) ++ differences here (drop (i + 1) (set xs i (here - before))) ≡ all
-differences_more before here i xs all inside is told =
-    let put : take (i + 1) (set xs i (here - before)) ≡ take i xs ++ (here - before) ∷ [] = ap (λ n. take n (set xs i (here - before))) (add-one i) ∙ take-suc-set xs i (here - before) inside in
-    let left : drop (i + 1) (set xs i (here - before)) ≡ drop (suc i) xs = drop-set-lt (i + 1) xs i (here - before) (omega arith) ∙ ap (λ n. drop n xs) (add-one i) in
-    let first : drop i xs ≡ here ∷ drop (suc i) xs = drop-cons xs i 0 inside ∙ ap (λ x. x ∷ drop (suc i) xs) (sym is) in
-    ap (λ ys. ys ++ differences here (drop (i + 1) (set xs i (here - before)))) put
-    ∙ ap (λ ys. (take i xs ++ (here - before) ∷ []) ++ differences here ys) left
-    ∙ append_assoc (take i xs) ((here - before) ∷ []) (differences here (drop (suc i) xs))
-    ∙ ap (λ ys. take i xs ++ differences before ys) (sym first)
-    ∙ told
-
--- what is left doesn't fall
-pub rising_more : (before here i : ℕ) (xs : List ℕ) (d : ℕ) → i < length xs → here ≡ get_or xs i 0 → DontFall (before ∷ drop i xs) → (before ≤ here) × DontFall (here ∷ drop (i + 1) (set xs i d))
-rising_more before here i xs d inside is rising =
-    let left : drop (i + 1) (set xs i d) ≡ drop (suc i) xs = drop-set-lt (i + 1) xs i d (omega arith) ∙ ap (λ n. drop n xs) (add-one i) in
-    let first : drop i xs ≡ here ∷ drop (suc i) xs = drop-cons xs i 0 inside ∙ ap (λ x. x ∷ drop (suc i) xs) (sym is) in
-    let both = subst (λ ys. DontFall (before ∷ ys)) first rising in
-    (both.0, subst (λ ys. DontFall (here ∷ ys)) (sym left) both.1)
-
--- all differences
-pub differences_all : (before i : ℕ) (xs all : List ℕ) → i ≡ length xs → take i xs ++ differences before (drop i xs) ≡ all → xs ≡ all
-differences_all before i xs all is told = sym (append_nil xs) ∙ ap₂ (λ ys zs. ys ++ differences before zs) (sym (take_all i xs (omega arith))) (sym (drop_all i xs (omega arith))) ∙ told
-  where
-    append_nil : (ys : List ℕ) → ys ++ [] ≡ ys
-    append_nil [] = refl
-    append_nil (y ∷ ys) = ap (λ zs. y ∷ zs) (append_nil ys)
-
+-- what doesn't fall begins at 0 or above
 pub zero_first : (xs : List ℕ) → DontFall xs → DontFall (0 ∷ xs)
 zero_first [] rising = tt
 zero_first (x ∷ xs) rising = (omega arith, rising)

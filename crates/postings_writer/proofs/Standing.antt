@@ -5,7 +5,7 @@ use Rattle.std.proofs.lemmas.Bool.Decides.{nat_tests}
 use Rattle.std.proofs.lemmas.List.{length-replicate, length-set, map-append}
 use Rattle.std.proofs.lemmas.List.Elements.{filter-append}
 use Rattle.std.proofs.lemmas.Option.{slice_get_within}
-use Rattle.definitions.specs.Schema.{Entry, Kind, Schema, bool_kind, bytes_kind, date_kind, facet_kind, i64_kind, ip_addr_kind, json_kind, max_fields, text_kind, u64_kind}
+use Rattle.definitions.specs.Schema.{Entry, Kind, Schema, max_fields}
 use Rattle.definitions.specs.Scoring.{DontFall}
 use Rattle.definitions.specs.Terms.{field_of, payload_of, term_bytes}
 use Rattle.terms.proofs.TermParts.{field_of-term, other_fields, payload_of-term, same_keys}
@@ -128,20 +128,6 @@ stands_none schema few = record {
     nothing (x ∷ xs) (suc f) e at = nothing xs f e at
 
 -- ---- a known term
-
-pub term_length : (schema : Schema) (t : List ℕ) (k : IsIndexedTerm schema t) → 5 ≤ length t
-term_length schema t k = subst (λ xs. 5 ≤ length xs) (sym k.whole) (go k.entry.kind)
-  where
-    go : (kind : Kind) → 5 ≤ length (term_bytes k.field kind k.key)
-    go text_kind = omega arith
-    go u64_kind = omega arith
-    go i64_kind = omega arith
-    go bool_kind = omega arith
-    go date_kind = omega arith
-    go facet_kind = omega arith
-    go bytes_kind = omega arith
-    go json_kind = omega arith
-    go ip_addr_kind = omega arith
 
 pub field_of-known : (schema : Schema) (t : List ℕ) (k : IsIndexedTerm schema t) → field_of t ≡ k.field
 field_of-known schema t k = ap field_of k.whole ∙ field_of-term k.field k.entry.kind k.key k.fits

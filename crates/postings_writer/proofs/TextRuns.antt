@@ -77,13 +77,6 @@ pub record Indexed (schema : Schema) (was now : Writer) (doc : ℕ) (prefix : Li
   pub counted : num_tokens ≡ min 4294967295 (length seen)
   pub within : AreWithin gap start seen
 
-pub none_indexed : (schema : Schema) (was : Writer) (doc : ℕ) (prefix : List ℕ) (gap start : ℕ) (all : List Token) → Indexed schema was was doc prefix gap start start 0 all all
-none_indexed schema was doc prefix gap start all = record { seen = []; split = refl; stands = λ os stands. subst (Stands schema was) (sym (append_nil os)) stands; end_is = refl; counted = refl; within = tt }
-  where
-    append_nil : (xs : List Occurrence) → xs ++ [] ≡ xs
-    append_nil [] = refl
-    append_nil (x ∷ xs) = ap (λ ys. x ∷ ys) (append_nil xs)
-
 joined : (doc : ℕ) (prefix : List ℕ) (start : ℕ) (os : List Occurrence) (xs ys : List Token) → (os ++ text_occurrences doc prefix start xs) ++ text_occurrences doc prefix start ys ≡ os ++ text_occurrences doc prefix start (xs ++ ys)
 joined doc prefix start os xs ys = append_assoc os (text_occurrences doc prefix start xs) (text_occurrences doc prefix start ys) ∙ ap (λ more. os ++ more) (sym (map-append (occurrence_of doc prefix start) xs ys))
 
@@ -127,15 +120,6 @@ indexed_refused fault schema was now os doc prefix gap start end num_tokens all 
       split = whole ∙ ap (λ ts. before.seen ++ (ts ++ kept after)) count.split ∙ ap (λ ts. before.seen ++ ts) (append_assoc count.before count.after (kept after)) ∙ sym (append_assoc before.seen count.before (count.after ++ kept after));
       past = subst (λ xs. 2 ^ 32 ≤ last_count (by_document (places_of count.term xs))) (joined doc prefix start os before.seen count.before) count.past;
     })
-
--- all tokens were recorded
-pub indexed_all : (schema : Schema) (was now : Writer) (doc : ℕ) (prefix : List ℕ) (gap start end num_tokens : ℕ) (all rest : List Token) (before : Indexed schema was now doc prefix gap start end num_tokens all rest) → length rest ≡ 0 → before.seen ≡ kept all
-indexed_all schema was now doc prefix gap start end num_tokens all [] before none = sym (before.split ∙ append_nil before.seen)
-  where
-    append_nil : (xs : List Token) → xs ++ [] ≡ xs
-    append_nil [] = refl
-    append_nil (x ∷ xs) = ap (λ ys. x ∷ ys) (append_nil xs)
-indexed_all schema was now doc prefix gap start end num_tokens all (t ∷ rest) before none = absurd (omega arith)
 
 -- ---- a start that was cut
 

@@ -1,7 +1,8 @@
 -- Terms that were written to a field, and fields that were written to the sections.
-use Rattle.std.proofs.Common.{[], ◌++◌, ◌⊎◌, IsSomeAnd, Some, inl, inr, option_map, slice_get, suc, zero, ◌+◌, ◌<◌, ◌^◌, ◌≡◌, ◌∙◌, ◌∷◌, List, ap, ap₂, append_assoc, arith, get_or, length, length-append, map, refl, subst, sym, take, ℕ}
+use Rattle.std.proofs.Common.{[], ◌++◌, ◌⊎◌, IsSomeAnd, Some, inl, inr, option_map, slice_get, suc, zero, ◌+◌, ◌<◌, ◌^◌, ◌≡◌, ◌≤◌, ◌∙◌, ◌∷◌, List, ap, ap₂, append_assoc, arith, get_or, length, length-append, map, refl, subst, sum_by, sym, take, ℕ}
 use Rattle.std.specs.List.{AllByRecursion, flat_map}
-use Rattle.std.proofs.lemmas.List.{length-map, length-take-le, map-append, take_more}
+use Rattle.std.proofs.lemmas.List.{length-map, length-take-le, map-append, take-map, take_more}
+use Rattle.std.proofs.lemmas.List.Sums.{sum_by-cons, sum_by-take-le, sum_by_push}
 use Rattle.std.proofs.lemmas.Option.{slice_get-get_or}
 use Rattle.packed_blocks.specs.UnpackedBlocks.{listed}
 use Rattle.definitions.specs.Postings.{Posting}
@@ -14,9 +15,10 @@ use Rattle.layouts.specs.TermSections.{entry_of_term}
 use Rattle.postings_serializer.specs.FieldWriting.{FieldWriting, Terms, inserted}
 use Rattle.postings_serializer.specs.TermWriting.{recorded_count}
 use Rattle.postings_writer.specs.Limits.{TermPasses}
-use Rattle.postings_writer.specs.Sections.{AnyTermPasses, AreAdded, IsSpelled, option_in}
-use Rattle.postings_writer.specs.Serializing.{IsWrittenTerm, postings_from}
+use Rattle.postings_writer.specs.Sections.{AnyTermPasses, AreAdded, IsSpelled, option_in, tokens_in}
+use Rattle.postings_writer.specs.Serializing.{IsWrittenTerm, postings_from, tokens_of}
 use Rattle.postings_writer.specs.declared.recorder.Recorder.{Recorder}
+use Rattle.postings_writer.proofs.WrittenTerms.{IsTermRefusal}
 
 append_nil : {A : Type 0} (xs : List A) → xs ++ [] ≡ xs
 append_nil [] = refl
@@ -46,16 +48,23 @@ told_of t = (t.key, t.postings)
 abbrev stands_for : Recorded → List ℕ × List Posting
 stands_for r = (r.0, postings_from r.1 0)
 
-pub none_added : (kind : Kind) (was : FieldWriting) → was.positions.1 ≡ [] → AreAdded kind was was [] []
-none_added kind was nothing = record {
-  told = refl;
-  each = tt;
-  terms = ap₂ (λ es n. record { closed = was.terms.closed; entries = es; num_terms = n }) (sym (append_nil was.terms.entries)) (let P : was.terms.num_terms ≡ was.terms.num_terms + 0 = omega arith in P);
-  postings = sym (append_nil was.postings);
-  positions = ap₂ (λ xs ys. (xs, ys)) (sym (append_nil was.positions.0)) nothing;
-  few = λ some. absurd (omega arith);
-  same = (refl, refl, refl, refl);
-}
+-- the tokens of one
+abbrev recorded_tokens : Recorded → ℕ
+recorded_tokens r = tokens_of r.1
+
+-- those of the terms are those of the recorders
+tokens_told : (ts : List IndexedTerm) (rs : List Recorded) → map told_of ts ≡ map stands_for rs → tokens_in ts ≡ sum_by recorded_tokens rs
+tokens_told [] [] told = refl
+tokens_told [] (r ∷ rs) told = cc
+tokens_told (t ∷ ts) [] told = cc
+tokens_told (t ∷ ts) (r ∷ rs) told =
+    let first : told_of t ≡ stands_for r = cc in
+    let rest : map told_of ts ≡ map stands_for rs = cc in
+    let here : sum_by (λ (p : Posting). p.count) t.postings ≡ tokens_of r.1 = ap (λ (x : List ℕ × List Posting). sum_by (λ (p : Posting). p.count) x.1) first in
+    let later = tokens_told ts rs rest in
+    let a = sum_by-cons (λ (x : IndexedTerm). sum_by (λ (p : Posting). p.count) x.postings) t ts in
+    let b = sum_by-cons recorded_tokens r rs in
+    omega arith
 
 -- one term more
 module _ (kind : Kind) (was now new : FieldWriting) (rs : List Recorded) (ts : List IndexedTerm) (key : List ℕ) (r : Recorder) (before : AreAdded kind was now rs ts) (w : IsWrittenTerm now new key (option_in kind was.writing.mode key) (postings_from r 0)) where
@@ -69,7 +78,7 @@ module _ (kind : Kind) (was now new : FieldWriting) (rs : List Recorded) (ts : L
   t = term_of key r option (listed was.writing.norms) w.bytes
 
   bytes_are : postings_bytes option (listed now.writing.norms) (map (λ (p : Posting). p.doc) ps) (map (λ (p : Posting). recorded_count option p.count) ps) ≡ t.postings_bytes
-  bytes_are = ap (λ o. postings_bytes option (listed o) (map (λ (p : Posting). p.doc) ps) (map (λ (p : Posting). recorded_count option p.count) ps)) before.same.3
+  bytes_are = ap (λ o. postings_bytes option (listed o) (map (λ (p : Posting). p.doc) ps) (map (λ (p : Posting). recorded_count option p.count) ps)) before.same.2
 
   spelled : IsSpelled option (listed was.writing.norms) t
   spelled = record { postings_are = record { posted = w.posted; whole = refl }; positions_are = w.positions_are; within = record { sums = w.sums_fit; postings = subst (λ (xs : List ℕ). length xs < 2 ^ 32) bytes_are w.postings_fit; positions = w.positions_fit } }
@@ -86,6 +95,13 @@ module _ (kind : Kind) (was now new : FieldWriting) (rs : List Recorded) (ts : L
       (append_assoc was.terms.entries (flat_map entry_of_term (map lengths_of ts)) (entry_of_term (lengths_of t)) ∙ ap (λ es. was.terms.entries ++ es) (sym (flat_map_push entry_of_term (map lengths_of ts) (lengths_of t)) ∙ ap (flat_map entry_of_term) (sym (map-append lengths_of ts (t ∷ [])))))
       (let long = length-append ts (t ∷ []) in let P : was.terms.num_terms + length ts + 1 ≡ was.terms.num_terms + length (ts ++ t ∷ []) = omega arith in P)
 
+  tokens_more : new.num_tokens ≡ was.num_tokens + tokens_in (ts ++ t ∷ [])
+  tokens_more =
+      let more = w.tokens in
+      let first = before.tokens in
+      let last = sum_by_push (λ (x : IndexedTerm). sum_by (λ (p : Posting). p.count) x.postings) ts t in
+      omega arith
+
   added_more : AreAdded kind was new (rs ++ (key, r) ∷ []) (ts ++ t ∷ [])
   added_more = record {
     told = map-append told_of ts (t ∷ []) ∙ ap (λ xs. xs ++ stands_for (key, r) ∷ []) before.told ∙ sym (map-append stands_for rs ((key, r) ∷ []));
@@ -98,7 +114,9 @@ module _ (kind : Kind) (was now new : FieldWriting) (rs : List Recorded) (ts : L
         let fit = w.terms_fit in
         let count = ap (λ (x : Terms). x.num_terms) before.terms in
         omega arith);
-    same = (w.same.0 ∙ before.same.0, w.same.1 ∙ before.same.1, w.same.2 ∙ before.same.2, w.same.3 ∙ before.same.3);
+    tokens = tokens_more;
+    tokens_fit = λ fit. (let more = w.tokens in let within = w.tokens_fit in omega arith);
+    same = (w.same.0 ∙ before.same.0, w.same.1 ∙ before.same.1, w.same.2 ∙ before.same.2);
   }
 
   pub added_next : (next : List Recorded) → rs ++ (key, r) ∷ [] ≡ next → (us : List IndexedTerm) × AreAdded kind was new next us
@@ -115,9 +133,17 @@ at_mapped v [] i x at = cc
 at_mapped v (y ∷ ys) zero x at = ap (option_map v) at
 at_mapped v (y ∷ ys) (suc i) x at = at_mapped v ys i x at
 
--- a term that passes a limit, behind those that were written
+-- the tokens of a front and of the item behind it are among those of all
+tokens_front : {A : Type 0} (v : A → Recorded) (items : List A) (i : ℕ) (x : A) → i < length items → x ≡ get_or items i x → sum_by recorded_tokens (map v (take i items)) + tokens_of (v x).1 ≤ sum_by recorded_tokens (map v items)
+tokens_front v items i x inside is =
+    let one = sum_by_push recorded_tokens (map v (take i items)) (v x) in
+    let more = ap (sum_by recorded_tokens) (mapped_more v items i x inside is ∙ sym (take-map v (i + 1) items)) in
+    let le = sum_by-take-le recorded_tokens (map v items) (i + 1) in
+    omega arith
+
+-- a term that is refused, behind those that were written
 pub term_refused : {A : Type 0} (fault : Fault) (kind : Kind) (was now : FieldWriting) (v : A → Recorded) (items : List A) (ts : List IndexedTerm) (i : ℕ) (x : A) (option : IndexRecordOption) → AreAdded kind was now (map v (take i items)) ts → i < length items → x ≡ get_or items i x → option ≡ option_in kind was.writing.mode (v x).0
-    → (fault ≡ faults.OutOfMemory) ⊎ ((fault ≡ faults.Limit) × (TermPasses option (listed now.writing.norms) (postings_from (v x).1 0) ⊎ (now.terms.num_terms ≡ 4294967295)))
+    → IsTermRefusal fault now option (postings_from (v x).1 0)
     → (fault ≡ faults.OutOfMemory) ⊎ ((fault ≡ faults.Limit) × AnyTermPasses kind was (map v items))
 term_refused fault kind was now v items ts i x option added inside is option_is (inl memory) = inl memory
 term_refused fault kind was now v items ts i x option added inside is option_is (inr (limit, inl pass)) = inr (
@@ -126,10 +152,10 @@ term_refused fault kind was now v items ts i x option added inside is option_is 
 )
   where
     passes : TermPasses (option_in kind was.writing.mode (v x).0) (listed was.writing.norms) (postings_from (v x).1 0)
-    passes = subst (λ o. TermPasses o (listed was.writing.norms) (postings_from (v x).1 0)) option_is (subst (λ o. TermPasses option (listed o) (postings_from (v x).1 0)) added.same.3 pass)
-term_refused fault kind was now v items ts i x option added inside is option_is (inr (limit, inr many)) = inr (
+    passes = subst (λ o. TermPasses o (listed was.writing.norms) (postings_from (v x).1 0)) option_is (subst (λ o. TermPasses option (listed o) (postings_from (v x).1 0)) added.same.2 pass)
+term_refused fault kind was now v items ts i x option added inside is option_is (inr (limit, inr (inl many))) = inr (
   limit,
-  inr (
+  inr (inl (
       let told = ap length added.told in
       let a = length-map ts told_of in
       let b = length-map (map v (take i items)) stands_for in
@@ -138,5 +164,14 @@ term_refused fault kind was now v items ts i x option added inside is option_is 
       let e = length-map items v in
       let f = ap (λ (t : Terms). t.num_terms) added.terms in
       omega arith
-      ),
+      )),
+)
+term_refused fault kind was now v items ts i x option added inside is option_is (inr (limit, inr (inr past))) = inr (
+  limit,
+  inr (inr (
+      let written = added.tokens in
+      let told = tokens_told ts (map v (take i items)) added.told in
+      let front = tokens_front v items i x inside is in
+      omega arith
+      )),
 )

@@ -1,7 +1,8 @@
 -- Postings as they are written to a term, one after another.
-use Rattle.std.proofs.Common.{[], ◌++◌, ◌+◌, ◌<◌, ◌^◌, ◌≡◌, ◌≤◌, ◌∙◌, ◌∷◌, ◌⊎◌, IfSome, List, None, Option, Some, ap, ap₂, append_assoc, arith, drop, inl, inr, length, length-append, map, refl, slice_index, subst, suc, sum, sym, zero, ◌*◌, ◌/◌, ℕ}
+use Rattle.std.proofs.Common.{[], ◌++◌, ◌+◌, ◌<◌, ◌^◌, ◌≡◌, ◌≤◌, ◌∙◌, ◌∷◌, ◌⊎◌, IfSome, List, None, Option, Some, ap, ap₂, append_assoc, arith, drop, inl, inr, length, length-append, map, refl, slice_index, subst, suc, sum, sum_by, sym, zero, ◌*◌, ◌/◌, ℕ}
 use Rattle.std.specs.List.{AllByRecursion}
 use Rattle.std.proofs.lemmas.List.{map-append}
+use Rattle.std.proofs.lemmas.List.Sums.{sum_by_push}
 use Rattle.definitions.specs.Postings.{Posting}
 use Rattle.layouts.specs.Deltas.{IsAscendingFrom}
 use Rattle.layouts.specs.Positions.{differences, position_numbers}
@@ -31,6 +32,9 @@ counts_in w ps = map (λ (p : Posting). recorded_count w.writing.option p.count)
 abbrev numbers_in : List Posting → List ℕ
 numbers_in ps = position_numbers (map (λ (p : Posting). p.positions) ps)
 
+abbrev pub tokens_in : List Posting → ℕ
+tokens_in ps = sum_by (λ (p : Posting). p.count) ps
+
 -- what writing a posting leaves as it is
 abbrev pub IsSame : FieldWriting → FieldWriting → Type 0
 IsSame was now = (now.field ≡ was.field) × (now.num_tokens ≡ was.num_tokens) × (now.terms ≡ was.terms) × (now.postings ≡ was.postings) × (now.key ≡ was.key) × (now.writing.mode ≡ was.writing.mode) × (now.writing.option ≡ was.writing.option) × (now.writing.norms ≡ was.writing.norms) × (now.positions.0 ≡ was.positions.0)
@@ -41,6 +45,7 @@ pub record Written (was now : FieldWriting) (all rest : List Posting) : Type 0 w
   pub split : all ≡ done ++ rest
   pub can : CanWrite now.writing.next now.writing.norms rest
   pub open_is : (docs counts numbers : List ℕ) → IsOpen was docs counts numbers → IsOpen now (docs ++ docs_in done) (counts ++ counts_in was done) (numbers ++ numbers_in done)
+  pub total : now.total_term_freq ≡ was.total_term_freq + tokens_in done
   pub same : IsSame was now
 
 append_nil : {A : Type 0} (xs : List A) → xs ++ [] ≡ xs
@@ -53,6 +58,7 @@ none_written was all can = record {
   split = refl;
   can = can;
   open_is = λ docs counts numbers is. subst (λ ns. IsOpen was (docs ++ []) (counts ++ []) ns) (sym (append_nil numbers)) (subst (λ ns. IsOpen was (docs ++ []) ns numbers) (sym (append_nil counts)) (subst (λ ds. IsOpen was ds counts numbers) (sym (append_nil docs)) is));
+  total = omega arith;
   same = (refl, refl, refl, refl, refl, refl, refl, refl, refl);
 }
 
@@ -70,10 +76,6 @@ can_more now new p rest can next norms = record {
     go None kept = tt
     go (Some ids) kept = kept.1
 
-pub kept_first : (o : Option (List ℕ)) (p : Posting) (rest : List Posting) → IfSome o (λ ids. AllByRecursion (λ (q : Posting). q.doc < length ids) (p ∷ rest)) → IfSome o (λ ids. p.doc < length ids)
-kept_first None p rest kept = tt
-kept_first (Some ids) p rest kept = kept.0
-
 -- differences of small positions are small
 pub small_differences : (before : ℕ) (ps : List ℕ) (i : ℕ) → AllByRecursion (λ n. n < 2 ^ 31) ps → slice_index (differences before ps) i < 2 ^ 31
 small_differences before [] i small = omega arith
@@ -83,8 +85,8 @@ small_differences before (p ∷ ps) (suc i) small = small_differences p ps i sma
 -- one posting more
 pub written_more : (was now new : FieldWriting) (all rest after : List Posting) (p : Posting) (deltas : List ℕ) → Written was now all rest → rest ≡ p ∷ after → deltas ≡ differences 0 p.positions
     → ((docs counts numbers : List ℕ) → IsOpen now docs counts numbers → IsOpen new (docs ++ p.doc ∷ []) (counts ++ recorded_count now.writing.option p.count ∷ []) (numbers ++ deltas))
-    → IsSame now new → new.writing.next ≡ p.doc + 1 → Written was new all after
-written_more was now new all rest after p deltas before is deltas_are more same next = record {
+    → new.total_term_freq ≡ now.total_term_freq + p.count → IsSame now new → new.writing.next ≡ p.doc + 1 → Written was new all after
+written_more was now new all rest after p deltas before is deltas_are more counted same next = record {
   done = before.done ++ p ∷ [];
   split = before.split ∙ ap (λ ps. before.done ++ ps) is ∙ sym (append_assoc before.done (p ∷ []) after);
   can = can_more now new p after (subst (λ ps. CanWrite now.writing.next now.writing.norms ps) is before.can) next same.7;
@@ -93,6 +95,7 @@ written_more was now new all rest after p deltas before is deltas_are more same 
       (subst (λ ns. IsOpen new (docs ++ docs_in (before.done ++ p ∷ [])) ns ((numbers ++ numbers_in before.done) ++ deltas)) (counts_are counts)
       (subst (λ ds. IsOpen new ds ((counts ++ counts_in was before.done) ++ recorded_count now.writing.option p.count ∷ []) ((numbers ++ numbers_in before.done) ++ deltas)) (docs_are docs)
       (more (docs ++ docs_in before.done) (counts ++ counts_in was before.done) (numbers ++ numbers_in before.done) (before.open_is docs counts numbers open_was))));
+  total = (let first = before.total in omega (arith, first, counted, sum_by_push (λ (q : Posting). q.count) before.done p));
   same = (same.0 ∙ before.same.0, same.1 ∙ before.same.1, same.2 ∙ before.same.2, same.3 ∙ before.same.3, same.4 ∙ before.same.4, same.5 ∙ before.same.5, same.6 ∙ before.same.6, same.7 ∙ before.same.7, same.8 ∙ before.same.8);
 }
   where
@@ -118,6 +121,9 @@ written_all was now all rest before none = sym (before.split ∙ ap (λ ps. befo
 
 pub all_opened : (was now : FieldWriting) (all rest : List Posting) → Written was now all rest → rest ≡ [] → (docs counts numbers : List ℕ) → IsOpen was docs counts numbers → IsOpen now (docs ++ docs_in all) (counts ++ counts_in was all) (numbers ++ numbers_in all)
 all_opened was now all rest before none docs counts numbers is = subst (λ ps. IsOpen now (docs ++ docs_in ps) (counts ++ counts_in was ps) (numbers ++ numbers_in ps)) (written_all was now all rest before none) (before.open_is docs counts numbers is)
+
+pub all_counted : (was now : FieldWriting) (all rest : List Posting) → Written was now all rest → rest ≡ [] → now.total_term_freq ≡ was.total_term_freq + tokens_in all
+all_counted was now all rest before none = subst (λ ps. now.total_term_freq ≡ was.total_term_freq + tokens_in ps) (written_all was now all rest before none) before.total
 
 -- ---- what is refused
 
@@ -171,13 +177,19 @@ none_left (TfAndPositions places) at past = ap (postings_at with_freqs_and_posit
 abbrev entry_in : List ℕ → List ℕ → List ℕ → List ℕ → Terms → Terms
 entry_in key docs postings positions terms = inserted key (record { doc_freq = length docs; postings_len = length postings; positions_len = length positions }) terms
 
+-- the tokens of a field with those of a term that was begun and written
+full_tokens : (was begun full : FieldWriting) (ps : List Posting) → begun.num_tokens ≡ was.num_tokens → begun.total_term_freq ≡ 0 → full.num_tokens ≡ begun.num_tokens → full.total_term_freq ≡ begun.total_term_freq + tokens_in ps → full.num_tokens + full.total_term_freq ≡ was.num_tokens + tokens_in ps
+full_tokens was begun full ps tokens none same total = omega (arith, tokens, none, same, total)
+
 -- a term that was begun, written and closed
 pub term_written : (was begun full now : FieldWriting) (key : List ℕ) (option : IndexRecordOption) (ps : List Posting) → begun.key ≡ key → begun.writing.option ≡ option
     → (begun.field ≡ was.field) × (begun.num_tokens ≡ was.num_tokens) × (begun.terms ≡ was.terms) × (begun.postings ≡ was.postings) × (begun.positions ≡ (was.positions.0, [])) × (begun.writing.mode ≡ was.writing.mode) × (begun.writing.norms ≡ was.writing.norms) × (begun.writing.next ≡ 0)
-    → IsSame begun full → IsClosed full now (docs_in ps) (counts_in begun ps) (numbers_in ps)
-    → (now.field ≡ full.field) × (now.num_tokens ≡ full.num_tokens) × (now.writing.mode ≡ full.writing.mode) × (now.writing.norms ≡ full.writing.norms)
+    → begun.total_term_freq ≡ 0 → IsSame begun full → full.total_term_freq ≡ begun.total_term_freq + tokens_in ps → IsClosed full now (docs_in ps) (counts_in begun ps) (numbers_in ps)
+    → (now.num_tokens ≡ full.num_tokens + full.total_term_freq) × (full.num_tokens + full.total_term_freq < 2 ^ 64)
+    → (now.field ≡ full.field) × (now.writing.mode ≡ full.writing.mode) × (now.writing.norms ≡ full.writing.norms)
     → IsWrittenTerm was now key option ps
-term_written was begun full now key option ps key_is option_is first second closed last =
+term_written was begun full now key option ps key_is option_is first none second total closed tokens last =
+    let whole : full.num_tokens + full.total_term_freq ≡ was.num_tokens + tokens_in ps = full_tokens was begun full ps first.1 none second.1 total in
     let o : full.writing.option ≡ option = second.6 ∙ option_is in
     let n : full.writing.norms ≡ was.writing.norms = second.7 ∙ first.6 in
     let terms_are : full.terms ≡ was.terms = second.2 ∙ first.2 in
@@ -199,14 +211,20 @@ term_written was begun full now key option ps key_is option_is first second clos
           ∙ ap (λ k. entry_in k (docs_in ps) (postings_of full.writing (docs_in ps) (counts_in begun ps)) closed.bytes full.terms) (second.4 ∙ key_is)
           ∙ ap (λ xs. entry_in key (docs_in ps) xs closed.bytes full.terms) bytes
           ∙ ap (entry_in key (docs_in ps) (postings_bytes option (listed was.writing.norms) (docs_in ps) (map (λ (p : Posting). recorded_count option p.count) ps)) closed.bytes) terms_are;
-      same = (last.0 ∙ second.0 ∙ first.0, last.1 ∙ second.1 ∙ first.1, last.2 ∙ second.5 ∙ first.5, last.3 ∙ n);
+      tokens = tokens.0 ∙ whole;
+      tokens_fit = subst (λ n. n < 2 ^ 64) whole tokens.1;
+      same = (last.0 ∙ second.0 ∙ first.0, last.1 ∙ second.5 ∙ first.5, last.2 ∙ n);
     }
 
+-- memory was wanting, or a term with these postings passes a limit, or would be one too many, or has too many tokens
+abbrev pub IsTermRefusal : Fault → FieldWriting → IndexRecordOption → List Posting → Type 0
+IsTermRefusal fault was option ps = (fault ≡ faults.OutOfMemory) ⊎ ((fault ≡ faults.Limit) × (TermPasses option (listed was.writing.norms) ps ⊎ (was.terms.num_terms ≡ 4294967295) ⊎ (2 ^ 64 ≤ was.num_tokens + tokens_in ps)))
+
 -- why a term isn't closed
-pub close_passes : (fault : Fault) (was begun full : FieldWriting) (option : IndexRecordOption) (ps : List Posting) → begun.writing.option ≡ option → begun.terms ≡ was.terms → begun.writing.norms ≡ was.writing.norms → IsSame begun full
-    → IsCloseRefusal fault full (docs_in ps) (counts_in begun ps) (numbers_in ps) → (fault ≡ faults.OutOfMemory) ⊎ ((fault ≡ faults.Limit) × (TermPasses option (listed was.writing.norms) ps ⊎ (was.terms.num_terms ≡ 4294967295)))
-close_passes fault was begun full option ps option_is terms norms second (inl memory) = inl memory
-close_passes fault was begun full option ps option_is terms norms second (inr limit) = inr (limit.0, go limit.1)
+pub close_passes : (fault : Fault) (was begun full : FieldWriting) (option : IndexRecordOption) (ps : List Posting) → begun.writing.option ≡ option → begun.terms ≡ was.terms → begun.writing.norms ≡ was.writing.norms → begun.num_tokens ≡ was.num_tokens → begun.total_term_freq ≡ 0 → IsSame begun full
+    → full.total_term_freq ≡ begun.total_term_freq + tokens_in ps → IsCloseRefusal fault full (docs_in ps) (counts_in begun ps) (numbers_in ps) → IsTermRefusal fault was option ps
+close_passes fault was begun full option ps option_is terms norms tokens none second total (inl memory) = inl memory
+close_passes fault was begun full option ps option_is terms norms tokens none second total (inr limit) = inr (limit.0, go limit.1)
   where
     o : full.writing.option ≡ option
     o = second.6 ∙ option_is
@@ -217,13 +235,14 @@ close_passes fault was begun full option ps option_is terms norms second (inr li
         ∙ ap (λ x. postings_bytes option (listed x) (docs_in ps) (counts_in begun ps)) (second.7 ∙ norms)
         ∙ ap (λ x. postings_bytes option (listed was.writing.norms) (docs_in ps) (map (λ (p : Posting). recorded_count x p.count) ps)) option_is
 
-    go : MeetsLimit full (docs_in ps) (counts_in begun ps) (numbers_in ps) → TermPasses option (listed was.writing.norms) ps ⊎ (was.terms.num_terms ≡ 4294967295)
+    go : MeetsLimit full (docs_in ps) (counts_in begun ps) (numbers_in ps) → TermPasses option (listed was.writing.norms) ps ⊎ (was.terms.num_terms ≡ 4294967295) ⊎ (2 ^ 64 ≤ was.num_tokens + tokens_in ps)
     go (inl long) = inl (inr (inr (inl (subst (λ (xs : List ℕ). 2 ^ 32 ≤ length xs) bytes long))))
-    go (inr (inl many)) = inr (ap (λ (t : Terms). t.num_terms) (sym (second.2 ∙ terms)) ∙ many)
-    go (inr (inr placed)) = inl (inr (inr (inr (placed.0, subst (λ x. HasPositions (has_positions x) (numbers_in ps) placed.0) o placed.1, placed.2))))
+    go (inr (inl many)) = inr (inl (ap (λ (t : Terms). t.num_terms) (sym (second.2 ∙ terms)) ∙ many))
+    go (inr (inr (inl past))) = inr (inr (subst (λ n. 2 ^ 64 ≤ n) (full_tokens was begun full ps tokens none second.1 total) past))
+    go (inr (inr (inr placed))) = inl (inr (inr (inr (placed.0, subst (λ x. HasPositions (has_positions x) (numbers_in ps) placed.0) o placed.1, placed.2))))
 
 -- why its postings aren't written
-pub write_passes : (fault : Fault) (was begun : FieldWriting) (option : IndexRecordOption) (ps : List Posting) → begun.writing.option ≡ option → (fault ≡ faults.OutOfMemory) ⊎ ((fault ≡ faults.Limit) × (CountsPass ps ⊎ SumsPass begun.writing.option ps)) → (fault ≡ faults.OutOfMemory) ⊎ ((fault ≡ faults.Limit) × (TermPasses option (listed was.writing.norms) ps ⊎ (was.terms.num_terms ≡ 4294967295)))
+pub write_passes : (fault : Fault) (was begun : FieldWriting) (option : IndexRecordOption) (ps : List Posting) → begun.writing.option ≡ option → (fault ≡ faults.OutOfMemory) ⊎ ((fault ≡ faults.Limit) × (CountsPass ps ⊎ SumsPass begun.writing.option ps)) → IsTermRefusal fault was option ps
 write_passes fault was begun option ps is (inl memory) = inl memory
 write_passes fault was begun option ps is (inr (limit, inl count)) = inr (limit, inl (inl count))
 write_passes fault was begun option ps is (inr (limit, inr sums)) = inr (limit, inl (inr (inl (subst (λ o. SumsPass o ps) is sums))))

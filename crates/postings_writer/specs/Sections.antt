@@ -1,5 +1,5 @@
 -- The terms of fields, as they are written to the sections of a segment.
-use Rattle.std.specs.Prelude.{[], ◌++◌, ◌+◌, ◌<◌, ◌^◌, ◌≡◌, ◌≤◌, ◌⊎◌, IsSomeAnd, List, bytes_eq, flat_map, if◌then◌else◌, length, map, slice_get, true, ℕ}
+use Rattle.std.specs.Prelude.{[], ◌++◌, ◌+◌, ◌<◌, ◌^◌, ◌≡◌, ◌≤◌, ◌⊎◌, IsSomeAnd, List, bytes_eq, flat_map, if◌then◌else◌, length, map, slice_get, sum_by, true, ℕ}
 use Rattle.std.specs.List.{AllByRecursion, list_any}
 use Rattle.packed_blocks.specs.UnpackedBlocks.{listed}
 use Rattle.definitions.specs.Postings.{Posting}
@@ -14,7 +14,7 @@ use Rattle.postings_writer.specs.Fields.{option_of_key}
 use Rattle.terms.specs.TextKeys.{is_text_key}
 use Rattle.postings_writer.specs.Limits.{IsTermWithin, TermPasses}
 use Rattle.postings_writer.specs.Occurrences.{postings_at}
-use Rattle.postings_writer.specs.Serializing.{postings_from}
+use Rattle.postings_writer.specs.Serializing.{postings_from, tokens_of}
 use Rattle.postings_writer.specs.declared.recorder.Recorder.{Recorder}
 
 -- ---- what stands in the sections
@@ -29,6 +29,10 @@ pub record IsSpelled (option : IndexRecordOption) (ids : List ℕ) (t : IndexedT
 abbrev pub option_in : Kind → IndexRecordOption → List ℕ → IndexRecordOption
 option_in kind mode key = if is_text_key kind key then mode else basic
 
+-- how many tokens terms have: the sum of their counts
+abbrev pub tokens_in : List IndexedTerm → ℕ
+tokens_in ts = sum_by (λ (t : IndexedTerm). sum_by (λ (p : Posting). p.count) t.postings) ts
+
 -- terms were written behind those before: these, with what their recorders stand for
 pub record AreAdded (kind : Kind) (was now : FieldWriting) (recorded : List (List ℕ × Recorder)) (ts : List IndexedTerm) : Type 0 where
   pub told : map {B = List ℕ × List Posting} (λ (t : IndexedTerm). (t.key, t.postings)) ts ≡ map (λ (r : List ℕ × Recorder). (r.0, postings_from r.1 0)) recorded
@@ -37,11 +41,13 @@ pub record AreAdded (kind : Kind) (was now : FieldWriting) (recorded : List (Lis
   pub postings : now.postings ≡ was.postings ++ flat_map (λ (t : IndexedTerm). t.postings_bytes) ts
   pub positions : now.positions ≡ (was.positions.0 ++ flat_map (λ (t : IndexedTerm). t.positions_bytes) ts, [])
   pub few : 0 < length ts → was.terms.num_terms + length ts ≤ 4294967295
-  pub same : (now.field ≡ was.field) × (now.num_tokens ≡ was.num_tokens) × (now.writing.mode ≡ was.writing.mode) × (now.writing.norms ≡ was.writing.norms)
+  pub tokens : now.num_tokens ≡ was.num_tokens + tokens_in ts
+  pub tokens_fit : was.num_tokens < 2 ^ 64 → now.num_tokens < 2 ^ 64
+  pub same : (now.field ≡ was.field) × (now.writing.mode ≡ was.writing.mode) × (now.writing.norms ≡ was.writing.norms)
 
--- one of these terms passes a limit, or with those before they are too many
+-- one of these terms passes a limit, or with those before they are too many, or have too many tokens
 abbrev pub AnyTermPasses : Kind → FieldWriting → List (List ℕ × Recorder) → Type 0
-AnyTermPasses kind was recorded = ((i : ℕ) × IsSomeAnd (slice_get recorded i) (λ r. TermPasses (option_in kind was.writing.mode r.0) (listed was.writing.norms) (postings_from r.1 0))) ⊎ (4294967295 < was.terms.num_terms + length recorded)
+AnyTermPasses kind was recorded = ((i : ℕ) × IsSomeAnd (slice_get recorded i) (λ r. TermPasses (option_in kind was.writing.mode r.0) (listed was.writing.norms) (postings_from r.1 0))) ⊎ (4294967295 < was.terms.num_terms + length recorded) ⊎ (2 ^ 64 ≤ was.num_tokens + sum_by (λ (r : List ℕ × Recorder). tokens_of r.1) recorded)
 
 -- fields were written behind those before
 pub record AreFieldsAdded (was now : Sections) (fields : List IndexedField) : Type 0 where

@@ -1,5 +1,5 @@
 -- The postings that recorders stand for, as a serializer takes them.
-use Rattle.std.specs.Prelude.{[], ◌++◌, ◌/◌, ◌<◌, ◌^◌, ◌≡◌, ◌∷◌, IfSome, List, Option, drop, length, map, sum_by, ℕ}
+use Rattle.std.specs.Prelude.{[], ◌++◌, ◌+◌, ◌/◌, ◌<◌, ◌^◌, ◌≡◌, ◌∷◌, IfSome, List, Option, drop, length, map, sum_by, ℕ}
 use Rattle.std.specs.List.{AllByRecursion}
 use Rattle.definitions.specs.Blocks.{block_len}
 use Rattle.definitions.specs.Postings.{Posting, terminated}
@@ -60,7 +60,7 @@ pub record CanWrite (next : ℕ) (norms : Option (List ℕ)) (ps : List Posting)
   pub counted : AllByRecursion (λ (p : Posting). 0 < p.count) ps
   pub placed : AllByRecursion (λ (p : Posting). AllByRecursion (λ n. n < 2 ^ 31) p.positions) ps
 
--- a term was written behind those before: its postings, its positions and its entry
+-- a term was written behind those before: its postings, its positions and its entry, and its tokens count for the field
 pub record IsWrittenTerm (was now : FieldWriting) (key : List ℕ) (option : IndexRecordOption) (ps : List Posting) : Type 0 where
   pub bytes : List ℕ
   pub posted : ArePosted option (map (λ (p : Posting). p.doc) ps) (map (λ (p : Posting). recorded_count option p.count) ps)
@@ -72,4 +72,6 @@ pub record IsWrittenTerm (was now : FieldWriting) (key : List ℕ) (option : Ind
   pub postings : now.postings ≡ was.postings ++ postings_bytes option (listed was.writing.norms) (map (λ (p : Posting). p.doc) ps) (map (λ (p : Posting). recorded_count option p.count) ps)
   pub positions : now.positions ≡ (was.positions.0 ++ bytes, [])
   pub terms : now.terms ≡ inserted key (record { doc_freq = length (map (λ (p : Posting). p.doc) ps); postings_len = length (postings_bytes option (listed was.writing.norms) (map (λ (p : Posting). p.doc) ps) (map (λ (p : Posting). recorded_count option p.count) ps)); positions_len = length bytes }) was.terms
-  pub same : (now.field ≡ was.field) × (now.num_tokens ≡ was.num_tokens) × (now.writing.mode ≡ was.writing.mode) × (now.writing.norms ≡ was.writing.norms)
+  pub tokens : now.num_tokens ≡ was.num_tokens + sum_by (λ (p : Posting). p.count) ps
+  pub tokens_fit : was.num_tokens + sum_by (λ (p : Posting). p.count) ps < 2 ^ 64
+  pub same : (now.field ≡ was.field) × (now.writing.mode ≡ was.writing.mode) × (now.writing.norms ≡ was.writing.norms)

@@ -1,6 +1,6 @@
 //! Writes the terms of a field.
 
-ghost use Rattle.std.specs.Prelude.{[], ◌^◌, ◌≡◌, ◌≤◌, ◌⊎◌, ◌∷◌, IfErr, IfOk, List, MatchOption, OnOk, bytes_eq, map, sum_by, true, ℕ};
+ghost use Rattle.std.specs.Prelude.{[], ◌≡◌, ◌⊎◌, ◌∷◌, IfErr, IfOk, List, OnOk, bytes_eq, map, true, ℕ};
 ghost use Rattle.std.specs.List.{AllByRecursion};
 ghost use Rattle.std.specs.Map.{lookup};
 ghost use Rattle.packed_blocks.specs.UnpackedBlocks.{listed};
@@ -12,7 +12,7 @@ ghost use Rattle.postings_writer.specs.Fields.{HasPlaces, option_of_key};
 ghost use Rattle.postings_writer.specs.Limits.{IsFieldRefusal};
 ghost use Rattle.postings_writer.specs.Occurrences.{postings_at};
 ghost use Rattle.postings_writer.specs.Sections.{AnyTermPasses, AreAdded, AreFieldsAdded, IsFieldOf};
-ghost use Rattle.postings_writer.specs.Serializing.{CanWrite, postings_from, tokens_of};
+ghost use Rattle.postings_writer.specs.Serializing.{CanWrite, postings_from};
 ghost use Rattle.postings_writer.specs.declared.recorder.Recorder as recorders;
 ghost use Rattle.terms.specs.Kinds.{kind_of};
 
@@ -26,41 +26,6 @@ use postings_serializer::{FieldSerializer, InvertedIndexSerializer};
 use schema::FieldEntry;
 use std::alloc::Global;
 use terms::Type;
-
-/// The sum of the counts, where it has 64 bits.
-fn sum_counts(counts: &[(u32, u32)]) -> Option<u64>
-    ensures { MatchOption result (2 ^ 64 ≤ sum_by (λ p. p.1) counts.now) (λ n. n ≡ sum_by (λ p. p.1) counts.now) }
-{
-    let mut sum: u64 = 0;
-    for (_, count) in counts {
-        sum = sum.checked_add(u64::from(*count))?;
-    }
-    Some(sum)
-}
-
-impl Recorder {
-    /// How many tokens were recorded, where that has 64 bits. A document whose count isn't recorded counts 1.
-    fn num_tokens(&self) -> Option<u64>
-        ensures { MatchOption result (2 ^ 64 ≤ tokens_of self.now) (λ n. n ≡ tokens_of self.now) }
-    {
-        match self {
-            Recorder::DocIds(recorder) => Some(recorder.docs().len() as u64),
-            Recorder::TermFrequencies(recorder) => sum_counts(recorder.counts()),
-            Recorder::TfAndPositions(recorder) => Some(recorder.len() as u64),
-        }
-    }
-}
-
-/// How many tokens of these terms were recorded, where that has 64 bits.
-fn num_tokens(terms: &[(&[u8], &Recorder)]) -> Option<u64>
-    ensures { MatchOption result (2 ^ 64 ≤ sum_by (λ t. tokens_of t.1.now) terms.now) (λ n. n ≡ sum_by (λ t. tokens_of t.1.now) terms.now) }
-{
-    let mut sum: u64 = 0;
-    for (_, recorder) in terms {
-        sum = sum.checked_add(recorder.num_tokens()?)?;
-    }
-    Some(sum)
-}
 
 /// What a field records of texts.
 fn index_record_option(entry: &FieldEntry) -> IndexRecordOption
@@ -116,15 +81,8 @@ impl FieldPostings {
         ensures err { (places : List ℕ → List (ℕ × ℕ)) → HasPlaces entry.now places self.now → IfErr result (λ fault. IsFieldRefusal fault (option_of_key entry.now) (listed fieldnorm_reader.entry) (λ key. postings_at (option_of_key entry.now key) (places key))) }
     {
         let terms = self.sorted_terms(alloc)?;
-        let num_tokens = num_tokens(&terms).ok_or(Fault::Limit)?;
         let option = index_record_option(entry);
-        let mut field_serializer = serializer.new_field(
-            alloc,
-            field,
-            num_tokens,
-            option,
-            fieldnorm_reader,
-        );
+        let mut field_serializer = serializer.new_field(alloc, field, option, fieldnorm_reader);
         serialize_terms(alloc, entry.value_type(), &terms, &mut field_serializer)?;
         Ok(field_serializer.close()?)
     }

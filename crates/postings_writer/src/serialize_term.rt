@@ -1,6 +1,6 @@
 //! Writes the postings of a term.
 
-ghost use Rattle.std.specs.Prelude.{[], ◌++◌, ◌-◌, ◌<◌, ◌≡◌, ◌≤◌, ◌⊎◌, ◌∷◌, IfErr, IfOk, List, OnOk, drop, if◌then◌else◌, length, map, slice_index_or as get_or, take, ℕ};
+ghost use Rattle.std.specs.Prelude.{[], ◌++◌, ◌+◌, ◌-◌, ◌<◌, ◌^◌, ◌≡◌, ◌≤◌, ◌⊎◌, ◌∷◌, IfErr, IfOk, List, OnOk, drop, if◌then◌else◌, length, map, slice_index_or as get_or, take, ℕ};
 ghost use Rattle.packed_blocks.specs.UnpackedBlocks.{listed};
 ghost use Rattle.definitions.specs.Postings.{Posting};
 ghost use Rattle.definitions.specs.Recorded.{ascending};
@@ -12,7 +12,7 @@ ghost use Rattle.postings_serializer.specs.FieldWriting.{IsOpen};
 ghost use Rattle.postings_serializer.specs.TermWriting.{recorded_count};
 ghost use Rattle.postings_writer.specs.Limits.{CountsPass, SumsPass, TermPasses};
 ghost use Rattle.postings_writer.specs.Occurrences.{by_document};
-ghost use Rattle.postings_writer.specs.Serializing.{CanWrite, HoldsPlaces, IsWrittenTerm, StandsAt, length_of, postings_from};
+ghost use Rattle.postings_writer.specs.Serializing.{CanWrite, HoldsPlaces, IsWrittenTerm, StandsAt, length_of, postings_from, tokens_of};
 ghost use Rattle.postings_writer.specs.declared.recorder.Recorder.TheVariants as recorders;
 
 use crate::recorder::Recorder;
@@ -152,6 +152,7 @@ fn write_postings<'a>(
     requires can { CanWrite serializer.old.writing.next serializer.old.writing.norms (postings_from recorder.now 0) }
     ensures ok { (docs counts numbers : List ℕ) → IsOpen serializer.old docs counts numbers → OnOk result (IsOpen serializer.new (docs ++ map (λ p. p.doc) (postings_from recorder.now 0)) (counts ++ map (λ p. recorded_count serializer.old.writing.option p.count) (postings_from recorder.now 0)) (numbers ++ position_numbers (map (λ p. p.positions) (postings_from recorder.now 0)))) }
     ensures same { OnOk result ((serializer.new.field ≡ serializer.old.field) × (serializer.new.num_tokens ≡ serializer.old.num_tokens) × (serializer.new.terms ≡ serializer.old.terms) × (serializer.new.postings ≡ serializer.old.postings) × (serializer.new.key ≡ serializer.old.key) × (serializer.new.writing.mode ≡ serializer.old.writing.mode) × (serializer.new.writing.option ≡ serializer.old.writing.option) × (serializer.new.writing.norms ≡ serializer.old.writing.norms) × (serializer.new.positions.0 ≡ serializer.old.positions.0)) }
+    ensures total { OnOk result (serializer.new.total_term_freq ≡ serializer.old.total_term_freq + tokens_of recorder.now) }
     ensures err { IsOpen serializer.old [] [] [] → IfErr result (λ fault. (fault ≡ faults.OutOfMemory) ⊎ ((fault ≡ faults.Limit) × (CountsPass (postings_from recorder.now 0) ⊎ SumsPass serializer.old.writing.option (postings_from recorder.now 0)))) }
 {
     let mut at = 0;
@@ -176,7 +177,7 @@ pub(crate) fn serialize_term<'a>(
     requires nothing { serializer.old.positions.1 ≡ [] }
     requires can { CanWrite 0 serializer.old.writing.norms (postings_from recorder.now 0) }
     ensures ok { OnOk result (IsWrittenTerm serializer.old serializer.new key.now (if is_text then serializer.old.writing.mode else basic) (postings_from recorder.now 0)) }
-    ensures err { IfErr result (λ fault. (fault ≡ faults.OutOfMemory) ⊎ ((fault ≡ faults.Limit) × (TermPasses (if is_text then serializer.old.writing.mode else basic) (listed serializer.old.writing.norms) (postings_from recorder.now 0) ⊎ (serializer.old.terms.num_terms ≡ 4294967295)))) }
+    ensures err { IfErr result (λ fault. (fault ≡ faults.OutOfMemory) ⊎ ((fault ≡ faults.Limit) × (TermPasses (if is_text then serializer.old.writing.mode else basic) (listed serializer.old.writing.norms) (postings_from recorder.now 0) ⊎ (serializer.old.terms.num_terms ≡ 4294967295) ⊎ (2 ^ 64 ≤ serializer.old.num_tokens + tokens_of recorder.now)))) }
 {
     recorder.copy_places(places)?;
     serializer.new_term(key, is_text)?;

@@ -36,7 +36,7 @@ returns-in_err-close_term-clause-err c schema num_docs all key are first =
     let p = err_from_is_err_and c.from_residual-in_err-close_term.result c.from_residual-in_err-close_term.ensures.1 in
     rw (p.1, p.2) (subst (λ k. IsTermRefusal c.in_err-close_term.field-0.0 c.args.serializer.now (cond c.args.record_term_freq c.args.serializer.now.writing.mode basic) (merged_in c.args.field k c.args.members.now all)) own
     (close_refused c.in_err-close_term.field-0.0 c.args.serializer.now _ ps (sym c.if-branch.true ∙ c.in_ok-write_members.ensures.some schema num_docs all are)
-    (close_passes c.in_err-close_term.field-0.0 c.args.serializer.now w c.write_members.new.serializer _ ps begun.option begun.same.2 begun.same.6 written.same (c.in_err-close_term.ensures.err docs counts numbers (written.open_is [] [] [] begun.ready)))))
+    (close_passes c.in_err-close_term.field-0.0 c.args.serializer.now w c.write_members.new.serializer _ ps begun.option begun.same.2 begun.same.6 begun.same.1 begun.total written.same written.total (c.in_err-close_term.ensures.err docs counts numbers (written.open_is [] [] [] begun.ready)))))
 
 pub returns-in_ok-close_term-clause-ok : goal.returns-in_ok-close_term-clause-ok
 returns-in_ok-close_term-clause-ok c schema num_docs all key are first =
@@ -51,7 +51,7 @@ returns-in_ok-close_term-clause-ok c schema num_docs all key are first =
     let written = done.ok schema num_docs all are in
     subst (λ k. IsMergedTerm c.args.serializer.now c.close_term.new.self k (cond c.args.record_term_freq c.args.serializer.now.writing.mode basic) (merged_in c.args.field k c.args.members.now all)) own
     (merged_written c.args.serializer.now c.close_term.new.self c.in-Some.key.now _ ps (sym c.if-branch.true ∙ done.some schema num_docs all are)
-    (term_written c.args.serializer.now w c.write_members.new.serializer c.close_term.new.self c.in-Some.key.now _ ps begun.key begun.option begun.same written.same (c.in_ok-close_term.ensures.ok docs counts numbers (written.open_is [] [] [] begun.ready)) c.in_ok-close_term.ensures.same))
+    (term_written c.args.serializer.now w c.write_members.new.serializer c.close_term.new.self c.in-Some.key.now _ ps begun.key begun.option begun.same begun.total written.same written.total (c.in_ok-close_term.ensures.ok docs counts numbers (written.open_is [] [] [] begun.ready)) c.in_ok-close_term.ensures.tokens c.in_ok-close_term.ensures.same))
 
 pub returns-else-branch-clause-ok : goal.returns-else-branch-clause-ok
 returns-else-branch-clause-ok c schema num_docs all key are first =

@@ -2,7 +2,7 @@ use Rattle.std.proofs.Common.{[], ◌<◌, ◌^◌, ◌∙◌, arith, slice_inde
 use Rattle.std.proofs.lemmas.Result.{err_from_is_err_and}
 use Rattle.definitions.specs.Postings.{Posting}
 use Rattle.postings_writer.specs.Serializing.{CanWrite, postings_from}
-use Rattle.postings_writer.proofs.WrittenTerms.{all_opened, doc_refused, none_left, none_written, small_differences, sum_refused, written_more}
+use Rattle.postings_writer.proofs.WrittenTerms.{all_counted, all_opened, doc_refused, none_left, none_written, small_differences, sum_refused, written_more}
 use Rattle.postings_writer.proofs.serialize_term.write_postings.Goals as goal
 
 pub loop-at-init : goal.loop-at-init
@@ -20,11 +20,15 @@ loop-at-preserved c =
     let w = c.in_ok-write_doc.ensures in
     let p : Posting = record { doc = c.in_ok-doc.doc; count = c.in_ok-doc.count; positions = stands.positions } in
     let s = w.same in
-    written_more c.args.serializer.now c.loop-at.serializer c.write_doc.new.self (postings_from c.args.recorder.now 0) (postings_from c.args.recorder.now c.loop-at.at) (postings_from c.args.recorder.now c.in_ok-doc.next) p c.deref.result.now c.loop-at.invariant stands.rest (c.deref.ensures.value ∙ stands.deltas_are) w.written (s.0, s.1, s.2, s.3, s.4, s.5, s.6, s.7, s.9) s.8
+    written_more c.args.serializer.now c.loop-at.serializer c.write_doc.new.self (postings_from c.args.recorder.now 0) (postings_from c.args.recorder.now c.loop-at.at) (postings_from c.args.recorder.now c.in_ok-doc.next) p c.deref.result.now c.loop-at.invariant stands.rest (c.deref.ensures.value ∙ stands.deltas_are) w.written w.total (s.0, s.1, s.2, s.3, s.4, s.5, s.6, s.7, s.9) s.8
 
 pub returns-clause-ok : goal.returns-clause-ok
 returns-clause-ok c docs counts numbers is =
     all_opened c.args.serializer.now c.loop-at.serializer (postings_from c.args.recorder.now 0) (postings_from c.args.recorder.now c.loop-at.at) c.loop-at.invariant (none_left c.args.recorder.now c.loop-at.at (omega arith)) docs counts numbers is
+
+pub returns-clause-total : goal.returns-clause-total
+returns-clause-total c =
+    all_counted c.args.serializer.now c.loop-at.serializer (postings_from c.args.recorder.now 0) (postings_from c.args.recorder.now c.loop-at.at) c.loop-at.invariant (none_left c.args.recorder.now c.loop-at.at (omega arith))
 
 pub returns-in_err-doc-clause-err : goal.returns-in_err-doc-clause-err
 returns-in_err-doc-clause-err c open_was =

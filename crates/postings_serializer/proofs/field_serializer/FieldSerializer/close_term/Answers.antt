@@ -18,7 +18,7 @@ returns-clause-ok c docs counts numbers a =
     let put = ap (λ (x : FieldWriting). x.postings) stands ∙ c.in_ok-close_term.ensures.ok docs counts open_term.written (sym open_term.doc_freq_is) in
     let H : Bool → Type 0 = λ b. HasPositions b was.positions_serializer.1 p.0 in
     let placed = ap (λ (x : FieldWriting). x.positions) stands ∙ ap (λ ys. (was.positions_serializer.0 ++ p.0, ys)) (ap (λ b. if b then [] else was.positions_serializer.1) option ∙ none_waits (has_positions w.option) was.positions_serializer.1 numbers open_term.numbers_are) in
-    let Q : FieldWriting → Type 0 = λ x. IsClosed x (record { field = c.self-2.inside.field; num_tokens = c.self-2.inside.num_tokens; terms = c.insert.new.self; postings = c.self-2.inside.postings.items; positions = c.self-2.inside.positions_serializer; key = c.self-2.inside.key.items; doc_freq = c.self-2.inside.doc_freq; writing = c.self-2.inside.postings_serializer }) docs counts numbers in
+    let Q : FieldWriting → Type 0 = λ x. IsClosed x (record { field = c.self-2.inside.field; num_tokens = c.in_ok-num_tokens.num_tokens; terms = c.insert.new.self; postings = c.self-2.inside.postings.items; positions = c.self-2.inside.positions_serializer; key = c.self-2.inside.key.items; doc_freq = c.self-2.inside.doc_freq; total_term_freq = c.self-2.inside.total_term_freq; writing = c.self-2.inside.postings_serializer }) docs counts numbers in
     subst Q c.self.view_is (record {
       bytes = p.0;
       posted = c.in_ok-close_term.ensures.posted docs counts open_term.written;
