@@ -5,7 +5,7 @@ ghost use Rattle.std.specs.Prelude.{[], ⊤, ◌≡◌, List, map, ℕ};
 use case_lines::{Arguments, Refusal, bytes_of_digits, hex, number, pair, text};
 use common::{Device, MemoryDevice};
 use definitions::Fault;
-use records::{Bodies, RecordFile, finish_frame, read_records, scan, start_frame};
+use records::{Bodies, Frame, RecordFile, finish_frame, read_records, scan, start_frame};
 use serde_json::Value;
 use std::alloc::{AllocError, Global};
 
@@ -79,7 +79,7 @@ fn file(alloc: Global, arguments: &Arguments) -> Result<Value, Refusal> {
     let mut gates = Vec::new(alloc);
     gates.push(number(file.gate as u64))?;
     for body in rest {
-        file.append(&framed(alloc, body)?)?;
+        file.append(&Frame::copied(alloc, &framed(alloc, body)?)?)?;
         gates.push(number(file.gate as u64))?;
     }
     let mut device = file.into_device();

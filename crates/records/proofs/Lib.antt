@@ -2,4 +2,5 @@
 pub mod Results
 pub mod Scanned
 pub mod Images
+pub mod PieceByPiece
 pub mod CallByCall

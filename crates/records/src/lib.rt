@@ -3,11 +3,12 @@
 
 mod bodies;
 mod frame;
+mod pieces;
 mod read;
 mod record_file;
 mod steps;
 
 pub use bodies::Bodies;
-pub use frame::{finish_frame, start_frame};
+pub use frame::{Frame, finish_frame, start_frame};
 pub use read::{read_records, scan};
 pub use record_file::RecordFile;

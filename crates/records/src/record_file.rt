@@ -9,6 +9,7 @@ ghost use Rattle.records.specs.Frames.{frame_bytes};
 ghost use Rattle.records.specs.Kept.{IsKept, LeavesNow};
 ghost use Rattle.records.specs.Outcomes.{CountsNoOther};
 
+use crate::frame::Frame;
 use crate::steps::{append_record, create_file, settle_file};
 use common::Device;
 use definitions::Fault;
@@ -29,7 +30,7 @@ impl<D: Device> RecordFile<D> {
     ghost use Rattle.records.specs.HandedBack.{device_after, ending_of};
 
     /// Creates a file of one record, given as its frame, on an empty device. The memory that this
-    /// takes is the device's, to read.
+    /// takes is for a copy of the frame, and the device's, to read.
     pub fn create(alloc: Global, device: D, frame: &[u8]) -> Result<RecordFile<D>, (Fault, D)>
         ensures fault { IfErr result (λ refusal.
             (refusal.0 ≡ faults.Device) ⊎ (refusal.0 ≡ faults.OutOfMemory) ⊎ (refusal.0 ≡ faults.NotEmpty)) }
@@ -110,7 +111,7 @@ impl<D: Device> RecordFile<D> {
     /// Appends a record, given as its frame. It takes no memory.
     ///
     /// After `Device` nothing is known of the closed gate: the file must be read again.
-    pub fn append(&mut self, frame: &[u8]) -> Result<(), Fault>
+    pub fn append(&mut self, frame: &Frame) -> Result<(), Fault>
         ensures fault { IfErr result (λ fault. (fault ≡ faults.Device) ⊎ (fault ≡ faults.Limit)) }
         ensures limit { IsErrOf result faults.Limit ↔ (2 ^ 63 < self.old.gate + 1 + length frame.now) }
         ensures unchanged { IsErrOf result faults.Limit

@@ -110,14 +110,12 @@ is_body got found n count bs after rest left are taken read many long short whol
 
 -- ---- what is written
 
-pub is_written : (parts : List Part) (sets : List (List Bool)) (old first number listed : List ℕ) (n : ℕ) → first ≡ old ++ 2 ∷ [] → number ≡ first ++ u32_bytes n → n ≡ length parts → listed ≡ number ++ flat_map part_bytes parts
-    → listed ++ flat_map alive_bytes sets ≡ old ++ segments_body parts sets
-is_written parts sets old first number listed n at_first at_number many at_listed =
+-- the number of parts, these, and then the sets
+pub is_written : (parts : List Part) (sets : List (List Bool)) (begun listed : List ℕ) (n : ℕ) → begun ≡ 2 ∷ u32_bytes n → n ≡ length parts → listed ≡ begun ++ flat_map part_bytes parts
+    → listed ++ flat_map alive_bytes sets ≡ segments_body parts sets
+is_written parts sets begun listed n at_begin many at_listed =
     let ps = flat_map part_bytes parts in
     let ss = flat_map alive_bytes sets in
-    let head = u32_bytes (length parts) in
-    ap (λ xs. xs ++ ss) (at_listed ∙ ap (λ xs. xs ++ ps) (at_number ∙ ap₂ (λ xs m. xs ++ u32_bytes m) at_first many))
-    ∙ append_assoc ((old ++ 2 ∷ []) ++ head) ps ss
-    ∙ append_assoc (old ++ 2 ∷ []) head (ps ++ ss)
-    ∙ append_assoc old (2 ∷ []) (head ++ ps ++ ss)
-    ∙ ap (λ xs. old ++ xs) (sym (body_is parts sets))
+    ap (λ xs. xs ++ ss) (at_listed ∙ ap (λ xs. xs ++ ps) (at_begin ∙ ap (λ m. 2 ∷ u32_bytes m) many))
+    ∙ append_assoc (2 ∷ u32_bytes (length parts)) ps ss
+    ∙ sym (body_is parts sets)

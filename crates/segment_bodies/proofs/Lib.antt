@@ -2,5 +2,6 @@
 pub mod PartsBack
 pub mod SetsBack
 pub mod BodiesBack
+pub mod BodyPieces
 pub mod PlacesFollow
 pub mod FilesCut

@@ -2,16 +2,16 @@
 //! whole, and an alive set of each.
 #![tactic(auto)]
 
+mod body_writer;
 pub mod file_laws;
 pub mod laws;
 mod part;
 mod parts_taken;
 mod places;
-mod put_body;
 mod read_body;
 mod sets_taken;
 
+pub use body_writer::SegmentsBodyWriter;
 pub use part::Part;
 pub use places::places_follow;
-pub use put_body::put_segments_body;
 pub use read_body::{SegmentsBody, read_segments_body};

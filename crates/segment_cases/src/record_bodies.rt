@@ -1,10 +1,11 @@
 //! Bodies of segments. A part is a number, the place of a kept segment, or the hexadecimal digits of a new one; an alive
 //! set is a text of a `1` for each document that is alive and a `0` for each that isn't.
 
+use bytes::Bytes;
 use case_lines::{Arguments, Refusal, bytes_of_digits, flag, hex, number, pair, text};
 use common::AliveBitSet;
 use definitions::Fault;
-use segment_bodies::{Part, SegmentsBody, places_follow, put_segments_body, read_segments_body};
+use segment_bodies::{Part, SegmentsBody, SegmentsBodyWriter, places_follow, read_segments_body};
 use serde_json::Value;
 use std::alloc::{AllocError, Global};
 
@@ -13,12 +14,34 @@ pub(crate) fn put(alloc: Global, arguments: &Arguments) -> Result<Value, Refusal
     let segments = new_segments(alloc, arguments.list(0)?)?;
     let parts = parts_of(alloc, arguments.list(0)?, &segments)?;
     let sets = alive_sets(alloc, arguments.list(1)?)?;
-    if parts.len() > u32::MAX as usize {
-        return Err(Refusal::NotAsked);
+    let num_segments = u32::try_from(parts.len()).ok().ok_or(Refusal::NotAsked)?;
+    let mut body = SegmentsBodyWriter::begin(alloc, num_segments)?;
+    for part in &parts {
+        put_part(alloc, &mut body, part)?;
     }
-    let mut body = Vec::new(alloc);
-    put_segments_body(alloc, &mut body, &parts, &sets)?;
-    Ok(hex(alloc, &body)?)
+    body.put_sets(&sets)?;
+    Ok(hex(alloc, &joined(alloc, &body.finish()?)?)?)
+}
+
+/// Appends a part to a body.
+fn put_part(
+    alloc: Global,
+    body: &mut SegmentsBodyWriter,
+    part: &Part<'_>,
+) -> Result<(), AllocError> {
+    match *part {
+        Part::Kept(place) => body.put_kept(place),
+        Part::Fresh(segment) => body.put_fresh(Bytes::copy_from_slice(alloc, segment)?),
+    }
+}
+
+/// Pieces, one behind another.
+fn joined(alloc: Global, pieces: &[Bytes]) -> Result<Vec<u8>, AllocError> {
+    let mut bytes = Vec::new(alloc);
+    for piece in pieces {
+        bytes.extend_from_slice(piece.as_slice())?;
+    }
+    Ok(bytes)
 }
 
 /// The parts and the alive sets of a body.

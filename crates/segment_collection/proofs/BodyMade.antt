@@ -1,6 +1,7 @@
 -- The body of a commit makes the members after it of those before.
-use Rattle.std.proofs.Common.{[], ◌++◌, ◌+◌, ◌<◌, ◌∙◌, ◌∷◌, ◌≡◌, ◌≤◌, ◌^◌, Bool, List, Some, ap, append_assoc, arith, drop, filter_map, length, length-append, map, refl, slice_get, subst, suc, sym, zero, ℕ}
+use Rattle.std.proofs.Common.{[], ◌++◌, ◌+◌, ◌-◌, ◌<◌, ◌∙◌, ◌∷◌, ◌≡◌, ◌≤◌, ◌^◌, Bool, List, Some, ap, append_assoc, arith, drop, filter_map, flat_map, length, length-append, map, refl, slice_get, subst, suc, sym, zero, ℕ}
 use Rattle.std.proofs.lemmas.List.{length-drop, length-map}
+use Rattle.std.proofs.lemmas.List.Concat.{flat_map-append}
 use Rattle.std.specs.List.{AllByRecursion, AllZip, zip}
 use Rattle.definitions.specs.Schema.{Schema}
 use Rattle.layouts.specs.Deltas.{IsAscendingFrom}
@@ -10,7 +11,7 @@ use Rattle.segment_bodies.proofs.PlacesFollow.{body_makes}
 use Rattle.segment_bodies.specs.Bodies.{IsBody, IsShort}
 use Rattle.segment_bodies.specs.Places.{Follow, Says}
 use Rattle.segment_files.proofs.OpenedSegments.{opened_few, opened_is}
-use Rattle.segment_layouts.specs.SegmentBodies.{Fits, IsMember, IsOfPart, Makes, Member, fresh, kept, place_of, segments_body}
+use Rattle.segment_layouts.specs.SegmentBodies.{Fits, IsMember, IsOfPart, Makes, Member, Part, fresh, kept, part_bytes, place_of, segments_body}
 use Rattle.segment_layouts.specs.Segments.{IsSegment}
 use Rattle.segment_collection.specs.Bodies.{kept_from, next_parts}
 use Rattle.segment_collection.specs.Flags.{AreFlagged, members}
@@ -155,10 +156,19 @@ commit_makes schema segments alive sets o f few each small =
     } in
     body_makes schema (members segments alive) (members segments sets) parts sets (segments_body parts sets) body says
 
--- one kept segment more
-pub kept_more : (i k : ℕ) → kept_from i (k + 1) ≡ kept_from i k ++ kept (i + k) ∷ []
-kept_more i zero = let e : i ≡ i + 0 = omega arith in ap (λ p. kept p ∷ []) e
-kept_more i (suc k) =
-    let n : suc k + 1 ≡ suc (k + 1) = omega arith in
-    let p : suc i + k ≡ i + suc k = omega arith in
-    ap (kept_from i) n ∙ ap (λ ps. kept i ∷ ps) (kept_more (suc i) k ∙ ap (λ j. kept_from (suc i) k ++ kept j ∷ []) p)
+-- ---- parts, put one behind another
+
+-- the first of the kept segments from one place to another
+pub kept_first : (place to : ℕ) → place < to → kept_from place (to - place) ≡ kept place ∷ kept_from (place + 1) (to - (place + 1))
+kept_first place to below =
+    let count : to - place ≡ suc (to - (place + 1)) = omega (arith, below) in
+    let next : suc place ≡ place + 1 = omega arith in
+    ap (kept_from place) count ∙ ap (λ n. kept place ∷ kept_from n (to - (place + 1))) next
+
+-- some parts, and others behind them
+pub parts_more : (begun mid new : List ℕ) (parts more : List Part) → mid ≡ begun ++ flat_map part_bytes parts → new ≡ mid ++ flat_map part_bytes more → new ≡ begun ++ flat_map part_bytes (parts ++ more)
+parts_more begun mid new parts more first second =
+    second
+    ∙ ap (λ l. l ++ flat_map part_bytes more) first
+    ∙ append_assoc begun (flat_map part_bytes parts) (flat_map part_bytes more)
+    ∙ ap (λ l. begun ++ l) (sym (flat_map-append part_bytes parts more))

@@ -4,18 +4,19 @@ ghost use Rattle.std.specs.Prelude.{◌≡◌};
 ghost use Rattle.segment_collection.specs.Commits.{frame_in};
 
 use common::AliveBitSet;
+use records::Frame;
 
 /// What a commit writes and then installs.
 #[derive(Drop)]
 pub struct Prepared {
-    pub(crate) frame: Vec<u8>,
+    pub(crate) frame: Frame,
     // One for each segment, those that were new too.
     pub(crate) alive: Vec<AliveBitSet>,
 }
 
 impl Prepared {
     /// The frame of the commit's record.
-    pub fn frame(&self) -> &[u8]
+    pub fn frame(&self) -> &Frame
         ensures { result.now ≡ frame_in self.now }
     {
         &self.frame

@@ -4,12 +4,13 @@ ghost use Rattle.std.specs.Prelude.{◌≡◌};
 ghost use Rattle.segment_collection.specs.Merges.{merge_frame_in};
 
 use common::AliveBitSet;
+use records::Frame;
 use segment::Segment;
 
 /// What a merge writes and then installs.
 #[derive(Drop)]
 pub struct PreparedMerge {
-    pub(crate) frame: Vec<u8>,
+    pub(crate) frame: Frame,
     // Those from one place to another give way to it; where no document is alive there is none.
     pub(crate) segment: Option<Segment>,
     pub(crate) from: usize,
@@ -20,7 +21,7 @@ pub struct PreparedMerge {
 
 impl PreparedMerge {
     /// The frame of the merge's record.
-    pub fn frame(&self) -> &[u8]
+    pub fn frame(&self) -> &Frame
         ensures { result.now ≡ merge_frame_in self.now }
     {
         &self.frame

@@ -1,12 +1,13 @@
 //! Files, written record by record.
 
 use bodies::put_first_body;
+use bytes::Bytes;
 use case_lines::{Arguments, Refusal, bytes_of_digits, hex, number, pair};
 use common::{AliveBitSet, Device, MemoryDevice};
 use definitions::Fault;
-use records::{RecordFile, finish_frame, start_frame};
+use records::{Frame, RecordFile, finish_frame, start_frame};
 use schema::Schema;
-use segment_bodies::{Part, put_segments_body};
+use segment_bodies::SegmentsBodyWriter;
 use serde_json::Value;
 use settings::Settings;
 use std::alloc::Global;
@@ -42,21 +43,25 @@ fn first_frame(alloc: Global, made: &Value) -> Result<Vec<u8>, Refusal> {
 }
 
 /// The frame of a later record.
-fn frame_of(alloc: Global, body: &Value) -> Result<Vec<u8>, Refusal> {
-    let list = list_at(body, 0)?;
-    let segments = new_segments(alloc, list)?;
-    let parts = parts_of(alloc, list, &segments)?;
+fn frame_of(alloc: Global, body: &Value) -> Result<Frame, Refusal> {
+    let parts = list_at(body, 0)?;
     let sets = alive_sets(alloc, list_at(body, 1)?)?;
-    if parts.len() > u32::MAX as usize {
-        return Err(Refusal::NotAsked);
+    let num_segments = u32::try_from(parts.len()).ok().ok_or(Refusal::NotAsked)?;
+    let mut body = SegmentsBodyWriter::begin(alloc, num_segments)?;
+    for part in parts {
+        put_part(alloc, &mut body, part)?;
     }
-    let mut frame = start_frame(alloc)?;
-    put_segments_body(alloc, &mut frame, &parts, &sets)?;
-    if frame.len() < 8 {
-        return Err(Refusal::NotAsked);
+    body.put_sets(&sets)?;
+    Ok(Frame::of_body(alloc, body.finish()?)?)
+}
+
+/// Appends a part to a body.
+fn put_part(alloc: Global, body: &mut SegmentsBodyWriter, part: &Value) -> Result<(), Refusal> {
+    match part.as_u64() {
+        Some(place) => body.put_kept(u32::try_from(place).ok().ok_or(Refusal::NotAsked)?)?,
+        None => body.put_fresh(Bytes::from_vec(bytes_of_digits(alloc, part)?)?)?,
     }
-    finish_frame(&mut frame)?;
-    Ok(frame)
+    Ok(())
 }
 
 /// The list at a place of a list.
@@ -64,34 +69,6 @@ fn list_at(list: &Value, place: usize) -> Result<&Vec<Value>, Refusal> {
     let list = list.as_array().ok_or(Refusal::NotAsked)?;
     let item = list.get(place).ok_or(Refusal::NotAsked)?;
     item.as_array().ok_or(Refusal::NotAsked)
-}
-
-/// The bytes of each part that is a new segment, and none of the others.
-fn new_segments(alloc: Global, list: &[Value]) -> Result<Vec<Vec<u8>>, Refusal> {
-    let mut segments = Vec::new(alloc);
-    for value in list {
-        segments.push(match value.as_str() {
-            Some(_) => bytes_of_digits(alloc, value)?,
-            None => Vec::new(alloc),
-        })?;
-    }
-    Ok(segments)
-}
-
-/// The parts of a list, with the bytes of its new segments.
-fn parts_of<'a>(
-    alloc: Global,
-    list: &[Value],
-    segments: &'a [Vec<u8>],
-) -> Result<Vec<Part<'a>>, Refusal> {
-    let mut parts = Vec::new(alloc);
-    for (value, segment) in list.iter().zip(segments) {
-        parts.push(match value.as_u64() {
-            Some(place) => Part::Kept(u32::try_from(place).ok().ok_or(Refusal::NotAsked)?),
-            None => Part::Fresh(segment),
-        })?;
-    }
-    Ok(parts)
 }
 
 /// Alive sets, each of a number of documents without the dead.

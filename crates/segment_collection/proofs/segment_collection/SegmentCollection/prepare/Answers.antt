@@ -118,6 +118,6 @@ returns-clause-body g c k x s =
     let most = c.if-len-gt-MAX_SEGMENTS.false in
     let len = c.len.ensures ∙ mid.segments.ok.0 in
     let small : length segments < 2 ^ 32 = omega (arith, most, len) in
-    let made : (body : List ℕ) × (c.in_ok-frame.frame.items ≡ frame_bytes body) × Makes (IsSegment old.schema) (members_of old) (members segments sets) body =
-    commit_body old.schema c.in_ok-frame.frame.items segments c.deref-4.result.now mid.alive.items sets c.deref-5.result.now c.len-2.result (members_of old) c.deref-4.ensures.value c.deref-5.ensures.value (c.len-2.ensures ∙ mid.alive.ok.0) c.in_ok-frame.ensures opened flagged few each small c.close_open.ensures.members in
-    subst (λ (m : calls.Configuration). (body : List ℕ) × (c.in_ok-frame.frame.items ≡ frame_bytes body) × Makes (IsSegment m.schema) (members_of old) (members segments sets) body) (sym s.made) made
+    let made : (body : List ℕ) × (c.in_ok-frame.frame ≡ frame_bytes body) × Makes (IsSegment old.schema) (members_of old) (members segments sets) body =
+    commit_body old.schema c.in_ok-frame.frame segments c.deref-4.result.now mid.alive.items sets c.deref-5.result.now c.len-2.result (members_of old) c.deref-4.ensures.value c.deref-5.ensures.value (c.len-2.ensures ∙ mid.alive.ok.0) c.in_ok-frame.ensures opened flagged few each small c.close_open.ensures.members in
+    subst (λ (m : calls.Configuration). (body : List ℕ) × (c.in_ok-frame.frame ≡ frame_bytes body) × Makes (IsSegment m.schema) (members_of old) (members segments sets) body) (sym s.made) made
