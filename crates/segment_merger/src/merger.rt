@@ -161,5 +161,5 @@ fn merged_bytes(
         norms,
         store: merge_slots(alloc, block_size, members)?,
     };
-    Ok(sections.to_segment(alloc, num_docs)?)
+    Ok(sections.into_segment(alloc, num_docs)?)
 }

@@ -1,2 +1,3 @@
 -- Lemmas behind the writing of segments.
 pub mod Adding
+pub mod SlicesInFront

@@ -113,6 +113,6 @@ impl SegmentWriter {
             norms,
             store: store.close(alloc)?,
         };
-        Ok(sections.to_segment(alloc, num_docs)?)
+        Ok(sections.into_segment(alloc, num_docs)?)
     }
 }

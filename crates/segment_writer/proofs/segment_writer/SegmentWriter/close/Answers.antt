@@ -23,8 +23,8 @@ returns-clause-ok c analyze block_size docs h =
       written = record {
         some = omega (arith, count, asked, some);
         few = h.few;
-        short = c.in_ok-to_segment.ensures.short;
-        whole = c.in_ok-to_segment.ensures.whole ∙ ap (λ n. segment_bytes n sections) count;
+        short = c.in_ok-into_segment.ensures.short;
+        whole = c.in_ok-into_segment.ensures.whole ∙ ap (λ n. segment_bytes n sections) count;
       };
       terms_are = terms.1;
       indexed = terms.2;
