@@ -1,5 +1,5 @@
 -- The limits that the documents of a segment pass.
-use Rattle.std.specs.Prelude.{◌≡◌, ◌⊎◌, List, Some, slice_get, take, ℕ}
+use Rattle.std.specs.Prelude.{[], ◌++◌, ◌<◌, ◌≡◌, ◌⊎◌, List, Some, length, slice_get, slice_index_or, take, ℕ}
 use Rattle.definitions.specs.Analyzers.{Analyzer}
 use Rattle.definitions.specs.KeptLengths.{norms_of}
 use Rattle.definitions.specs.Postings.{postings}
@@ -12,6 +12,10 @@ use Rattle.segment_writer.specs.Writers.{PassesStore}
 -- one of them, behind those before it, passes a limit of the store or of what is indexed
 abbrev pub OnePasses : Schema → Analyzer → ℕ → List Document → Type 0
 OnePasses schema analyze block_size docs = (i : ℕ) × (doc : Document) × (slice_get docs i ≡ Some doc) × (PassesStore schema block_size (take i docs) doc ⊎ PassesLimit schema analyze (take i docs) doc)
+
+-- one of more documents, behind these and those before it, passes one
+abbrev pub OneMorePasses : Schema → Analyzer → ℕ → List Document → List Document → Type 0
+OneMorePasses schema analyze block_size before docs = (i : ℕ) × (i < length docs) × (PassesStore schema block_size (before ++ take i docs) (slice_index_or docs i []) ⊎ PassesLimit schema analyze (before ++ take i docs) (slice_index_or docs i []))
 
 -- one of them does, or they are too much for the terms of a segment
 abbrev pub DocumentsPass : Schema → Analyzer → ℕ → List Document → Type 0

@@ -16,6 +16,7 @@ mod replacing;
 mod segment_collection;
 mod status;
 mod tests_of_calls;
+mod waiting_docs;
 mod written_segment;
 
 pub use prepared::Prepared;

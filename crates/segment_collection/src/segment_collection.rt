@@ -28,10 +28,11 @@ use crate::parts::parted;
 use crate::prepared::Prepared;
 use crate::status::Status;
 use crate::tests_of_calls::{check_deletion, check_document, check_slot};
+use crate::waiting_docs::WaitingDocs;
 use crate::written_segment::written_segment;
 use common::{AliveBitSet, Analyzer};
 use definitions::Fault;
-use document::{CompactDoc, CompactDocs};
+use document::CompactDoc;
 use query_trees::AnyQuery;
 use schema::Schema;
 use segment::Segment;
@@ -59,7 +60,7 @@ pub struct SegmentCollection<A> {
     // One for each that is committed.
     pub(crate) alive: Vec<AliveBitSet>,
     // The documents of the segment that isn't full.
-    pub(crate) open: CompactDocs,
+    pub(crate) open: WaitingDocs,
     pub(crate) deletions: Vec<Deletion>,
     pub(crate) status: Status,
     ghost opened: { ∥ AllByRecursion (IsOpened schema) segments.items ∥₁ },
@@ -108,7 +109,7 @@ impl<A: Analyzer + Drop> SegmentCollection<A> {
         ensures members { members_of result ≡ members segments.items alive.items }
     {
         let _docs_per_segment = settings.docs_per_segment();
-        let open = CompactDocs::new(alloc);
+        let open = WaitingDocs::new(alloc);
         let deletions = Vec::new(alloc);
         SegmentCollection {
             alloc,
@@ -285,7 +286,7 @@ impl<A: Analyzer + Drop> SegmentCollection<A> {
         if self.open.is_empty() {
             return Ok(());
         }
-        let docs = replace(&mut self.open, CompactDocs::new(self.alloc));
+        let docs = replace(&mut self.open, WaitingDocs::new(self.alloc));
         let segment = written_segment(
             self.alloc,
             &self.analyzer,

@@ -1,61 +1,57 @@
-use Rattle.std.proofs.Common.{⊎_elim, arith, inl, inr, length, refl, subst, sym, take, ◌<◌, ◌≡◌}
-use Rattle.std.proofs.lemmas.List.{take_all}
+use Rattle.std.proofs.Common.{[], List, ap, append-nil, append_assoc, arith, flat_map, length, refl, subst, sym, ◌++◌, ◌∙◌, ◌∷◌, ◌≡◌}
 use Rattle.std.proofs.lemmas.Result.{err_from_is_err_and}
-use Rattle.definitions.specs.declared.fault.Fault.TheVariants as faults
+use Rattle.std.specs.List.{AllByRecursion}
+use Rattle.definitions.specs.Values.{Document}
 use Rattle.segment_writer.specs.Writers.{HasWritten}
-use Rattle.segment_collection.proofs.Outcomes.{err_no_limit, memory_is_no_limit}
-use Rattle.segment_collection.proofs.WrittenDocs.{given_at, given_taken, one_passes, taken_more}
-use Rattle.segment_collection.specs.Limits.{DocumentsPass}
+use Rattle.segment_collection.proofs.WrittenDocs.{all_behind, all_front, chunk_passes}
+use Rattle.segment_collection.specs.Given.{IsGiven}
 use Rattle.segment_collection.proofs.written_segment.written.Goals as goal
 
-pub loop-at-init : goal.loop-at-init
-loop-at-init g c = c.in_ok-writer.ensures (g.A.Analyzer.analyze c.args.analyzer.now)
+pub loop-chunk-init : goal.loop-chunk-init
+loop-chunk-init g c = ([], c.in_ok-chunks.ensures, c.in_ok-writer.ensures (g.A.Analyzer.analyze c.args.analyzer.now))
 
-pub add-requires-clause-taken : goal.add-requires-clause-taken
-add-requires-clause-taken g c =
-    let there = c.loop-at-test.true in
-    let many = c.len-at-end.ensures in
-    let inside : c.loop-at.at < length c.args.docs.now = omega (arith, there, many) in
-    given_taken c.args.schema.now c.in_ok-doc.doc c.len-pairs.ensures.pairs (given_at c.args.schema.now c.args.docs.now c.loop-at.at c.in_ok-doc.doc c.requires inside c.in_ok-doc.ensures)
+-- those so far, those of this chunk, and those of the chunks behind it are all
+whole : (done chunk : List Document) (now later : List (List Document)) (docs : List Document) → now ≡ chunk ∷ later → done ++ flat_map (λ ds. ds) now ≡ docs → done ++ (chunk ++ flat_map (λ ds. ds) later) ≡ docs
+whole done chunk now later docs items all = ap (λ cs. done ++ flat_map (λ ds. ds) cs) (sym items) ∙ all
 
-pub add-requires-clause-written : goal.add-requires-clause-written
-add-requires-clause-written g c = (c.args.block_size, take c.loop-at.at c.args.docs.now, c.loop-at.invariant)
+pub add_docs-requires-clause-written : goal.add_docs-requires-clause-written
+add_docs-requires-clause-written g c = (let inv = c.loop-chunk.invariant in (c.args.block_size, inv.0, inv.2))
 
-pub loop-at-preserved : goal.loop-at-preserved
-loop-at-preserved g c =
-    let l = c.loop-at in
-    let there = c.loop-at-test.true in
-    let many = c.len-at-end.ensures in
-    let inside : l.at < length c.args.docs.now = omega (arith, there, many) in
+pub add_docs-requires-clause-given : goal.add_docs-requires-clause-given
+add_docs-requires-clause-given g c =
+    let inv = c.loop-chunk.invariant in
+    let chunk = c.in-Some.chunk in
+    let later = c.pop_front.new.self.items in
+    let all = whole inv.0 chunk c.loop-chunk.chunks.items later c.args.docs c.in-Some.ensures.items inv.1 in
+    let P : Document → Type 0 = IsGiven c.args.schema.now in
+    all_front P chunk (flat_map (λ ds. ds) later) (all_behind P inv.0 (chunk ++ flat_map (λ ds. ds) later) (subst (AllByRecursion P) (sym all) c.requires))
+
+pub returns-in_err-add_docs-clause-limit : goal.returns-in_err-add_docs-clause-limit
+returns-in_err-add_docs-clause-limit g c =
+    let inv = c.loop-chunk.invariant in
+    let chunk = c.in-Some.chunk in
+    let later = c.pop_front.new.self.items in
     let analyze = g.A.Analyzer.analyze c.args.analyzer.now in
-    subst (HasWritten c.args.schema.now analyze c.args.block_size c.add.new.self) (sym (taken_more c.args.docs.now l.at c.in_ok-doc.doc inside c.in_ok-doc.ensures))
-    (c.in_ok-add.ensures.ok c.args.block_size (take l.at c.args.docs.now) l.invariant)
+    let all = whole inv.0 chunk c.loop-chunk.chunks.items later c.args.docs c.in-Some.ensures.items inv.1 in
+    let p = err_from_is_err_and c.from_residual-in_err-add_docs.result c.from_residual-in_err-add_docs.ensures.1 in
+    rw (p.1, p.2) (λ is. chunk_passes c.args.schema.now analyze c.args.block_size inv.0 chunk (flat_map (λ ds. ds) later) c.args.docs all (c.in_err-add_docs.ensures.limit c.args.block_size inv.0 inv.2 is))
 
-pub returns-in_err-doc-clause-limit : goal.returns-in_err-doc-clause-limit
-returns-in_err-doc-clause-limit g c =
-    err_no_limit c.from_residual-in_err-doc.result faults.OutOfMemory (DocumentsPass c.args.schema.now (g.A.Analyzer.analyze c.args.analyzer.now) c.args.block_size c.args.docs.now) c.from_residual-in_err-doc.ensures.1 (memory_is_no_limit faults.OutOfMemory refl)
+pub loop-chunk-preserved : goal.loop-chunk-preserved
+loop-chunk-preserved g c =
+    let inv = c.loop-chunk.invariant in
+    let chunk = c.in-Some.chunk in
+    let later = c.pop_front.new.self.items in
+    let all = whole inv.0 chunk c.loop-chunk.chunks.items later c.args.docs c.in-Some.ensures.items inv.1 in
+    (inv.0 ++ chunk, append_assoc inv.0 chunk (flat_map (λ ds. ds) later) ∙ all, c.in_ok-add_docs.ensures.ok c.args.block_size inv.0 inv.2)
 
-pub returns-in_err-add-clause-err : goal.returns-in_err-add-clause-err
-returns-in_err-add-clause-err g c =
-    let p = err_from_is_err_and c.from_residual-in_err-add.result c.from_residual-in_err-add.ensures.1 in
-    rw (p.1, p.2) (⊎_elim (λ memory. inl memory) (λ limit. inr limit.0) (c.in_err-add.ensures.err c.args.block_size (take c.loop-at.at c.args.docs.now) c.loop-at.invariant))
-
-pub returns-in_err-add-clause-limit : goal.returns-in_err-add-clause-limit
-returns-in_err-add-clause-limit g c =
-    let l = c.loop-at in
-    let there = c.loop-at-test.true in
-    let many = c.len-at-end.ensures in
-    let inside : l.at < length c.args.docs.now = omega (arith, there, many) in
-    let analyze = g.A.Analyzer.analyze c.args.analyzer.now in
-    let docs = c.args.docs.now in
-    let p = err_from_is_err_and c.from_residual-in_err-add.result c.from_residual-in_err-add.ensures.1 in
-    rw (p.1, p.2) (one_passes c.args.schema.now analyze c.args.block_size docs l.at c.in_ok-doc.doc c.in_err-add.field-0.0 inside c.in_ok-doc.ensures (c.in_err-add.ensures.err c.args.block_size (take l.at docs) l.invariant))
+no_chunk : (chunks : List (List Document)) → length chunks ≡ 0 → chunks ≡ []
+no_chunk [] none = refl
+no_chunk (chunk ∷ chunks) none = absurd (omega (arith, none))
 
 pub returns-clause-ok : goal.returns-clause-ok
 returns-clause-ok g c =
-    let l = c.loop-at in
-    let analyze = g.A.Analyzer.analyze c.args.analyzer.now in
-    let past = c.loop-at-test.false in
-    let many = c.len-at-end.ensures in
-    let all = take_all l.at c.args.docs.now (omega (arith, past, many)) in
-    subst (HasWritten c.args.schema.now analyze c.args.block_size l.writer) all l.invariant
+    let inv = c.loop-chunk.invariant in
+    let left = c.in_default.ensures.cases.0 in
+    let none : c.loop-chunk.chunks.items ≡ [] = no_chunk c.loop-chunk.chunks.items (omega (arith, left, c.loop-chunk.chunks.ok)) in
+    let all : inv.0 ≡ c.args.docs = sym (append-nil inv.0) ∙ (ap (λ cs. inv.0 ++ flat_map (λ ds. ds) cs) (sym none) ∙ inv.1) in
+    subst (HasWritten c.args.schema.now (g.A.Analyzer.analyze c.args.analyzer.now) c.args.block_size c.loop-chunk.writer) all inv.2

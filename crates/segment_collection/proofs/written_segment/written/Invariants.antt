@@ -1,6 +1,11 @@
-use Rattle.std.proofs.Common.{take}
+use Rattle.std.proofs.Common.{List, flat_map, length, ◌++◌, ◌≡◌}
+use Rattle.definitions.specs.Values.{Document}
 use Rattle.segment_writer.specs.Writers.{HasWritten}
 use Rattle.segment_collection.proofs.written_segment.written.Given as goal
 
-abbrev pub invariant-loop-at : goal.invariant-loop-at
-invariant-loop-at g l = HasWritten l.schema (g.A.Analyzer.analyze l.analyzer) l.block_size l.writer (take l.at l.docs)
+-- those of the chunks so far were added, and with those of the chunks that are left they are all
+abbrev pub invariant-loop-chunk : goal.invariant-loop-chunk
+invariant-loop-chunk g l = (done : List Document) × (done ++ flat_map (λ docs. docs) l.chunks.items ≡ l.fn.docs) × HasWritten l.schema (g.A.Analyzer.analyze l.analyzer) l.block_size l.writer done
+
+abbrev pub decreases-loop-chunk : goal.decreases-loop-chunk
+decreases-loop-chunk g l = length l.chunks.items
