@@ -1,10 +1,11 @@
 -- Entries of terms are taken as they are put.
-use Rattle.std.proofs.Common.{[], List, None, Option, Some, ap, append_assoc, length, refl, subst, suc, sym, ◌++◌, ◌<◌, ◌≡◌, ◌∙◌, ◌∷◌, ◌^◌, ℕ}
+use Rattle.std.proofs.Common.{[], List, None, Option, Some, ap, append_assoc, drop, length, refl, subst, suc, sym, ◌++◌, ◌<◌, ◌≡◌, ◌∙◌, ◌∷◌, ◌^◌, ℕ}
+use Rattle.std.specs.Bool.{⊤}
 use Rattle.common.proofs.TakenBack.{bytes_back, bytes_put, vint_back, vint_put}
 use Rattle.definitions.specs.Json.{◌>>=◌}
 use Rattle.definitions.specs.NumberCodes.{AreBytes, sized_bytes, take_bytes, take_vint, vint_bytes}
-use Rattle.layouts.specs.TermSections.{entry_of_term}
-use Rattle.inverted_index_reader.specs.TakenTerms.{Told, take_entry}
+use Rattle.layouts.specs.TermSections.{TermLengths, entry_of_term}
+use Rattle.inverted_index_reader.specs.TakenTerms.{Told, entry_at, key_at, take_entry, taken_key, taken_lengths}
 
 pub bind_some : {A B : Type 0} (o : Option A) (f : A → Option B) (r : B) → (o >>= f) ≡ Some r → (a : A) × (o ≡ Some a) × (f a ≡ Some r)
 bind_some None f r h = absurd cc
@@ -28,6 +29,10 @@ parts_of t rest =
 abbrev told_from : List ℕ → ℕ → ℕ → ℕ → List ℕ → Option (Told × List ℕ)
 told_from key docs postings positions rest = Some ((key, record { doc_freq = docs; postings_len = postings; positions_len = positions }), rest)
 
+-- what is taken behind a key
+abbrev after_key : List ℕ × List ℕ → Option (Told × List ℕ)
+after_key key = take_vint key.1 >>= (λ docs. take_vint docs.1 >>= (λ postings. take_vint postings.1 >>= (λ positions. told_from key.0 docs.0 postings.0 positions.0 positions.1)))
+
 pub entry_back : (t : Told) (rest : List ℕ) → Fits64 t → take_entry (entry_of_term t ++ rest) ≡ Some (t, rest)
 entry_back t rest fits =
     let d = vint_bytes t.1.doc_freq in
@@ -45,7 +50,7 @@ bytes_behind (x ∷ xs) ys bytes i = bytes_behind xs ys (λ k. bytes (suc k)) i
 
 pub entry_put : (bs : List ℕ) (t : Told) (rest : List ℕ) → AreBytes bs → take_entry bs ≡ Some (t, rest) → Fits64 t × (bs ≡ entry_of_term t ++ rest)
 entry_put bs t rest bytes taken =
-    let key = bind_some (take_bytes bs) (λ key. take_vint key.1 >>= (λ docs. take_vint docs.1 >>= (λ postings. take_vint postings.1 >>= (λ positions. told_from key.0 docs.0 postings.0 positions.0 positions.1)))) (t, rest) taken in
+    let key = bind_some (take_bytes bs) after_key (t, rest) taken in
     let docs = bind_some (take_vint key.0.1) (λ docs. take_vint docs.1 >>= (λ postings. take_vint postings.1 >>= (λ positions. told_from key.0.0 docs.0 postings.0 positions.0 positions.1))) (t, rest) key.2 in
     let postings = bind_some (take_vint docs.0.1) (λ postings. take_vint postings.1 >>= (λ positions. told_from key.0.0 docs.0.0 postings.0 positions.0 positions.1)) (t, rest) docs.2 in
     let positions = bind_some (take_vint postings.0.1) (λ positions. told_from key.0.0 docs.0.0 postings.0.0 positions.0 positions.1) (t, rest) postings.2 in
@@ -69,3 +74,33 @@ entry_put bs t rest bytes taken =
         let whole : bs ≡ entry_of_term e ++ positions.1 = first.1 ∙ ap (λ xs. sized_bytes key.0 ++ xs) (second.1 ∙ ap (λ xs. vint_bytes docs.0 ++ xs) (third.1 ∙ ap (λ xs. vint_bytes postings.0 ++ xs) fourth.1)) ∙ sym (parts_of e positions.1) in
         let fits : Fits64 e = record { key = first.0; docs = second.0; postings = third.0; positions = fourth.0 } in
         (subst Fits64 (ap (λ (p : Told × List ℕ). p.0) same) fits, whole ∙ ap (λ (p : Told × List ℕ). entry_of_term p.0 ++ p.1) same)
+
+-- ---- the entry at a place
+
+-- what is taken, if something is, has this key
+abbrev HasKey : List ℕ → Option (Told × List ℕ) → Type 0
+HasKey key None = ⊤
+HasKey key (Some p) = key ≡ p.0.0
+
+key_behind : {A : Type 0} (key : List ℕ) (o : Option A) (f : A → Option (Told × List ℕ)) → ((a : A) → HasKey key (f a)) → HasKey key (o >>= f)
+key_behind key None f each = tt
+key_behind key (Some a) f each = each a
+
+key_kept : (key : List ℕ × List ℕ) → HasKey key.0 (after_key key)
+key_kept key = key_behind key.0 (take_vint key.1) (λ docs. take_vint docs.1 >>= (λ postings. take_vint postings.1 >>= (λ positions. told_from key.0 docs.0 postings.0 positions.0 positions.1))) (λ docs. key_behind key.0 (take_vint docs.1) (λ postings. take_vint postings.1 >>= (λ positions. told_from key.0 docs.0 postings.0 positions.0 positions.1)) (λ postings. key_behind key.0 (take_vint postings.1) (λ positions. told_from key.0 docs.0 postings.0 positions.0 positions.1) (λ positions. refl)))
+
+-- an entry that is taken has the key that stands first
+key_taken : (bs : List ℕ) (t : Told) (rest : List ℕ) → take_entry bs ≡ Some (t, rest) → taken_key (take_bytes bs) ≡ t.0
+key_taken bs t rest taken =
+    let key = bind_some (take_bytes bs) after_key (t, rest) taken in
+    ap taken_key key.1 ∙ subst (HasKey key.0.0) key.2 (key_kept key.0)
+
+-- the entry that is taken from a place on is the one there
+pub entry_read : (bs : List ℕ) (start : ℕ) (t : Told) (rest : List ℕ) → take_entry (drop start bs) ≡ Some (t, rest) → entry_at bs start ≡ t
+entry_read bs start t rest taken =
+    ap (λ (key : List ℕ). (key, taken_lengths (take_entry (drop start bs)))) (key_taken (drop start bs) t rest taken)
+    ∙ ap (λ (lengths : TermLengths). (t.0, lengths)) (ap taken_lengths taken)
+
+-- where none can be taken, the one there has the key alone
+pub entry_unread : (bs : List ℕ) (start : ℕ) → take_entry (drop start bs) ≡ None → entry_at bs start ≡ (key_at bs start, record { doc_freq = 0; postings_len = 0; positions_len = 0 })
+entry_unread bs start none = ap (λ (lengths : TermLengths). (key_at bs start, lengths)) (ap taken_lengths none)

@@ -6,13 +6,14 @@ use Rattle.definitions.proofs.Ranking.{All_weaker}
 use Rattle.definitions.specs.Schema.{Schema, max_fields}
 use Rattle.layouts.specs.InvertedIndexes.{AreSections, IndexedField, IndexedTerm, IsField, IsTerm, field_ids, field_terms, lengths_of, num_tokens, option_of_term, term_of_key}
 use Rattle.layouts.specs.TermSections.{entry_of_term, field_terms_bytes}
+use Rattle.inverted_index_reader.proofs.EntriesTaken.{entry_read}
 use Rattle.inverted_index_reader.proofs.KindsKnown.{IsKind, kinds_known, same_option}
 use Rattle.inverted_index_reader.proofs.SectionsThere.{fields_fit}
 use Rattle.inverted_index_reader.proofs.TermBytes.{FieldFits, all_positions, all_postings, end_postings, end_positions, field_entry, positions_of, postings_of, rest_there, told_of}
 use Rattle.inverted_index_reader.proofs.TermSteps.{taken_there}
 use Rattle.inverted_index_reader.specs.CheckedTerms.{AreCheckedFields, AreTermsAt, IsCheckedField, Sections}
 use Rattle.inverted_index_reader.specs.FieldKinds.{kinds_of, option_in, shown}
-use Rattle.inverted_index_reader.specs.TakenTerms.{Told, entry_at, entry_in}
+use Rattle.inverted_index_reader.specs.TakenTerms.{Told, entry_at}
 use Rattle.inverted_index_reader.specs.TermPlaces.{EntryFits, behind, field_end, fields_start, first_in, header_of, starts_from}
 use Rattle.inverted_index_reader.specs.ToldFields.{AreTold}
 use Rattle.inverted_index_reader.specs.declared.field_index.FieldIndex.{FieldIndex}
@@ -23,7 +24,7 @@ use Rattle.inverted_index_reader.specs.declared.term_start.TermStart.{TermStart}
 
 -- an entry as it stands is read
 pub entry_there : (section : List ℕ) (place : ℕ) (t : Told) (rest : List ℕ) → length section < 2 ^ 63 → drop place section ≡ entry_of_term t ++ rest → EntryFits t → entry_at section place ≡ t
-entry_there section place t rest short is fits = ap entry_in (taken_there t (drop place section) rest (omega (arith, short, length-drop place section)) is fits)
+entry_there section place t rest short is fits = entry_read section place t rest (taken_there t (drop place section) rest (omega (arith, short, length-drop place section)) is fits)
 
 -- terms with their bytes from a place of each section on
 pub record Standing (s : Sections) (at : TermStart) (xs : List IndexedTerm) (terms postings positions : List ℕ) : Type 0 where

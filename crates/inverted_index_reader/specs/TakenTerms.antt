@@ -22,14 +22,20 @@ take_entry bs = do
   positions ← take_vint postings.1
   Some ((key.0, record { doc_freq = docs.0; postings_len = postings.0; positions_len = positions.0 }), positions.1)
 
--- an entry without bytes and documents
-abbrev pub no_entry : Told
-no_entry = ([], record { doc_freq = 0; postings_len = 0; positions_len = 0 })
+-- the bytes that are taken, if some are
+abbrev pub taken_key : Option (List ℕ × List ℕ) → List ℕ
+taken_key None = []
+taken_key (Some p) = p.0
 
-abbrev pub entry_in : Option (Told × List ℕ) → Told
-entry_in None = no_entry
-entry_in (Some p) = p.0
+-- the value bytes of the term that begins at a place; none where no term does
+abbrev pub key_at : List ℕ → ℕ → List ℕ
+key_at bs start = taken_key (take_bytes (drop start bs))
+
+-- the lengths of an entry that is taken; zeros where none is
+abbrev pub taken_lengths : Option (Told × List ℕ) → TermLengths
+taken_lengths None = record { doc_freq = 0; postings_len = 0; positions_len = 0 }
+taken_lengths (Some p) = p.0.1
 
 -- the entry that begins at a place
 abbrev pub entry_at : List ℕ → ℕ → Told
-entry_at bs start = entry_in (take_entry (drop start bs))
+entry_at bs start = (key_at bs start, taken_lengths (take_entry (drop start bs)))

@@ -4,9 +4,9 @@ ghost use Rattle.std.specs.Prelude.{◌-◌, ◌≡◌, ◌≤◌, IfOk, bytes_e
 ghost use Rattle.std.specs.List.{prefix_len};
 ghost use Rattle.inverted_index_reader.specs.Dictionaries.{InfoFits, IsDictionary, ahead, info_from, terms_at};
 ghost use Rattle.inverted_index_reader.specs.Searching.{between, is_before, is_below};
-ghost use Rattle.inverted_index_reader.specs.TakenTerms.{entry_at, entry_of};
+ghost use Rattle.inverted_index_reader.specs.TakenTerms.{entry_of, key_at};
 
-use crate::term_entry::{TermEntry, entry_at};
+use crate::term_entry::{TermEntry, entry_at, key_at};
 use crate::term_info::TermInfo;
 use crate::term_range::TermRange;
 use crate::term_start::TermStart;
@@ -103,9 +103,9 @@ fn part(starts: &[TermStart], first: usize, last: usize) -> &[TermStart]
 
 /// Whether the term that begins at a place of the section of terms stands before one with these value bytes.
 fn is_below(section: &[u8], start: usize, key: &[u8]) -> bool
-    ensures { result ≡ is_below key.now (entry_at section.now start).0 }
+    ensures { result ≡ is_below key.now (key_at section.now start) }
 {
-    entry_at(section, start).key < key
+    key_at(section, start) < key
 }
 
 /// Where the postings of a term stand.

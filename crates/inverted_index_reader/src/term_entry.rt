@@ -1,7 +1,7 @@
 //! Entries of terms, taken out of their section.
 
-ghost use Rattle.std.specs.Prelude.{◌≡◌, IfErr, IfOk, None, Some};
-ghost use Rattle.inverted_index_reader.specs.TakenTerms.{entry_at, entry_of, take_entry};
+ghost use Rattle.std.specs.Prelude.{◌≡◌, IfErr, IfOk, None, Some, drop};
+ghost use Rattle.inverted_index_reader.specs.TakenTerms.{entry_at, entry_of, key_at, take_entry};
 ghost use Rattle.definitions.specs.declared.fault.Fault.TheVariants as faults;
 
 use common::{take_bytes, take_vint};
@@ -34,21 +34,34 @@ pub(crate) fn take_entry(bytes: &[u8]) -> Result<(TermEntry<'_>, &[u8]), Fault>
     Ok((entry, rest))
 }
 
-/// The entry that begins at a place; where none does, one without bytes and documents.
+/// What stands from a place on; nothing behind the end.
+fn from(bytes: &[u8], start: usize) -> &[u8]
+    ensures { result.now ≡ drop start bytes.now }
+{
+    bytes.get(start..).unwrap_or(&[])
+}
+
+/// The value bytes of the term that begins at a place; none where no term does.
+pub(crate) fn key_at(bytes: &[u8], start: usize) -> &[u8]
+    ensures { result.now ≡ key_at bytes.now start }
+{
+    match take_bytes(from(bytes, start)) {
+        Ok((key, _)) => key,
+        Err(_) => &[],
+    }
+}
+
+/// The entry that begins at a place; where none does, one without documents, with the value bytes that stand there.
 pub(crate) fn entry_at(bytes: &[u8], start: usize) -> TermEntry<'_>
     ensures { entry_of result ≡ entry_at bytes.now start }
 {
-    let none = TermEntry {
-        key: &[],
-        doc_freq: 0,
-        postings_len: 0,
-        positions_len: 0,
-    };
-    let Some(rest) = bytes.get(start..) else {
-        return none;
-    };
-    match take_entry(rest) {
+    match take_entry(from(bytes, start)) {
         Ok((entry, _)) => entry,
-        Err(_) => none,
+        Err(_) => TermEntry {
+            key: key_at(bytes, start),
+            doc_freq: 0,
+            postings_len: 0,
+            positions_len: 0,
+        },
     }
 }

@@ -3,11 +3,10 @@ use Rattle.std.specs.Cmp.Lexicographic.{lists_agrees}
 use Rattle.std.specs.Ordering.{is_lt, is_some_and, nat_cmp}
 use Rattle.std.specs.declared.cmp.Ordering.{Ordering}
 use Rattle.inverted_index_reader.specs.Searching.{is_below}
-use Rattle.inverted_index_reader.specs.TakenTerms.{Told}
 use Rattle.inverted_index_reader.proofs.term_dictionary.is_below.Goals as goal
 
 pub returns : goal.returns
 returns c =
     c.lt.ensures
-    ∙ ap (λ (o : Option Ordering). is_some_and is_lt o) (lists_agrees {R = nat_cmp} {C = λ x y. Some (nat_cmp x y)} (λ x y. refl) c.entry_at.result.key.now c.args.key.now)
-    ∙ ap (λ (e : Told). is_below c.args.key.now e.0) c.entry_at.ensures
+    ∙ ap (λ (o : Option Ordering). is_some_and is_lt o) (lists_agrees {R = nat_cmp} {C = λ x y. Some (nat_cmp x y)} (λ x y. refl) c.key_at.result.now c.args.key.now)
+    ∙ ap (is_below c.args.key.now) c.key_at.ensures
