@@ -75,7 +75,8 @@ impl<'a> FieldSerializer<'a> {
     }
 
     /// Adds a document to the term: how often the term stands in it and, where positions are recorded, its
-    /// first position and the differences.
+    /// first position and the differences. Where counts aren't recorded it is to be told 1: what is told is what
+    /// the field's sum of tokens counts, and a reader takes 1 for each such document.
     pub fn write_doc(
         &mut self,
         doc: u32,
