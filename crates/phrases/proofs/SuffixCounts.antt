@@ -9,7 +9,7 @@ use Rattle.members.specs.LeaderLaws.{entries-last}
 use Rattle.members.specs.Members.{entries_at, entries_of}
 use Rattle.phrases.specs.Places.{Ascends}
 use Rattle.phrases.specs.PrefixEntries.{continued, continued_by, prefixed}
-use Rattle.phrases.specs.PrefixEntryLaws.{Rising-first, first_follows, most_suffix_positions, prefixed-cut}
+use Rattle.phrases.specs.PrefixEntryLaws.{Rising-first, most_suffix_positions, prefixed-cut}
 use Rattle.phrases.specs.MergeLaws.{ascends-from}
 
 -- the positions on which a cursor of one term stands ascend
