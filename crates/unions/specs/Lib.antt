@@ -4,6 +4,8 @@ pub mod UnitingLaws
 pub mod UnitedRoom
 pub mod Windows
 pub mod WindowLaws
+pub mod Clearings
+pub mod ClearedWords
 pub mod Fillings
 pub mod Choices
 pub mod Together

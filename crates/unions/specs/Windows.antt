@@ -1,5 +1,6 @@
 -- A window over the documents to come: a flag and a combiner for each of so many documents from a start on.
-use Rattle.std.specs.Prelude.{[], Bool, List, ◌++◌, ◌+◌, ◌-◌, ◌<◌, ◌||◌, ◌≡◌, ◌≤◌, false, if◌then◌else◌, length, map, min, nat_le, slice_index_or, sum, ℕ}
+use Rattle.std.specs.Prelude.{[], Bool, List, ◌%◌, ◌*◌, ◌++◌, ◌+◌, ◌-◌, ◌/◌, ◌<◌, ◌^◌, ◌||◌, ◌≡◌, ◌≢◌, ◌≤◌, false, if◌then◌else◌, length, map, min, nat_le, slice_index_or, sum, true, ℕ}
+use Rattle.std.specs.Int.{bit_at}
 use Rattle.definitions.specs.Postings.{terminated}
 use Rattle.definitions.specs.Scoring.{max_score}
 use Rattle.cursors.specs.Entries.{Entry, first, from}
@@ -64,3 +65,40 @@ pub record IsFilling {C : Type 0} (answer : C → List ℕ → ℕ) (total : C �
   pub fits : (d : ℕ) → least ess ≤ d → d < terminated → sum (scores_in (entries_at d ess)) ≤ max_score
   pub rest : ess_then ≡ map (from high) ess
   pub moved : Moves answer total fresh next high cleared slots (λ d. entries_at d ess) flags slots_then (λ d. [])
+
+-- a slot without a flag holds nothing, and no place below this one has a flag
+pub record IsCleared {C : Type 0} (answer : C → List ℕ → ℕ) (total : C → ℕ) (flags : List Bool) (slots : List C) (fresh : C) (n : ℕ) : Type 0 where
+  pub totals : (k : ℕ) → slice_index_or flags k false ≡ false → total (slice_index_or slots k fresh) ≡ total fresh
+  pub answers : (k : ℕ) (xs : List ℕ) → slice_index_or flags k false ≡ false → answer (slice_index_or slots k fresh) xs ≡ answer fresh xs
+  pub passed : (k : ℕ) → k < n → slice_index_or flags k false ≡ false
+
+-- flags and slots that are from a place on what others are
+pub record IsSameFrom {C : Type 0} (fresh : C) (n : ℕ) (flags : List Bool) (slots : List C) (flags_then : List Bool) (slots_then : List C) : Type 0 where
+  pub flags_fit : length flags_then ≡ length flags
+  pub slots_fit : length slots_then ≡ length slots
+  pub flag : (k : ℕ) → n ≤ k → slice_index_or flags_then k false ≡ slice_index_or flags k false
+  pub slot : (k : ℕ) → n ≤ k → slice_index_or slots_then k fresh ≡ slice_index_or slots k fresh
+
+-- flags of a word that were taken out below a limit, and their bits
+pub record IsTaken (at limit : ℕ) (flags flags_then : List Bool) (bits : ℕ) : Type 0 where
+  pub long : length flags_then ≡ length flags
+  pub past : (k : ℕ) → limit ≤ k → slice_index_or flags_then k false ≡ slice_index_or flags k false
+  pub others : (k : ℕ) → k / 64 ≢ at → slice_index_or flags_then k false ≡ slice_index_or flags k false
+  pub off : (k : ℕ) → k / 64 ≡ at → k < limit → slice_index_or flags_then k false ≡ false
+  pub none : (k : ℕ) → k / 64 ≡ at → bit_at bits (k % 64) ≡ 0 → k < limit → slice_index_or flags k false ≡ false
+  pub below : (j : ℕ) → bit_at bits j ≡ 1 → 64 * at + j < limit
+
+-- slots of such a word of which these are left to clear
+pub record IsClearing {C : Type 0} (answer : C → List ℕ → ℕ) (total : C → ℕ) (fresh : C) (at limit : ℕ) (flags : List Bool) (slots : List C) (slots_then : List C) (left : ℕ) : Type 0 where
+  pub small : left < 2 ^ 64
+  pub long : length slots_then ≡ length slots
+  pub past : (k : ℕ) → limit ≤ k → slice_index_or slots_then k fresh ≡ slice_index_or slots k fresh
+  pub below : (j : ℕ) → bit_at left j ≡ 1 → 64 * at + j < limit
+  pub totals : (k : ℕ) → slice_index_or flags k false ≡ false → (k / 64 ≡ at → bit_at left (k % 64) ≡ 0) → total (slice_index_or slots_then k fresh) ≡ total fresh
+  pub answers : (k : ℕ) (xs : List ℕ) → slice_index_or flags k false ≡ false → (k / 64 ≡ at → bit_at left (k % 64) ≡ 0) → answer (slice_index_or slots_then k fresh) xs ≡ answer fresh xs
+
+-- the least number of a word that is in, where none of an earlier word is
+pub record IsLowest (at : ℕ) (flags : List Bool) (el : ℕ) : Type 0 where
+  pub place : el / 64 ≡ at
+  pub on : slice_index_or flags el false ≡ true
+  pub lowest : (k : ℕ) → k < el → slice_index_or flags k false ≡ false

@@ -1,15 +1,18 @@
 //! The union of scorers, which looks ahead in a window of documents.
 
-ghost use Rattle.std.specs.Prelude.{◌+◌, ◌<◌, ◌≡◌, ◌≤◌, IfOk, length, map, sum, ℕ};
+ghost use Rattle.std.specs.Prelude.{◌+◌, ◌-◌, ◌/◌, ◌<◌, ◌≡◌, ◌≤◌, IfOk, IfSome, false, length, map, slice_index_or, sum, ℕ};
+ghost use Rattle.common.specs.BitSets.{IsFirst};
 ghost use Rattle.cursors.specs.Entries.{first};
 ghost use Rattle.definitions.specs.Postings.{terminated};
 ghost use Rattle.definitions.specs.Scoring.{max_score};
 ghost use Rattle.members.specs.Members.{at_least, combining, entries_at, greatest_sum, least, scores_in};
+ghost use Rattle.unions.specs.Clearings.{IsCleared-prop, IsPlaced-prop};
 ghost use Rattle.unions.specs.Fillings.{IsStanding-prop};
-ghost use Rattle.unions.specs.Windows.{IsStanding, IsWindow, windowed};
+ghost use Rattle.unions.specs.Windows.{IsCleared, IsStanding, IsWindow, windowed};
 
-use crate::window::{HORIZON, collect_all, slot_of};
-use common::{BitSet, DocId, Score, TERMINATED};
+use crate::window::{HORIZON, clear_below, collect_all, fresh_slots};
+use crate::window_bits::WindowBits;
+use common::{DocId, Score, TERMINATED};
 use cursors::DocSet;
 use leaf_scorers::{ScoreCombiner, Scorer};
 use members::{least_of, move_all};
@@ -20,92 +23,109 @@ use std::alloc::{AllocError, Global};
 pub struct BufferedUnionScorer<S: Scorer, C: ScoreCombiner> {
     docsets: Vec<S>,
     fresh: C,
-    present: BitSet,
+    present: WindowBits,
     slots: Vec<C>,
     start: DocId,
     doc: DocId,
+    bucket: u32,
     num_docs: u32,
     ghost standing: { IsStanding C.answer C.total present slots.items fresh start (map S.entries docsets.items) doc } by { IsStanding-prop C.answer C.total present slots.items fresh start (map S.entries docsets.items) doc },
+    ghost cleared: { IsCleared C.answer C.total present slots.items fresh (doc - start) } by { IsCleared-prop C.answer C.total present slots.items fresh (doc - start) },
+    ghost bucketed: { doc < terminated → bucket ≡ (doc - start) / 64 } by { IsPlaced-prop doc start bucket },
 }
 
 /// Fills the window from the least document on, and answers that; the end where there is none.
 fn refill<S: Scorer, C: ScoreCombiner>(
     docsets: &mut Vec<S>,
     fresh: C,
-    present: &mut BitSet,
+    present: &mut WindowBits,
     slots: &mut Vec<C>,
 ) -> DocId
     requires flags { length present.old ≡ 4096 }
     requires slots { length slots.old.items ≡ 4096 }
     requires unused { C.total fresh ≡ 0 }
+    requires cleared { IsCleared C.answer C.total present.old slots.old.items fresh 4096 }
     requires fits { (d : ℕ) → least (map S.entries docsets.old.items) ≤ d → d < terminated
         → sum (scores_in (entries_at d (map S.entries docsets.old.items))) ≤ max_score }
     ensures same { windowed C.answer present.new slots.new.items fresh result (map S.entries docsets.new.items) result
         ≡ at_least 1 (combining (C.answer fresh)) (map S.entries docsets.old.items) }
     ensures standing { IsStanding C.answer C.total present.new slots.new.items fresh result
         (map S.entries docsets.new.items) result }
+    ensures cleared { IsCleared C.answer C.total present.new slots.new.items fresh (result - result) }
 {
     let next = least_of(docsets);
     if next == TERMINATED {
         return TERMINATED;
     }
     let high = (next + HORIZON).min(TERMINATED);
-    present.clear();
     collect_all(docsets, next, high, fresh, present, slots);
     next
 }
 
-/// Goes on to the first document that isn't below a number, and answers where the window then starts, and
-/// the document.
+/// Goes on to the first document that isn't below a number, which is where the first flag is, and answers where the
+/// window then starts, the document, and the word of its flag.
 #[inline]
 fn settle<S: Scorer, C: ScoreCombiner>(
     docsets: &mut Vec<S>,
     fresh: C,
-    present: &mut BitSet,
+    present: &mut WindowBits,
     slots: &mut Vec<C>,
+    found: Option<DocId>,
     start: DocId,
     low: DocId,
-) -> (DocId, DocId)
+) -> (DocId, DocId, u32)
     requires window { IsWindow C.total present.old slots.old.items fresh start (map S.entries docsets.old.items) }
     requires begun { start ≤ low }
     requires small { low ≤ terminated }
     requires ahead { low ≤ least (map S.entries docsets.old.items) }
+    requires cleared { IsCleared C.answer C.total present.old slots.old.items fresh (low - start) }
+    requires found { IsFirst (λ k. slice_index_or present.old k false) 0 found }
+    requires within { IfSome found (λ k. k < 4096) }
     ensures same { windowed C.answer present.new slots.new.items fresh result.0
         (map S.entries docsets.new.items) result.1
         ≡ windowed C.answer present.old slots.old.items fresh start (map S.entries docsets.old.items) low }
     ensures standing { IsStanding C.answer C.total present.new slots.new.items fresh result.0
         (map S.entries docsets.new.items) result.1 }
+    ensures cleared { IsCleared C.answer C.total present.new slots.new.items fresh (result.1 - result.0) }
+    ensures bucket { result.1 < terminated → result.2 ≡ (result.1 - result.0) / 64 }
 {
-    if let Some(k) = present.first_from(low - start) {
-        return (start, (start + k).min(TERMINATED));
+    if let Some(k) = found {
+        return (start, (start + k).min(TERMINATED), k / 64);
     }
     let next = refill(docsets, fresh, present, slots);
-    (next, next)
+    (next, next, 0)
 }
 
-/// Goes on to the first document that isn't below a target, which may be past the window.
+/// Goes on to the first document that isn't below a target, which may be past the window; the window has no
+/// document below the first number.
 fn settle_at<S: Scorer, C: ScoreCombiner>(
     docsets: &mut Vec<S>,
     fresh: C,
-    present: &mut BitSet,
+    present: &mut WindowBits,
     slots: &mut Vec<C>,
     start: DocId,
+    first: DocId,
     target: DocId,
-) -> (DocId, DocId)
+) -> (DocId, DocId, u32)
     requires window { IsWindow C.total present.old slots.old.items fresh start (map S.entries docsets.old.items) }
     requires begun { start ≤ target }
     requires small { target ≤ terminated }
+    requires cleared { IsCleared C.answer C.total present.old slots.old.items fresh first }
     ensures same { windowed C.answer present.new slots.new.items fresh result.0
         (map S.entries docsets.new.items) result.1
         ≡ windowed C.answer present.old slots.old.items fresh start (map S.entries docsets.old.items) target }
     ensures standing { IsStanding C.answer C.total present.new slots.new.items fresh result.0
         (map S.entries docsets.new.items) result.1 }
+    ensures cleared { IsCleared C.answer C.total present.new slots.new.items fresh (result.1 - result.0) }
+    ensures bucket { result.1 < terminated → result.2 ≡ (result.1 - result.0) / 64 }
 {
+    clear_below(present, slots, fresh, first, target - start);
+    let found = present.first_from(target - start);
     if target - start < HORIZON {
-        return settle(docsets, fresh, present, slots, start, target);
+        return settle(docsets, fresh, present, slots, found, start, target);
     }
     move_all(docsets, target);
-    settle(docsets, fresh, present, slots, start, target)
+    settle(docsets, fresh, present, slots, found, start, target)
 }
 
 impl<S: Scorer + Drop, C: ScoreCombiner> BufferedUnionScorer<S, C> {
@@ -123,8 +143,8 @@ impl<S: Scorer + Drop, C: ScoreCombiner> BufferedUnionScorer<S, C> {
         let mut docsets = docsets;
         let mut fresh = combiner;
         fresh.clear();
-        let mut present = BitSet::with_max_value(alloc, HORIZON)?;
-        let mut slots = vec![in alloc; fresh; 4096]?;
+        let mut present = WindowBits::new(alloc)?;
+        let mut slots = fresh_slots(alloc, fresh)?;
         let doc = refill(&mut docsets, fresh, &mut present, &mut slots);
         Ok(BufferedUnionScorer {
             docsets,
@@ -133,6 +153,7 @@ impl<S: Scorer + Drop, C: ScoreCombiner> BufferedUnionScorer<S, C> {
             slots,
             start: doc,
             doc,
+            bucket: 0,
             num_docs,
         })
     }
@@ -148,30 +169,37 @@ impl<S: Scorer, C: ScoreCombiner> DocSet for BufferedUnionScorer<S, C> {
         if self.doc == TERMINATED {
             return TERMINATED;
         }
-        let (start, doc) = settle(
+        let k = self.doc - self.start;
+        self.slots[k as usize] = self.fresh;
+        let found = self.present.next_after(self.bucket);
+        let (start, doc, bucket) = settle(
             &mut self.docsets,
             self.fresh,
             &mut self.present,
             &mut self.slots,
+            found,
             self.start,
             self.doc + 1,
         );
         self.start = start;
         self.doc = doc;
+        self.bucket = bucket;
         doc
     }
 
     fn seek(&mut self, target: DocId) -> DocId {
-        let (start, doc) = settle_at(
+        let (start, doc, bucket) = settle_at(
             &mut self.docsets,
             self.fresh,
             &mut self.present,
             &mut self.slots,
             self.start,
+            self.doc - self.start,
             target,
         );
         self.start = start;
         self.doc = doc;
+        self.bucket = bucket;
         doc
     }
 
@@ -190,12 +218,6 @@ impl<S: Scorer, C: ScoreCombiner> DocSet for BufferedUnionScorer<S, C> {
 impl<S: Scorer, C: ScoreCombiner> Scorer for BufferedUnionScorer<S, C> {
     #[inline]
     fn score(&mut self) -> Score {
-        slot_of(
-            &self.present,
-            &self.slots,
-            self.fresh,
-            self.doc - self.start,
-        )
-        .score()
+        self.slots[(self.doc - self.start) as usize].score()
     }
 }

@@ -9,6 +9,7 @@ mod scorer_wrapper;
 mod simple_union;
 mod united_positions;
 mod window;
+mod window_bits;
 
 pub use bit_set_posting_union::BitSetPostingUnion;
 pub use buffered_union::BufferedUnionScorer;

@@ -1,7 +1,6 @@
-use Rattle.std.proofs.Common.{ap, arith, false, length, map, replicate, slice_index_or, ◌∙◌, ◌≡◌, ◌<◌, ℕ}
-use Rattle.std.proofs.lemmas.List.{get_or-replicate, get_or_past, length-replicate}
+use Rattle.std.proofs.Common.{ap, arith, length, map, ◌<◌, ◌-◌}
 use Rattle.definitions.specs.Postings.{terminated}
-use Rattle.leaf_scorers.specs.ScoredEntryLaws.{by_place}
+use Rattle.unions.specs.Clearings.{cleared-to, none-set}
 use Rattle.unions.specs.Fillings.{ended, filled}
 use Rattle.members.specs.Members.{least, entries_at}
 use Rattle.members.specs.MemberLaws.{has-least, least-small, entries-least}
@@ -31,13 +30,8 @@ overflow_add-next g c =
     let small = least-small g.S.DocSet.entries g.met.S.DocSet.rising c.args.docsets.now.items in
     omega (arith, at, small)
 
-none-in : (n k : ℕ) → slice_index_or (replicate n false) k false ≡ false
-none-in n k = by_place n k (slice_index_or (replicate n false) k false ≡ false)
-    (λ i. get_or_past (replicate n false) k false (let long = length-replicate n false in omega (arith, long, i)))
-    (λ o. get_or-replicate n k false false o)
-
 -- the window is filled anew
-filling : (g : Over) (c : After-collect_all g) → IsFilling g.C.ScoreCombiner.answer g.C.ScoreCombiner.total c.args.fresh c.least_of-next.result c.min-high.result c.clear.new.self c.args.slots.now.items (map g.S.DocSet.entries c.args.docsets.now.items) c.collect_all.new.present c.collect_all.new.slots.items (map g.S.DocSet.entries c.collect_all.new.docsets.items)
+filling : (g : Over) (c : After-collect_all g) → IsFilling g.C.ScoreCombiner.answer g.C.ScoreCombiner.total c.args.fresh c.least_of-next.result c.min-high.result c.args.present.now c.args.slots.now.items (map g.S.DocSet.entries c.args.docsets.now.items) c.collect_all.new.present c.collect_all.new.slots.items (map g.S.DocSet.entries c.collect_all.new.docsets.items)
 filling g c =
     let entries = g.S.DocSet.entries in
     let items = c.args.docsets.now.items in
@@ -51,9 +45,9 @@ filling g c =
       high_is = c.min-high.ensures;
       none = λ d l. entries-least entries g.met.S.DocSet.rising d items l;
       some = (let has = has-least entries g.met.S.DocSet.rising items below in let same = ap (λ d. length (entries_at d (map entries items))) at in omega (arith, has, same));
-      flags_fit = ap length c.clear.ensures ∙ (length-replicate (length c.args.present.now) false ∙ c.requires.flags);
+      flags_fit = c.requires.flags;
       slots_fit = c.requires.slots;
-      clear = λ k. ap (λ flags. slice_index_or flags k false) c.clear.ensures ∙ none-in (length c.args.present.now) k;
+      clear = none-set c.args.present.now c.requires.flags c.requires.cleared.passed;
       unused = c.requires.unused;
       fits = c.requires.fits;
       rest = c.collect_all.ensures.rest;
@@ -61,7 +55,20 @@ filling g c =
     }
 
 pub returns-clause-same : goal.returns-clause-same
-returns-clause-same g c = (filled g.C.ScoreCombiner.answer g.C.ScoreCombiner.total c.args.fresh c.least_of-next.result c.min-high.result c.clear.new.self c.args.slots.now.items (map g.S.DocSet.entries c.args.docsets.now.items) c.collect_all.new.present c.collect_all.new.slots.items (map g.S.DocSet.entries c.collect_all.new.docsets.items) (filling g (goal.at.returns-clause-same g c).After-collect_all)).0
+returns-clause-same g c = (filled g.C.ScoreCombiner.answer g.C.ScoreCombiner.total c.args.fresh c.least_of-next.result c.min-high.result c.args.present.now c.args.slots.now.items (map g.S.DocSet.entries c.args.docsets.now.items) c.collect_all.new.present c.collect_all.new.slots.items (map g.S.DocSet.entries c.collect_all.new.docsets.items) (filling g (goal.at.returns-clause-same g c).After-collect_all)).0
 
 pub returns-clause-standing : goal.returns-clause-standing
-returns-clause-standing g c = (filled g.C.ScoreCombiner.answer g.C.ScoreCombiner.total c.args.fresh c.least_of-next.result c.min-high.result c.clear.new.self c.args.slots.now.items (map g.S.DocSet.entries c.args.docsets.now.items) c.collect_all.new.present c.collect_all.new.slots.items (map g.S.DocSet.entries c.collect_all.new.docsets.items) (filling g (goal.at.returns-clause-standing g c).After-collect_all)).1
+returns-clause-standing g c = (filled g.C.ScoreCombiner.answer g.C.ScoreCombiner.total c.args.fresh c.least_of-next.result c.min-high.result c.args.present.now c.args.slots.now.items (map g.S.DocSet.entries c.args.docsets.now.items) c.collect_all.new.present c.collect_all.new.slots.items (map g.S.DocSet.entries c.collect_all.new.docsets.items) (filling g (goal.at.returns-clause-standing g c).After-collect_all)).1
+
+pub returns-then-next-eq-TERMINATED-clause-cleared :
+    goal.returns-then-next-eq-TERMINATED-clause-cleared
+returns-then-next-eq-TERMINATED-clause-cleared g c =
+    cleared-to g.C.ScoreCombiner.answer g.C.ScoreCombiner.total c.args.present.now c.args.slots.now.items c.args.fresh 4096 (terminated - terminated) c.requires.cleared (λ k l. absurd (omega (arith, l)))
+
+pub collect_all-requires-clause-cleared : goal.collect_all-requires-clause-cleared
+collect_all-requires-clause-cleared g c =
+    cleared-to g.C.ScoreCombiner.answer g.C.ScoreCombiner.total c.args.present.now c.args.slots.now.items c.args.fresh 4096 0 c.requires.cleared (λ k l. absurd (omega (arith, l)))
+
+pub returns-clause-cleared : goal.returns-clause-cleared
+returns-clause-cleared g c =
+    cleared-to g.C.ScoreCombiner.answer g.C.ScoreCombiner.total c.collect_all.new.present c.collect_all.new.slots.items c.args.fresh 0 (c.least_of-next.result - c.least_of-next.result) c.collect_all.ensures.cleared (λ k l. absurd (omega (arith, l)))

@@ -65,6 +65,7 @@ loop-i-preserved g c =
           ∙ (ap (λ xs. set xs i (cut (get_or all i []))) inv.lists ∙ (changed-set cut i all [] (within g (goal.at.loop-i-preserved g c).After-index_mut) ∙ ap (λ n. map cut (take n all) ++ drop n all) (sym (add-one i)))));
       moved = Moves-on answer total c.args.fresh c.args.start c.args.horizon c.args.present.now c.args.slots.now.items (λ d. entries_at d all) c.loop-i.present c.loop-i.slots.items (λ d. entries_at d (drop i all)) c.collect.new.present c.collect.new.slots.items (λ d. entries_at d (drop (i + 1) all)) inv.moved
           (Moves-list answer total c.args.fresh c.args.start c.args.horizon c.loop-i.present c.loop-i.slots.items c.collect.new.present c.collect.new.slots.items (entries c.index_mut.result.now) (drop i all) (drop (i + 1) all) (next g (goal.at.loop-i-preserved g c).After-index_mut) c.collect.ensures.moved);
+      cleared = c.collect.ensures.cleared;
     }
 
 pub returns-clause-rest : goal.returns-clause-rest
