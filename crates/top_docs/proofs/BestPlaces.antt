@@ -39,6 +39,10 @@ living_places ord flags (e ∷ es) =
 pub best_placed : (k : ℕ) (items : List (ℕ × DocAddress)) → map place_at (best_items k items) ≡ best_places k (map place_at items)
 best_placed k items = sym (take-map place_at k (ranked (λ m. m.0) items)) ∙ ap (take k) (map-ranked place_at (λ m. m.0) (λ p. p.score) (λ item. refl) items)
 
+-- what is scored in a segment is so in what is equal to it
+pub scored_there : {sim : Similarity} {q : Query} {es : List Entry} (r s : SegmentReader) → r ≡ s → Scores sim 1 q r es → Scores sim 1 q s es
+scored_there {sim} {q} {es} r s same scores = subst (λ x. Scores sim 1 q x es) same scores
+
 -- what one segment adds
 pub collected : (schema : Schema) (analyze : Analyzer) (sim : Similarity) (q : Query) (r : SegmentReader) (rows : Segment) (es : List Entry) (ord k : ℕ) (old new : List (ℕ × DocAddress)) → HasRows schema analyze rows r → tree_fault schema sim.weight 1 q ≡ None → Scores sim 1 q r es → new ≡ best_items k (old ++ living_items ord (flags_in r) es) → map place_at new ≡ best_places k (map place_at old ++ places_in schema analyze sim q ord rows)
 collected schema analyze sim q r rows es ord k old new has passes scores is =

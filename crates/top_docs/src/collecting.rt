@@ -10,15 +10,67 @@ ghost use Rattle.top_docs.specs.Collected.{IsFound, living_items};
 ghost use Rattle.top_n_computer.specs.Best.{best_of, limit_of};
 ghost use Rattle.top_n_computer.specs.Reached.{best_items};
 
+use any_scorer::Leaf;
 use common::{DocId, TERMINATED};
-use leaf_scorers::Scorer;
+use cursors::DocSet;
+use leaf_scorers::{ListScorer, Scorer};
+use reader_scorers::AnyScorer;
 use searcher::DocAddress;
 use segment_reader::SegmentReader;
 use std::alloc::AllocError;
 use top_n_computer::TopNComputer;
 
+/// Gives the documents of a scorer of any kind that are alive, as those of a segment, with their scores: each kind in a
+/// walk of its own, so that the kind is looked at once and not for each document.
+pub(crate) fn collect_any<A: Scorer + Drop, T: Scorer + Drop, P: Scorer + Drop, X: Scorer + Drop>(
+    scorer: AnyScorer<A, T, P, X>,
+    reader: &SegmentReader<'_>,
+    segment_ord: u32,
+    top: &mut TopNComputer<DocAddress>,
+) -> Result<(), AllocError>
+    requires within { from (max_doc_of reader.now) (⟦<AnyScorer<A, T, P, X> as DocSet>⟧.entries scorer) ≡ [] }
+    ensures best { OnOk result (best_of top.new ≡ best_items (limit_of top.old) (best_of top.old
+        ++ living_items segment_ord (flags_in reader.now) (⟦<AnyScorer<A, T, P, X> as DocSet>⟧.entries scorer))) }
+    ensures found { (n : ℕ) → segment_ord < n → AllByRecursion (IsFound n) (best_of top.old)
+        → OnOk result (AllByRecursion (IsFound n) (best_of top.new)) }
+    ensures limit { limit_of top.new ≡ limit_of top.old }
+{
+    match scorer {
+        AnyScorer::Leaf(scorer) => collect_leaf(scorer, reader, segment_ord, top),
+        AnyScorer::ConstAll(scorer) => collect_living(scorer, reader, segment_ord, top),
+        AnyScorer::ConstTerm(scorer) => collect_living(scorer, reader, segment_ord, top),
+        AnyScorer::ConstPhrase(scorer) => collect_living(scorer, reader, segment_ord, top),
+        AnyScorer::ConstPhrasePrefix(scorer) => collect_living(scorer, reader, segment_ord, top),
+    }
+}
+
+/// The same of a scorer of a query that holds no other, or of a list.
+fn collect_leaf<A: Scorer + Drop, T: Scorer + Drop, P: Scorer + Drop, X: Scorer + Drop>(
+    scorer: Leaf<A, T, P, X, ListScorer>,
+    reader: &SegmentReader<'_>,
+    segment_ord: u32,
+    top: &mut TopNComputer<DocAddress>,
+) -> Result<(), AllocError>
+    requires within { from (max_doc_of reader.now)
+        (⟦<Leaf<A, T, P, X, ListScorer> as DocSet>⟧.entries scorer) ≡ [] }
+    ensures best { OnOk result (best_of top.new ≡ best_items (limit_of top.old) (best_of top.old
+        ++ living_items segment_ord (flags_in reader.now)
+        (⟦<Leaf<A, T, P, X, ListScorer> as DocSet>⟧.entries scorer))) }
+    ensures found { (n : ℕ) → segment_ord < n → AllByRecursion (IsFound n) (best_of top.old)
+        → OnOk result (AllByRecursion (IsFound n) (best_of top.new)) }
+    ensures limit { limit_of top.new ≡ limit_of top.old }
+{
+    match scorer {
+        Leaf::All(scorer) => collect_living(scorer, reader, segment_ord, top),
+        Leaf::Term(scorer) => collect_living(scorer, reader, segment_ord, top),
+        Leaf::Phrase(scorer) => collect_living(scorer, reader, segment_ord, top),
+        Leaf::PhrasePrefix(scorer) => collect_living(scorer, reader, segment_ord, top),
+        Leaf::List(scorer) => collect_living(scorer, reader, segment_ord, top),
+    }
+}
+
 /// Gives the documents that remain and are alive, as those of a segment, with their scores.
-pub(crate) fn collect_living<S: Scorer + Drop>(
+fn collect_living<S: Scorer + Drop>(
     scorer: S,
     reader: &SegmentReader<'_>,
     segment_ord: u32,

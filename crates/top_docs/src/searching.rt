@@ -7,20 +7,21 @@ ghost use Rattle.definitions.specs.Analyzers.{Analyzer};
 ghost use Rattle.definitions.specs.Refusing.{tree_fault};
 ghost use Rattle.definitions.specs.Schema.{Schema};
 ghost use Rattle.query_trees.specs.Queries.{query_of};
+ghost use Rattle.reader_scorers.specs.Scored.{segment_scored, weights_of};
 ghost use Rattle.scorer_answers.specs.Rows.{HasRows};
 ghost use Rattle.segment_lists.specs.Found.{places_from, places_in};
 ghost use Rattle.top_docs.specs.Collected.{IsFound, best_places, place_at};
 ghost use Rattle.top_n_computer.specs.Best.{best_of, limit_of};
 ghost use Rattle.tree_scorers.specs.Accepted.{IsAccepted};
 
-use crate::collecting::collect_living;
+use crate::collecting::collect_any;
 use query_trees::AnyQuery;
 use reader_scorers::{LeafWeights, ReaderScorers};
 use searcher::DocAddress;
 use segment_reader::SegmentReader;
 use std::alloc::{AllocError, Global};
 use top_n_computer::TopNComputer;
-use tree_scorers::{SegmentScorers, scorer_of};
+use tree_scorers::scorer_of;
 
 /// The best living documents of segments that match a query, so many at most, each with its score: by score, and then
 /// by segment and number.
@@ -49,25 +50,26 @@ pub fn top_docs<'a, W: LeafWeights<'a>>(
 }
 
 /// Gives what keeps the best the living documents of one segment that match.
-fn collect_segment<F: SegmentScorers>(
+fn collect_segment<'a, W: LeafWeights<'a>>(
     alloc: Global,
-    scorers: &F,
+    scorers: &ReaderScorers<'_, 'a, W>,
     reader: &SegmentReader<'_>,
     query: &AnyQuery,
     segment_ord: u32,
     top: &mut TopNComputer<DocAddress>,
 ) -> Result<(), AllocError>
-    requires segment { F.segment scorers.now ≡ reader.now }
-    requires accepted { IsAccepted (F.similarity scorers.now).weight 1 (query_of query.now) }
+    requires segment { segment_scored scorers.now ≡ reader.now }
+    requires accepted { IsAccepted (W.similarity (weights_of scorers.now)).weight 1 (query_of query.now) }
     ensures best { (schema : Schema) (analyze : Analyzer) (rows : Segment)
         → HasRows schema analyze rows reader.now
-        → tree_fault schema (F.similarity scorers.now).weight 1 (query_of query.now) ≡ None
+        → tree_fault schema (W.similarity (weights_of scorers.now)).weight 1 (query_of query.now) ≡ None
         → OnOk result (map place_at (best_of top.new) ≡ best_places (limit_of top.old) (map place_at (best_of top.old)
-        ++ places_in schema analyze (F.similarity scorers.now) (query_of query.now) segment_ord rows)) }
+        ++ places_in schema analyze (W.similarity (weights_of scorers.now)) (query_of query.now) segment_ord
+        rows)) }
     ensures found { (n : ℕ) → segment_ord < n → AllByRecursion (IsFound n) (best_of top.old)
         → OnOk result (AllByRecursion (IsFound n) (best_of top.new)) }
     ensures limit { limit_of top.new ≡ limit_of top.old }
 {
     let scorer = scorer_of(alloc, scorers, query, 1)?;
-    collect_living(scorer, reader, segment_ord, top)
+    collect_any(scorer, reader, segment_ord, top)
 }

@@ -12,8 +12,8 @@ use Rattle.tree_scorers.specs.Accepted.{IsAccepted}
 use Rattle.top_docs.proofs.searching.top_docs.Goals as goal
 
 -- src/searching.rt:46:9
-pub collect_segment-requires-clause-accepted : goal.collect_segment-requires-clause-accepted
-collect_segment-requires-clause-accepted g c = subst (λ w. IsAccepted (g.W.LeafWeights.similarity w).weight 1 (query_of c.args.query.now)) (sym c.new-scorers.ensures.weights) c.requires.accepted
+pub collect_segment-requires : goal.collect_segment-requires
+collect_segment-requires g c = λ k. ((refl, record {}), (c.new-scorers.ensures.segment, subst (λ w. IsAccepted (g.W.LeafWeights.similarity w).weight 1 (query_of c.args.query.now)) (sym c.new-scorers.ensures.weights) c.requires.accepted))
 
 -- src/searching.rt:44:5
 pub loop-segment_ord-preserved : goal.loop-segment_ord-preserved
