@@ -1,5 +1,5 @@
 -- Terms in ascending order: where a key stands among them.
-use Rattle.std.proofs.Common.{[], Bool, List, None, Option, Some, ap, arith, false, find, get_or, if◌then◌else◌, length, map, refl, suc, sym, true, true≢false, zero, ◌+◌, ◌<◌, ◌≡◌, ◌≤◌, ◌∙◌, ◌∷◌, ℕ}
+use Rattle.std.proofs.Common.{[], Bool, List, None, Option, Some, ap, arith, false, find, get_or, if◌then◌else◌, length, map, refl, suc, sym, true, true≢false, zero, ◌+◌, ◌-◌, ◌<◌, ◌≡◌, ◌≤◌, ◌∙◌, ◌∷◌, ℕ}
 use Rattle.std.proofs.Math.Logic.{∥∥₁_elim}
 use Rattle.std.proofs.Props.{props}
 use Rattle.std.proofs.lemmas.List.{length-map}
@@ -151,3 +151,21 @@ InfoFits-prop info = hlevel props
 -- the numbers of a term fit
 pub fits_at : (bs : List ℕ) (starts : List TermStart) (n : ℕ) (d : TermStart) → ∥ IsDictionary (terms_at bs starts) ∥₁ → n < length starts → InfoFits (term_at bs (get_or starts n d)).1
 fits_at bs starts n d dictionary within = ∥∥₁_elim dictionary (InfoFits-prop (term_at bs (get_or starts n d)).1) (λ known. all_at (λ (t : Placed). InfoFits t.1) (term_at bs) starts n d known.fit within)
+
+-- which start stands at a place doesn't hang on what would stand there if none did
+pub any_start : (starts : List TermStart) (i : ℕ) (d e : TermStart) → i < length starts → get_or starts i d ≡ get_or starts i e
+any_start [] i d e within = absurd (omega (arith, within))
+any_start (s ∷ starts) zero d e within = refl
+any_start (s ∷ starts) (suc i) d e within = any_start starts i d e (omega (arith, within))
+
+-- a place at which a term isn't below a key, or none is, and before which one is, if any, is how many are below it
+pub point_there : (key bs : List ℕ) (starts : List TermStart) (n : ℕ) → IsDictionary (terms_at bs starts) → n ≤ length starts → (0 < n → (d : TermStart) → is_below key (entry_at bs (get_or starts (n - 1) d).entry).0 ≡ true) → (n < length starts → (d : TermStart) → is_below key (entry_at bs (get_or starts n d).entry).0 ≡ false) → n ≡ prefix_len (λ (t : Placed). is_below key t.0) (terms_at bs starts)
+point_there key bs starts n dictionary bound before from =
+    place_there key bs starts n bound (
+      (λ k d low high. below_parts key bs starts dictionary k (n - 1) d (omega (arith, high)) (omega (arith, high, bound)) (before (omega (arith, high)) d)),
+      (λ k d low high. past (is_below key (entry_at bs (get_or starts k d).entry).0) k d low high refl),
+    )
+  where
+    past : (b : Bool) (k : ℕ) (d : TermStart) → n ≤ k → k < length starts → is_below key (entry_at bs (get_or starts k d).entry).0 ≡ b → is_below key (entry_at bs (get_or starts k d).entry).0 ≡ false
+    past false k d low high h = h
+    past true k d low high h = absurd (true≢false (sym (below_parts key bs starts dictionary n k d low high h) ∙ from (omega (arith, low, high)) d))

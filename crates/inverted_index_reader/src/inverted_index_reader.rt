@@ -153,8 +153,10 @@ impl InvertedIndexReader {
         ensures ok { (contents : Contents self.now) → result ≡ dictionary_of 0 0 field contents.fields }
     {
         match self.index_of(field) {
-            Some(index) => TermDictionary::new(self.terms.as_slice(), &index.starts),
-            None => TermDictionary::new(&[], &[]),
+            Some(index) => {
+                TermDictionary::new(self.terms.as_slice(), &index.starts, &index.prefixes)
+            }
+            None => TermDictionary::new(&[], &[], &[]),
         }
     }
 

@@ -8,6 +8,7 @@ mod field_lookup;
 mod field_read;
 mod indexes_read;
 mod inverted_index_reader;
+mod key_prefix;
 pub mod laws;
 mod opened_term;
 mod section_bytes;

@@ -9,6 +9,7 @@ ghost use Rattle.inverted_index_reader.specs.ToldFields.{AreTold};
 use crate::field_index::FieldIndex;
 use crate::field_kind::FieldKind;
 use crate::field_read::take_field;
+use crate::key_prefix::prefixes_of;
 use crate::term_start::TermStart;
 use crate::terms_read::SectionLengths;
 use definitions::Fault;
@@ -36,10 +37,12 @@ pub(crate) fn take_fields(
     let mut told = Vec::new(alloc);
     for kind in kinds {
         let (num_tokens, starts, end) = take_field(alloc, section, place, lengths, kind.field)?;
+        let prefixes = prefixes_of(alloc, section, &starts)?;
         told.push(FieldIndex {
             kind: *kind,
             num_tokens,
             starts,
+            prefixes,
         })?;
         place = end;
     }

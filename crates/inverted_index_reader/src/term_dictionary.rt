@@ -1,11 +1,12 @@
 //! The terms of a field.
 
-ghost use Rattle.std.specs.Prelude.{◌-◌, ◌≡◌, ◌≤◌, IfOk, bytes_eq, drop, find, length, option_map, take};
+ghost use Rattle.std.specs.Prelude.{◌-◌, ◌≡◌, ◌≤◌, IfOk, IsTrue, bytes_eq, drop, find, length, option_map, take};
 ghost use Rattle.std.specs.List.{prefix_len};
 ghost use Rattle.inverted_index_reader.specs.Dictionaries.{InfoFits, IsDictionary, ahead, info_from, terms_at};
 ghost use Rattle.inverted_index_reader.specs.Searching.{between, is_before, is_below};
 ghost use Rattle.inverted_index_reader.specs.TakenTerms.{entry_of, key_at};
 
+use crate::key_prefix::prefix_of;
 use crate::term_entry::{TermEntry, entry_at, key_at};
 use crate::term_info::TermInfo;
 use crate::term_range::TermRange;
@@ -13,11 +14,13 @@ use crate::term_start::TermStart;
 use std::alloc::{AllocError, Global};
 use std::marker::Model;
 
-/// The terms of a field by their value bytes, in ascending order, lent from the section of terms.
+/// The terms of a field by their value bytes, in ascending order, lent from the section of terms. Where a key stands is
+/// looked up among the terms' first bytes, and then checked: no answer rests on these.
 #[derive(Drop)]
 pub struct TermDictionary<'a> {
     section: &'a [u8],
     starts: &'a [TermStart],
+    prefixes: &'a [u64],
 }
 
 impl<'a> Model for TermDictionary<'a> {
@@ -32,12 +35,20 @@ impl<'a> Model for TermDictionary<'a> {
 }
 
 impl<'a> TermDictionary<'a> {
-    /// The terms that begin at these places of the section of terms.
-    pub(crate) fn new(section: &'a [u8], starts: &'a [TermStart]) -> TermDictionary<'a>
+    /// The terms that begin at these places of the section of terms, with the prefixes of their keys.
+    pub(crate) fn new(
+        section: &'a [u8],
+        starts: &'a [TermStart],
+        prefixes: &'a [u64],
+    ) -> TermDictionary<'a>
         requires { ∥ IsDictionary (terms_at section.now starts.now) ∥₁ }
         ensures { result ≡ terms_at section.now starts.now }
     {
-        TermDictionary { section, starts }
+        TermDictionary {
+            section,
+            starts,
+            prefixes,
+        }
     }
 
     /// How many terms there are.
@@ -63,8 +74,33 @@ impl<'a> TermDictionary<'a> {
     pub(crate) fn first_from(&self, key: &[u8]) -> usize
         ensures { result ≡ prefix_len (λ t. is_below key.now t.0) self.now }
     {
+        let place = self.place_by_prefix(key);
+        if self.is_first_from(place, key) {
+            return place;
+        }
         self.starts
             .partition_point(|start| is_below(self.section, start.entry, key))
+    }
+
+    /// Where prefixes say that these value bytes stand, or would stand; keys are read only among equal prefixes.
+    fn place_by_prefix(&self, key: &[u8]) -> usize {
+        let prefix = prefix_of(key);
+        let first = self.prefixes.partition_point(|other| *other < prefix);
+        let last = self.prefixes.partition_point(|other| *other <= prefix);
+        let Some(equal) = self.starts.get(first..last) else {
+            return first;
+        };
+        first + equal.partition_point(|start| is_below(self.section, start.entry, key))
+    }
+
+    /// Whether the term of a number isn't below these value bytes, or there is none of it, and the one before is.
+    fn is_first_from(&self, place: usize, key: &[u8]) -> bool
+        ensures { IsTrue result → place ≡ prefix_len (λ t. is_below key.now t.0) self.now }
+    {
+        place <= self.starts.len()
+            && (place == 0 || is_below(self.section, self.starts[place - 1].entry, key))
+            && (place == self.starts.len()
+                || !is_below(self.section, self.starts[place].entry, key))
     }
 
     /// The number of the first term that doesn't stand before an end, if there is one.
