@@ -12,9 +12,9 @@ use Rattle.definitions.specs.Scoring.{DontFall}
 use Rattle.layouts.specs.InvertedIndexes.{HasPositions, IsPosting, IsTerm}
 use Rattle.layouts.specs.Positions.{ArePositions, differences, position_numbers}
 use Rattle.layouts.specs.TermPostings.{AreTermPostings}
-use Rattle.segment_postings.proofs.PositionLists.{length-places}
+use Rattle.positions.proofs.AppendedPlaces.{length-places}
 use Rattle.segment_postings.specs.Reading.{HasPostings}
-use Rattle.segment_postings.specs.TermEntries.{places}
+use Rattle.positions.specs.Places.{places}
 
 -- ---- positions of one document
 

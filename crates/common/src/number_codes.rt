@@ -8,6 +8,7 @@ ghost use Rattle.definitions.specs.NumberCodes.{sized_bytes, take_bytes, take_te
 ghost use Rattle.definitions.specs.declared.fault.Fault.TheVariants as faults;
 
 use definitions::Fault;
+use simdutf8::from_utf8_baseline;
 use std::alloc::AllocError;
 
 /// Appends a number in as few bytes of seven bits as it takes, the lowest first.
@@ -106,7 +107,7 @@ pub fn take_text(bytes: &[u8]) -> Result<(&str, &[u8]), Fault>
     ensures err { IfErr result (λ fault. (fault ≡ faults.Damaged None) × (take_text bytes.now ≡ None)) }
 {
     let (text, rest) = take_bytes(bytes)?;
-    match str::from_utf8(text) {
+    match from_utf8_baseline(text) {
         Ok(text) => Ok((text, rest)),
         Err(_) => Err(Fault::Damaged(None)),
     }

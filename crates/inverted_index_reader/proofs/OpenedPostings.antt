@@ -13,7 +13,8 @@ use Rattle.layouts.specs.TermPostings.{skip_entries}
 use Rattle.cursors.specs.Entries.{Entry, from, highest}
 use Rattle.cursors.specs.EntryLaws.{from-out}
 use Rattle.segment_postings.specs.Reading.{HasPostings}
-use Rattle.segment_postings.specs.TermEntries.{HasPositions, IsPlaced, entries_of, places, term_entries}
+use Rattle.positions.specs.Places.{places}
+use Rattle.segment_postings.specs.TermEntries.{HasPositions, IsPlaced, entries_of, term_entries}
 use Rattle.inverted_index_reader.specs.OpenedTerms.{HasTerm, entries_of_postings, entry_as, positions_asked}
 
 abbrev docs_in : List Posting → List ℕ

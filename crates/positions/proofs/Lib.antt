@@ -4,3 +4,4 @@ pub mod PositionsOpened
 pub mod PositionNumbers
 pub mod PositionsPut
 pub mod KnownPositions
+pub mod AppendedPlaces

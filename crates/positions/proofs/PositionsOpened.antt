@@ -152,7 +152,7 @@ take_take (suc m) zero xs few = absurd (omega arith)
 take_take (suc m) (suc n) [] few = refl
 take_take (suc m) (suc n) (x ∷ xs) few = ap (λ ys. x ∷ ys) (take_take m n xs (omega arith))
 
-part_of_held : (numbers held : List ℕ) (block start count : ℕ) → held ≡ take 128 (drop (128 * block) numbers) → count ≤ length held - start → start ≤ length held → take count (drop start held) ≡ take count (drop (128 * block + start) numbers)
+pub part_of_held : (numbers held : List ℕ) (block start count : ℕ) → held ≡ take 128 (drop (128 * block) numbers) → count ≤ length held - start → start ≤ length held → take count (drop start held) ≡ take count (drop (128 * block + start) numbers)
 part_of_held numbers held block start count is few within =
     let rest = drop (128 * block) numbers in
     let long : length held ≡ length (take 128 rest) = ap length is in

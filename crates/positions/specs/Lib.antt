@@ -1,2 +1,3 @@
 -- What the bytes of positions stand for.
+pub mod Places
 pub mod PositionBlocks

@@ -1,7 +1,8 @@
 //! Positions of a term, read from their bytes.
 
-ghost use Rattle.std.specs.Prelude.{◌*◌, ◌+◌, ◌<◌, ◌^◌, ◌≡◌, ◌≤◌, ◌++◌, ◌-◌, ◌↔◌, [], IfErr, IfOk, IsTrue, List, None, OnOk, Some, drop, length, take, ℕ};
+ghost use Rattle.std.specs.Prelude.{◌*◌, ◌+◌, ◌<◌, ◌^◌, ◌≡◌, ◌≤◌, ◌++◌, ◌-◌, ◌↔◌, [], IfErr, IfOk, IsTrue, List, None, OnErr, OnOk, Some, drop, length, min, sum, take, vec_capacity, ℕ};
 ghost use Rattle.packed_blocks.specs.Decoded.{output_list};
+ghost use Rattle.positions.specs.Places.{places};
 ghost use Rattle.positions.specs.PositionBlocks.{AreSmall, HasAll, HasBlocks, Holds, numbers_in, packed_len};
 ghost use Rattle.layouts.specs.Positions.{AreBlocks, ArePositions};
 ghost use Rattle.layouts.specs.VintBlocks.{take_all_numbers};
@@ -13,6 +14,7 @@ use definitions::Fault;
 use packed_blocks::{
     BlockDecoder, COMPRESSION_BLOCK_SIZE, VIntDecoder, compressed_block_size, width_of,
 };
+use std::alloc::AllocError;
 use std::marker::Model;
 
 /// The positions of a term, lent from their bytes. The block that was read last is kept, so that reads that
@@ -114,6 +116,75 @@ impl<'a> PositionReader<'a> {
             );
         }
     }
+
+    /// Puts as many positions behind those that the output holds: the numbers from a place on are added up from an
+    /// offset on.
+    pub fn append_places(
+        &mut self,
+        begin: u64,
+        count: usize,
+        offset: u32,
+        output: &mut Vec<u32>,
+    ) -> Result<(), AllocError>
+        requires within { begin + count ≤ length self.old }
+        requires fits { offset + sum (take count (drop begin self.old)) ≤ 4294967295 }
+        ensures same { self.new ≡ self.old }
+        ensures ok { OnOk result (output.new.items
+            ≡ output.old.items ++ places offset (take count (drop begin self.old))) }
+        ensures err { OnErr result (output.new.items ≡ output.old.items) }
+        ensures full { OnErr result (vec_capacity output.old < length output.old.items + count) }
+        ensures room { vec_capacity output.old ≤ vec_capacity output.new }
+    {
+        output.reserve(count)?;
+        let mut last = offset;
+        let mut taken = 0;
+        while taken < count {
+            let ahead = (begin % COMPRESSION_BLOCK_SIZE as u64) as usize + taken;
+            load(
+                self.widths,
+                self.packed,
+                &mut self.decoder,
+                &mut self.block,
+                &mut self.at,
+                (begin / COMPRESSION_BLOCK_SIZE as u64) as usize + ahead / COMPRESSION_BLOCK_SIZE,
+            );
+            let part = part_from(
+                self.decoder.output_array(),
+                ahead % COMPRESSION_BLOCK_SIZE,
+                count - taken,
+            );
+            last = push_places(part, last, output);
+            taken += part.len();
+        }
+        Ok(())
+    }
+}
+
+/// The numbers from a place on, so many at most.
+#[inline]
+fn part_from(numbers: &[u32], place: usize, most: usize) -> &[u32]
+    requires { place ≤ length numbers.now }
+    ensures { result.now ≡ take (min most (length numbers.now - place)) (drop place numbers.now) }
+{
+    let count = most.min(numbers.len() - place);
+    &numbers[place..place + count]
+}
+
+/// Adds numbers up from a position on, each sum behind those that the output holds, which has the room; answers the last.
+#[inline]
+fn push_places(numbers: &[u32], before: u32, output: &mut Vec<u32>) -> u32
+    requires fits { before + sum numbers.now ≤ 4294967295 }
+    requires room { length output.old.items + length numbers.now ≤ vec_capacity output.old }
+    ensures items { output.new.items ≡ output.old.items ++ places before numbers.now }
+    ensures last { result ≡ before + sum numbers.now }
+    ensures room { vec_capacity output.new ≡ vec_capacity output.old }
+{
+    let mut last = before;
+    for i in 0..numbers.len() {
+        last += numbers[i];
+        output.push_reserved(last);
+    }
+    last
 }
 
 /// Reads fewer than 128 numbers below 2^31 up to the end.

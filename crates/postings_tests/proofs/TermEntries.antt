@@ -8,7 +8,8 @@ use Rattle.definitions.specs.Scoring.{DontFall}
 use Rattle.layouts.specs.Positions.{differences, position_numbers}
 use Rattle.cursors.specs.Entries.{AreSingle, Entry, first_positions, from, highest, single}
 use Rattle.cursors.specs.EntryLaws.{from-out}
-use Rattle.segment_postings.specs.TermEntries.{HasPositions, IsPlaced, entries_of, places}
+use Rattle.positions.specs.Places.{places}
+use Rattle.segment_postings.specs.TermEntries.{HasPositions, IsPlaced, entries_of}
 
 -- none of the entries comes later where all are below
 pub none_from : (t : ℕ) (docs counts numbers : List ℕ) → AllByRecursion (λ d. d < t) docs → from t (entries_of docs counts numbers) ≡ []

@@ -10,7 +10,8 @@ use Rattle.definitions.specs.Scoring.{DontFall}
 use Rattle.cursors.specs.Entries.{AreSingle, Entry, first, first_count, first_positions, from, highest, most_positions, single}
 use Rattle.cursors.specs.EntryLaws.{AreSingle-drop, AreSingle-from, from-low, from-out}
 use Rattle.segment_postings.specs.Reading.{Ascends, below}
-use Rattle.segment_postings.specs.TermEntries.{entries_from, entries_of, numbers_of, places}
+use Rattle.positions.specs.Places.{places}
+use Rattle.segment_postings.specs.TermEntries.{entries_from, entries_of, numbers_of}
 use Rattle.segment_postings.specs.TermEntryLaws.{Ascends-behind, Rising-entries_of, first-entries_of}
 
 -- ---- one document on

@@ -7,8 +7,9 @@ use Rattle.std.specs.List.{AllByRecursion}
 use Rattle.definitions.specs.Scoring.{DontFall}
 use Rattle.layouts.specs.Positions.{differences, position_numbers}
 use Rattle.cursors.specs.Entries.{AreSingle, most_positions}
-use Rattle.segment_postings.proofs.PositionLists.{length-places}
-use Rattle.segment_postings.specs.TermEntries.{HasPositions, IsPlaced, entries_from, entries_of, places, term_entries}
+use Rattle.positions.proofs.AppendedPlaces.{length-places}
+use Rattle.positions.specs.Places.{places}
+use Rattle.segment_postings.specs.TermEntries.{HasPositions, IsPlaced, entries_from, entries_of, term_entries}
 
 length-differences : (before : ℕ) (ps : List ℕ) → length (differences before ps) ≡ length ps
 length-differences before [] = refl

@@ -4,11 +4,7 @@ use Rattle.std.specs.List.{AllByRecursion}
 use Rattle.definitions.specs.Scoring.{DontFall}
 use Rattle.layouts.specs.Positions.{position_numbers}
 use Rattle.cursors.specs.Entries.{Entry, highest}
-
--- positions by their differences, the first from a given one on
-abbrev pub places : ℕ → List ℕ → List ℕ
-places before [] = []
-places before (x ∷ xs) = (before + x) ∷ places (before + x) xs
+use Rattle.positions.specs.Places.{places}
 
 -- an entry for each document, with its count and so many of the positions
 abbrev pub entries_of : List ℕ → List ℕ → List ℕ → List Entry

@@ -2,7 +2,8 @@
 
 ghost use Rattle.std.specs.Prelude.{◌++◌, ◌+◌, ◌<◌, ◌≡◌, ◌≤◌, IsSome, OnErr, OnOk, drop, length, map, take, vec_capacity};
 ghost use Rattle.cursors.specs.Entries.{highest};
-ghost use Rattle.segment_postings.specs.TermEntries.{numbers_of, places};
+ghost use Rattle.positions.specs.Places.{places};
+ghost use Rattle.segment_postings.specs.TermEntries.{numbers_of};
 
 use positions::PositionReader;
 use std::alloc::AllocError;
@@ -50,20 +51,8 @@ pub(crate) fn append_positions(
     ensures full { OnErr result (vec_capacity output.old < length (output.old.items ++ map (λ p. p + offset) (places 0 (take count (drop begin (numbers_of positions.old)))))) }
     ensures room { vec_capacity output.old ≤ vec_capacity output.new }
 {
-    let start = output.len();
-    append_numbers(positions, begin, count, output)?;
-    add_up(&mut output[start..], offset);
-    Ok(())
-}
-
-/// Makes differences into positions, from an offset on.
-fn add_up(numbers: &mut [u32], offset: u32)
-    requires { highest (places 0 numbers.old) + offset ≤ 4294967295 }
-    ensures { numbers.new ≡ map (λ p. p + offset) (places 0 numbers.old) }
-{
-    let mut last = offset;
-    for i in 0..numbers.len() {
-        last += numbers[i];
-        numbers[i] = last;
+    match positions {
+        Some(reader) => reader.append_places(begin, count, offset, output),
+        None => Ok(()),
     }
 }

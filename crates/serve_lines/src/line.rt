@@ -4,6 +4,7 @@ ghost use Rattle.std.specs.Prelude.{◌≡◌, ℕ, ◌≤◌, ◌⊎◌, ◌↔
 ghost use Rattle.definitions.specs.Lines.{max_line_len};
 
 use definitions::Fault;
+use simdutf8::from_utf8_baseline;
 use std::alloc::Global;
 
 const MAX_LINE_LEN: usize = 16777216;
@@ -82,7 +83,7 @@ impl LineBuffer {
             → IfErr result (λ fault. (fault ≡ OutOfMemory) ⊎ (line_refusal seen ≡ Some fault)) }
     {
         match self.keeping {
-            Keeping::Whole => match str::from_utf8(&self.bytes) {
+            Keeping::Whole => match from_utf8_baseline(&self.bytes) {
                 Ok(text) => Ok(text),
                 Err(_) => Err(Fault::BadRequest),
             },
