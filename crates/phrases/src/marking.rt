@@ -6,6 +6,9 @@ ghost use Rattle.phrases.specs.Places.{Ascends, Rises, has};
 use crate::merging::intersection;
 use std::alloc::{AllocError, Global};
 
+/// How many positions of two terms are merged at least: marks pay only where there are more.
+const MERGED: usize = 16;
+
 /// A mark for each position below a limit, none of which is set.
 #[derive(Drop)]
 pub(crate) struct Marks {
@@ -21,8 +24,8 @@ impl Marks {
         })
     }
 
-    /// Takes out of rising positions those that aren't among others: by marks where all are below the limit, else by a
-    /// merge.
+    /// Takes out of rising positions those that aren't among others: by marks where they are many and all below
+    /// the limit, else by a merge.
     pub(crate) fn keep_shared(&mut self, left: &mut Vec<u32>, right: &[u32])
         requires rises { Rises 0 left.old.items }
         requires ascends { Ascends 0 right.now }
@@ -89,11 +92,12 @@ fn keep_shared(left: &mut Vec<u32>, right: &[u32], marks: &mut [bool])
     ensures room { vec_capacity left.new ≡ vec_capacity left.old }
     ensures clear { (p : ℕ) → slice_index_or marks.new p false ≡ false }
 {
-    if are_below(left, marks.len()) && are_below(right, marks.len()) {
-        mark(right, marks);
-        keep_marked(left, marks);
-        clear(right, marks);
-    } else {
+    let are_few = left.len() + right.len() <= MERGED;
+    if are_few || !are_below(left, marks.len()) || !are_below(right, marks.len()) {
         intersection(left, right);
+        return;
     }
+    mark(right, marks);
+    keep_marked(left, marks);
+    clear(right, marks);
 }
