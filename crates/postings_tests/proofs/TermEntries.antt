@@ -8,6 +8,7 @@ use Rattle.definitions.specs.Scoring.{DontFall}
 use Rattle.layouts.specs.Positions.{differences, position_numbers}
 use Rattle.cursors.specs.Entries.{AreSingle, Entry, first_positions, from, highest, single}
 use Rattle.cursors.specs.EntryLaws.{from-out}
+use Rattle.positions.proofs.AppendedPlaces.{length-places}
 use Rattle.positions.specs.Places.{places}
 use Rattle.segment_postings.specs.TermEntries.{HasPositions, IsPlaced, entries_of}
 
@@ -26,10 +27,6 @@ single_small (e ∷ es) are = are.2
 differences_of : (b : ℕ) (xs : List ℕ) → differences b (places b xs) ≡ xs
 differences_of b [] = refl
 differences_of b (x ∷ xs) = (let here : b + x - b ≡ x = omega arith in ap₂ (λ y ys. y ∷ ys) here (differences_of (b + x) xs))
-
-length-places : (b : ℕ) (xs : List ℕ) → length (places b xs) ≡ length xs
-length-places b [] = refl
-length-places b (x ∷ xs) = (let ih = length-places (b + x) xs in omega (arith, ih))
 
 places_dont_fall : (b : ℕ) (xs : List ℕ) → DontFall (places b xs)
 places_dont_fall b [] = tt
