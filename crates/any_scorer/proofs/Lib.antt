@@ -5,4 +5,3 @@ pub mod ByScores
 pub mod OneDocument
 pub mod SameGreatest
 pub mod SamePairs
-pub mod SignedScores

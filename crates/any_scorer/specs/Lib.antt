@@ -1,3 +1,2 @@
 -- Words of the contracts.
-pub mod Signed
 pub mod Clauses

@@ -5,7 +5,7 @@ ghost use Rattle.any_scorer.specs.Clauses.{by_clauses, by_number, scores_at, sco
 ghost use Rattle.cursors.specs.Entries.{Rising};
 ghost use Rattle.definitions.specs.Postings.{terminated};
 ghost use Rattle.definitions.specs.Scoring.{max_score};
-ghost use Rattle.leaf_scorers.specs.ScoredEntries.{greatest_score};
+ghost use Rattle.leaf_scorers.specs.ScoredEntries.{greatest_score, pairs_of};
 ghost use Rattle.members.specs.Members.{greatest_sum};
 
 use crate::either_scorer::EitherScorer;
@@ -60,7 +60,7 @@ fn counted_scorer<S: Scorer + Drop>(
 {
     if musts.is_empty() {
         let some = some_scorer(alloc, shoulds, minimum, num_docs)?;
-        return listed(alloc, some);
+        return listed_some(alloc, some);
     }
     let required = intersect_scorers(alloc, musts)?;
     if minimum == 0 {
@@ -90,6 +90,20 @@ fn some_scorer<S: Scorer + Drop>(
     }
     let union = BufferedUnionScorer::build(alloc, shoulds, combiner, num_docs)?;
     Ok(EitherScorer::Left(union))
+}
+
+/// The same as a list.
+fn listed_some<S: Scorer + Drop>(
+    alloc: Global,
+    some: SomeScorer<S>,
+) -> Result<ListScorer, AllocError>
+    ensures { IfOk result (λ list. pairs_of (⟦<ListScorer as DocSet>⟧.entries list)
+        ≡ pairs_of (⟦<SomeScorer<S> as DocSet>⟧.entries some)) }
+{
+    match some {
+        EitherScorer::Left(union) => union.into_list(alloc),
+        EitherScorer::Right(disjunction) => listed(alloc, disjunction),
+    }
 }
 
 /// The documents of the required scorer, each with its score and those that it has in the optional ones.

@@ -8,7 +8,6 @@ ghost use Rattle.definitions.specs.Scoring.{max_score, natural};
 ghost use Rattle.leaf_scorers.specs.ScoredEntries.{greatest_score};
 ghost use Rattle.members.specs.Members.{greatest_sum};
 
-use crate::listing::listed;
 use common::Score;
 use cursors::DocSet;
 use leaf_scorers::{DisjunctionMaxCombiner, ListScorer, Scorer};
@@ -35,5 +34,5 @@ pub fn disjunction_max_scorer<S: Scorer + Drop>(
 {
     let combiner = DisjunctionMaxCombiner::with_tie_breaker(tie_breaker);
     let union = BufferedUnionScorer::build(alloc, disjuncts, combiner, num_docs)?;
-    listed(alloc, union)
+    union.into_list(alloc)
 }

@@ -1,7 +1,7 @@
 //! Scorers that are walked whole.
 
 ghost use Rattle.std.specs.Prelude.{[], ◌≡◌, IfOk};
-ghost use Rattle.any_scorer.specs.Signed.{signed};
+ghost use Rattle.unions.specs.Signed.{signed};
 ghost use Rattle.leaf_scorers.specs.ScoredEntries.{AreScores, pairs_of};
 
 use common::{DocId, Score, TERMINATED};

@@ -1,6 +1,6 @@
 -- Documents with scores as lists of numbers have them.
 use Rattle.std.proofs.Common.{[], Err, IfErr, IfOk, List, Ok, Result, ap, pos, refl, ◌∷◌, ◌≡◌}
-use Rattle.any_scorer.specs.Signed.{signed}
+use Rattle.unions.specs.Signed.{signed}
 use Rattle.cursors.specs.Entries.{Entry}
 use Rattle.leaf_scorers.specs.ScoredEntries.{pairs_of}
 use Rattle.scorer_answers.specs.Listed.{signed_pairs}

@@ -5,7 +5,7 @@ use Rattle.std.proofs.lemmas.Bool.{or_from}
 use Rattle.std.proofs.lemmas.List.{append-nil, get_or_past}
 use Rattle.definitions.specs.Postings.{terminated}
 use Rattle.definitions.specs.Scoring.{max_score}
-use Rattle.cursors.specs.Entries.{Entry, Rising, first, first_score, from}
+use Rattle.cursors.specs.Entries.{Entry, Rising, first, from}
 use Rattle.leaf_scorers.specs.ScoredEntryLaws.{by_place}
 use Rattle.members.specs.Members.{at_least, combining, enough, entries_at, least, scores_in, with_score}
 use Rattle.members.specs.MemberLaws.{Rising-listed, least-cut, listed-end, listed-found, listed-same, listed-skip, listed-stands, entries_at-cut, entries_at-kept}
@@ -27,13 +27,6 @@ not_enough ess d e = ap (λ xs. nat_le 1 (length xs)) e
 pub standing-first : {C : Type 0} (answer : C → List ℕ → ℕ) (total : C → ℕ) (flags : List Bool) (slots : List C) (fresh : C) (start : ℕ) (ess : List (List Entry)) (doc : ℕ) → IsStanding answer total flags slots fresh start ess doc → doc < terminated → windowed answer flags slots fresh start ess doc ≡ entry_ahead answer flags slots fresh start ess doc ∷ windowed answer flags slots fresh start ess (doc + 1)
 standing-first answer total flags slots fresh start ess doc s l =
     listed-found (is_ahead flags start ess) (entry_ahead answer flags slots fresh start ess) doc l (listed-stands (is_ahead flags start ess) (entry_ahead answer flags slots fresh start ess) doc l s.at)
-
--- its score
-pub standing-score : {C : Type 0} (answer : C → List ℕ → ℕ) (total : C → ℕ) (flags : List Bool) (slots : List C) (fresh : C) (start : ℕ) (ess : List (List Entry)) (doc : ℕ) → IsStanding answer total flags slots fresh start ess doc → ((d : ℕ) → d < least ess → entries_at d ess ≡ []) → doc < terminated → first_score (windowed answer flags slots fresh start ess doc) ≡ answer (held flags slots fresh (doc - start)) []
-standing-score answer total flags slots fresh start ess doc s none l =
-    let near = s.near l in
-    let behind = s.window.behind in
-    ap first_score (standing-first answer total flags slots fresh start ess doc s l) ∙ ap (λ xs. answer (held flags slots fresh (doc - start)) (scores_in xs)) (none doc (omega (arith, near, behind, l)))
 
 -- the scores fit
 pub Rising-windowed : {C : Type 0} (answer : C → List ℕ → ℕ) (total : C → ℕ) → ((c : C) (xs : List ℕ) → total c + sum xs ≤ max_score → answer c xs ≤ max_score) → (flags : List Bool) (slots : List C) (fresh : C) (start : ℕ) (ess : List (List Entry)) (doc : ℕ) → IsStanding answer total flags slots fresh start ess doc → Rising 0 (windowed answer flags slots fresh start ess doc)

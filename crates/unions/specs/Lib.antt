@@ -9,3 +9,4 @@ pub mod ClearedWords
 pub mod Fillings
 pub mod Choices
 pub mod Together
+pub mod Signed

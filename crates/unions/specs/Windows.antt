@@ -72,6 +72,12 @@ pub record IsCleared {C : Type 0} (answer : C → List ℕ → ℕ) (total : C �
   pub answers : (k : ℕ) (xs : List ℕ) → slice_index_or flags k false ≡ false → answer (slice_index_or slots k fresh) xs ≡ answer fresh xs
   pub passed : (k : ℕ) → k < n → slice_index_or flags k false ≡ false
 
+-- a union stands on a document whose flag is in this word, and no place below it has a flag
+pub record StandsAt {C : Type 0} (answer : C → List ℕ → ℕ) (total : C → ℕ) (flags : List Bool) (slots : List C) (fresh : C) (start : ℕ) (ess : List (List Entry)) (doc bucket : ℕ) : Type 0 where
+  pub standing : IsStanding answer total flags slots fresh start ess doc
+  pub cleared : IsCleared answer total flags slots fresh (doc - start)
+  pub bucketed : doc < terminated → bucket ≡ (doc - start) / 64
+
 -- flags and slots that are from a place on what others are
 pub record IsSameFrom {C : Type 0} (fresh : C) (n : ℕ) (flags : List Bool) (slots : List C) (flags_then : List Bool) (slots_then : List C) : Type 0 where
   pub flags_fit : length flags_then ≡ length flags

@@ -5,16 +5,18 @@ ghost use Rattle.common.specs.BitSets.{IsFirst};
 ghost use Rattle.cursors.specs.Entries.{first};
 ghost use Rattle.definitions.specs.Postings.{terminated};
 ghost use Rattle.definitions.specs.Scoring.{max_score};
+ghost use Rattle.leaf_scorers.specs.ScoredEntries.{pairs_of};
 ghost use Rattle.members.specs.Members.{at_least, combining, entries_at, greatest_sum, least, scores_in};
 ghost use Rattle.unions.specs.Clearings.{IsCleared-prop, IsPlaced-prop};
 ghost use Rattle.unions.specs.Fillings.{IsStanding-prop};
 ghost use Rattle.unions.specs.Windows.{IsCleared, IsStanding, IsWindow, windowed};
 
+use crate::listing::list_rest;
 use crate::window::{HORIZON, clear_below, collect_all, fresh_slots};
 use crate::window_bits::WindowBits;
 use common::{DocId, Score, TERMINATED};
 use cursors::DocSet;
-use leaf_scorers::{ScoreCombiner, Scorer};
+use leaf_scorers::{ListScorer, ScoreCombiner, Scorer};
 use members::{least_of, move_all};
 use std::alloc::{AllocError, Global};
 
@@ -65,7 +67,7 @@ fn refill<S: Scorer, C: ScoreCombiner>(
 /// Goes on to the first document that isn't below a number, which is where the first flag is, and answers where the
 /// window then starts, the document, and the word of its flag.
 #[inline]
-fn settle<S: Scorer, C: ScoreCombiner>(
+pub(crate) fn settle<S: Scorer, C: ScoreCombiner>(
     docsets: &mut Vec<S>,
     fresh: C,
     present: &mut WindowBits,
@@ -156,6 +158,39 @@ impl<S: Scorer + Drop, C: ScoreCombiner> BufferedUnionScorer<S, C> {
             bucket: 0,
             num_docs,
         })
+    }
+}
+
+impl<S: Scorer + Drop, C: ScoreCombiner> BufferedUnionScorer<S, C> {
+    /// The documents that remain, each with its score, as a list.
+    pub fn into_list(self, alloc: Global) -> Result<ListScorer, AllocError>
+        ensures { IfOk result (λ list. pairs_of (⟦<ListScorer as DocSet>⟧.entries list)
+            ≡ pairs_of (⟦<BufferedUnionScorer<S, C> as DocSet>⟧.entries self)) }
+    {
+        let BufferedUnionScorer {
+            docsets,
+            fresh,
+            present,
+            slots,
+            start,
+            doc,
+            bucket,
+            ..
+        } = self;
+        let mut docsets = docsets;
+        let mut present = present;
+        let mut slots = slots;
+        let pairs = list_rest(
+            alloc,
+            &mut docsets,
+            fresh,
+            &mut present,
+            &mut slots,
+            start,
+            doc,
+            bucket,
+        )?;
+        Ok(ListScorer::new(pairs))
     }
 }
 

@@ -5,6 +5,7 @@ mod bit_set_posting_union;
 mod buffered_union;
 mod disjunction;
 mod distinct_positions;
+mod listing;
 mod scorer_wrapper;
 mod simple_union;
 mod united_positions;

@@ -10,10 +10,10 @@ pub returns-then-is_empty : goal.returns-then-is_empty
 returns-then-is_empty g c =
     let empty = emptied c.args.musts.items _ _ (sym c.args.musts.ok.0) c.is_empty.ensures c.if-is_empty.true in
     let shoulds = map g.S.DocSet.entries c.args.shoulds.items in
-    IfOk-weaker c.listed.result _ _ (λ list same d l. same_scores d _ _ same
+    IfOk-weaker c.listed_some.result _ _ (λ list same d l. same_scores d _ _ same
     ∙ (c.in_ok-some.ensures.scores d l
     ∙ (only_shoulds c.args.minimum d shoulds
-    ∙ ap (λ xs. by_clauses c.args.minimum (map g.S.DocSet.entries xs) shoulds [] d) (sym empty)))) c.listed.ensures
+    ∙ ap (λ xs. by_clauses c.args.minimum (map g.S.DocSet.entries xs) shoulds [] d) (sym empty)))) c.listed_some.ensures
 
 -- src/clauses.rt:61:9
 pub returns-then-minimum-eq0 : goal.returns-then-minimum-eq0

@@ -1,7 +1,7 @@
 use Rattle.std.proofs.Common.{[], ap, arith, subst, sym, ◌++◌, ◌∙◌, ◌≡◌}
 use Rattle.std.proofs.lemmas.List.{append-nil}
-use Rattle.any_scorer.proofs.SignedScores.{scores_rise}
-use Rattle.any_scorer.specs.Signed.{signed}
+use Rattle.unions.proofs.SignedScores.{scores_rise}
+use Rattle.unions.specs.Signed.{signed}
 use Rattle.cursors.specs.EntryLaws.{none_left}
 use Rattle.leaf_scorers.specs.ScoredEntries.{AreScores}
 use Rattle.any_scorer.proofs.listing.for_each_scorer.Goals as goal

@@ -1,5 +1,5 @@
 use Rattle.std.proofs.Common.{length, ◌++◌, ◌≡◌}
-use Rattle.any_scorer.specs.Signed.{signed}
+use Rattle.unions.specs.Signed.{signed}
 use Rattle.cursors.specs.Entries.{first}
 use Rattle.any_scorer.proofs.listing.for_each_scorer.Given as goal
 

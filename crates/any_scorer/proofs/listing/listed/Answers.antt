@@ -1,5 +1,5 @@
 use Rattle.std.proofs.Common.{ap, ◌∙◌}
-use Rattle.any_scorer.proofs.SignedScores.{naturals_of}
+use Rattle.unions.proofs.SignedScores.{naturals_of}
 use Rattle.leaf_scorers.specs.ScoredEntries.{naturals, pairs_of}
 use Rattle.leaf_scorers.specs.ScoredEntryLaws.{pairs-scored}
 use Rattle.any_scorer.proofs.listing.listed.Goals as goal

@@ -1,7 +1,7 @@
 -- Documents with scores as a scorer gives them.
 use Rattle.std.proofs.Common.{[], List, ap, arith, refl, ◌+◌, ◌∷◌, ◌≡◌, ◌≤◌, ℕ}
 use Rattle.std.proofs.Math.Facts.{yes_leb}
-use Rattle.any_scorer.specs.Signed.{signed}
+use Rattle.unions.specs.Signed.{signed}
 use Rattle.cursors.specs.Entries.{Entry, Rising}
 use Rattle.leaf_scorers.specs.ScoredEntries.{AreScores, naturals, pairs_of}
 
