@@ -13,7 +13,7 @@ pub record IsChosen {C : Type 0} (answer : C → List ℕ → ℕ) (total : C �
   pub at : doc ≡ first (at_least minimum (combining (answer combiner)) ess)
   pub leads : doc ≡ least ess
   pub small : doc ≤ terminated
-  pub some : 1 ≤ minimum
+  pub several : 2 ≤ minimum
   pub unused : total combiner ≡ 0
   pub fits : (d : ℕ) → sum (scores_in (entries_at d ess)) ≤ max_score
 
@@ -29,8 +29,9 @@ Rising-chosen answer total bounded minimum combiner ess doc c =
 pub chosen-score : {C : Type 0} (answer : C → List ℕ → ℕ) (total : C → ℕ) (minimum : ℕ) (combiner : C) (ess : List (List Entry)) (doc : ℕ) → IsChosen answer total minimum combiner ess doc → ((d : ℕ) → d < least ess → entries_at d ess ≡ []) → doc < terminated → first_score (at_least minimum (combining (answer combiner)) ess) ≡ answer combiner (scores_in (entries_at doc ess))
 chosen-score answer total minimum combiner ess doc c none l =
     let leads = c.leads in
+    let several = c.several in
     let flag = enough minimum ess in
     let entry : ℕ → Entry = λ d. combining (answer combiner) d (entries_at d ess) in
-    let low = chosen-low minimum (combining (answer combiner)) ess c.some (omega (arith, leads, l)) none in
+    let low = chosen-low minimum (combining (answer combiner)) ess (omega (arith, several)) (omega (arith, leads, l)) none in
     let at : doc ≡ first (listed flag entry doc) = c.at ∙ ap first (low ∙ ap (listed flag entry) (sym leads)) in
     ap first_score (low ∙ (ap (listed flag entry) (sym leads) ∙ listed-found flag entry doc l (listed-stands flag entry doc l at)))

@@ -8,5 +8,7 @@ pub mod Clearings
 pub mod ClearedWords
 pub mod Fillings
 pub mod Choices
+pub mod TwoLeast
+pub mod TwoLeastLaws
 pub mod Together
 pub mod Signed

@@ -53,7 +53,7 @@ fn refill<S: Scorer, C: ScoreCombiner>(
         ≡ at_least 1 (combining (C.answer fresh)) (map S.entries docsets.old.items) }
     ensures standing { IsStanding C.answer C.total present.new slots.new.items fresh result
         (map S.entries docsets.new.items) result }
-    ensures cleared { IsCleared C.answer C.total present.new slots.new.items fresh (result - result) }
+    ensures cleared { IsCleared C.answer C.total present.new slots.new.items fresh 0 }
 {
     let next = least_of(docsets);
     if next == TERMINATED {

@@ -7,6 +7,7 @@ ghost use Rattle.definitions.specs.Scoring.{max_score};
 ghost use Rattle.members.specs.Members.{at_least, combining, entries_at, greatest_sum, least, scores_in};
 ghost use Rattle.unions.specs.Choices.{IsChosen, IsChosen-prop};
 
+use crate::two_least::past_alone;
 use common::{DocId, Score, TERMINATED};
 use cursors::DocSet;
 use leaf_scorers::{ScoreCombiner, Scorer};
@@ -24,7 +25,7 @@ pub struct Disjunction<S: Scorer, C: ScoreCombiner> {
 
 /// Goes on to the first document that isn't below a target and that so many cursors have, and answers it.
 fn choose<S: DocSet>(docsets: &mut Vec<S>, minimum: usize, target: DocId) -> DocId
-    requires some { 1 ≤ minimum }
+    requires several { 2 ≤ minimum }
     requires small { target ≤ terminated }
     ensures same { (make : ℕ → List Entry → Entry) → at_least minimum make (map S.entries docsets.new.items)
         ≡ from target (at_least minimum make (map S.entries docsets.old.items)) }
@@ -39,7 +40,11 @@ fn choose<S: DocSet>(docsets: &mut Vec<S>, minimum: usize, target: DocId) -> Doc
         if leader.doc >= TERMINATED {
             return TERMINATED;
         }
-        leader = lead(docsets, leader.doc + 1);
+        if leader.count == 1 {
+            leader = past_alone(docsets, minimum);
+        } else {
+            leader = lead(docsets, leader.doc + 1);
+        }
     }
     leader.doc
 }

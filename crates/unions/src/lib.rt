@@ -8,6 +8,7 @@ mod distinct_positions;
 mod listing;
 mod scorer_wrapper;
 mod simple_union;
+mod two_least;
 mod united_positions;
 mod window;
 mod window_bits;

@@ -1,4 +1,4 @@
-use Rattle.std.proofs.Common.{ap, arith, length, map, ◌<◌, ◌-◌}
+use Rattle.std.proofs.Common.{ap, arith, length, map, ◌<◌}
 use Rattle.definitions.specs.Postings.{terminated}
 use Rattle.unions.specs.Clearings.{cleared-to, none-set}
 use Rattle.unions.specs.Fillings.{ended, filled}
@@ -63,12 +63,8 @@ returns-clause-standing g c = (filled g.C.ScoreCombiner.answer g.C.ScoreCombiner
 pub returns-then-next-eq-TERMINATED-clause-cleared :
     goal.returns-then-next-eq-TERMINATED-clause-cleared
 returns-then-next-eq-TERMINATED-clause-cleared g c =
-    cleared-to g.C.ScoreCombiner.answer g.C.ScoreCombiner.total c.args.present.now c.args.slots.now.items c.args.fresh 4096 (terminated - terminated) c.requires.cleared (λ k l. absurd (omega (arith, l)))
+    cleared-to g.C.ScoreCombiner.answer g.C.ScoreCombiner.total c.args.present.now c.args.slots.now.items c.args.fresh 4096 0 c.requires.cleared (λ k l. absurd (omega (arith, l)))
 
 pub collect_all-requires-clause-cleared : goal.collect_all-requires-clause-cleared
 collect_all-requires-clause-cleared g c =
     cleared-to g.C.ScoreCombiner.answer g.C.ScoreCombiner.total c.args.present.now c.args.slots.now.items c.args.fresh 4096 0 c.requires.cleared (λ k l. absurd (omega (arith, l)))
-
-pub returns-clause-cleared : goal.returns-clause-cleared
-returns-clause-cleared g c =
-    cleared-to g.C.ScoreCombiner.answer g.C.ScoreCombiner.total c.collect_all.new.present c.collect_all.new.slots.items c.args.fresh 0 (c.least_of-next.result - c.least_of-next.result) c.collect_all.ensures.cleared (λ k l. absurd (omega (arith, l)))

@@ -1,4 +1,4 @@
-use Rattle.std.proofs.Common.{List, length, map, sum, ◌-◌, ◌<◌, ◌≡◌, ◌≤◌, ℕ}
+use Rattle.std.proofs.Common.{List, length, map, min, sum, ◌-◌, ◌<◌, ◌≡◌, ◌≤◌, ℕ}
 use Rattle.definitions.specs.Postings.{terminated}
 use Rattle.cursors.specs.Entries.{Entry, from}
 use Rattle.members.specs.Members.{at_least, entries_at, least, scores_in}
@@ -8,7 +8,7 @@ use Rattle.unions.proofs.disjunction.choose.Given as goal
 abbrev pub invariant-loop-leader : goal.invariant-loop-leader
 invariant-loop-leader g l = record {
   leads : l.leader.doc ≡ least (map g.S.DocSet.entries l.docsets.items);
-  count : l.leader.doc < terminated → l.leader.count ≡ length (entries_at l.leader.doc (map g.S.DocSet.entries l.docsets.items));
+  count : l.leader.doc < terminated → min l.minimum l.leader.count ≡ min l.minimum (length (entries_at l.leader.doc (map g.S.DocSet.entries l.docsets.items)));
   same : (make : ℕ → List Entry → Entry) → at_least l.minimum make (map g.S.DocSet.entries l.docsets.items) ≡ from l.target (at_least l.minimum make (map g.S.DocSet.entries l.fn.docsets.items));
   scores : (d : ℕ) → sum (scores_in (entries_at d (map g.S.DocSet.entries l.docsets.items))) ≤ sum (scores_in (entries_at d (map g.S.DocSet.entries l.fn.docsets.items)));
 }

@@ -17,7 +17,7 @@ invariant_of-result g c =
         at = c.choose-doc.ensures.at (combining (g.C.ScoreCombiner.answer c.clear.new.self));
         leads = leads;
         small = omega (arith, leads, small);
-        some = omega (arith, several);
+        several = several;
         unused = c.clear.ensures.total;
         fits = λ d. (let kept = c.choose-doc.ensures.scores d in let bound = sum-greatest entries rising d c.args.docsets.items in omega (arith, kept, bound, greatest));
       };
