@@ -1,15 +1,13 @@
 -- Laws of how often suffixes follow a phrase.
-use Rattle.std.proofs.Common.{[], List, ap, arith, get_or, length, map, max, subst, suc, sym, take, zero, ◌++◌, ◌+◌, ◌<◌, ◌∙◌, ◌∷◌, ◌≡◌, ◌≤◌, ℕ}
+use Rattle.std.proofs.Common.{[], List, ap, arith, get_or, length, max, suc, take, zero, ◌++◌, ◌+◌, ◌<◌, ◌∙◌, ◌∷◌, ◌≡◌, ◌≤◌, ℕ}
 use Rattle.std.proofs.lemmas.List.{take_more}
-use Rattle.std.proofs.lemmas.List.Sums.{sum_by-append, sum_by-cons}
-use Rattle.cursors.specs.Entries.{AreSingle, Entry, Rising, first, first_positions, from, most_positions, single}
+use Rattle.std.proofs.lemmas.List.Sums.{sum_by-cons}
+use Rattle.cursors.specs.Entries.{AreSingle, Entry, first, first_positions, most_positions, single}
 use Rattle.definitions.specs.Postings.{terminated}
 use Rattle.intersections.specs.Columns.{HaveOneColumn}
-use Rattle.members.specs.LeaderLaws.{entries-last}
-use Rattle.members.specs.Members.{entries_at, entries_of}
 use Rattle.phrases.specs.Places.{Ascends}
-use Rattle.phrases.specs.PrefixEntries.{continued, continued_by, prefixed}
-use Rattle.phrases.specs.PrefixEntryLaws.{Rising-first, most_suffix_positions, prefixed-cut}
+use Rattle.phrases.specs.PrefixEntries.{continued, continued_by}
+use Rattle.phrases.specs.PrefixEntryLaws.{most_suffix_positions}
 use Rattle.phrases.specs.MergeLaws.{ascends-from}
 
 -- the positions on which a cursor of one term stands ascend
@@ -21,13 +19,6 @@ single-ascends (e ∷ es) s l = ascends-from (single e.positions) s.1
 pub continued-one : (moved : ℕ) (places : List ℕ) (es : List Entry) → first es < terminated → continued_by moved places (take 1 es) ≡ continued moved places (single (first_positions es))
 continued-one moved places [] l = absurd (omega (arith, l))
 continued-one moved places (e ∷ es) l = (let one = sum_by-cons (λ s. continued moved places (single s.positions)) e [] in omega (arith, one))
-
--- with one list more
-pub continued-more : (moved d i : ℕ) (places : List ℕ) (ess : List (List Entry)) → i < length ess → continued_by moved places (entries_at d (take (i + 1) ess)) ≡ continued_by moved places (entries_at d (take i ess)) + continued_by moved places (entries_of d (get_or ess i []))
-continued-more moved d i places ess l =
-    ap (λ xs. continued_by moved places (entries_at d xs)) (take_more ess i [] l)
-    ∙ (ap (continued_by moved places) (entries-last d (take i ess) (get_or ess i []))
-    ∙ sum_by-append (λ s. continued moved places (single s.positions)) (entries_at d (take i ess)) (entries_of d (get_or ess i [])))
 
 pub most-get : (ess : List (List Entry)) (i : ℕ) → i < length ess → most_positions (get_or ess i []) ≤ most_suffix_positions ess
 most-get [] i l = absurd (omega (arith, l))
@@ -46,10 +37,3 @@ most-take ess i l = ap most_suffix_positions (take_more ess i [] l) ∙ most-las
 pub column-rises : (es : List Entry) → HaveOneColumn es → first es < terminated → Ascends 0 (single (first_positions es))
 column-rises [] c l = absurd (omega (arith, l))
 column-rises (e ∷ es) c l = ascends-from (single e.positions) c.1
-
--- suffixes that went on to the first document follow as before
-pub follow-same : (moved doc : ℕ) (ess fss gss : List (List Entry)) (es fs : List Entry) → gss ≡ fss → fss ≡ map (from doc) ess → fs ≡ es → doc ≡ first es → Rising 0 es → prefixed moved gss fs ≡ prefixed moved ess es
-follow-same moved doc ess fss gss es fs same cut kept at r =
-    ap (λ xss. prefixed moved xss fs) (same ∙ cut)
-    ∙ (ap (prefixed moved (map (from doc) ess)) kept
-    ∙ prefixed-cut moved ess doc es (subst (λ d. Rising d es) (sym at) (Rising-first 0 es r)))

@@ -13,8 +13,9 @@ pub mod PlacesLaws
 pub mod PrefixEntries
 pub mod PrefixEntryLaws
 pub mod OneTermLaws
-pub mod ChunkBounds
-pub mod Following
+pub mod Rows
+pub mod Windows
+pub mod PrefixWindows
 pub mod Standings
 pub mod StandingLaws
 pub mod Blocks

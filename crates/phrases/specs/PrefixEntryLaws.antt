@@ -1,9 +1,8 @@
 -- Laws of the entries of phrase prefixes.
-use Rattle.std.proofs.Common.{[], List, ap, arith, drop, false, if◌then◌else◌, map, max, nat_lt, refl, sym, true, ◌+◌, ◌<◌, ◌∙◌, ◌∷◌, ◌≡◌, ◌≤◌, ℕ}
+use Rattle.std.proofs.Common.{[], List, ap, arith, false, if◌then◌else◌, map, max, nat_lt, refl, sym, true, ◌+◌, ◌<◌, ◌∙◌, ◌∷◌, ◌≡◌, ◌≤◌, ℕ}
 use Rattle.std.proofs.lemmas.Bool.Decides.{nat_tests}
-use Rattle.cursors.specs.Entries.{Entry, IsRest, Rising, first, first_count, first_positions, first_score, from, most_positions, single}
-use Rattle.cursors.specs.EntryLaws.{Rising-lower, drop-one, from-in, from-out, from-step, most-drop, most-from}
-use Rattle.definitions.specs.Postings.{terminated}
+use Rattle.cursors.specs.Entries.{Entry, IsRest, Rising, first, from, most_positions, single}
+use Rattle.cursors.specs.EntryLaws.{Rising-lower, from-in, from-out, most-drop, most-from}
 use Rattle.leaf_scorers.specs.ScoredEntryLaws.{by_place}
 use Rattle.members.specs.MemberLaws.{entries_at-kept}
 use Rattle.members.specs.Members.{entries_at}
@@ -21,45 +20,6 @@ prefixed-none moved ess e es none = ap (λ n. if nat_lt 0 n then counted e n ∷
 
 prefixed-some : (moved : ℕ) (ess : List (List Entry)) (e : Entry) (es : List Entry) → 0 < follows moved ess e → prefixed moved ess (e ∷ es) ≡ counted e (follows moved ess e) ∷ prefixed moved ess es
 prefixed-some moved ess e es some = (let b : nat_lt 0 (follows moved ess e) ≡ true = grind (arith, nat_tests, some) in ap (λ b. if b then counted e (follows moved ess e) ∷ prefixed moved ess es else prefixed moved ess es) b)
-
--- how often they follow the first
-abbrev pub first_follows : ℕ → List (List Entry) → List Entry → ℕ
-first_follows moved ess es = continued_by moved (single (first_positions es)) (entries_at (first es) ess)
-
--- where none follows the first document it can be passed
-pub prefixed-pass : (moved : ℕ) (ess : List (List Entry)) (es : List Entry) → first_follows moved ess es ≡ 0 → prefixed moved ess (drop 1 es) ≡ prefixed moved ess es
-prefixed-pass moved ess [] none = refl
-prefixed-pass moved ess (e ∷ es) none = sym (prefixed-none moved ess e es none)
-
--- nor is a document lost where no suffix has it
-prefixed-skip : (moved t : ℕ) (ess : List (List Entry)) (es : List Entry) → ((d : ℕ) → d < t → entries_at d ess ≡ []) → prefixed moved ess (from t es) ≡ prefixed moved ess es
-prefixed-skip moved t ess [] none = refl
-prefixed-skip moved t ess (e ∷ es) none =
-    let ih = prefixed-skip moved t ess es none in
-    by_place t e.doc (prefixed moved ess (from t (e ∷ es)) ≡ prefixed moved ess (e ∷ es))
-    (λ i. ap (prefixed moved ess) (from-in t e es i) ∙ ap (λ xs. if nat_lt 0 (follows moved ess e) then counted e (follows moved ess e) ∷ xs else xs) ih)
-    (λ o. ap (prefixed moved ess) (from-out t e es o) ∙ (ih ∙ sym (prefixed-none moved ess e es (ap (continued_by moved (single e.positions)) (none e.doc o)))))
-
--- where none follows the first document, those up to a suffix can be passed
-pub prefixed-next : (moved bound target : ℕ) (ess : List (List Entry)) (es : List Entry) → target ≡ max bound (first es + 1) → ((d : ℕ) → d < bound → entries_at d ess ≡ []) → first_follows moved ess es ≡ 0 → Rising 0 es → prefixed moved ess (from target es) ≡ prefixed moved ess es
-prefixed-next moved bound target ess es at none nil r =
-    by_place (first es + 1) bound (prefixed moved ess (from target es) ≡ prefixed moved ess es)
-    (λ i. let there : target ≡ bound = omega (arith, at, i) in
-    ap (λ t. prefixed moved ess (from t es)) there
-    ∙ (ap (prefixed moved ess) (sym (from-step bound es (omega (arith, i))))
-    ∙ (prefixed-skip moved bound ess (drop 1 es) none ∙ prefixed-pass moved ess es nil)))
-    (λ o. let next : target ≡ first es + 1 = omega (arith, at, o) in
-    ap (λ t. prefixed moved ess (from t es)) next
-    ∙ (ap (prefixed moved ess) (sym (drop-one 0 es r)) ∙ prefixed-pass moved ess es nil))
-
--- where some do it is the first
-pub prefixed-stands : (moved : ℕ) (ess : List (List Entry)) (es : List Entry) → (first es < terminated → 0 < first_follows moved ess es) → Rising 0 es → (first (prefixed moved ess es) ≡ first es) × (prefixed moved ess (drop 1 es) ≡ drop 1 (prefixed moved ess es))
-prefixed-stands moved ess [] some r = (refl, refl)
-prefixed-stands moved ess (e ∷ es) some r = (let is = prefixed-some moved ess e es (some r.1) in (ap first is, sym (ap (drop 1) is)))
-
-pub prefixed-first : (moved : ℕ) (ess : List (List Entry)) (es : List Entry) → first es < terminated → 0 < first_follows moved ess es → (first_count (prefixed moved ess es) ≡ first_follows moved ess es) × (first_score (prefixed moved ess es) ≡ first_score es)
-prefixed-first moved ess [] l some = absurd (omega (arith, l))
-prefixed-first moved ess (e ∷ es) l some = (let is = prefixed-some moved ess e es some in (ap first_count is, ap first_score is))
 
 pub from-prefixed : (moved : ℕ) (ess : List (List Entry)) (t : ℕ) (es : List Entry) → from t (prefixed moved ess es) ≡ prefixed moved ess (from t es)
 from-prefixed moved ess t [] = refl

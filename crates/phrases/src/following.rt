@@ -1,88 +1,92 @@
-//! The documents where a suffix follows a phrase, among those where the phrase stands.
+//! The documents where a suffix follows a phrase, window by window.
 
-ghost use Rattle.std.specs.Prelude.{◌<◌, ◌≡◌, ◌≤◌, length, map, vec_capacity};
-ghost use Rattle.cursors.specs.Entries.{IsRest, first, most_positions};
+ghost use Rattle.std.specs.Prelude.{◌++◌, ◌<◌, ◌≡◌, ◌≤◌, length, map, ℕ};
+ghost use Rattle.cursors.specs.Entries.{IsRest, Rising, first, most_positions};
 ghost use Rattle.definitions.specs.Postings.{terminated};
-ghost use Rattle.members.specs.Members.{least};
-ghost use Rattle.phrases.specs.ChunkBounds.{BeginBehind};
 ghost use Rattle.phrases.specs.PrefixEntries.{prefixed};
-ghost use Rattle.phrases.specs.PrefixEntryLaws.{first_follows, most_suffix_positions};
+ghost use Rattle.phrases.specs.PrefixEntryLaws.{most_suffix_positions};
+ghost use Rattle.phrases.specs.Windows.{IsWindow, left_in};
 
-use crate::chunked_docs::ChunkedDocs;
-use crate::suffixes::{count_suffixes, move_suffixes};
+use crate::filling::{keep_followed, take_rows};
+use crate::row_search::{note_guesses, shift_of};
+use crate::suffixes::add_suffixes;
+use crate::window::{MOST_ROWS, Window};
 use common::{DocId, TERMINATED};
 use cursors::Postings;
 use intersections::Positioned;
-use members::move_to;
+use leaf_scorers::Scorer;
 
-/// How often suffixes follow a phrase in the document on which it stands. Its places are read only where some suffix may
-/// have the document.
-fn count_following<W: Positioned, P: Postings>(
+/// Takes the next documents of a phrase in place of the rows of a window, and leaves those that suffixes follow.
+fn fill_window<W: Scorer + Positioned, P: Postings>(
     phrase: &mut W,
     suffixes: &mut Vec<P>,
-    docs: &ChunkedDocs,
-    doc: DocId,
+    window: &mut Window,
     moved: u32,
-    places: &mut Vec<u32>,
-    positions: &mut Vec<u32>,
-) -> u64
-    requires at { doc ≡ first (W.entries phrase.old) }
-    requires on { doc < terminated }
-    requires leads { doc ≤ least (map P.entries suffixes.old.items) }
-    requires behind { BeginBehind docs.now.docs.items (map P.entries suffixes.old.items) }
-    requires places { most_positions (W.entries phrase.old) ≤ vec_capacity places.old }
+)
+    requires on { first (W.entries phrase.old) < terminated }
     requires few_places { most_positions (W.entries phrase.old) ≤ 4294967295 }
-    requires positions { most_suffix_positions (map P.entries suffixes.old.items) ≤ vec_capacity positions.old }
     requires few_suffixes { length suffixes.old.items < 4294967296 }
-    ensures phrase { W.entries phrase.new ≡ W.entries phrase.old }
-    ensures suffixes { map P.entries suffixes.new.items ≡ map P.entries suffixes.old.items }
-    ensures count { result ≡ first_follows moved (map P.entries suffixes.old.items) (W.entries phrase.old) }
-    ensures places { vec_capacity places.old ≤ vec_capacity places.new }
-    ensures positions { vec_capacity positions.old ≤ vec_capacity positions.new }
-{
-    if docs.next_below(0, doc + 1) >= suffixes.len() {
-        return 0;
-    }
-    phrase.positions(places);
-    count_suffixes(suffixes, docs, doc, places, moved, positions)
-}
-
-/// Goes on from the document on which a phrase stands to the first where suffixes follow it, and answers how often they
-/// do.
-pub(crate) fn follow<W: Positioned, P: Postings>(
-    phrase: &mut W,
-    suffixes: &mut Vec<P>,
-    docs: &mut ChunkedDocs,
-    moved: u32,
-    places: &mut Vec<u32>,
-    positions: &mut Vec<u32>,
-) -> u64
-    requires behind { BeginBehind docs.old.docs.items (map P.entries suffixes.old.items) }
-    requires places { most_positions (W.entries phrase.old) ≤ vec_capacity places.old }
-    requires few_places { most_positions (W.entries phrase.old) ≤ 4294967295 }
-    requires positions { most_suffix_positions (map P.entries suffixes.old.items) ≤ vec_capacity positions.old }
-    requires few_suffixes { length suffixes.old.items < 4294967296 }
-    ensures same { prefixed moved (map P.entries suffixes.new.items) (W.entries phrase.new)
+    requires window { IsWindow window.old (most_positions (W.entries phrase.old))
+        (most_suffix_positions (map P.entries suffixes.old.items)) }
+    ensures same { left_in window.new ++ prefixed moved (map P.entries suffixes.new.items) (W.entries phrase.new)
         ≡ prefixed moved (map P.entries suffixes.old.items) (W.entries phrase.old) }
     ensures rest { IsRest (W.entries phrase.new) (W.entries phrase.old) }
-    ensures count { first (W.entries phrase.new) < terminated
-        → result ≡ first_follows moved (map P.entries suffixes.new.items) (W.entries phrase.new) }
-    ensures some { first (W.entries phrase.new) < terminated → 0 < result }
+    ensures later { first (W.entries phrase.old) < first (W.entries phrase.new) }
     ensures most { most_suffix_positions (map P.entries suffixes.new.items)
         ≤ most_suffix_positions (map P.entries suffixes.old.items) }
     ensures long { length suffixes.new.items ≡ length suffixes.old.items }
-    ensures behind { BeginBehind docs.new.docs.items (map P.entries suffixes.new.items) }
-    ensures places { vec_capacity places.old ≤ vec_capacity places.new }
-    ensures positions { vec_capacity positions.old ≤ vec_capacity positions.new }
+    ensures window { (n m : ℕ) → IsWindow window.old n m → IsWindow window.new n m }
 {
-    let mut doc = phrase.doc();
-    while doc < TERMINATED {
-        move_suffixes(suffixes, docs, doc);
-        let count = count_following(phrase, suffixes, docs, doc, moved, places, positions);
-        if count > 0 {
-            return count;
-        }
-        doc = move_to(phrase, docs.least().max(doc + 1));
+    window.row = 0;
+    take_rows(
+        phrase,
+        window.limit,
+        &mut window.rows,
+        &mut window.places,
+        &mut window.here,
+    );
+    let shift = shift_of(&window.rows);
+    note_guesses(&window.rows, shift, &mut window.guesses);
+    add_suffixes(
+        suffixes,
+        &mut window.rows,
+        &window.guesses,
+        shift,
+        &window.places,
+        moved,
+        &mut window.positions,
+    );
+    keep_followed(&mut window.rows);
+    window.limit = (window.limit * 2).min(MOST_ROWS);
+}
+
+/// Fills a window until it stands on a row, where it doesn't and documents are left, and answers its document.
+pub(crate) fn refill<W: Scorer + Positioned, P: Postings>(
+    phrase: &mut W,
+    suffixes: &mut Vec<P>,
+    window: &mut Window,
+    moved: u32,
+) -> DocId
+    requires rises { Rising 0 (left_in window.old
+        ++ prefixed moved (map P.entries suffixes.old.items) (W.entries phrase.old)) }
+    requires few_places { most_positions (W.entries phrase.old) ≤ 4294967295 }
+    requires few_suffixes { length suffixes.old.items < 4294967296 }
+    requires window { IsWindow window.old (most_positions (W.entries phrase.old))
+        (most_suffix_positions (map P.entries suffixes.old.items)) }
+    ensures same { left_in window.new ++ prefixed moved (map P.entries suffixes.new.items) (W.entries phrase.new)
+        ≡ left_in window.old ++ prefixed moved (map P.entries suffixes.old.items) (W.entries phrase.old) }
+    ensures at { result ≡ first (left_in window.new) }
+    ensures ends { terminated ≤ result → terminated ≤ first (W.entries phrase.new) }
+    ensures rest { IsRest (W.entries phrase.new) (W.entries phrase.old) }
+    ensures most { most_suffix_positions (map P.entries suffixes.new.items)
+        ≤ most_suffix_positions (map P.entries suffixes.old.items) }
+    ensures long { length suffixes.new.items ≡ length suffixes.old.items }
+    ensures window { (n m : ℕ) → IsWindow window.old n m → IsWindow window.new n m }
+{
+    let mut doc = window.doc();
+    while doc >= TERMINATED && phrase.doc() < TERMINATED {
+        fill_window(phrase, suffixes, window, moved);
+        doc = window.doc();
     }
-    0
+    doc
 }

@@ -3,7 +3,7 @@
 
 mod adjusting;
 mod block_sink;
-mod chunked_docs;
+mod filling;
 mod following;
 mod marking;
 mod merging;
@@ -15,9 +15,12 @@ mod phrase_scorer;
 mod place_finder;
 mod postings_with_offset;
 mod reaching;
+mod row;
+mod row_search;
 mod settling;
 mod sink;
 mod suffixes;
+mod window;
 
 pub use block_sink::{BlockSink, for_each_docset_buffered};
 pub use one_term_phrase::OneTermPhrase;

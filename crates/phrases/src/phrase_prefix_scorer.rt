@@ -1,18 +1,21 @@
 //! The documents where a phrase stands that one of several terms follows.
 
-ghost use Rattle.std.specs.Prelude.{◌<◌, ◌≡◌, ◌≤◌, IfOk, length, map, vec_capacity};
-ghost use Rattle.cursors.specs.Entries.{first, first_count, most_positions};
+ghost use Rattle.std.specs.Prelude.{◌++◌, ◌<◌, ◌≡◌, ◌≤◌, IfOk, length, map};
+ghost use Rattle.cursors.specs.Entries.{Rising, first, first_count, most_positions};
+ghost use Rattle.cursors.specs.EntryLaws.{Rising-prop};
 ghost use Rattle.definitions.specs.Postings.{terminated};
 ghost use Rattle.phrases.specs.PrefixEntryLaws.{most_suffix_positions};
-ghost use Rattle.phrases.specs.Following.{IsFollowing, IsFollowing-prop};
 ghost use Rattle.phrases.specs.PrefixEntries.{prefixed};
+ghost use Rattle.phrases.specs.PrefixWindows.{IsFollowing, IsFollowing-prop};
+ghost use Rattle.phrases.specs.Windows.{left_in};
 
-use crate::chunked_docs::ChunkedDocs;
-use crate::following::follow;
+use crate::following::refill;
+use crate::window::Window;
 use common::{DocId, Score};
 use cursors::{DocSet, Postings};
 use intersections::Positioned;
 use leaf_scorers::Scorer;
+use members::move_to;
 use std::alloc::{AllocError, Global};
 
 /// The documents where a phrase stands at whose places some of the suffixes stand, moved on, with the scores of the
@@ -21,12 +24,10 @@ use std::alloc::{AllocError, Global};
 pub struct PhrasePrefixScorer<W: Scorer + Positioned, P: Postings> {
     phrase_scorer: W,
     suffixes: Vec<P>,
-    docs: ChunkedDocs,
     suffix_offset: u32,
-    phrase_count: u64,
-    places: Vec<u32>,
-    positions: Vec<u32>,
-    ghost following: { IsFollowing suffix_offset phrase_count (vec_capacity places) (vec_capacity positions) (length suffixes.items) docs.docs.items (map P.entries suffixes.items) (W.entries phrase_scorer) } by { IsFollowing-prop suffix_offset phrase_count (vec_capacity places) (vec_capacity positions) (length suffixes.items) docs.docs.items (map P.entries suffixes.items) (W.entries phrase_scorer) },
+    window: Window,
+    ghost rises: { Rising 0 (left_in window ++ prefixed suffix_offset (map P.entries suffixes.items) (W.entries phrase_scorer)) } by { Rising-prop 0 (left_in window ++ prefixed suffix_offset (map P.entries suffixes.items) (W.entries phrase_scorer)) },
+    ghost following: { IsFollowing window (length suffixes.items) (map P.entries suffixes.items) (W.entries phrase_scorer) } by { IsFollowing-prop window (length suffixes.items) (map P.entries suffixes.items) (W.entries phrase_scorer) },
 }
 
 /// A number of positions that no document of any of the cursors has more of.
@@ -56,25 +57,19 @@ impl<W: Scorer + Positioned + Drop, P: Postings + Drop> PhrasePrefixScorer<W, P>
     {
         let mut phrase_scorer = phrase_scorer;
         let mut suffixes = suffixes;
-        let mut places = Vec::with_capacity(alloc, phrase_scorer.most_positions())?;
-        let mut positions = Vec::with_capacity(alloc, most_of_suffixes(&suffixes))?;
-        let mut docs = ChunkedDocs::new(alloc, suffixes.len())?;
-        let phrase_count = follow(
+        let most = phrase_scorer.most_positions();
+        let mut window = Window::new(alloc, most, most_of_suffixes(&suffixes))?;
+        refill(
             &mut phrase_scorer,
             &mut suffixes,
-            &mut docs,
+            &mut window,
             suffix_offset,
-            &mut places,
-            &mut positions,
         );
         Ok(PhrasePrefixScorer {
             phrase_scorer,
             suffixes,
-            docs,
             suffix_offset,
-            phrase_count,
-            places,
-            positions,
+            window,
         })
     }
 }
@@ -86,46 +81,41 @@ impl<W: Scorer + Positioned, P: Postings> PhrasePrefixScorer<W, P> {
         requires { first (⟦<PhrasePrefixScorer<W, P> as DocSet>⟧.entries self.now) < terminated }
         ensures { result ≡ first_count (⟦<PhrasePrefixScorer<W, P> as DocSet>⟧.entries self.now) }
     {
-        self.phrase_count
+        self.window.count()
     }
 }
 
 impl<W: Scorer + Positioned, P: Postings> DocSet for PhrasePrefixScorer<W, P> {
-    ghost use Rattle.std.specs.Prelude.{map};
+    ghost use Rattle.std.specs.Prelude.{◌++◌, map};
     ghost use Rattle.phrases.specs.PrefixEntries.{prefixed};
-    ghost use Rattle.phrases.specs.PrefixEntryLaws.{Rising-prefixed};
+    ghost use Rattle.phrases.specs.Windows.{left_in};
 
-    ghost entries = { λ s. prefixed s.suffix_offset (map P.entries s.suffixes.items) (W.entries s.phrase_scorer) };
+    ghost entries = { λ s. left_in s.window ++ prefixed s.suffix_offset (map P.entries s.suffixes.items) (W.entries s.phrase_scorer) };
 
     fn advance(&mut self) -> DocId {
-        self.phrase_scorer.advance();
-        self.phrase_count = follow(
+        self.window.step();
+        refill(
             &mut self.phrase_scorer,
             &mut self.suffixes,
-            &mut self.docs,
+            &mut self.window,
             self.suffix_offset,
-            &mut self.places,
-            &mut self.positions,
-        );
-        self.phrase_scorer.doc()
+        )
     }
 
     fn seek(&mut self, target: DocId) -> DocId {
-        self.phrase_scorer.seek(target);
-        self.phrase_count = follow(
+        self.window.seek(target);
+        move_to(&mut self.phrase_scorer, target);
+        refill(
             &mut self.phrase_scorer,
             &mut self.suffixes,
-            &mut self.docs,
+            &mut self.window,
             self.suffix_offset,
-            &mut self.places,
-            &mut self.positions,
-        );
-        self.phrase_scorer.doc()
+        )
     }
 
     #[inline]
     fn doc(&self) -> DocId {
-        self.phrase_scorer.doc()
+        self.window.doc()
     }
 
     fn size_hint(&self) -> u32 {
@@ -136,11 +126,12 @@ impl<W: Scorer + Positioned, P: Postings> DocSet for PhrasePrefixScorer<W, P> {
         self.phrase_scorer.cost()
     }
 
-    ghost rising = { λ s. Rising-prefixed s.suffix_offset (map P.entries s.suffixes.items) 0 (W.entries s.phrase_scorer) (W.rising s.phrase_scorer) };
+    ghost rising = { λ s. s.rises };
 }
 
 impl<W: Scorer + Positioned, P: Postings> Scorer for PhrasePrefixScorer<W, P> {
+    #[inline]
     fn score(&mut self) -> Score {
-        self.phrase_scorer.score()
+        self.window.score() as i64
     }
 }

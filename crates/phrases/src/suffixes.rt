@@ -1,20 +1,22 @@
 //! The terms that may follow a phrase.
 
 ghost use Rattle.std.specs.Prelude.{[], ◌+◌, ◌<◌, ◌≡◌, ◌≤◌, length, map, vec_capacity, ℕ};
-ghost use Rattle.cursors.specs.Entries.{IsRest, first, first_positions, from, most_positions, single};
+ghost use Rattle.cursors.specs.Entries.{first, first_positions, from, most_positions, single};
 ghost use Rattle.definitions.specs.Postings.{terminated};
-ghost use Rattle.definitions.specs.Scoring.{greatest_of};
-ghost use Rattle.members.specs.Members.{entries_at, entries_of, least};
-ghost use Rattle.phrases.specs.ChunkBounds.{BeginBehind};
-ghost use Rattle.phrases.specs.Places.{Ascends};
+ghost use Rattle.members.specs.Members.{entries_of};
+ghost use Rattle.phrases.specs.Places.{Ascends, Rises};
 ghost use Rattle.phrases.specs.PrefixEntries.{continued_by};
 ghost use Rattle.phrases.specs.PrefixEntryLaws.{most_suffix_positions};
+ghost use Rattle.phrases.specs.Rows.{AreRows, IsRow, added, added_one, docs_of, end_of, most_count};
 
-use crate::chunked_docs::ChunkedDocs;
 use crate::merging::count_continued;
+use crate::row::Row;
+use crate::row_search::find_row;
 use common::DocId;
 use cursors::{DocSet, Postings};
-use members::move_to;
+
+/// How far a target is that a suffix of one document reaches by steps. One of more documents has the less far to it.
+const STEPS: u32 = 524288;
 
 /// Puts the positions in the current document in place of those that the output holds, which has the room.
 pub(crate) fn read_positions<P: Postings>(postings: &mut P, output: &mut Vec<u32>)
@@ -52,45 +54,132 @@ fn count_suffix<P: Postings>(
     count_continued(places, moved, positions) as u64
 }
 
-/// Moves each suffix to the first document that isn't below a given one.
-pub(crate) fn move_suffixes<P: Postings>(suffixes: &mut Vec<P>, docs: &mut ChunkedDocs, doc: DocId)
-    requires small { doc ≤ terminated }
-    requires behind { BeginBehind docs.old.docs.items (map P.entries suffixes.old.items) }
-    ensures moved { map P.entries suffixes.new.items ≡ map (from doc) (map P.entries suffixes.old.items) }
-    ensures behind { BeginBehind docs.new.docs.items (map P.entries suffixes.new.items) }
+/// Moves a suffix on, no further than to the first document that isn't below a target: by steps where that is near.
+#[inline]
+fn step_to<P: Postings>(suffix: &mut P, doc: DocId, target: DocId, near: u32) -> DocId
+    requires at { doc ≡ first (P.entries suffix.old) }
+    requires ahead { doc < target }
+    requires small { target < terminated }
+    ensures rest { from target (P.entries suffix.new) ≡ from target (P.entries suffix.old) }
+    ensures later { doc < result }
+    ensures at { result ≡ first (P.entries suffix.new) }
+    ensures most { most_positions (P.entries suffix.new) ≤ most_positions (P.entries suffix.old) }
 {
-    let mut place = docs.next_below(0, doc);
-    while place < suffixes.len() {
-        docs.put(place, move_to(&mut suffixes[place], doc));
-        place = docs.next_below(place + 1, doc);
+    if target - doc < near {
+        return suffix.advance();
     }
+    suffix.seek(target)
 }
 
-/// How often suffixes stand at the places of a document, moved on, added up over the suffixes.
-pub(crate) fn count_suffixes<P: Postings>(
-    suffixes: &mut Vec<P>,
-    docs: &ChunkedDocs,
+/// Adds to a row how often a suffix follows it, where the suffix has the document, and moves the suffix on.
+#[inline]
+fn visit_row<P: Postings>(
+    suffix: &mut P,
+    row: &mut Row,
     doc: DocId,
+    near: u32,
     places: &[u32],
     moved: u32,
     positions: &mut Vec<u32>,
-) -> u64
-    requires leads { doc ≤ least (map P.entries suffixes.old.items) }
-    requires on { doc < terminated }
-    requires behind { BeginBehind docs.now.docs.items (map P.entries suffixes.old.items) }
-    requires places { Ascends 0 places.now }
-    requires few_places { length places.now ≤ 4294967295 }
-    requires few_suffixes { length suffixes.old.items < 4294967296 }
-    requires room { most_suffix_positions (map P.entries suffixes.old.items) ≤ vec_capacity positions.old }
-    ensures same { map P.entries suffixes.new.items ≡ map P.entries suffixes.old.items }
-    ensures count { result ≡ continued_by moved places.now (entries_at doc (map P.entries suffixes.old.items)) }
+) -> DocId
+    requires at { doc ≡ first (P.entries suffix.old) }
+    requires ahead { doc ≤ row.old.doc }
+    requires row { IsRow places.now row.old }
+    requires fits { (added_one moved places.now (P.entries suffix.old) row.old).count ≤ 18446744073709551615 }
+    requires room { most_positions (P.entries suffix.old) ≤ vec_capacity positions.old }
+    ensures added { added_one moved places.now (P.entries suffix.new) row.new
+        ≡ added_one moved places.now (P.entries suffix.old) row.old }
+    ensures doc { row.new.doc ≡ row.old.doc }
+    ensures row { IsRow places.now row.new }
+    ensures rest { from (row.old.doc + 1) (P.entries suffix.new) ≡ from (row.old.doc + 1) (P.entries suffix.old) }
+    ensures later { doc < result }
+    ensures at { result ≡ first (P.entries suffix.new) }
+    ensures most { most_positions (P.entries suffix.new) ≤ most_positions (P.entries suffix.old) }
     ensures room { vec_capacity positions.old ≤ vec_capacity positions.new }
 {
-    let mut count = 0;
-    let mut place = docs.next_below(0, doc + 1);
-    while place < suffixes.len() {
-        count += count_suffix(&mut suffixes[place], doc, places, moved, positions);
-        place = docs.next_below(place + 1, doc + 1);
+    if doc < row.doc {
+        return step_to(suffix, doc, row.doc, near);
     }
-    count
+    let begin = row.begin as usize;
+    let here = &places[begin..begin + row.num_places as usize];
+    let count = count_suffix(suffix, doc, here, moved, positions);
+    row.count += count;
+    suffix.advance()
+}
+
+/// Adds to each row how often a suffix follows it, and moves the suffix behind all rows.
+fn add_suffix<P: Postings>(
+    suffix: &mut P,
+    rows: &mut Vec<Row>,
+    guesses: &[u32],
+    shift: u32,
+    places: &[u32],
+    moved: u32,
+    positions: &mut Vec<u32>,
+)
+    requires some { 0 < length rows.old.items }
+    requires rows { AreRows places.now rows.old.items }
+    requires rises { Rises 0 (docs_of rows.old.items) }
+    requires shift { shift < 32 }
+    requires counts { most_count rows.old.items + 4294967295 ≤ 18446744073709551615 }
+    requires room { most_positions (P.entries suffix.old) ≤ vec_capacity positions.old }
+    ensures added { rows.new.items ≡ map (added_one moved places.now (P.entries suffix.old)) rows.old.items }
+    ensures rest { P.entries suffix.new ≡ from (end_of (docs_of rows.old.items)) (P.entries suffix.old) }
+    ensures room { vec_capacity positions.old ≤ vec_capacity positions.new }
+    ensures rows_room { vec_capacity rows.new ≡ vec_capacity rows.old }
+{
+    let mut doc = suffix.doc();
+    let mut place = find_row(rows, guesses, shift, doc);
+    if place == rows.len() {
+        return;
+    }
+    let near = STEPS / suffix.size_hint().max(1);
+    while place < rows.len() {
+        doc = visit_row(
+            suffix,
+            &mut rows[place],
+            doc,
+            near,
+            places,
+            moved,
+            positions,
+        );
+        place = find_row(rows, guesses, shift, doc);
+    }
+}
+
+/// Adds to each row how often suffixes follow it.
+pub(crate) fn add_suffixes<P: Postings>(
+    suffixes: &mut Vec<P>,
+    rows: &mut Vec<Row>,
+    guesses: &[u32],
+    shift: u32,
+    places: &[u32],
+    moved: u32,
+    positions: &mut Vec<u32>,
+)
+    requires some { 0 < length rows.old.items }
+    requires rows { AreRows places.now rows.old.items }
+    requires rises { Rises 0 (docs_of rows.old.items) }
+    requires shift { shift < 32 }
+    requires fresh { most_count rows.old.items ≡ 0 }
+    requires few_suffixes { length suffixes.old.items < 4294967296 }
+    requires room { most_suffix_positions (map P.entries suffixes.old.items) ≤ vec_capacity positions.old }
+    ensures added { rows.new.items ≡ map (added moved places.now (map P.entries suffixes.old.items)) rows.old.items }
+    ensures rest { map P.entries suffixes.new.items
+        ≡ map (from (end_of (docs_of rows.old.items))) (map P.entries suffixes.old.items) }
+    ensures room { vec_capacity positions.old ≤ vec_capacity positions.new }
+    ensures rows_room { vec_capacity rows.new ≡ vec_capacity rows.old }
+{
+    for i in 0..suffixes.len() {
+        add_suffix(
+            &mut suffixes[i],
+            rows,
+            guesses,
+            shift,
+            places,
+            moved,
+            positions,
+        );
+    }
 }

@@ -1,0 +1,21 @@
+use Rattle.std.proofs.Common.{arith, get_or, length, ◌-◌}
+use Rattle.std.proofs.lemmas.List.{length-map}
+use Rattle.phrases.specs.Rows.{docs_of}
+use Rattle.phrases.proofs.RowLaws.{rises-before}
+use Rattle.phrases.proofs.row_search.guess.Goals as goal
+
+pub returns-clause-passed : goal.returns-clause-passed
+returns-clause-passed c = λ k l.
+    let rows = c.args.rows.now in
+    let place = get_or c.args.guesses.now c.min.result 0 in
+    let long = length-map rows (λ r. r.doc) in
+    let at = c.doc_at-else-place-rows.ensures in
+    rises-before (docs_of rows) place (place - 1) k c.args.doc c.requires.rises (omega arith) (omega (arith, long)) (omega (arith, at)) l
+
+pub returns-then-doc_at-doc-clause-passed : goal.returns-then-doc_at-doc-clause-passed
+returns-then-doc_at-doc-clause-passed c = λ k l.
+    let rows = c.args.rows.now in
+    let long = length-map rows (λ r. r.doc) in
+    let at = c.doc_at.ensures in
+    let some = c.requires.some in
+    rises-before (docs_of rows) (length rows) (length rows - 1) k c.args.doc c.requires.rises (omega (arith, some)) (omega (arith, long)) (omega (arith, at)) l

@@ -1,0 +1,142 @@
+use Rattle.std.proofs.Common.{ap, arith, get_or, length, subst, sym, ◌+◌, ◌<◌, ◌∙◌, ◌≡◌, ◌≢◌, ℕ}
+use Rattle.std.proofs.Math.Seq.{map-set_same}
+use Rattle.std.proofs.lemmas.List.{get_or-map, length-map}
+use Rattle.cursors.specs.Entries.{first, from}
+use Rattle.leaf_scorers.specs.ScoredEntryLaws.{by_place}
+use Rattle.phrases.specs.Places.{Rises}
+use Rattle.phrases.specs.Rows.{IsRow, docs_of, end_of, most_count}
+use Rattle.phrases.proofs.RowLaws.{added-behind, added-visited, count-fits, end-behind, from-later, kept-by, rest-behind, rises-apart, rows-get, rows-set}
+use Rattle.phrases.proofs.suffixes.add_suffix.Given.{Over}
+use Rattle.phrases.proofs.suffixes.add_suffix.Goals.{After-index_mut, Then-place-len}
+use Rattle.phrases.proofs.suffixes.add_suffix.Goals as goal
+
+-- the row that is visited
+within : (g : Over) (c : After-index_mut g) → c.loop-place.place < length c.loop-place.rows.items
+within g c = (let len = c.len.ensures in let test = c.loop-place-test.true in omega (arith, len, test))
+
+here : (g : Over) (c : After-index_mut g) → get_or (docs_of c.loop-place.rows.items) c.loop-place.place 0 ≡ c.index_mut.result.now.doc
+here g c = get_or-map (λ r. r.doc) c.loop-place.rows.items c.loop-place.place c.index_mut.result.now 0 (within g c) ∙ ap (λ r. r.doc) (sym c.index_mut.ensures.value)
+
+inside : (g : Over) (c : After-index_mut g) → c.loop-place.place < length (docs_of c.loop-place.rows.items)
+inside g c = (let long = length-map c.loop-place.rows.items (λ r. r.doc) in let l = within g c in omega (arith, long, l))
+
+-- other rows that aren't behind it were passed
+before : (g : Over) (c : After-index_mut g) (k : ℕ) → k < length c.loop-place.rows.items → k ≢ c.loop-place.place → get_or (docs_of c.loop-place.rows.items) k 0 < c.index_mut.result.now.doc + 1 → get_or (docs_of c.loop-place.rows.items) k 0 < c.loop-place.doc
+before g c k l apart m =
+    let ds = docs_of c.loop-place.rows.items in
+    let place = c.loop-place.place in
+    let rises : Rises 0 ds = subst (Rises 0) (sym c.loop-place.invariant.docs) c.requires.rises in
+    let long = length-map c.loop-place.rows.items (λ r. r.doc) in
+    let at = here g c in
+    by_place place k (get_or ds k 0 < c.loop-place.doc)
+    (λ b. (let less = rises-apart 0 ds place k rises (omega (arith, apart, b)) (omega (arith, long, l)) in absurd (omega (arith, less, at, m))))
+    (λ o. c.loop-place.invariant.passed k o)
+
+pub visit_row-doc-requires-clause-ahead : goal.visit_row-doc-requires-clause-ahead
+visit_row-doc-requires-clause-ahead g c =
+    let after = (goal.at.visit_row-doc-requires-clause-ahead g c).After-index_mut in
+    let found = c.loop-place.invariant.found (within g after) in
+    let at = here g after in
+    omega (arith, found, at)
+
+pub visit_row-doc-requires-clause-row : goal.visit_row-doc-requires-clause-row
+visit_row-doc-requires-clause-row g c =
+    let after = (goal.at.visit_row-doc-requires-clause-row g c).After-index_mut in
+    subst (IsRow c.args.places.now) (sym c.index_mut.ensures.value) (rows-get c.args.places.now c.loop-place.rows.items c.loop-place.place c.index_mut.result.now c.loop-place.invariant.rows (within g after))
+
+pub visit_row-doc-requires-clause-fits : goal.visit_row-doc-requires-clause-fits
+visit_row-doc-requires-clause-fits g c =
+    let after = (goal.at.visit_row-doc-requires-clause-fits g c).After-index_mut in
+    let fits = count-fits c.args.moved (most_count c.args.rows.now.items) c.args.places.now (g.P.DocSet.entries c.args.suffix.now) (g.P.DocSet.entries c.loop-place.suffix) c.loop-place.rows.items c.args.rows.now.items c.loop-place.place c.index_mut.result.now c.loop-place.invariant.added c.requires.rows (g.met.P.DocSet.rising c.args.suffix.now) (omega arith) (within g after) c.index_mut.ensures.value in
+    let counts = c.requires.counts in
+    omega (arith, fits, counts)
+
+pub loop-place-smaller : goal.loop-place-smaller
+loop-place-smaller g c =
+    let after = (goal.at.loop-place-smaller g c).After-index_mut in
+    let row = rows-get c.args.places.now c.loop-place.rows.items c.loop-place.place c.index_mut.result.now c.loop-place.invariant.rows (within g after) in
+    let small = row.small in
+    let doc = ap (λ r. r.doc) c.index_mut.ensures.value in
+    let found = c.loop-place.invariant.found (within g after) in
+    let at = here g after in
+    let later = c.visit_row-doc.ensures.later in
+    omega (arith, small, doc, found, at, later)
+
+pub loop-place-preserved : goal.loop-place-preserved
+loop-place-preserved g c =
+    let after = (goal.at.loop-place-preserved g c).After-index_mut in
+    let entries = g.P.DocSet.entries in
+    let inv = c.loop-place.invariant in
+    let items = c.loop-place.rows.items in
+    let place = c.loop-place.place in
+    let row = c.index_mut.result.now in
+    let is = c.index_mut.ensures.value in
+    let v = c.visit_row-doc.ensures in
+    let next = c.visit_row-doc.new.row in
+    let es = entries c.loop-place.suffix in
+    let fs = entries c.visit_row-doc.new.suffix in
+    let f = c.find_row-place-in-loop-place.ensures in
+    let value = c.deref-in-loop-place.ensures.value in
+    let l = within g after in
+    let at = inv.at in
+    let later = v.later in
+    let stands = v.at in
+    let ends = end-behind (docs_of items) place (inside g after) in
+    let all_docs = ap end_of inv.docs in
+    let doc = here g after in
+    let most = inv.most in
+    let fewer = v.most in
+    let room = inv.room in
+    let grown = v.room in
+    record {
+      at = v.at;
+      added = added-visited c.args.moved c.args.places.now es fs items place row next l is v.added (λ k m apart. kept-by (get_or (docs_of items) k 0) (row.doc + 1) es fs (g.met.P.DocSet.rising c.loop-place.suffix) (g.met.P.DocSet.rising c.visit_row-doc.new.suffix) v.rest
+          (λ b. (let passed = before g after k m apart b in omega (arith, passed, at)))
+          (λ b. (let passed = before g after k m apart b in omega (arith, passed, later, stands))))
+          ∙ inv.added;
+      docs = map-set_same (λ r. r.doc) items place next row (v.doc ∙ ap (λ r. r.doc) is) ∙ inv.docs;
+      rows = rows-set c.args.places.now items place next inv.rows v.row;
+      rest = from-later (row.doc + 1) (end_of (docs_of c.args.rows.now.items)) es fs v.rest (omega (arith, ends, all_docs, doc)) ∙ inv.rest;
+      most = omega (arith, most, fewer);
+      within = (let to = f.to in let long = ap length value in omega (arith, to, long));
+      passed = λ k m. (let passed = f.passed k m in let same = ap (λ rows. get_or (docs_of rows) k 0) value in omega (arith, passed, same));
+      found = λ m. (let long = ap length value in let found = f.found (omega (arith, m, long)) in let same = ap (λ rows. get_or (docs_of rows) c.find_row-place-in-loop-place.result 0) value in omega (arith, found, same));
+      room = omega (arith, room, grown);
+      rows_room = inv.rows_room;
+    }
+
+pub find_row-place-requires-in-loop-place-clause-rises : goal.find_row-place-requires-in-loop-place-clause-rises
+find_row-place-requires-in-loop-place-clause-rises g c =
+    let items = c.loop-place.rows.items in
+    let same = map-set_same (λ r. r.doc) items c.loop-place.place c.visit_row-doc.new.row c.index_mut.result.now (c.visit_row-doc.ensures.doc ∙ ap (λ r. r.doc) c.index_mut.ensures.value) in
+    subst (Rises 0) (sym (ap docs_of c.deref-in-loop-place.ensures.value ∙ (same ∙ c.loop-place.invariant.docs))) c.requires.rises
+
+-- rows that were all passed at once come before the suffix
+past : (g : Over) (c : Then-place-len g) (k : ℕ) → k < length c.args.rows.now.items → get_or (docs_of c.args.rows.now.items) k 0 < first (g.P.DocSet.entries c.args.suffix.now)
+past g c k l =
+    let len = c.len.ensures in
+    let test = c.if-place-len.true in
+    let at = c.doc-doc.ensures in
+    let passed = c.find_row-place.ensures.passed k (omega (arith, l, len, test)) in
+    let same = ap (λ rows. get_or (docs_of rows) k 0) c.deref.ensures.value in
+    omega (arith, passed, same, at)
+
+pub returns-then-place-len-clause-added : goal.returns-then-place-len-clause-added
+returns-then-place-len-clause-added g c = added-behind c.args.moved c.args.places.now (g.P.DocSet.entries c.args.suffix.now) c.args.rows.now.items (g.met.P.DocSet.rising c.args.suffix.now) (past g c)
+
+pub returns-then-place-len-clause-rest : goal.returns-then-place-len-clause-rest
+returns-then-place-len-clause-rest g c = rest-behind (g.P.DocSet.entries c.args.suffix.now) c.args.rows.now.items (g.met.P.DocSet.rising c.args.suffix.now) (past g c)
+
+pub returns-clause-added : goal.returns-clause-added
+returns-clause-added g c =
+    let es = g.P.DocSet.entries c.loop-place.suffix in
+    let inv = c.loop-place.invariant in
+    added-behind c.args.moved c.args.places.now es c.loop-place.rows.items (g.met.P.DocSet.rising c.loop-place.suffix) (λ k l. (let len = c.len-in-loop-place.ensures in let test = c.loop-place-test.false in let at = inv.at in let passed = inv.passed k (omega (arith, l, len, test)) in omega (arith, passed, at)))
+    ∙ inv.added
+
+pub returns-clause-rest : goal.returns-clause-rest
+returns-clause-rest g c =
+    let es = g.P.DocSet.entries c.loop-place.suffix in
+    let inv = c.loop-place.invariant in
+    rest-behind es c.loop-place.rows.items (g.met.P.DocSet.rising c.loop-place.suffix) (λ k l. (let len = c.len-in-loop-place.ensures in let test = c.loop-place-test.false in let at = inv.at in let passed = inv.passed k (omega (arith, l, len, test)) in omega (arith, passed, at)))
+    ∙ (ap (λ ds. from (end_of ds) es) inv.docs ∙ inv.rest)

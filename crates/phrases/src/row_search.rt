@@ -1,0 +1,103 @@
+//! A search of rows by their documents.
+
+ghost use Rattle.std.specs.Prelude.{◌<◌, ◌≡◌, ◌≤◌, length, slice_index, vec_capacity, ℕ};
+ghost use Rattle.phrases.specs.Places.{Rises};
+ghost use Rattle.phrases.specs.Rows.{docs_of};
+
+use crate::row::Row;
+use common::DocId;
+
+/// The document of a row.
+#[inline]
+pub(crate) fn doc_at(rows: &[Row], place: usize) -> DocId
+    requires { place < length rows.now }
+    ensures { result ≡ slice_index (docs_of rows.now) place }
+{
+    rows[place].doc
+}
+
+/// The first place from one on whose row isn't below a document, or how many rows there are.
+#[inline]
+pub(crate) fn first_row(rows: &[Row], start: usize, doc: DocId) -> usize
+    requires { start ≤ length rows.now }
+    ensures from { start ≤ result }
+    ensures to { result ≤ length rows.now }
+    ensures passed { (k : ℕ) → start ≤ k → k < result → slice_index (docs_of rows.now) k < doc }
+    ensures found { result < length rows.now → doc ≤ slice_index (docs_of rows.now) result }
+{
+    for place in start..rows.len() {
+        if doc <= doc_at(rows, place) {
+            return place;
+        }
+    }
+    rows.len()
+}
+
+/// By how many bits documents are shifted, so that about one row falls to each number.
+pub(crate) fn shift_of(rows: &[Row]) -> u32
+    ensures { result < 32 }
+{
+    if rows.is_empty() {
+        return 0;
+    }
+    let last = doc_at(rows, rows.len() - 1);
+    let gap = u64::from(last.saturating_sub(doc_at(rows, 0))) / rows.len() as u64;
+    (64 - gap.leading_zeros()) % 32
+}
+
+/// Notes guesses for a search, for each shifted distance from the first row.
+pub(crate) fn note_guesses(rows: &[Row], shift: u32, guesses: &mut Vec<u32>)
+    requires few { length rows.now ≤ 4096 }
+    requires shift { shift < 32 }
+    requires room { length rows.now ≤ vec_capacity guesses.old }
+    ensures { vec_capacity guesses.new ≡ vec_capacity guesses.old }
+{
+    guesses.clear();
+    if rows.is_empty() {
+        return;
+    }
+    let mut limit = doc_at(rows, 0);
+    let mut place = 0;
+    for _i in 0..rows.len() {
+        place = first_row(rows, place, limit);
+        guesses.push_reserved(place as u32);
+        limit = limit.saturating_add(1 << shift);
+    }
+}
+
+/// A place before which all rows are below a document.
+#[inline]
+fn guess(rows: &[Row], guesses: &[u32], shift: u32, doc: DocId) -> usize
+    requires some { 0 < length rows.now }
+    requires rises { Rises 0 (docs_of rows.now) }
+    requires shift { shift < 32 }
+    ensures to { result ≤ length rows.now }
+    ensures passed { (k : ℕ) → k < result → slice_index (docs_of rows.now) k < doc }
+{
+    if doc_at(rows, rows.len() - 1) < doc {
+        return rows.len();
+    }
+    if guesses.is_empty() {
+        return 0;
+    }
+    let at = (doc.saturating_sub(doc_at(rows, 0)) >> shift) as usize;
+    let place = guesses[at.min(guesses.len() - 1)] as usize;
+    if place == 0 || place > rows.len() || doc_at(rows, place - 1) >= doc {
+        return 0;
+    }
+    place
+}
+
+/// The first place whose row isn't below a document, or how many rows there are.
+#[inline]
+pub(crate) fn find_row(rows: &[Row], guesses: &[u32], shift: u32, doc: DocId) -> usize
+    requires some { 0 < length rows.now }
+    requires rises { Rises 0 (docs_of rows.now) }
+    requires shift { shift < 32 }
+    ensures to { result ≤ length rows.now }
+    ensures passed { (k : ℕ) → k < result → slice_index (docs_of rows.now) k < doc }
+    ensures found { result < length rows.now → doc ≤ slice_index (docs_of rows.now) result }
+{
+    let start = guess(rows, guesses, shift, doc);
+    first_row(rows, start, doc)
+}

@@ -1,0 +1,111 @@
+//! A window over a phrase: rows of its next documents, in buffers whose room was made before.
+
+ghost use Rattle.std.specs.Prelude.{[], ◌<◌, ◌≡◌, ◌≤◌, IfOk, drop, length, ℕ};
+ghost use Rattle.cursors.specs.Entries.{Rising, first, first_count, first_score, from};
+ghost use Rattle.definitions.specs.Postings.{terminated};
+ghost use Rattle.phrases.specs.Windows.{IsWindow, left_in};
+
+use crate::row::Row;
+use crate::row_search::{doc_at, first_row};
+use common::{DocId, TERMINATED};
+use std::alloc::{AllocError, Global};
+
+/// How many documents of a phrase make a window at most.
+pub(crate) const MOST_ROWS: usize = 4096;
+
+/// How many make the first window, and the one after a seek. The next has twice as many.
+const FEW_ROWS: usize = 128;
+
+/// With how many places a window is full.
+pub(crate) const MANY_PLACES: usize = 16384;
+
+/// Rows that suffixes follow, the one on which it stands, and how many documents it takes next; guesses for a search of rows, the places of all rows, and
+/// room for those of one row and for the positions of one suffix.
+#[derive(Drop)]
+pub(crate) struct Window {
+    pub(crate) rows: Vec<Row>,
+    pub(crate) row: usize,
+    pub(crate) limit: usize,
+    pub(crate) guesses: Vec<u32>,
+    pub(crate) places: Vec<u32>,
+    pub(crate) here: Vec<u32>,
+    pub(crate) positions: Vec<u32>,
+}
+
+impl Window {
+    /// No rows, and room for so many places and positions of one document.
+    pub(crate) fn new(
+        alloc: Global,
+        most_places: usize,
+        most_positions: usize,
+    ) -> Result<Window, AllocError>
+        ensures none { IfOk result (λ window. left_in window ≡ []) }
+        ensures room { IfOk result (λ window. IsWindow window most_places most_positions) }
+    {
+        let Some(places_room) = most_places.checked_add(MANY_PLACES) else {
+            return Err(AllocError);
+        };
+        Ok(Window {
+            rows: Vec::with_capacity(alloc, MOST_ROWS)?,
+            row: 0,
+            limit: FEW_ROWS,
+            guesses: Vec::with_capacity(alloc, MOST_ROWS)?,
+            places: Vec::with_capacity(alloc, places_room)?,
+            here: Vec::with_capacity(alloc, most_places)?,
+            positions: Vec::with_capacity(alloc, most_positions)?,
+        })
+    }
+
+    /// The document on which it stands.
+    #[inline]
+    pub(crate) fn doc(&self) -> DocId
+        ensures { result ≡ first (left_in self.now) }
+    {
+        if self.row < self.rows.len() {
+            return doc_at(&self.rows, self.row);
+        }
+        TERMINATED
+    }
+
+    /// The score of the row on which it stands.
+    #[inline]
+    pub(crate) fn score(&self) -> u64
+        requires { first (left_in self.now) < terminated }
+        ensures { result ≡ first_score (left_in self.now) }
+    {
+        self.rows[self.row].score
+    }
+
+    /// How often suffixes follow the row on which it stands.
+    #[inline]
+    pub(crate) fn count(&self) -> u64
+        requires { first (left_in self.now) < terminated }
+        ensures { result ≡ first_count (left_in self.now) }
+    {
+        self.rows[self.row].count
+    }
+
+    /// Goes on to the next row.
+    #[inline]
+    pub(crate) fn step(&mut self)
+        ensures left { left_in self.new ≡ drop 1 (left_in self.old) }
+        ensures window { (n m : ℕ) → IsWindow self.old n m → IsWindow self.new n m }
+    {
+        if self.row < self.rows.len() {
+            self.row += 1;
+        }
+    }
+
+    /// Goes on to the first row that isn't below a target.
+    pub(crate) fn seek(&mut self, target: DocId)
+        requires within { self.old.row ≤ length self.old.rows.items }
+        requires rises { Rising 0 (left_in self.old) }
+        ensures left { left_in self.new ≡ from target (left_in self.old) }
+        ensures window { (n m : ℕ) → IsWindow self.old n m → IsWindow self.new n m }
+    {
+        self.row = first_row(&self.rows, self.row, target);
+        if self.row == self.rows.len() {
+            self.limit = FEW_ROWS;
+        }
+    }
+}
