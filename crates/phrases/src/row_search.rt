@@ -5,7 +5,11 @@ ghost use Rattle.phrases.specs.Places.{Rises};
 ghost use Rattle.phrases.specs.Rows.{docs_of};
 
 use crate::row::Row;
+use crate::window::MOST_ROWS;
 use common::DocId;
+
+/// How many rows are looked at one by one.
+const NEAR: usize = 16;
 
 /// The document of a row.
 #[inline]
@@ -88,6 +92,26 @@ fn guess(rows: &[Row], guesses: &[u32], shift: u32, doc: DocId) -> usize
     place
 }
 
+/// A place from one on before which all rows are below a document; fewer than `NEAR` of those behind it are. Many are
+/// passed by halves, so that rows that stand close together beside a few far ones aren't looked at one by one.
+fn pass_rows(rows: &[Row], start: usize, doc: DocId) -> usize
+    requires rises { Rises 0 (docs_of rows.now) }
+    requires start { start ≤ length rows.now }
+    requires passed { (k : ℕ) → k < start → slice_index (docs_of rows.now) k < doc }
+    ensures to { result ≤ length rows.now }
+    ensures passed { (k : ℕ) → k < result → slice_index (docs_of rows.now) k < doc }
+{
+    let mut place = start;
+    let mut step = MOST_ROWS / 2;
+    while step >= NEAR {
+        if step <= rows.len() - place && doc_at(rows, place + step - 1) < doc {
+            place += step;
+        }
+        step /= 2;
+    }
+    place
+}
+
 /// The first place whose row isn't below a document, or how many rows there are.
 #[inline]
 pub(crate) fn find_row(rows: &[Row], guesses: &[u32], shift: u32, doc: DocId) -> usize
@@ -99,5 +123,8 @@ pub(crate) fn find_row(rows: &[Row], guesses: &[u32], shift: u32, doc: DocId) ->
     ensures found { result < length rows.now → doc ≤ slice_index (docs_of rows.now) result }
 {
     let start = guess(rows, guesses, shift, doc);
+    if NEAR <= rows.len() - start && doc_at(rows, start + NEAR - 1) < doc {
+        return first_row(rows, pass_rows(rows, start, doc), doc);
+    }
     first_row(rows, start, doc)
 }

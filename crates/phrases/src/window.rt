@@ -19,8 +19,8 @@ const FEW_ROWS: usize = 128;
 /// With how many places a window is full.
 pub(crate) const MANY_PLACES: usize = 16384;
 
-/// Rows that suffixes follow, the one on which it stands, and how many documents it takes next; guesses for a search of rows, the places of all rows, and
-/// room for those of one row and for the positions of one suffix.
+/// Rows that suffixes follow, the one on which it stands, and how many documents it takes next; guesses for a search of
+/// rows, the places of all rows, and room for those of one row and for the positions of one suffix.
 #[derive(Drop)]
 pub(crate) struct Window {
     pub(crate) rows: Vec<Row>,
