@@ -10,7 +10,7 @@ ghost use Rattle.phrases.specs.Windows.{IsWindow, left_in};
 use crate::filling::{keep_followed, take_rows};
 use crate::row_search::{note_guesses, shift_of};
 use crate::suffixes::add_suffixes;
-use crate::window::{MOST_ROWS, Window};
+use crate::window::{GROWTH, MOST_ROWS, Window};
 use common::{DocId, TERMINATED};
 use cursors::Postings;
 use intersections::Positioned;
@@ -57,7 +57,7 @@ fn fill_window<W: Scorer + Positioned, P: Postings>(
         &mut window.positions,
     );
     keep_followed(&mut window.rows);
-    window.limit = (window.limit * 2).min(MOST_ROWS);
+    window.limit = (window.limit * GROWTH).min(MOST_ROWS);
 }
 
 /// Fills a window until it stands on a row, where it doesn't and documents are left, and answers its document.

@@ -78,9 +78,6 @@ fn guess(rows: &[Row], guesses: &[u32], shift: u32, doc: DocId) -> usize
     ensures to { result ≤ length rows.now }
     ensures passed { (k : ℕ) → k < result → slice_index (docs_of rows.now) k < doc }
 {
-    if doc_at(rows, rows.len() - 1) < doc {
-        return rows.len();
-    }
     if guesses.is_empty() {
         return 0;
     }

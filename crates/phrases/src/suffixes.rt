@@ -11,7 +11,7 @@ ghost use Rattle.phrases.specs.Rows.{AreRows, IsRow, added, added_one, docs_of, 
 
 use crate::merging::count_continued;
 use crate::row::Row;
-use crate::row_search::find_row;
+use crate::row_search::{doc_at, find_row};
 use common::DocId;
 use cursors::{DocSet, Postings};
 
@@ -129,11 +129,11 @@ fn add_suffix<P: Postings>(
     ensures rows_room { vec_capacity rows.new ≡ vec_capacity rows.old }
 {
     let mut doc = suffix.doc();
-    let mut place = find_row(rows, guesses, shift, doc);
-    if place == rows.len() {
+    if doc_at(rows, rows.len() - 1) < doc {
         return;
     }
     let near = STEPS / suffix.size_hint().max(1);
+    let mut place = find_row(rows, guesses, shift, doc);
     while place < rows.len() {
         doc = visit_row(
             suffix,

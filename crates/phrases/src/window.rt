@@ -13,8 +13,11 @@ use std::alloc::{AllocError, Global};
 /// How many documents of a phrase make a window at most.
 pub(crate) const MOST_ROWS: usize = 4096;
 
-/// How many make the first window, and the one after a seek. The next has twice as many.
-const FEW_ROWS: usize = 128;
+/// How many make the first window, and the one after a seek.
+const FEW_ROWS: usize = 16;
+
+/// How many times as many the next window has.
+pub(crate) const GROWTH: usize = 4;
 
 /// With how many places a window is full.
 pub(crate) const MANY_PLACES: usize = 16384;

@@ -1,4 +1,4 @@
-use Rattle.std.proofs.Common.{arith, get_or, length, ◌-◌}
+use Rattle.std.proofs.Common.{arith, get_or, ◌-◌}
 use Rattle.std.proofs.lemmas.List.{length-map}
 use Rattle.phrases.specs.Rows.{docs_of}
 use Rattle.phrases.proofs.RowLaws.{rises-before}
@@ -11,11 +11,3 @@ returns-clause-passed c = λ k l.
     let long = length-map rows (λ r. r.doc) in
     let at = c.doc_at-else-place-rows.ensures in
     rises-before (docs_of rows) place (place - 1) k c.args.doc c.requires.rises (omega arith) (omega (arith, long)) (omega (arith, at)) l
-
-pub returns-then-doc_at-doc-clause-passed : goal.returns-then-doc_at-doc-clause-passed
-returns-then-doc_at-doc-clause-passed c = λ k l.
-    let rows = c.args.rows.now in
-    let long = length-map rows (λ r. r.doc) in
-    let at = c.doc_at.ensures in
-    let some = c.requires.some in
-    rises-before (docs_of rows) (length rows) (length rows - 1) k c.args.doc c.requires.rises (omega (arith, some)) (omega (arith, long)) (omega (arith, at)) l

@@ -1,13 +1,13 @@
-use Rattle.std.proofs.Common.{ap, arith, get_or, length, subst, sym, ◌+◌, ◌<◌, ◌∙◌, ◌≡◌, ◌≢◌, ℕ}
+use Rattle.std.proofs.Common.{ap, arith, get_or, length, subst, sym, ◌+◌, ◌-◌, ◌<◌, ◌∙◌, ◌≡◌, ◌≢◌, ℕ}
 use Rattle.std.proofs.Math.Seq.{map-set_same}
 use Rattle.std.proofs.lemmas.List.{get_or-map, length-map}
 use Rattle.cursors.specs.Entries.{first, from}
 use Rattle.leaf_scorers.specs.ScoredEntryLaws.{by_place}
 use Rattle.phrases.specs.Places.{Rises}
 use Rattle.phrases.specs.Rows.{IsRow, docs_of, end_of, most_count}
-use Rattle.phrases.proofs.RowLaws.{added-behind, added-visited, count-fits, end-behind, from-later, kept-by, rest-behind, rises-apart, rows-get, rows-set}
+use Rattle.phrases.proofs.RowLaws.{added-behind, added-visited, count-fits, end-behind, from-later, kept-by, rest-behind, rises-apart, rises-before, rows-get, rows-set}
 use Rattle.phrases.proofs.suffixes.add_suffix.Given.{Over}
-use Rattle.phrases.proofs.suffixes.add_suffix.Goals.{After-index_mut, Then-place-len}
+use Rattle.phrases.proofs.suffixes.add_suffix.Goals.{After-index_mut, Then-doc_at-doc}
 use Rattle.phrases.proofs.suffixes.add_suffix.Goals as goal
 
 -- the row that is visited
@@ -111,21 +111,24 @@ find_row-place-requires-in-loop-place-clause-rises g c =
     let same = map-set_same (λ r. r.doc) items c.loop-place.place c.visit_row-doc.new.row c.index_mut.result.now (c.visit_row-doc.ensures.doc ∙ ap (λ r. r.doc) c.index_mut.ensures.value) in
     subst (Rises 0) (sym (ap docs_of c.deref-in-loop-place.ensures.value ∙ (same ∙ c.loop-place.invariant.docs))) c.requires.rises
 
--- rows that were all passed at once come before the suffix
-past : (g : Over) (c : Then-place-len g) (k : ℕ) → k < length c.args.rows.now.items → get_or (docs_of c.args.rows.now.items) k 0 < first (g.P.DocSet.entries c.args.suffix.now)
+-- where the last row comes before the suffix all do
+past : (g : Over) (c : Then-doc_at-doc g) (k : ℕ) → k < length c.args.rows.now.items → get_or (docs_of c.args.rows.now.items) k 0 < first (g.P.DocSet.entries c.args.suffix.now)
 past g c k l =
+    let rows = c.args.rows.now.items in
     let len = c.len.ensures in
-    let test = c.if-place-len.true in
+    let test = c.if-doc_at-doc.true in
     let at = c.doc-doc.ensures in
-    let passed = c.find_row-place.ensures.passed k (omega (arith, l, len, test)) in
-    let same = ap (λ rows. get_or (docs_of rows) k 0) c.deref.ensures.value in
-    omega (arith, passed, same, at)
+    let some = c.requires.some in
+    let long = length-map rows (λ r. r.doc) in
+    let last = c.doc_at.ensures ∙ ap (λ rs. get_or (docs_of rs) (c.len.result - 1) 0) c.deref.ensures.value in
+    let before = rises-before (docs_of rows) (length rows) (c.len.result - 1) k c.doc-doc.result c.requires.rises (omega (arith, some, len)) (omega (arith, long)) (omega (arith, last, test)) l in
+    omega (arith, before, at)
 
-pub returns-then-place-len-clause-added : goal.returns-then-place-len-clause-added
-returns-then-place-len-clause-added g c = added-behind c.args.moved c.args.places.now (g.P.DocSet.entries c.args.suffix.now) c.args.rows.now.items (g.met.P.DocSet.rising c.args.suffix.now) (past g c)
+pub returns-then-doc_at-doc-clause-added : goal.returns-then-doc_at-doc-clause-added
+returns-then-doc_at-doc-clause-added g c = added-behind c.args.moved c.args.places.now (g.P.DocSet.entries c.args.suffix.now) c.args.rows.now.items (g.met.P.DocSet.rising c.args.suffix.now) (past g c)
 
-pub returns-then-place-len-clause-rest : goal.returns-then-place-len-clause-rest
-returns-then-place-len-clause-rest g c = rest-behind (g.P.DocSet.entries c.args.suffix.now) c.args.rows.now.items (g.met.P.DocSet.rising c.args.suffix.now) (past g c)
+pub returns-then-doc_at-doc-clause-rest : goal.returns-then-doc_at-doc-clause-rest
+returns-then-doc_at-doc-clause-rest g c = rest-behind (g.P.DocSet.entries c.args.suffix.now) c.args.rows.now.items (g.met.P.DocSet.rising c.args.suffix.now) (past g c)
 
 pub returns-clause-added : goal.returns-clause-added
 returns-clause-added g c =
