@@ -20,21 +20,22 @@ pub(crate) fn doc_at(rows: &[Row], place: usize) -> DocId
     rows[place].doc
 }
 
-/// The first place from one on whose row isn't below a document, or how many rows there are.
+/// The first place from one on and before another whose row isn't below a document, or the latter.
 #[inline]
-pub(crate) fn first_row(rows: &[Row], start: usize, doc: DocId) -> usize
-    requires { start ≤ length rows.now }
+pub(crate) fn first_row(rows: &[Row], start: usize, end: usize, doc: DocId) -> usize
+    requires order { start ≤ end }
+    requires within { end ≤ length rows.now }
     ensures from { start ≤ result }
-    ensures to { result ≤ length rows.now }
+    ensures to { result ≤ end }
     ensures passed { (k : ℕ) → start ≤ k → k < result → slice_index (docs_of rows.now) k < doc }
-    ensures found { result < length rows.now → doc ≤ slice_index (docs_of rows.now) result }
+    ensures found { result < end → doc ≤ slice_index (docs_of rows.now) result }
 {
-    for place in start..rows.len() {
+    for place in start..end {
         if doc <= doc_at(rows, place) {
             return place;
         }
     }
-    rows.len()
+    end
 }
 
 /// By how many bits documents are shifted, so that about one row falls to each number.
@@ -63,7 +64,7 @@ pub(crate) fn note_guesses(rows: &[Row], shift: u32, guesses: &mut Vec<u32>)
     let mut limit = doc_at(rows, 0);
     let mut place = 0;
     for _i in 0..rows.len() {
-        place = first_row(rows, place, limit);
+        place = first_row(rows, place, rows.len(), limit);
         guesses.push_reserved(place as u32);
         limit = limit.saturating_add(1 << shift);
     }
@@ -120,8 +121,10 @@ pub(crate) fn find_row(rows: &[Row], guesses: &[u32], shift: u32, doc: DocId) ->
     ensures found { result < length rows.now → doc ≤ slice_index (docs_of rows.now) result }
 {
     let start = guess(rows, guesses, shift, doc);
-    if NEAR <= rows.len() - start && doc_at(rows, start + NEAR - 1) < doc {
-        return first_row(rows, pass_rows(rows, start, doc), doc);
+    let near = rows.len().min(start + NEAR);
+    let place = first_row(rows, start, near, doc);
+    if place < near {
+        return place;
     }
-    first_row(rows, start, doc)
+    first_row(rows, pass_rows(rows, place, doc), rows.len(), doc)
 }

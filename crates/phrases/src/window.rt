@@ -13,7 +13,10 @@ use std::alloc::{AllocError, Global};
 /// How many documents of a phrase make a window at most.
 pub(crate) const MOST_ROWS: usize = 4096;
 
-/// How many make the first window, and the one after a seek.
+/// How many make the first window.
+const FIRST_ROWS: usize = 128;
+
+/// How many make the one after a seek.
 const FEW_ROWS: usize = 16;
 
 /// How many times as many the next window has.
@@ -51,7 +54,7 @@ impl Window {
         Ok(Window {
             rows: Vec::with_capacity(alloc, MOST_ROWS)?,
             row: 0,
-            limit: FEW_ROWS,
+            limit: FIRST_ROWS,
             guesses: Vec::with_capacity(alloc, MOST_ROWS)?,
             places: Vec::with_capacity(alloc, places_room)?,
             here: Vec::with_capacity(alloc, most_places)?,
@@ -106,7 +109,7 @@ impl Window {
         ensures left { left_in self.new ≡ from target (left_in self.old) }
         ensures window { (n m : ℕ) → IsWindow self.old n m → IsWindow self.new n m }
     {
-        self.row = first_row(&self.rows, self.row, target);
+        self.row = first_row(&self.rows, self.row, self.rows.len(), target);
         if self.row == self.rows.len() {
             self.limit = FEW_ROWS;
         }
