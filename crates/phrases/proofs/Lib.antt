@@ -8,5 +8,6 @@ pub mod Adjusted
 pub mod MeetingEntries
 pub mod SuffixCounts
 pub mod BlockLaws
+pub mod BehindLaws
 pub mod RowLaws
 pub mod WindowLaws
