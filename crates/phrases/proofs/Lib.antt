@@ -8,6 +8,5 @@ pub mod Adjusted
 pub mod MeetingEntries
 pub mod SuffixCounts
 pub mod BlockLaws
-pub mod BehindLaws
 pub mod RowLaws
 pub mod WindowLaws

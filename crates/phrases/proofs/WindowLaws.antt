@@ -7,7 +7,6 @@ use Rattle.cursors.specs.EntryLaws.{Rising-lower, from-first, from-out, none_lef
 use Rattle.definitions.specs.Postings.{terminated}
 use Rattle.intersections.specs.Columns.{HaveOneColumn}
 use Rattle.members.specs.Members.{entries_at}
-use Rattle.phrases.specs.Behind.{BeginBehind}
 use Rattle.phrases.specs.Places.{Ascends, Rises}
 use Rattle.phrases.specs.PrefixEntries.{continued_by, prefixed}
 use Rattle.phrases.specs.PrefixEntryLaws.{Rising-first, most-rest, most_suffix_positions, prefixed-cut}
@@ -269,12 +268,11 @@ pub prefix-ends : (moved : ℕ) (ess : List (List Entry)) (es : List Entry) → 
 prefix-ends moved ess es r l = ap (prefixed moved ess) (none_left 0 es r l)
 
 -- a window that was filled again
-pub refilled : (w was : Window) (doc num many : ℕ) (ess fss : List (List Entry)) (es rest : List Entry) → IsWindow was (most_positions es) (most_suffix_positions ess) → most_positions es ≤ 4294967295 → num < 4294967296 → ((n m : ℕ) → IsWindow was n m → IsWindow w n m) → doc ≡ first (left_in w) → (terminated ≤ doc → terminated ≤ first rest) → IsRest rest es → most_suffix_positions fss ≤ most_suffix_positions ess → many ≡ num → BeginBehind w.docs.items fss → IsFollowing w many fss rest
-refilled w was doc num many ess fss es rest window few_places few_suffixes kept at ends left fewer same behind =
+pub refilled : (w was : Window) (doc num many : ℕ) (ess fss : List (List Entry)) (es rest : List Entry) → IsWindow was (most_positions es) (most_suffix_positions ess) → most_positions es ≤ 4294967295 → num < 4294967296 → ((n m : ℕ) → IsWindow was n m → IsWindow w n m) → doc ≡ first (left_in w) → (terminated ≤ doc → terminated ≤ first rest) → IsRest rest es → most_suffix_positions fss ≤ most_suffix_positions ess → many ≡ num → IsFollowing w many fss rest
+refilled w was doc num many ess fss es rest window few_places few_suffixes kept at ends left fewer same =
     let fewer_places = most-rest rest es left in
     record {
       window = window-fewer w (most_positions es) (most_suffix_positions ess) (most_positions rest) (most_suffix_positions fss) (kept (most_positions es) (most_suffix_positions ess) window) fewer_places fewer;
-      behind = behind;
       ends = λ l. ends (omega (arith, at, l));
       few_places = omega (arith, fewer_places, few_places);
       few_suffixes = omega (arith, same, few_suffixes);

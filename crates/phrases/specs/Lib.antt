@@ -13,7 +13,6 @@ pub mod PlacesLaws
 pub mod PrefixEntries
 pub mod PrefixEntryLaws
 pub mod OneTermLaws
-pub mod Behind
 pub mod Rows
 pub mod Windows
 pub mod PrefixWindows

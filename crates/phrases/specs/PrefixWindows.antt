@@ -3,18 +3,16 @@ use Rattle.std.specs.Prelude.{◌<◌, ◌≤◌, List, ℕ}
 use Rattle.std.proofs.Props.{props}
 use Rattle.cursors.specs.Entries.{Entry, first, most_positions}
 use Rattle.definitions.specs.Postings.{terminated}
-use Rattle.phrases.specs.Behind.{BeginBehind, BeginBehind-prop}
 use Rattle.phrases.specs.PrefixEntryLaws.{most_suffix_positions}
 use Rattle.phrases.specs.Windows.{IsWindow, left_in}
 use Rattle.phrases.specs.declared.window.Window.{Window}
 
--- the window has room, documents before which suffixes have nothing, and rows as long as documents of the phrase are left; there are not too many places and suffixes
+-- the window has room, and rows as long as documents of the phrase are left; there are not too many places and suffixes
 pub record IsFollowing (w : Window) (num_suffixes : ℕ) (ess : List (List Entry)) (es : List Entry) : Type 0 where
   pub window : IsWindow w (most_positions es) (most_suffix_positions ess)
-  pub behind : BeginBehind w.docs.items ess
   pub ends : terminated ≤ first (left_in w) → terminated ≤ first es
   pub few_places : most_positions es ≤ 4294967295
   pub few_suffixes : num_suffixes < 4294967296
 
 pub IsFollowing-prop : (w : Window) (num_suffixes : ℕ) (ess : List (List Entry)) (es : List Entry) → IsProp (IsFollowing w num_suffixes ess es)
-IsFollowing-prop w num_suffixes ess es = (let begin : IsProp (BeginBehind w.docs.items ess) = BeginBehind-prop w.docs.items ess in hlevel (props, begin))
+IsFollowing-prop w num_suffixes ess es = hlevel props

@@ -3,7 +3,6 @@
 ghost use Rattle.std.specs.Prelude.{◌++◌, ◌<◌, ◌≡◌, ◌≤◌, length, map, ℕ};
 ghost use Rattle.cursors.specs.Entries.{IsRest, Rising, first, most_positions};
 ghost use Rattle.definitions.specs.Postings.{terminated};
-ghost use Rattle.phrases.specs.Behind.{BeginBehind};
 ghost use Rattle.phrases.specs.PrefixEntries.{prefixed};
 ghost use Rattle.phrases.specs.PrefixEntryLaws.{most_suffix_positions};
 ghost use Rattle.phrases.specs.Windows.{IsWindow, left_in};
@@ -11,7 +10,7 @@ ghost use Rattle.phrases.specs.Windows.{IsWindow, left_in};
 use crate::filling::{keep_followed, take_rows};
 use crate::row_search::{note_guesses, shift_of};
 use crate::suffixes::add_suffixes;
-use crate::window::{MOST_ROWS, Window};
+use crate::window::{GROWTH, MOST_ROWS, Window};
 use common::{DocId, TERMINATED};
 use cursors::Postings;
 use intersections::Positioned;
@@ -27,7 +26,6 @@ fn fill_window<W: Scorer + Positioned, P: Postings>(
     requires on { first (W.entries phrase.old) < terminated }
     requires few_places { most_positions (W.entries phrase.old) ≤ 4294967295 }
     requires few_suffixes { length suffixes.old.items < 4294967296 }
-    requires behind { BeginBehind window.old.docs.items (map P.entries suffixes.old.items) }
     requires window { IsWindow window.old (most_positions (W.entries phrase.old))
         (most_suffix_positions (map P.entries suffixes.old.items)) }
     ensures same { left_in window.new ++ prefixed moved (map P.entries suffixes.new.items) (W.entries phrase.new)
@@ -37,7 +35,6 @@ fn fill_window<W: Scorer + Positioned, P: Postings>(
     ensures most { most_suffix_positions (map P.entries suffixes.new.items)
         ≤ most_suffix_positions (map P.entries suffixes.old.items) }
     ensures long { length suffixes.new.items ≡ length suffixes.old.items }
-    ensures behind { BeginBehind window.new.docs.items (map P.entries suffixes.new.items) }
     ensures window { (n m : ℕ) → IsWindow window.old n m → IsWindow window.new n m }
 {
     window.row = 0;
@@ -52,7 +49,6 @@ fn fill_window<W: Scorer + Positioned, P: Postings>(
     note_guesses(&window.rows, shift, &mut window.guesses);
     add_suffixes(
         suffixes,
-        &mut window.docs,
         &mut window.rows,
         &window.guesses,
         shift,
@@ -61,7 +57,7 @@ fn fill_window<W: Scorer + Positioned, P: Postings>(
         &mut window.positions,
     );
     keep_followed(&mut window.rows);
-    window.limit = (window.limit * 2).min(MOST_ROWS);
+    window.limit = (window.limit * GROWTH).min(MOST_ROWS);
 }
 
 /// Fills a window until it stands on a row, where it doesn't and documents are left, and answers its document.
@@ -75,7 +71,6 @@ pub(crate) fn refill<W: Scorer + Positioned, P: Postings>(
         ++ prefixed moved (map P.entries suffixes.old.items) (W.entries phrase.old)) }
     requires few_places { most_positions (W.entries phrase.old) ≤ 4294967295 }
     requires few_suffixes { length suffixes.old.items < 4294967296 }
-    requires behind { BeginBehind window.old.docs.items (map P.entries suffixes.old.items) }
     requires window { IsWindow window.old (most_positions (W.entries phrase.old))
         (most_suffix_positions (map P.entries suffixes.old.items)) }
     ensures same { left_in window.new ++ prefixed moved (map P.entries suffixes.new.items) (W.entries phrase.new)
@@ -86,7 +81,6 @@ pub(crate) fn refill<W: Scorer + Positioned, P: Postings>(
     ensures most { most_suffix_positions (map P.entries suffixes.new.items)
         ≤ most_suffix_positions (map P.entries suffixes.old.items) }
     ensures long { length suffixes.new.items ≡ length suffixes.old.items }
-    ensures behind { BeginBehind window.new.docs.items (map P.entries suffixes.new.items) }
     ensures window { (n m : ℕ) → IsWindow window.old n m → IsWindow window.new n m }
 {
     let mut doc = window.doc();

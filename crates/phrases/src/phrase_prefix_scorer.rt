@@ -58,7 +58,7 @@ impl<W: Scorer + Positioned + Drop, P: Postings + Drop> PhrasePrefixScorer<W, P>
         let mut phrase_scorer = phrase_scorer;
         let mut suffixes = suffixes;
         let most = phrase_scorer.most_positions();
-        let mut window = Window::new(alloc, suffixes.len(), most, most_of_suffixes(&suffixes))?;
+        let mut window = Window::new(alloc, most, most_of_suffixes(&suffixes))?;
         refill(
             &mut phrase_scorer,
             &mut suffixes,

@@ -7,7 +7,6 @@ ghost use Rattle.members.specs.Members.{entries_of};
 ghost use Rattle.phrases.specs.Places.{Ascends, Rises};
 ghost use Rattle.phrases.specs.PrefixEntries.{continued_by};
 ghost use Rattle.phrases.specs.PrefixEntryLaws.{most_suffix_positions};
-ghost use Rattle.phrases.specs.Behind.{BeginBehind};
 ghost use Rattle.phrases.specs.Rows.{AreRows, IsRow, added, added_one, docs_of, end_of, most_count};
 
 use crate::merging::count_continued;
@@ -108,20 +107,16 @@ fn visit_row<P: Postings>(
     suffix.advance()
 }
 
-/// Adds to each row how often a suffix follows it, and moves the suffix behind all rows. It has nothing before a known
-/// document; another is answered.
-#[inline]
+/// Adds to each row how often a suffix follows it, and moves the suffix behind all rows.
 fn add_suffix<P: Postings>(
     suffix: &mut P,
-    known: DocId,
     rows: &mut Vec<Row>,
     guesses: &[u32],
     shift: u32,
     places: &[u32],
     moved: u32,
     positions: &mut Vec<u32>,
-) -> DocId
-    requires known { known ≤ first (P.entries suffix.old) }
+)
     requires some { 0 < length rows.old.items }
     requires rows { AreRows places.now rows.old.items }
     requires rises { Rises 0 (docs_of rows.old.items) }
@@ -130,14 +125,13 @@ fn add_suffix<P: Postings>(
     requires room { most_positions (P.entries suffix.old) ≤ vec_capacity positions.old }
     ensures added { rows.new.items ≡ map (added_one moved places.now (P.entries suffix.old)) rows.old.items }
     ensures rest { P.entries suffix.new ≡ from (end_of (docs_of rows.old.items)) (P.entries suffix.old) }
-    ensures known { result ≤ first (P.entries suffix.new) }
     ensures room { vec_capacity positions.old ≤ vec_capacity positions.new }
     ensures rows_room { vec_capacity rows.new ≡ vec_capacity rows.old }
 {
-    if doc_at(rows, rows.len() - 1) < known {
-        return known;
-    }
     let mut doc = suffix.doc();
+    if doc_at(rows, rows.len() - 1) < doc {
+        return;
+    }
     let near = STEPS / suffix.size_hint().max(1);
     let mut place = find_row(rows, guesses, shift, doc);
     while place < rows.len() {
@@ -152,13 +146,11 @@ fn add_suffix<P: Postings>(
         );
         place = find_row(rows, guesses, shift, doc);
     }
-    doc
 }
 
-/// Adds to each row how often suffixes follow it. Each has nothing before some document.
+/// Adds to each row how often suffixes follow it.
 pub(crate) fn add_suffixes<P: Postings>(
     suffixes: &mut Vec<P>,
-    docs: &mut Vec<DocId>,
     rows: &mut Vec<Row>,
     guesses: &[u32],
     shift: u32,
@@ -171,20 +163,17 @@ pub(crate) fn add_suffixes<P: Postings>(
     requires rises { Rises 0 (docs_of rows.old.items) }
     requires shift { shift < 32 }
     requires fresh { most_count rows.old.items ≡ 0 }
-    requires behind { BeginBehind docs.old.items (map P.entries suffixes.old.items) }
     requires few_suffixes { length suffixes.old.items < 4294967296 }
     requires room { most_suffix_positions (map P.entries suffixes.old.items) ≤ vec_capacity positions.old }
     ensures added { rows.new.items ≡ map (added moved places.now (map P.entries suffixes.old.items)) rows.old.items }
     ensures rest { map P.entries suffixes.new.items
         ≡ map (from (end_of (docs_of rows.old.items))) (map P.entries suffixes.old.items) }
-    ensures behind { BeginBehind docs.new.items (map P.entries suffixes.new.items) }
     ensures room { vec_capacity positions.old ≤ vec_capacity positions.new }
     ensures rows_room { vec_capacity rows.new ≡ vec_capacity rows.old }
 {
     for i in 0..suffixes.len() {
-        docs[i] = add_suffix(
+        add_suffix(
             &mut suffixes[i],
-            docs[i],
             rows,
             guesses,
             shift,

@@ -1,6 +1,6 @@
 //! A window over a phrase: rows of its next documents, in buffers whose room was made before.
 
-ghost use Rattle.std.specs.Prelude.{[], ◌<◌, ◌≡◌, ◌≤◌, IfOk, drop, length, replicate, ℕ};
+ghost use Rattle.std.specs.Prelude.{[], ◌<◌, ◌≡◌, ◌≤◌, IfOk, drop, length, ℕ};
 ghost use Rattle.cursors.specs.Entries.{Rising, first, first_count, first_score, from};
 ghost use Rattle.definitions.specs.Postings.{terminated};
 ghost use Rattle.phrases.specs.Windows.{IsWindow, left_in};
@@ -13,24 +13,25 @@ use std::alloc::{AllocError, Global};
 /// How many documents of a phrase make a window at most.
 pub(crate) const MOST_ROWS: usize = 4096;
 
-/// How many make the first window. The next has twice as many.
+/// How many make the first window.
 const FIRST_ROWS: usize = 128;
 
 /// How many make the one after a seek.
 const FEW_ROWS: usize = 16;
 
+/// How many times as many the next window has.
+pub(crate) const GROWTH: usize = 4;
+
 /// With how many places a window is full.
 pub(crate) const MANY_PLACES: usize = 16384;
 
-/// Rows that suffixes follow, the one on which it stands, and how many documents it takes next; documents before which
-/// suffixes have nothing, guesses for a search of rows, the places of all rows, and room for those of one row and for the
-/// positions of one suffix.
+/// Rows that suffixes follow, the one on which it stands, and how many documents it takes next; guesses for a search of
+/// rows, the places of all rows, and room for those of one row and for the positions of one suffix.
 #[derive(Drop)]
 pub(crate) struct Window {
     pub(crate) rows: Vec<Row>,
     pub(crate) row: usize,
     pub(crate) limit: usize,
-    pub(crate) docs: Vec<DocId>,
     pub(crate) guesses: Vec<u32>,
     pub(crate) places: Vec<u32>,
     pub(crate) here: Vec<u32>,
@@ -38,16 +39,13 @@ pub(crate) struct Window {
 }
 
 impl Window {
-    /// No rows, and room for so many places and positions of one document; of so many suffixes it isn't known where they
-    /// begin.
+    /// No rows, and room for so many places and positions of one document.
     pub(crate) fn new(
         alloc: Global,
-        num_suffixes: usize,
         most_places: usize,
         most_positions: usize,
     ) -> Result<Window, AllocError>
         ensures none { IfOk result (λ window. left_in window ≡ []) }
-        ensures docs { IfOk result (λ window. window.docs.items ≡ replicate num_suffixes 0) }
         ensures room { IfOk result (λ window. IsWindow window most_places most_positions) }
     {
         let Some(places_room) = most_places.checked_add(MANY_PLACES) else {
@@ -57,7 +55,6 @@ impl Window {
             rows: Vec::with_capacity(alloc, MOST_ROWS)?,
             row: 0,
             limit: FIRST_ROWS,
-            docs: vec![in alloc; 0u32; num_suffixes]?,
             guesses: Vec::with_capacity(alloc, MOST_ROWS)?,
             places: Vec::with_capacity(alloc, places_room)?,
             here: Vec::with_capacity(alloc, most_places)?,
@@ -98,7 +95,6 @@ impl Window {
     #[inline]
     pub(crate) fn step(&mut self)
         ensures left { left_in self.new ≡ drop 1 (left_in self.old) }
-        ensures docs { self.new.docs.items ≡ self.old.docs.items }
         ensures window { (n m : ℕ) → IsWindow self.old n m → IsWindow self.new n m }
     {
         if self.row < self.rows.len() {
@@ -111,7 +107,6 @@ impl Window {
         requires within { self.old.row ≤ length self.old.rows.items }
         requires rises { Rising 0 (left_in self.old) }
         ensures left { left_in self.new ≡ from target (left_in self.old) }
-        ensures docs { self.new.docs.items ≡ self.old.docs.items }
         ensures window { (n m : ℕ) → IsWindow self.old n m → IsWindow self.new n m }
     {
         self.row = first_row(&self.rows, self.row, self.rows.len(), target);

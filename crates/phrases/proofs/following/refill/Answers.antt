@@ -42,6 +42,5 @@ loop-doc-preserved g c =
       rest = IsRest-on (g.W.DocSet.entries c.fill_window.new.phrase) es all f.rest inv.rest;
       most = omega (arith, most, fewer);
       long = f.long ∙ inv.long;
-      behind = f.behind;
       window = λ n m is. f.window n m (inv.window n m is);
     }

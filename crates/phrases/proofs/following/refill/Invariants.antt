@@ -1,7 +1,6 @@
 use Rattle.std.proofs.Common.{length, map, ◌++◌, ◌-◌, ◌≡◌, ◌≤◌, ℕ}
 use Rattle.cursors.specs.Entries.{IsRest, first}
 use Rattle.definitions.specs.Postings.{terminated}
-use Rattle.phrases.specs.Behind.{BeginBehind}
 use Rattle.phrases.specs.PrefixEntries.{prefixed}
 use Rattle.phrases.specs.PrefixEntryLaws.{most_suffix_positions}
 use Rattle.phrases.specs.Windows.{IsWindow, left_in}
@@ -15,7 +14,6 @@ invariant-loop-doc g l = record {
   rest : IsRest (g.W.DocSet.entries l.phrase) (g.W.DocSet.entries l.fn.phrase);
   most : most_suffix_positions (map g.P.DocSet.entries l.suffixes.items) ≤ most_suffix_positions (map g.P.DocSet.entries l.fn.suffixes.items);
   long : length l.suffixes.items ≡ length l.fn.suffixes.items;
-  behind : BeginBehind l.window.docs.items (map g.P.DocSet.entries l.suffixes.items);
   window : (n m : ℕ) → IsWindow l.fn.window n m → IsWindow l.window n m;
 }
 

@@ -7,7 +7,7 @@ use Rattle.phrases.specs.Places.{Rises}
 use Rattle.phrases.specs.Rows.{IsRow, docs_of, end_of, most_count}
 use Rattle.phrases.proofs.RowLaws.{added-behind, added-visited, count-fits, end-behind, from-later, kept-by, rest-behind, rises-apart, rises-before, rows-get, rows-set}
 use Rattle.phrases.proofs.suffixes.add_suffix.Given.{Over}
-use Rattle.phrases.proofs.suffixes.add_suffix.Goals.{After-index_mut, Then-doc_at-known}
+use Rattle.phrases.proofs.suffixes.add_suffix.Goals.{After-index_mut, Then-doc_at-doc}
 use Rattle.phrases.proofs.suffixes.add_suffix.Goals as goal
 
 -- the row that is visited
@@ -112,23 +112,23 @@ find_row-place-requires-in-loop-place-clause-rises g c =
     subst (Rises 0) (sym (ap docs_of c.deref-in-loop-place.ensures.value ∙ (same ∙ c.loop-place.invariant.docs))) c.requires.rises
 
 -- where the last row comes before the suffix all do
-past : (g : Over) (c : Then-doc_at-known g) (k : ℕ) → k < length c.args.rows.now.items → get_or (docs_of c.args.rows.now.items) k 0 < first (g.P.DocSet.entries c.args.suffix.now)
+past : (g : Over) (c : Then-doc_at-doc g) (k : ℕ) → k < length c.args.rows.now.items → get_or (docs_of c.args.rows.now.items) k 0 < first (g.P.DocSet.entries c.args.suffix.now)
 past g c k l =
     let rows = c.args.rows.now.items in
     let len = c.len.ensures in
-    let test = c.if-doc_at-known.true in
-    let at = c.requires.known in
+    let test = c.if-doc_at-doc.true in
+    let at = c.doc-doc.ensures in
     let some = c.requires.some in
     let long = length-map rows (λ r. r.doc) in
     let last = c.doc_at.ensures ∙ ap (λ rs. get_or (docs_of rs) (c.len.result - 1) 0) c.deref.ensures.value in
-    let before = rises-before (docs_of rows) (length rows) (c.len.result - 1) k c.args.known c.requires.rises (omega (arith, some, len)) (omega (arith, long)) (omega (arith, last, test)) l in
+    let before = rises-before (docs_of rows) (length rows) (c.len.result - 1) k c.doc-doc.result c.requires.rises (omega (arith, some, len)) (omega (arith, long)) (omega (arith, last, test)) l in
     omega (arith, before, at)
 
-pub returns-then-doc_at-known-clause-added : goal.returns-then-doc_at-known-clause-added
-returns-then-doc_at-known-clause-added g c = added-behind c.args.moved c.args.places.now (g.P.DocSet.entries c.args.suffix.now) c.args.rows.now.items (g.met.P.DocSet.rising c.args.suffix.now) (past g c)
+pub returns-then-doc_at-doc-clause-added : goal.returns-then-doc_at-doc-clause-added
+returns-then-doc_at-doc-clause-added g c = added-behind c.args.moved c.args.places.now (g.P.DocSet.entries c.args.suffix.now) c.args.rows.now.items (g.met.P.DocSet.rising c.args.suffix.now) (past g c)
 
-pub returns-then-doc_at-known-clause-rest : goal.returns-then-doc_at-known-clause-rest
-returns-then-doc_at-known-clause-rest g c = rest-behind (g.P.DocSet.entries c.args.suffix.now) c.args.rows.now.items (g.met.P.DocSet.rising c.args.suffix.now) (past g c)
+pub returns-then-doc_at-doc-clause-rest : goal.returns-then-doc_at-doc-clause-rest
+returns-then-doc_at-doc-clause-rest g c = rest-behind (g.P.DocSet.entries c.args.suffix.now) c.args.rows.now.items (g.met.P.DocSet.rising c.args.suffix.now) (past g c)
 
 pub returns-clause-added : goal.returns-clause-added
 returns-clause-added g c =

@@ -1,11 +1,9 @@
 use Rattle.std.proofs.Common.{[], List, add-one, ap, arith, drop, get_or, length, map, set, subst, sym, take, ◌++◌, ◌+◌, ◌<◌, ◌∙◌, ◌∷◌, ◌≡◌}
-use Rattle.std.proofs.lemmas.List.{drop_all, drop_more, get_or-map, get_or_default, length-map, map-set}
-use Rattle.cursors.specs.Entries.{Entry, first, from, most_positions}
+use Rattle.std.proofs.lemmas.List.{drop_all, drop_more, get_or-map, length-map, map-set}
+use Rattle.cursors.specs.Entries.{Entry, from, most_positions}
 use Rattle.members.specs.ChangedLists.{changed-all, changed-get, changed-length, changed-set}
-use Rattle.phrases.specs.Behind.{BeginBehind}
 use Rattle.phrases.specs.Places.{Rises}
 use Rattle.phrases.specs.Rows.{AreRows, added, docs_of, end_of, most_count}
-use Rattle.phrases.proofs.BehindLaws.{behind-set}
 use Rattle.phrases.proofs.RowLaws.{added-more, added-nil, docs-added, most-added, rows-added}
 use Rattle.phrases.proofs.SuffixCounts.{most-get}
 use Rattle.phrases.proofs.suffixes.add_suffixes.Given.{Over}
@@ -27,29 +25,6 @@ untouched g c =
     let long = length-map c.loop-i.suffixes.items entries in
     let inside = within g c in
     sym (changed-get cut i all [] inside) ∙ (ap (λ xs. get_or xs i []) (sym lists) ∙ (get_or-map entries c.loop-i.suffixes.items i c.index_mut.result.now [] (omega (arith, short, long, inside)) ∙ ap entries (sym c.index_mut.ensures.value)))
-
-inside : (g : Over) (c : After-index_mut g) → c.loop-i.i < length c.loop-i.docs.items
-inside g c =
-    let entries = g.P.DocSet.entries in
-    let cut = from (end_of (docs_of c.args.rows.now.items)) in
-    let long = c.loop-i.invariant.behind.long in
-    let short = ap length c.loop-i.invariant.lists ∙ changed-length cut c.loop-i.i (map entries c.args.suffixes.now.items) in
-    let l = within g c in
-    omega (arith, long, short, l)
-
-pub add_suffix-requires-clause-known : goal.add_suffix-requires-clause-known
-add_suffix-requires-clause-known g c =
-    let after = (goal.at.add_suffix-requires-clause-known g c).After-index_mut in
-    let entries = g.P.DocSet.entries in
-    let i = c.loop-i.i in
-    let suffixes = c.loop-i.suffixes.items in
-    let l = inside g after in
-    let below = c.loop-i.invariant.behind.below i l in
-    let long = c.loop-i.invariant.behind.long in
-    let long_lists = length-map suffixes entries in
-    let doc = c.index.ensures ∙ get_or_default c.loop-i.docs.items i c.index.result.now 0 l in
-    let list = ap first (get_or-map entries suffixes i c.index_mut.result.now [] (omega (arith, l, long, long_lists)) ∙ ap entries (sym c.index_mut.ensures.value)) in
-    omega (arith, below, doc, list)
 
 pub add_suffix-requires-clause-rises : goal.add_suffix-requires-clause-rises
 add_suffix-requires-clause-rises g c = subst (Rises 0) (sym c.loop-i.invariant.docs) c.requires.rises
@@ -90,7 +65,6 @@ loop-i-preserved g c =
       added = ap (map (added moved places (drop (i + 1) all))) next
           ∙ (added-more moved places es (drop (i + 1) all) items
           ∙ (ap (λ ess. map (added moved places ess) items) (sym (drop_more all i [] (within g after) ∙ ap (λ xs. xs ∷ drop (i + 1) all) (untouched g after))) ∙ inv.added));
-      behind = subst (BeginBehind (set c.loop-i.docs.items i c.add_suffix.result)) (sym (map-set entries c.loop-i.suffixes.items i c.add_suffix.new.suffix)) (behind-set c.loop-i.docs.items (map entries c.loop-i.suffixes.items) i c.add_suffix.result (entries c.add_suffix.new.suffix) (inside g after) inv.behind a.known);
       docs = ap docs_of next ∙ (docs-added moved places es items ∙ inv.docs);
       rows = subst (AreRows places) (sym next) (rows-added moved places es items inv.rows);
       few = omega (arith, most, counts, few);

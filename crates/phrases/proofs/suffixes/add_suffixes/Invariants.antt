@@ -1,6 +1,5 @@
 use Rattle.std.proofs.Common.{drop, map, take, vec_capacity, ◌++◌, ◌*◌, ◌≡◌, ◌≤◌}
 use Rattle.cursors.specs.Entries.{from}
-use Rattle.phrases.specs.Behind.{BeginBehind}
 use Rattle.phrases.specs.Rows.{AreRows, added, docs_of, end_of, most_count}
 use Rattle.phrases.proofs.suffixes.add_suffixes.Given as goal
 
@@ -9,7 +8,6 @@ abbrev pub invariant-loop-i : goal.invariant-loop-i
 invariant-loop-i g l = record {
   lists : map g.P.DocSet.entries l.suffixes.items ≡ map (from (end_of (docs_of l.fn.rows.items))) (take l.i (map g.P.DocSet.entries l.fn.suffixes.items)) ++ drop l.i (map g.P.DocSet.entries l.fn.suffixes.items);
   added : map (added l.moved l.places (drop l.i (map g.P.DocSet.entries l.fn.suffixes.items))) l.rows.items ≡ map (added l.moved l.places (map g.P.DocSet.entries l.fn.suffixes.items)) l.fn.rows.items;
-  behind : BeginBehind l.docs.items (map g.P.DocSet.entries l.suffixes.items);
   docs : docs_of l.rows.items ≡ docs_of l.fn.rows.items;
   rows : AreRows l.places l.rows.items;
   few : most_count l.rows.items ≤ l.i * 4294967295;

@@ -1,10 +1,8 @@
-use Rattle.std.proofs.Common.{List, arith, length, map, subst, sym, ◌++◌}
-use Rattle.std.proofs.lemmas.List.{length-map}
+use Rattle.std.proofs.Common.{List, length, map, subst, sym, ◌++◌}
 use Rattle.cursors.specs.Entries.{Entry, Rising, most_positions}
 use Rattle.phrases.specs.PrefixEntries.{prefixed}
 use Rattle.phrases.specs.PrefixEntryLaws.{Rising-prefixed, most_suffix_positions}
 use Rattle.phrases.specs.Windows.{IsWindow, left_in}
-use Rattle.phrases.proofs.BehindLaws.{behind-start}
 use Rattle.phrases.proofs.WindowLaws.{refilled, window-fewer}
 use Rattle.phrases.proofs.phrase_prefix_scorer.PhrasePrefixScorer.new.Given.{Over}
 use Rattle.phrases.proofs.phrase_prefix_scorer.PhrasePrefixScorer.new.Goals.{In_ok-window}
@@ -29,12 +27,5 @@ invariant_of-result g c =
     let f = c.refill in
     record {
       rises = subst (Rising 0) (sym f.ensures.same) (rises g before);
-      following = refilled f.new.window c.in_ok-window.window f.result (length c.args.suffixes.items) (length f.new.suffixes.items) (map g.P.DocSet.entries c.args.suffixes.items) (map g.P.DocSet.entries f.new.suffixes.items) (g.W.DocSet.entries c.args.phrase_scorer) (g.W.DocSet.entries f.new.phrase) (window g before) c.requires.few_places c.requires.few_suffixes f.ensures.window f.ensures.at f.ensures.ends f.ensures.rest f.ensures.most f.ensures.long f.ensures.behind;
+      following = refilled f.new.window c.in_ok-window.window f.result (length c.args.suffixes.items) (length f.new.suffixes.items) (map g.P.DocSet.entries c.args.suffixes.items) (map g.P.DocSet.entries f.new.suffixes.items) (g.W.DocSet.entries c.args.phrase_scorer) (g.W.DocSet.entries f.new.phrase) (window g before) c.requires.few_places c.requires.few_suffixes f.ensures.window f.ensures.at f.ensures.ends f.ensures.rest f.ensures.most f.ensures.long;
     }
-
-pub refill-requires-clause-behind : goal.refill-requires-clause-behind
-refill-requires-clause-behind g c =
-    let items = c.args.suffixes.items in
-    let len = c.len.ensures in
-    let long = length-map items g.P.DocSet.entries in
-    behind-start c.in_ok-window.window.docs.items (map g.P.DocSet.entries items) c.len.result c.in_ok-window.ensures.docs (omega (arith, len, long))

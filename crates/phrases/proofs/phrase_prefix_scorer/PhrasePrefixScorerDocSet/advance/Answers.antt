@@ -1,7 +1,6 @@
 use Rattle.std.proofs.Common.{ap, drop, length, map, subst, sym, ◌++◌, ◌∙◌, ◌≡◌}
 use Rattle.cursors.specs.Entries.{Rising, most_positions}
 use Rattle.cursors.specs.EntryLaws.{Rising-drop}
-use Rattle.phrases.specs.Behind.{BeginBehind}
 use Rattle.phrases.specs.PrefixEntries.{prefixed}
 use Rattle.phrases.specs.PrefixEntryLaws.{most_suffix_positions}
 use Rattle.phrases.specs.Windows.{left_in}
@@ -36,10 +35,5 @@ invariant_of-self g c =
     let es = g.W.DocSet.entries s.phrase_scorer in
     record {
       rises = subst (Rising 0) (sym f.ensures.same) (rises g (goal.at.invariant_of-self g c).After-step);
-      following = refilled f.new.window c.step.new.self f.result (length s.suffixes.items) (length f.new.suffixes.items) ess (map g.P.DocSet.entries f.new.suffixes.items) es (g.W.DocSet.entries f.new.phrase) (c.step.ensures.window (most_positions es) (most_suffix_positions ess) s.following.window) s.following.few_places s.following.few_suffixes f.ensures.window f.ensures.at f.ensures.ends f.ensures.rest f.ensures.most f.ensures.long f.ensures.behind;
+      following = refilled f.new.window c.step.new.self f.result (length s.suffixes.items) (length f.new.suffixes.items) ess (map g.P.DocSet.entries f.new.suffixes.items) es (g.W.DocSet.entries f.new.phrase) (c.step.ensures.window (most_positions es) (most_suffix_positions ess) s.following.window) s.following.few_places s.following.few_suffixes f.ensures.window f.ensures.at f.ensures.ends f.ensures.rest f.ensures.most f.ensures.long;
     }
-
-pub refill-requires-clause-behind : goal.refill-requires-clause-behind
-refill-requires-clause-behind g c =
-    let ess = map g.P.DocSet.entries c.args.self.now.suffixes.items in
-    subst (λ docs. BeginBehind docs ess) (sym c.step.ensures.docs) c.args.self.now.following.behind

@@ -2,7 +2,6 @@ use Rattle.std.proofs.Common.{ap, arith, length, map, subst, sym, ◌++◌, ◌�
 use Rattle.cursors.specs.Entries.{Rising, from, most_positions}
 use Rattle.cursors.specs.EntryLaws.{IsRest-from, Rising-from}
 use Rattle.leaf_scorers.specs.ScoredEntryLaws.{IsRest-along}
-use Rattle.phrases.specs.Behind.{BeginBehind}
 use Rattle.phrases.specs.PrefixEntries.{prefixed}
 use Rattle.phrases.specs.PrefixEntryLaws.{from-prefixed, most-rest, most_suffix_positions}
 use Rattle.phrases.specs.Windows.{IsWindow, left_in}
@@ -69,13 +68,8 @@ invariant_of-self g c =
     let few = s.following.few_places in
     record {
       rises = subst (Rising 0) (sym f.ensures.same) (rises g after);
-      following = refilled f.new.window c.seek.new.self f.result (length s.suffixes.items) (length f.new.suffixes.items) (map g.P.DocSet.entries s.suffixes.items) (map g.P.DocSet.entries f.new.suffixes.items) (g.W.DocSet.entries c.move_to.new.docset) (g.W.DocSet.entries f.new.phrase) (window g after) (omega (arith, less, few)) s.following.few_suffixes f.ensures.window f.ensures.at f.ensures.ends f.ensures.rest f.ensures.most f.ensures.long f.ensures.behind;
+      following = refilled f.new.window c.seek.new.self f.result (length s.suffixes.items) (length f.new.suffixes.items) (map g.P.DocSet.entries s.suffixes.items) (map g.P.DocSet.entries f.new.suffixes.items) (g.W.DocSet.entries c.move_to.new.docset) (g.W.DocSet.entries f.new.phrase) (window g after) (omega (arith, less, few)) s.following.few_suffixes f.ensures.window f.ensures.at f.ensures.ends f.ensures.rest f.ensures.most f.ensures.long;
     }
 
 pub returns-clause-rest : goal.returns-clause-rest
 returns-clause-rest g c = c.refill.ensures.same ∙ sought g (goal.at.returns-clause-rest g c).After-move_to
-
-pub refill-requires-clause-behind : goal.refill-requires-clause-behind
-refill-requires-clause-behind g c =
-    let ess = map g.P.DocSet.entries c.args.self.now.suffixes.items in
-    subst (λ docs. BeginBehind docs ess) (sym c.seek.ensures.docs) c.args.self.now.following.behind
