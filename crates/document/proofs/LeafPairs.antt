@@ -3,7 +3,7 @@ use Rattle.std.proofs.Common.{FitsSigned, [], ◌++◌, ◌<◌, ◌^◌, ◌∷
 use Rattle.std.specs.Int.{w64}
 use Rattle.std.specs.List.{AllByRecursion}
 use Rattle.definitions.specs.Facets.{encoded}
-use Rattle.definitions.specs.NumberCodes.{AreBytes, sized_bytes, u32_bytes, vint_bytes}
+use Rattle.definitions.specs.NumberCodes.{AreBytes, sized_bytes, u32_bytes}
 use Rattle.definitions.specs.Values.{IsFacet, Token, bool, bytes, date, facet, i64, ip_addr, pre_tok_str, str, u64}
 use Rattle.document_values.specs.Docs.{IsGoodPair}
 use Rattle.document_values.specs.Held.{IsHeldValue}
@@ -40,6 +40,6 @@ bool_pair f b field = record { field = field; value = record { value = tt; sized
 pub address_pair : (f n : ℕ) → f < 2 ^ 32 → n < 2 ^ 128 → IsGoodPair true deepest (f, ip_addr n)
 address_pair f n field fits = record { field = field; value = record { value = fits; sized = tt; shallow = omega arith; kept = λ e. refl } }
 
--- what stands before a byte string, and the byte string
-pub sized_parts : (field code : ℕ) (head s : List ℕ) → head ≡ u32_bytes field ++ (code ∷ vint_bytes (length s)) → head ++ s ≡ u32_bytes field ++ (code ∷ sized_bytes s)
-sized_parts field code head s is = ap (λ h. h ++ s) is ∙ append_assoc (u32_bytes field) (code ∷ vint_bytes (length s)) s
+-- a field and a code, and behind these a byte string
+pub sized_parts : (field code : ℕ) (head s : List ℕ) → head ≡ u32_bytes field ++ (code ∷ []) → head ++ sized_bytes s ≡ u32_bytes field ++ (code ∷ sized_bytes s)
+sized_parts field code head s is = ap (λ h. h ++ sized_bytes s) is ∙ append_assoc (u32_bytes field) (code ∷ []) (sized_bytes s)

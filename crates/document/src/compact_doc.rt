@@ -16,7 +16,7 @@ use common::{PreTokenizedString, take_vint};
 use definitions::Fault;
 use document_values::{
     CompactDocValue, FieldValueIterRef, OwnedValue, ValuesOfField, address_pair, append,
-    object_pair, owned_pair, sized_head, skip_pairs, tokens_pair, value_head,
+    append_sized, object_pair, owned_pair, skip_pairs, tokens_pair, value_head,
 };
 use std::alloc::{AllocError, Global};
 use std::marker::Model;
@@ -146,8 +146,7 @@ impl CompactDoc {
         ensures ok { OnOk result (self.new ≡ self.old ++ ((field, values.str text.now) ∷ [])) }
         ensures err { OnErr result (self.new ≡ self.old) }
     {
-        let head = sized_head(*self.heap.allocator(), field, 0, text.len())?;
-        self.add_parts(head.as_slice(), text.as_bytes())
+        self.add_sized(value_head(field, 0), text.as_bytes())
     }
 
     /// Adds a text with its tokens.
@@ -168,9 +167,7 @@ impl CompactDoc {
         ensures ok { OnOk result (self.new ≡ self.old ++ ((field, values.facet facet.now) ∷ [])) }
         ensures err { OnErr result (self.new ≡ self.old) }
     {
-        let steps = facet.encoded_str();
-        let head = sized_head(*self.heap.allocator(), field, 3, steps.len())?;
-        self.add_parts(head.as_slice(), steps.as_bytes())
+        self.add_sized(value_head(field, 3), facet.encoded_str().as_bytes())
     }
 
     /// Adds a byte string.
@@ -178,8 +175,7 @@ impl CompactDoc {
         ensures ok { OnOk result (self.new ≡ self.old ++ ((field, values.bytes bytes.now) ∷ [])) }
         ensures err { OnErr result (self.new ≡ self.old) }
     {
-        let head = sized_head(*self.heap.allocator(), field, 4, bytes.len())?;
-        self.add_parts(head.as_slice(), bytes)
+        self.add_sized(value_head(field, 4), bytes)
     }
 
     /// Adds an object of these members, in order.
@@ -267,6 +263,17 @@ impl CompactDoc {
         ensures err { OnErr result (self.new ≡ self.old) }
     {
         append(&mut self.heap, first, second)?;
+        self.count += 1;
+        Ok(())
+    }
+
+    /// Adds the pair that these bytes are: the first, how many the second are, and these.
+    fn add_sized(&mut self, first: [u8; 5], second: &[u8]) -> Result<(), AllocError>
+        requires { (p : ℕ × DocValue) × (length second.now < 2 ^ 64 → IsGoodPair true deepest p) × (first ++ sized_bytes second.now ≡ held_pair p) }
+        ensures ok { OnOk result ((p : ℕ × DocValue) → (length second.now < 2 ^ 64 → IsGoodPair true deepest p) → first ++ sized_bytes second.now ≡ held_pair p → self.new ≡ self.old ++ (p ∷ [])) }
+        ensures err { OnErr result (self.new ≡ self.old) }
+    {
+        append_sized(&mut self.heap, first, second)?;
         self.count += 1;
         Ok(())
     }

@@ -23,7 +23,7 @@ pub use json_put::json_object_pair;
 pub use json_text::write_value;
 pub use owned_value::OwnedValue;
 pub use pairs::{
-    address_pair, append, object_pair, owned_pair, sized_head, tokens_pair, value_head,
+    address_pair, append, append_sized, object_pair, owned_pair, tokens_pair, value_head,
 };
 pub use printing::{value_to_json, values_to_json};
 pub use stored::stored_value;

@@ -1,7 +1,7 @@
 //! Pairs of a field and a value, as the bytes by which a document holds them.
 
-ghost use Rattle.std.specs.Prelude.{[], ◌%◌, ◌++◌, ◌/◌, ◌<◌, ◌^◌, ◌∷◌, ◌≡◌, true, IfOk, OnErr, OnOk};
-ghost use Rattle.definitions.specs.NumberCodes.{u32_bytes, u64_bytes, vint_bytes};
+ghost use Rattle.std.specs.Prelude.{[], ◌%◌, ◌++◌, ◌/◌, ◌<◌, ◌^◌, ◌∷◌, ◌≡◌, true, IfOk, OnErr, OnOk, length};
+ghost use Rattle.definitions.specs.NumberCodes.{sized_bytes, u32_bytes, u64_bytes};
 ghost use Rattle.definitions.specs.Values as values;
 ghost use Rattle.document_values.specs.Docs.{IsGoodPair};
 ghost use Rattle.document_values.specs.Held.{IsHeldValue, held_bytes, held_pair};
@@ -11,7 +11,7 @@ ghost use Rattle.layouts.specs.DocumentReading.{deepest, to_members};
 use crate::holding::{put_owned, put_owned_members, put_pre_tokenized};
 use crate::owned_value::OwnedValue;
 use crate::writing::put_address;
-use common::{PreTokenizedString, put_u32, put_vint};
+use common::{PreTokenizedString, put_bytes, put_u32};
 use std::alloc::{AllocError, Global};
 use terms::Field;
 
@@ -29,6 +29,22 @@ pub fn append(heap: &mut Vec<u8>, first: &[u8], second: &[u8]) -> Result<(), All
     Ok(())
 }
 
+/// Appends the first bytes, how many the second are, and these; or nothing.
+pub fn append_sized(heap: &mut Vec<u8>, first: [u8; 5], second: &[u8]) -> Result<(), AllocError>
+    ensures ok { OnOk result (heap.new.items ≡ heap.old.items ++ (first ++ sized_bytes second.now)) }
+    ensures err { OnErr result (heap.new.items ≡ heap.old.items) }
+    ensures few { length second.now < 2 ^ 64 }
+{
+    let start = heap.len();
+    heap.reserve(second.len() + 15)?;
+    heap.extend_from_slice(&first)?;
+    if put_bytes(heap, second).is_err() {
+        heap.truncate(start);
+        return Err(AllocError);
+    }
+    Ok(())
+}
+
 /// A field and a code, which stand before a value.
 pub fn value_head(field: Field, code: u8) -> [u8; 5]
     ensures head { result ≡ u32_bytes field ++ (code ∷ []) }
@@ -36,24 +52,6 @@ pub fn value_head(field: Field, code: u8) -> [u8; 5]
 {
     let [first, second, third, fourth] = u32::to_le_bytes(field.field_id());
     [first, second, third, fourth, code]
-}
-
-/// What stands before a byte string of a given number of bytes: its field, a code and the count.
-pub fn sized_head(
-    alloc: Global,
-    field: Field,
-    code: u8,
-    count: usize,
-) -> Result<Vec<u8>, AllocError>
-    ensures head { IfOk result (λ head. head.items ≡ u32_bytes field ++ (code ∷ vint_bytes count)) }
-    ensures few { count < 2 ^ 64 }
-    ensures field { field < 2 ^ 32 }
-{
-    let mut head = Vec::with_capacity(alloc, 15)?;
-    put_u32(&mut head, field.field_id())?;
-    head.push(code)?;
-    put_vint(&mut head, count as u64)?;
-    Ok(head)
 }
 
 /// A field with a text and its tokens.
