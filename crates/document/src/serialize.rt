@@ -1,12 +1,14 @@
 //! Documents put in the binary form.
 
-ghost use Rattle.std.specs.Prelude.{◌++◌, ◌≡◌, ◌≤◌, IfOk, OnOk, Some, flat_map, length, true};
+ghost use Rattle.std.specs.Prelude.{◌++◌, ◌+◌, ◌≡◌, ◌≤◌, IfOk, OnOk, Some, flat_map, length, true};
 ghost use Rattle.std.specs.List.{AllByRecursion};
 ghost use Rattle.definitions.specs.Indexable.{max_nesting};
+ghost use Rattle.definitions.specs.Schema as schemas;
 ghost use Rattle.definitions.specs.Schema.{field_has};
 ghost use Rattle.definitions.specs.Stored.{stored_pairs};
 ghost use Rattle.definitions.specs.Values.{nesting};
 ghost use Rattle.document_values.specs.Docs.{IsGoodPair};
+ghost use Rattle.document_values.specs.Held.{held_pairs};
 ghost use Rattle.layouts.specs.DocumentReading.{deepest, read_document};
 ghost use Rattle.layouts.specs.DocumentBytes.{document_bytes, pair_bytes};
 
@@ -24,10 +26,20 @@ impl CompactDoc {
         ensures bytes { IfOk result (λ bytes. bytes.items ≡ document_bytes (stored_pairs schema.now self.now)) }
         ensures read_back { AllByRecursion (λ p. nesting p.1 ≤ max_nesting) self.now → read_document (document_bytes (stored_pairs schema.now self.now)) ≡ Some (stored_pairs schema.now self.now) }
     {
-        let mut bytes = Vec::new(alloc);
-        put_vint(&mut bytes, self.stored_count(schema) as u64)?;
+        let count = self.stored_count(schema);
+        let mut bytes = Vec::with_capacity(alloc, self.serialized_at_most())?;
+        put_vint(&mut bytes, count as u64)?;
         self.put_stored(&mut bytes, schema)?;
         Ok(bytes)
+    }
+
+    /// How many bytes its pairs take in memory, and ten for their count. No schema's binary form of it is longer.
+    pub fn serialized_at_most(&self) -> usize
+        ensures bytes { result ≡ length (held_pairs self.now) + 10 }
+        ensures most { (schema : schemas.Schema) → length (document_bytes (stored_pairs schema self.now)) ≤ result }
+    {
+        let (bytes, _) = self.held();
+        bytes.len() + 10
     }
 
     // How many pairs are of stored fields.
