@@ -39,8 +39,12 @@ pub(crate) fn check_slot(
     ensures err { IfErr result (λ fault. (fault ≡ faults.OutOfMemory)
         ⊎ ((fault ≡ faults.Limit) × (2 ^ 32 ≤ block_size + length (slot schema.now doc.now) + 8))) }
 {
+    let beside = block_size as usize + 8;
+    if doc.serialized_at_most().saturating_add(beside) < 1 << 32 {
+        return Ok(());
+    }
     let slot = doc.serialize(alloc, schema)?;
-    if slot.len() + block_size as usize + 8 >= 1 << 32 {
+    if slot.len() + beside >= 1 << 32 {
         return Err(Fault::Limit);
     }
     Ok(())
