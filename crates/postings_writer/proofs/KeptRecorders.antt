@@ -58,15 +58,9 @@ recorded_more e old new places key place r has is put q = put q ∙ go (bytes_eq
     go true same = ap Some (is ∙ ap (λ k. recorded_as (option_of_key e k) (places k ++ place ∷ [])) ((bytes_eq-Decides key q).0 same)) ∙ sym (recorder_push (option_of_key e q) (places q) place)
     go false other = has q
 
--- a map after a write at a key
-pub has_places-more : {S : Type 0} (e : Entry) (old new : HashMap (Vec ℕ Global) Recorder S) (terms : Terms) (places : List ℕ → List (ℕ × ℕ)) (key : List ℕ) (place : ℕ × ℕ) (r : Recorder) → map (λ x. (x.0.items, x.1)) old.entries ≡ terms → HasPlaces e places terms → r ≡ recorded_as (option_of_key e key) (places key ++ place ∷ []) → UpdatesBy (λ x y. pointwise nat_eq x.items y.items) (λ k. pointwise nat_eq key k.items) old new (Some r) → HasPlaces e (with_place key place places) (map (λ x. (x.0.items, x.1)) new.entries)
-has_places-more e old new terms places key place r view has is put q =
-    lookup_items q new.entries
-    ∙ recorded_more e (get_by_bytes old) (get_by_bytes new) places key place r (λ k. sym (lookup_items k old.entries) ∙ ap (lookup (bytes_eq k)) view ∙ has k) is (updates_bytes key old new (Some r) put) q
-
--- what a map has of places
-pub found_places : {S : Type 0} (e : Entry) (old : HashMap (Vec ℕ Global) Recorder S) (terms : Terms) (places : List ℕ → List (ℕ × ℕ)) (key : List ℕ) → map (λ x. (x.0.items, x.1)) old.entries ≡ terms → HasPlaces e places terms → get_by (λ k. pointwise nat_eq key k.items) old ≡ recorder_of (option_of_key e key) (places key)
-found_places e old terms places key view has = sym (lookup_items key old.entries) ∙ ap (lookup (bytes_eq key)) view ∙ has key
+-- terms after a recorder is put at a key
+pub has_places-updated : (e : Entry) (old new : Terms) (places : List ℕ → List (ℕ × ℕ)) (key : List ℕ) (place : ℕ × ℕ) (r : Recorder) → HasPlaces e places old → r ≡ recorded_as (option_of_key e key) (places key ++ place ∷ []) → ((q : List ℕ) → lookup (bytes_eq q) new ≡ update bytes_eq (λ p. lookup (bytes_eq p) old) key (Some r) q) → HasPlaces e (with_place key place places) new
+has_places-updated e old new places key place r has is put = recorded_more e (λ q. lookup (bytes_eq q) old) (λ q. lookup (bytes_eq q) new) places key place r has is put
 
 -- what follows from what holds where a call succeeds
 pub on_ok : {A E : Type 0} (r : Result A E) {P Q : Type 0} → (P → Q) → OnOk r P → OnOk r Q

@@ -1,7 +1,9 @@
 -- Lemmas behind the writer of postings.
 pub mod PlaceBytes
+pub mod PackedKeys
 pub mod Groups
 pub mod KeptRecorders
+pub mod FieldViews
 pub mod Standing
 pub mod TextRuns
 pub mod Runs

@@ -1,7 +1,9 @@
 -- What the recorders of a field's terms stand for.
-use Rattle.std.specs.Prelude.{[], ◌++◌, ◌≡◌, ◌∷◌, List, bytes_eq, if◌then◌else◌, ℕ}
-use Rattle.std.specs.Map.{lookup}
+use Rattle.std.specs.Prelude.{[], ◌++◌, ◌<◌, ◌≡◌, ◌∷◌, List, bytes_eq, if◌then◌else◌, length, map, ℕ}
+use Rattle.std.specs.List.{AllByRecursion, IsDistinct}
+use Rattle.std.specs.Map.{keys_of, lookup}
 use Rattle.definitions.specs.Schema.{Entry, IndexRecordOption, basic}
+use Rattle.postings_writer.specs.PackedKeys.{AreOfKey, key_of, max_short}
 use Rattle.postings_writer.specs.Recorders.{recorder_of}
 use Rattle.terms.specs.TextKeys.{is_text_key}
 use Rattle.postings_writer.specs.declared.recorder.Recorder.{Recorder}
@@ -21,3 +23,11 @@ HasPlaces e places terms = (key : List ℕ) → lookup (bytes_eq key) terms ≡ 
 -- one place more of one term
 abbrev pub with_place : List ℕ → ℕ × ℕ → (List ℕ → List (ℕ × ℕ)) → List ℕ → List (ℕ × ℕ)
 with_place term place places key = if bytes_eq term key then places key ++ place ∷ [] else places key
+
+-- The terms are these with short value bytes, each as the bytes of a number, and then those with others.
+pub record AreShortTerms (terms : Terms) (short : List (List ℕ × Recorder)) : Type 0 where
+  pub each : AllByRecursion (λ t. AreOfKey t.0) short
+  pub apart : IsDistinct bytes_eq (keys_of (map (λ t. (key_of t.0, t.1)) short))
+  pub others : Terms
+  pub are : terms ≡ map (λ t. (key_of t.0, t.1)) short ++ others
+  pub long : AllByRecursion (λ t. max_short < length t.0) others

@@ -2,6 +2,7 @@
 pub mod PlaceBytes
 pub mod Occurrences
 pub mod Recorders
+pub mod PackedKeys
 pub mod Fields
 pub mod Writers
 pub mod Texts

@@ -1,15 +1,17 @@
 //! The recorders of one field's terms.
 
-ghost use Rattle.std.specs.Prelude.{[], ◌++◌, ◌≡◌, ◌∷◌, IfErr, IfOk, IsSome, List, OnOk, bytes_eq, map, true, ℕ};
+ghost use Rattle.std.specs.Prelude.{[], ◌++◌, ◌<◌, ◌≡◌, ◌∷◌, IfErr, IfOk, IsSome, List, OnOk, Some, bytes_eq, length, map, true, ℕ};
 ghost use Rattle.std.specs.List.{AllByRecursion, IsDistinct, list_any};
-ghost use Rattle.std.specs.Map.{keys_of, lookup};
+ghost use Rattle.std.specs.Map.{keys_of, lookup, update};
 ghost use Rattle.definitions.specs.Schema.{is_indexed};
 ghost use Rattle.definitions.specs.declared.fault.Fault.TheVariants as faults;
 ghost use Rattle.layouts.specs.TermSections.{TermsAscend};
 ghost use Rattle.options.specs.RecordOption.{record_option_of};
-ghost use Rattle.postings_writer.specs.Fields.{HasPlaces, option_of_key, with_place};
+ghost use Rattle.postings_writer.specs.Fields.{AreShortTerms, HasPlaces, option_of_key, with_place};
+ghost use Rattle.postings_writer.specs.PackedKeys.{max_short};
 ghost use Rattle.postings_writer.specs.Recorders.{IsCountRefusal};
 
+use crate::packed_key::{MAX_SHORT_LEN, key_of, packed};
 use crate::recorder::Recorder;
 use definitions::Fault;
 use options::IndexRecordOption;
@@ -18,19 +20,27 @@ use std::alloc::{AllocError, Global};
 use std::collections::HashMap;
 use std::marker::Model;
 
-/// The terms of a field by their value bytes, each with its recorder.
+/// The terms of a field by their value bytes, each with its recorder. Value bytes of up to 15 bytes are kept as
+/// numbers, since most are so short.
 #[derive(Drop)]
 pub(crate) struct FieldPostings {
-    terms: HashMap<Vec<u8>, Recorder>,
+    short: HashMap<u128, Recorder>,
+    long: HashMap<Vec<u8>, Recorder>,
 }
 
 impl Model for FieldPostings {
-    ghost use Rattle.std.specs.Prelude.{List, map, ℕ};
+    ghost use Rattle.std.specs.Prelude.{◌++◌, ◌<◌, length, map};
+    ghost use Rattle.std.specs.List.{AllByRecursion};
+    ghost use Rattle.std.specs.Map.{keys_of};
     ghost use Rattle.postings_writer.specs.Fields.{Terms};
+    ghost use Rattle.postings_writer.specs.PackedKeys.{IsPacked, max_short, unpacked};
 
     ghost Value = { Terms };
 
-    ghost view = { λ f. map (λ e. (e.0.items, e.1)) f.terms.entries };
+    ghost view = { λ f. map (λ e. (unpacked e.0, e.1)) f.short.entries ++ map (λ e. (e.0.items, e.1)) f.long.entries };
+
+    ghost invariant = { λ f. AllByRecursion IsPacked (keys_of f.short.entries)
+        × AllByRecursion (λ key. max_short < length key.items) (keys_of f.long.entries) };
 }
 
 /// What is recorded of a term of the field, by its value bytes.
@@ -53,7 +63,8 @@ impl FieldPostings {
         ensures { result ≡ [] }
     {
         FieldPostings {
-            terms: HashMap::new(alloc),
+            short: HashMap::new(alloc),
+            long: HashMap::new(alloc),
         }
     }
 
@@ -70,7 +81,30 @@ impl FieldPostings {
         ensures ok { (places : List ℕ → List (ℕ × ℕ)) → HasPlaces entry.now places self.old → OnOk result (HasPlaces entry.now (with_place key.now (doc, position) places) self.new) }
         ensures err { (places : List ℕ → List (ℕ × ℕ)) → HasPlaces entry.now places self.old → IfErr result (λ fault. IsCountRefusal fault (places key.now ++ (doc, position) ∷ [])) }
     {
-        match self.terms.get_mut(key) {
+        if key.len() > MAX_SHORT_LEN {
+            return self.record_long(alloc, entry, key, doc, position);
+        }
+        match self.short.get_mut(&packed(key)) {
+            Some(recorder) => recorder.record(doc, position),
+            None => self.begin(alloc, entry, key, doc, position),
+        }
+    }
+
+    /// The same of a term whose value bytes are more than a number holds.
+    fn record_long(
+        &mut self,
+        alloc: Global,
+        entry: &FieldEntry,
+        key: &[u8],
+        doc: u32,
+        position: u32,
+    ) -> Result<(), Fault>
+        requires indexed { is_indexed entry.now ≡ true }
+        requires long { max_short < length key.now }
+        ensures ok { (places : List ℕ → List (ℕ × ℕ)) → HasPlaces entry.now places self.old → OnOk result (HasPlaces entry.now (with_place key.now (doc, position) places) self.new) }
+        ensures err { (places : List ℕ → List (ℕ × ℕ)) → HasPlaces entry.now places self.old → IfErr result (λ fault. IsCountRefusal fault (places key.now ++ (doc, position) ∷ [])) }
+    {
+        match self.long.get_mut(key) {
             Some(recorder) => recorder.record(doc, position),
             None => self.begin(alloc, entry, key, doc, position),
         }
@@ -91,29 +125,70 @@ impl FieldPostings {
     {
         let mut recorder = Recorder::new(alloc, option_of_key(entry, key));
         recorder.record(doc, position)?;
-        let key = key.to_vec(alloc)?;
-        self.terms.insert(key, recorder)?;
+        self.insert(alloc, key, recorder)?;
         Ok(())
     }
 
-    /// The terms by their value bytes, each with its recorder, in any order.
-    fn all_terms(&self, alloc: Global) -> Result<Vec<(&[u8], &Recorder)>, AllocError>
-        ensures terms { IfOk result (λ terms. map (λ t. (t.0.now, t.1.now)) terms.items ≡ self.now) }
-        ensures distinct { IsDistinct bytes_eq (keys_of self.now) }
+    /// Puts a recorder at value bytes.
+    fn insert(&mut self, alloc: Global, key: &[u8], recorder: Recorder) -> Result<(), AllocError>
+        ensures { OnOk result ((q : List ℕ) → lookup (bytes_eq q) self.new ≡ update bytes_eq (λ p. lookup (bytes_eq p) self.old) key.now (Some recorder) q) }
     {
-        self.terms
+        if key.len() <= MAX_SHORT_LEN {
+            self.short.insert(packed(key), recorder)?;
+            return Ok(());
+        }
+        self.long.insert(key.to_vec(alloc)?, recorder)?;
+        Ok(())
+    }
+
+    /// The terms with short value bytes, each as the bytes of a number, with its recorder, in any order.
+    pub(crate) fn short_terms(
+        &self,
+        alloc: Global,
+    ) -> Result<Vec<([u8; 16], &Recorder)>, AllocError>
+        ensures { IfOk result (λ terms. AreShortTerms self.now (map (λ t. (t.0, t.1.now)) terms.items)) }
+    {
+        self.short
             .iter()
-            .map(|(key, recorder)| (key.as_slice(), recorder))
+            .map(|(key, recorder)| (key.to_be_bytes(), recorder))
             .collect(alloc)
     }
 
-    /// The terms by their value bytes, ascending, each with its recorder.
-    pub(crate) fn sorted_terms(&self, alloc: Global) -> Result<Vec<(&[u8], &Recorder)>, AllocError>
+    /// The terms by their value bytes, each with its recorder, in any order. It is given those with short ones.
+    fn all_terms<'a>(
+        &'a self,
+        alloc: Global,
+        short: &'a [([u8; 16], &'a Recorder)],
+    ) -> Result<Vec<(&'a [u8], &'a Recorder)>, AllocError>
+        requires { AreShortTerms self.now (map (λ t. (t.0, t.1.now)) short.now) }
+        ensures terms { IfOk result (λ terms. map (λ t. (t.0.now, t.1.now)) terms.items ≡ self.now) }
+        ensures distinct { OnOk result (IsDistinct bytes_eq (keys_of self.now)) }
+    {
+        let mut terms: Vec<(&[u8], &Recorder)> = short
+            .iter()
+            .map(|term| (key_of(&term.0), term.1))
+            .collect(alloc)?;
+        let mut long = self
+            .long
+            .iter()
+            .map(|(key, recorder)| (key.as_slice(), recorder))
+            .collect(alloc)?;
+        terms.append(&mut long)?;
+        Ok(terms)
+    }
+
+    /// The terms by their value bytes, ascending, each with its recorder. It is given those with short ones.
+    pub(crate) fn sorted_terms<'a>(
+        &'a self,
+        alloc: Global,
+        short: &'a [([u8; 16], &'a Recorder)],
+    ) -> Result<Vec<(&'a [u8], &'a Recorder)>, AllocError>
+        requires { AreShortTerms self.now (map (λ t. (t.0, t.1.now)) short.now) }
         ensures ascend { IfOk result (λ terms. TermsAscend (map (λ t. t.0.now) terms.items)) }
         ensures each { IfOk result (λ terms. AllByRecursion (λ t. lookup (bytes_eq t.0.now) self.now ≡ Some t.1.now) terms.items) }
         ensures all { IfOk result (λ terms. (key : List ℕ) → IsSome (lookup (bytes_eq key) self.now) → list_any (bytes_eq key) (map (λ t. t.0.now) terms.items) ≡ true) }
     {
-        let mut terms = self.all_terms(alloc)?;
+        let mut terms = self.all_terms(alloc, short)?;
         terms.sort_unstable_by_key(|term| term.0);
         Ok(terms)
     }

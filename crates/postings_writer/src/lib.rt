@@ -3,6 +3,7 @@
 
 mod field_postings;
 mod index_text;
+mod packed_key;
 mod position_recorder;
 mod postings_writer;
 mod recorder;

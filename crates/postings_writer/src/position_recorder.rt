@@ -39,11 +39,17 @@ fn put_long(bytes: &mut Vec<u8>, first: u32, second: u32) -> Result<(), AllocErr
     Ok(())
 }
 
-/// A number that stands first, and what follows it.
+/// A number that stands first, and what follows it. Most are of one byte.
+#[inline]
 fn take_number(bytes: &[u8]) -> (u32, &[u8])
     requires { IsSomeAnd (take_vint bytes.now) (λ p. p.0 < 2 ^ 32) }
     ensures { take_vint bytes.now ≡ Some (result.0, result.1.now) }
 {
+    if let Some((byte, rest)) = bytes.split_first() {
+        if *byte >= 128 {
+            return (u32::from(*byte) - 128, rest);
+        }
+    }
     match take_vint(bytes) {
         Ok((n, rest)) => (n as u32, rest),
         Err(_) => unreachable!(),

@@ -80,7 +80,8 @@ impl FieldPostings {
         ensures ok { (places : List ℕ → List (ℕ × ℕ)) → HasPlaces entry.now places self.now → IfOk result (λ sections. (f : IndexedField) × (f.field ≡ field) × IsFieldOf entry.now (listed fieldnorm_reader.entry) places f × AreFieldsAdded serializer sections (f ∷ [])) }
         ensures err { (places : List ℕ → List (ℕ × ℕ)) → HasPlaces entry.now places self.now → IfErr result (λ fault. IsFieldRefusal fault (option_of_key entry.now) (listed fieldnorm_reader.entry) (λ key. postings_at (option_of_key entry.now key) (places key))) }
     {
-        let terms = self.sorted_terms(alloc)?;
+        let short = self.short_terms(alloc)?;
+        let terms = self.sorted_terms(alloc, &short)?;
         let option = index_record_option(entry);
         let mut field_serializer = serializer.new_field(alloc, field, option, fieldnorm_reader);
         serialize_terms(alloc, entry.value_type(), &terms, &mut field_serializer)?;

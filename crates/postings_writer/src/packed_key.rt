@@ -1,0 +1,97 @@
+//! Short keys as numbers: a key of up to 15 bytes, with zeros behind it, and its length in the last of sixteen bytes.
+//! Numbers are compared and hashed at once, where the bytes of a key would lie elsewhere.
+
+ghost use Rattle.std.specs.Prelude.{◌%◌, ◌*◌, ◌+◌, ◌-◌, ◌<◌, ◌^◌, ◌≡◌, ◌≤◌, drop, length, take};
+ghost use Rattle.postings_writer.specs.PackedKeys.{IsPacked, key_of, packed, worth};
+
+/// How many bytes a short key has at most.
+pub(crate) const MAX_SHORT_LEN: usize = 15;
+
+/// Four bytes from a place on as a number, the first of them the highest.
+fn read_u32(bytes: &[u8], at: usize) -> u64
+    requires { at + 4 ≤ length bytes.now }
+    ensures { result ≡ worth 0 (take 4 (drop at bytes.now)) }
+{
+    u64::from(u32::from_be_bytes([bytes[at], bytes[at + 1], bytes[at + 2], bytes[at + 3]]))
+}
+
+/// Eight bytes from a place on as a number, the first of them the highest.
+fn read_u64(bytes: &[u8], at: usize) -> u64
+    requires { at + 8 ≤ length bytes.now }
+    ensures { result ≡ worth 0 (take 8 (drop at bytes.now)) }
+{
+    u64::from_be_bytes([
+        bytes[at],
+        bytes[at + 1],
+        bytes[at + 2],
+        bytes[at + 3],
+        bytes[at + 4],
+        bytes[at + 5],
+        bytes[at + 6],
+        bytes[at + 7],
+    ])
+}
+
+/// The lowest bytes of a number, so many, as the highest of eight with zeros behind them.
+fn lowest_first(n: u64, count: usize) -> u64
+    requires { count < 8 }
+    ensures { result ≡ (n % 256 ^ count) * 256 ^ (8 - count) }
+{
+    (n << (8 * (7 - count))) << 8
+}
+
+/// Fewer than four bytes as a number, the first of them the highest.
+fn read_few(bytes: &[u8]) -> u64
+    requires { length bytes.now < 4 }
+    ensures { result ≡ worth 0 bytes.now }
+{
+    let Some(first) = bytes.first() else {
+        return 0;
+    };
+    let mut n = u64::from(*first);
+    if bytes.len() > 1 {
+        n = n * 256 + u64::from(bytes[1]);
+    }
+    if bytes.len() > 2 {
+        n = n * 256 + u64::from(bytes[2]);
+    }
+    n
+}
+
+/// Fewer than eight bytes, with zeros behind them, as a number. What is read twice is left out of the second number.
+fn padded(bytes: &[u8]) -> u64
+    requires { length bytes.now < 8 }
+    ensures { result ≡ worth 0 bytes.now * 256 ^ (8 - length bytes.now) }
+{
+    let len = bytes.len();
+    if len < 4 {
+        return lowest_first(read_few(bytes), len);
+    }
+    (read_u32(bytes, 0) << 32) + (lowest_first(read_u32(bytes, len - 4), len - 4) >> 32)
+}
+
+/// A short key as a number.
+#[inline]
+pub(crate) fn packed(key: &[u8]) -> u128
+    requires { length key.now ≤ 15 }
+    ensures is { result ≡ packed key.now }
+    ensures packed { IsPacked result }
+{
+    let len = key.len();
+    if len < 8 {
+        return (u128::from(padded(key)) << 64) + len as u128;
+    }
+    let rest = lowest_first(read_u64(key, len - 8), len - 8);
+    (u128::from(read_u64(key, 0)) << 64) + u128::from(rest) + len as u128
+}
+
+/// The key among the bytes of a number that is one; the last byte tells how long it is.
+pub(crate) fn key_of(bytes: &[u8; 16]) -> &[u8]
+    ensures { result.now ≡ key_of bytes.now }
+{
+    let len = usize::from(bytes[15]);
+    if len > MAX_SHORT_LEN {
+        return bytes;
+    }
+    &bytes[..len]
+}
