@@ -3,8 +3,7 @@ use Rattle.std.proofs.Common.{[], Bor, ◌&&◌, ◌++◌, ◌<◌, ◌≡◌, �
 use Rattle.std.specs.Cmp.Lexicographic.{pointwise}
 use Rattle.std.specs.HashMap.{HashMap, PutsEntry, UpdatesBy, get_by, keys}
 use Rattle.std.specs.Int.{to_be_bytes, w128}
-use Rattle.std.specs.List.{All, AllByRecursion, IsDistinct}
-use Rattle.std.specs.List.Sorted.{IsPermutation}
+use Rattle.std.specs.List.{AllByRecursion, IsDistinct}
 use Rattle.std.specs.Map.{keys_of, lookup, update}
 use Rattle.std.specs.declared.alloc.Global.{Global}
 use Rattle.std.proofs.lemmas.Bool.{true≢false}

@@ -1,12 +1,12 @@
 -- Short keys as numbers, and back.
 use Rattle.std.proofs.Common.{[], ◌%◌, ◌*◌, ◌++◌, ◌+◌, ◌-◌, ◌/◌, ◌<◌, ◌^◌, ◌∙◌, ◌∷◌, ◌≡◌, ◌≤◌, List, add-mul, ap, ap₂, arith, drop, get_or, length, mul_assoc, mul_comm, one-mul, refl, replicate, subst, suc, sym, take, zero, ℕ}
-use Rattle.std.specs.Int.{byte_at, bytes_high_first, from_be_bytes, to_be_bytes, w128}
+use Rattle.std.specs.Int.{byte_at, bytes_high_first, to_be_bytes, w128}
 use Rattle.std.specs.List.{AllByRecursion}
 use Rattle.std.proofs.Math.Nat.{div-div-eq-div-mul, div-lt_iff_lt-mul, pow-suc}
 use Rattle.std.proofs.lemmas.Nat.{mod-mul-add, pow-add}
 use Rattle.std.proofs.Math.Seq.{take-append_seam}
 use Rattle.std.proofs.lemmas.List.{append_assoc, drop-drop, length-append, length-drop, take-append-drop, take_rest}
-use Rattle.postings_writer.specs.PackedKeys.{IsPacked, IsShort, key_of, packed, padded, unpacked, worth}
+use Rattle.postings_writer.specs.PackedKeys.{IsShort, key_of, packed, padded, unpacked, worth}
 
 -- ---- bytes of a number
 

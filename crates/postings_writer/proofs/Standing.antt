@@ -1,8 +1,10 @@
 -- What a writer stands for, as one more occurrence is recorded.
-use Rattle.std.proofs.Common.{[], ◌++◌, ◌+◌, ◌<◌, ◌^◌, ◌≡◌, ◌≢◌, ◌≤◌, ◌∙◌, ◌∷◌, Bool, List, Some, ap, arith, bytes_eq, cond, false, filter, length, map, nat_eq, refl, replicate, set, slice_get, subst, suc, sym, true, zero, ℕ}
+use Rattle.std.proofs.Common.{[], ◌++◌, ◌+◌, ◌<◌, ◌^◌, ◌≡◌, ◌≢◌, ◌≤◌, ◌∙◌, ◌∷◌, Bool, List, Some, ap, arith, bytes_eq, cond, drop, false, filter, length, map, nat_eq, refl, replicate, set, slice_get, subst, suc, sym, true, zero, ℕ}
+use Rattle.std.specs.Int.{from_be_bytes, w32}
 use Rattle.std.specs.List.{AllByRecursion}
+use Rattle.std.proofs.Math.Seq.{drop-append_seam}
 use Rattle.std.proofs.lemmas.Bool.Decides.{nat_tests}
-use Rattle.std.proofs.lemmas.List.{length-replicate, length-set, map-append}
+use Rattle.std.proofs.lemmas.List.{length-replicate, length-set, map-append, take-append-le}
 use Rattle.std.proofs.lemmas.List.Elements.{filter-append}
 use Rattle.std.proofs.lemmas.Option.{slice_get_within}
 use Rattle.definitions.specs.Schema.{Entry, Kind, Schema, max_fields}
@@ -165,3 +167,11 @@ module _ (schema : Schema) (w : Writer) (os : List Occurrence) (t : List ℕ) (d
       let put : HasPlaces k.entry (with_place k.key (doc, position) known_places) new = subst Q (key_is ∙ payload_of-known schema t k) (subst P (field_entry schema t k e field is at) has) in
       let R : ℕ → Type 0 = λ f. Stands schema (record { fields = set w.fields f new; num_docs = doc + 1 }) (os ++ record { doc = doc; term = t; position = position } ∷ []) in
       subst R (sym (is ∙ field_of-known schema t k)) (stands_more schema w os t doc position k new stands above placed put)
+
+-- ---- a term of first bytes and a text
+
+pub field_before : (prefix text : List ℕ) → length prefix ≡ 5 → field_of prefix ≡ field_of (prefix ++ text)
+field_before prefix text five = ap (from_be_bytes w32) (sym (take-append-le 4 prefix text (omega (arith, five))))
+
+pub payload_behind : (prefix text : List ℕ) → length prefix ≡ 5 → text ≡ payload_of (prefix ++ text)
+payload_behind prefix text five = sym (ap (λ k. drop k (prefix ++ text)) (sym five) ∙ drop-append_seam prefix text)

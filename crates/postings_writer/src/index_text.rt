@@ -156,10 +156,7 @@ impl PostingsWriter {
             return Ok((start, 0));
         }
         let (position, end) = place_of(start, gap, token)?;
-        let prefix_len = term_buffer.len();
-        term_buffer.extend_from_slice(token.text.as_bytes())?;
-        self.subscribe(schema, doc, term_buffer, position)?;
-        term_buffer.truncate(prefix_len);
+        self.subscribe_text(schema, doc, term_buffer, token.text.as_bytes(), position)?;
         Ok((end, 1))
     }
 }

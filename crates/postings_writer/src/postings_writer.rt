@@ -1,6 +1,6 @@
 //! Records the terms of documents, field by field.
 
-ghost use Rattle.std.specs.Prelude.{[], ◌++◌, ◌+◌, ◌<◌, ◌^◌, ◌≡◌, ◌≤◌, ◌∷◌, IfErr, IfOk, List, OnOk, length, replicate};
+ghost use Rattle.std.specs.Prelude.{[], ◌++◌, ◌+◌, ◌<◌, ◌^◌, ◌≡◌, ◌≤◌, ◌∷◌, IfErr, IfOk, List, OnOk, length, replicate, ℕ};
 ghost use Rattle.definitions.specs.Postings.{terminated};
 ghost use Rattle.definitions.specs.Terms.{field_of, payload_of};
 ghost use Rattle.postings_writer.specs.Occurrences.{Occurrence, places_of};
@@ -93,9 +93,61 @@ impl PostingsWriter {
         ensures err { (os : List Occurrence) → Stands schema.now self.old os
             → IfErr result (λ fault. IsCountRefusal fault (places_of term.now os ++ (doc, position) ∷ [])) }
     {
-        let field = field_of(term);
+        self.record(schema, doc, field_of(term), payload_of(term), position)
+    }
+
+    /// The same of the term that a token's text is behind the first bytes that the buffer holds. Where these are no
+    /// more than stands before each value, the text is the value.
+    pub(crate) fn subscribe_text(
+        &mut self,
+        schema: &Schema,
+        doc: u32,
+        term_buffer: &mut Vec<u8>,
+        text: &[u8],
+        position: u32,
+    ) -> Result<(), Fault>
+        requires made { HasFields schema.now self.old }
+        requires known { IsIndexedTerm schema.now (term_buffer.old.items ++ text.now) }
+        requires next { self.old.num_docs ≤ doc + 1 }
+        requires fits { doc < terminated }
+        requires placed { position < 2 ^ 31 }
+        ensures ok { (os : List Occurrence) → Stands schema.now self.old os
+            → OnOk result (Stands schema.now self.new (os ++ record { doc = doc; term = term_buffer.old.items ++ text.now; position = position } ∷ [])) }
+        ensures same { OnOk result (HasFields schema.now self.new × (self.new.num_docs ≡ doc + 1) × (term_buffer.new.items ≡ term_buffer.old.items)) }
+        ensures err { (os : List Occurrence) → Stands schema.now self.old os
+            → IfErr result (λ fault. IsCountRefusal fault (places_of (term_buffer.old.items ++ text.now) os ++ (doc, position) ∷ [])) }
+    {
+        let prefix_len = term_buffer.len();
+        if prefix_len == HEADER_LEN {
+            return self.record(schema, doc, field_of(term_buffer), text, position);
+        }
+        term_buffer.extend_from_slice(text)?;
+        self.subscribe(schema, doc, term_buffer, position)?;
+        term_buffer.truncate(prefix_len);
+        Ok(())
+    }
+
+    /// The same of a term by its field's number and its value bytes.
+    fn record(
+        &mut self,
+        schema: &Schema,
+        doc: u32,
+        field: u32,
+        key: &[u8],
+        position: u32,
+    ) -> Result<(), Fault>
+        requires made { HasFields schema.now self.old }
+        requires known { (term : List ℕ) × IsIndexedTerm schema.now term × (field ≡ field_of term) × (key.now ≡ payload_of term) }
+        requires next { self.old.num_docs ≤ doc + 1 }
+        requires fits { doc < terminated }
+        requires placed { position < 2 ^ 31 }
+        ensures ok { (term : List ℕ) (os : List Occurrence) → IsIndexedTerm schema.now term → field ≡ field_of term → key.now ≡ payload_of term → Stands schema.now self.old os
+            → OnOk result (Stands schema.now self.new (os ++ record { doc = doc; term = term; position = position } ∷ [])) }
+        ensures same { OnOk result (HasFields schema.now self.new × (self.new.num_docs ≡ doc + 1)) }
+        ensures err { (term : List ℕ) (os : List Occurrence) → IsIndexedTerm schema.now term → field ≡ field_of term → key.now ≡ payload_of term → Stands schema.now self.old os
+            → IfErr result (λ fault. IsCountRefusal fault (places_of term os ++ (doc, position) ∷ [])) }
+    {
         let entry = schema.get_field_entry(Field::from_field_id(field));
-        let key = payload_of(term);
         self.fields[field as usize].record(self.alloc, entry, key, doc, position)?;
         self.num_docs = doc + 1;
         Ok(())

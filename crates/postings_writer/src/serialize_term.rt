@@ -50,7 +50,9 @@ fn sort(positions: &mut Vec<u32>)
     ensures ascending { positions.new.items ≡ ascending positions.old.items }
     ensures rising { DontFall positions.new.items }
 {
-    positions.sort_unstable();
+    if positions.len() > 1 {
+        positions.sort_unstable();
+    }
 }
 
 /// Puts in the place of ascending positions the first of them and the differences.

@@ -1,4 +1,4 @@
-use Rattle.std.proofs.Common.{◌%◌, ◌*◌, ◌-◌, ◌+◌, ◌<◌, ◌^◌, ◌≡◌, ◌≤◌, ◌∙◌, List, ap, ap₂, arith, length, ℕ}
+use Rattle.std.proofs.Common.{◌%◌, ◌*◌, ◌+◌, ◌≡◌, ◌≤◌, ◌∙◌, ap₂, arith, length}
 use Rattle.postings_writer.specs.PackedKeys.{IsShort, packed}
 use Rattle.postings_writer.proofs.PackedKeys.{all_bytes, long_number, packed_below, short_number}
 use Rattle.postings_writer.proofs.packed_key.packed.Goals as goal

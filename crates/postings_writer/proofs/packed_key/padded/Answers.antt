@@ -1,5 +1,4 @@
-use Rattle.std.proofs.Common.{◌%◌, ◌*◌, ◌-◌, ◌/◌, ◌+◌, ◌^◌, ◌≡◌, ◌≤◌, ◌∙◌, ap, ap₂, arith, length, ℕ}
-use Rattle.postings_writer.specs.PackedKeys.{worth}
+use Rattle.std.proofs.Common.{◌%◌, ◌*◌, ◌/◌, ◌+◌, ◌≤◌, ◌∙◌, ap, arith, length}
 use Rattle.postings_writer.proofs.PackedKeys.{all_bytes, few_number, middle_number}
 use Rattle.postings_writer.proofs.packed_key.padded.Goals as goal
 

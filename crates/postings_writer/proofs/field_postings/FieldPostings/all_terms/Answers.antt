@@ -1,4 +1,4 @@
-use Rattle.std.proofs.Common.{◌++◌, ◌≡◌, ◌∙◌, IfOk, List, ap, ap₂, bytes_eq, map, rules, subst, sym, tests, ℕ}
+use Rattle.std.proofs.Common.{◌++◌, ◌≡◌, ◌∙◌, IfOk, ap, ap₂, bytes_eq, map, rules, subst, sym, tests}
 use Rattle.std.specs.List.{IsDistinct}
 use Rattle.std.specs.Map.{keys_of}
 use Rattle.std.proofs.lemmas.Iterator.{YieldsList-from_map_by, YieldsList-from_slice}

@@ -1,12 +1,10 @@
-use Rattle.std.proofs.Common.{[], ◌++◌, ◌<◌, ◌≡◌, ◌≤◌, ◌∙◌, ◌∷◌, List, Some, ap, arith, length, map, nat_eq, rules, subst, sym, ℕ}
+use Rattle.std.proofs.Common.{◌++◌, ◌∙◌, Some, ap, arith, map, nat_eq, rules, subst, sym, ℕ}
 use Rattle.std.specs.HashMap.{HashMap, UpdatesBy, get_by}
-use Rattle.std.specs.Map.{keys_of}
 use Rattle.std.specs.List.{AllByRecursion}
 use Rattle.std.specs.declared.hash.BuildHasherDefault.{BuildHasherDefault}
 use Rattle.std.specs.declared.hash.FoldHasher.{FoldHasher}
 use Rattle.postings_writer.specs.Fields.{HasPlaces, Terms, option_of_key}
 use Rattle.postings_writer.specs.PackedKeys.{IsPacked, IsShort}
-use Rattle.postings_writer.specs.Recorders.{recorder_of}
 use Rattle.postings_writer.specs.declared.recorder.Recorder.{Recorder}
 use Rattle.postings_writer.proofs.FieldViews.{AreMaps, found_short, updated_short}
 use Rattle.postings_writer.proofs.KeptRecorders.{has_places-updated, on_ok, recorder_is, recorder_none}

@@ -1,4 +1,4 @@
-use Rattle.std.proofs.Common.{[], ◌++◌, ◌<◌, ◌≡◌, ◌∙◌, ◌∷◌, List, Some, Vec, ap, map, rules, subst, sym, ℕ}
+use Rattle.std.proofs.Common.{◌++◌, ◌∙◌, Vec, ap, map, rules, subst, sym, ℕ}
 use Rattle.std.specs.HashMap.{HashMap}
 use Rattle.std.specs.declared.alloc.Global.{Global}
 use Rattle.std.specs.declared.hash.BuildHasherDefault.{BuildHasherDefault}
