@@ -1,7 +1,7 @@
 -- Laws of positions that two terms share.
-use Rattle.std.proofs.Common.{[], Bool, List, ap, arith, drop, false, filter, get_or, if◌then◌else◌, le-leb, length, nat_le, nat_lt, refl, set, subst, sym, take, true, ◌++◌, ◌+◌, ◌<◌, ◌==◌, ◌∙◌, ◌∷◌, ◌||◌, ◌≡◌, ◌≤◌, ℕ}
+use Rattle.std.proofs.Common.{[], Bool, List, ap, arith, drop, false, filter, get_or, if◌then◌else◌, le-leb, length, nat_le, nat_lt, refl, set, subst, sym, take, true, ◌++◌, ◌+◌, ◌<◌, ◌==◌, ◌∙◌, ◌∷◌, ◌||◌, ◌≡◌, ◌≢◌, ◌≤◌, ℕ}
 use mir.Val.{bool_byte as from_bool}
-use Rattle.std.proofs.lemmas.Bool.{lt-leb}
+use Rattle.std.proofs.lemmas.Bool.{lt-leb, true≢false}
 use Rattle.std.proofs.lemmas.Bool.Decides.{nat_tests}
 use Rattle.std.proofs.lemmas.List.{append_assoc, drop-set-lt, drop_all, drop_more, set-get_or, take-set, take_more_set}
 use Rattle.definitions.specs.Scoring.{DontFall}
@@ -20,9 +20,6 @@ Rises-lower low high (p ∷ ps) l r = (omega (arith, l, r.0), r.1)
 -- what is left of ascending positions, one step on
 pub Ascends-step : (low i : ℕ) (ps : List ℕ) → i < length ps → Ascends low (drop i ps) → (low ≤ get_or ps i 0) × Ascends (get_or ps i 0) (drop (i + 1) ps)
 Ascends-step low i ps l a = let split : Ascends low (get_or ps i 0 ∷ drop (i + 1) ps) = subst (Ascends low) (drop_more ps i 0 l) a in (split.0, split.1)
-
-pub Rises-step : (low i : ℕ) (ps : List ℕ) → i < length ps → Rises low (drop i ps) → (low ≤ get_or ps i 0) × Rises (get_or ps i 0 + 1) (drop (i + 1) ps)
-Rises-step low i ps l r = let split : Rises low (get_or ps i 0 ∷ drop (i + 1) ps) = subst (Rises low) (drop_more ps i 0 l) r in (split.0, split.1)
 
 -- positions that don't fall ascend
 ascends-here : (low p : ℕ) (ps : List ℕ) → low ≤ p → DontFall (p ∷ ps) → Ascends low (p ∷ ps)
@@ -77,12 +74,12 @@ has-low low p (q ∷ qs) a l =
     let apart : (q == p) ≡ false = grind (arith, nat_tests, a.0, l) in
     ap (λ b. b || has qs p) apart ∙ rest
 
--- tests that agree on what rises keep alike
-pub filter-rising : (f g : ℕ → Bool) (low : ℕ) (xs : List ℕ) → Rises low xs → ((x : ℕ) → low ≤ x → f x ≡ g x) → filter f xs ≡ filter g xs
-filter-rising f g low [] r same = refl
-filter-rising f g low (x ∷ xs) r same =
-    ap (λ b. if b then x ∷ filter f xs else filter f xs) (same x r.0)
-    ∙ ap (λ ys. if g x then x ∷ ys else ys) (filter-rising f g (x + 1) xs r.1 (λ y l. same y (omega (arith, l, r.0))))
+-- tests that agree on what ascends keep alike
+pub filter-ascending : (f g : ℕ → Bool) (low : ℕ) (xs : List ℕ) → Ascends low xs → ((x : ℕ) → low ≤ x → f x ≡ g x) → filter f xs ≡ filter g xs
+filter-ascending f g low [] a same = refl
+filter-ascending f g low (x ∷ xs) a same =
+    ap (λ b. if b then x ∷ filter f xs else filter f xs) (same x a.0)
+    ∙ ap (λ ys. if g x then x ∷ ys else ys) (filter-ascending f g x xs a.1 (λ y l. same y (omega (arith, l, a.0))))
 
 -- a position that is kept, and one that isn't
 filter-in : (f : ℕ → Bool) (x : ℕ) (xs : List ℕ) → f x ≡ true → filter f (x ∷ xs) ≡ x ∷ filter f xs
@@ -95,6 +92,45 @@ filter-none : (xs : List ℕ) → filter (has []) xs ≡ []
 filter-none [] = refl
 filter-none (x ∷ xs) = filter-none xs
 
+-- ---- what is kept of ascending positions
+
+pub Ascends-filter : (f : ℕ → Bool) (low : ℕ) (ps : List ℕ) → Ascends low ps → Ascends low (filter f ps)
+Ascends-filter f low [] a = tt
+Ascends-filter f low (p ∷ ps) a = (let rest = Ascends-filter f p ps a.1 in elim (f p) as (λ b. Ascends low (if b then p ∷ filter f ps else filter f ps)) [ true ↦ (a.0, rest) | false ↦ Ascends-lower low p (filter f ps) a.0 rest ])
+
+-- behind one that isn't kept all that is kept is above it
+Ascends-filter-out : (f : ℕ → Bool) (p : ℕ) (ps : List ℕ) → f p ≡ false → Ascends p ps → Ascends (p + 1) (filter f ps)
+Ascends-filter-out f p [] out a = tt
+Ascends-filter-out f p (q ∷ qs) out a =
+    (elim (f q) as (λ b. f q ≡ b → Ascends (p + 1) (if b then q ∷ filter f qs else filter f qs)) [
+      | true ↦ (λ e. (let apart : p ≢ q = (λ same. true≢false (sym e ∙ (ap f (sym same) ∙ out))) in omega (arith, a.0, apart), Ascends-filter f q qs a.1))
+      | false ↦ (λ e. Ascends-lower (p + 1) (q + 1) (filter f qs) (omega (arith, a.0)) (Ascends-filter-out f q qs e a.1))
+    ]) refl
+
+-- a bound that none is below doesn't matter
+distinct-low : (next further low : ℕ) (ps : List ℕ) → Ascends low ps → next ≤ low → further ≤ low → distinct next ps ≡ distinct further ps
+distinct-low next further low [] a l m = refl
+distinct-low next further low (p ∷ ps) a l m =
+    ap (λ b. if b then p ∷ distinct (p + 1) ps else distinct next ps) (le-leb next p (omega (arith, l, a.0)))
+    ∙ sym (ap (λ b. if b then p ∷ distinct (p + 1) ps else distinct further ps) (le-leb further p (omega (arith, m, a.0))))
+
+-- it doesn't matter whether each is taken once before or after others are taken out
+pub distinct-filter : (f : ℕ → Bool) (next low : ℕ) (ps : List ℕ) → Ascends low ps → distinct next (filter f ps) ≡ filter f (distinct next ps)
+distinct-filter f next low [] a = refl
+distinct-filter f next low (p ∷ ps) a =
+    let further = distinct-filter f (p + 1) p ps a.1 in
+    let rest = distinct-filter f next p ps a.1 in
+    (elim (nat_le next p) as (λ b. nat_le next p ≡ b → distinct next (filter f (p ∷ ps)) ≡ filter f (if b then p ∷ distinct (p + 1) ps else distinct next ps)) [
+      | true ↦ (λ e. (elim (f p) as (λ k. f p ≡ k → distinct next (if k then p ∷ filter f ps else filter f ps) ≡ (if k then p ∷ filter f (distinct (p + 1) ps) else filter f (distinct (p + 1) ps))) [
+        | true ↦ (λ k. ap (λ b. if b then p ∷ distinct (p + 1) (filter f ps) else distinct next (filter f ps)) e ∙ ap (λ xs. p ∷ xs) further)
+        | false ↦ (λ k. distinct-low next (p + 1) (p + 1) (filter f ps) (Ascends-filter-out f p ps k a.1) (grind (arith, nat_tests, e)) (omega arith) ∙ further)
+      ]) refl)
+      | false ↦ (λ e. elim (f p) as (λ k. distinct next (if k then p ∷ filter f ps else filter f ps) ≡ filter f (distinct next ps)) [
+        | true ↦ ap (λ b. if b then p ∷ distinct (p + 1) (filter f ps) else distinct next (filter f ps)) e ∙ rest
+        | false ↦ rest
+      ])
+    ]) refl
+
 -- ---- a merge, step by step: l and r are the first positions left
 
 -- a left position before all right ones goes
@@ -105,11 +141,11 @@ merge-left i j left right li lj a l =
     ∙ filter-out (has (drop j right)) (get_or left i 0) (drop (i + 1) left) (has-low (get_or right j 0) (get_or left i 0) (drop j right) (subst (Ascends (get_or right j 0)) (sym (drop_more right j 0 lj)) rises) l)
 
 -- a right position before all left ones is passed
-pub merge-right : (i j : ℕ) (left right : List ℕ) → i < length left → j < length right → Rises 0 (drop i left) → get_or right j 0 < get_or left i 0 → filter (has (drop j right)) (drop i left) ≡ filter (has (drop (j + 1) right)) (drop i left)
-merge-right i j left right li lj r l =
-    let rises : Rises (get_or left i 0) (get_or left i 0 ∷ drop (i + 1) left) = (omega arith, (Rises-step 0 i left li r).1) in
+pub merge-right : (i j : ℕ) (left right : List ℕ) → i < length left → j < length right → Ascends 0 (drop i left) → get_or right j 0 < get_or left i 0 → filter (has (drop j right)) (drop i left) ≡ filter (has (drop (j + 1) right)) (drop i left)
+merge-right i j left right li lj a l =
+    let ascends : Ascends (get_or left i 0) (get_or left i 0 ∷ drop (i + 1) left) = (omega arith, (Ascends-step 0 i left li a).1) in
     ap (λ ps. filter (has ps) (drop i left)) (drop_more right j 0 lj)
-    ∙ filter-rising (has (get_or right j 0 ∷ drop (j + 1) right)) (has (drop (j + 1) right)) (get_or left i 0) (drop i left) (subst (Rises (get_or left i 0)) (sym (drop_more left i 0 li)) rises)
+    ∙ filter-ascending (has (get_or right j 0 ∷ drop (j + 1) right)) (has (drop (j + 1) right)) (get_or left i 0) (drop i left) (subst (Ascends (get_or left i 0)) (sym (drop_more left i 0 li)) ascends)
     (λ x b. let apart : (get_or right j 0 == x) ≡ false = grind (arith, nat_tests, l, b) in ap (λ t. t || has (drop (j + 1) right) x) apart)
 
 -- a shared one stays
@@ -149,8 +185,8 @@ pub record IsStep (l r kept passed skipped : ℕ) : Type 0 where
   pub more : r < l → (kept ≡ 0) × (passed ≡ 0) × (skipped ≡ 1)
 
 -- what is kept and what is left to keep are the same after a step
-pub merge-step : (i j n kept passed skipped : ℕ) (left right : List ℕ) → i < length left → j < length right → n ≤ i → Rises 0 (drop i left) → Ascends 0 (drop j right) → IsStep (get_or left i 0) (get_or right j 0) kept passed skipped → take (n + kept) (set left n (get_or left i 0)) ++ filter (has (drop (j + skipped) right)) (drop (i + passed) (set left n (get_or left i 0))) ≡ take n left ++ filter (has (drop j right)) (drop i left)
-merge-step i j n kept passed skipped left right li lj before rises ascends step =
+pub merge-step : (i j n kept passed skipped : ℕ) (left right : List ℕ) → i < length left → j < length right → n ≤ i → Ascends 0 (drop i left) → Ascends 0 (drop j right) → IsStep (get_or left i 0) (get_or right j 0) kept passed skipped → take (n + kept) (set left n (get_or left i 0)) ++ filter (has (drop (j + skipped) right)) (drop (i + passed) (set left n (get_or left i 0))) ≡ take n left ++ filter (has (drop j right)) (drop i left)
+merge-step i j n kept passed skipped left right li lj before left_ascends ascends step =
     let l : ℕ = get_or left i 0 in
     let ys : List ℕ = set left n l in
     let front : take n ys ≡ take n left = take-set left n l in
@@ -188,19 +224,13 @@ merge-step i j n kept passed skipped left right li lj before rises ascends step 
     ∙ (ap (λ m. take n ys ++ filter (has (drop (j + 1) right)) (drop m ys)) left_on
     ∙ (ap (λ xs. xs ++ filter (has (drop (j + 1) right)) (drop i ys)) front
     ∙ (ap (λ xs. take n left ++ filter (has (drop (j + 1) right)) xs) same
-    ∙ ap (λ xs. take n left ++ xs) (sym (merge-right i j left right li lj rises more))))))))
+    ∙ ap (λ xs. take n left ++ xs) (sym (merge-right i j left right li lj left_ascends more))))))))
 
 -- what is left after a step of one or none
 pub Ascends-past : (i n : ℕ) (ps : List ℕ) → i < length ps → n ≤ 1 → Ascends 0 (drop i ps) → Ascends 0 (drop (i + n) ps)
 Ascends-past i n ps l few a = by_order n 1 (Ascends 0 (drop (i + n) ps))
     (λ less. (let e : i ≡ i + n = omega (arith, less) in subst (λ m. Ascends 0 (drop m ps)) e a))
     (λ same. (let e : i + 1 ≡ i + n = omega (arith, same) in subst (λ m. Ascends 0 (drop m ps)) e (Ascends-lower 0 (get_or ps i 0) (drop (i + 1) ps) (omega arith) (Ascends-step 0 i ps l a).1)))
-    (λ more. absurd (omega (arith, few, more)))
-
-pub Rises-past : (i n : ℕ) (ps : List ℕ) → i < length ps → n ≤ 1 → Rises 0 (drop i ps) → Rises 0 (drop (i + n) ps)
-Rises-past i n ps l few r = by_order n 1 (Rises 0 (drop (i + n) ps))
-    (λ less. (let e : i ≡ i + n = omega (arith, less) in subst (λ m. Rises 0 (drop m ps)) e r))
-    (λ same. (let e : i + 1 ≡ i + n = omega (arith, same) in subst (λ m. Rises 0 (drop m ps)) e (Rises-lower 0 (get_or ps i 0 + 1) (drop (i + 1) ps) (omega arith) (Rises-step 0 i ps l r).1)))
     (λ more. absurd (omega (arith, few, more)))
 
 -- the tests of two positions say how far a step goes
@@ -217,8 +247,3 @@ step-few l r kept passed skipped step = by_order l r ((kept ≤ passed) × (pass
     (λ less. (let s = step.less less in (omega (arith, s.0, s.1), omega (arith, s.1), omega (arith, s.2), omega (arith, s.1, s.2))))
     (λ same. (let s = step.same same in (omega (arith, s.0, s.1), omega (arith, s.1), omega (arith, s.2), omega (arith, s.1, s.2))))
     (λ more. (let s = step.more more in (omega (arith, s.0, s.1), omega (arith, s.1), omega (arith, s.2), omega (arith, s.1, s.2))))
-
--- what rises ascends
-pub ascends-rising : (low : ℕ) (ps : List ℕ) → Rises low ps → Ascends low ps
-ascends-rising low [] r = tt
-ascends-rising low (p ∷ ps) r = (r.0, Ascends-lower p (p + 1) ps (omega arith) (ascends-rising (p + 1) ps r.1))

@@ -1,13 +1,19 @@
 //! Positions that two terms share, found by marks: a position is looked up at once, where a merge takes turns.
 
 ghost use Rattle.std.specs.Prelude.{◌<◌, ◌≡◌, false, filter, length, slice_index, slice_index_or, true, vec_capacity, ℕ};
-ghost use Rattle.phrases.specs.Places.{Ascends, Rises, has};
+ghost use Rattle.phrases.specs.Places.{Ascends, has};
 
-use crate::merging::intersection;
+use crate::merging::{intersection, keep_among};
 use std::alloc::{AllocError, Global};
 
 /// How many positions of two terms are merged at least: marks pay only where there are more.
 const MERGED: usize = 16;
+
+/// How many positions are at most compared with each of a few others.
+const MOST_KEPT: usize = 8;
+
+/// How many others these are at most. The compiler writes out all comparisons.
+const MOST_COMPARED: usize = 4;
 
 /// A mark for each position below a limit, none of which is set.
 #[derive(Drop)]
@@ -24,11 +30,11 @@ impl Marks {
         })
     }
 
-    /// Takes out of rising positions those that aren't among others: by marks where they are many and all below
-    /// the limit, else by a merge.
+    /// Takes out of ascending positions those that aren't among others: each is compared with each where they are few; by
+    /// marks where they are many and all below the limit; else by a merge.
     pub(crate) fn keep_shared(&mut self, left: &mut Vec<u32>, right: &[u32])
-        requires rises { Rises 0 left.old.items }
-        requires ascends { Ascends 0 right.now }
+        requires left { Ascends 0 left.old.items }
+        requires right { Ascends 0 right.now }
         ensures items { left.new.items ≡ filter (has right.now) left.old.items }
         ensures room { vec_capacity left.new ≡ vec_capacity left.old }
     {
@@ -83,15 +89,19 @@ fn keep_marked(positions: &mut Vec<u32>, marks: &[bool])
     positions.truncate(count);
 }
 
-/// Takes out of rising positions those that aren't among others.
+/// Takes out of ascending positions those that aren't among others.
 fn keep_shared(left: &mut Vec<u32>, right: &[u32], marks: &mut [bool])
-    requires rises { Rises 0 left.old.items }
-    requires ascends { Ascends 0 right.now }
+    requires left { Ascends 0 left.old.items }
+    requires right { Ascends 0 right.now }
     requires clear { (p : ℕ) → slice_index_or marks.old p false ≡ false }
     ensures items { left.new.items ≡ filter (has right.now) left.old.items }
     ensures room { vec_capacity left.new ≡ vec_capacity left.old }
     ensures clear { (p : ℕ) → slice_index_or marks.new p false ≡ false }
 {
+    if left.len() <= MOST_KEPT && right.len() <= MOST_COMPARED {
+        keep_among(left, right);
+        return;
+    }
     let are_few = left.len() + right.len() <= MERGED;
     if are_few || !are_below(left, marks.len()) || !are_below(right, marks.len()) {
         intersection(left, right);

@@ -1,7 +1,7 @@
 //! Positions that two terms share.
 
-ghost use Rattle.std.specs.Prelude.{◌≡◌, ◌≤◌, filter, length, vec_capacity};
-ghost use Rattle.phrases.specs.Places.{Ascends, Rises, distinct, has};
+ghost use Rattle.std.specs.Prelude.{◌≡◌, ◌≤◌, filter, length, take, vec_capacity};
+ghost use Rattle.phrases.specs.Places.{Ascends, distinct, has};
 ghost use Rattle.phrases.specs.PrefixEntries.{continued};
 
 /// Puts positions, each once, in place of those that an output holds.
@@ -22,10 +22,78 @@ pub(crate) fn copy_distinct(positions: &[u32], output: &mut Vec<u32>)
     }
 }
 
-/// Takes out of rising positions those that aren't among others.
+/// Puts ascending positions, each once, in front of the others, and answers how many these are.
+fn put_distinct_first(positions: &mut [u32]) -> usize
+    ensures few { result ≤ length positions.new }
+    ensures items { take result positions.new ≡ distinct 0 positions.old }
+{
+    let mut count = 0;
+    let mut next: u64 = 0;
+    for i in 0..positions.len() {
+        let position = positions[i];
+        positions[count] = position;
+        if u64::from(position) >= next {
+            count += 1;
+        }
+        next = next.max(u64::from(position) + 1);
+    }
+    count
+}
+
+/// Takes out of ascending positions those that stand there before. Most terms stand once in a document.
+pub(crate) fn keep_distinct(positions: &mut Vec<u32>)
+    ensures items { positions.new.items ≡ distinct 0 positions.old.items }
+    ensures room { vec_capacity positions.new ≡ vec_capacity positions.old }
+{
+    if positions.len() > 1 {
+        let count = put_distinct_first(positions);
+        positions.truncate(count);
+    }
+}
+
+/// Whether a position is among others. It is compared with each, as no processor foresees with which it agrees.
+#[inline]
+fn has_position(positions: &[u32], position: u32) -> bool
+    ensures { result ≡ has positions.now position }
+{
+    let mut found = false;
+    for i in 0..positions.len() {
+        found |= positions[i] == position;
+    }
+    found
+}
+
+/// Puts positions that are among others in front of those that aren't, and answers how many these are.
+#[inline]
+fn put_shared_first(left: &mut [u32], right: &[u32]) -> usize
+    ensures few { result ≤ length left.new }
+    ensures items { take result left.new ≡ filter (has right.now) left.old }
+{
+    let mut count = 0;
+    for i in 0..left.len() {
+        let position = left[i];
+        left[count] = position;
+        if has_position(right, position) {
+            count += 1;
+        }
+    }
+    count
+}
+
+/// Takes out of positions those that aren't among others. It compares each with each, which pays where they are few.
+#[inline]
+pub(crate) fn keep_among(left: &mut Vec<u32>, right: &[u32])
+    ensures items { left.new.items ≡ filter (has right.now) left.old.items }
+    ensures room { vec_capacity left.new ≡ vec_capacity left.old }
+{
+    let count = put_shared_first(left, right);
+    left.truncate(count);
+}
+
+/// Takes out of ascending positions those that aren't among others.
 pub(crate) fn intersection(left: &mut Vec<u32>, right: &[u32])
-    requires rises { Rises 0 left.old.items }
-    requires ascends { Ascends 0 right.now }
+    requires left { Ascends 0 left.old.items }
+    requires right { Ascends 0 right.now }
     ensures items { left.new.items ≡ filter (has right.now) left.old.items }
     ensures room { vec_capacity left.new ≡ vec_capacity left.old }
 {

@@ -8,7 +8,7 @@ ghost use Rattle.phrases.specs.Places.{places_of};
 ghost use Rattle.phrases.specs.Finders.{HasRoom};
 
 use crate::marking::Marks;
-use crate::merging::copy_distinct;
+use crate::merging::keep_distinct;
 use crate::reaching::{Cost, begin, copy_cheap, reach};
 use cursors::DocSet;
 use intersections::{Intersection, Positioned};
@@ -82,12 +82,12 @@ impl PlaceFinder {
             ≡ places_of 0 (first_positions (⟦<Intersection<S> as DocSet>⟧.entries terms.old)) }
         ensures room { (n : ℕ) → HasRoom self.old n → HasRoom self.new n }
     {
-        terms.column(0, &mut self.positions);
-        copy_distinct(&self.positions, &mut self.places);
+        terms.column(0, &mut self.places);
         for i in 1..terms.num_columns() {
             terms.column(i, &mut self.positions);
             self.marks.keep_shared(&mut self.places, &self.positions);
         }
+        keep_distinct(&mut self.places);
     }
 
     /// Finds the places within a slop: a term after the other gives each of its positions the least cost.

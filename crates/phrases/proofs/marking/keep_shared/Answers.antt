@@ -1,7 +1,6 @@
 use Rattle.std.proofs.Common.{subst, sym}
-use Rattle.phrases.specs.MergeLaws.{ascends-rising}
 use Rattle.phrases.specs.Places.{Ascends}
 use Rattle.phrases.proofs.marking.keep_shared.Goals as goal
 
 pub are_below-requires : goal.are_below-requires
-are_below-requires c = subst (Ascends 0) (sym c.deref.ensures.value) (ascends-rising 0 c.args.left.now.items c.requires.rises)
+are_below-requires c = subst (Ascends 0) (sym c.deref.ensures.value) c.requires.left

@@ -1,7 +1,7 @@
 use Rattle.std.proofs.Common.{[], ap, arith, drop, filter, get_or, length, set, subst, sym, take, ◌++◌, ◌+◌, ◌<◌, ◌∙◌, ◌≡◌, ℕ}
 use Rattle.std.proofs.lemmas.List.{append-nil, get_or_read, length-set}
-use Rattle.phrases.specs.Places.{Rises, has}
-use Rattle.phrases.specs.MergeLaws.{Ascends-past, IsStep, Rises-past, merge-end, merge-over, merge-step, step-by-tests, step-few, written}
+use Rattle.phrases.specs.Places.{Ascends, has}
+use Rattle.phrases.specs.MergeLaws.{Ascends-past, IsStep, merge-end, merge-over, merge-step, step-by-tests, step-few, written}
 use Rattle.phrases.proofs.merging.intersection.Goals as goal
 use Rattle.phrases.proofs.merging.intersection.Goals.{else-loop-i-test, then-loop-i-test+else-j-right}
 
@@ -30,10 +30,10 @@ loop-i-preserved c =
       within = omega (arith, within, long, few.1);
       before = omega (arith, before, few.0);
       inside = omega (arith, inside, few.2);
-      rises = Rises-past i passed (set left n x) (omega (arith, within, long)) few.1 (subst (Rises 0) (sym same) inv.rises);
+      left_ascends = Ascends-past i passed (set left n x) (omega (arith, within, long)) few.1 (subst (Ascends 0) (sym same) inv.left_ascends);
       ascends = Ascends-past j skipped right inside few.2 inv.ascends;
       items = ap (λ l. take (n + kept) (set left n l) ++ filter (has (drop (j + skipped) right)) (drop (i + passed) (set left n l))) read
-          ∙ (merge-step i j n kept passed skipped left right within inside before inv.rises inv.ascends step ∙ inv.items);
+          ∙ (merge-step i j n kept passed skipped left right within inside before inv.left_ascends inv.ascends step ∙ inv.items);
       room = inv.room;
     }
 

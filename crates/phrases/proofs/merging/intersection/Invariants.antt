@@ -1,5 +1,5 @@
 use Rattle.std.proofs.Common.{drop, filter, length, take, vec_capacity, ◌+◌, ◌-◌, ◌++◌, ◌≡◌, ◌≤◌}
-use Rattle.phrases.specs.Places.{Ascends, Rises, has}
+use Rattle.phrases.specs.Places.{Ascends, has}
 use Rattle.phrases.proofs.merging.intersection.Given as goal
 
 -- what is kept and what is left to keep are all that is kept
@@ -8,7 +8,7 @@ invariant-loop-i l = record {
   within : l.i ≤ length l.left.items;
   before : l.count ≤ l.i;
   inside : l.j ≤ length l.right;
-  rises : Rises 0 (drop l.i l.left.items);
+  left_ascends : Ascends 0 (drop l.i l.left.items);
   ascends : Ascends 0 (drop l.j l.right);
   items : take l.count l.left.items ++ filter (has (drop l.j l.right)) (drop l.i l.left.items) ≡ filter (has l.right) l.fn.left.items;
   room : vec_capacity l.left ≡ vec_capacity l.fn.left;

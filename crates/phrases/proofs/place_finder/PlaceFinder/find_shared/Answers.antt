@@ -1,24 +1,24 @@
-use Rattle.std.proofs.Common.{[], List, ap, arith, filter, get_or, length, map, refl, reverse, subst, sym, take, vec_capacity, ◌∙◌, ◌≤◌, ℕ}
+use Rattle.std.proofs.Common.{[], List, ap, arith, filter, get_or, length, map, refl, subst, sym, vec_capacity, ◌∙◌, ◌≤◌, ℕ}
 use Rattle.cursors.specs.Entries.{first_positions}
 use Rattle.intersections.specs.Meetings.{meeting}
 use Rattle.phrases.specs.PhraseEntries.{longest}
-use Rattle.phrases.specs.Places.{Ascends, Rises, distinct, has}
+use Rattle.phrases.specs.MergeLaws.{Ascends-filter, distinct-filter}
+use Rattle.phrases.specs.Places.{Ascends, distinct, has}
 use Rattle.phrases.proofs.Columns.{column-ascends, column-length, shared-all, shared-first, shared-next}
-use Rattle.phrases.specs.PlaceLaws.{Rises-reached}
 use Rattle.phrases.proofs.place_finder.PlaceFinder.find_shared.Goals as goal
 
 pub loop-i-init : goal.loop-i-init
 loop-i-init g c =
     let columns : List (List ℕ) = first_positions (meeting (map g.S.DocSet.entries c.args.terms.now.docsets.items)) in
-    let positions = c.column.ensures.room in
-    let places = c.copy_distinct.ensures.room in
+    let room = c.column.ensures.room in
     record {
       same = c.column.ensures.same;
       slop = refl;
-      places = c.copy_distinct.ensures.items ∙ (ap (distinct 0) (c.deref.ensures.value ∙ c.column.ensures.items) ∙ shared-first columns c.requires.some);
-      room = λ n h. (let in_places = h.places in let in_positions = h.positions in record {
-        places = omega (arith, places, in_places);
-        positions = omega (arith, positions, in_positions);
+      ascends = subst (Ascends 0) (sym c.column.ensures.items) (column-ascends columns 0 c.requires.columns c.requires.some);
+      places = ap (distinct 0) c.column.ensures.items ∙ shared-first columns c.requires.some;
+      room = λ n h. (let in_places = h.places in record {
+        places = omega (arith, room, in_places);
+        positions = h.positions;
         costs = h.costs;
         further_costs = h.further_costs;
       });
@@ -32,15 +32,15 @@ column-requires-in-loop-i-clause-room g c =
     let same = ap (λ es. length (get_or (first_positions es) c.loop-i.i [])) c.loop-i.invariant.same in
     let goal : length (get_or (first_positions (meeting (map g.S.DocSet.entries c.loop-i.terms.docsets.items))) c.loop-i.i []) ≤ vec_capacity c.loop-i.self.positions = omega (arith, same, small, room) in goal
 
-pub keep_shared-requires-clause-rises : goal.keep_shared-requires-clause-rises
-keep_shared-requires-clause-rises g c = subst (Rises 0) (sym c.loop-i.invariant.places) (Rises-reached 0 (reverse (take c.loop-i.i (first_positions (meeting (map g.S.DocSet.entries c.args.terms.now.docsets.items))))))
+pub keep_shared-requires-clause-left : goal.keep_shared-requires-clause-left
+keep_shared-requires-clause-left g c = c.loop-i.invariant.ascends
 
-pub keep_shared-requires-clause-ascends : goal.keep_shared-requires-clause-ascends
-keep_shared-requires-clause-ascends g c =
+pub keep_shared-requires-clause-right : goal.keep_shared-requires-clause-right
+keep_shared-requires-clause-right g c =
     let columns : List (List ℕ) = first_positions (meeting (map g.S.DocSet.entries c.args.terms.now.docsets.items)) in
     let count = c.num_columns-i-end.ensures in
     let same = ap (λ es. length (first_positions es)) c.column.ensures.same in
-    let column = c.deref-in-loop-i.ensures.value ∙ (c.column-in-loop-i.ensures.items ∙ ap (λ es. get_or (first_positions es) c.loop-i.i []) c.loop-i.invariant.same) in
+    let column = c.deref.ensures.value ∙ (c.column-in-loop-i.ensures.items ∙ ap (λ es. get_or (first_positions es) c.loop-i.i []) c.loop-i.invariant.same) in
     subst (Ascends 0) (sym column) (column-ascends columns c.loop-i.i c.requires.columns (omega (arith, count, same, c.loop-i-test.true)))
 
 pub loop-i-preserved : goal.loop-i-preserved
@@ -51,13 +51,15 @@ loop-i-preserved g c =
     let count = c.num_columns-i-end.ensures in
     let same = ap (λ es. length (first_positions es)) c.column.ensures.same in
     let begun = c.loop-i.auto.i in
-    let column = c.deref-in-loop-i.ensures.value ∙ (c.column-in-loop-i.ensures.items ∙ ap (λ es. get_or (first_positions es) i []) inv.same) in
+    let column = c.deref.ensures.value ∙ (c.column-in-loop-i.ensures.items ∙ ap (λ es. get_or (first_positions es) i []) inv.same) in
+    let kept = c.keep_shared.ensures.items ∙ ap (λ ps. filter (has ps) c.loop-i.self.places.items) column in
     let positions = c.column-in-loop-i.ensures.room in
     let places = c.keep_shared.ensures.room in
     record {
       same = c.column-in-loop-i.ensures.same ∙ inv.same;
       slop = inv.slop;
-      places = c.keep_shared.ensures.items ∙ (ap (λ ps. filter (has ps) c.loop-i.self.places.items) column ∙ (ap (filter (has (get_or columns i []))) inv.places ∙ shared-next columns i c.requires.columns (omega (arith, begun)) (omega (arith, count, same, c.loop-i-test.true))));
+      ascends = subst (Ascends 0) (sym kept) (Ascends-filter (has (get_or columns i [])) 0 c.loop-i.self.places.items inv.ascends);
+      places = ap (distinct 0) kept ∙ (distinct-filter (has (get_or columns i [])) 0 0 c.loop-i.self.places.items inv.ascends ∙ (ap (filter (has (get_or columns i []))) inv.places ∙ shared-next columns i c.requires.columns (omega (arith, begun)) (omega (arith, count, same, c.loop-i-test.true))));
       room = λ n h. (let was = inv.room n h in let in_places = was.places in let in_positions = was.positions in record {
         places = omega (arith, places, in_places);
         positions = omega (arith, positions, in_positions);
@@ -73,4 +75,4 @@ returns-clause-places g c =
     let same = ap (λ es. length (first_positions es)) c.column.ensures.same in
     let end = c.loop-i.auto.i-end in
     let some = c.requires.some in
-    c.loop-i.invariant.places ∙ shared-all columns c.loop-i.i 0 c.requires.columns (omega (arith, count, same, end, some, c.loop-i-test.false))
+    c.keep_distinct.ensures.items ∙ (c.loop-i.invariant.places ∙ shared-all columns c.loop-i.i 0 c.requires.columns (omega (arith, count, same, end, some, c.loop-i-test.false)))
