@@ -45,6 +45,15 @@ shared-next columns i c some l =
 pub shared-all : (columns : List (List ℕ)) (i s : ℕ) → AreColumns columns → i ≡ length columns → reached s (reverse (take i columns)) ≡ places_of s columns
 shared-all columns i s c e = ap (λ k. reached s (reverse (take k columns))) e ∙ (ap (λ cs. reached s (reverse cs)) (take-length columns) ∙ sym (places-reached s columns (columns-ascend columns c)))
 
+-- where none is left behind some columns, none is behind more
+pub shared-none : (columns : List (List ℕ)) (i n : ℕ) → AreColumns columns → 0 < i → i + n ≤ length columns → reached 0 (reverse (take i columns)) ≡ [] → reached 0 (reverse (take (i + n) columns)) ≡ []
+shared-none columns i zero c some l none = (let same : i + 0 ≡ i = omega arith in ap (λ k. reached 0 (reverse (take k columns))) same ∙ none)
+shared-none columns i (suc n) c some l none =
+    let more : i + suc n ≡ (i + n) + 1 = omega arith in
+    ap (λ k. reached 0 (reverse (take k columns))) more
+    ∙ (sym (shared-next columns (i + n) c (omega (arith, some)) (omega (arith, l)))
+    ∙ ap (filter (has (get_or columns (i + n) []))) (shared-none columns i n c some (omega (arith, l)) none))
+
 -- ---- a slop
 
 pub least-small : (most p : ℕ) (before : List (List ℕ)) → least_cost most before p ≤ most

@@ -86,6 +86,9 @@ impl PlaceFinder {
         for i in 1..terms.num_columns() {
             terms.column(i, &mut self.positions);
             self.marks.keep_shared(&mut self.places, &self.positions);
+            if self.places.is_empty() {
+                return;
+            }
         }
         keep_distinct(&mut self.places);
     }

@@ -1,10 +1,12 @@
-use Rattle.std.proofs.Common.{[], List, ap, arith, filter, get_or, length, map, refl, subst, sym, vec_capacity, ◌∙◌, ◌≤◌, ℕ}
+use Rattle.std.proofs.Common.{[], List, ap, arith, filter, get_or, length, map, refl, subst, sym, vec_capacity, vec_len, ◌+◌, ◌-◌, ◌∙◌, ◌≡◌, ◌≤◌, ℕ}
+use Rattle.std.proofs.lemmas.Bool.Decides.{nat_tests}
+use Rattle.std.proofs.lemmas.List.{nil_from_length}
 use Rattle.cursors.specs.Entries.{first_positions}
 use Rattle.intersections.specs.Meetings.{meeting}
 use Rattle.phrases.specs.PhraseEntries.{longest}
 use Rattle.phrases.specs.MergeLaws.{Ascends-filter, distinct-filter}
 use Rattle.phrases.specs.Places.{Ascends, distinct, has}
-use Rattle.phrases.proofs.Columns.{column-ascends, column-length, shared-all, shared-first, shared-next}
+use Rattle.phrases.proofs.Columns.{column-ascends, column-length, shared-all, shared-first, shared-next, shared-none}
 use Rattle.phrases.proofs.place_finder.PlaceFinder.find_shared.Goals as goal
 
 pub loop-i-init : goal.loop-i-init
@@ -76,3 +78,22 @@ returns-clause-places g c =
     let end = c.loop-i.auto.i-end in
     let some = c.requires.some in
     c.keep_distinct.ensures.items ∙ (c.loop-i.invariant.places ∙ shared-all columns c.loop-i.i 0 c.requires.columns (omega (arith, count, same, end, some, c.loop-i-test.false)))
+
+pub returns-then-is_empty-clause-places : goal.returns-then-is_empty-clause-places
+returns-then-is_empty-clause-places g c =
+    let columns : List (List ℕ) = first_positions (meeting (map g.S.DocSet.entries c.args.terms.now.docsets.items)) in
+    let inv = c.loop-i.invariant in
+    let i = c.loop-i.i in
+    let n = length columns - (i + 1) in
+    let count = c.num_columns-i-end.ensures in
+    let same = ap (λ es. length (first_positions es)) c.column.ensures.same in
+    let begun = c.loop-i.auto.i in
+    let column = c.deref.ensures.value ∙ (c.column-in-loop-i.ensures.items ∙ ap (λ es. get_or (first_positions es) i []) inv.same) in
+    let kept = c.keep_shared.ensures.items ∙ ap (λ ps. filter (has ps) c.loop-i.self.places.items) column in
+    let next = distinct-filter (has (get_or columns i [])) 0 0 c.loop-i.self.places.items inv.ascends ∙ (ap (filter (has (get_or columns i []))) inv.places ∙ shared-next columns i c.requires.columns (omega (arith, begun)) (omega (arith, count, same, c.loop-i-test.true))) in
+    let ok = c.keep_shared.new.left.ok in
+    let empty : vec_len c.keep_shared.new.left ≡ 0 = grind (arith, nat_tests, c.is_empty.ensures, c.if-is_empty.true) in
+    let none : c.keep_shared.new.left.items ≡ [] = nil_from_length c.keep_shared.new.left.items (sym ok.0 ∙ empty) in
+    let few : (i + 1) + n ≤ length columns = omega (arith, count, same, c.loop-i-test.true) in
+    let all : (i + 1) + n ≡ length columns = omega (arith, count, same, c.loop-i-test.true) in
+    none ∙ (sym (shared-none columns (i + 1) n c.requires.columns (omega arith) few (sym next ∙ (ap (distinct 0) (sym kept ∙ none)))) ∙ shared-all columns ((i + 1) + n) 0 c.requires.columns all)
