@@ -67,7 +67,8 @@ impl PlaceFinder {
         }
     }
 
-    /// Finds the places without slop: a term after the other keeps those where it stands.
+    /// Finds the places without slop: a term after the other keeps those where it stands, until none is left. What stands
+    /// twice is taken out in the end, as few are left then.
     fn find_shared<S: Positioned>(&mut self, terms: &mut Intersection<S>)
         requires none { self.old.slop ≡ 0 }
         requires on { first (⟦<Intersection<S> as DocSet>⟧.entries terms.old) < terminated }
