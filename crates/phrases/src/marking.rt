@@ -6,7 +6,7 @@ ghost use Rattle.phrases.specs.Places.{Ascends, has};
 use crate::merging::{intersection, keep_among};
 use std::alloc::{AllocError, Global};
 
-/// How many positions of two terms are merged at least: marks pay only where there are more.
+/// Up to how many positions of two terms are merged: marks pay only where there are more.
 const MERGED: usize = 16;
 
 /// How many positions are at most compared with each of a few others.
