@@ -30,7 +30,10 @@ pub struct FileDevice {
 }
 
 impl FileDevice {
-    /// Opens a file for reading and writing, and makes it where it is absent.
+    /// Opens a file for reading and writing, makes it where it is absent, and locks it for this device alone.
+    ///
+    /// The lock is the advisory one on the whole file (`flock`); it is freed when the device is dropped or the process
+    /// ends. A file that another device holds is not opened, and its bytes stay as they are.
     pub fn open(rt: &HostRuntime, path: &str) -> Result<Self, Fault>
         ensures failed { IfOk result (λ device. ⟦<FileDevice as Device>⟧.failed device ≡ 0) }
         ensures fault { IfErr result (λ fault. fault ≡ faults.Device) }
@@ -41,6 +44,7 @@ impl FileDevice {
             .create(true)
             .open(rt, path)
             .and_then(beyond_streams)
+            .and_then(held_alone)
         {
             Ok(file) => Ok(FileDevice { file, failed: 0 }),
             Err(_) => Err(Fault::Device),
@@ -54,6 +58,13 @@ fn beyond_streams(file: File) -> io::Result<File> {
     if file.as_raw_fd() <= LAST_STREAM {
         return file.try_clone();
     }
+    Ok(file)
+}
+
+// The file, locked: opening an index cuts what follows its last commit, which would be the record that another program
+// is writing.
+fn held_alone(file: File) -> io::Result<File> {
+    file.try_lock()?;
     Ok(file)
 }
 

@@ -5,6 +5,9 @@ use definitions::Fault;
 use file_device::FileDevice;
 use std::test::Fail;
 
+// A file that two devices ask for.
+const SHARED: &str = "shared_books.idx";
+
 // Where nothing can be written.
 const FULL: &str = "/dev/full";
 
@@ -24,5 +27,15 @@ fn refused_calls_are_counted(rt: HostRuntime) -> Result<(), Fail> {
 #[test]
 fn what_is_no_file_is_not_opened(rt: HostRuntime) -> Result<(), Fail> {
     assert!(rt; FileDevice::open(&rt, "missing/books.idx").err() == Some(Fault::Device));
+    Ok(())
+}
+
+#[test]
+fn a_file_in_use_is_not_opened(rt: HostRuntime) -> Result<(), Fail> {
+    let first = FileDevice::open(&rt, SHARED)?;
+    let in_use = FileDevice::open(&rt, SHARED).err() == Some(Fault::Device);
+    drop(first);
+    let reopens = FileDevice::open(&rt, SHARED).is_ok();
+    assert!(rt; in_use && reopens);
     Ok(())
 }
