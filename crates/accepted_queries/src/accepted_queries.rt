@@ -12,7 +12,7 @@ use definitions::Fault;
 use query::check_query;
 use query_trees::AnyQuery;
 use schema::Schema;
-use statistics::Statistics;
+use settings::Statistics;
 use std::alloc::Global;
 use tree_scorers::{SegmentScorers, scorer_of};
 

@@ -4,14 +4,14 @@ use Rattle.std.proofs.Math.Facts.{leb_yes}
 use Rattle.std.proofs.lemmas.Bool.Decides.{nat_tests}
 use Rattle.any_scorer.proofs.ByClauses.{sum_both}
 use Rattle.any_scorer.specs.Clauses.{by_best, by_clauses, scores_at, scores_of}
-use Rattle.cursors.specs.Entries.{Entry, Rising}
+use Rattle.docsets.specs.Entries.{Entry, Rising}
 use Rattle.definitions.proofs.Bounds.{tie_below}
 use Rattle.definitions.specs.Postings.{terminated}
 use Rattle.definitions.specs.Scoring.{best_and_tie, natural}
-use Rattle.leaf_scorers.specs.CombiningLaws.{sum-cons}
-use Rattle.leaf_scorers.specs.ScoredEntries.{greatest_score}
-use Rattle.members.specs.MemberLaws.{sum-greatest}
-use Rattle.members.specs.Members.{enough, entries_of, greatest_sum, scores_in}
+use Rattle.docsets.specs.CombiningLaws.{sum-cons}
+use Rattle.docsets.specs.ScoredEntries.{greatest_score}
+use Rattle.docsets.specs.MemberLaws.{sum-greatest}
+use Rattle.docsets.specs.Members.{enough, entries_of, greatest_sum, scores_in}
 
 pub first_here : (e : Entry) (es : List Entry) → scores_of e.doc (e ∷ es) ≡ e.score ∷ scores_of e.doc es
 first_here e es = ap (λ b. scores_in (if b then e ∷ entries_of e.doc es else entries_of e.doc es)) (let n : ℕ = e.doc in let same : (n == n) ≡ true = grind (arith, nat_tests) in same)

@@ -3,10 +3,10 @@ use Rattle.std.proofs.Common.{[], Bool, List, ap, arith, false, if◌then◌else
 use Rattle.std.proofs.lemmas.Bool.Decides.{nat_tests}
 use Rattle.std.proofs.lemmas.List.{append_assoc, length-append, length-map}
 use Rattle.any_scorer.specs.Clauses.{by_clauses, by_number, scores_at, scores_of}
-use Rattle.cursors.specs.Entries.{Entry, Rising}
-use Rattle.leaf_scorers.specs.CombiningLaws.{sum-cons}
-use Rattle.members.specs.MemberLaws.{one-entry, scores-append, sum-scores}
-use Rattle.members.specs.Members.{enough, entries_at, entries_of, scores_in}
+use Rattle.docsets.specs.Entries.{Entry, Rising}
+use Rattle.docsets.specs.CombiningLaws.{sum-cons}
+use Rattle.docsets.specs.MemberLaws.{one-entry, scores-append, sum-scores}
+use Rattle.docsets.specs.Members.{enough, entries_at, entries_of, scores_in}
 
 -- ---- one list and two
 

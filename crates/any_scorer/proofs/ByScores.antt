@@ -3,12 +3,12 @@ use Rattle.std.proofs.Common.{[], Bool, List, ap, if◌then◌else◌, map, ◌<
 use Rattle.any_scorer.specs.Clauses.{by_number, scores_at, scores_of}
 use Rattle.any_scorer.proofs.OneDocument.{scores_chosen, scores_optional, scores_without}
 use Rattle.any_scorer.proofs.SamePairs.{same_scores}
-use Rattle.cursors.specs.Entries.{Entry}
+use Rattle.docsets.specs.Entries.{Entry}
 use Rattle.definitions.specs.Postings.{terminated}
 use Rattle.intersections.specs.Differences.{without}
 use Rattle.intersections.specs.Optionals.{with_optional}
-use Rattle.leaf_scorers.specs.ScoredEntries.{pairs_of}
-use Rattle.members.specs.Members.{at_least, combining, enough, joining}
+use Rattle.docsets.specs.ScoredEntries.{pairs_of}
+use Rattle.docsets.specs.Members.{at_least, combining, enough, joining}
 
 -- what a combiner makes, walked
 pub combined : (f g : List ℕ → ℕ) (minimum : ℕ) (es us : List Entry) (ess : List (List Entry)) → pairs_of es ≡ pairs_of us → us ≡ at_least minimum (combining f) ess → ((xs : List ℕ) → f xs ≡ g xs) → (d : ℕ) → d < terminated → scores_of d es ≡ (if enough minimum ess d then g (scores_at d ess) ∷ [] else [])

@@ -2,13 +2,13 @@
 use Rattle.std.proofs.Common.{[], Bool, List, ap, arith, false, if◌then◌else◌, map, refl, subst, suc, sym, true, zero, ◌+◌, ◌-◌, ◌<◌, ◌==◌, ◌∙◌, ◌∷◌, ◌≡◌, ◌≤◌, ℕ}
 use Rattle.std.proofs.lemmas.Bool.Decides.{nat_tests}
 use Rattle.any_scorer.specs.Clauses.{scores_of}
-use Rattle.cursors.specs.Entries.{Entry}
+use Rattle.docsets.specs.Entries.{Entry}
 use Rattle.definitions.specs.Postings.{terminated}
 use Rattle.intersections.specs.DifferenceLaws.{without-in, without-out}
 use Rattle.intersections.specs.Differences.{without}
 use Rattle.intersections.specs.Optionals.{score_with, with_optional}
-use Rattle.leaf_scorers.specs.ScoredEntryLaws.{by_place}
-use Rattle.members.specs.Members.{at_document, at_least, enough, entries_at, entries_of, listed, scores_in, walk}
+use Rattle.docsets.specs.ScoredEntryLaws.{by_place}
+use Rattle.docsets.specs.Members.{at_document, at_least, enough, entries_at, entries_of, listed, scores_in, walk}
 
 -- ---- one entry and the others
 

@@ -1,8 +1,8 @@
 -- Lists with the same documents and scores have the same greatest score.
 use Rattle.std.proofs.Common.{[], List, ap, arith, map, max, refl, sym, ◌∙◌, ◌∷◌, ◌≡◌, ◌≤◌, ℕ}
-use Rattle.cursors.specs.Entries.{Entry}
+use Rattle.docsets.specs.Entries.{Entry}
 use Rattle.definitions.specs.Scoring.{greatest_of}
-use Rattle.leaf_scorers.specs.ScoredEntries.{greatest_score, pairs_of}
+use Rattle.docsets.specs.ScoredEntries.{greatest_score, pairs_of}
 
 greatest_paired : (es : List Entry) → greatest_score es ≡ greatest_of (map (λ p. p.1) (pairs_of es))
 greatest_paired [] = refl

@@ -1,9 +1,9 @@
 -- Lists with the same documents and scores.
 use Rattle.std.proofs.Common.{[], List, ap, refl, sym, ◌∙◌, ◌∷◌, ◌==◌, ◌≡◌, if◌then◌else◌, true, false, ℕ}
 use Rattle.any_scorer.specs.Clauses.{scores_of}
-use Rattle.cursors.specs.Entries.{Entry}
-use Rattle.leaf_scorers.specs.ScoredEntries.{pairs_of}
-use Rattle.members.specs.Members.{entries_of, scores_in}
+use Rattle.docsets.specs.Entries.{Entry}
+use Rattle.docsets.specs.ScoredEntries.{pairs_of}
+use Rattle.docsets.specs.Members.{entries_of, scores_in}
 
 -- the scores of a document in a list of pairs
 abbrev pub scores_paired : ℕ → List (ℕ × ℕ) → List ℕ

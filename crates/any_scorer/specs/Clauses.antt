@@ -1,8 +1,8 @@
 -- What the scorers of several queries make of a document.
 use Rattle.std.specs.Prelude.{[], List, ◌&&◌, ◌++◌, ◌∷◌, if◌then◌else◌, length, not, sum, ℕ}
-use Rattle.cursors.specs.Entries.{Entry}
+use Rattle.docsets.specs.Entries.{Entry}
 use Rattle.definitions.specs.Scoring.{best_and_tie}
-use Rattle.members.specs.Members.{enough, entries_at, entries_of, scores_in}
+use Rattle.docsets.specs.Members.{enough, entries_at, entries_of, scores_in}
 
 -- the score of a document in a list: one where the list has it, and else none
 abbrev pub scores_of : ℕ → List Entry → List ℕ

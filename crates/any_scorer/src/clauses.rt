@@ -2,20 +2,19 @@
 
 ghost use Rattle.std.specs.Prelude.{[], ◌+◌, ◌<◌, ◌∷◌, ◌≡◌, ◌≤◌, IfOk, length, map, max, sum, ℕ};
 ghost use Rattle.any_scorer.specs.Clauses.{by_clauses, by_number, scores_at, scores_of};
-ghost use Rattle.cursors.specs.Entries.{Rising};
+ghost use Rattle.docsets.specs.Entries.{Rising};
 ghost use Rattle.definitions.specs.Postings.{terminated};
 ghost use Rattle.definitions.specs.Scoring.{max_score};
-ghost use Rattle.leaf_scorers.specs.ScoredEntries.{greatest_score, pairs_of};
-ghost use Rattle.members.specs.Members.{greatest_sum};
+ghost use Rattle.docsets.specs.ScoredEntries.{greatest_score, pairs_of};
+ghost use Rattle.docsets.specs.Members.{greatest_sum};
 
 use crate::either_scorer::EitherScorer;
 use crate::intersecting::intersect_scorers;
 use crate::listing::listed;
-use cursors::DocSet;
+use docsets::{DocSet, ListScorer, Scorer, SumCombiner};
 use intersections::{Exclude, ExclusionList, Intersection, RequiredOptionalScorer};
-use leaf_scorers::{ListScorer, Scorer, SumCombiner};
+use scorers::{BufferedUnionScorer, Disjunction};
 use std::alloc::{AllocError, Global};
-use unions::{BufferedUnionScorer, Disjunction};
 
 /// A scorer of the documents that one of several has, or that at least so many have.
 type SomeScorer<S> = EitherScorer<BufferedUnionScorer<S, SumCombiner>, Disjunction<S, SumCombiner>>;

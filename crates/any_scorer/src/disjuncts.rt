@@ -2,17 +2,16 @@
 
 ghost use Rattle.std.specs.Prelude.{◌<◌, ◌≡◌, ◌≤ℤ◌, ◌≤◌, IfOk, map, pos, ℕ};
 ghost use Rattle.any_scorer.specs.Clauses.{by_best, scores_of};
-ghost use Rattle.cursors.specs.Entries.{Rising};
+ghost use Rattle.docsets.specs.Entries.{Rising};
 ghost use Rattle.definitions.specs.Postings.{terminated};
 ghost use Rattle.definitions.specs.Scoring.{max_score, natural};
-ghost use Rattle.leaf_scorers.specs.ScoredEntries.{greatest_score};
-ghost use Rattle.members.specs.Members.{greatest_sum};
+ghost use Rattle.docsets.specs.ScoredEntries.{greatest_score};
+ghost use Rattle.docsets.specs.Members.{greatest_sum};
 
 use common::Score;
-use cursors::DocSet;
-use leaf_scorers::{DisjunctionMaxCombiner, ListScorer, Scorer};
+use docsets::{DisjunctionMaxCombiner, DocSet, ListScorer, Scorer};
+use scorers::BufferedUnionScorer;
 use std::alloc::{AllocError, Global};
-use unions::BufferedUnionScorer;
 
 /// The documents that some scorer has, each with its best score and so many thousandths of the others, walked whole.
 /// The number of documents is a hint.

@@ -1,8 +1,7 @@
 //! A scorer that has one of two forms.
 
 use common::{AliveBitSet, DocId, Score};
-use cursors::{DocSet, SeekDangerResult};
-use leaf_scorers::Scorer;
+use docsets::{DocSet, Scorer, SeekDangerResult};
 
 /// A scorer of one form or of another. What remains is what remains of the one that it has.
 #[derive(Drop)]

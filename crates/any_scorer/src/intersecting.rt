@@ -4,13 +4,12 @@ ghost use Rattle.std.specs.Prelude.{[], ◌<◌, ◌≡◌, ◌≤◌, IfOk, len
 ghost use Rattle.any_scorer.specs.Clauses.{by_number, scores_of};
 ghost use Rattle.definitions.specs.Postings.{terminated};
 ghost use Rattle.definitions.specs.Scoring.{max_score};
-ghost use Rattle.leaf_scorers.specs.ScoredEntries.{greatest_score};
-ghost use Rattle.members.specs.Members.{greatest_sum};
+ghost use Rattle.docsets.specs.ScoredEntries.{greatest_score};
+ghost use Rattle.docsets.specs.Members.{greatest_sum};
 
 use crate::listing::listed;
-use cursors::DocSet;
+use docsets::{DocSet, ListScorer, Scorer};
 use intersections::Intersection;
-use leaf_scorers::{ListScorer, Scorer};
 use std::alloc::{AllocError, Global};
 
 /// The documents that all of the scorers have, with the sums of their scores, walked whole; none where there is no

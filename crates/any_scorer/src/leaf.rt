@@ -1,8 +1,7 @@
 //! Scorers of queries that hold no other query.
 
 use common::{AliveBitSet, DocId, Score};
-use cursors::{DocSet, SeekDangerResult};
-use leaf_scorers::Scorer;
+use docsets::{DocSet, Scorer, SeekDangerResult};
 
 /// The scorer of a query that holds no other, or a list of what a query of another form has. What remains is what
 /// remains of the one that it has.

@@ -1,12 +1,11 @@
 //! Scorers that are walked whole.
 
 ghost use Rattle.std.specs.Prelude.{[], ◌≡◌, IfOk};
-ghost use Rattle.unions.specs.Signed.{signed};
-ghost use Rattle.leaf_scorers.specs.ScoredEntries.{AreScores, pairs_of};
+ghost use Rattle.scorers.specs.Signed.{signed};
+ghost use Rattle.docsets.specs.ScoredEntries.{AreScores, pairs_of};
 
 use common::{DocId, Score, TERMINATED};
-use cursors::DocSet;
-use leaf_scorers::{ListScorer, Scorer};
+use docsets::{DocSet, ListScorer, Scorer};
 use std::alloc::{AllocError, Global};
 
 /// The documents that remain, each with its score. The scorer then stands at the end.

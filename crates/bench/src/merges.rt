@@ -2,7 +2,7 @@
 //! text, JSON with a title, a body, a section and a size.
 
 ghost use Rattle.std.specs.Prelude.{◌≡◌, IfOk, length};
-ghost use Rattle.segment_merger.specs.Members.{AreOpened, IsMember};
+ghost use Rattle.segment.specs.Members.{AreOpened, IsMember};
 
 use crate::segment_steps::{BLOCK_SIZE, CACHE_NUM_BLOCKS, writing};
 use crate::segments::{documents, schema_with_lengths, values};
@@ -11,8 +11,7 @@ use common::AliveBitSet;
 use definitions::Fault;
 use document::CompactDoc;
 use schema::Schema;
-use segment::Segment;
-use segment_merger::merge_segments;
+use segment::{Segment, merge_segments};
 use std::alloc::{AllocError, Global};
 use std::io;
 use store::Bytes;

@@ -5,7 +5,7 @@ ghost use Rattle.definitions.specs.Schema.{has_freq};
 ghost use Rattle.layouts.specs.Positions.{ArePositions};
 ghost use Rattle.segment_postings.specs.Reading.{HasPostings};
 ghost use Rattle.segment_postings.specs.TermEntries.{HasPositions};
-ghost use Rattle.postings_serializer.specs.TermWriting.{AreWritten};
+ghost use Rattle.postings_writer.specs.TermWriting.{AreWritten};
 
 use crate::times::{nanos_since, now};
 use codes::{PositionReader, PositionSerializer};

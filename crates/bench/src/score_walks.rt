@@ -1,7 +1,7 @@
 //! How long a step of a scorer over a term takes.
 
 ghost use Rattle.std.specs.Prelude.{[], ◌≡◌, ◌≤◌, List, length, true, false, ℕ};
-ghost use Rattle.cursors.specs.Entries.{from};
+ghost use Rattle.docsets.specs.Entries.{from};
 ghost use Rattle.definitions.specs.Scoring.{DontFall};
 ghost use Rattle.segment_postings.specs.Cursors.{entries_left};
 ghost use Rattle.segment_postings.specs.Reading.{HasPostings};

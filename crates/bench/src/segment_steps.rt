@@ -2,7 +2,7 @@
 
 ghost use Rattle.std.specs.Prelude.{List, OnOk, ℕ};
 ghost use Rattle.definitions.specs.Values.{Document};
-ghost use Rattle.segment_writer.specs.Writers.{HasWritten};
+ghost use Rattle.segment.specs.Writers.{HasWritten};
 
 use crate::segments::count_tokens;
 use crate::texts::index_all;
@@ -12,8 +12,7 @@ use definitions::Fault;
 use document::CompactDoc;
 use document_indexer::DocumentIndexer;
 use schema::Schema;
-use segment::{Segment, is_taken};
-use segment_writer::SegmentWriter;
+use segment::{Segment, SegmentWriter, is_taken};
 use serde_json::Value;
 use std::alloc::Global;
 use store::{Bytes, StoreWriter};

@@ -4,7 +4,7 @@ ghost use Rattle.std.specs.Prelude.{[], ◌<◌, ◌≡◌, ◌≤◌, IfOk, Lis
 ghost use Rattle.segment_postings.specs.Cursors.{entries_left};
 ghost use Rattle.segment_postings.specs.Reading.{HasPostings};
 ghost use Rattle.segment_postings.specs.TermEntries.{entries_of};
-ghost use Rattle.postings_serializer.specs.TermWriting.{AreWritten};
+ghost use Rattle.postings_writer.specs.TermWriting.{AreWritten};
 
 use definitions::Fault;
 use options::IndexRecordOption;

@@ -1,13 +1,11 @@
 //! Files of records on a device in memory.
 
-ghost use Rattle.std.specs.Prelude.{[], ⊤, ◌≡◌, List, map, ℕ};
-
 use case_lines::{Arguments, Refusal, bytes_of_digits, hex, number, pair, text};
 use common::{Device, MemoryDevice};
 use definitions::Fault;
-use records::{Bodies, Frame, RecordFile, finish_frame, read_records, scan, start_frame};
+use index_file::{Frame, RecordFile, finish_frame, start_frame};
 use serde_json::Value;
-use std::alloc::{AllocError, Global};
+use std::alloc::Global;
 
 /// What an operation on files of records answers.
 pub(crate) fn answer(
@@ -17,39 +15,8 @@ pub(crate) fn answer(
 ) -> Result<Value, Refusal> {
     match operation {
         "file" => file(alloc, arguments),
-        "read" => read(alloc, &arguments.bytes(alloc, 0)?),
         "created-over" => created_over(alloc, arguments),
-        "settled" => settled(alloc, arguments),
         _ => Err(Refusal::NotAsked),
-    }
-}
-
-/// Takes every body, and keeps them.
-#[derive(Drop)]
-struct Kept {
-    alloc: Global,
-    bodies: Vec<Vec<u8>>,
-}
-
-impl Bodies for Kept {
-    ghost taken = { λ kept. map (λ body. body.items) kept.bodies.items };
-
-    ghost takes = { λ bodies body. ⊤ };
-
-    fn take(&mut self, body: &[u8]) -> Result<bool, AllocError> {
-        let body = body.to_vec(self.alloc)?;
-        self.bodies.push(body)?;
-        Ok(true)
-    }
-}
-
-/// No body yet.
-fn none_kept(alloc: Global) -> Kept
-    ensures { result.bodies.items ≡ [] }
-{
-    Kept {
-        alloc,
-        bodies: Vec::new(alloc),
     }
 }
 
@@ -90,26 +57,6 @@ fn file(alloc: Global, arguments: &Arguments) -> Result<Value, Refusal> {
     )?)
 }
 
-/// The place of the closed gate of bytes, and the bodies; of a damaged file the refusal, and the gate from which
-/// on it is damaged.
-fn read(alloc: Global, bytes: &[u8]) -> Result<Value, Refusal> {
-    let mut kept = none_kept(alloc);
-    match scan(bytes, &mut kept) {
-        Ok(gate) => gate_and_bodies(alloc, gate, &kept),
-        Err(Fault::Damaged(Some(gate))) => Ok(pair(alloc, text(alloc, "Damaged")?, number(gate))?),
-        Err(fault) => Err(Refusal::Fault(fault)),
-    }
-}
-
-/// The place of a gate, and bodies.
-fn gate_and_bodies(alloc: Global, gate: usize, kept: &Kept) -> Result<Value, Refusal> {
-    let mut list = Vec::new(alloc);
-    for body in &kept.bodies {
-        list.push(hex(alloc, body)?)?;
-    }
-    Ok(pair(alloc, number(gate as u64), Value::Array(list))?)
-}
-
 /// A device that holds these bytes.
 fn device_of(alloc: Global, bytes: &[u8]) -> Result<MemoryDevice, Refusal> {
     let mut device = MemoryDevice::new(alloc);
@@ -132,17 +79,4 @@ fn created_over(alloc: Global, arguments: &Arguments) -> Result<Value, Refusal> 
         text(alloc, outcome)?,
         hex(alloc, &device.read(alloc)?)?,
     )?)
-}
-
-/// Reads the records of a device that holds these bytes: the place of the closed gate, the bodies, and what the
-/// device holds once the file is settled.
-fn settled(alloc: Global, arguments: &Arguments) -> Result<Value, Refusal> {
-    let mut device = device_of(alloc, &arguments.bytes(alloc, 0)?)?;
-    let mut kept = none_kept(alloc);
-    let gate = read_records(alloc, &mut device, &mut kept)?;
-    let file = opened(RecordFile::settle(device, gate))?;
-    let mut device = file.into_device();
-    let left = hex(alloc, &device.read(alloc)?)?;
-    let read = gate_and_bodies(alloc, gate, &kept)?;
-    Ok(pair(alloc, read, left)?)
 }

@@ -87,16 +87,6 @@ impl AliveBitSet {
         self.alive.first_from(doc)
     }
 
-    /// The documents that are alive, in order.
-    pub fn iter_alive(&self) -> AliveIter<'_>
-        ensures { result ≡ numbers_from 0 self.now }
-    {
-        AliveIter {
-            alive: self,
-            from: 0,
-        }
-    }
-
     /// The bytes that stand for the set: how many documents, and then 64 flags in each word.
     pub fn to_bytes(&self, alloc: Global) -> Result<Vec<u8>, AllocError>
         ensures { IfOk result (λ bytes. bytes.items ≡ alive_bytes self.now) }
@@ -121,40 +111,6 @@ impl AliveBitSet {
         match BitSet::from_words(words, max_doc) {
             Some(alive) => Ok(AliveBitSet { alive }),
             None => Err(Fault::Damaged(None)),
-        }
-    }
-}
-
-/// The documents of a set that are alive, seen as the list of those that are left.
-#[derive(Drop)]
-pub struct AliveIter<'a> {
-    alive: &'a AliveBitSet,
-    from: DocId,
-}
-
-impl<'a> Model for AliveIter<'a> {
-    ghost use Rattle.std.specs.Prelude.{List, drop, ℕ};
-    ghost use Rattle.common.specs.BitSets.{numbers_from};
-
-    ghost Value = { List ℕ };
-
-    ghost view = { λ i. numbers_from i.from (drop i.from i.alive.now) };
-}
-
-impl<'a> Iterator for AliveIter<'a> {
-    type Item = DocId;
-
-    ghost next_gives = { YieldsFirstBy (λ doc. doc) (λ rest. rest) };
-
-    ghost remaining = { item_count (λ rest. rest) };
-
-    fn next(&mut self) -> Option<DocId> {
-        match self.alive.first_alive_from(self.from) {
-            Some(doc) => {
-                self.from = doc + 1;
-                Some(doc)
-            }
-            None => None,
         }
     }
 }

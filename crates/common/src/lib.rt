@@ -8,6 +8,7 @@ mod analyzer;
 mod bit_set;
 mod bit_words;
 mod device;
+mod file_device;
 mod has_len;
 mod memory_device;
 mod number;
@@ -16,16 +17,17 @@ mod number_codes;
 mod pre_tokenized_string;
 mod raw_and_default;
 mod run_fault;
-mod synced;
+mod synced_steps;
 mod token;
 mod token_buffer;
 mod token_stream;
 
-pub use alive_bit_set::{AliveBitSet, AliveIter};
+pub use alive_bit_set::AliveBitSet;
 pub use analyzer::Analyzer;
 pub use bit_set::BitSet;
 pub use definitions::Fault;
 pub use device::Device;
+pub use file_device::FileDevice;
 pub use has_len::HasLen;
 pub use memory_device::MemoryDevice;
 pub use number::{
@@ -38,7 +40,7 @@ pub use number_codes::{
 pub use pre_tokenized_string::PreTokenizedString;
 pub use raw_and_default::RawAndDefault;
 pub use run_fault::RunFault;
-pub use synced::{cut_synced, write_synced};
+pub use synced_steps::{cut_synced, write_synced};
 pub use token::{MAX_TOKEN_LEN, Token, max_token_len_is_that_of_definitions};
 pub use token_buffer::{TokenBuffer, TokenRef};
 pub use token_stream::{BufferedStream, PreTokenizedStream, TokenStream};

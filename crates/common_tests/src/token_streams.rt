@@ -118,13 +118,12 @@ impl Analyzer for Plain {
     }
 }
 
-/// Whether a buffer takes tokens that were made before, and gives them with texts of their own.
+/// Whether a buffer takes tokens that were made before.
 fn copied_tokens_are_read(alloc: Global) -> Result<bool, AllocError> {
     let mut buffer = TokenBuffer::new(alloc);
     Plain.tokens_into(alloc, "default", "The Sea", &mut buffer)?;
-    let tokens = buffer.to_tokens(alloc)?;
     Ok(
-        spell(alloc, &mut PreTokenizedStream::new(&tokens))?.as_str() == "0 the, 1 sea, "
+        spell(alloc, &mut BufferedStream::new(&buffer))?.as_str() == "0 the, 1 sea, "
             && buffer.len() == 2,
     )
 }

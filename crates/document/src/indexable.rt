@@ -10,12 +10,9 @@ ghost use Rattle.layouts.specs.DocumentReading.{to_members, to_values};
 ghost use Rattle.terms.specs.Kinds.{kind_of};
 
 use crate::compact_doc::CompactDoc;
-use document_values::{CompactDocArrayIter, CompactDocObjectIter, CompactDocValue};
+use document_values::{CompactDocArrayIter, CompactDocObjectIter, CompactDocValue, MAX_NESTING};
 use schema::Schema;
 use terms::{Field, Type};
-
-/// How deep values may nest that are indexed.
-const MAX_NESTING: usize = 128;
 
 impl CompactDoc {
     /// Whether each value can be indexed. None may nest more than 128 deep; those of an indexed field are of

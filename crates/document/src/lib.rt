@@ -6,10 +6,11 @@ mod compact_docs;
 mod document_json;
 pub mod document_laws;
 mod indexable;
+mod json_reader;
 mod named_doc;
 mod named_json;
-mod reading;
 mod serialize;
+mod unknown_fields;
 
 pub use compact_doc::CompactDoc;
 pub use compact_docs::CompactDocs;
@@ -18,3 +19,4 @@ pub use document_values::{
     FieldValueIterRef, OwnedValue, ValuesOfField, put_value, take_value, value_to_json,
 };
 pub use named_doc::NamedDocument;
+pub use unknown_fields::has_unknown_field;

@@ -1,9 +1,8 @@
 //! Documents: read, printed, written, copied and compared.
 
 use crate::shown_values::{owned_value, shown, value_list};
-use case_lines::{Arguments, Refusal, flag, hex, number, pair, text};
+use case_lines::{Arguments, Refusal, document_of_values, flag, hex, number, pair, text};
 use document::{CompactDoc, CompactDocValue, CompactDocs, OwnedValue, put_value, take_value};
-use document_lines::document_of_values;
 use schema::{Field, Schema};
 use serde_json::Value;
 use std::alloc::{AllocError, Global};

@@ -1,8 +1,7 @@
 //! Operations by their names. What stands before the first `-` says what an operation is about.
 
 use crate::{documents, record_bodies, stores, values};
-use case_lines::{Arguments, Operations, Refusal};
-use document_lines::made;
+use case_lines::{Arguments, Operations, Refusal, made};
 use schema::Schema;
 use serde_json::Value;
 use std::alloc::Global;

@@ -1,7 +1,7 @@
 //! The body of a file's first record.
 
-use bodies::{put_first_body, read_first_body};
 use case_lines::{Arguments, Refusal, number, pair};
+use index_file::{put_first_body, read_first_body};
 use schema::Schema;
 use serde_json::Value;
 use settings::Settings;

@@ -4,8 +4,7 @@ ghost use Rattle.std.specs.Prelude.{◌≢◌, IfOk};
 ghost use Rattle.definitions.specs.Schema.{json_kind};
 ghost use Rattle.terms.specs.Kinds.{kind_of};
 
-use case_lines::{Arguments, Refusal, flag, hex, number, text};
-use document_lines::bits_of;
+use case_lines::{Arguments, Refusal, bits_of, flag, hex, number, text};
 use schema::{DateTime, Type};
 use serde_json::{Number, Value};
 use std::alloc::Global;

@@ -15,6 +15,7 @@ use Rattle.fieldnorms.specs.FieldNorms.{padded, with_length}
 use Rattle.layouts.specs.Deltas.{IsAscendingFrom}
 use Rattle.layouts.specs.FieldNorms.{IsNorms, norms_bytes}
 use Rattle.postings_writer.proofs.WrittenSections.{entries_at}
+use Rattle.schema.proofs.LengthFields.{numbers}
 use Rattle.document_indexer.specs.FieldLengths.{AreLengths, cut, with_ids}
 use Rattle.document_indexer.proofs.CountedLengths.{field_within}
 
@@ -98,10 +99,6 @@ all_more lengths fields doc [] kept = refl
 all_more lengths fields doc (p ∷ ps) kept = ap₂ (λ q qs. q ∷ qs) (let below = kept.0.0 in let test : nat_lt p.0 fields ≡ true = grind (arith, nat_tests) in ap (λ b. cond b (with_id lengths p) p) test) (all_more lengths fields doc ps kept.1)
 
 -- ---- the fields that keep lengths
-
--- their numbers, of some of all fields
-abbrev pub numbers : List (ℕ × Entry) → List ℕ
-numbers es = map (λ (p : ℕ × Entry). p.0) (filter (λ (p : ℕ × Entry). keeps_length p.1) es)
 
 pub fields_keep : (schema : Schema) → AllByRecursion (λ field. field_has keeps_length schema field ≡ true) (length_fields schema)
 fields_keep schema = go (enumerate_from 0 schema) (entries_at schema)

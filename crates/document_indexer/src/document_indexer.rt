@@ -13,16 +13,15 @@ ghost use Rattle.postings_writer.specs.Limits.{IsFieldWithin, IsSerializeRefusal
 ghost use Rattle.document_indexer.specs.Indexed.{IsAddRefusal, IsWithinLimits};
 ghost use Rattle.document_indexer.specs.Indexers.{HasIndexed, writer_of};
 
-use crate::field_lengths::{length_fields, record_lengths};
+use crate::field_lengths::record_lengths;
 use crate::index_document::index_document;
 use crate::indexing_context::IndexingContext;
 use common::{Analyzer, TERMINATED};
 use definitions::Fault;
 use document::CompactDoc;
 use fieldnorms::{FieldNormReaders, FieldNormsSerializer, FieldNormsWriter};
-use postings_serializer::InvertedIndexSerializer;
-use postings_writer::PostingsWriter;
-use schema::Schema;
+use postings_writer::{InvertedIndexSerializer, PostingsWriter};
+use schema::{Schema, length_fields};
 use std::alloc::{AllocError, Global};
 
 /// Indexes documents, numbered from 0: the terms of their values, by the types of their fields, and the lengths of

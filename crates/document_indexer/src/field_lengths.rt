@@ -1,28 +1,13 @@
 //! The lengths of fields.
 
-ghost use Rattle.std.specs.Prelude.{◌+◌, ◌<◌, ◌≡◌, ◌≤◌, IfOk, OnOk, length, replicate, set, slice_index_or};
+ghost use Rattle.std.specs.Prelude.{◌+◌, ◌<◌, ◌≡◌, ◌≤◌, OnOk, length, replicate, set, slice_index_or};
 ghost use Rattle.std.specs.List.{AllByRecursion};
-ghost use Rattle.definitions.specs.KeptLengths.{length_fields};
 ghost use Rattle.definitions.specs.Schema.{max_fields};
 ghost use Rattle.document_indexer.specs.FieldLengths.{cut, with_ids};
 
 use fieldnorms::FieldNormsWriter;
-use schema::Schema;
-use std::alloc::{AllocError, Global};
+use std::alloc::AllocError;
 use terms::Field;
-
-/// The numbers of the fields that keep lengths.
-pub fn length_fields(alloc: Global, schema: &Schema) -> Result<Vec<u32>, AllocError>
-    ensures { IfOk result (λ fields. fields.items ≡ length_fields schema.now) }
-{
-    let mut fields = Vec::new(alloc);
-    for (field, entry) in schema.fields() {
-        if entry.has_fieldnorms() {
-            fields.push(field.field_id())?;
-        }
-    }
-    Ok(fields)
-}
 
 /// Leaves a length of 0 for each of a given number of fields.
 pub(crate) fn begin_lengths(lengths: &mut Vec<u32>, num_fields: usize) -> Result<(), AllocError>

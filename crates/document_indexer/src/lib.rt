@@ -13,4 +13,3 @@ mod indexing_positions;
 mod json_field;
 
 pub use document_indexer::DocumentIndexer;
-pub use field_lengths::length_fields;

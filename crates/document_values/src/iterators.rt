@@ -7,7 +7,7 @@ ghost use Rattle.document_values.specs.Docs.{IsWhole, pairs_at};
 ghost use Rattle.layouts.specs.DocumentReading.{items_at, take_held, take_member};
 
 use crate::compact_value::CompactDocValue;
-use crate::taking::{take, take_any};
+use crate::value_reader::{take, take_any};
 use common::{take_text, take_u32};
 use std::marker::Model;
 use terms::Field;

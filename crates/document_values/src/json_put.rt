@@ -10,7 +10,7 @@ ghost use Rattle.layouts.specs.DocumentReading.{deepest};
 ghost use Rattle.document_values.specs.Held.{AreSized, AreSizedMembers, IsHeldValue, held_bytes, held_members, held_pair, held_values};
 ghost use Rattle.serde_json.specs.View.{items_view, members_view, number_view, view};
 
-use crate::writing;
+use crate::value_writer;
 use common::{put_bytes, put_u32, put_vint};
 use serde_json::{Map, Number, Value as Json};
 use std::alloc::{AllocError, Global};
@@ -39,7 +39,7 @@ fn put_json(out: &mut Vec<u8>, json: &Json) -> Result<(), AllocError>
 {
     match json {
         Json::Null => Ok(out.push(11)?),
-        Json::Bool(b) => writing::put_bool(out, *b),
+        Json::Bool(b) => value_writer::put_bool(out, *b),
         Json::Number(number) => put_number(out, number),
         Json::String(text) => put_text(out, text.as_str()),
         Json::Array(items) => put_array(out, items.as_slice()),
@@ -53,10 +53,10 @@ fn put_number(out: &mut Vec<u8>, number: &Number) -> Result<(), AllocError>
     ensures held { IsHeldValue (number_value (number_view number.now)) }
 {
     if let Some(n) = number.as_i64() {
-        return writing::put_number(out, 2, n.cast_unsigned());
+        return value_writer::put_number(out, 2, n.cast_unsigned());
     }
     if let Some(n) = number.as_u64() {
-        return writing::put_number(out, 1, n);
+        return value_writer::put_number(out, 1, n);
     }
     Ok(out.push(11)?)
 }
@@ -66,7 +66,7 @@ fn put_text(out: &mut Vec<u8>, text: &str) -> Result<(), AllocError>
     ensures put { OnOk result (out.new.items ≡ out.old.items ++ held_bytes (values.str text.now)) }
     ensures held { IsHeldValue (values.str text.now) }
 {
-    writing::put_sized(out, 0, text.as_bytes())
+    value_writer::put_sized(out, 0, text.as_bytes())
 }
 
 /// Appends a code and how many parts follow it.

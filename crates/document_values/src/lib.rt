@@ -4,28 +4,28 @@
 mod compact_tokens;
 mod compact_value;
 mod heads;
-mod holding;
+mod held_values;
 mod iterators;
+mod json_printer;
 mod json_put;
 mod json_text;
 mod owned_value;
-mod owning;
 mod pairs;
-mod printing;
 mod stored;
-mod taking;
-mod writing;
+mod value_copies;
+mod value_reader;
+mod value_writer;
 
 pub use compact_tokens::CompactDocTokens;
 pub use compact_value::CompactDocValue;
 pub use iterators::{CompactDocArrayIter, CompactDocObjectIter, FieldValueIterRef, ValuesOfField};
+pub use json_printer::{value_to_json, values_to_json};
 pub use json_put::json_object_pair;
 pub use json_text::write_value;
 pub use owned_value::OwnedValue;
 pub use pairs::{
     address_pair, append, append_sized, object_pair, owned_pair, tokens_pair, value_head,
 };
-pub use printing::{value_to_json, values_to_json};
 pub use stored::stored_value;
-pub use taking::{skip_pairs, take_value};
-pub use writing::put_value;
+pub use value_reader::{MAX_NESTING, skip_pairs, take_value};
+pub use value_writer::put_value;

@@ -8,9 +8,9 @@ ghost use Rattle.document_values.specs.Held.{IsHeldValue, held_bytes, held_pair}
 ghost use Rattle.document_values.specs.Owned.{owned_members, owned_value};
 ghost use Rattle.layouts.specs.DocumentReading.{deepest, to_members};
 
-use crate::holding::{put_owned, put_owned_members, put_pre_tokenized};
+use crate::held_values::{put_owned, put_owned_members, put_pre_tokenized};
 use crate::owned_value::OwnedValue;
-use crate::writing::put_address;
+use crate::value_writer::put_address;
 use common::{PreTokenizedString, put_bytes, put_u32};
 use std::alloc::{AllocError, Global};
 use terms::Field;

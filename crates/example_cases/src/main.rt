@@ -2,8 +2,7 @@
 //! the requests.
 #![tactic(auto)]
 
-use common::RawAndDefault;
-use file_device::FileDevice;
+use common::{FileDevice, RawAndDefault};
 use index::run;
 use std::{fs, io};
 

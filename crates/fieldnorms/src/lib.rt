@@ -2,7 +2,7 @@
 #![tactic(auto)]
 
 mod code;
-mod places;
+mod field_ranks;
 mod reader;
 mod readers;
 mod serializer;

@@ -6,7 +6,7 @@ ghost use Rattle.definitions.specs.declared.fault.Fault.TheVariants as faults;
 ghost use Rattle.layouts.specs.Deltas.{IsAscendingFrom};
 ghost use Rattle.layouts.specs.FieldNorms.{IsNorms, ids_of};
 
-use crate::places::place_of;
+use crate::field_ranks::place_of;
 use crate::reader::FieldNormReader;
 use common::take_u32;
 use definitions::Fault;

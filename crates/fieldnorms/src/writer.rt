@@ -8,7 +8,7 @@ ghost use Rattle.layouts.specs.Deltas.{IsAscendingFrom};
 ghost use Rattle.layouts.specs.FieldNorms.{norms_bytes};
 
 use crate::code::fieldnorm_to_id;
-use crate::places::place_of;
+use crate::field_ranks::place_of;
 use crate::serializer::FieldNormsSerializer;
 use std::alloc::{AllocError, Global};
 use std::marker::Model;

@@ -2,13 +2,11 @@
 
 use crate::histories::{CaseIndex, Histories};
 use crate::stopping_device::StoppingDevice;
-use case_lines::{Arguments, Refusal, flag, number};
+use case_lines::{Arguments, Refusal, document_of_values, flag, number, term_in};
 use common::RawAndDefault;
 use definitions::Fault;
-use document_lines::document_of_values;
-use query_lines::term_in;
+use engine::{Index, Refused};
 use schema::Schema;
-use segment_engine::{Index, Refused};
 use serde_json::Value;
 use settings::Settings;
 

@@ -4,7 +4,7 @@ use crate::stopping_device::StoppingDevice;
 use case_lines::{Arguments, Operations, Refusal, number, pair, text};
 use common::RawAndDefault;
 use definitions::Fault;
-use segment_engine::{Index, Status};
+use engine::{Index, Status};
 use serde_json::Value;
 use std::alloc::Global;
 

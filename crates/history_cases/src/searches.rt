@@ -1,8 +1,7 @@
 //! Operations that ask the index.
 
 use crate::histories::Histories;
-use case_lines::{Arguments, Refusal, number, pair};
-use query_lines::query_by_steps;
+use case_lines::{Arguments, Refusal, number, pair, query_by_steps};
 use segment_search::Hit;
 use serde_json::Value;
 use std::alloc::{AllocError, Global};

@@ -25,8 +25,8 @@ use Rattle.std.specs.Cow.{cow_str_bytes}
 use Rattle.std.specs.declared.borrow.CowStr.{CowStr}
 use Rattle.serde_json.specs.Read.{read}
 use Rattle.index.specs.Replying.{Answers, GoesOn, TakesChange, change_text}
-use Rattle.segment_engine.specs.Indexes.{IndexStands}
-use Rattle.segment_engine.specs.declared.index.Index.{Index}
+use Rattle.engine.specs.Indexes.{IndexStands}
+use Rattle.engine.specs.declared.index.Index.{Index}
 use Rattle.definitions.specs.Replying.{stops}
 
 none≢some : {X : Type 0} {x : X} → None ≡ Some x → ⊥

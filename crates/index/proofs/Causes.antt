@@ -16,7 +16,7 @@ use Rattle.definitions.specs.Refusing.{first_fault}
 use Rattle.definitions.specs.declared.fault.Fault.{Fault}
 use Rattle.definitions.specs.declared.fault.Fault.TheVariants as faults
 use Rattle.definitions.proofs.OwnFaults.{is_failure, refused_by_no_failure}
-use Rattle.making.proofs.Faults.{device_failed, is_limit, memory_or_other}
+use Rattle.index_file.proofs.Faults.{device_failed, is_limit, memory_or_other}
 use Rattle.serde_json.specs.Data as json
 
 -- the error, if it is one

@@ -13,9 +13,9 @@ use Rattle.definitions.specs.Step as steps
 use Rattle.definitions.specs.declared.fault.Fault.{Fault}
 use Rattle.definitions.specs.declared.fault.Fault.TheVariants as faults
 use Rattle.definitions.proofs.Steps.{answered_call, refused_call}
-use Rattle.segment_engine.specs.Indexes.{IndexRests, IndexStands, IsInFile, KeepsFile, KeepsMaking, device_of, gate_of, members_of, schema_of, settings_of}
-use Rattle.segment_engine.specs.declared.index.Index.{Index}
-use Rattle.segment_engine.proofs.FileSayings.{leave_same}
+use Rattle.engine.specs.Indexes.{IndexRests, IndexStands, IsInFile, KeepsFile, KeepsMaking, device_of, gate_of, members_of, schema_of, settings_of}
+use Rattle.engine.specs.declared.index.Index.{Index}
+use Rattle.engine.proofs.FileSayings.{leave_same}
 use Rattle.index.specs.Replying.{GoesOn}
 use Rattle.index.proofs.Answering.{answered_leaves, going_on}
 use Rattle.layouts.specs.RecordFiles.{IsAtRest}

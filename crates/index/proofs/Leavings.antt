@@ -12,8 +12,8 @@ use Rattle.definitions.specs.State.{State}
 use Rattle.definitions.specs.Step as steps
 use Rattle.definitions.specs.declared.fault.Fault.{Fault}
 use Rattle.definitions.specs.declared.fault.Fault.TheVariants as faults
-use Rattle.segment_engine.specs.Indexes.{IndexStands, IsInFile, KeepsFile, KeepsMaking, device_of}
-use Rattle.segment_engine.specs.declared.index.Index.{Index}
+use Rattle.engine.specs.Indexes.{IndexStands, IsInFile, KeepsFile, KeepsMaking, device_of}
+use Rattle.engine.specs.declared.index.Index.{Index}
 use Rattle.index.specs.Replying.{OnlyStops, closed_writer}
 use Rattle.index.specs.Sessions.{HasHeld, HasStage, IsIndex, IsLeft, StandsFor, analysis_of, without_writer}
 use Rattle.index.specs.declared.session.Session.{Session}

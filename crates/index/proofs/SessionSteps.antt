@@ -22,11 +22,11 @@ use Rattle.definitions.specs.declared.fault.Fault.TheVariants as faults
 use Rattle.definitions.proofs.ReplyTexts.{error_text}
 use Rattle.definitions.specs.Disk.{HasCause}
 use Rattle.definitions.specs.State.{State}
-use Rattle.segment_engine.specs.Indexes.{IndexStands, IsInFile, KeepsFile, KeepsMaking, device_of}
+use Rattle.engine.specs.Indexes.{IndexStands, IsInFile, KeepsFile, KeepsMaking, device_of}
 use Rattle.index.specs.AskedRequests.{index_request_of}
 use Rattle.index.specs.Replying.{Answers, GoesOn, IndexMeets, OnlyStops, change_text}
 use Rattle.index.specs.Sessions.{HasHeld, HasStage, IsIndex, IsKnown, IsLeft, LeavesStage, MeetsLimit, Replies, StandsFor, analysis_of, failures_of, failures_on, honest_of, honest_on}
-use Rattle.segment_engine.specs.declared.index.Index.{Index}
+use Rattle.engine.specs.declared.index.Index.{Index}
 use Rattle.index.specs.declared.requests.IndexRequest.{IndexRequest}
 use Rattle.index.specs.declared.requests.IndexRequest.TheVariants.{Add, Commit, Count, Delete, Merge, Search}
 use Rattle.index.specs.declared.session.Session.{Session}

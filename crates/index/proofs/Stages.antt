@@ -17,23 +17,23 @@ use Rattle.definitions.specs.Values.{Document}
 use Rattle.definitions.specs.declared.fault.Fault.{Fault}
 use Rattle.definitions.specs.declared.fault.Fault.TheVariants as faults
 use Rattle.definitions.proofs.ReplyTexts.{error_text, ok_text}
-use Rattle.records.specs.Kept.{IsKept}
+use Rattle.index_file.specs.Kept.{IsKept}
 use Rattle.std.specs.List.{AllZip}
-use Rattle.segment_engine.specs.Files.{IsCreateRefusal, IsFileOf, IsOpenRefusal, LeavesMembers}
-use Rattle.segment_layouts.specs.SegmentBodies.{Member}
-use Rattle.segment_layouts.specs.SegmentFiles.{IsGroup}
-use Rattle.segment_engine.specs.Indexes.{IndexRests, IndexStands, IsOpened, analyzer_after, analyzer_of, device_after, device_of, ending_of, gate_of, members_of, schema_of, settings_of}
+use Rattle.engine.specs.Files.{IsCreateRefusal, IsFileOf, IsOpenRefusal, LeavesMembers}
+use Rattle.segment_definitions.specs.SegmentBodies.{Member}
+use Rattle.segment_definitions.specs.SegmentFiles.{IsGroup}
+use Rattle.engine.specs.Indexes.{IndexRests, IndexStands, IsOpened, analyzer_after, analyzer_of, device_after, device_of, ending_of, gate_of, members_of, schema_of, settings_of}
 use Rattle.index.specs.Replying.{change_text}
 use Rattle.index.specs.Sessions.{HasHeld, HasStage, IsIndex, IsSpare, IsStage, LeavesStage, analysis_of, analyzer_on, device_on, left_by, parts_on, stage_after}
-use Rattle.segment_engine.specs.declared.index.Index.{Index}
-use Rattle.segment_engine.specs.declared.refused.Refused.{Refused}
+use Rattle.engine.specs.declared.index.Index.{Index}
+use Rattle.engine.specs.declared.refused.Refused.{Refused}
 use Rattle.index.specs.declared.stage.Stage.{Stage}
 use Rattle.index.specs.declared.stage.Stage.TheVariants.{Spare, Standing}
 use Rattle.index.proofs.Answering.{going_on}
 use Rattle.index.proofs.Causes.{error_in, making_goes_on}
-use Rattle.making.proofs.Faults.{is_limit}
-use Rattle.segment_engine.proofs.Commits.{stands_groups}
-use Rattle.segment_engine.proofs.FileSayings.{file_is_index, file_is_whole, no_bytes, of_its_groups, rests_say}
+use Rattle.index_file.proofs.Faults.{is_limit}
+use Rattle.engine.proofs.Commits.{stands_groups}
+use Rattle.engine.proofs.FileSayings.{file_is_index, file_is_whole, no_bytes, of_its_groups, rests_say}
 use Rattle.layouts.specs.RecordFiles.{IsNoIndex}
 use Rattle.serde_json.specs.Data as json
 
@@ -215,7 +215,7 @@ module _ {D A : Type 0} (d : devices.Ghosts D) (knows : A → List ℕ → Bool)
     | inl ready ↦
         let rests = h.rests honest ready in
         let cut : a.analyze ≡ analyze (analyzer_of index) = ap (λ (b : steps.Analysis). b.analyze) h.analysis in
-        let are = stands_groups analyze index.collection (steps.configuration_of s a.analyze u) x h.stands in
+        let are = stands_groups analyze index.index_state (steps.configuration_of s a.analyze u) x h.stands in
         let says = rests_say (schema_of index) (settings_of index) (analyze (analyzer_of index)) (members_of index) x.state.groups (d.content (device_of index)) (d.unsynced (device_of index)) (gate_of index) rests are in
         let file : IsFileOf (schema_of index) (settings_of index) (analyze (analyzer_of index)) x.state.groups (d.content (device_of index)) = (rests.bodies, rests.at_rest.file, says) in
         (honest, subst (λ (t : Schema). IsFileOf t u a.analyze x.state.groups (d.content (device_of index))) h.fields (subst (λ (v : Settings). IsFileOf (schema_of index) v a.analyze x.state.groups (d.content (device_of index))) h.numbers (subst (λ (k : Analyzer). IsFileOf (schema_of index) (settings_of index) k x.state.groups (d.content (device_of index))) (sym cut) file)))

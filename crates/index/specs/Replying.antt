@@ -12,9 +12,9 @@ use Rattle.definitions.specs.Requests as requests
 use Rattle.definitions.specs.Step as steps
 use Rattle.definitions.specs.Values.{Document}
 use Rattle.definitions.specs.declared.fault.Fault.{Fault}
-use Rattle.segment_engine.specs.Indexes.{CommitPasses, IndexStands, KeepsFile, PassesLimit, open_of}
-use Rattle.segment_engine.specs.Merges.{MergePasses}
-use Rattle.segment_engine.specs.declared.index.Index.{Index}
+use Rattle.engine.specs.Indexes.{CommitPasses, IndexStands, KeepsFile, PassesLimit, open_of}
+use Rattle.engine.specs.Merges.{MergePasses}
+use Rattle.engine.specs.declared.index.Index.{Index}
 use Rattle.definitions.specs.Replying.{stops}
 
 -- the reply to a change

@@ -14,11 +14,11 @@ use Rattle.definitions.specs.Settings.{Settings}
 use Rattle.definitions.specs.Step as steps
 use Rattle.definitions.specs.declared.fault.Fault.{Fault}
 use Rattle.definitions.specs.declared.fault.Fault.TheVariants as faults
-use Rattle.segment_engine.specs.Files.{IsFileOf}
-use Rattle.segment_engine.specs.Indexes.{IndexStands, IsInFile, analyzer_of, device_of, ending_of, schema_of, settings_of}
+use Rattle.engine.specs.Files.{IsFileOf}
+use Rattle.engine.specs.Indexes.{IndexStands, IsInFile, analyzer_of, device_of, ending_of, schema_of, settings_of}
 use Rattle.index.specs.Replying.{GoesOn, IndexMeets, change_text, closed_writer}
-use Rattle.segment_engine.specs.declared.index.Index.{Index}
-use Rattle.segment_engine.specs.declared.refused.Refused.{Refused}
+use Rattle.engine.specs.declared.index.Index.{Index}
+use Rattle.engine.specs.declared.refused.Refused.{Refused}
 use Rattle.index.specs.declared.session.Session.{Session}
 use Rattle.index.specs.declared.stage.Stage.{Stage}
 use Rattle.index.specs.declared.stage.Stage.TheVariants.{Spare, Standing}

@@ -12,8 +12,8 @@ ghost use Rattle.definitions.specs.Step as steps;
 ghost use Rattle.definitions.specs.declared.fault.Fault.TheVariants as faults;
 ghost use Rattle.index.specs.AskedRequests.{index_request_of};
 ghost use Rattle.index.specs.Replying.{Answers, GoesOn, IndexMeets, OnlyStops, TakesChange, change_text};
-ghost use Rattle.segment_engine.specs.Indexes.{IndexStands, IsInFile, KeepsFile, KeepsMaking, device_of};
-ghost use Rattle.segment_engine.specs.Hits.{hit_of, scored};
+ghost use Rattle.engine.specs.Indexes.{IndexStands, IsInFile, KeepsFile, KeepsMaking, device_of};
+ghost use Rattle.segment_search.specs.Hits.{hit_of, scored};
 ghost use Rattle.definitions.specs.Replying.{stops};
 ghost use Rattle.serde_json.specs.View.{view};
 
@@ -21,12 +21,12 @@ use crate::json_replies::count_text;
 use crate::requests::IndexRequest;
 use common::{Analyzer, Device};
 use definitions::Fault;
-use query_grammar::read_query;
+use engine::{Hit, Index};
+use query::read_query;
 use reply_texts::hits_text;
-use segment_engine::{Hit, Index};
 use serde_json::Value as Json;
+use settings::read_term;
 use std::borrow::CowStr;
-use term_json::read_term;
 
 /// What is replied to a request that changed something.
 const OK_REPLY: &str = "{\"ok\":true}";

@@ -5,20 +5,19 @@ mod answers;
 mod exit_status;
 mod json_replies;
 mod requests;
-mod running;
 mod session;
+mod session_run;
 mod stage;
 
 pub use document::NamedDocument;
 pub use document_values::OwnedValue;
+pub use engine::{Hit, Index, Refused, Status, file_laws};
 pub use exit_status::status_of;
-pub use query_grammar::read_query;
+pub use query::read_query;
 pub use query_trees::{
     AllQuery, AnyQuery, BooleanQuery, BoostQuery, ConstScoreQuery, DisjunctionMaxQuery, EmptyQuery,
     Occur, PhrasePrefixQuery, PhraseQuery, TermQuery,
 };
-pub use running::{reply, run, run_session};
-pub use segment_engine::{Hit, Index, Refused, Status, file_laws};
 pub use session::Session;
-pub use settings::Settings;
-pub use term_json::read_term;
+pub use session_run::{reply, run, run_session};
+pub use settings::{Settings, read_term};

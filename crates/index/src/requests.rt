@@ -10,8 +10,7 @@ ghost use Rattle.index.specs.AskedRequests.{request_of};
 ghost use Rattle.serde_json.specs.View.{view};
 
 use definitions::Fault;
-use json_keys::{has_only, number_at, text_at};
-use schema::Schema;
+use schema::{Schema, has_only, number_at, text_at};
 use serde_json::Value as Json;
 use settings::Settings;
 use std::alloc::Global;

@@ -4,13 +4,13 @@ ghost use Rattle.std.specs.Prelude.{◌≡◌, IsErrOf, IsTrue, Some, false};
 ghost use Rattle.definitions.specs.Disk.{HasCause};
 ghost use Rattle.definitions.specs.Step as steps;
 ghost use Rattle.definitions.specs.declared.fault.Fault.TheVariants as faults;
-ghost use Rattle.segment_engine.specs.Standing.{status_of};
+ghost use Rattle.index_state.specs.Standing.{status_of};
 ghost use Rattle.index.specs.Sessions.{IsSpare, IsStage, LeavesStage, analyzer_on, device_on, left_by};
 
 use common::{Analyzer, Device};
 use definitions::Fault;
+use engine::{Index, Refused, Status};
 use schema::Schema;
-use segment_engine::{Index, Refused, Status};
 use settings::Settings;
 use std::alloc::Global;
 

@@ -1,9 +1,12 @@
 //! Tests of the index of what no line of text says: queries and hits as values, indexes of very many fields, files cut at
-//! each length or changed at each byte, and the library as README shows it. All other expected values are the lines of `index_cases`.
+//! each length or changed at each byte, the device over a file, of which no clause says what it holds, and the library as
+//! README shows it. All other expected values are the lines of `index_cases`.
 #![tactic(auto)]
 
 #[cfg(test)]
 mod creating;
+#[cfg(test)]
+mod file_bytes;
 #[cfg(test)]
 mod files;
 #[cfg(test)]
@@ -14,6 +17,8 @@ mod indexes;
 mod library;
 #[cfg(test)]
 mod queries;
+#[cfg(test)]
+mod refused_calls;
 
 /// Nothing: the tests are what this crate is for.
 fn main() {}

@@ -4,14 +4,14 @@ use Rattle.std.proofs.Math.Seq.{map-set_same}
 use Rattle.std.proofs.lemmas.Grind.{flat_map-append}
 use Rattle.std.proofs.lemmas.List.{append-nil, get_or-map, length-append, length-map, map-set}
 use Rattle.definitions.specs.Postings.{terminated}
-use Rattle.cursors.specs.Entries.{Entry, Rising, first, first_positions, single}
+use Rattle.docsets.specs.Entries.{Entry, Rising, first, first_positions, single}
 use Rattle.intersections.specs.Columns.{HaveOneColumn}
 use Rattle.intersections.specs.MeetingLaws.{few-before, meeting-here}
 use Rattle.intersections.specs.Meetings.{IsMeeting, meeting}
-use Rattle.leaf_scorers.specs.ScoredEntryLaws.{by_place}
-use Rattle.members.specs.AtLeastLaws.{too_few}
-use Rattle.members.specs.MemberLaws.{entries-low, entries-on, few-have, least-both, listed-skip, listed-stands, one-entry}
-use Rattle.members.specs.Members.{enough, entries_at, entries_of, joining, least}
+use Rattle.docsets.specs.ScoredEntryLaws.{by_place}
+use Rattle.docsets.specs.AtLeastLaws.{too_few}
+use Rattle.docsets.specs.MemberLaws.{entries-low, entries-on, few-have, least-both, listed-skip, listed-stands, one-entry}
+use Rattle.docsets.specs.Members.{enough, entries_at, entries_of, joining, least}
 
 -- the column of a list that isn't at its end
 first-column : (es : List Entry) → HaveOneColumn es → first es < terminated → flat_map (λ e. e.positions) (take 1 es) ≡ single (first_positions es) ∷ []

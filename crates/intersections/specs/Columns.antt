@@ -1,6 +1,6 @@
 -- Columns: the positions of each term of a document.
 use Rattle.std.specs.Prelude.{[], ⊤, ◌<◌, ◌∷◌, ◌≡◌, List}
-use Rattle.cursors.specs.Entries.{Entry, highest, single}
+use Rattle.docsets.specs.Entries.{Entry, highest, single}
 use Rattle.definitions.specs.Scoring.{DontFall}
 
 -- each entry has one column of positions, which don't fall and are below the greatest number of 32 bits

@@ -2,13 +2,13 @@
 use Rattle.std.proofs.Common.{[], Bool, List, ap, arith, drop, false, if◌then◌else◌, length, le-leb, max, nat_le, refl, sym, true, ◌+◌, ◌<◌, ◌∙◌, ◌∷◌, ◌≡◌, ◌≤◌, ℕ}
 use Rattle.std.proofs.Props.{props}
 use Rattle.definitions.specs.Postings.{terminated}
-use Rattle.cursors.specs.Danger.{Missed}
-use Rattle.cursors.specs.Entries.{Entry, Rising, first, from}
-use Rattle.cursors.specs.EntryLaws.{Rising-from, Rising-lower, from-from, from-in, from-out}
-use Rattle.leaf_scorers.specs.ScoredEntries.{greatest_score}
-use Rattle.leaf_scorers.specs.ScoredEntryLaws.{by_place}
-use Rattle.members.specs.MemberLaws.{entries-kept, entries-low, entries-on, one-first}
-use Rattle.members.specs.Members.{entries_of}
+use Rattle.docsets.specs.Danger.{Missed}
+use Rattle.docsets.specs.Entries.{Entry, Rising, first, from}
+use Rattle.docsets.specs.EntryLaws.{Rising-from, Rising-lower, from-from, from-in, from-out}
+use Rattle.docsets.specs.ScoredEntries.{greatest_score}
+use Rattle.docsets.specs.ScoredEntryLaws.{by_place}
+use Rattle.docsets.specs.MemberLaws.{entries-kept, entries-low, entries-on, one-first}
+use Rattle.docsets.specs.Members.{entries_of}
 use Rattle.intersections.specs.Differences.{IsOutside, has, without}
 
 -- what is excluded goes

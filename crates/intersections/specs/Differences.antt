@@ -1,8 +1,8 @@
 -- Differences of lists of entries.
 use Rattle.std.specs.Prelude.{[], Bool, List, ◌<◌, ◌∷◌, ◌≡◌, false, if◌then◌else◌, length, nat_le, ℕ}
 use Rattle.definitions.specs.Postings.{terminated}
-use Rattle.cursors.specs.Entries.{Entry, first}
-use Rattle.members.specs.Members.{entries_of, with_score}
+use Rattle.docsets.specs.Entries.{Entry, first}
+use Rattle.docsets.specs.Members.{entries_of, with_score}
 
 -- whether a list has a document
 abbrev pub has : List Entry → ℕ → Bool

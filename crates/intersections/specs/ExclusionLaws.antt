@@ -2,12 +2,12 @@
 use Rattle.std.proofs.Common.{Bool, List, ap, arith, false, refl, sym, true, ◌+◌, ◌<◌, ◌∙◌, ◌≡◌, ◌≤◌, ℕ}
 use Rattle.definitions.specs.Postings.{terminated}
 use Rattle.definitions.specs.Scoring.{max_score}
-use Rattle.cursors.specs.Entries.{Entry, Rising, first, from}
-use Rattle.cursors.specs.EntryLaws.{from-from}
+use Rattle.docsets.specs.Entries.{Entry, Rising, first, from}
+use Rattle.docsets.specs.EntryLaws.{from-from}
 use Rattle.intersections.specs.DifferenceLaws.{has-first, has-kept, has-low}
 use Rattle.intersections.specs.Differences.{has, unscored}
-use Rattle.members.specs.MemberLaws.{Rising-listed, from-listed, listed-found, listed-later, listed-out}
-use Rattle.members.specs.Members.{at_least, enough, entries_at, listed}
+use Rattle.docsets.specs.MemberLaws.{Rising-listed, from-listed, listed-found, listed-later, listed-out}
+use Rattle.docsets.specs.Members.{at_least, enough, entries_at, listed}
 
 pub Rising-unscored : (ess : List (List Entry)) → Rising 0 (at_least 1 unscored ess)
 Rising-unscored ess = Rising-listed (enough 1 ess) (λ d. unscored d (entries_at d ess)) 0 (λ d l t e. omega arith)

@@ -5,12 +5,12 @@ use Rattle.std.proofs.Math.Seq.{map-set_same}
 use Rattle.std.proofs.lemmas.List.{get_or-map, length-map, length-set, map-set}
 use Rattle.definitions.specs.Postings.{terminated}
 use Rattle.definitions.specs.Scoring.{max_score}
-use Rattle.cursors.specs.Entries.{Entry, Rising, first, first_score, from}
-use Rattle.cursors.specs.EntryLaws.{Rising-from, Rising-prop, first_at_most, from-from}
-use Rattle.leaf_scorers.specs.ScoredEntryLaws.{by_place}
-use Rattle.members.specs.AtLeastLaws.{too_few}
-use Rattle.members.specs.MemberLaws.{Rising-listed, entries-kept, entries-least, entries-low, from-listed, listed-end, listed-found, listed-same, listed-skip, listed-stands, one-lacks, same-from, sum-greatest}
-use Rattle.members.specs.Members.{at_least, enough, entries_at, entries_of, greatest_sum, joining, least, listed, scores_in}
+use Rattle.docsets.specs.Entries.{Entry, Rising, first, first_score, from}
+use Rattle.docsets.specs.EntryLaws.{Rising-from, Rising-prop, first_at_most, from-from}
+use Rattle.docsets.specs.ScoredEntryLaws.{by_place}
+use Rattle.docsets.specs.AtLeastLaws.{too_few}
+use Rattle.docsets.specs.MemberLaws.{Rising-listed, entries-kept, entries-least, entries-low, from-listed, listed-end, listed-found, listed-same, listed-skip, listed-stands, one-lacks, same-from, sum-greatest}
+use Rattle.docsets.specs.Members.{at_least, enough, entries_at, entries_of, greatest_sum, joining, least, listed, scores_in}
 use Rattle.intersections.specs.Meetings.{IsMeeting, Passes, meeting}
 
 from-each : (t u : ℕ) (ess : List (List Entry)) → t ≤ u → map (from u) (map (from t) ess) ≡ map (from u) ess

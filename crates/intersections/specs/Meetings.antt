@@ -1,8 +1,8 @@
 -- Lists that go on together to the documents that all of them have.
 use Rattle.std.specs.Prelude.{List, ◌<◌, ◌≡◌, ◌≤◌, length, map, ℕ}
 use Rattle.definitions.specs.Postings.{terminated}
-use Rattle.cursors.specs.Entries.{Entry, Rising, first, from}
-use Rattle.members.specs.Members.{at_least, entries_at, joining, least}
+use Rattle.docsets.specs.Entries.{Entry, Rising, first, from}
+use Rattle.docsets.specs.Members.{at_least, entries_at, joining, least}
 
 -- the documents that all of several lists have, with all that their entries tell
 abbrev pub meeting : List (List Entry) → List Entry

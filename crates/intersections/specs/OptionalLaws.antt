@@ -2,12 +2,12 @@
 use Rattle.std.proofs.Common.{[], List, ap, arith, refl, sum, ◌+◌, ◌<◌, ◌∙◌, ◌∷◌, ◌≡◌, ◌≤◌, ℕ}
 use Rattle.definitions.specs.Postings.{terminated}
 use Rattle.definitions.specs.Scoring.{max_score}
-use Rattle.cursors.specs.Entries.{Entry, Rising, first, first_score, from}
-use Rattle.leaf_scorers.specs.CombiningLaws.{sum-cons}
-use Rattle.leaf_scorers.specs.ScoredEntries.{greatest_score}
-use Rattle.leaf_scorers.specs.ScoredEntryLaws.{Rising-rescored}
-use Rattle.members.specs.MemberLaws.{entries-kept, sum-before}
-use Rattle.members.specs.Members.{entries_of, scores_in}
+use Rattle.docsets.specs.Entries.{Entry, Rising, first, first_score, from}
+use Rattle.docsets.specs.CombiningLaws.{sum-cons}
+use Rattle.docsets.specs.ScoredEntries.{greatest_score}
+use Rattle.docsets.specs.ScoredEntryLaws.{Rising-rescored}
+use Rattle.docsets.specs.MemberLaws.{entries-kept, sum-before}
+use Rattle.docsets.specs.Members.{entries_of, scores_in}
 use Rattle.intersections.specs.Optionals.{score_with, with_optional}
 
 optional-cut : (f : List ℕ → ℕ) (t low : ℕ) (es os : List Entry) → Rising low es → t ≤ low → with_optional f es (from t os) ≡ with_optional f es os

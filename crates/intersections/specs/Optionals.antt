@@ -1,8 +1,8 @@
 -- A required list with an optional one.
 use Rattle.std.specs.Prelude.{List, ◌∷◌, ℕ}
-use Rattle.cursors.specs.Entries.{Entry}
-use Rattle.leaf_scorers.specs.ScoredEntries.{rescored_by}
-use Rattle.members.specs.Members.{entries_of, scores_in}
+use Rattle.docsets.specs.Entries.{Entry}
+use Rattle.docsets.specs.ScoredEntries.{rescored_by}
+use Rattle.docsets.specs.Members.{entries_of, scores_in}
 
 -- what a combiner makes of an entry's score and the optional one, where there is one
 abbrev pub score_with : (List ℕ → ℕ) → List Entry → Entry → ℕ

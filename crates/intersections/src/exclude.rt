@@ -1,14 +1,13 @@
 //! The documents of a cursor that a set doesn't have.
 
 ghost use Rattle.std.specs.Prelude.{◌≡◌};
-ghost use Rattle.cursors.specs.Entries.{first};
+ghost use Rattle.docsets.specs.Entries.{first};
 ghost use Rattle.intersections.specs.DifferenceLaws.{IsOutside-prop};
 ghost use Rattle.intersections.specs.Differences.{IsOutside, without};
 
 use crate::exclusion_set::ExclusionSet;
 use common::{DocId, Score, TERMINATED};
-use cursors::DocSet;
-use leaf_scorers::Scorer;
+use docsets::{DocSet, Scorer};
 
 /// The documents of a cursor that aren't in a set, with their scores.
 #[derive(Drop)]

@@ -1,14 +1,13 @@
 //! Several cursors whose documents are left out.
 
 ghost use Rattle.std.specs.Prelude.{◌<◌, ◌≡◌, map, ℕ};
-ghost use Rattle.cursors.specs.Entries.{first};
+ghost use Rattle.docsets.specs.Entries.{first};
 ghost use Rattle.definitions.specs.Postings.{terminated};
 ghost use Rattle.intersections.specs.Differences.{has, unscored};
-ghost use Rattle.members.specs.Members.{at_least, enough, least};
+ghost use Rattle.docsets.specs.Members.{at_least, enough, least};
 
 use common::DocId;
-use cursors::DocSet;
-use members::{advance_any, seek_any};
+use docsets::{DocSet, advance_any, seek_any};
 
 /// The documents that one of several cursors has, without scores: a set to leave out.
 #[derive(Drop)]

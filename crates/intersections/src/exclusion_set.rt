@@ -4,7 +4,7 @@ ghost use Rattle.std.specs.Prelude.{◌<◌, ◌≡◌, ◌≤◌, Bool, ℕ};
 ghost use Rattle.definitions.specs.Postings.{terminated};
 
 use common::DocId;
-use cursors::{DocSet, SeekDangerResult};
+use docsets::{DocSet, SeekDangerResult};
 
 /// A set that is asked for documents, ascending.
 pub trait ExclusionSet {

@@ -1,19 +1,17 @@
 //! The documents that all scorers have.
 
 ghost use Rattle.std.specs.Prelude.{[], ◌<◌, ◌≡◌, ◌≤◌, length, map, slice_index_or, vec_capacity};
-ghost use Rattle.cursors.specs.Entries.{first, first_positions};
+ghost use Rattle.docsets.specs.Entries.{first, first_positions};
 ghost use Rattle.definitions.specs.Postings.{terminated};
 ghost use Rattle.definitions.specs.Scoring.{max_score};
 ghost use Rattle.intersections.specs.MeetingLaws.{IsMeeting-prop};
 ghost use Rattle.intersections.specs.Meetings.{IsMeeting, meeting};
-ghost use Rattle.members.specs.Members.{greatest_sum};
+ghost use Rattle.docsets.specs.Members.{greatest_sum};
 
-use crate::meeting::{cheapest, next_match};
+use crate::leapfrog::{cheapest, next_match};
 use crate::positioned::Positioned;
 use common::{DocId, Score, TERMINATED};
-use cursors::DocSet;
-use leaf_scorers::{ScoreCombiner, Scorer, SumCombiner};
-use members::combine_at;
+use docsets::{DocSet, ScoreCombiner, Scorer, SumCombiner, combine_at};
 
 /// The documents that all of several cursors have, with their scores and counts added up, and the positions of each in
 /// the order in which the cursors were given.

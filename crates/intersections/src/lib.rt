@@ -5,7 +5,7 @@ mod exclude;
 mod exclusion_list;
 mod exclusion_set;
 mod intersection;
-mod meeting;
+mod leapfrog;
 mod positioned;
 mod required_optional_scorer;
 

@@ -1,10 +1,10 @@
 //! Cursors that tell where the term of each of their documents stands.
 
 ghost use Rattle.std.specs.Prelude.{◌<◌, ◌≡◌, ◌≤◌, length, vec_capacity};
-ghost use Rattle.cursors.specs.Entries.{first, first_positions, most_positions, single};
+ghost use Rattle.docsets.specs.Entries.{first, first_positions, most_positions, single};
 ghost use Rattle.definitions.specs.Postings.{terminated};
 
-use cursors::DocSet;
+use docsets::DocSet;
 
 /// A cursor whose documents have one list of positions each.
 pub trait Positioned: DocSet {

@@ -3,12 +3,10 @@
 ghost use Rattle.std.specs.Prelude.{◌+◌, ◌≡◌, ◌≤◌};
 ghost use Rattle.definitions.specs.Scoring.{max_score};
 ghost use Rattle.intersections.specs.Optionals.{with_optional};
-ghost use Rattle.leaf_scorers.specs.ScoredEntries.{greatest_score};
+ghost use Rattle.docsets.specs.ScoredEntries.{greatest_score};
 
 use common::{AliveBitSet, DocId, Score};
-use cursors::{DocSet, SeekDangerResult};
-use leaf_scorers::{ScoreCombiner, Scorer};
-use members::{move_to, take_score};
+use docsets::{DocSet, ScoreCombiner, Scorer, SeekDangerResult, move_to, take_score};
 
 /// The documents of a required scorer, each with what a combiner makes of its score and of the optional one, where
 /// there is one.

@@ -1,15 +1,15 @@
 -- Every document, by the boost.
 use Rattle.std.proofs.Common.{[], List, ap, arith, filter_map, length, max, refl, suc, sym, zero, ◌*◌, ◌+◌, ◌-◌, ◌∙◌, ◌∷◌, ◌≡◌, ◌≤◌, ℕ}
 use Rattle.std.specs.List.{enumerate_from}
-use Rattle.cursors.specs.Entries.{Entry, from}
+use Rattle.docsets.specs.Entries.{Entry, from}
 use Rattle.definitions.specs.Analyzers.{Analyzer}
 use Rattle.definitions.specs.Answers.{answer_at}
 use Rattle.definitions.specs.Query.{all}
 use Rattle.definitions.specs.Schema.{Schema}
 use Rattle.definitions.specs.Scoring.{Similarity, max_score}
 use Rattle.definitions.specs.Values.{Document}
-use Rattle.leaf_scorers.specs.ScoredEntries.{all_from, greatest_score, pairs_of, rescored_by}
-use Rattle.leaf_scorers.specs.ScoredEntryLaws.{all-from, from-rescored}
+use Rattle.docsets.specs.ScoredEntries.{all_from, greatest_score, pairs_of, rescored_by}
+use Rattle.docsets.specs.ScoredEntryLaws.{all-from, from-rescored}
 use Rattle.segment_reader.specs.SegmentReaders.{max_doc_of}
 use Rattle.segment_reader.specs.declared.segment_reader.SegmentReader.{SegmentReader}
 use Rattle.node_scorers.specs.Scores.{Scores}

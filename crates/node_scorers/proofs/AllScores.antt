@@ -3,15 +3,15 @@ use Rattle.std.proofs.Common.{[], List, None, Some, ap, arith, flat_map, length,
 use Rattle.std.proofs.lemmas.List.{length-map}
 use Rattle.std.specs.List.{AllByRecursion}
 use Rattle.any_scorer.specs.Clauses.{scores_at}
-use Rattle.cursors.specs.Entries.{Entry}
+use Rattle.docsets.specs.Entries.{Entry}
 use Rattle.definitions.specs.Analyzers.{Analyzer}
 use Rattle.definitions.specs.Query.{Query}
 use Rattle.definitions.specs.Refusing.{bound, tree_fault}
 use Rattle.definitions.specs.Schema.{Schema}
 use Rattle.definitions.specs.Scoring.{Similarity}
 use Rattle.definitions.specs.Values.{Document}
-use Rattle.members.specs.MemberLaws.{entries-kept, scores-append}
-use Rattle.members.specs.Members.{entries_at, entries_of, greatest_sum}
+use Rattle.docsets.specs.MemberLaws.{entries-kept, scores-append}
+use Rattle.docsets.specs.Members.{entries_at, entries_of, greatest_sum}
 use Rattle.segment_reader.specs.SegmentReaders.{StandsFor, max_doc_of}
 use Rattle.segment_reader.specs.declared.segment_reader.SegmentReader.{SegmentReader}
 use Rattle.node_scorers.proofs.Earned.{earned, earned_there}

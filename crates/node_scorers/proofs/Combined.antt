@@ -4,8 +4,8 @@ use Rattle.std.proofs.lemmas.Option.{slice_get_within}
 use Rattle.any_scorer.proofs.Bounded.{first_here, later_here}
 use Rattle.any_scorer.proofs.ByClauses.{length_both, sum_both}
 use Rattle.any_scorer.specs.Clauses.{by_best, by_clauses, scores_at, scores_of}
-use Rattle.cursors.specs.Entries.{Entry, Rising, from}
-use Rattle.cursors.specs.EntryLaws.{from-out}
+use Rattle.docsets.specs.Entries.{Entry, Rising, from}
+use Rattle.docsets.specs.EntryLaws.{from-out}
 use Rattle.definitions.proofs.Bounds.{accepted_clauses, accepted_queries}
 use Rattle.definitions.specs.Analyzers.{Analyzer}
 use Rattle.definitions.specs.Postings.{terminated}
@@ -13,9 +13,9 @@ use Rattle.definitions.specs.Query.{Clauses, Queries, Query, boolean, disjunctio
 use Rattle.definitions.specs.Schema.{Schema}
 use Rattle.definitions.specs.Scoring.{Similarity, best_and_tie, natural}
 use Rattle.definitions.specs.Values.{Document}
-use Rattle.leaf_scorers.specs.ScoredEntries.{greatest_score}
-use Rattle.leaf_scorers.specs.ScoredEntryLaws.{by_place}
-use Rattle.members.specs.Members.{entries_at, greatest_sum, scores_in}
+use Rattle.docsets.specs.ScoredEntries.{greatest_score}
+use Rattle.docsets.specs.ScoredEntryLaws.{by_place}
+use Rattle.docsets.specs.Members.{entries_at, greatest_sum, scores_in}
 use Rattle.segment_reader.specs.SegmentReaders.{max_doc_of}
 use Rattle.segment_reader.specs.declared.segment_reader.SegmentReader.{SegmentReader}
 use Rattle.node_scorers.proofs.AllScores.{all_earned, as_many, as_many_scores, greatest_within, none_behind}

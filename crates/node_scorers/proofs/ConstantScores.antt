@@ -1,7 +1,7 @@
 -- One score in place of each.
 use Rattle.std.proofs.Common.{[], List, None, Some, ap, arith, false, filter_map, if◌then◌else◌, max, refl, true, ◌*◌, ◌+◌, ◌∙◌, ◌∷◌, ◌≡◌, ◌≤◌, ℕ, ℤ}
 use Rattle.std.specs.List.{cons_option, enumerate_from}
-use Rattle.cursors.specs.Entries.{Entry, from}
+use Rattle.docsets.specs.Entries.{Entry, from}
 use Rattle.definitions.proofs.Bounds.{accepted_const}
 use Rattle.definitions.specs.Analyzers.{Analyzer}
 use Rattle.definitions.specs.Answers.{answer_at}
@@ -11,8 +11,8 @@ use Rattle.definitions.specs.Schema.{Schema}
 use Rattle.definitions.specs.ScoredLists.{ScoredList, rescored}
 use Rattle.definitions.specs.Scoring.{Similarity, natural, score}
 use Rattle.definitions.specs.Values.{Document}
-use Rattle.leaf_scorers.specs.ScoredEntries.{greatest_score, pairs_of, rescored_by}
-use Rattle.leaf_scorers.specs.ScoredEntryLaws.{from-rescored, pairs-rescored}
+use Rattle.docsets.specs.ScoredEntries.{greatest_score, pairs_of, rescored_by}
+use Rattle.docsets.specs.ScoredEntryLaws.{from-rescored, pairs-rescored}
 use Rattle.node_scorers.specs.Scores.{Scores}
 use Rattle.segment_reader.specs.SegmentReaders.{max_doc_of}
 use Rattle.segment_reader.specs.declared.segment_reader.SegmentReader.{SegmentReader}

@@ -4,8 +4,8 @@ use Rattle.std.specs.List.{cons_option, enumerate_from}
 use Rattle.std.proofs.lemmas.Bool.Decides.{nat_tests}
 use Rattle.any_scorer.proofs.SamePairs.{paired, scores_paired}
 use Rattle.any_scorer.specs.Clauses.{scores_of}
-use Rattle.cursors.specs.Entries.{Entry, Rising, from}
-use Rattle.cursors.specs.EntryLaws.{from-low, from-out}
+use Rattle.docsets.specs.Entries.{Entry, Rising, from}
+use Rattle.docsets.specs.EntryLaws.{from-low, from-out}
 use Rattle.definitions.specs.Analyzers.{Analyzer}
 use Rattle.definitions.specs.Answers.{answer_at, answers}
 use Rattle.definitions.specs.Matching.{matches}
@@ -14,10 +14,10 @@ use Rattle.definitions.specs.Schema.{Schema}
 use Rattle.definitions.specs.ScoredLists.{ScoredList}
 use Rattle.definitions.specs.Scoring.{Similarity, score}
 use Rattle.definitions.specs.Values.{Document}
-use Rattle.leaf_scorers.specs.ScoredEntries.{pairs_of}
-use Rattle.leaf_scorers.specs.ScoredEntryLaws.{by_place}
-use Rattle.members.specs.MemberLaws.{entries-before}
-use Rattle.members.specs.Members.{entries_of, scores_in}
+use Rattle.docsets.specs.ScoredEntries.{pairs_of}
+use Rattle.docsets.specs.ScoredEntryLaws.{by_place}
+use Rattle.docsets.specs.MemberLaws.{entries-before}
+use Rattle.docsets.specs.Members.{entries_of, scores_in}
 
 -- the score of a document that matches
 abbrev pub earned : Schema → Analyzer → Similarity → ℕ → Document → Query → List ℕ

@@ -9,7 +9,7 @@ use Rattle.definitions.specs.Query.{Clauses, Queries, Query, boolean, clause, di
 use Rattle.definitions.specs.Schema.{Schema}
 use Rattle.definitions.specs.Scoring.{Similarity, best_and_tie, clause_scores, natural, query_scores, score}
 use Rattle.definitions.specs.Values.{Document}
-use Rattle.leaf_scorers.specs.CombiningLaws.{sum-cons}
+use Rattle.docsets.specs.CombiningLaws.{sum-cons}
 use Rattle.node_scorers.proofs.Earned.{earned}
 use Rattle.node_scorers.specs.Asked.{asked, each_query}
 

@@ -7,8 +7,7 @@ ghost use Rattle.definitions.specs.Scoring.{max_score, natural};
 ghost use Rattle.node_scorers.specs.Scores.{Scores};
 
 use common::Score;
-use cursors::DocSet;
-use leaf_scorers::{AllScorer, BoostScorer};
+use docsets::{AllScorer, BoostScorer, DocSet};
 use segment_reader::SegmentReader;
 
 /// Every document of a segment, by the boost.

@@ -4,14 +4,13 @@ ghost use Rattle.std.specs.Prelude.{◌≡◌, ◌≤ℤ◌, ◌≤◌, IfOk, ma
 ghost use Rattle.definitions.specs.Query.{Queries, disjunction_max};
 ghost use Rattle.definitions.specs.Scoring as scoring;
 ghost use Rattle.definitions.specs.Scoring.{max_score};
-ghost use Rattle.members.specs.Members.{greatest_sum};
+ghost use Rattle.docsets.specs.Members.{greatest_sum};
 ghost use Rattle.node_scorers.specs.Asked.{each_query};
 ghost use Rattle.node_scorers.specs.Scores.{AllScore, Scores};
 
 use any_scorer::disjunction_max_scorer;
 use common::Score;
-use cursors::DocSet;
-use leaf_scorers::{ListScorer, Scorer};
+use docsets::{DocSet, ListScorer, Scorer};
 use segment_reader::SegmentReader;
 use std::alloc::{AllocError, Global};
 

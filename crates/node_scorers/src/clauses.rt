@@ -4,13 +4,12 @@ ghost use Rattle.std.specs.Prelude.{◌+◌, ◌≡◌, ◌≤◌, IfOk, map, �
 ghost use Rattle.definitions.specs.Query as definitions;
 ghost use Rattle.definitions.specs.Scoring as scoring;
 ghost use Rattle.definitions.specs.Scoring.{max_score};
-ghost use Rattle.members.specs.Members.{greatest_sum};
+ghost use Rattle.docsets.specs.Members.{greatest_sum};
 ghost use Rattle.node_scorers.specs.Asked.{asked};
 ghost use Rattle.node_scorers.specs.Scores.{AllScore, Scores};
 
 use any_scorer::boolean_scorer;
-use cursors::DocSet;
-use leaf_scorers::{ListScorer, Scorer};
+use docsets::{DocSet, ListScorer, Scorer};
 use segment_reader::SegmentReader;
 use std::alloc::{AllocError, Global};
 

@@ -8,8 +8,7 @@ ghost use Rattle.node_scorers.specs.Scores.{Scores};
 ghost use Rattle.segment_reader.specs.declared.segment_reader.SegmentReader.{SegmentReader};
 
 use common::Score;
-use cursors::DocSet;
-use leaf_scorers::{ConstScorer, Scorer};
+use docsets::{ConstScorer, DocSet, Scorer};
 
 /// The documents of a scorer, each with the same score, which is the boost times the constant.
 pub fn constant_scorer<S: Scorer>(scorer: S, score: Score) -> ConstScorer<S>

@@ -5,10 +5,10 @@ ghost use Rattle.definitions.specs.Blocks.{block_len};
 ghost use Rattle.layouts.specs.Deltas.{IsAscendingFrom, deltas, next_of};
 ghost use Rattle.layouts.specs.PackedBlocks.{IsPacked};
 
+use crate::bit_unpacker::unpack;
 use crate::block_size::{COMPRESSION_BLOCK_SIZE, compressed_block_size};
+use crate::delta_sums::documents;
 use crate::offset::wrapped_after;
-use crate::summing::documents;
-use crate::unpacking::unpack;
 
 /// Room for the numbers of a block, and those that were read last.
 #[derive(Drop)]

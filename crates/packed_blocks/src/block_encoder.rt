@@ -5,9 +5,9 @@ ghost use Rattle.definitions.specs.Blocks.{block_len};
 ghost use Rattle.layouts.specs.Deltas.{IsAscendingFrom, deltas, next_of};
 ghost use Rattle.layouts.specs.PackedBlocks.{IsBlock, IsSortedBlock};
 
+use crate::bit_packer::{pack, width_of};
 use crate::block_size::{COMPRESSION_BLOCK_SIZE, compressed_block_size};
 use crate::offset::least_after;
-use crate::packing::{pack, width_of};
 
 /// Room for the bytes of a block.
 #[derive(Drop)]

@@ -7,10 +7,10 @@ ghost use Rattle.definitions.specs.Blocks.{block_len};
 ghost use Rattle.definitions.specs.declared.fault.Fault.TheVariants as faults;
 ghost use Rattle.layouts.specs.PackedBlocks.{IsBlock, IsSortedBlock};
 
+use crate::bit_packer::width_of;
 use crate::block_decoder::BlockDecoder;
 use crate::block_size::{COMPRESSION_BLOCK_SIZE, compressed_block_size};
 use crate::offset::least_after;
-use crate::packing::width_of;
 use definitions::Fault;
 
 impl BlockDecoder {

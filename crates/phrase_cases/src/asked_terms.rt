@@ -3,12 +3,11 @@
 ghost use Rattle.std.specs.Prelude.{◌≡◌, ◌≤◌, map, true};
 ghost use Rattle.definitions.specs.Scoring.{greatest_of};
 
-use case_lines::Refusal;
-use document_lines::{number_in, part, text_in};
-use inverted_index_reader::InvertedIndexReader;
+use case_lines::{Refusal, number_in, part, text_in};
 use options::IndexRecordOption;
 use schema::{Field, Term};
 use segment_postings::SegmentPostings;
+use segment_reader::InvertedIndexReader;
 use serde_json::Value;
 use std::alloc::Global;
 

@@ -6,15 +6,14 @@ ghost use Rattle.document_indexer.specs.Indexers.{HasIndexed};
 
 use crate::held::Held;
 use bytes::Bytes;
-use case_lines::{Arguments, Refusal, number};
+use case_lines::{Arguments, Refusal, document_of_values, number};
 use common::{Analyzer, RawAndDefault, TERMINATED};
 use definitions::Fault;
 use document::CompactDoc;
 use document_indexer::DocumentIndexer;
-use document_lines::document_of_values;
 use fieldnorms::FieldNormReaders;
-use inverted_index_reader::InvertedIndexReader;
 use schema::Schema;
+use segment_reader::InvertedIndexReader;
 use serde_json::Value;
 use std::alloc::Global;
 

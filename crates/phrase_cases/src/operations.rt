@@ -2,8 +2,7 @@
 
 use crate::held::Held;
 use crate::{indexes, phrase_rows, prefix_rows, sinks};
-use case_lines::{Arguments, Operations, Refusal};
-use document_lines::made;
+use case_lines::{Arguments, Operations, Refusal, made};
 use serde_json::Value;
 
 impl Operations for Held {

@@ -1,19 +1,18 @@
 //! The documents where a phrase stands: `TERMS, SLOP`, and then for scores the sum of the weights and the boost.
 
 ghost use Rattle.std.specs.Prelude.{◌<◌, ◌≡◌, ◌≤◌, length, replicate};
-ghost use Rattle.cursors.specs.Entries.{first};
+ghost use Rattle.docsets.specs.Entries.{first};
 ghost use Rattle.definitions.specs.Postings.{terminated};
 
 use crate::asked_terms::{offsets_fit, postings_of_terms};
 use case_lines::{Arguments, Refusal, number, numbers, pair, triple};
 use common::{MAX_SCORE, Score, TERMINATED};
-use cursors::DocSet;
+use docsets::{DocSet, Scorer};
 use fieldnorms::FieldNormReader;
 use intersections::Positioned;
-use inverted_index_reader::InvertedIndexReader;
-use leaf_scorers::Scorer;
 use phrases::{PhraseScorer, PostingsWithOffset};
 use segment_postings::SegmentPostings;
+use segment_reader::InvertedIndexReader;
 use serde_json::Value;
 use std::alloc::Global;
 use term_scorer::Similarity;

@@ -5,9 +5,9 @@ ghost use Rattle.std.specs.Prelude.{◌≡◌};
 use crate::phrase_rows::{phrase_of, similarity};
 use case_lines::{Arguments, Refusal, number, pair, triple};
 use common::{DocId, Score};
-use inverted_index_reader::InvertedIndexReader;
-use leaf_scorers::Scorer;
+use docsets::Scorer;
 use phrases::{BlockSink, Sink, for_each_docset_buffered, for_each_pruning_scorer};
+use segment_reader::InvertedIndexReader;
 use serde_json::Value;
 use std::alloc::Global;
 

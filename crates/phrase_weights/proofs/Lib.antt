@@ -16,3 +16,4 @@ pub mod WholeTerms
 pub mod PrefixWhole
 pub mod SuffixesRead
 pub mod PrefixWeighed
+pub mod PrefixEnds

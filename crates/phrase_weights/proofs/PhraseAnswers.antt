@@ -5,7 +5,7 @@ use Rattle.std.proofs.lemmas.List.{length-map}
 use Rattle.std.proofs.lemmas.Simd.{map-map}
 use Rattle.std.specs.List.{cons_option, enumerate_from, list_any}
 use Rattle.definitions.specs.ScoredLists.{ScoredList}
-use Rattle.cursors.specs.Entries.{Entry}
+use Rattle.docsets.specs.Entries.{Entry}
 use Rattle.definitions.specs.Analyzers.{Analyzer}
 use Rattle.definitions.specs.Answers.{answer_at, answers}
 use Rattle.definitions.specs.Phrases.{adjusted, by_offset, phrase_count, phrase_places}
@@ -17,9 +17,9 @@ use Rattle.definitions.specs.Schema.{Schema, has_positions}
 use Rattle.definitions.specs.Scoring.{Similarity, greatest_of, length_id, part, phrase_field, phrase_score, score, weight_sum}
 use Rattle.definitions.specs.Values.{Document}
 use Rattle.intersections.specs.Meetings.{meeting}
-use Rattle.leaf_scorers.specs.ScoredEntries.{pairs_of}
-use Rattle.members.specs.MemberLaws.{listed-end, listed-found, listed-out, listed-same, listed-skip}
-use Rattle.members.specs.Members.{at_document, at_least, enough, entries_at, joining, listed}
+use Rattle.docsets.specs.ScoredEntries.{pairs_of}
+use Rattle.docsets.specs.MemberLaws.{listed-end, listed-found, listed-out, listed-same, listed-skip}
+use Rattle.docsets.specs.Members.{at_document, at_least, enough, entries_at, joining, listed}
 use Rattle.phrases.proofs.PhrasePlaces.{phrase-places}
 use Rattle.phrases.specs.PhraseEntries.{adjusted_terms, phrased, placed}
 use Rattle.phrases.specs.Places.{places_of}

@@ -2,13 +2,13 @@
 use Rattle.std.proofs.Common.{[], List, ap, arith, get_or, length, map, refl, sym, ◌-◌, ◌<◌, ◌≡◌, ◌≤◌, ◌∙◌, ◌∷◌, ℕ}
 use Rattle.std.proofs.lemmas.List.{length-map}
 use Rattle.std.specs.List.{AllByRecursion}
-use Rattle.cursors.specs.EntryLaws.{from-out}
-use Rattle.cursors.specs.Entries.{Entry, from, most_positions}
+use Rattle.docsets.specs.EntryLaws.{from-out}
+use Rattle.docsets.specs.Entries.{Entry, from, most_positions}
 use Rattle.definitions.specs.Query.{Terms}
 use Rattle.definitions.specs.Scoring.{greatest_of, phrase_field}
 use Rattle.definitions.specs.Terms.{field_of}
-use Rattle.leaf_scorers.specs.ScoredEntries.{greatest_score}
-use Rattle.leaf_scorers.specs.ScoredEntryLaws.{by_place}
+use Rattle.docsets.specs.ScoredEntries.{greatest_score}
+use Rattle.docsets.specs.ScoredEntryLaws.{by_place}
 use Rattle.phrase_weights.specs.ReadTerms.{placed_left}
 use Rattle.phrases.proofs.Adjusted.{adjusted-is}
 use Rattle.phrases.proofs.MeetingEntries.{bound-meeting}

@@ -8,13 +8,13 @@ use Rattle.definitions.specs.Query.{Terms, phrase}
 use Rattle.definitions.specs.Schema.{Schema}
 use Rattle.definitions.specs.Scoring.{Similarity, length_id, phrase_field, weight_sum}
 use Rattle.definitions.specs.Values.{Document}
-use Rattle.leaf_scorers.specs.ScoredEntries.{pairs_of}
+use Rattle.docsets.specs.ScoredEntries.{pairs_of}
 use Rattle.phrase_weights.proofs.PhraseAnswers.{AreScores, no_answers, phrase_answers, phrase_places_answer}
 use Rattle.phrase_weights.specs.PlacedAnswers.{placed_answers}
 use Rattle.phrase_weights.specs.ReadTerms.{HasMissing, placed_entries}
 use Rattle.phrases.specs.PhraseEntries.{adjusted_terms, phrased}
 use Rattle.term_scorer.specs.TermScores.{TermSimilarity, score_by}
-use Rattle.term_weight.specs.LengthIds.{AreIds}
+use Rattle.segment_reader.specs.LengthIds.{AreIds}
 
 module _ (schema : Schema) (analyze : Analyzer) (sim : Similarity) (b : ℕ) (terms : Terms) (slop : ℕ) (sorted : by_offset terms ≡ terms) where
   -- the sum of the weights, under the boost

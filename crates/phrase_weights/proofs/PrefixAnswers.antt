@@ -2,7 +2,7 @@
 use Rattle.std.proofs.Common.{[], Bool, List, None, Option, Some, ap, arith, false, filter_map, if◌then◌else◌, map, nat_lt, refl, slice_get, suc, sym, true, ◌*◌, ◌++◌, ◌+◌, ◌-◌, ◌≡◌, ◌∙◌, ◌∷◌, ℕ}
 use Rattle.std.specs.List.{cons_option, enumerate_from, list_any}
 use Rattle.std.specs.Option.{option_map_or}
-use Rattle.cursors.specs.Entries.{Entry, single}
+use Rattle.docsets.specs.Entries.{Entry, single}
 use Rattle.definitions.specs.Analyzers.{Analyzer}
 use Rattle.definitions.specs.Answers.{answer_at, answers}
 use Rattle.definitions.specs.Indexing.{terms_of}
@@ -12,8 +12,8 @@ use Rattle.definitions.specs.Recorded.{positions_of}
 use Rattle.definitions.specs.Schema.{Schema}
 use Rattle.definitions.specs.Scoring.{Similarity, prefix_score}
 use Rattle.definitions.specs.Values.{Document}
-use Rattle.leaf_scorers.specs.ScoredEntries.{pairs_of}
-use Rattle.members.specs.Members.{entries_at}
+use Rattle.docsets.specs.ScoredEntries.{pairs_of}
+use Rattle.docsets.specs.Members.{entries_at}
 use Rattle.phrase_weights.proofs.PrefixMatches.{AreRecorded, AreSuffixes, prefix_continues}
 use Rattle.phrase_weights.proofs.TermsTogether.{read_from}
 use Rattle.phrases.proofs.PhrasePlaces.{last-of}

@@ -13,12 +13,12 @@ use Rattle.definitions.specs.Recorded.{count_of, holds, positions_of}
 use Rattle.definitions.specs.Schema.{Kind, Schema}
 use Rattle.definitions.specs.Terms.{field_of, payload_of, term_bytes, type_code}
 use Rattle.definitions.specs.Values.{Document}
-use Rattle.inverted_index_reader.proofs.ReaderCalls.{info_of_held}
-use Rattle.inverted_index_reader.proofs.TermsHeld.{none_held}
-use Rattle.inverted_index_reader.specs.Dictionaries as dictionaries
-use Rattle.inverted_index_reader.specs.FieldDictionaries.{IsFound}
-use Rattle.inverted_index_reader.specs.Readers.{Contents, dictionary_in, info_in, term_held}
-use Rattle.inverted_index_reader.specs.declared.term_info.TermInfo.{TermInfo}
+use Rattle.segment_reader.proofs.ReaderCalls.{info_of_held}
+use Rattle.segment_reader.proofs.TermsHeld.{none_held}
+use Rattle.segment_reader.specs.Dictionaries as dictionaries
+use Rattle.segment_reader.specs.FieldDictionaries.{IsFound}
+use Rattle.segment_reader.specs.Readers.{Contents, dictionary_in, info_in, term_held}
+use Rattle.segment_reader.specs.declared.term_info.TermInfo.{TermInfo}
 use Rattle.definitions.specs.KeptLengths.{norms_of}
 use Rattle.layouts.specs.InvertedIndexes.{IndexedTerm, term_of_key}
 use Rattle.phrase_weights.proofs.AnyLaws.{any_and, any_filter, any_same}

@@ -4,7 +4,7 @@ use Rattle.std.proofs.lemmas.Bool.Decides.{nat_tests}
 use Rattle.std.proofs.lemmas.List.Sums.{sum_by-append}
 use Rattle.std.specs.List.{AllByRecursion, cons_option, enumerate_from, list_any, starts_with}
 use Rattle.std.specs.Option.{option_map_or}
-use Rattle.cursors.specs.Entries.{Entry, single}
+use Rattle.docsets.specs.Entries.{Entry, single}
 use Rattle.definitions.specs.Analyzers.{Analyzer}
 use Rattle.definitions.specs.Indexing.{Placed, terms_of}
 use Rattle.definitions.specs.Phrases.{prefix_stands}
@@ -12,7 +12,7 @@ use Rattle.definitions.specs.Postings.{posting_of}
 use Rattle.definitions.specs.Recorded.{ascending, count_of, holds, insert_ascending, is_recorded, occurrences, positions_of}
 use Rattle.definitions.specs.Schema.{Schema, has_positions}
 use Rattle.definitions.specs.Values.{Document}
-use Rattle.members.specs.Members.{entries_at, entries_of}
+use Rattle.docsets.specs.Members.{entries_at, entries_of}
 use Rattle.phrase_weights.proofs.AnyLaws.{any_and, any_each, any_filter, any_same, any_swap, positive_sum, some_filtered}
 use Rattle.phrase_weights.proofs.PhraseAnswers.{none_held}
 use Rattle.phrase_weights.proofs.TermsTogether.{read_entry, read_from}

@@ -7,7 +7,7 @@ use Rattle.definitions.specs.Analyzers.{Analyzer}
 use Rattle.definitions.specs.Recorded.{is_recorded}
 use Rattle.definitions.specs.Schema.{Kind, Schema, bool_kind, bytes_kind, date_kind, facet_kind, field_has, has_positions, i64_kind, ip_addr_kind, json_kind, text_kind, u64_kind}
 use Rattle.definitions.specs.Terms.{field_of, is_text_term, payload_of, term_bytes}
-use Rattle.inverted_index_reader.specs.Dictionaries.{Placed}
+use Rattle.segment_reader.specs.Dictionaries.{Placed}
 use Rattle.layouts.specs.InvertedIndexes.{term_of_key}
 use Rattle.phrase_weights.proofs.PrefixHeld.{what_follows}
 use Rattle.phrase_weights.proofs.PrefixMatches.{AreRecorded}

@@ -13,14 +13,14 @@ use Rattle.std.specs.declared.cmp.Ordering.{Ordering}
 use Rattle.std.specs.declared.cmp.Ordering.TheVariants.{Equal, Greater, Less}
 use Rattle.definitions.proofs.PrefixRanges.{end_with, prefix_range}
 use Rattle.definitions.specs.Prefixes.{is_before, is_from, prefix_end}
-use Rattle.cursors.specs.Entries.{Entry}
-use Rattle.inverted_index_reader.proofs.DictionariesPlaced.{is_dictionary}
-use Rattle.inverted_index_reader.proofs.Found.{TermsAscend-prop}
-use Rattle.inverted_index_reader.proofs.ReaderCalls.{dictionary_is}
-use Rattle.inverted_index_reader.specs.Dictionaries.{Placed, Walked, ahead}
-use Rattle.inverted_index_reader.specs.Readers.{Contents, Reader, dictionary_in, info_in}
-use Rattle.inverted_index_reader.specs.Searching as searching
-use Rattle.inverted_index_reader.specs.Searching.{between, is_below}
+use Rattle.docsets.specs.Entries.{Entry}
+use Rattle.segment_reader.proofs.DictionariesPlaced.{is_dictionary}
+use Rattle.segment_reader.proofs.Found.{TermsAscend-prop}
+use Rattle.segment_reader.proofs.ReaderCalls.{dictionary_is}
+use Rattle.segment_reader.specs.Dictionaries.{Placed, Walked, ahead}
+use Rattle.segment_reader.specs.Readers.{Contents, Reader, dictionary_in, info_in}
+use Rattle.segment_reader.specs.Searching as searching
+use Rattle.segment_reader.specs.Searching.{between, is_below}
 use Rattle.layouts.specs.InvertedIndexes.{IndexedField}
 use Rattle.layouts.specs.TermSections.{TermsAscend}
 use Rattle.phrase_weights.specs.Suffixes.{HaveBytes, read_places}

@@ -4,7 +4,7 @@ use Rattle.std.proofs.lemmas.Slice.Eq.{bytes_eq-Decides}
 use Rattle.std.specs.Int.{to_be_bytes, w32}
 use Rattle.std.specs.List.{AllByRecursion}
 use Rattle.std.specs.Option.{option_map_or}
-use Rattle.cursors.specs.Entries.{Entry, single}
+use Rattle.docsets.specs.Entries.{Entry, single}
 use Rattle.definitions.specs.Analyzers.{Analyzer}
 use Rattle.definitions.specs.Answers.{answers}
 use Rattle.definitions.specs.Phrases.{by_offset, last_and_rest, last_offset, phrase_count, whole_terms}
@@ -14,10 +14,10 @@ use Rattle.definitions.specs.Schema.{Kind, Schema}
 use Rattle.definitions.specs.Scoring.{Similarity, greatest_of}
 use Rattle.definitions.specs.Terms.{field_of, has_kind, kind_in, payload_of, term_bytes, type_code}
 use Rattle.definitions.specs.Values.{Document}
-use Rattle.inverted_index_reader.specs.Readers.{dictionary_in}
+use Rattle.segment_reader.specs.Readers.{dictionary_in}
 use Rattle.layouts.specs.InvertedIndexes.{term_of_key}
-use Rattle.leaf_scorers.specs.ScoredEntries.{greatest_score, pairs_of}
-use Rattle.members.specs.Members.{entries_at}
+use Rattle.docsets.specs.ScoredEntries.{greatest_score, pairs_of}
+use Rattle.docsets.specs.Members.{entries_at}
 use Rattle.phrase_weights.proofs.PrefixHeld.{prefix_suffixes, suffixes}
 use Rattle.phrase_weights.proofs.PrefixRecorded.{all_recorded}
 use Rattle.phrase_weights.proofs.PrefixWhole.{last_apart, none_prefix_answers, whole_are, whole_prefix_answers, whole_sorted}

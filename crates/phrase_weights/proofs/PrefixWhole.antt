@@ -3,7 +3,7 @@ use Rattle.std.proofs.Common.{[], List, None, Option, Some, ap, arith, false, fi
 use Rattle.std.proofs.lemmas.Bool.Decides.{nat_tests}
 use Rattle.std.specs.List.{AllByRecursion, cons_option, enumerate_from, list_any}
 use Rattle.std.specs.Option.{option_map_or}
-use Rattle.cursors.specs.Entries.{Entry, from}
+use Rattle.docsets.specs.Entries.{Entry, from}
 use Rattle.definitions.specs.Analyzers.{Analyzer}
 use Rattle.definitions.specs.Answers.{answer_at, answers}
 use Rattle.definitions.specs.Indexing.{terms_of}
@@ -13,7 +13,7 @@ use Rattle.definitions.specs.Recorded.{positions_of}
 use Rattle.definitions.specs.Schema.{Schema}
 use Rattle.definitions.specs.Scoring.{Similarity, prefix_score}
 use Rattle.definitions.specs.Values.{Document}
-use Rattle.leaf_scorers.specs.ScoredEntries.{pairs_of}
+use Rattle.docsets.specs.ScoredEntries.{pairs_of}
 use Rattle.phrase_weights.proofs.PrefixAnswers.{answer_is, moved, prefix_answers}
 use Rattle.phrase_weights.proofs.PrefixMatches.{AreRecorded, AreSuffixes}
 use Rattle.phrase_weights.proofs.TermsTogether.{read_from}

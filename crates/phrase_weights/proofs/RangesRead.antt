@@ -3,9 +3,9 @@ use Rattle.std.proofs.Common.{[], List, None, Option, Some, ap, arith, map, opti
 use Rattle.std.proofs.lemmas.List.{append_assoc, map-append}
 use Rattle.std.specs.Option.{option_map_or}
 use Rattle.std.specs.Prelude.{slice_index}
-use Rattle.inverted_index_reader.specs.Dictionaries.{Placed, Walked, advanced}
-use Rattle.inverted_index_reader.specs.Readers.{postings_in}
-use Rattle.inverted_index_reader.specs.declared.term_info.TermInfo.{TermInfo}
+use Rattle.segment_reader.specs.Dictionaries.{Placed, Walked, advanced}
+use Rattle.segment_reader.specs.Readers.{postings_in}
+use Rattle.segment_reader.specs.declared.term_info.TermInfo.{TermInfo}
 use Rattle.layouts.specs.InvertedIndexes.{IndexedField}
 use Rattle.phrase_weights.specs.ReadTerms.{with_positions}
 use Rattle.phrase_weights.specs.Suffixes.{HaveBytes, read_places}

@@ -4,20 +4,20 @@ use Rattle.std.proofs.lemmas.Bool.Decides.{nat_tests}
 use Rattle.std.proofs.lemmas.Slice.Eq.{bytes_eq-Decides}
 use Rattle.std.specs.List.{AllByRecursion, starts_with}
 use Rattle.std.specs.Option.{option_map_or}
-use Rattle.cursors.specs.Entries.{Entry}
+use Rattle.docsets.specs.Entries.{Entry}
 use Rattle.definitions.specs.Analyzers.{Analyzer}
 use Rattle.definitions.specs.KeptLengths.{norms_of}
 use Rattle.definitions.specs.Postings.{Posting, postings}
 use Rattle.definitions.specs.Schema.{Schema}
 use Rattle.definitions.specs.Terms.{field_of, payload_of}
 use Rattle.definitions.specs.Values.{Document}
-use Rattle.inverted_index_reader.proofs.DictionariesPlaced.{term_found}
-use Rattle.inverted_index_reader.proofs.ReaderCalls.{dictionary_is}
-use Rattle.inverted_index_reader.proofs.TermsHeld.{found_all}
-use Rattle.inverted_index_reader.specs.Dictionaries as dictionaries
-use Rattle.inverted_index_reader.specs.FieldDictionaries.{IsFound, terms_in}
-use Rattle.inverted_index_reader.specs.Readers.{dictionary_in, info_in, postings_in, term_in}
-use Rattle.inverted_index_reader.specs.declared.term_info.TermInfo.{TermInfo}
+use Rattle.segment_reader.proofs.DictionariesPlaced.{term_found}
+use Rattle.segment_reader.proofs.ReaderCalls.{dictionary_is}
+use Rattle.segment_reader.proofs.TermsHeld.{found_all}
+use Rattle.segment_reader.specs.Dictionaries as dictionaries
+use Rattle.segment_reader.specs.FieldDictionaries.{IsFound, terms_in}
+use Rattle.segment_reader.specs.Readers.{dictionary_in, info_in, postings_in, term_in}
+use Rattle.segment_reader.specs.declared.term_info.TermInfo.{TermInfo}
 use Rattle.layouts.specs.InvertedIndexes.{HasPostingsOf, IndexedField, IndexedTerm, term_of_key}
 use Rattle.phrase_weights.proofs.PrefixTerms.{all_filtered, all_found, ascend_in}
 use Rattle.phrase_weights.proofs.TermsTogether.{read_from}

@@ -3,13 +3,13 @@ use Rattle.std.proofs.Common.{[], IfNone, IfSome, List, None, Option, Some, ap, 
 use Rattle.std.proofs.lemmas.List.{map-append, take_more}
 use Rattle.std.specs.List.{AllByRecursion}
 use Rattle.definitions.specs.Query.{Terms}
-use Rattle.cursors.specs.Entries.{from}
+use Rattle.docsets.specs.Entries.{from}
 use Rattle.definitions.specs.Analyzers.{Analyzer}
 use Rattle.definitions.specs.Postings.{Posting, postings}
 use Rattle.definitions.specs.Schema.{Schema, with_freqs_and_positions}
 use Rattle.definitions.specs.Values.{Document}
-use Rattle.inverted_index_reader.specs.OpenedTerms.{entry_as}
-use Rattle.inverted_index_reader.specs.Readers.{Contents, Reader, postings_held}
+use Rattle.segment_reader.specs.OpenedTerms.{entry_as}
+use Rattle.segment_reader.specs.Readers.{Contents, Reader, postings_held}
 use Rattle.phrase_weights.specs.ReadTerms.{placed_entries, placed_left, with_positions}
 use Rattle.segment_postings.specs.Cursors.{entries_left}
 use Rattle.segment_postings.specs.declared.segment_postings.SegmentPostings.{SegmentPostings}

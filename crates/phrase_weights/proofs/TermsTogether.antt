@@ -2,7 +2,7 @@
 use Rattle.std.proofs.Common.{[], Bool, List, ap, arith, false, filter_map, flat_map, if◌then◌else◌, length, map, refl, suc, sym, true, true≢false, ◌&&◌, ◌++◌, ◌+◌, ◌-◌, ◌<◌, ◌==◌, ◌≡◌, ◌≤◌, ◌∙◌, ◌∷◌, None, Some, ℕ}
 use Rattle.std.proofs.lemmas.Bool.Decides.{nat_tests}
 use Rattle.std.specs.List.{cons_option, enumerate_from, list_all}
-use Rattle.cursors.specs.Entries.{Entry}
+use Rattle.docsets.specs.Entries.{Entry}
 use Rattle.definitions.specs.Analyzers.{Analyzer}
 use Rattle.definitions.specs.Phrases.{adjusted}
 use Rattle.definitions.specs.Postings.{Posting, posting_of}
@@ -10,7 +10,7 @@ use Rattle.definitions.specs.Query.{Terms}
 use Rattle.definitions.specs.Recorded.{count_of, holds, positions_of}
 use Rattle.definitions.specs.Schema.{Schema}
 use Rattle.definitions.specs.Values.{Document}
-use Rattle.members.specs.Members.{entries_at, entries_of}
+use Rattle.docsets.specs.Members.{entries_at, entries_of}
 use Rattle.phrases.specs.PhraseEntries.{placed}
 
 -- a posting whose count and positions are read

@@ -2,7 +2,7 @@
 use Rattle.std.proofs.Common.{[], Bool, List, None, Option, Some, ap, arith, false, filter_map, if◌then◌else◌, length, map, max, nat_lt, refl, subst, sym, true, true≢false, ◌&&◌, ◌*◌, ◌+◌, ◌-◌, ◌==◌, ◌≡◌, ◌≤◌, ◌∙◌, ◌∷◌, get_or, ℕ}
 use Rattle.std.proofs.lemmas.Bool.Decides.{nat_tests}
 use Rattle.std.specs.List.{AllByRecursion, cons_option, enumerate_from, list_all}
-use Rattle.cursors.specs.Entries.{AreSingle, Entry, from, most_positions, single}
+use Rattle.docsets.specs.Entries.{AreSingle, Entry, from, most_positions, single}
 use Rattle.definitions.specs.Analyzers.{Analyzer}
 use Rattle.definitions.specs.Answers.{answer_at, answers}
 use Rattle.definitions.specs.Phrases.{phrase_count, phrase_places}
@@ -12,7 +12,7 @@ use Rattle.definitions.specs.Recorded.{count_of, holds, positions_of}
 use Rattle.definitions.specs.Schema.{Schema}
 use Rattle.definitions.specs.Scoring.{Similarity, phrase_score, score}
 use Rattle.definitions.specs.Values.{Document}
-use Rattle.leaf_scorers.specs.ScoredEntries.{greatest_score}
+use Rattle.docsets.specs.ScoredEntries.{greatest_score}
 use Rattle.phrase_weights.proofs.PhraseAnswers.{none_held}
 use Rattle.phrase_weights.proofs.TermsTogether.{read_entry, read_from}
 use Rattle.phrase_weights.specs.PlacedAnswers.{placed_answers, placed_entry, stands_whole, whole_answers, whole_at}

@@ -1,7 +1,7 @@
 -- The documents where phrases stand, with the places.
 use Rattle.std.specs.Prelude.{[], ◌*◌, ◌==◌, ◌∷◌, Bool, List, None, Option, Some, filter_map, if◌then◌else◌, length, nat_lt, ℕ}
 use Rattle.std.specs.List.{enumerate_from, list_all}
-use Rattle.cursors.specs.Entries.{Entry}
+use Rattle.docsets.specs.Entries.{Entry}
 use Rattle.definitions.specs.Analyzers.{Analyzer}
 use Rattle.definitions.specs.Phrases.{phrase_count, phrase_places}
 use Rattle.definitions.specs.Query.{Terms}

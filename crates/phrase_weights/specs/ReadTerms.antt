@@ -1,10 +1,10 @@
 -- What is read of the terms of a phrase.
 use Rattle.std.specs.Prelude.{[], ◌<◌, ◌≡◌, List, length, map, slice_index_or, ℕ}
-use Rattle.cursors.specs.Entries.{Entry}
+use Rattle.docsets.specs.Entries.{Entry}
 use Rattle.definitions.specs.Postings.{Posting}
 use Rattle.definitions.specs.Query.{Terms}
 use Rattle.definitions.specs.Schema.{with_freqs_and_positions}
-use Rattle.inverted_index_reader.specs.OpenedTerms.{entry_as}
+use Rattle.segment_reader.specs.OpenedTerms.{entry_as}
 use Rattle.segment_postings.specs.Cursors.{entries_left}
 use Rattle.segment_postings.specs.declared.segment_postings.SegmentPostings.{SegmentPostings}
 

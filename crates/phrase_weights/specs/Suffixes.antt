@@ -1,12 +1,12 @@
 -- The terms that begin with a prefix, as a reader keeps them.
 use Rattle.std.specs.Prelude.{◌<◌, ◌≡◌, List, filter, map, nat_eq, slice_index, true, ℕ}
 use Rattle.std.specs.List.{AllByRecursion, starts_with}
-use Rattle.cursors.specs.Entries.{Entry}
+use Rattle.docsets.specs.Entries.{Entry}
 use Rattle.definitions.specs.Recorded.{is_recorded}
 use Rattle.definitions.specs.Schema.{Schema, field_has, has_positions}
 use Rattle.definitions.specs.Terms.{field_of, has_kind, payload_of}
-use Rattle.inverted_index_reader.specs.Dictionaries.{Placed}
-use Rattle.inverted_index_reader.specs.Readers.{Reader, dictionary_in, postings_in}
+use Rattle.segment_reader.specs.Dictionaries.{Placed}
+use Rattle.segment_reader.specs.Readers.{Reader, dictionary_in, postings_in}
 use Rattle.layouts.specs.InvertedIndexes.{IndexedField}
 use Rattle.phrase_weights.specs.ReadTerms.{with_positions}
 

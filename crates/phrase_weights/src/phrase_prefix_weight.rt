@@ -1,8 +1,8 @@
 //! The weight of a phrase whose last term is known by its first bytes.
 
 ghost use Rattle.std.specs.Prelude.{[], ◌*◌, ◌≡◌, ◌≤ℤ◌, ◌≤◌, IfNone, IfOk, IfSome, List, length, map, pos};
-ghost use Rattle.cursors.specs.EntryLaws.{DontFall-prop};
-ghost use Rattle.cursors.specs.Entries.{from};
+ghost use Rattle.docsets.specs.EntryLaws.{DontFall-prop};
+ghost use Rattle.docsets.specs.Entries.{from};
 ghost use Rattle.definitions.specs.Analyzers.{Analyzer};
 ghost use Rattle.definitions.specs.Answers.{answers};
 ghost use Rattle.definitions.specs.Phrases.{by_offset, whole_terms};
@@ -11,7 +11,7 @@ ghost use Rattle.definitions.specs.Schema.{Schema};
 ghost use Rattle.definitions.specs.Scoring.{DontFall, greatest_of, max_score, natural, weight_sum};
 ghost use Rattle.definitions.specs.Scoring as scoring;
 ghost use Rattle.definitions.specs.Values.{Document};
-ghost use Rattle.leaf_scorers.specs.ScoredEntries.{greatest_score, pairs_of};
+ghost use Rattle.docsets.specs.ScoredEntries.{greatest_score, pairs_of};
 ghost use Rattle.phrase_weights.specs.PlacedAnswers.{whole_weight};
 ghost use Rattle.phrase_weights.specs.Suffixes.{IsSearched, suffix_places};
 ghost use Rattle.segment_reader.specs.SegmentReaders.{StandsFor, index_of, max_doc_of};
@@ -19,7 +19,7 @@ ghost use Rattle.segment_reader.specs.SegmentReaders.{StandsFor, index_of, max_d
 use crate::read_suffixes::read_suffixes;
 use crate::whole_phrase::{WholePhrase, whole_phrase};
 use common::Score;
-use cursors::DocSet;
+use docsets::DocSet;
 use phrases::PhrasePrefixScorer;
 use segment_postings::SegmentPostings;
 use segment_reader::SegmentReader;

@@ -1,8 +1,8 @@
 //! The weight of a phrase.
 
 ghost use Rattle.std.specs.Prelude.{[], ◌*◌, ◌≡◌, ◌≤ℤ◌, ◌≤◌, IfNone, IfOk, IfSome, List, length, map, pos};
-ghost use Rattle.cursors.specs.EntryLaws.{DontFall-prop};
-ghost use Rattle.cursors.specs.Entries.{from, most_positions};
+ghost use Rattle.docsets.specs.EntryLaws.{DontFall-prop};
+ghost use Rattle.docsets.specs.Entries.{from, most_positions};
 ghost use Rattle.definitions.specs.Analyzers.{Analyzer};
 ghost use Rattle.definitions.specs.Answers.{answers};
 ghost use Rattle.definitions.specs.Phrases.{by_offset};
@@ -11,19 +11,18 @@ ghost use Rattle.definitions.specs.Schema.{Schema};
 ghost use Rattle.definitions.specs.Scoring.{DontFall, greatest_of, max_score, natural, weight_sum};
 ghost use Rattle.definitions.specs.Scoring as scoring;
 ghost use Rattle.definitions.specs.Values.{Document};
-ghost use Rattle.leaf_scorers.specs.ScoredEntries.{greatest_score, pairs_of};
+ghost use Rattle.docsets.specs.ScoredEntries.{greatest_score, pairs_of};
 ghost use Rattle.phrase_weights.specs.PlacedAnswers.{placed_answers};
 ghost use Rattle.segment_reader.specs.SegmentReaders.{StandsFor, max_doc_of};
 
 use crate::read_terms::read_terms;
 use common::Score;
-use cursors::DocSet;
+use docsets::DocSet;
 use phrases::{PhraseScorer, PostingsWithOffset};
 use segment_postings::SegmentPostings;
-use segment_reader::SegmentReader;
+use segment_reader::{SegmentReader, lengths_of_field};
 use std::alloc::{AllocError, Global};
 use term_scorer::Similarity;
-use term_weight::lengths_of_field;
 use terms::Term;
 
 /// Documents where a phrase stands, by the sum of its terms' weights and the norms of their lengths. The terms and the

@@ -4,20 +4,19 @@ ghost use Rattle.std.specs.Prelude.{[], ◌<◌, ◌≡◌, ◌≤◌, IfOk, Som
 ghost use Rattle.std.specs.List.{AllByRecursion};
 ghost use Rattle.definitions.specs.Prefixes.{prefix_end};
 ghost use Rattle.definitions.specs.Terms.{field_of, payload_of};
-ghost use Rattle.inverted_index_reader.specs.Dictionaries.{ahead};
-ghost use Rattle.inverted_index_reader.specs.Readers.{Contents, dictionary_in, info_in, postings_in};
-ghost use Rattle.inverted_index_reader.specs.Searching.{between};
+ghost use Rattle.segment_reader.specs.Dictionaries.{ahead};
+ghost use Rattle.segment_reader.specs.Readers.{Contents, dictionary_in, info_in, postings_in};
+ghost use Rattle.segment_reader.specs.Searching.{between};
 ghost use Rattle.phrase_weights.specs.ReadTerms.{with_positions};
 ghost use Rattle.phrase_weights.specs.Suffixes.{HaveBytes, read_places, suffix_places};
 ghost use Rattle.segment_postings.specs.Cursors.{entries_left};
 ghost use Rattle.segment_reader.specs.SegmentReaders.{index_of};
 
-use inverted_index_reader::{InvertedIndexReader, TermDictionary, TermInfo, TermRange};
+use crate::prefixes::prefix_end;
 use options::IndexRecordOption;
 use segment_postings::SegmentPostings;
-use segment_reader::SegmentReader;
+use segment_reader::{InvertedIndexReader, SegmentReader, TermDictionary, TermInfo, TermRange};
 use std::alloc::{AllocError, Global};
-use term_weight::prefix_end;
 use terms::{Field, Term};
 
 /// The terms from a prefix to its end, by their value bytes.

@@ -2,7 +2,7 @@
 
 ghost use Rattle.std.specs.Prelude.{[], ◌≡◌, IfNone, IfOk, IfSome, List, map};
 ghost use Rattle.std.specs.List.{AllByRecursion};
-ghost use Rattle.cursors.specs.Entries.{from};
+ghost use Rattle.docsets.specs.Entries.{from};
 ghost use Rattle.definitions.specs.Analyzers.{Analyzer};
 ghost use Rattle.definitions.specs.Postings.{postings};
 ghost use Rattle.definitions.specs.Schema.{Schema};

@@ -2,21 +2,21 @@
 
 ghost use Rattle.std.specs.Prelude.{[], ◌*◌, ◌≡◌, ◌≤ℤ◌, ◌≤◌, IfNone, IfOk, IfSome, List, length, map, pos};
 ghost use Rattle.std.specs.List.{AllByRecursion};
-ghost use Rattle.cursors.specs.Entries.{from, most_positions};
+ghost use Rattle.docsets.specs.Entries.{from, most_positions};
 ghost use Rattle.definitions.specs.Analyzers.{Analyzer};
 ghost use Rattle.definitions.specs.Phrases.{by_offset, phrase_count};
 ghost use Rattle.definitions.specs.Schema.{Schema};
 ghost use Rattle.definitions.specs.Scoring.{DontFall, greatest_of, max_score, natural, weight_sum};
 ghost use Rattle.definitions.specs.Scoring as scoring;
 ghost use Rattle.definitions.specs.Values.{Document};
-ghost use Rattle.leaf_scorers.specs.ScoredEntries.{greatest_score};
+ghost use Rattle.docsets.specs.ScoredEntries.{greatest_score};
 ghost use Rattle.phrase_weights.specs.PlacedAnswers.{whole_answers, whole_weight};
 ghost use Rattle.segment_reader.specs.SegmentReaders.{StandsFor, max_doc_of};
 
 use crate::phrase_weight::PhraseWeight;
 use crate::read_terms::read_term;
 use common::Score;
-use cursors::DocSet;
+use docsets::DocSet;
 use phrases::{OneTermPhrase, PhraseKind, PhraseScorer, PostingsWithOffset};
 use segment_postings::SegmentPostings;
 use segment_reader::SegmentReader;

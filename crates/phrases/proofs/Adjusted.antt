@@ -1,10 +1,10 @@
 -- Laws of the terms of a phrase, moved by their places in the phrase.
 use Rattle.std.proofs.Common.{[], List, ap, arith, map, max, refl, subst, sym, ◌-◌, ◌∙◌, ◌∷◌, ◌≡◌, ℕ}
 use Rattle.std.specs.List.{AllByRecursion}
-use Rattle.cursors.specs.Entries.{Entry, from}
+use Rattle.docsets.specs.Entries.{Entry, from}
 use Rattle.definitions.specs.Scoring.{greatest_of}
 use Rattle.intersections.specs.Meetings.{meeting}
-use Rattle.members.specs.Members.{greatest_sum}
+use Rattle.docsets.specs.Members.{greatest_sum}
 use Rattle.phrases.specs.PhraseEntries.{adjusted_terms, placed}
 use Rattle.phrases.specs.PhraseEntryLaws.{from-placed, greatest-placed}
 

@@ -2,7 +2,7 @@
 use Rattle.std.proofs.Common.{[], List, ap, arith, drop, length, map, refl, subst, sym, take, ◌++◌, ◌<◌, ◌∙◌, ◌∷◌, ◌≡◌, ◌≤◌, ℕ}
 use Rattle.std.proofs.lemmas.List.{length-map, length-take, take-append-drop}
 use Rattle.std.proofs.lemmas.List as lists
-use Rattle.cursors.specs.Entries.{Entry, Rising, first}
+use Rattle.docsets.specs.Entries.{Entry, Rising, first}
 use Rattle.phrases.specs.Blocks.{IsFedInBlocks}
 
 -- nothing is fed by no block

@@ -3,12 +3,12 @@ use Rattle.std.proofs.Common.{[], Bool, List, ap, arith, false, flat_map, if◌t
 use Rattle.std.specs.List.{AllByRecursion}
 use Rattle.std.proofs.lemmas.Bool.Decides.{nat_tests}
 use Rattle.std.proofs.lemmas.List.{length-append, length-map}
-use Rattle.cursors.specs.Entries.{Entry, from, most_positions, single}
+use Rattle.docsets.specs.Entries.{Entry, from, most_positions, single}
 use Rattle.definitions.specs.Postings.{terminated}
 use Rattle.definitions.specs.Scoring.{greatest_of}
 use Rattle.intersections.specs.Columns.{HaveOneColumn}
 use Rattle.intersections.specs.Meetings.{meeting}
-use Rattle.members.specs.Members.{at_document, enough, entries_at, entries_of, joining, listed, walk}
+use Rattle.docsets.specs.Members.{at_document, enough, entries_at, entries_of, joining, listed, walk}
 use Rattle.phrases.specs.PhraseEntries.{AreColumns, HaveColumns, longest, longest_column}
 use Rattle.phrases.specs.MergeLaws.{ascends-from}
 use Rattle.term_scorer.specs.TermScoreLaws.{bound-of}

@@ -2,11 +2,11 @@
 use Rattle.std.proofs.Common.{[], List, ap, arith, drop, get_or, length, map, refl, set, suc, sym, zero, ◌++◌, ◌-◌, ◌*◌, ◌+◌, ◌<◌, ◌∙◌, ◌∷◌, ◌≡◌, ◌≢◌, ◌≤◌, ℕ}
 use Rattle.std.proofs.lemmas.List.{length-take, get_or-map, length-map}
 use Rattle.std.proofs.lemmas.List.Sums.{sum_by-append, sum_by-cons}
-use Rattle.cursors.specs.Entries.{Entry, Rising, first, from}
-use Rattle.cursors.specs.EntryLaws.{from-first, from-from}
-use Rattle.leaf_scorers.specs.ScoredEntryLaws.{by_place}
-use Rattle.members.specs.MemberLaws.{entries-kept, entries-low, one-entry}
-use Rattle.members.specs.Members.{entries_at, entries_of}
+use Rattle.docsets.specs.Entries.{Entry, Rising, first, from}
+use Rattle.docsets.specs.EntryLaws.{from-first, from-from}
+use Rattle.docsets.specs.ScoredEntryLaws.{by_place}
+use Rattle.docsets.specs.MemberLaws.{entries-kept, entries-low, one-entry}
+use Rattle.docsets.specs.Members.{entries_at, entries_of}
 use Rattle.phrases.specs.Places.{Rises}
 use Rattle.phrases.specs.PrefixEntries.{continued, continued_by}
 use Rattle.phrases.specs.Rows.{AreRows, IsRow, added, added_one, counted_on, docs_of, end_of, most_count, places_in}

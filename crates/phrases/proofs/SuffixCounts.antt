@@ -2,7 +2,7 @@
 use Rattle.std.proofs.Common.{[], List, ap, arith, get_or, length, max, suc, take, zero, ◌++◌, ◌+◌, ◌<◌, ◌∙◌, ◌∷◌, ◌≡◌, ◌≤◌, ℕ}
 use Rattle.std.proofs.lemmas.List.{take_more}
 use Rattle.std.proofs.lemmas.List.Sums.{sum_by-cons}
-use Rattle.cursors.specs.Entries.{AreSingle, Entry, first, first_positions, most_positions, single}
+use Rattle.docsets.specs.Entries.{AreSingle, Entry, first, first_positions, most_positions, single}
 use Rattle.definitions.specs.Postings.{terminated}
 use Rattle.intersections.specs.Columns.{HaveOneColumn}
 use Rattle.phrases.specs.Places.{Ascends}

@@ -2,11 +2,11 @@
 use Rattle.std.proofs.Common.{[], List, ap, append_assoc, arith, drop, false, filter, get_or, if◌then◌else◌, length, map, max, nat_le, nat_lt, refl, subst, suc, sym, take, true, zero, ◌++◌, ◌+◌, ◌-◌, ◌<◌, ◌∙◌, ◌∷◌, ◌≡◌, ◌≤◌, ℕ}
 use Rattle.std.proofs.Math.Seq.{drop-append_seam, take-length}
 use Rattle.std.proofs.lemmas.List.{drop-append-le, drop_more, length-append, length-drop, map-append, take-append-le}
-use Rattle.cursors.specs.Entries.{Entry, IsRest, Rising, first, first_positions, first_score, from, most_positions, single}
-use Rattle.cursors.specs.EntryLaws.{Rising-lower, from-first, from-out, none_left}
+use Rattle.docsets.specs.Entries.{Entry, IsRest, Rising, first, first_positions, first_score, from, most_positions, single}
+use Rattle.docsets.specs.EntryLaws.{Rising-lower, from-first, from-out, none_left}
 use Rattle.definitions.specs.Postings.{terminated}
 use Rattle.intersections.specs.Columns.{HaveOneColumn}
-use Rattle.members.specs.Members.{entries_at}
+use Rattle.docsets.specs.Members.{entries_at}
 use Rattle.phrases.specs.Places.{Ascends, Rises}
 use Rattle.phrases.specs.PrefixEntries.{continued_by, prefixed}
 use Rattle.phrases.specs.PrefixEntryLaws.{Rising-first, most-rest, most_suffix_positions, prefixed-cut}

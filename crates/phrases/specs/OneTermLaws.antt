@@ -1,6 +1,6 @@
 -- Laws of a phrase of one whole term.
 use Rattle.std.proofs.Common.{[], List, ap, arith, drop, false, if◌then◌else◌, length, nat_le, refl, suc, true, zero, ◌+◌, ◌<◌, ◌∷◌, ◌≡◌, ◌≤◌, ℕ}
-use Rattle.cursors.specs.Entries.{AreSingle, Entry, Rising, first, first_positions, first_score, from, most_positions, single}
+use Rattle.docsets.specs.Entries.{AreSingle, Entry, Rising, first, first_positions, first_score, from, most_positions, single}
 use Rattle.definitions.specs.Postings.{terminated}
 use Rattle.definitions.specs.Scoring.{max_score}
 use Rattle.intersections.specs.Columns.{HaveOneColumn}

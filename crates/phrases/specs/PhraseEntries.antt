@@ -1,6 +1,6 @@
 -- Entries of phrases: documents with the places where a phrase stands.
 use Rattle.std.specs.Prelude.{[], ⊤, ◌+◌, ◌-◌, ◌<◌, ◌∷◌, List, if◌then◌else◌, length, map, max, nat_lt, ℕ}
-use Rattle.cursors.specs.Entries.{Entry, highest, single}
+use Rattle.docsets.specs.Entries.{Entry, highest, single}
 use Rattle.definitions.specs.Scoring.{greatest_of}
 use Rattle.intersections.specs.Meetings.{meeting}
 use Rattle.phrases.specs.Places.{Ascends, places_of}

@@ -2,13 +2,13 @@
 use Rattle.std.proofs.Common.{[], List, ap, arith, drop, false, if◌then◌else◌, length, map, nat_le, nat_lt, refl, subst, suc, sym, true, zero, ◌+◌, ◌<◌, ◌∙◌, ◌∷◌, ◌≡◌, ◌≤◌, ℕ}
 use Rattle.std.proofs.lemmas.Bool.Decides.{nat_tests}
 use Rattle.std.proofs.lemmas.List.{drop-drop, length-map}
-use Rattle.cursors.specs.Danger.{IsDangerAnswer, Missed}
-use Rattle.cursors.specs.declared.seek_danger_result.SeekDangerResult.{SeekDangerResult}
-use Rattle.cursors.specs.declared.seek_danger_result.SeekDangerResult.TheVariants.{Found, SeekLowerBound}
-use Rattle.cursors.specs.Entries.{AreSingle, Entry, IsRest, Rising, first, first_count, first_positions, first_score, from, highest, most_positions, single}
-use Rattle.cursors.specs.EntryLaws.{Rising-lower, from-in, from-out}
-use Rattle.leaf_scorers.specs.ScoredEntries.{greatest_score}
-use Rattle.leaf_scorers.specs.ScoredEntryLaws.{by_place}
+use Rattle.docsets.specs.Danger.{IsDangerAnswer, Missed}
+use Rattle.docsets.specs.declared.seek_danger_result.SeekDangerResult.{SeekDangerResult}
+use Rattle.docsets.specs.declared.seek_danger_result.SeekDangerResult.TheVariants.{Found, SeekLowerBound}
+use Rattle.docsets.specs.Entries.{AreSingle, Entry, IsRest, Rising, first, first_count, first_positions, first_score, from, highest, most_positions, single}
+use Rattle.docsets.specs.EntryLaws.{Rising-lower, from-in, from-out}
+use Rattle.docsets.specs.ScoredEntries.{greatest_score}
+use Rattle.docsets.specs.ScoredEntryLaws.{by_place}
 use Rattle.definitions.specs.Postings.{terminated}
 use Rattle.definitions.specs.Scoring.{DontFall, max_score}
 use Rattle.intersections.specs.Columns.{HaveOneColumn}

@@ -1,6 +1,6 @@
 -- Laws of how many places there are.
 use Rattle.std.proofs.Common.{[], Bool, List, ap, arith, false, filter, get_or, if◌then◌else◌, length, max, nat_le, suc, take, true, zero, ◌+◌, ◌-◌, ◌<◌, ◌==◌, ◌∷◌, ◌≤◌, ℕ}
-use Rattle.cursors.specs.Entries.{highest}
+use Rattle.docsets.specs.Entries.{highest}
 use Rattle.definitions.specs.JsonLeaves.{once}
 use Rattle.definitions.specs.Phrases.{is_reached}
 use Rattle.phrases.specs.PhraseEntries.{AreColumns}

@@ -1,11 +1,11 @@
 -- Laws of places as one column.
 use Rattle.std.proofs.Common.{[], Bool, List, ap, arith, false, filter, get_or, if◌then◌else◌, length, max, refl, subst, suc, sym, take, true, zero, ◌+◌, ◌-◌, ◌<◌, ◌==◌, ◌∷◌, ◌≤◌, ℕ}
-use Rattle.cursors.specs.Entries.{Entry, highest, most_positions}
+use Rattle.docsets.specs.Entries.{Entry, highest, most_positions}
 use Rattle.definitions.specs.JsonLeaves.{once}
 use Rattle.definitions.specs.Phrases.{is_reached}
 use Rattle.definitions.specs.Scoring.{DontFall}
 use Rattle.intersections.specs.Columns.{HaveOneColumn}
-use Rattle.leaf_scorers.specs.ScoredEntryLaws.{by_place}
+use Rattle.docsets.specs.ScoredEntryLaws.{by_place}
 use Rattle.phrases.specs.PhraseEntries.{AreColumns, HaveColumns, longest, longest_column, phrased}
 use Rattle.phrases.specs.PhraseEntryLaws.{phrased-none, phrased-some}
 use Rattle.phrases.specs.Places.{Rises, distinct, places_of}

@@ -1,7 +1,7 @@
 -- Entries of phrase prefixes: documents where terms follow a phrase.
 use Rattle.std.specs.Prelude.{[], ◌+◌, ◌∷◌, List, filter, if◌then◌else◌, length, nat_lt, sum_by, ℕ}
-use Rattle.cursors.specs.Entries.{Entry, single}
-use Rattle.members.specs.Members.{entries_at}
+use Rattle.docsets.specs.Entries.{Entry, single}
+use Rattle.docsets.specs.Members.{entries_at}
 use Rattle.phrases.specs.Places.{has, places_of}
 
 -- at how many places a term stands, moved on by some places

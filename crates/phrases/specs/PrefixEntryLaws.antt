@@ -1,11 +1,11 @@
 -- Laws of the entries of phrase prefixes.
 use Rattle.std.proofs.Common.{[], List, ap, arith, false, if◌then◌else◌, map, max, nat_lt, refl, sym, true, ◌+◌, ◌<◌, ◌∙◌, ◌∷◌, ◌≡◌, ◌≤◌, ℕ}
 use Rattle.std.proofs.lemmas.Bool.Decides.{nat_tests}
-use Rattle.cursors.specs.Entries.{Entry, IsRest, Rising, first, from, most_positions, single}
-use Rattle.cursors.specs.EntryLaws.{Rising-lower, from-in, from-out, most-drop, most-from}
-use Rattle.leaf_scorers.specs.ScoredEntryLaws.{by_place}
-use Rattle.members.specs.MemberLaws.{entries_at-kept}
-use Rattle.members.specs.Members.{entries_at}
+use Rattle.docsets.specs.Entries.{Entry, IsRest, Rising, first, from, most_positions, single}
+use Rattle.docsets.specs.EntryLaws.{Rising-lower, from-in, from-out, most-drop, most-from}
+use Rattle.docsets.specs.ScoredEntryLaws.{by_place}
+use Rattle.docsets.specs.MemberLaws.{entries_at-kept}
+use Rattle.docsets.specs.Members.{entries_at}
 use Rattle.phrases.specs.PrefixEntries.{continued_by, prefixed}
 
 -- how often suffixes follow an entry

@@ -1,7 +1,7 @@
 -- Windows of phrase prefixes.
 use Rattle.std.specs.Prelude.{◌<◌, ◌≤◌, List, ℕ}
 use Rattle.std.proofs.Props.{props}
-use Rattle.cursors.specs.Entries.{Entry, first, most_positions}
+use Rattle.docsets.specs.Entries.{Entry, first, most_positions}
 use Rattle.definitions.specs.Postings.{terminated}
 use Rattle.phrases.specs.PrefixEntryLaws.{most_suffix_positions}
 use Rattle.phrases.specs.Windows.{IsWindow, left_in}

@@ -1,8 +1,8 @@
 -- Rows of a window: documents of a phrase, each with how often suffixes follow it.
 use Rattle.std.specs.Prelude.{[], ⊤, ◌+◌, ◌<◌, ◌≤◌, ◌∷◌, List, length, map, max, slice_range, ℕ}
-use Rattle.cursors.specs.Entries.{Entry}
+use Rattle.docsets.specs.Entries.{Entry}
 use Rattle.definitions.specs.Postings.{terminated}
-use Rattle.members.specs.Members.{entries_at, entries_of}
+use Rattle.docsets.specs.Members.{entries_at, entries_of}
 use Rattle.phrases.specs.Places.{Ascends}
 use Rattle.phrases.specs.PrefixEntries.{continued_by}
 use Rattle.phrases.specs.declared.row.Row.{Row}

@@ -1,7 +1,7 @@
 -- Finders that have the places of the document on which terms stand.
 use Rattle.std.specs.Prelude.{◌<◌, ◌≡◌, List, length}
 use Rattle.definitions.specs.Postings.{terminated}
-use Rattle.cursors.specs.Entries.{Entry, first, first_positions}
+use Rattle.docsets.specs.Entries.{Entry, first, first_positions}
 use Rattle.phrases.specs.Places.{places_of}
 use Rattle.phrases.specs.declared.place_finder.PlaceFinder.{PlaceFinder}
 

@@ -2,7 +2,7 @@
 use Rattle.std.proofs.Common.{[], List, arith, ◌∷◌, ◌≤◌, ℕ}
 use Rattle.std.specs.Coded.{Unit-prop}
 use Rattle.std.proofs.Props.{props}
-use Rattle.cursors.specs.Entries.{Entry, IsRest}
+use Rattle.docsets.specs.Entries.{Entry, IsRest}
 use Rattle.phrases.specs.Finders.{HasRoom}
 use Rattle.phrases.specs.PhraseEntries.{AreColumns, HaveColumns, longest_column}
 use Rattle.phrases.specs.PhraseEntryLaws.{HaveColumns-rest, longest-rest}

@@ -1,6 +1,6 @@
 -- Finders over the documents that all terms of a phrase have.
 use Rattle.std.specs.Prelude.{◌≤◌, List, ℕ}
-use Rattle.cursors.specs.Entries.{Entry}
+use Rattle.docsets.specs.Entries.{Entry}
 use Rattle.phrases.specs.Finders.{HasRoom}
 use Rattle.phrases.specs.PhraseEntries.{HaveColumns, longest_column}
 use Rattle.phrases.specs.Settled.{IsSettled}

@@ -1,6 +1,6 @@
 -- Windows: the rows that are left, and the room of their buffers.
 use Rattle.std.specs.Prelude.{◌+◌, ◌<◌, ◌≤◌, List, drop, length, vec_capacity, ℕ}
-use Rattle.cursors.specs.Entries.{Entry}
+use Rattle.docsets.specs.Entries.{Entry}
 use Rattle.phrases.specs.Rows.{row_entries}
 use Rattle.phrases.specs.declared.window.Window.{Window}
 

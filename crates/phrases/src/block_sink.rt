@@ -4,7 +4,7 @@ ghost use Rattle.std.specs.Prelude.{[], ◌≡◌, ◌≤◌, length, map};
 ghost use Rattle.phrases.specs.Blocks.{IsFedInBlocks};
 
 use common::{DocId, TERMINATED};
-use cursors::{COLLECT_BLOCK_BUFFER_LEN, DocSet};
+use docsets::{COLLECT_BLOCK_BUFFER_LEN, DocSet};
 
 /// Takes blocks of documents, without scores.
 pub trait BlockSink {

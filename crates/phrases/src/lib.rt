@@ -1,28 +1,29 @@
 //! Phrases: scorers of phrases and of phrase prefixes, and sinks that take what scorers give.
 #![tactic(auto)]
 
-mod adjusting;
+mod adjusted_terms;
 mod block_sink;
-mod filling;
-mod following;
-mod marking;
-mod merging;
+mod next_rows;
 mod one_term_phrase;
+mod phrase_documents;
 mod phrase_kind;
 pub mod phrase_laws;
 mod phrase_prefix_scorer;
 mod phrase_scorer;
 mod place_finder;
+mod position_marks;
 mod postings_with_offset;
-mod reaching;
 mod row;
 mod row_search;
-mod settling;
+mod shared_positions;
 mod sink;
+mod slop_costs;
+mod suffix_windows;
 mod suffixes;
 mod window;
 
 pub use block_sink::{BlockSink, for_each_docset_buffered};
+pub use intersections::Positioned;
 pub use one_term_phrase::OneTermPhrase;
 pub use phrase_kind::PhraseKind;
 pub use phrase_prefix_scorer::PhrasePrefixScorer;

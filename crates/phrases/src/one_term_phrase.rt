@@ -1,16 +1,15 @@
 //! A term that is a phrase by itself.
 
 ghost use Rattle.std.specs.Prelude.{◌≡◌, ◌≤ℤ◌, ◌≤◌, IfOk, pos, vec_capacity};
-ghost use Rattle.cursors.specs.Entries.{most_positions};
+ghost use Rattle.docsets.specs.Entries.{most_positions};
 ghost use Rattle.definitions.specs.Scoring.{max_score, natural};
 ghost use Rattle.phrases.specs.PrefixEntries.{one_term};
 
-use crate::merging::{copy_all, copy_distinct};
+use crate::shared_positions::{copy_all, copy_distinct};
 use crate::suffixes::read_positions;
 use common::{DocId, Score};
-use cursors::{DocSet, Postings};
+use docsets::{DocSet, Postings, Scorer};
 use intersections::Positioned;
-use leaf_scorers::Scorer;
 use std::alloc::{AllocError, Global};
 
 /// The documents of one whole term before a prefix: its places are its positions, each once, and each score is the

@@ -3,9 +3,8 @@
 ghost use Rattle.phrases.specs.declared.phrase_kind.PhraseKind.TheVariants.{MultiPrefix, SinglePrefix};
 
 use common::{DocId, Score};
-use cursors::{DocSet, SeekDangerResult};
+use docsets::{DocSet, Scorer, SeekDangerResult};
 use intersections::Positioned;
-use leaf_scorers::Scorer;
 
 /// What stands before a prefix: one whole term, or a phrase of several.
 #[derive(Drop)]

@@ -1,21 +1,19 @@
 //! The documents where a phrase stands that one of several terms follows.
 
 ghost use Rattle.std.specs.Prelude.{◌++◌, ◌<◌, ◌≡◌, ◌≤◌, IfOk, length, map};
-ghost use Rattle.cursors.specs.Entries.{Rising, first, first_count, most_positions};
-ghost use Rattle.cursors.specs.EntryLaws.{Rising-prop};
+ghost use Rattle.docsets.specs.Entries.{Rising, first, first_count, most_positions};
+ghost use Rattle.docsets.specs.EntryLaws.{Rising-prop};
 ghost use Rattle.definitions.specs.Postings.{terminated};
 ghost use Rattle.phrases.specs.PrefixEntryLaws.{most_suffix_positions};
 ghost use Rattle.phrases.specs.PrefixEntries.{prefixed};
 ghost use Rattle.phrases.specs.PrefixWindows.{IsFollowing, IsFollowing-prop};
 ghost use Rattle.phrases.specs.Windows.{left_in};
 
-use crate::following::refill;
+use crate::suffix_windows::refill;
 use crate::window::Window;
 use common::{DocId, Score};
-use cursors::{DocSet, Postings};
+use docsets::{DocSet, Postings, Scorer, move_to};
 use intersections::Positioned;
-use leaf_scorers::Scorer;
-use members::move_to;
 use std::alloc::{AllocError, Global};
 
 /// The documents where a phrase stands at whose places some of the suffixes stand, moved on, with the scores of the

@@ -2,27 +2,26 @@
 
 ghost use Rattle.std.specs.Prelude.{[], ◌<◌, ◌≡◌, ◌≤◌, IfOk, length, map};
 ghost use Rattle.std.specs.List.{AllByRecursion};
-ghost use Rattle.cursors.specs.Entries.{first, first_count, first_positions, from, single};
+ghost use Rattle.docsets.specs.Entries.{first, first_count, first_positions, from, single};
 ghost use Rattle.definitions.specs.Postings.{terminated};
 ghost use Rattle.definitions.specs.Scoring.{greatest_of, max_score};
 ghost use Rattle.intersections.specs.Meetings.{meeting};
-ghost use Rattle.members.specs.Members.{greatest_sum};
+ghost use Rattle.docsets.specs.Members.{greatest_sum};
 ghost use Rattle.phrases.specs.PhraseEntries.{HaveColumns, adjusted_terms, longest_column, phrased};
 ghost use Rattle.phrases.specs.PhraseScores.{phrase_score_by};
 ghost use Rattle.phrases.specs.Settled.{IsSettled};
 ghost use Rattle.phrases.specs.Standings.{IsStanding};
 ghost use Rattle.phrases.specs.StandingLaws.{IsStanding-prop};
 
-use crate::adjusting::{adjusted, most_of};
-use crate::merging::copy_all;
+use crate::adjusted_terms::{adjusted, most_of};
+use crate::phrase_documents::settle;
 use crate::place_finder::PlaceFinder;
 use crate::postings_with_offset::PostingsWithOffset;
-use crate::settling::settle;
+use crate::shared_positions::copy_all;
 use common::{DocId, Score};
-use cursors::{DocSet, Postings};
+use docsets::{DocSet, Postings, Scorer};
 use fieldnorms::FieldNormReader;
 use intersections::{Intersection, Positioned};
-use leaf_scorers::Scorer;
 use std::alloc::{AllocError, Global};
 use term_scorer::Similarity;
 

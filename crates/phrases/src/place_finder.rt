@@ -1,16 +1,16 @@
 //! The places of a phrase in one document, found in buffers whose room was made before.
 
 ghost use Rattle.std.specs.Prelude.{[], ◌<◌, ◌≡◌, ◌≤◌, IfOk, length, ℕ};
-ghost use Rattle.cursors.specs.Entries.{first, first_positions};
+ghost use Rattle.docsets.specs.Entries.{first, first_positions};
 ghost use Rattle.definitions.specs.Postings.{terminated};
 ghost use Rattle.phrases.specs.PhraseEntries.{AreColumns, longest};
 ghost use Rattle.phrases.specs.Places.{places_of};
 ghost use Rattle.phrases.specs.Finders.{HasRoom};
 
-use crate::marking::Marks;
-use crate::merging::keep_distinct;
-use crate::reaching::{Cost, begin, copy_cheap, reach};
-use cursors::DocSet;
+use crate::position_marks::Marks;
+use crate::shared_positions::keep_distinct;
+use crate::slop_costs::{Cost, begin, copy_cheap, reach};
+use docsets::DocSet;
 use intersections::{Intersection, Positioned};
 use std::alloc::{AllocError, Global};
 use std::mem::swap;

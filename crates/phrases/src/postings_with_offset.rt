@@ -4,7 +4,7 @@ ghost use Rattle.std.specs.Prelude.{◌≡◌, ◌≤◌};
 ghost use Rattle.phrases.specs.PhraseEntries.{placed};
 
 use common::DocId;
-use cursors::{DocSet, Postings, SeekDangerResult};
+use docsets::{DocSet, Postings, SeekDangerResult};
 use intersections::Positioned;
 
 /// The documents of a term, each position plus an offset. They have no scores.

@@ -3,11 +3,10 @@
 ghost use Rattle.std.specs.Prelude.{[], ◌+◌, ◌∷◌, ◌≡◌, ◌≤ℤ◌, ◌≤◌, length, pos};
 ghost use Rattle.definitions.specs.Scoring.{natural};
 ghost use Rattle.definitions.specs.Sinks.{fed};
-ghost use Rattle.leaf_scorers.specs.ScoredEntries.{pairs_of};
+ghost use Rattle.docsets.specs.ScoredEntries.{pairs_of};
 
 use common::{DocId, Score, TERMINATED};
-use cursors::DocSet;
-use leaf_scorers::Scorer;
+use docsets::{DocSet, Scorer};
 
 /// Takes documents whose scores are above its threshold, which may rise as it takes them.
 pub trait Sink {

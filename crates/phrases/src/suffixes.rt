@@ -1,19 +1,19 @@
 //! The terms that may follow a phrase.
 
 ghost use Rattle.std.specs.Prelude.{[], ◌+◌, ◌<◌, ◌≡◌, ◌≤◌, length, map, vec_capacity, ℕ};
-ghost use Rattle.cursors.specs.Entries.{first, first_positions, from, most_positions, single};
+ghost use Rattle.docsets.specs.Entries.{first, first_positions, from, most_positions, single};
 ghost use Rattle.definitions.specs.Postings.{terminated};
-ghost use Rattle.members.specs.Members.{entries_of};
+ghost use Rattle.docsets.specs.Members.{entries_of};
 ghost use Rattle.phrases.specs.Places.{Ascends, Rises};
 ghost use Rattle.phrases.specs.PrefixEntries.{continued_by};
 ghost use Rattle.phrases.specs.PrefixEntryLaws.{most_suffix_positions};
 ghost use Rattle.phrases.specs.Rows.{AreRows, IsRow, added, added_one, docs_of, end_of, most_count};
 
-use crate::merging::count_continued;
 use crate::row::Row;
 use crate::row_search::{doc_at, find_row};
+use crate::shared_positions::count_continued;
 use common::DocId;
-use cursors::{DocSet, Postings};
+use docsets::{DocSet, Postings};
 
 /// How far a target is that a suffix of one document reaches by steps. One of more documents has the less far to it.
 const STEPS: u32 = 524288;

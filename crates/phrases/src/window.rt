@@ -1,7 +1,7 @@
 //! A window over a phrase: rows of its next documents, in buffers whose room was made before.
 
 ghost use Rattle.std.specs.Prelude.{[], ◌<◌, ◌≡◌, ◌≤◌, IfOk, drop, length, ℕ};
-ghost use Rattle.cursors.specs.Entries.{Rising, first, first_count, first_score, from};
+ghost use Rattle.docsets.specs.Entries.{Rising, first, first_count, first_score, from};
 ghost use Rattle.definitions.specs.Postings.{terminated};
 ghost use Rattle.phrases.specs.Windows.{IsWindow, left_in};
 

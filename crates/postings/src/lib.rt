@@ -4,13 +4,11 @@
 
 pub mod posting_laws;
 
-pub use checked_postings::{check_term, term_laws};
-pub use cursors::{COLLECT_BLOCK_BUFFER_LEN, DocSet, Postings, SeekDangerResult};
+pub use docsets::{COLLECT_BLOCK_BUFFER_LEN, DocSet, Postings, SeekDangerResult};
 pub use document_indexer::{DocumentIndexer, indexing_laws};
-pub use inverted_index_reader::{InvertedIndexReader, TermDictionary, TermInfo, TermRange};
-pub use postings_serializer::{FieldSerializer, InvertedIndexSerializer, PostingsSerializer};
 pub use postings_writer::{
-    DocIdRecorder, IndexedText, PostingsWriter, Recorder, TermFrequencyRecorder,
-    TfAndPositionRecorder,
+    DocIdRecorder, FieldSerializer, IndexedText, InvertedIndexSerializer, PostingsSerializer,
+    PostingsWriter, TermFrequencyRecorder, TfAndPositionRecorder,
 };
-pub use segment_postings::{BlockSegmentPostings, SegmentPostings};
+pub use segment_postings::{BlockSegmentPostings, SegmentPostings, check_term, term_laws};
+pub use segment_reader::{InvertedIndexReader, TermDictionary, TermInfo, TermRange};

@@ -1,7 +1,6 @@
 //! Terms that a line asks for: `[FIELD, KIND, VALUE]`, and in JSON `[FIELD, KIND, VALUE, KEY]`.
 
-use case_lines::{Refusal, bytes_of_digits};
-use document_lines::{field_in, number_in, part, signed_in, text_in};
+use case_lines::{Refusal, bytes_of_digits, field_in, number_in, part, signed_in, text_in};
 use schema::{DateTime, Facet, Field, IntoIpv6Addr, Term};
 use serde_json::Value;
 use std::alloc::Global;

@@ -5,8 +5,8 @@ use crate::held::Held;
 use crate::sections::{Sections, opened, postings_of};
 use case_lines::{Arguments, Outcomes, Refusal};
 use definitions::Fault;
-use inverted_index_reader::InvertedIndexReader;
 use schema::Term;
+use segment_reader::InvertedIndexReader;
 use serde_json::Value;
 use std::alloc::{AllocError, Global};
 

@@ -2,8 +2,8 @@
 
 use crate::sections::Sections;
 use document::CompactDoc;
-use inverted_index_reader::InvertedIndexReader;
 use schema::Schema;
+use segment_reader::InvertedIndexReader;
 use std::alloc::Global;
 
 /// The last schema, the documents that were added, and the index that was made of them last.

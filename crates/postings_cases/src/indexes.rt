@@ -2,8 +2,7 @@
 
 use crate::held::Held;
 use crate::sections::{lengths_of, opened, sections_of};
-use case_lines::{Arguments, Refusal, flag, hex, number, triple};
-use document_lines::document_of_values;
+use case_lines::{Arguments, Refusal, document_of_values, flag, hex, number, triple};
 use serde_json::Value;
 use std::alloc::Global;
 

@@ -2,12 +2,11 @@
 
 use crate::asked_terms::asked_term;
 use crate::sections::postings_of;
-use case_lines::{Arguments, Refusal, hex, number, numbers, pair, triple};
-use document_lines::field_in;
-use inverted_index_reader::InvertedIndexReader;
+use case_lines::{Arguments, Refusal, field_in, hex, number, numbers, pair, triple};
 use options::IndexRecordOption;
 use postings::DocSet;
 use schema::Term;
+use segment_reader::InvertedIndexReader;
 use serde_json::Value;
 use std::alloc::Global;
 

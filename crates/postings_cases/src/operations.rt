@@ -2,8 +2,7 @@
 
 use crate::held::Held;
 use crate::{damage, indexes, lookups};
-use case_lines::{Arguments, Operations, Refusal, hex};
-use document_lines::made;
+use case_lines::{Arguments, Operations, Refusal, hex, made};
 use serde_json::Value;
 
 impl Operations for Held {

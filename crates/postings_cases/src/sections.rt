@@ -11,10 +11,10 @@ use common::{Analyzer, RawAndDefault, TERMINATED};
 use definitions::Fault;
 use document::CompactDoc;
 use document_indexer::DocumentIndexer;
-use inverted_index_reader::InvertedIndexReader;
 use options::IndexRecordOption;
 use postings::{DocSet, InvertedIndexSerializer, Postings};
 use schema::{Schema, Term};
+use segment_reader::InvertedIndexReader;
 use std::alloc::Global;
 
 /// The most documents that a segment has.

@@ -2,10 +2,10 @@
 
 ghost use Rattle.std.specs.Prelude.{◌≡◌, IfSome, length};
 
-use checked_postings::check_term;
 use codes::FieldNormReader;
 use definitions::Fault;
 use options::IndexRecordOption;
+use segment_postings::check_term;
 use std::alloc::{AllocError, Global};
 use std::test::Fail;
 

@@ -5,10 +5,10 @@ ghost use Rattle.std.specs.List.{AllByRecursion};
 ghost use Rattle.definitions.specs.Schema.{has_freq, has_positions};
 ghost use Rattle.layouts.specs.Positions.{ArePositions};
 ghost use Rattle.options.specs.RecordOption.{record_option_of};
-ghost use Rattle.cursors.specs.Entries.{from};
+ghost use Rattle.docsets.specs.Entries.{from};
 ghost use Rattle.segment_postings.specs.Reading.{HasPostings};
 ghost use Rattle.segment_postings.specs.TermEntries.{HasPositions};
-ghost use Rattle.postings_serializer.specs.TermWriting.{AreWritten};
+ghost use Rattle.postings_writer.specs.TermWriting.{AreWritten};
 
 use codes::{PositionReader, PositionSerializer};
 use common::{AliveBitSet, TERMINATED};

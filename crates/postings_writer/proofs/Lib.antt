@@ -1,3 +1,6 @@
+pub mod WaitingBlocks
+pub mod WrittenPostings
+pub mod ClosedTerms
 -- Lemmas behind the writer of postings.
 pub mod PlaceBytes
 pub mod PackedKeys

@@ -8,7 +8,7 @@ use Rattle.definitions.specs.Schema.{IndexRecordOption, Schema, basic, has_posit
 use Rattle.definitions.specs.Scoring.{DontFall}
 use Rattle.layouts.specs.Deltas.{IsAscendingFrom}
 use Rattle.layouts.specs.InvertedIndexes.{IsPosting}
-use Rattle.postings_serializer.specs.TermWriting.{recorded_count}
+use Rattle.postings_writer.specs.TermWriting.{recorded_count}
 use Rattle.postings_writer.specs.Occurrences.{Occurrence, by_document, grouped, places_of, posting_in, postings_at}
 use Rattle.postings_writer.specs.Serializing.{CanWrite}
 use Rattle.postings_writer.specs.Writers.{IsOccurrence, Stands, Writer}

@@ -12,8 +12,8 @@ use Rattle.definitions.specs.declared.fault.Fault.TheVariants as faults
 use Rattle.layouts.specs.InvertedIndexes.{IndexedTerm, lengths_of}
 use Rattle.layouts.specs.TermPostings.{postings_bytes}
 use Rattle.layouts.specs.TermSections.{entry_of_term}
-use Rattle.postings_serializer.specs.FieldWriting.{FieldWriting, Terms, inserted}
-use Rattle.postings_serializer.specs.TermWriting.{recorded_count}
+use Rattle.postings_writer.specs.FieldWriting.{FieldWriting, Terms, inserted}
+use Rattle.postings_writer.specs.TermWriting.{recorded_count}
 use Rattle.postings_writer.specs.Limits.{TermPasses}
 use Rattle.postings_writer.specs.Sections.{AnyTermPasses, AreAdded, IsSpelled, option_in, tokens_in}
 use Rattle.postings_writer.specs.Serializing.{IsWrittenTerm, postings_from, tokens_of}

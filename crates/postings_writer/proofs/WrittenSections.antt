@@ -15,8 +15,8 @@ use Rattle.definitions.specs.declared.fault.Fault.{Fault}
 use Rattle.layouts.specs.InvertedIndexes.{AreGiven, AreSections, HasPostingsOf, IndexedField, IndexedTerm, IsField, IsPosting, IsTerm, all_terms, field_ids, field_terms, indexed_fields, option_of_term, term_of_key}
 use Rattle.layouts.specs.TermPostings.{AreTermPostings}
 use Rattle.layouts.specs.TermSections.{field_terms_bytes}
-use Rattle.postings_serializer.specs.FieldWriting.{Sections}
-use Rattle.postings_serializer.specs.TermWriting.{recorded_count}
+use Rattle.postings_writer.specs.FieldWriting.{Sections}
+use Rattle.postings_writer.specs.TermWriting.{recorded_count}
 use Rattle.postings_writer.specs.Fields.{option_of_key}
 use Rattle.postings_writer.specs.Limits.{FieldPasses, IsFieldRefusal, IsFieldWithin, IsSerializeRefusal, IsTermWithin, TermPasses}
 use Rattle.postings_writer.specs.Occurrences.{Occurrence, places_of, postings_at, postings_in}

@@ -12,8 +12,8 @@ use Rattle.definitions.specs.declared.fault.Fault.TheVariants as faults
 use Rattle.definitions.specs.Schema.{IndexRecordOption, has_positions}
 use Rattle.layouts.specs.InvertedIndexes.{HasPositions}
 use Rattle.layouts.specs.TermPostings.{ArePosted, SumsFit, postings_bytes}
-use Rattle.postings_serializer.specs.FieldWriting.{FieldWriting, IsCloseRefusal, IsClosed, IsOpen, MeetsLimit, Terms, inserted, postings_of}
-use Rattle.postings_serializer.specs.TermWriting.{IsSumRefusal, recorded_count}
+use Rattle.postings_writer.specs.FieldWriting.{FieldWriting, IsCloseRefusal, IsClosed, IsOpen, MeetsLimit, Terms, inserted, postings_of}
+use Rattle.postings_writer.specs.TermWriting.{IsSumRefusal, recorded_count}
 use Rattle.std.proofs.lemmas.List.{drop-append-le, drop_all, length-drop, length-map, take-append-le}
 use Rattle.definitions.specs.Schema.{with_freqs_and_positions}
 use Rattle.definitions.specs.Blocks.{block_len}

@@ -1,3 +1,5 @@
+pub mod TermWriting
+pub mod FieldWriting
 -- Words of the contracts.
 pub mod PlaceBytes
 pub mod Occurrences

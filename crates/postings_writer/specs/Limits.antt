@@ -10,7 +10,7 @@ use Rattle.layouts.specs.InvertedIndexes.{HasPositions, IndexedField, IndexedTer
 use Rattle.layouts.specs.Positions.{position_numbers}
 use Rattle.layouts.specs.TermPostings.{SumsFit, postings_bytes}
 use Rattle.layouts.specs.TermSections.{TermsAscend}
-use Rattle.postings_serializer.specs.TermWriting.{recorded_count}
+use Rattle.postings_writer.specs.TermWriting.{recorded_count}
 
 -- ---- a term
 

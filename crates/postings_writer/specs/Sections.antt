@@ -8,8 +8,8 @@ use Rattle.layouts.specs.InvertedIndexes.{HasPositions, IndexedField, IndexedTer
 use Rattle.layouts.specs.Positions.{position_numbers}
 use Rattle.layouts.specs.TermPostings.{AreTermPostings}
 use Rattle.layouts.specs.TermSections.{TermsAscend, entry_of_term, field_terms_bytes}
-use Rattle.postings_serializer.specs.FieldWriting.{FieldWriting, Sections}
-use Rattle.postings_serializer.specs.TermWriting.{recorded_count}
+use Rattle.postings_writer.specs.FieldWriting.{FieldWriting, Sections}
+use Rattle.postings_writer.specs.TermWriting.{recorded_count}
 use Rattle.postings_writer.specs.Fields.{option_of_key}
 use Rattle.terms.specs.TextKeys.{is_text_key}
 use Rattle.postings_writer.specs.Limits.{IsTermWithin, TermPasses}

@@ -9,8 +9,8 @@ use Rattle.layouts.specs.Deltas.{IsAscendingFrom}
 use Rattle.layouts.specs.InvertedIndexes.{HasPositions}
 use Rattle.layouts.specs.Positions.{differences, position_numbers}
 use Rattle.layouts.specs.TermPostings.{ArePosted, SumsFit, postings_bytes}
-use Rattle.postings_serializer.specs.FieldWriting.{FieldWriting, inserted}
-use Rattle.postings_serializer.specs.TermWriting.{recorded_count}
+use Rattle.postings_writer.specs.FieldWriting.{FieldWriting, inserted}
+use Rattle.postings_writer.specs.TermWriting.{recorded_count}
 use Rattle.postings_writer.specs.Occurrences.{postings_at}
 use Rattle.postings_writer.specs.declared.recorder.Recorder.{Recorder}
 use Rattle.postings_writer.specs.declared.recorder.Recorder.TheVariants.{DocIds, TermFrequencies, TfAndPositions}

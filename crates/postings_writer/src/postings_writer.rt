@@ -12,10 +12,7 @@ use definitions::Fault;
 use schema::Schema;
 use std::alloc::{AllocError, Global};
 use std::marker::Model;
-use terms::Field;
-
-/// How many bytes a term has before its value: four of the field's number, and one of the type's code.
-const HEADER_LEN: usize = 5;
+use terms::{Field, HEADER_LEN};
 
 /// The number of a term's field.
 fn field_of(term: &[u8]) -> u32

@@ -136,7 +136,7 @@ impl TermFrequencyRecorder {
 
 /// What is recorded of one term.
 #[derive(Drop)]
-pub enum Recorder {
+pub(crate) enum Recorder {
     /// Documents.
     DocIds(DocIdRecorder),
     /// Documents and counts.

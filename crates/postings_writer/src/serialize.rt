@@ -11,10 +11,10 @@ ghost use Rattle.postings_writer.specs.Occurrences.{Occurrence, places_of, posti
 ghost use Rattle.postings_writer.specs.Sections.{AreFieldsAdded, IsFieldOf};
 ghost use Rattle.postings_writer.specs.Writers.{Stands};
 
+use crate::InvertedIndexSerializer;
 use crate::postings_writer::PostingsWriter;
 use definitions::Fault;
 use fieldnorms::FieldNormReaders;
-use postings_serializer::InvertedIndexSerializer;
 use schema::{FieldEntry, Schema};
 use terms::Field;
 

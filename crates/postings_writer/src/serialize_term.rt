@@ -8,16 +8,16 @@ ghost use Rattle.definitions.specs.Schema.{basic};
 ghost use Rattle.definitions.specs.Scoring.{DontFall};
 ghost use Rattle.definitions.specs.declared.fault.Fault.TheVariants as faults;
 ghost use Rattle.layouts.specs.Positions.{differences, position_numbers};
-ghost use Rattle.postings_serializer.specs.FieldWriting.{IsOpen};
-ghost use Rattle.postings_serializer.specs.TermWriting.{recorded_count};
+ghost use Rattle.postings_writer.specs.FieldWriting.{IsOpen};
+ghost use Rattle.postings_writer.specs.TermWriting.{recorded_count};
 ghost use Rattle.postings_writer.specs.Limits.{CountsPass, SumsPass, TermPasses};
 ghost use Rattle.postings_writer.specs.Occurrences.{by_document};
 ghost use Rattle.postings_writer.specs.Serializing.{CanWrite, HoldsPlaces, IsWrittenTerm, StandsAt, length_of, postings_from, tokens_of};
 ghost use Rattle.postings_writer.specs.declared.recorder.Recorder.TheVariants as recorders;
 
+use crate::FieldSerializer;
 use crate::recorder::Recorder;
 use definitions::Fault;
-use postings_serializer::FieldSerializer;
 use std::alloc::AllocError;
 
 /// Where the places of the document that stands at a place end.

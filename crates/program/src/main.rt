@@ -1,8 +1,7 @@
 //! `index FILE`: answers lines of JSON on standard input over the index of a file, which is made where it is absent.
 #![tactic(auto)]
 
-use common::{RawAndDefault, RunFault};
-use file_device::FileDevice;
+use common::{FileDevice, RawAndDefault, RunFault};
 use index::{run, status_of};
 use std::env::FillError;
 use std::io::{self, BufReader, BufWriter};

@@ -1,3 +1,9 @@
+pub mod Numbers
+pub mod PhraseSteps
+pub mod QueryForms
+pub mod QuerySteps
+-- Lemmas behind the laws.
+pub mod Orders
 -- Lemmas on query trees.
 pub mod TermKinds
 pub mod Positions

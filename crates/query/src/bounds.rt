@@ -10,7 +10,7 @@ ghost use Rattle.query.specs.Ranges.{in_range};
 
 use common::{MAX_SCORE, Score};
 use query_trees::{AnyQuery, Occur};
-use statistics::Statistics;
+use settings::Statistics;
 use terms::Term;
 
 /// A number times a bound; `None` where it is above `MAX_SCORE`, as of a bound.

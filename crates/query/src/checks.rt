@@ -13,7 +13,7 @@ use common::{MAX_SCORE, Score};
 use definitions::Fault;
 use query_trees::{AnyQuery, Occur};
 use schema::Schema;
-use statistics::Statistics;
+use settings::Statistics;
 
 /// The most nodes on a path of a query.
 const MAX_DEPTH: usize = 64;

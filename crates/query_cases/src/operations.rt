@@ -1,9 +1,10 @@
 //! Operations by their names.
 
-use case_lines::{Arguments, Cell, Operations, Refusal, cells, flag, hex, number, pair, text};
-use query::{AnyQuery, Query, QueryClone, check_query};
-use query_grammar::read_query;
-use query_lines::{items_in, query_by_steps, settings_in};
+use case_lines::{
+    Arguments, Cell, Operations, Refusal, cells, flag, hex, items_in, number, pair, query_by_steps,
+    settings_in, text,
+};
+use query::{AnyQuery, Query, QueryClone, check_query, read_query};
 use schema::Schema;
 use serde_json::Value;
 use settings::Settings;

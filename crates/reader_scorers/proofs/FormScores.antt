@@ -1,7 +1,7 @@
 -- What scorers of several forms answer, from what each answers.
 use Rattle.std.proofs.Common.{[], IfNone, IfSome, List, None, Option, Some, ap, arith, filter_map, refl, subst, sym, ◌+◌, ◌∙◌, ◌∷◌, ◌≡◌, ℕ, ℤ}
 use Rattle.std.specs.List.{enumerate_from}
-use Rattle.cursors.specs.Entries.{Entry, from}
+use Rattle.docsets.specs.Entries.{Entry, from}
 use Rattle.definitions.specs.Analyzers.{Analyzer}
 use Rattle.definitions.specs.Answers.{answer_at, answers}
 use Rattle.definitions.specs.Query.{Queries, Query, disjunction_max, empty}
@@ -9,7 +9,7 @@ use Rattle.definitions.specs.Refusing.{tree_fault}
 use Rattle.definitions.specs.Schema.{Schema}
 use Rattle.definitions.specs.Scoring.{Similarity}
 use Rattle.definitions.specs.Values.{Document}
-use Rattle.leaf_scorers.specs.ScoredEntries.{greatest_score, pairs_of}
+use Rattle.docsets.specs.ScoredEntries.{greatest_score, pairs_of}
 use Rattle.node_scorers.specs.Scores.{Scores}
 use Rattle.segment_reader.specs.SegmentReaders.{StandsFor, max_doc_of}
 use Rattle.segment_reader.specs.declared.segment_reader.SegmentReader.{SegmentReader}

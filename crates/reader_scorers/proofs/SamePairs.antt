@@ -1,9 +1,9 @@
 -- What is said of scorers by their documents and scores alone.
 use Rattle.std.proofs.Common.{[], List, ap, arith, filter, false, if◌then◌else◌, map, max, nat_le, refl, sym, true, ◌*◌, ◌∙◌, ◌∷◌, ◌≡◌, Bool, ℕ, ℤ}
-use Rattle.cursors.specs.Entries.{Entry, from}
+use Rattle.docsets.specs.Entries.{Entry, from}
 use Rattle.definitions.specs.Query.{Query, const_score}
 use Rattle.definitions.specs.Scoring.{Similarity, greatest_of, natural}
-use Rattle.leaf_scorers.specs.ScoredEntries.{greatest_score, pairs_of, rescored_by}
+use Rattle.docsets.specs.ScoredEntries.{greatest_score, pairs_of, rescored_by}
 use Rattle.node_scorers.proofs.ConstantScores.{constant_scores}
 use Rattle.node_scorers.specs.Scores.{Scores}
 use Rattle.segment_reader.specs.SegmentReaders.{max_doc_of}

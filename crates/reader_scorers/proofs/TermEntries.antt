@@ -1,7 +1,7 @@
 -- What remains of scorers of terms.
 use Rattle.std.proofs.Common.{[], ap₂, List, map, refl, subst, ◌∷◌, ◌≡◌}
-use Rattle.cursors.specs.Entries.{Entry}
-use Rattle.cursors.specs.declared.doc_set.DocSet.{Ghosts}
+use Rattle.docsets.specs.Entries.{Entry}
+use Rattle.docsets.specs.declared.doc_set.DocSet.{Ghosts}
 use Rattle.reader_scorers.specs.Terms.{of_term}
 use Rattle.reader_scorers.specs.declared.any_query_scorer.AnyScorer.{AnyScorer}
 

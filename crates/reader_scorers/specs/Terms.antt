@@ -2,7 +2,7 @@
 use Rattle.std.specs.Prelude.{⊤, List}
 use Rattle.std.specs.List.{AllByRecursion}
 use Rattle.any_scorer.specs.declared.leaf.Leaf.TheVariants as leaves
-use Rattle.cursors.specs.declared.doc_set.DocSet.{Ghosts}
+use Rattle.docsets.specs.declared.doc_set.DocSet.{Ghosts}
 use Rattle.reader_scorers.specs.declared.any_query_scorer.AnyScorer.{AnyScorer}
 use Rattle.reader_scorers.specs.declared.any_query_scorer.AnyScorer.TheVariants as forms
 

@@ -2,8 +2,7 @@
 
 use any_scorer::Leaf;
 use common::{AliveBitSet, DocId, Score};
-use cursors::{DocSet, SeekDangerResult};
-use leaf_scorers::{ConstScorer, ListScorer, Scorer};
+use docsets::{ConstScorer, DocSet, ListScorer, Scorer, SeekDangerResult};
 
 /// The scorer of a query of any kind: of one that holds no other, with its scores or with one score, or a list of what
 /// one has that holds several. What remains is what remains of the one that it has.
@@ -24,8 +23,8 @@ pub enum AnyScorer<A: Scorer, T: Scorer, P: Scorer, X: Scorer> {
 impl<A: Scorer, T: Scorer, P: Scorer, X: Scorer> DocSet for AnyScorer<A, T, P, X> {
     ghost use Rattle.std.specs.Prelude.{drop};
     ghost use Rattle.any_scorer.specs.declared.leaf.Leaf.TheVariants as leaves;
-    ghost use Rattle.cursors.specs.Entries.{Rising};
-    ghost use Rattle.leaf_scorers.specs.ScoredEntryLaws.{Rising-constant, Rising-scores};
+    ghost use Rattle.docsets.specs.Entries.{Rising};
+    ghost use Rattle.docsets.specs.ScoredEntryLaws.{Rising-constant, Rising-scores};
     ghost use Rattle.reader_scorers.specs.declared.any_query_scorer.AnyScorer.TheVariants as forms;
 
     ghost entries = { elim [

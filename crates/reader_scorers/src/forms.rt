@@ -2,13 +2,12 @@
 
 ghost use Rattle.std.specs.Prelude.{[], ◌≡◌, ◌≤◌, IfNone, IfOk, IfSome};
 ghost use Rattle.definitions.specs.Scoring.{max_score};
-ghost use Rattle.leaf_scorers.specs.ScoredEntries.{pairs_of, rescored_by};
+ghost use Rattle.docsets.specs.ScoredEntries.{pairs_of, rescored_by};
 
 use crate::any_query_scorer::AnyScorer;
 use any_scorer::{Leaf, listed};
 use common::Score;
-use cursors::DocSet;
-use leaf_scorers::{ConstScorer, ListScorer, Scorer};
+use docsets::{ConstScorer, DocSet, ListScorer, Scorer};
 use std::alloc::{AllocError, Global};
 
 /// A scorer with one score for each of its documents.

@@ -6,7 +6,7 @@ ghost use Rattle.definitions.specs.Scoring.{Similarity, max_score};
 ghost use Rattle.node_scorers.specs.Scores.{Scores};
 ghost use Rattle.tree_scorers.specs.Accepted.{IsAccepted};
 
-use leaf_scorers::Scorer;
+use docsets::Scorer;
 use query_trees::{PhrasePrefixQuery, PhraseQuery, TermQuery};
 use segment_reader::SegmentReader;
 use std::alloc::{AllocError, Global};

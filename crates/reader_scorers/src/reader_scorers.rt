@@ -3,7 +3,7 @@
 ghost use Rattle.std.specs.Prelude.{◌+◌, ◌≡◌, ◌≤ℤ◌, ◌≤◌, IfOk, map, pos, ℕ};
 ghost use Rattle.definitions.specs.Query as definitions;
 ghost use Rattle.definitions.specs.Scoring.{max_score};
-ghost use Rattle.members.specs.Members.{greatest_sum};
+ghost use Rattle.docsets.specs.Members.{greatest_sum};
 ghost use Rattle.node_scorers.specs.Asked.{asked, each_query};
 ghost use Rattle.node_scorers.specs.Scores.{AllScore, Scores};
 
@@ -12,8 +12,7 @@ use crate::forms::{of_all, of_list, of_none, of_phrase, of_phrase_prefix, of_ter
 use crate::leaf_weights::LeafWeights;
 use crate::terms_alone::{are_terms, into_terms};
 use common::Score;
-use cursors::DocSet;
-use leaf_scorers::{AllScorer, BoostScorer};
+use docsets::{AllScorer, BoostScorer, DocSet};
 use node_scorers::{all_scorer, best_scorer, clauses_scorer};
 use query_trees::{PhrasePrefixQuery, PhraseQuery, TermQuery};
 use segment_reader::SegmentReader;

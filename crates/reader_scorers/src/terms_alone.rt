@@ -5,8 +5,7 @@ ghost use Rattle.reader_scorers.specs.Terms.{AreTerms, IsTerm, of_term};
 
 use crate::any_query_scorer::AnyScorer;
 use any_scorer::Leaf;
-use cursors::DocSet;
-use leaf_scorers::Scorer;
+use docsets::{DocSet, Scorer};
 use std::alloc::{AllocError, Global};
 use std::collections::VecDeque;
 

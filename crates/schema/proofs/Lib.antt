@@ -2,3 +2,4 @@ pub mod FieldNames
 pub mod FieldSplits
 pub mod ReadBack
 pub mod ReadKinds
+pub mod LengthFields

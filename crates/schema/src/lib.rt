@@ -4,7 +4,9 @@
 mod field_entry;
 mod field_name;
 mod fields;
+mod json_keys;
 pub mod json_laws;
+mod kept_lengths;
 mod read_schema;
 mod schema;
 mod write_schema;
@@ -12,6 +14,8 @@ mod write_schema;
 pub use field_entry::{FieldEntry, FieldType};
 pub use field_name::is_valid_field_name;
 pub use fields::Fields;
+pub use json_keys::{flag_or, has_only, has_only_beside, number_at, number_in, object_at, text_at};
+pub use kept_lengths::length_fields;
 pub use options::{
     BytesOptions, COERCE, DateOptions, FAST, FacetOptions, INDEXED, IndexRecordOption,
     IpAddrOptions, JsonObjectOptions, NumericOptions, STORED, STRING, TEXT, TextFieldIndexing,

@@ -14,8 +14,8 @@ ghost use Rattle.terms.specs.Kinds.{kind_of};
 
 use crate::field_entry::FieldType;
 use crate::schema::Schema;
+use crate::{flag_or, has_only, object_at, text_at};
 use definitions::Fault;
-use json_keys::{flag_or, has_only, object_at, text_at};
 use options::{
     BytesOptions, DateOptions, FacetOptions, IndexRecordOption, IpAddrOptions, JsonObjectOptions,
     NumericOptions, TextFieldIndexing, TextOptions,

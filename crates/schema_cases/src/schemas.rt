@@ -1,7 +1,6 @@
 //! Schemas: fields that are added one by one, and JSON.
 
-use case_lines::{Arguments, Refusal, flag, number, pair, text};
-use document_lines::made;
+use case_lines::{Arguments, Refusal, flag, made, number, pair, text};
 use options::IndexRecordOption;
 use schema::{FieldEntry, Schema, is_valid_field_name};
 use serde_json::Value;

@@ -2,14 +2,14 @@
 use Rattle.std.proofs.Common.{[], List, ap, arith, length, refl, subst, ◌≡◌, ◌∙◌, ◌∷◌, ℕ}
 use Rattle.std.proofs.Math.Logic.{∥∥₁_elim}
 use Rattle.std.proofs.Props.{props}
-use Rattle.cursors.specs.Entries.{Entry, from}
+use Rattle.docsets.specs.Entries.{Entry, from}
 use Rattle.definitions.specs.Analyzers.{Analyzer}
 use Rattle.definitions.specs.KeptLengths.{norms_of}
 use Rattle.definitions.specs.Postings.{Posting, postings}
 use Rattle.definitions.specs.Schema.{Schema}
 use Rattle.definitions.specs.Values.{Document}
-use Rattle.inverted_index_reader.proofs.GivenPostings.{given_held}
-use Rattle.inverted_index_reader.specs.Readers.{Contents, Reader, postings_held}
+use Rattle.segment_reader.proofs.GivenPostings.{given_held}
+use Rattle.segment_reader.specs.Readers.{Contents, Reader, postings_held}
 use Rattle.segment_reader.specs.SegmentReaders.{StandsFor, index_of, known_together, lengths_of, max_doc_of}
 use Rattle.segment_reader.specs.Together.{AreTogether}
 use Rattle.segment_reader.specs.declared.segment_reader.SegmentReader.{SegmentReader}

@@ -1,7 +1,7 @@
 -- How many living documents match.
 use Rattle.std.proofs.Common.{[], Bool, List, None, Some, ap, arith, count_by, false, if◌then◌else◌, length, map, refl, slice_index_or, sym, true, ◌+◌, ◌<◌, ◌∙◌, ◌≡◌, ◌≤◌, ℕ}
 use Rattle.common.specs.BitSets.{count_set}
-use Rattle.cursors.specs.Entries.{Entry}
+use Rattle.docsets.specs.Entries.{Entry}
 use Rattle.definitions.specs.Alive.{Segment}
 use Rattle.definitions.specs.Analyzers.{Analyzer}
 use Rattle.definitions.specs.Answers.{living_count}
@@ -12,7 +12,7 @@ use Rattle.definitions.specs.Query.{Query, all, term}
 use Rattle.definitions.specs.Recorded.{count_of, holds, positions_of}
 use Rattle.definitions.specs.Refusing.{tree_fault}
 use Rattle.definitions.specs.Schema.{IndexRecordOption, Schema}
-use Rattle.inverted_index_reader.specs.OpenedTerms.{entry_as}
+use Rattle.segment_reader.specs.OpenedTerms.{entry_as}
 use Rattle.scorer_answers.proofs.AliveRows.{TellAlive, as_many_alive, by_flags, by_none}
 use Rattle.scorer_answers.proofs.CountedRows.{count_picked}
 use Rattle.scorer_answers.proofs.EntryCounts.{count-all, count-map}

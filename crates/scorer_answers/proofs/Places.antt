@@ -1,12 +1,12 @@
 -- The score of a document on which a cursor is asked to stand.
 use Rattle.std.proofs.Common.{[], List, ap, arith, false, if◌then◌else◌, refl, sym, ◌+◌, ◌<◌, ◌==◌, ◌∙◌, ◌∷◌, ◌≡◌, ◌≤◌, ℕ}
 use Rattle.std.proofs.lemmas.Bool.Decides.{nat_tests}
-use Rattle.cursors.specs.Danger.{Missed}
-use Rattle.cursors.specs.Entries.{Entry, Rising, first, first_score, from}
-use Rattle.cursors.specs.EntryLaws.{Rising-from}
+use Rattle.docsets.specs.Danger.{Missed}
+use Rattle.docsets.specs.Entries.{Entry, Rising, first, first_score, from}
+use Rattle.docsets.specs.EntryLaws.{Rising-from}
 use Rattle.definitions.specs.Postings.{terminated}
-use Rattle.members.specs.MemberLaws.{entries-kept, entries-low, scores-on}
-use Rattle.members.specs.Members.{entries_of, scores_in}
+use Rattle.docsets.specs.MemberLaws.{entries-kept, entries-low, scores-on}
+use Rattle.docsets.specs.Members.{entries_of, scores_in}
 
 -- where it stands on the document, that is its score
 pub stood_on : (d : ℕ) (before after : List Entry) → Rising 0 after → d < terminated → first after ≡ d → after ≡ from d before → scores_in (entries_of d before) ≡ first_score after ∷ []

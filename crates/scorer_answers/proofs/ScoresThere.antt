@@ -2,7 +2,7 @@
 use Rattle.std.proofs.Common.{[], List, None, Option, Some, ap, false, inl, inr, if◌then◌else◌, length, option_and_then, refl, slice_get, sym, true, ◌∙◌, ◌∷◌, ◌≡◌, ◌≤◌, ℕ}
 use Rattle.std.proofs.lemmas.Option.{slice_get_cases}
 use Rattle.any_scorer.specs.Clauses.{scores_of}
-use Rattle.cursors.specs.Entries.{Entry}
+use Rattle.docsets.specs.Entries.{Entry}
 use Rattle.definitions.specs.Analyzers.{Analyzer}
 use Rattle.definitions.specs.Matching.{matches}
 use Rattle.definitions.specs.Query.{Query}

@@ -1,8 +1,8 @@
 -- Documents with scores as lists of numbers have them.
 use Rattle.std.proofs.Common.{[], Err, IfErr, IfOk, List, Ok, Result, ap, pos, refl, ◌∷◌, ◌≡◌}
-use Rattle.unions.specs.Signed.{signed}
-use Rattle.cursors.specs.Entries.{Entry}
-use Rattle.leaf_scorers.specs.ScoredEntries.{pairs_of}
+use Rattle.scorers.specs.Signed.{signed}
+use Rattle.docsets.specs.Entries.{Entry}
+use Rattle.docsets.specs.ScoredEntries.{pairs_of}
 use Rattle.scorer_answers.specs.Listed.{signed_pairs}
 
 pub signed_entries : (es : List Entry) → signed es ≡ signed_pairs (pairs_of es)

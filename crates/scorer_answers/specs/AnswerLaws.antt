@@ -1,8 +1,8 @@
 -- Laws of scorers that answer queries: what answers a query matches it, and there is no more of it than documents.
 use Rattle.std.proofs.Common.{[], List, None, Some, ap, arith, false, filter_map, if◌then◌else◌, length, map, refl, sym, true, ◌+◌, ◌-◌, ◌∙◌, ◌∷◌, ◌≡◌, ◌≤◌, ℕ}
 use Rattle.std.specs.List.{cons_option, enumerate_from}
-use Rattle.cursors.specs.Entries.{Entry, Rising, from}
-use Rattle.cursors.specs.EntryLaws.{from-in, from-out}
+use Rattle.docsets.specs.Entries.{Entry, Rising, from}
+use Rattle.docsets.specs.EntryLaws.{from-in, from-out}
 use Rattle.definitions.specs.Analyzers.{Analyzer}
 use Rattle.definitions.specs.Answers.{answer_at, answers}
 use Rattle.definitions.specs.Matching.{matches}
@@ -11,8 +11,8 @@ use Rattle.definitions.specs.Schema.{Schema}
 use Rattle.definitions.specs.ScoredLists.{documents_of}
 use Rattle.definitions.specs.Scoring.{Similarity, score}
 use Rattle.definitions.specs.Values.{Document}
-use Rattle.leaf_scorers.specs.ScoredEntries.{pairs_of}
-use Rattle.leaf_scorers.specs.ScoredEntryLaws.{by_place}
+use Rattle.docsets.specs.ScoredEntries.{pairs_of}
+use Rattle.docsets.specs.ScoredEntryLaws.{by_place}
 use Rattle.node_scorers.specs.Scores.{Scores}
 use Rattle.scorer_answers.specs.Matching.{Matches, matching}
 use Rattle.segment_reader.specs.SegmentReaders.{max_doc_of}

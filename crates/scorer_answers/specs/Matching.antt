@@ -1,7 +1,7 @@
 -- Which documents of a segment match, whatever their scores.
 use Rattle.std.specs.Prelude.{◌≡◌, List, None, Some, filter_map, if◌then◌else◌, map, ℕ}
 use Rattle.std.specs.List.{enumerate_from}
-use Rattle.cursors.specs.Entries.{Entry}
+use Rattle.docsets.specs.Entries.{Entry}
 use Rattle.definitions.specs.Analyzers.{Analyzer}
 use Rattle.definitions.specs.Matching.{matches}
 use Rattle.definitions.specs.Query.{Query}

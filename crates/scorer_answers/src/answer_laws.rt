@@ -1,7 +1,7 @@
 //! Laws of scorers that answer queries.
 
 ghost use Rattle.std.specs.Prelude.{◌≤◌, List, length, ℕ};
-ghost use Rattle.cursors.specs.Entries.{Entry, Rising};
+ghost use Rattle.docsets.specs.Entries.{Entry, Rising};
 ghost use Rattle.definitions.specs.Query.{Query};
 ghost use Rattle.definitions.specs.Scoring as scoring;
 ghost use Rattle.node_scorers.specs.Scores.{Scores};

@@ -1,7 +1,7 @@
 //! How many living documents match.
 
 ghost use Rattle.std.specs.Prelude.{[], ◌≡◌, ◌≤◌, IfNone, IfSome, List, None, Some, length, ℕ};
-ghost use Rattle.cursors.specs.Entries.{from};
+ghost use Rattle.docsets.specs.Entries.{from};
 ghost use Rattle.definitions.specs.Alive.{Segment};
 ghost use Rattle.definitions.specs.Analyzers.{Analyzer};
 ghost use Rattle.definitions.specs.Answers.{living_count};
@@ -14,7 +14,7 @@ ghost use Rattle.scorer_answers.specs.Rows.{HasRows};
 ghost use Rattle.segment_reader.specs.SegmentReaders.{alive_in, max_doc_of, num_alive};
 
 use common::AliveBitSet;
-use cursors::DocSet;
+use docsets::DocSet;
 use options::IndexRecordOption;
 use segment_reader::SegmentReader;
 use terms::Term;

@@ -1,7 +1,7 @@
 //! The score of one document, explained.
 
 ghost use Rattle.std.specs.Prelude.{◌<◌, ◌≡◌, ◌≢◌, IfErr, IfOk, List, None, OnErr, OnOk, Some, option_map, pos, ℕ};
-ghost use Rattle.cursors.specs.Entries.{first, first_score, from};
+ghost use Rattle.docsets.specs.Entries.{first, first_score, from};
 ghost use Rattle.definitions.specs.Analyzers.{Analyzer};
 ghost use Rattle.definitions.specs.Postings.{terminated};
 ghost use Rattle.definitions.specs.Query.{Query};
@@ -17,9 +17,8 @@ ghost use Rattle.segment_reader.specs.declared.segment_reader.SegmentReader.{Seg
 ghost use Rattle.term_scorer.specs.Explaining.{explained_value};
 
 use common::{DocId, TERMINATED};
-use cursors::{DocSet, SeekDangerResult};
 use definitions::Fault;
-use leaf_scorers::Scorer;
+use docsets::{DocSet, Scorer, SeekDangerResult};
 use std::alloc::Global;
 use term_scorer::Explanation;
 

@@ -18,8 +18,7 @@ ghost use Rattle.segment_reader.specs.declared.segment_reader.SegmentReader.{Seg
 
 use any_scorer::for_each_scorer;
 use common::{DocId, Score};
-use cursors::DocSet;
-use leaf_scorers::Scorer;
+use docsets::{DocSet, Scorer};
 use phrases::{BlockSink, Sink, for_each_docset_buffered, for_each_pruning_scorer};
 use std::alloc::{AllocError, Global};
 

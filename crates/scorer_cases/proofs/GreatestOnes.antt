@@ -1,6 +1,6 @@
 -- The greatest score of documents that each have score 1.
 use Rattle.std.proofs.Common.{arith, max, suc, zero, ◌*◌, ◌+◌, ◌≤◌, ℕ}
-use Rattle.leaf_scorers.specs.ScoredEntries.{all_from, greatest_score}
+use Rattle.docsets.specs.ScoredEntries.{all_from, greatest_score}
 
 pub ones-greatest : (doc count : ℕ) → greatest_score (all_from doc count) ≤ 1
 ones-greatest doc zero = omega arith

@@ -1,10 +1,10 @@
 -- The greatest scores of members and of what they make.
 use Rattle.std.proofs.Common.{[], Bool, List, ap, arith, false, if◌then◌else◌, map, max, sum, true, ◌+◌, ◌∷◌, ◌≡◌, ◌≤◌, ℕ}
-use Rattle.cursors.specs.Entries.{Entry, Rising}
+use Rattle.docsets.specs.Entries.{Entry, Rising}
 use Rattle.intersections.specs.Differences.{without}
-use Rattle.leaf_scorers.specs.ScoredEntries.{greatest_score}
-use Rattle.members.specs.AtLeastLaws.{greatest-joined, greatest-summed}
-use Rattle.members.specs.Members.{at_least, combining, greatest_sum, joining}
+use Rattle.docsets.specs.ScoredEntries.{greatest_score}
+use Rattle.docsets.specs.AtLeastLaws.{greatest-joined, greatest-summed}
+use Rattle.docsets.specs.Members.{at_least, combining, greatest_sum, joining}
 
 -- three members
 pub of_three : {X : Type 0} (entries : X → List Entry) (bound : ℕ) (xs : List X) (x y z : X) → xs ≡ x ∷ y ∷ z ∷ [] → greatest_score (entries x) ≤ bound → greatest_score (entries y) ≤ bound → greatest_score (entries z) ≤ bound → greatest_sum (map entries xs) ≤ bound + bound + bound

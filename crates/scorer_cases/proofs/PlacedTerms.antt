@@ -5,15 +5,15 @@ use Rattle.std.proofs.lemmas.List.Sums.{sum_by-cons}
 use Rattle.std.specs.List.{sum_by}
 use Rattle.definitions.specs.Postings.{Posting}
 use Rattle.definitions.specs.Schema.{with_freqs_and_positions}
-use Rattle.cursors.specs.Entries.{Entry}
-use Rattle.inverted_index_reader.specs.OpenedTerms.{entry_as}
-use Rattle.leaf_scorers.specs.CombiningLaws.{sum-cons}
-use Rattle.leaf_scorers.specs.ScoredEntries.{greatest_score}
-use Rattle.members.specs.AtLeastLaws.{greatest-last}
-use Rattle.members.specs.LeaderLaws.{entries-last}
-use Rattle.members.specs.Members.{entries_at, entries_of, greatest_sum}
-use Rattle.unions.specs.Uniting.{counts_in}
-use Rattle.unions.specs.UnitingLaws.{counts-append}
+use Rattle.docsets.specs.Entries.{Entry}
+use Rattle.segment_reader.specs.OpenedTerms.{entry_as}
+use Rattle.docsets.specs.CombiningLaws.{sum-cons}
+use Rattle.docsets.specs.ScoredEntries.{greatest_score}
+use Rattle.docsets.specs.AtLeastLaws.{greatest-last}
+use Rattle.docsets.specs.LeaderLaws.{entries-last}
+use Rattle.docsets.specs.Members.{entries_at, entries_of, greatest_sum}
+use Rattle.scorers.specs.Uniting.{counts_in}
+use Rattle.scorers.specs.UnitingLaws.{counts-append}
 
 -- the entries of a term
 abbrev told : List Posting → List Entry

@@ -1,9 +1,9 @@
 -- Lists of entries with the same documents.
 use Rattle.std.proofs.Common.{[], List, ap, ap₂, arith, drop, sym, ◌<◌, ◌∙◌, ◌∷◌, ◌≡◌, ◌≤◌}
 use Rattle.definitions.specs.Postings.{terminated}
-use Rattle.cursors.specs.Entries.{Entry, Rising, first}
-use Rattle.cursors.specs.EntryLaws.{none_left}
-use Rattle.unions.specs.Documents.{documents}
+use Rattle.docsets.specs.Entries.{Entry, Rising, first}
+use Rattle.docsets.specs.EntryLaws.{none_left}
+use Rattle.scorers.specs.Documents.{documents}
 
 -- where the first is the same, and what follows
 pub same-before : (es fs gs hs : List Entry) → first es < terminated → first fs ≡ first es → gs ≡ drop 1 es → hs ≡ drop 1 fs → documents gs ≡ documents hs → documents es ≡ documents fs

@@ -1,12 +1,12 @@
 //! How many documents a list has, and how many are alive.
 
 ghost use Rattle.std.specs.Prelude.{[], ◌≡◌, OnOk, length, true};
-ghost use Rattle.cursors.specs.Entries.{from};
+ghost use Rattle.docsets.specs.Entries.{from};
 
 use crate::leaves::ascend;
 use case_lines::{Arguments, Refusal, number};
 use common::{AliveBitSet, DocId, HasLen, TERMINATED};
-use cursors::DocSet;
+use docsets::DocSet;
 use scorers::{AllScorer, VecDocSet};
 use serde_json::Value;
 use std::alloc::Global;

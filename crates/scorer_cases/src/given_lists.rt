@@ -1,13 +1,13 @@
 //! Lists of documents with scores, as cases give them.
 
 ghost use Rattle.std.specs.Prelude.{◌*◌, ◌≡◌, ◌≤◌, IfOk, OnOk, length, map, true};
-ghost use Rattle.leaf_scorers.specs.ScoredEntries.{greatest_score, naturals, scored};
-ghost use Rattle.members.specs.Members.{greatest_sum};
+ghost use Rattle.docsets.specs.ScoredEntries.{greatest_score, naturals, scored};
+ghost use Rattle.docsets.specs.Members.{greatest_sum};
 
 use crate::leaves::are_scores;
 use case_lines::Refusal;
 use common::{DocId, Score};
-use cursors::DocSet;
+use docsets::DocSet;
 use scorers::ListScorer;
 use serde_json::Value;
 use std::alloc::Global;

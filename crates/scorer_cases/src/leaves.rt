@@ -2,7 +2,7 @@
 
 ghost use Rattle.std.specs.Prelude.{◌≡◌, ◌≤◌, true};
 ghost use Rattle.definitions.specs.ScoredLists.{AreScoredFrom, each_scoring};
-ghost use Rattle.leaf_scorers.specs.ScoredEntries.{AreScores};
+ghost use Rattle.docsets.specs.ScoredEntries.{AreScores};
 
 use crate::moves::moved;
 use case_lines::{Arguments, Refusal};

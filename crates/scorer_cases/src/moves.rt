@@ -3,7 +3,7 @@
 
 use case_lines::{Refusal, flag, number, numbers};
 use common::TERMINATED;
-use cursors::{DocSet, SeekDangerResult};
+use docsets::{DocSet, SeekDangerResult};
 use scorers::Scorer;
 use serde_json::Value;
 use std::alloc::Global;

@@ -1,13 +1,13 @@
 //! Combinators of combinators: unions of intersections, and intersections of unions and differences.
 
 ghost use Rattle.std.specs.Prelude.{◌≡◌, ◌≤◌, IfOk, length, map};
-ghost use Rattle.leaf_scorers.specs.ScoredEntries.{greatest_score};
-ghost use Rattle.members.specs.Members.{greatest_sum};
+ghost use Rattle.docsets.specs.ScoredEntries.{greatest_score};
+ghost use Rattle.docsets.specs.Members.{greatest_sum};
 
 use crate::given_lists::lists;
 use crate::moves::moved;
 use case_lines::{Arguments, Refusal};
-use cursors::DocSet;
+use docsets::DocSet;
 use scorers::{
     BufferedUnionScorer, Disjunction, Exclude, ExclusionList, Intersection, ListScorer, Scorer,
     SimpleUnion, SumCombiner,

@@ -3,19 +3,18 @@
 ghost use Rattle.std.specs.Prelude.{◌<◌, ◌≡◌, ◌≤◌, IfOk, List, None, OnOk, map, sum, ℕ};
 ghost use Rattle.definitions.specs.Postings.{Posting};
 ghost use Rattle.definitions.specs.Schema.{with_freqs_and_positions};
-ghost use Rattle.inverted_index_reader.specs.OpenedTerms.{HasTerm, entry_as};
-ghost use Rattle.leaf_scorers.specs.ScoredEntries.{greatest_score};
-ghost use Rattle.members.specs.Members.{entries_at, entries_of, greatest_sum};
+ghost use Rattle.segment_reader.specs.OpenedTerms.{HasTerm, entry_as};
+ghost use Rattle.docsets.specs.ScoredEntries.{greatest_score};
+ghost use Rattle.docsets.specs.Members.{entries_at, entries_of, greatest_sum};
 ghost use Rattle.segment_postings.specs.Cursors.{entries_left};
-ghost use Rattle.unions.specs.Uniting.{counts_in};
+ghost use Rattle.scorers.specs.Uniting.{counts_in};
 
 use case_lines::Refusal;
-use checked_postings::check_term;
 use common::TERMINATED;
 use options::IndexRecordOption;
 use positions::{PositionReader, PositionSerializer};
-use postings_serializer::PostingsSerializer;
-use segment_postings::SegmentPostings;
+use postings_writer::PostingsSerializer;
+use segment_postings::{SegmentPostings, check_term};
 use serde_json::Value;
 use skips::Recorded;
 use std::alloc::Global;

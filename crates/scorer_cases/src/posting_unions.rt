@@ -2,14 +2,14 @@
 //! which puts positions, each plus the first number, to the other numbers.
 
 ghost use Rattle.std.specs.Prelude.{◌≡◌, true};
-ghost use Rattle.unions.specs.Documents.{documents};
+ghost use Rattle.scorers.specs.Documents.{documents};
 
 use crate::leaves::set_of;
 use crate::moves::walked;
 use crate::placed_terms::{all_opened_twice, placed_terms, small};
 use case_lines::{Arguments, Refusal, number, numbers};
 use common::TERMINATED;
-use cursors::{DocSet, Postings};
+use docsets::{DocSet, Postings};
 use scorers::{BitSetDocSet, BitSetPostingUnion, SimpleUnion};
 use serde_json::Value;
 use std::alloc::Global;

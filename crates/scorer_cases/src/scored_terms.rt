@@ -1,7 +1,7 @@
 //! Scorers of terms.
 
 ghost use Rattle.std.specs.Prelude.{[], ◌<◌, ◌≡◌, List, false, length, true, ℕ};
-ghost use Rattle.cursors.specs.Entries.{first, from};
+ghost use Rattle.docsets.specs.Entries.{first, from};
 ghost use Rattle.definitions.specs.Postings.{terminated};
 ghost use Rattle.definitions.specs.Scoring.{DontFall};
 ghost use Rattle.segment_postings.specs.Cursors.{entries_left};
@@ -12,7 +12,7 @@ use crate::moves::moved;
 use crate::written_terms::{opened, written};
 use case_lines::{Arguments, Refusal, number};
 use common::{MAX_SCORE, Score, TERMINATED};
-use cursors::DocSet;
+use docsets::DocSet;
 use fieldnorms::FieldNormReader;
 use scorers::{Scorer, Similarity, TermScorer};
 use segment_postings::SegmentPostings;

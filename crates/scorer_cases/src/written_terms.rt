@@ -1,7 +1,7 @@
 //! The bytes of a term's postings, and cursors over them.
 
 ghost use Rattle.std.specs.Prelude.{[], ◌<◌, ◌≡◌, IfOk, List, None, OnOk, false, if◌then◌else◌, length, replicate, true, ℕ};
-ghost use Rattle.postings_serializer.specs.TermWriting.{AreWritten};
+ghost use Rattle.postings_writer.specs.TermWriting.{AreWritten};
 ghost use Rattle.segment_postings.specs.Cursors.{entries_left};
 ghost use Rattle.segment_postings.specs.Reading.{HasPostings};
 ghost use Rattle.segment_postings.specs.TermEntries.{entries_of};
@@ -9,7 +9,7 @@ ghost use Rattle.segment_postings.specs.TermEntries.{entries_of};
 use case_lines::Refusal;
 use common::TERMINATED;
 use options::IndexRecordOption;
-use postings_serializer::PostingsSerializer;
+use postings_writer::PostingsSerializer;
 use segment_postings::SegmentPostings;
 use skips::Recorded;
 use std::alloc::Global;

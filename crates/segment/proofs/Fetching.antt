@@ -13,8 +13,8 @@ use Rattle.segment.proofs.StoredBack.{stored_back}
 use Rattle.segment.specs.Opened.{IsOpened, StandsFor}
 use Rattle.segment.specs.SlotDocuments.{IsNoDocument, IsSlotOf}
 use Rattle.segment.specs.declared.segment.Segment.{Segment}
-use Rattle.segment_layouts.specs.Segments.{IsTaken, Sections}
-use Rattle.segment_layouts.specs.Slots.{slot, slots}
+use Rattle.segment_definitions.specs.Segments.{IsTaken, Sections}
+use Rattle.segment_definitions.specs.Slots.{slot, slots}
 use Rattle.store.proofs.DocumentSlots.{slot_below}
 use Rattle.store.proofs.Opened.{holds_same}
 use Rattle.store.proofs.Readers.{slot_is}

@@ -13,13 +13,13 @@ use Rattle.definitions.specs.Schema.{Schema}
 use Rattle.definitions.specs.Values.{Document}
 use Rattle.fieldnorms.proofs.Sections.{norms_lent}
 use Rattle.fieldnorms.specs.Readers.{norms_in}
-use Rattle.inverted_index_reader.specs.CheckedTerms as reading
-use Rattle.inverted_index_reader.specs.Readers.{AreKnown, IsReader, Reader}
+use Rattle.segment_reader.specs.CheckedTerms as reading
+use Rattle.segment_reader.specs.Readers.{AreKnown, IsReader, Reader}
 use Rattle.layouts.specs.FieldNorms.{IsNorms}
 use Rattle.layouts.specs.InvertedIndexes.{AreSections, IndexedField}
 use Rattle.layouts.specs.Stores.{AreBlocks, Block, store_bytes}
-use Rattle.segment_layouts.specs.Segments.{AreWritten, IsSegment, IsSegmentOf, Sections, section_bytes}
-use Rattle.segment_layouts.specs.Slots.{slot, slots}
+use Rattle.segment_definitions.specs.Segments.{AreWritten, IsSegment, IsSegmentOf, Sections, section_bytes}
+use Rattle.segment_definitions.specs.Slots.{slot, slots}
 use Rattle.segment.proofs.OneReading.{AreKept, HasFields, bytes_before, fields_found, norms_found}
 use Rattle.segment.proofs.Opening.{AreParts, parts_told}
 use Rattle.segment.proofs.SectionsBack.{bytes_listed, listed}

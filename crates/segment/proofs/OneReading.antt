@@ -3,19 +3,19 @@ use Rattle.std.proofs.Common.{[], List, ap, append_assoc, arith, ap₂, length, 
 use Rattle.std.proofs.Math.Logic.{∥∥₁_elim}
 use Rattle.std.proofs.Props.{props}
 use Rattle.std.specs.List.{AllByRecursion}
-use Rattle.checked_postings.proofs.OneTerm.{one_term}
-use Rattle.checked_postings.specs.Placed.{term_of}
+use Rattle.segment_postings.proofs.OneTerm.{one_term}
+use Rattle.segment_postings.specs.Placed.{term_of}
 use Rattle.common.proofs.Many.{bytes_after}
 use Rattle.definitions.specs.KeptLengths.{length_fields}
 use Rattle.definitions.specs.NumberCodes.{AreBytes}
 use Rattle.definitions.specs.Schema.{IndexRecordOption, Schema, max_fields}
 use Rattle.fieldnorms.proofs.Sections.{norms_lent}
 use Rattle.fieldnorms.specs.Readers.{norms_in}
-use Rattle.inverted_index_reader.proofs.KindsKnown.{fields_small}
-use Rattle.inverted_index_reader.proofs.OneReading.{same_fields}
-use Rattle.inverted_index_reader.proofs.SectionsThere.{sections_there}
-use Rattle.inverted_index_reader.proofs.TermBytes.{all_positions, all_postings, positions_of, postings_of, told_of}
-use Rattle.inverted_index_reader.specs.CheckedTerms.{Sections}
+use Rattle.segment_reader.proofs.KindsKnown.{fields_small}
+use Rattle.segment_reader.proofs.OneReading.{same_fields}
+use Rattle.segment_reader.proofs.SectionsThere.{sections_there}
+use Rattle.segment_reader.proofs.TermBytes.{all_positions, all_postings, positions_of, postings_of, told_of}
+use Rattle.segment_reader.specs.CheckedTerms.{Sections}
 use Rattle.layouts.specs.FieldNorms.{IsNorms}
 use Rattle.layouts.specs.InvertedIndexes.{AreSections, IndexedField, IndexedTerm, IsField, IsTerm, field_ids, field_terms, indexed_fields, lengths_of, option_of_term, term_of_key}
 use Rattle.layouts.specs.TermSections.{FieldTerms, TermLengths}

@@ -6,7 +6,7 @@ use Rattle.definitions.specs.Schema.{Schema}
 use Rattle.layouts.specs.FieldNorms.{IsNorms}
 use Rattle.layouts.specs.InvertedIndexes.{AreSections, IndexedField}
 use Rattle.layouts.specs.Stores.{AreBlocks, Block, store_bytes}
-use Rattle.segment_layouts.specs.Segments.{AreWritten, IsSegment, Sections, section_bytes}
+use Rattle.segment_definitions.specs.Segments.{AreWritten, IsSegment, Sections, section_bytes}
 use Rattle.segment.proofs.SectionsBack.{all_short, five, listed, number_found, sections_found, sections_short}
 
 abbrev of_listed : List (List ℕ) → Sections

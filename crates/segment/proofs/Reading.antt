@@ -7,12 +7,12 @@ use Rattle.definitions.specs.Postings.{postings}
 use Rattle.definitions.specs.Schema.{Schema}
 use Rattle.definitions.specs.Values.{Document}
 use Rattle.fieldnorms.proofs.Sections.{norms_lent}
-use Rattle.inverted_index_reader.proofs.GivenPostings.{given_held}
-use Rattle.inverted_index_reader.specs.Readers.{Contents, IsReader, postings_held}
+use Rattle.segment_reader.proofs.GivenPostings.{given_held}
+use Rattle.segment_reader.specs.Readers.{Contents, IsReader, postings_held}
 use Rattle.layouts.specs.Deltas.{IsAscendingFrom}
 use Rattle.layouts.specs.FieldNorms.{IsNorms}
 use Rattle.layouts.specs.InvertedIndexes.{AreSections}
-use Rattle.segment_layouts.specs.Segments.{Sections}
+use Rattle.segment_definitions.specs.Segments.{Sections}
 use Rattle.segment_reader.specs.SegmentReaders as readers
 use Rattle.segment_reader.specs.declared.segment_reader.SegmentReader.{SegmentReader}
 use Rattle.segment.proofs.Opening.{norms_over, one_segment}

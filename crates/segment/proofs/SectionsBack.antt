@@ -10,7 +10,7 @@ use Rattle.definitions.specs.Json.{◌>>=◌}
 use Rattle.definitions.specs.NumberCodes.{AreBytes, take_u32, take_u64, u32_bytes, u64_bytes}
 use Rattle.layouts.specs.DocumentReading.{take_many, taken_map}
 use Rattle.layouts.specs.Stores.{max_docs}
-use Rattle.segment_layouts.specs.Segments.{AreWritten, Sections, section_bytes, segment_bytes}
+use Rattle.segment_definitions.specs.Segments.{AreWritten, Sections, section_bytes, segment_bytes}
 use Rattle.segment.specs.Sections.{counted_bytes, take_section}
 
 -- ---- one section

@@ -6,7 +6,7 @@ use Rattle.definitions.specs.Postings.{Posting, posting_of, postings}
 use Rattle.definitions.specs.Recorded.{count_of, holds, positions_of}
 use Rattle.definitions.specs.Schema.{Schema}
 use Rattle.definitions.specs.Values.{Document}
-use Rattle.segment_lists.specs.Rows.{flagged, struck}
+use Rattle.segment_definitions.specs.Rows.{flagged, struck}
 use Rattle.segment.specs.Killed.{killed}
 
 -- a flag behind others

@@ -5,11 +5,11 @@ use Rattle.definitions.specs.KeptLengths.{length_fields}
 use Rattle.definitions.specs.Schema.{Schema}
 use Rattle.definitions.specs.Values.{Document}
 use Rattle.fieldnorms.specs.Readers.{norms_in}
-use Rattle.inverted_index_reader.specs.Readers.{IsReader, Reader}
+use Rattle.segment_reader.specs.Readers.{IsReader, Reader}
 use Rattle.layouts.specs.FieldNorms.{IsNorms}
 use Rattle.layouts.specs.InvertedIndexes.{AreSections, IndexedField}
 use Rattle.layouts.specs.Stores.{AreBlocks, Block, store_bytes}
-use Rattle.segment_layouts.specs.Segments.{AreWritten, IsSegmentOf, Sections}
+use Rattle.segment_definitions.specs.Segments.{AreWritten, IsSegmentOf, Sections}
 use Rattle.segment.specs.declared.segment.Segment.{Segment}
 
 -- its bytes

@@ -2,7 +2,7 @@
 use Rattle.std.specs.Prelude.{List, Option, ℕ}
 use Rattle.definitions.specs.Json.{◌>>=◌}
 use Rattle.definitions.specs.NumberCodes.{take_count, take_u64}
-use Rattle.segment_layouts.specs.Segments as layout
+use Rattle.segment_definitions.specs.Segments as layout
 use Rattle.segment.specs.declared.sections.Sections.{Sections}
 
 -- their bytes

@@ -1,13 +1,12 @@
 //! Documents: which of them an add takes, and what is read of them from their slots.
 
 ghost use Rattle.std.specs.Prelude.{◌<◌, ◌^◌, ◌≡◌, ◌⊎◌, ◌↔◌, IfErr, IfOk, IsTrue, List, None, length};
-ghost use Rattle.definitions.specs.Calls.{has_unknown_field};
 ghost use Rattle.definitions.specs.declared.fault.Fault.TheVariants as faults;
 ghost use Rattle.segment.specs.SlotDocuments.{IsNoDocument, IsSlotOf};
-ghost use Rattle.segment_layouts.specs.Segments.{IsTaken};
+ghost use Rattle.segment_definitions.specs.Segments.{IsTaken};
 
 use definitions::Fault;
-use document::CompactDoc;
+use document::{CompactDoc, has_unknown_field};
 use schema::Schema;
 use std::alloc::Global;
 
@@ -31,16 +30,4 @@ pub fn is_taken(schema: &Schema, doc: &CompactDoc) -> bool
 {
     let _pairs = doc.len();
     !has_unknown_field(schema, doc) && doc.indexable(schema)
-}
-
-/// Whether there is a value of a field that the schema doesn't have.
-fn has_unknown_field(schema: &Schema, doc: &CompactDoc) -> bool
-    ensures { result ≡ has_unknown_field schema.now doc.now }
-{
-    for (field, _) in doc.field_values() {
-        if field.field_id() as usize >= schema.num_fields() {
-            return true;
-        }
-    }
-    false
 }

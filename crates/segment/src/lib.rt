@@ -1,13 +1,26 @@
-//! Segments: their bytes checked whole but for the blocks of the store, and opened; their documents read and deleted.
+//! Segments: written of documents, opened from bytes that are checked whole but for the store's blocks, read, deleted
+//! in, and merged.
 #![tactic(auto)]
 
-mod checks;
-mod deleting;
+mod deletions;
 mod documents;
-mod known;
+mod known_parts;
+mod living_counts;
+mod member_segments;
+mod merged_norms;
+mod merged_slots;
+mod merged_terms;
+mod merger;
+pub mod readings;
+mod section_checks;
+mod section_list;
 mod sections;
 mod segment;
+mod segment_writer;
 
-pub use deleting::delete_in;
+pub use deletions::delete_in;
 pub use documents::is_taken;
+pub use merger::{merge_lists, merge_segments};
+pub use section_list::Sections;
 pub use segment::Segment;
+pub use segment_writer::SegmentWriter;

@@ -5,8 +5,8 @@ ghost use Rattle.definitions.specs.NumberCodes.{AreBytes, take_u32};
 ghost use Rattle.definitions.specs.declared.fault.Fault.TheVariants as faults;
 ghost use Rattle.layouts.specs.Stores.{max_docs};
 ghost use Rattle.segment.specs.Sections.{sections_in, take_section};
-ghost use Rattle.segment_layouts.specs.Segments as layout;
-ghost use Rattle.segment_layouts.specs.Segments.{AreWritten};
+ghost use Rattle.segment_definitions.specs.Segments as layout;
+ghost use Rattle.segment_definitions.specs.Segments.{AreWritten};
 
 use bytes::Bytes;
 use common::{TERMINATED, take_u32, take_u64};

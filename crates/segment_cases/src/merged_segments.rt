@@ -1,18 +1,16 @@
 //! Merges of segments that are written of the documents of a line.
 
 ghost use Rattle.std.specs.Prelude.{IfOk};
-ghost use Rattle.segment_merger.specs.Members.{AreOpened, IsMember};
+ghost use Rattle.segment.specs.Members.{AreOpened, IsMember};
 
 use crate::held::Held;
 use crate::record_bodies::alive_set;
 use crate::segments::{CACHE_NUM_BLOCKS, opened};
 use crate::written_segments::written;
-use case_lines::{Arguments, Refusal, flag, number};
+use case_lines::{Arguments, Refusal, flag, number, number_in, part, text_in};
 use common::{AliveBitSet, take_u32, take_u64};
-use document_lines::{number_in, part, text_in};
 use schema::Schema;
-use segment::Segment;
-use segment_merger::merge_segments;
+use segment::{Segment, merge_segments};
 use serde_json::Value;
 use std::alloc::Global;
 

@@ -2,8 +2,7 @@
 
 use crate::held::Held;
 use crate::{record_bodies, searchers, segments, term_answers};
-use case_lines::{Arguments, Operations, Refusal};
-use document_lines::made;
+use case_lines::{Arguments, Operations, Refusal, made};
 use serde_json::Value;
 
 impl Operations for Held {

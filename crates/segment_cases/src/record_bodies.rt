@@ -5,7 +5,7 @@ use bytes::Bytes;
 use case_lines::{Arguments, Refusal, bytes_of_digits, flag, hex, number, pair, text};
 use common::AliveBitSet;
 use definitions::Fault;
-use segment_bodies::{Part, SegmentsBody, SegmentsBodyWriter, places_follow, read_segments_body};
+use index_file::{Part, SegmentsBody, SegmentsBodyWriter, places_follow, read_segments_body};
 use serde_json::Value;
 use std::alloc::{AllocError, Global};
 

@@ -3,7 +3,7 @@
 use crate::held::Held;
 use crate::segments::opened;
 use case_lines::{Cell, Refusal, cells, number, pair, triple};
-use searcher::{DocAddress, EnableScoring, Searcher};
+use segment_reader::{DocAddress, EnableScoring, Searcher};
 use serde_json::Value;
 use std::alloc::{AllocError, Global};
 

@@ -2,7 +2,7 @@
 //! documents that are alive, and then what is asked.
 
 ghost use Rattle.std.specs.Prelude.{[], ◌≡◌, IfSome, length, replicate};
-ghost use Rattle.cursors.specs.Entries.{from};
+ghost use Rattle.docsets.specs.Entries.{from};
 ghost use Rattle.definitions.specs.Schema.{Schema};
 ghost use Rattle.segment.specs.Opened.{IsOpened, num_docs_of};
 ghost use Rattle.segment_reader.specs.SegmentReaders.{max_doc_of};

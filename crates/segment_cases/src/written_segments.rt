@@ -2,15 +2,13 @@
 
 ghost use Rattle.std.specs.Prelude.{List, OnOk, ℕ};
 ghost use Rattle.definitions.specs.Values.{Document};
-ghost use Rattle.segment_writer.specs.Writers.{HasWritten};
+ghost use Rattle.segment.specs.Writers.{HasWritten};
 
-use case_lines::Refusal;
+use case_lines::{Refusal, document_of_values, number_in, part};
 use common::{Analyzer, RawAndDefault};
 use document::CompactDoc;
-use document_lines::{document_of_values, number_in, part};
 use schema::Schema;
-use segment::is_taken;
-use segment_writer::SegmentWriter;
+use segment::{SegmentWriter, is_taken};
 use serde_json::Value;
 use std::alloc::Global;
 

@@ -6,7 +6,7 @@ use Rattle.std.proofs.lemmas.List.Sums.{sum_by-cons}
 use Rattle.std.specs.List.{AllByRecursion}
 use Rattle.definitions.specs.Scoring.{DontFall}
 use Rattle.layouts.specs.Positions.{differences, position_numbers}
-use Rattle.cursors.specs.Entries.{AreSingle, most_positions}
+use Rattle.docsets.specs.Entries.{AreSingle, most_positions}
 use Rattle.positions.proofs.AppendedPlaces.{length-places}
 use Rattle.positions.specs.Places.{places}
 use Rattle.segment_postings.specs.TermEntries.{HasPositions, IsPlaced, entries_from, entries_of, term_entries}

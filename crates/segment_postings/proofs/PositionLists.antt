@@ -2,7 +2,7 @@
 use Rattle.std.proofs.Common.{[], List, ap, ap₂, arith, length, length-append, map, refl, sym, ◌++◌, ◌+◌, ◌-◌, ◌≡◌, ◌≤◌, ◌∙◌, ◌∷◌, ℕ, max, sum}
 use Rattle.std.proofs.lemmas.List.Sums.{sum_by-cons}
 use Rattle.std.proofs.lemmas.List.{length-map}
-use Rattle.cursors.specs.Entries.{highest}
+use Rattle.docsets.specs.Entries.{highest}
 use Rattle.layouts.specs.Positions.{differences}
 use Rattle.positions.proofs.AppendedPlaces.{length-places}
 use Rattle.positions.specs.Places.{places}

@@ -3,7 +3,7 @@ use Rattle.std.proofs.Common.{refl}
 use Rattle.std.specs.Prelude.{[], ◌%◌, ◌*◌, ◌++◌, ◌+◌, ◌/◌, ◌≡◌, Bool, List, drop, if◌then◌else◌, length, map, min, nat_lt, sum, take, ℕ}
 use Rattle.definitions.specs.Blocks.{block_len}
 use Rattle.layouts.specs.SkipEntries.{SkipEntry}
-use Rattle.cursors.specs.Entries.{AreSingle, Entry, Rising, first_positions, single}
+use Rattle.docsets.specs.Entries.{AreSingle, Entry, Rising, first_positions, single}
 use Rattle.segment_postings.specs.Reading.{counts_at, docs_at}
 use Rattle.segment_postings.specs.TermEntries.{entries_from, numbers_of}
 use Rattle.segment_postings.specs.TermEntryLaws.{Ascends-behind, Rising-entries_of}

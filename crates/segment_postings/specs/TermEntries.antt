@@ -3,7 +3,7 @@ use Rattle.std.specs.Prelude.{[], ◌+◌, ◌<◌, ◌^◌, ◌∷◌, ◌≡�
 use Rattle.std.specs.List.{AllByRecursion}
 use Rattle.definitions.specs.Scoring.{DontFall}
 use Rattle.layouts.specs.Positions.{position_numbers}
-use Rattle.cursors.specs.Entries.{Entry, highest}
+use Rattle.docsets.specs.Entries.{Entry, highest}
 use Rattle.positions.specs.Places.{places}
 
 -- an entry for each document, with its count and so many of the positions

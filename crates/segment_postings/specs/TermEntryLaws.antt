@@ -1,7 +1,7 @@
 -- Laws of a term's entries.
 use Rattle.std.proofs.Common.{[], ◌+◌, ◌∷◌, ◌≡◌, ◌≤◌, List, arith, drop, get_or, refl, suc, zero, ℕ}
 use Rattle.definitions.specs.Postings.{terminated}
-use Rattle.cursors.specs.Entries.{Rising, first}
+use Rattle.docsets.specs.Entries.{Rising, first}
 use Rattle.segment_postings.specs.Reading.{Ascends}
 use Rattle.segment_postings.specs.TermEntries.{entries_of}
 

@@ -9,7 +9,7 @@ ghost use Rattle.segment_postings.specs.CountBounds.{TellCounts};
 ghost use Rattle.segment_postings.specs.Reading.{Ascends, HasPassed, HasPostings, IsHeld, IsSummed, StandsIn, below, counts_at, docs_at};
 ghost use Rattle.segment_postings.specs.ReadingLaws.{Ascends-prop, StandsIn-prop};
 
-use crate::decoding::decode_block;
+use crate::decoded_block::decode_block;
 use crate::greatest_count::greatest_count;
 use common::{DocId, take_bytes};
 use packed_blocks::{BlockDecoder, COMPRESSION_BLOCK_SIZE};

@@ -1,7 +1,7 @@
 //! Positions of a document, taken out of those of a term.
 
 ghost use Rattle.std.specs.Prelude.{◌++◌, ◌+◌, ◌<◌, ◌≡◌, ◌≤◌, IsSome, OnErr, OnOk, drop, length, map, take, vec_capacity};
-ghost use Rattle.cursors.specs.Entries.{highest};
+ghost use Rattle.docsets.specs.Entries.{highest};
 ghost use Rattle.positions.specs.Places.{places};
 ghost use Rattle.segment_postings.specs.TermEntries.{numbers_of};
 

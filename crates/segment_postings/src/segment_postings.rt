@@ -3,8 +3,8 @@
 ghost use Rattle.std.specs.Prelude.{[], ◌+◌, ◌/◌, ◌<◌, ◌≡◌, ◌≤◌, IsSome, List, OnOk, if◌then◌else◌, length, min, replicate, true, ℕ};
 ghost use Rattle.definitions.specs.Blocks.{block_len};
 ghost use Rattle.definitions.specs.Postings.{terminated};
-ghost use Rattle.cursors.specs.Entries.{AreSingle, first, first_positions, most_positions, single};
-ghost use Rattle.cursors.specs.EntryLaws.{AreSingle-prop};
+ghost use Rattle.docsets.specs.Entries.{AreSingle, first, first_positions, most_positions, single};
+ghost use Rattle.docsets.specs.EntryLaws.{AreSingle-prop};
 ghost use Rattle.layouts.specs.Positions.{differences};
 ghost use Rattle.layouts.specs.TermPostings.{skip_entries};
 ghost use Rattle.segment_postings.specs.CountBounds.{TellCounts};
@@ -14,7 +14,7 @@ ghost use Rattle.segment_postings.specs.TermEntries.{HasPositions, entries_from,
 use crate::block_segment_postings::BlockSegmentPostings;
 use crate::position_lists::{append_numbers, append_positions};
 use common::DocId;
-use cursors::{DocSet, Postings, SeekDangerResult};
+use docsets::{DocSet, Postings, SeekDangerResult};
 use positions::PositionReader;
 use skips::Recorded;
 use std::alloc::AllocError;
@@ -143,8 +143,8 @@ impl<'a> SegmentPostings<'a> {
 impl<'a> DocSet for SegmentPostings<'a> {
     ghost use Rattle.std.specs.Prelude.{drop, max};
     ghost use Rattle.definitions.specs.Postings.{terminated};
-    ghost use Rattle.cursors.specs.Danger.{IsDangerAnswer};
-    ghost use Rattle.cursors.specs.Entries.{first, from};
+    ghost use Rattle.docsets.specs.Danger.{IsDangerAnswer};
+    ghost use Rattle.docsets.specs.Entries.{first, from};
     ghost use Rattle.segment_postings.specs.Cursors.{HasMoved, counts_left, cursor_blocks, cursor_place, docs_left, entries_left};
     ghost use Rattle.segment_postings.specs.Reading.{below};
 

@@ -1,2 +1,30 @@
+-- Lemmas of the proofs.
+pub mod Ordered
+pub mod Found
+pub mod EntriesTaken
+pub mod TermSteps
+pub mod TermsLoop
+pub mod HeadersTaken
+pub mod FieldsLoop
+pub mod TermBytes
+pub mod KindsKnown
+pub mod SectionsThere
+pub mod FieldsChecked
+pub mod SectionsRead
+pub mod DictionariesPlaced
+pub mod OneReading
+pub mod NumbersFound
+pub mod ReadersMade
+pub mod TermsHeld
+pub mod ReaderCalls
+pub mod PostingsFound
+pub mod Ranges
+pub mod GivenPostings
+pub mod FieldsKept
+pub mod CheckedOnce
+pub mod CheckedLists
+pub mod OpenedPostings
+pub mod DocumentIds
 -- Lemmas behind readers of segments.
 pub mod AliveCounts
+pub mod FieldLengths

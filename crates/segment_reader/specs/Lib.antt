@@ -1,4 +1,17 @@
 -- Words of the contracts.
+pub mod TakenTerms
+pub mod Dictionaries
+pub mod Searching
+pub mod TermPlaces
+pub mod ToldFields
+pub mod FieldKinds
+pub mod CheckedTerms
+pub mod FieldDictionaries
+pub mod OpenedTerms
+pub mod Readers
 pub mod Flags
 pub mod Together
 pub mod SegmentReaders
+pub mod Searchers
+pub mod Scorings
+pub mod LengthIds

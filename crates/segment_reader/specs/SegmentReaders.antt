@@ -6,7 +6,7 @@ use Rattle.definitions.specs.Analyzers.{Analyzer}
 use Rattle.definitions.specs.KeptLengths.{norms_of}
 use Rattle.definitions.specs.Schema.{Schema}
 use Rattle.definitions.specs.Values.{Document}
-use Rattle.inverted_index_reader.specs.Readers.{IsReader, Reader}
+use Rattle.segment_reader.specs.Readers.{IsReader, Reader}
 use Rattle.layouts.specs.InvertedIndexes.{AreIndexed, IndexedField}
 use Rattle.segment_reader.specs.Together.{AreTogether}
 use Rattle.segment_reader.specs.declared.segment_reader.SegmentReader.{SegmentReader}

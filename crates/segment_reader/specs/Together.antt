@@ -2,7 +2,7 @@
 use Rattle.std.specs.Prelude.{◌≡◌, List, length, ℕ}
 use Rattle.std.specs.List.{AllByRecursion}
 use Rattle.definitions.specs.Schema.{Schema}
-use Rattle.inverted_index_reader.specs.Readers.{IsReader, Reader}
+use Rattle.segment_reader.specs.Readers.{IsReader, Reader}
 use Rattle.layouts.specs.InvertedIndexes.{IndexedField}
 
 -- these are the terms of so many documents with these lengths, one for each document in each field

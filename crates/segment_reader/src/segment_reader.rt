@@ -5,9 +5,9 @@ ghost use Rattle.definitions.specs.Postings.{terminated};
 ghost use Rattle.segment_reader.specs.Together.{AreTogether};
 ghost use Rattle.segment_reader.specs.Flags.{HasFlags, HasFlags-prop};
 
+use crate::InvertedIndexReader;
 use common::{AliveBitSet, DocId};
 use fieldnorms::FieldNormReaders;
-use inverted_index_reader::InvertedIndexReader;
 
 /// The terms of a segment, the lengths of its fields, and which of its documents are alive. All of them are lent.
 #[derive(Drop)]

@@ -13,12 +13,12 @@ use Rattle.definitions.specs.Schema.{Schema}
 use Rattle.definitions.specs.Scoring.{Similarity}
 use Rattle.definitions.specs.Stored.{Named, stored_values}
 use Rattle.definitions.specs.Values.{Document}
-use Rattle.searcher.specs.declared.doc_address.DocAddress.{DocAddress}
+use Rattle.segment_reader.specs.declared.doc_address.DocAddress.{DocAddress}
 use Rattle.segment.specs.Opened.{StandsFor}
 use Rattle.segment.specs.declared.segment.Segment as code
-use Rattle.segment_lists.proofs.FoundLive.{best_is_scan}
-use Rattle.segment_lists.specs.Found.{Place, places_from, places_in, shown_at}
-use Rattle.segment_lists.specs.Rows.{flagged}
+use Rattle.segment_definitions.proofs.FoundLive.{best_is_scan}
+use Rattle.segment_definitions.specs.Found.{Place, places_from, places_in, shown_at}
+use Rattle.segment_definitions.specs.Rows.{flagged}
 use Rattle.segment_search.proofs.RowsRead.{docs_counted}
 use Rattle.segment_search.specs.Flags.{AreFlagged, flagged_each}
 use Rattle.segment_search.specs.Hits.{IsWithin, scored, shown_of}

@@ -10,7 +10,7 @@ use Rattle.scorer_answers.specs.Rows.{HasRows}
 use Rattle.segment.proofs.Opening.{one_segment}
 use Rattle.segment.specs.Opened.{StandsFor, num_docs_of}
 use Rattle.segment.specs.declared.segment.Segment as code
-use Rattle.segment_lists.specs.Rows.{flagged}
+use Rattle.segment_definitions.specs.Rows.{flagged}
 use Rattle.segment_reader.specs.SegmentReaders as readers
 use Rattle.segment_reader.specs.declared.segment_reader.SegmentReader.{SegmentReader}
 use Rattle.segment_search.specs.Flags.{AreFlagged, flagged_each}

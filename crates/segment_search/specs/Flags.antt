@@ -6,7 +6,7 @@ use Rattle.definitions.specs.Alive.{Segment}
 use Rattle.definitions.specs.Values.{Document}
 use Rattle.segment.specs.Opened.{num_docs_of}
 use Rattle.segment.specs.declared.segment.Segment as code
-use Rattle.segment_lists.specs.Rows.{flagged}
+use Rattle.segment_definitions.specs.Rows.{flagged}
 
 -- each of the first segments has a flag for each of its documents
 abbrev pub AreFlagged : List code.Segment → List (List Bool) → Type 0

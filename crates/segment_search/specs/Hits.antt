@@ -6,7 +6,7 @@ use Rattle.definitions.specs.Scanning as scanning
 use Rattle.definitions.specs.Schema.{Schema}
 use Rattle.definitions.specs.Stored.{Named, stored_values}
 use Rattle.definitions.specs.Values.{Document}
-use Rattle.searcher.specs.declared.doc_address.DocAddress.{DocAddress}
+use Rattle.segment_reader.specs.declared.doc_address.DocAddress.{DocAddress}
 use Rattle.segment.specs.Opened.{IsOpened, StandsFor, bytes_of, num_docs_of}
 use Rattle.segment.specs.declared.segment.Segment as code
 use Rattle.segment_search.specs.declared.hits.Hit.{Hit}

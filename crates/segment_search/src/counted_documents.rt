@@ -20,7 +20,7 @@ use query_trees::AnyQuery;
 use reader_scorers::{LeafWeights, ReaderScorers};
 use segment::Segment;
 use segment_reader::SegmentReader;
-use statistics::Statistics;
+use settings::Statistics;
 use std::alloc::{AllocError, Global};
 use weights::IndexWeights;
 

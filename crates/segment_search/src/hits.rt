@@ -13,8 +13,8 @@ use common::Score;
 use definitions::Fault;
 use document::NamedDocument;
 use schema::Schema;
-use searcher::DocAddress;
 use segment::Segment;
+use segment_reader::DocAddress;
 use std::alloc::Global;
 
 /// A document that was found.

@@ -23,7 +23,7 @@ use definitions::Fault;
 use query_trees::AnyQuery;
 use schema::Schema;
 use segment::Segment;
-use statistics::Statistics;
+use settings::Statistics;
 use std::alloc::Global;
 
 /// The best living documents of the first segments that match a query, so many at most: by score, and then by segment

@@ -5,8 +5,8 @@ use Rattle.definitions.specs.Lines.{max_line_len, lines_of}
 use Rattle.serve_lines.specs.declared.line.Keeping.{Keeping}
 use Rattle.serve_lines.specs.declared.line.Keeping.TheVariants as keeping
 use Rattle.serve_lines.specs.declared.line.LineBuffer.{LineBuffer}
-use Rattle.serve_lines.specs.declared.reading.Chunk.{Chunk}
-use Rattle.serve_lines.specs.declared.reading.Chunk.TheVariants as chunk
+use Rattle.serve_lines.specs.declared.line_reader.Chunk.{Chunk}
+use Rattle.serve_lines.specs.declared.line_reader.Chunk.TheVariants as chunk
 
 -- the bytes lie within one line
 abbrev pub HasNoNewline : List ℕ → Type 0

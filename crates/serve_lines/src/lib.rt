@@ -3,10 +3,10 @@
 #![tactic(auto)]
 
 mod line;
-mod reading;
+mod line_reader;
+mod line_run;
 mod service;
-mod serving;
 
 pub use common::RunFault;
+pub use line_run::{run, run_within};
 pub use service::Service;
-pub use serving::{run, run_within};

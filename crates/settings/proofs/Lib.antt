@@ -1,3 +1,8 @@
+pub mod AddressBits
+pub mod FieldsByName
+pub mod JsonValues
+pub mod TermPaths
+pub mod ValueTerms
 -- Lemmas behind settings.
 pub mod NormsInOrder
 pub mod WeightsByTerms

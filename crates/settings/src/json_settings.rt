@@ -10,12 +10,11 @@ ghost use Rattle.definitions.specs.declared.fault.Fault.TheVariants as faults;
 ghost use Rattle.serde_json.specs.View.{items_view, view};
 
 use crate::settings::Settings;
+use crate::{term_beside, term_to_json};
 use definitions::Fault;
-use json_keys::has_only;
-use schema::Schema;
+use schema::{Schema, has_only};
 use serde_json::{Value as Json, json};
 use std::alloc::{AllocError, Global};
-use term_json::{term_beside, term_to_json};
 use terms::Term;
 
 impl Settings {

@@ -3,7 +3,7 @@ use Rattle.std.proofs.Common.{ℕ, zero, suc, List, [], ◌∷◌, ◌++◌, ◌
 use Rattle.definitions.specs.NumberCodes.{u32_bytes}
 use Rattle.layouts.specs.Stores.{Adjoin, AreBlocks, Block, byte_end, checkpoints, data_of, doc_end, max_docs}
 use Rattle.layouts.specs.declared.checkpoint.Checkpoint.{Checkpoint}
-use Rattle.store.specs.declared.parts.Parts.{Parts}
+use Rattle.store.specs.declared.writer_fields.Parts.{Parts}
 use Rattle.store.specs.Stacking.{FitsShifted, IsKeptIn, IsShut, shifted}
 use Rattle.store.specs.Writing.{AreWritten, Stand, Stands, blocks_of, closed, count_of, written}
 use Rattle.store.proofs.Opened.{ends_of}

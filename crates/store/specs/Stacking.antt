@@ -3,7 +3,7 @@ use Rattle.std.specs.Prelude.{[], ◌++◌, ◌+◌, ◌<◌, ◌^◌, ◌≡◌
 use Rattle.layouts.specs.Stores.{Block, checkpoints, data_of, max_docs}
 use Rattle.layouts.specs.declared.checkpoint.Checkpoint.{Checkpoint}
 use Rattle.store.specs.Writing.{Written, blocks_of, count_of, docs_of, written}
-use Rattle.store.specs.declared.parts.Parts.{Parts}
+use Rattle.store.specs.declared.writer_fields.Parts.{Parts}
 
 -- the pending documents become a block, and the blocks follow it
 abbrev pub stacked : Written → List Block → Written

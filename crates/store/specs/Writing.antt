@@ -5,7 +5,7 @@ use Rattle.definitions.specs.declared.fault.Fault.{Fault}
 use Rattle.definitions.specs.declared.fault.Fault.TheVariants as faults
 use Rattle.layouts.specs.Stores.{Block, Hold, block_bytes, checkpoints, data_of, max_docs, starts}
 use Rattle.layouts.specs.declared.checkpoint.Checkpoint.{Checkpoint}
-use Rattle.store.specs.declared.parts.Parts.{Parts}
+use Rattle.store.specs.declared.writer_fields.Parts.{Parts}
 
 -- the blocks that are closed, the documents of the one that isn't, and the size over which a block is closed
 pub record Written : Type 0 where

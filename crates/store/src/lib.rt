@@ -10,15 +10,15 @@ mod current_block;
 mod documents;
 mod footer;
 mod groups;
-mod parts;
-mod pending;
+mod pending_documents;
 mod skip_index;
 mod skip_index_builder;
 pub mod slot_laws;
-mod stacking;
+mod stacked_blocks;
 mod store_iter;
 mod store_reader;
 mod store_writer;
+mod writer_fields;
 
 pub use bytes::Bytes;
 pub use cache_stats::CacheStats;

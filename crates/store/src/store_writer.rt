@@ -6,10 +6,10 @@ ghost use Rattle.store.specs.Stacking.{passes_docs, stacked};
 ghost use Rattle.store.specs.Writing.{AreWritten, IsLimit, blocks_of, docs_of, passes_limit, stored, written};
 
 use crate::footer::DocStoreFooter;
-use crate::parts::Parts;
 use crate::skip_index::MAX_DOCS;
 use crate::skip_index_builder::put_skip_index;
 use crate::store_reader::StoreReader;
+use crate::writer_fields::Parts;
 use definitions::Fault;
 use std::alloc::{AllocError, Global};
 use std::marker::Model;

@@ -1,6 +1,6 @@
 -- What a scorer of a term has.
 use Rattle.std.specs.Prelude.{◌≡◌, List, ℕ}
-use Rattle.cursors.specs.Entries.{Entry, Rising}
+use Rattle.docsets.specs.Entries.{Entry, Rising}
 use Rattle.segment_postings.specs.Cursors.{HasMoved, entries_left, rising_left}
 use Rattle.segment_postings.specs.declared.segment_postings.SegmentPostings.{SegmentPostings}
 use Rattle.term_scorer.specs.Similarities.{similarity_data}

@@ -1,13 +1,13 @@
 -- Laws of the scores of a term's entries.
 use Rattle.std.proofs.Common.{[], ◌*◌, ◌<◌, ◌≡◌, ◌≤◌, ◌∷◌, ◌∙◌, List, ap, arith, drop, refl, slice_index, suc, sym, zero, ℕ}
 use Rattle.std.proofs.Math.Nat.{mul-le-mul_left}
-use Rattle.cursors.specs.Entries.{Entry, IsRest, Rising, first, first_count, first_score, from}
-use Rattle.cursors.specs.EntryLaws.{from-in, from-out}
+use Rattle.docsets.specs.Entries.{Entry, IsRest, Rising, first, first_count, first_score, from}
+use Rattle.docsets.specs.EntryLaws.{from-in, from-out}
 use Rattle.definitions.proofs.Bounds.{part_below}
 use Rattle.definitions.specs.Postings.{terminated}
 use Rattle.definitions.specs.Scoring.{max_score}
-use Rattle.leaf_scorers.specs.ScoredEntries.{greatest_score}
-use Rattle.leaf_scorers.specs.ScoredEntryLaws.{Rising-rescored, by_place}
+use Rattle.docsets.specs.ScoredEntries.{greatest_score}
+use Rattle.docsets.specs.ScoredEntryLaws.{Rising-rescored, by_place}
 use Rattle.term_scorer.specs.TermScores.{TermSimilarity, documents_bound, entry_score, score_by, term_scored}
 
 -- no score is above the boost times the weight

@@ -1,8 +1,8 @@
 -- The scores of a term's entries.
 use Rattle.std.specs.Prelude.{◌*◌, ◌+◌, List, map, slice_index, ℕ}
-use Rattle.cursors.specs.Entries.{Entry}
+use Rattle.docsets.specs.Entries.{Entry}
 use Rattle.definitions.specs.Scoring.{greatest_of, part}
-use Rattle.leaf_scorers.specs.ScoredEntries.{rescored_by}
+use Rattle.docsets.specs.ScoredEntries.{rescored_by}
 
 -- the weight of a term, the product of the boosts above, and a norm for each length id
 pub record TermSimilarity : Type 0 where

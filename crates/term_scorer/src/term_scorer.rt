@@ -1,10 +1,10 @@
 //! The documents of a term, with their scores.
 
 ghost use Rattle.std.specs.Prelude.{[], ◌*◌, ◌+◌, ◌<◌, ◌≡◌, ◌≤◌, IfOk, length, pos, slice_index};
-ghost use Rattle.cursors.specs.Entries.{first, first_count, first_score, from};
+ghost use Rattle.docsets.specs.Entries.{first, first_count, first_score, from};
 ghost use Rattle.definitions.specs.Postings.{terminated};
 ghost use Rattle.definitions.specs.Scoring.{max_score};
-ghost use Rattle.leaf_scorers.specs.ScoredEntries.{greatest_score};
+ghost use Rattle.docsets.specs.ScoredEntries.{greatest_score};
 ghost use Rattle.segment_postings.specs.Cursors.{entries_left};
 ghost use Rattle.term_scorer.specs.Explaining.{explained_value};
 ghost use Rattle.term_scorer.specs.Similarities.{similarity_data};
@@ -13,9 +13,8 @@ ghost use Rattle.term_scorer.specs.TermScores.{documents_bound, term_scored};
 use crate::explanation::Explanation;
 use crate::similarity::Similarity;
 use common::{DocId, Score};
-use cursors::{DocSet, Postings, SeekDangerResult};
+use docsets::{DocSet, Postings, Scorer, SeekDangerResult};
 use fieldnorms::FieldNormReader;
-use leaf_scorers::Scorer;
 use segment_postings::SegmentPostings;
 use std::alloc::{AllocError, Global};
 
@@ -91,7 +90,7 @@ impl<'a> TermScorer<'a> {
 
 impl<'a> DocSet for TermScorer<'a> {
     ghost use Rattle.std.specs.Prelude.{drop, max};
-    ghost use Rattle.cursors.specs.Danger.{IsDangerAnswer};
+    ghost use Rattle.docsets.specs.Danger.{IsDangerAnswer};
     ghost use Rattle.segment_postings.specs.Cursors.{cursor_blocks, cursor_place, docs_left};
     ghost use Rattle.segment_postings.specs.Reading.{below};
     ghost use Rattle.term_scorer.specs.ScoredTerms.{MovesOn, cursor_of, rising_scored, scored_left};

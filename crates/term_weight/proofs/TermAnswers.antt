@@ -10,10 +10,10 @@ use Rattle.definitions.specs.Schema.{IndexRecordOption, Schema}
 use Rattle.definitions.specs.Scoring.{Similarity, length_id, part, query_count, score}
 use Rattle.definitions.specs.Terms.{field_of}
 use Rattle.definitions.specs.Values.{Document}
-use Rattle.inverted_index_reader.specs.OpenedTerms.{entry_as}
-use Rattle.leaf_scorers.specs.ScoredEntries.{pairs_of}
+use Rattle.segment_reader.specs.OpenedTerms.{entry_as}
+use Rattle.docsets.specs.ScoredEntries.{pairs_of}
 use Rattle.term_scorer.specs.TermScores.{TermSimilarity, term_scored}
-use Rattle.term_weight.specs.LengthIds.{AreIds}
+use Rattle.segment_reader.specs.LengthIds.{AreIds}
 
 -- the length id of each document stands at its place, counted from a number
 abbrev pub AreIdsFrom : (Document → ℕ) → ℕ → List Document → List ℕ → Type 0

@@ -3,7 +3,7 @@ use Rattle.std.proofs.Common.{[], IfNone, List, None, Option, Some, ap, arith, l
 use Rattle.std.proofs.Math.Logic.{∥∥₁_elim}
 use Rattle.std.proofs.Props.{props}
 use Rattle.std.specs.Option.{option_map_or}
-use Rattle.cursors.specs.Entries.{Entry, from}
+use Rattle.docsets.specs.Entries.{Entry, from}
 use Rattle.definitions.specs.Analyzers.{Analyzer}
 use Rattle.definitions.specs.Answers.{answers}
 use Rattle.definitions.specs.KeptLengths.{norms_of}
@@ -13,17 +13,17 @@ use Rattle.definitions.specs.Schema.{IndexRecordOption, Schema}
 use Rattle.definitions.specs.Scoring.{Similarity, length_id}
 use Rattle.definitions.specs.Terms.{field_of}
 use Rattle.definitions.specs.Values.{Document}
-use Rattle.inverted_index_reader.proofs.GivenPostings.{given_held}
-use Rattle.inverted_index_reader.specs.OpenedTerms.{entry_as}
-use Rattle.inverted_index_reader.specs.Readers.{Contents, Reader, postings_held}
-use Rattle.leaf_scorers.specs.ScoredEntries.{pairs_of}
-use Rattle.leaf_scorers.specs.ScoredEntryLaws.{from-rescored}
+use Rattle.segment_reader.proofs.GivenPostings.{given_held}
+use Rattle.segment_reader.specs.OpenedTerms.{entry_as}
+use Rattle.segment_reader.specs.Readers.{Contents, Reader, postings_held}
+use Rattle.docsets.specs.ScoredEntries.{pairs_of}
+use Rattle.docsets.specs.ScoredEntryLaws.{from-rescored}
 use Rattle.segment_reader.specs.SegmentReaders.{StandsFor, index_of, known_together, lengths_of, max_doc_of}
 use Rattle.segment_reader.specs.Together.{AreTogether}
 use Rattle.segment_reader.specs.declared.segment_reader.SegmentReader.{SegmentReader}
 use Rattle.term_scorer.specs.TermScores.{TermSimilarity, entry_score, term_scored}
 use Rattle.term_weight.proofs.TermAnswers.{by_term, term_answers}
-use Rattle.term_weight.specs.LengthIds.{AreIds}
+use Rattle.segment_reader.specs.LengthIds.{AreIds}
 
 -- ---- no document is past the end of the segment
 

@@ -20,4 +20,5 @@ pub use field::Field;
 pub use field_type::Type;
 pub use ip_addr::IntoIpv6Addr;
 pub use json_path::has_zero;
-pub use term::{Term, push_json_path, push_term_header};
+pub use sortable::SIGN_BIT;
+pub use term::{HEADER_LEN, Term, push_json_path, push_term_header};

@@ -4,7 +4,7 @@ ghost use Rattle.std.specs.Prelude.{pos, nat_abs, ◌+ℤ◌, ◌^◌, ◌≡◌
 ghost use Rattle.definitions.specs.Terms.{whole_seconds};
 
 /// 2^63, the worth of the sign bit.
-const SIGN_BIT: u64 = 0x8000_0000_0000_0000;
+pub const SIGN_BIT: u64 = 0x8000_0000_0000_0000;
 
 const NANOS_PER_SECOND: i64 = 1_000_000_000;
 

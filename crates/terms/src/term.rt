@@ -28,7 +28,7 @@ use std::marker::Model;
 use std::net::Ipv6Addr;
 
 /// Bytes before the value: four of the field's number, one of the type's code.
-const HEADER_LEN: usize = 5;
+pub const HEADER_LEN: usize = 5;
 
 /// What stands behind the path of a JSON term.
 const PATH_END: u8 = 0;

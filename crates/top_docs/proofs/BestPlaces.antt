@@ -1,7 +1,7 @@
 -- The best places, from the best items.
 use Rattle.std.proofs.Common.{[], Bool, List, None, Some, ap, arith, drop, filter, if◌then◌else◌, map, length, refl, slice_get, slice_index_or, subst, suc, sym, take, true, zero, false, ◌+◌, ◌++◌, ◌<◌, ◌∙◌, ◌∷◌, ◌≡◌, ◌≤◌, ℕ}
 use Rattle.std.proofs.lemmas.List.{append-nil, append_assoc, map-append, take-map}
-use Rattle.cursors.specs.Entries.{Entry, Rising}
+use Rattle.docsets.specs.Entries.{Entry, Rising}
 use Rattle.definitions.proofs.Ranking.{All-ranked, All_take, map-ranked}
 use Rattle.definitions.specs.Alive.{Segment}
 use Rattle.definitions.specs.Analyzers.{Analyzer}
@@ -12,11 +12,11 @@ use Rattle.definitions.specs.Refusing.{tree_fault}
 use Rattle.definitions.specs.Scanning.{ranked}
 use Rattle.definitions.specs.Schema.{Schema}
 use Rattle.definitions.specs.Scoring.{Similarity}
-use Rattle.leaf_scorers.specs.ScoredEntries.{pairs_of}
+use Rattle.docsets.specs.ScoredEntries.{pairs_of}
 use Rattle.node_scorers.specs.Scores.{Scores}
 use Rattle.scorer_answers.specs.Rows.{HasRows, flags_in}
-use Rattle.searcher.specs.declared.doc_address.DocAddress.{DocAddress}
-use Rattle.segment_lists.specs.Found.{Place, places_from, places_in}
+use Rattle.segment_reader.specs.declared.doc_address.DocAddress.{DocAddress}
+use Rattle.segment_definitions.specs.Found.{Place, places_from, places_in}
 use Rattle.segment_reader.specs.declared.segment_reader.SegmentReader.{SegmentReader}
 use Rattle.std.specs.List.{AllByRecursion, AllZip}
 use Rattle.top_docs.specs.Collected.{IsFound, best_places, living_items, place_at}

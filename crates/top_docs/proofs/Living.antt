@@ -1,9 +1,9 @@
 -- Living documents, one by one.
 use Rattle.std.proofs.Common.{[], Bool, List, ap, arith, drop, false, leb-false, nat_le, if◌then◌else◌, refl, slice_index_or, true, ◌++◌, ◌<◌, ◌∙◌, ◌∷◌, ◌≡◌, ◌≢◌, ℕ}
 use Rattle.std.proofs.lemmas.List.{append-nil, append_assoc}
-use Rattle.cursors.specs.Entries.{Entry, Rising, first, first_score, from}
+use Rattle.docsets.specs.Entries.{Entry, Rising, first, first_score, from}
 use Rattle.definitions.specs.Postings.{terminated}
-use Rattle.searcher.specs.declared.doc_address.DocAddress.{DocAddress}
+use Rattle.segment_reader.specs.declared.doc_address.DocAddress.{DocAddress}
 use Rattle.top_docs.specs.Collected.{living_items}
 use Rattle.top_n_computer.proofs.Bests.{best_of_best, best_with_more}
 use Rattle.top_n_computer.specs.Best.{best_of, limit_of}

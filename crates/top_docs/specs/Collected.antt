@@ -1,9 +1,9 @@
 -- Documents of segments with their scores, as they are collected.
 use Rattle.std.specs.Prelude.{◌<◌, ◌≤◌, Bool, List, false, filter, map, slice_index_or, ℕ}
-use Rattle.cursors.specs.Entries.{Entry}
+use Rattle.docsets.specs.Entries.{Entry}
 use Rattle.definitions.specs.Scoring.{max_score}
-use Rattle.searcher.specs.declared.doc_address.DocAddress.{DocAddress}
-use Rattle.segment_lists.specs.Found.{Place}
+use Rattle.segment_reader.specs.declared.doc_address.DocAddress.{DocAddress}
+use Rattle.segment_definitions.specs.Found.{Place}
 use Rattle.top_n_computer.specs.Reached.{best_by}
 
 -- the living documents that a cursor has in a segment, each behind its score

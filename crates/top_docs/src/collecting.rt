@@ -2,7 +2,7 @@
 
 ghost use Rattle.std.specs.Prelude.{[], ◌++◌, ◌<◌, ◌≡◌, OnOk, false, slice_index_or, ℕ};
 ghost use Rattle.std.specs.List.{AllByRecursion};
-ghost use Rattle.cursors.specs.Entries.{first, first_score, from};
+ghost use Rattle.docsets.specs.Entries.{first, first_score, from};
 ghost use Rattle.definitions.specs.Postings.{terminated};
 ghost use Rattle.scorer_answers.specs.Rows.{flags_in};
 ghost use Rattle.segment_reader.specs.SegmentReaders.{max_doc_of};
@@ -12,11 +12,9 @@ ghost use Rattle.top_n_computer.specs.Reached.{best_items};
 
 use any_scorer::Leaf;
 use common::{DocId, TERMINATED};
-use cursors::DocSet;
-use leaf_scorers::{ListScorer, Scorer};
+use docsets::{DocSet, ListScorer, Scorer};
 use reader_scorers::AnyScorer;
-use searcher::DocAddress;
-use segment_reader::SegmentReader;
+use segment_reader::{DocAddress, SegmentReader};
 use std::alloc::AllocError;
 use top_n_computer::TopNComputer;
 

@@ -3,12 +3,12 @@ use Rattle.std.proofs.Common.{[], List, None, ap, arith, get_or, length, pos, ru
 use Rattle.std.proofs.Math.Logic.{∥∥₁_elim, ∥∥₁_map}
 use Rattle.std.proofs.Props.{props}
 use Rattle.definitions.proofs.Bounds.{accepted_boost, accepted_clauses, accepted_const, accepted_constant, accepted_factor, accepted_first_clause, accepted_first_query, accepted_fits, accepted_more_clauses, accepted_more_queries, accepted_product, accepted_queries, accepted_tie}
-use Rattle.cursors.specs.Entries.{Entry}
+use Rattle.docsets.specs.Entries.{Entry}
 use Rattle.definitions.specs.Query.{Clauses, Queries, Query, boolean, boost, const_score, disjunction_max, must, should}
 use Rattle.definitions.specs.Refusing.{bound, clauses_fault, queries_fault, tree_fault}
 use Rattle.definitions.specs.Schema.{Schema}
 use Rattle.definitions.specs.Scoring.{Similarity, max_score, natural}
-use Rattle.members.specs.Members.{greatest_sum}
+use Rattle.docsets.specs.Members.{greatest_sum}
 use Rattle.node_scorers.proofs.AllScores.{greatest_within}
 use Rattle.node_scorers.proofs.Bounds.{clauses_total, queries_total}
 use Rattle.node_scorers.specs.Asked.{asked, each_query}

@@ -1,7 +1,7 @@
 -- Scorers of clauses and of queries, one after another.
 use Rattle.std.proofs.Common.{[], Bool, List, ap, if◌then◌else◌, map, refl, subst, sym, true, false, ◌*◌, ◌++◌, ◌∙◌, ◌∷◌, ◌≡◌, ℕ, ℤ}
 use Rattle.std.proofs.lemmas.List.{map-append}
-use Rattle.cursors.specs.Entries.{Entry}
+use Rattle.docsets.specs.Entries.{Entry}
 use Rattle.definitions.proofs.Bounds.{accepted_boost}
 use Rattle.definitions.specs.Query.{Occur, Query, boost}
 use Rattle.definitions.specs.Scoring.{Similarity, natural}

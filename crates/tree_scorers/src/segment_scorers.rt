@@ -3,14 +3,14 @@
 ghost use Rattle.std.specs.Prelude.{◌*◌, ◌+◌, ◌≡◌, ◌≤ℤ◌, ◌≤◌, IfOk, map, pos, ℕ, ℤ};
 ghost use Rattle.definitions.specs.Query as definitions;
 ghost use Rattle.definitions.specs.Scoring.{Similarity, max_score, natural};
-ghost use Rattle.members.specs.Members.{greatest_sum};
+ghost use Rattle.docsets.specs.Members.{greatest_sum};
 ghost use Rattle.node_scorers.specs.Asked.{asked, each_query};
 ghost use Rattle.node_scorers.specs.Scores.{AllScore, Scores};
 ghost use Rattle.segment_reader.specs.declared.segment_reader.SegmentReader.{SegmentReader};
 ghost use Rattle.tree_scorers.specs.Accepted.{IsAccepted};
 
 use common::Score;
-use leaf_scorers::Scorer;
+use docsets::Scorer;
 use query_trees::{PhrasePrefixQuery, PhraseQuery, TermQuery};
 use std::alloc::{AllocError, Global};
 

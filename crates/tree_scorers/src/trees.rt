@@ -11,7 +11,7 @@ ghost use Rattle.tree_scorers.specs.Accepted.{AreAccepted, AreAcceptedClauses, I
 
 use crate::segment_scorers::SegmentScorers;
 use common::Score;
-use leaf_scorers::Scorer;
+use docsets::Scorer;
 use query_trees::{
     AnyQuery, BooleanQuery, BoostQuery, ConstScoreQuery, DisjunctionMaxQuery, Occur,
 };

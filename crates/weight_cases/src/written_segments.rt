@@ -2,14 +2,13 @@
 
 ghost use Rattle.std.specs.Prelude.{List, OnOk, ℕ};
 ghost use Rattle.definitions.specs.Values.{Document};
-ghost use Rattle.segment_writer.specs.Writers.{HasWritten};
+ghost use Rattle.segment.specs.Writers.{HasWritten};
 
 use case_lines::Refusal;
 use common::{Analyzer, RawAndDefault};
 use document::CompactDoc;
 use schema::Schema;
-use segment::is_taken;
-use segment_writer::SegmentWriter;
+use segment::{SegmentWriter, is_taken};
 use serde_json::Value;
 use std::alloc::Global;
 

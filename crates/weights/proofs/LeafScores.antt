@@ -3,7 +3,7 @@ use Rattle.std.proofs.Common.{[], Bool, Err, IfNone, IfOk, IfSome, List, None, O
 use Rattle.std.proofs.Math.Nat.{mul-le-mul_right}
 use Rattle.std.proofs.lemmas.Bool.Decides.{nat_tests}
 use Rattle.std.proofs.lemmas.List.Sums.{sum_by-cons}
-use Rattle.cursors.specs.Entries.{Entry, from}
+use Rattle.docsets.specs.Entries.{Entry, from}
 use Rattle.definitions.specs.Analyzers.{Analyzer}
 use Rattle.definitions.specs.Answers.{answer_at, answers}
 use Rattle.definitions.specs.Matching.{matches}
@@ -15,7 +15,7 @@ use Rattle.definitions.specs.Schema.{Schema}
 use Rattle.definitions.specs.ScoredLists.{ScoredList}
 use Rattle.definitions.specs.Scoring.{Similarity, max_score, phrase_score, prefix_score, score, weight_sum}
 use Rattle.definitions.specs.Values.{Document}
-use Rattle.leaf_scorers.specs.ScoredEntries.{greatest_score, pairs_of}
+use Rattle.docsets.specs.ScoredEntries.{greatest_score, pairs_of}
 use Rattle.node_scorers.specs.Scores.{Scores}
 use Rattle.phrase_weights.specs.PlacedAnswers.{whole_weight}
 use Rattle.reader_scorers.proofs.FormScores.{none_scores}

@@ -9,7 +9,7 @@ use query_trees::{PhrasePrefixQuery, PhraseQuery, TermQuery};
 use reader_scorers::LeafWeights;
 use segment_postings::SegmentPostings;
 use segment_reader::SegmentReader;
-use statistics::Statistics;
+use settings::Statistics;
 use std::alloc::{AllocError, Global};
 use term_scorer::TermScorer;
 

@@ -9,13 +9,13 @@ ghost use Rattle.tree_scorers.specs.Accepted.{IsAccepted};
 ghost use Rattle.weights.specs.Weighed.{under};
 
 use common::Score;
-use cursors::DocSet;
+use docsets::DocSet;
 use phrase_weights::{PhrasePrefixWeight, PhraseWeight, WholePhrase};
 use phrases::{PhrasePrefixScorer, PhraseScorer, PostingsWithOffset};
 use query_trees::{PhrasePrefixQuery, PhraseQuery, TermQuery};
 use segment_postings::SegmentPostings;
 use segment_reader::SegmentReader;
-use statistics::Statistics;
+use settings::Statistics;
 use std::alloc::{AllocError, Global};
 use term_scorer::TermScorer;
 use term_weight::TermWeight;

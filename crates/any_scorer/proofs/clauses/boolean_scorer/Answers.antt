@@ -4,8 +4,8 @@ use Rattle.any_scorer.proofs.Bounded.{bounded_clauses}
 use Rattle.any_scorer.proofs.ByClauses.{emptied, left_out}
 use Rattle.any_scorer.proofs.ByScores.{excluded}
 use Rattle.any_scorer.specs.Clauses.{by_clauses}
-use Rattle.leaf_scorers.specs.ScoredEntryLaws.{Rising-scores}
-use Rattle.members.specs.Members.{enough}
+use Rattle.docsets.specs.ScoredEntryLaws.{Rising-scores}
+use Rattle.docsets.specs.Members.{enough}
 use Rattle.any_scorer.proofs.clauses.boolean_scorer.Goals as goal
 
 -- src/clauses.rt:23:1

@@ -3,7 +3,7 @@ use Rattle.std.proofs.lemmas.Result.{IfOk-weaker}
 use Rattle.any_scorer.proofs.ByClauses.{emptied, nothing_added, summed_with}
 use Rattle.any_scorer.proofs.ByScores.{with_optional_scores}
 use Rattle.any_scorer.specs.Clauses.{scores_at, scores_of}
-use Rattle.leaf_scorers.specs.ScoredEntries.{naturals, scored}
+use Rattle.docsets.specs.ScoredEntries.{naturals, scored}
 use Rattle.any_scorer.proofs.clauses.optional_scorer.Goals as goal
 
 -- src/clauses.rt:123:9

@@ -5,7 +5,7 @@ use mir.Syntax.{w64}
 use mir.Val.{SFits}
 use Rattle.any_scorer.proofs.Bounded.{bounded_best, natural_below}
 use Rattle.any_scorer.proofs.ByScores.{combined}
-use Rattle.leaf_scorers.specs.ScoredEntryLaws.{Rising-scores}
+use Rattle.docsets.specs.ScoredEntryLaws.{Rising-scores}
 use Rattle.definitions.specs.Scoring.{best_and_tie, natural}
 use Rattle.any_scorer.proofs.disjuncts.disjunction_max_scorer.Goals as goal
 

@@ -5,8 +5,8 @@ use Rattle.any_scorer.proofs.ByScores.{joined}
 use Rattle.any_scorer.proofs.SameGreatest.{greatest_below}
 use Rattle.any_scorer.proofs.SamePairs.{same_scores}
 use Rattle.any_scorer.specs.Clauses.{by_number}
-use Rattle.members.specs.AtLeastLaws.{greatest-joined}
-use Rattle.members.specs.Members.{greatest_sum}
+use Rattle.docsets.specs.AtLeastLaws.{greatest-joined}
+use Rattle.docsets.specs.Members.{greatest_sum}
 use Rattle.any_scorer.proofs.intersecting.intersect_scorers.Goals as goal
 
 pub returns-then-len-ge2-clause-scores : goal.returns-then-len-ge2-clause-scores

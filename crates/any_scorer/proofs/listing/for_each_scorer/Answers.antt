@@ -1,9 +1,9 @@
 use Rattle.std.proofs.Common.{[], ap, arith, subst, sym, ◌++◌, ◌∙◌, ◌≡◌}
 use Rattle.std.proofs.lemmas.List.{append-nil}
-use Rattle.unions.proofs.SignedScores.{scores_rise}
-use Rattle.unions.specs.Signed.{signed}
-use Rattle.cursors.specs.EntryLaws.{none_left}
-use Rattle.leaf_scorers.specs.ScoredEntries.{AreScores}
+use Rattle.scorers.proofs.SignedScores.{scores_rise}
+use Rattle.scorers.specs.Signed.{signed}
+use Rattle.docsets.specs.EntryLaws.{none_left}
+use Rattle.docsets.specs.ScoredEntries.{AreScores}
 use Rattle.any_scorer.proofs.listing.for_each_scorer.Goals as goal
 
 -- src/listing.rt:13:1

@@ -1,6 +1,6 @@
 use Rattle.std.proofs.Common.{length, ◌++◌, ◌≡◌}
-use Rattle.unions.specs.Signed.{signed}
-use Rattle.cursors.specs.Entries.{first}
+use Rattle.scorers.specs.Signed.{signed}
+use Rattle.docsets.specs.Entries.{first}
 use Rattle.any_scorer.proofs.listing.for_each_scorer.Given as goal
 
 -- what was put on and what is left make all

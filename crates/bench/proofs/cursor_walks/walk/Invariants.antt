@@ -1,5 +1,5 @@
 use Rattle.std.proofs.Common.{◌≡◌, length}
-use Rattle.cursors.specs.Entries.{first}
+use Rattle.docsets.specs.Entries.{first}
 use Rattle.bench.proofs.cursor_walks.walk.Given as goal
 
 abbrev pub invariant-loop-doc : goal.invariant-loop-doc

@@ -1,4 +1,4 @@
-use Rattle.segment_merger.specs.Members.{AreOpened}
+use Rattle.segment.specs.Members.{AreOpened}
 use Rattle.bench.proofs.merges.members_of.Given as goal
 
 -- the members so far

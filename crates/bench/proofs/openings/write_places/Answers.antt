@@ -1,7 +1,7 @@
 use Rattle.std.proofs.Common.{[], List, ap, arith, if◌then◌else◌, length-append, subst, sym, ◌*◌, ◌++◌, ◌<◌, ◌^◌, ◌≡◌, ◌∙◌, ◌∷◌, ℕ}
 use Rattle.definitions.specs.Schema.{has_freq}
 use Rattle.segment_postings.specs.TermEntries.{HasPositions}
-use Rattle.postings_serializer.specs.TermWriting.{recorded_count}
+use Rattle.postings_writer.specs.TermWriting.{recorded_count}
 use Rattle.bench.proofs.PlacedTerms.{one_more}
 use Rattle.bench.proofs.openings.write_places.Goals as goal
 

@@ -1,5 +1,5 @@
 use Rattle.std.proofs.Common.{arith, sym, ◌∙◌}
-use Rattle.cursors.specs.EntryLaws.{none_left}
+use Rattle.docsets.specs.EntryLaws.{none_left}
 use Rattle.segment_postings.specs.Cursors.{entries_left, rising_left}
 use borrow.Author.Tests.{eqb-true}
 use Rattle.bench.proofs.score_walks.are_below.Goals as goal

@@ -1,5 +1,5 @@
 use Rattle.std.proofs.Common.{ap, length, sym, ◌∙◌}
-use Rattle.cursors.specs.Entries.{from}
+use Rattle.docsets.specs.Entries.{from}
 use Rattle.segment_postings.specs.Cursors.{entries_left}
 use Rattle.bench.proofs.score_walks.scored.Goals as goal
 

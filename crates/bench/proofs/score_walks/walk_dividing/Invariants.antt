@@ -1,5 +1,5 @@
 use Rattle.std.proofs.Common.{length, ◌≡◌}
-use Rattle.cursors.specs.Entries.{first}
+use Rattle.docsets.specs.Entries.{first}
 use Rattle.segment_postings.specs.Cursors.{entries_left}
 use Rattle.bench.proofs.score_walks.walk_dividing.Given as goal
 

@@ -1,5 +1,5 @@
 use Rattle.std.proofs.Common.{[], ◌%◌, ◌+◌, ◌++◌, ◌/◌, ◌∙◌, ◌∷◌, arith, length-append}
-use Rattle.postings_serializer.specs.TermWriting.{recorded_count}
+use Rattle.postings_writer.specs.TermWriting.{recorded_count}
 use Rattle.bench.proofs.spread_terms.write_docs.Goals as goal
 
 pub loop-place-preserved : goal.loop-place-preserved

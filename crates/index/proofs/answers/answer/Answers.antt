@@ -4,7 +4,7 @@ use Rattle.definitions.specs.Disk.{HasCause}
 use Rattle.definitions.specs.Requests as requests
 use Rattle.definitions.specs.Step as steps
 use Rattle.definitions.specs.declared.fault.Fault.TheVariants as faults
-use Rattle.segment_engine.specs.Indexes.{IndexStands, IsInFile, KeepsFile, device_of}
+use Rattle.engine.specs.Indexes.{IndexStands, IsInFile, KeepsFile, device_of}
 use Rattle.index.specs.AskedRequests.{index_request_of}
 use Rattle.index.specs.Replying.{Answers, IndexMeets, OnlyStops}
 use Rattle.index.proofs.Answering.{add_refused, change_answers, taken_answers, write_kept, write_refused}

@@ -10,7 +10,7 @@ use Rattle.definitions.specs.Step as steps
 use Rattle.definitions.specs.declared.fault.Fault.TheVariants as faults
 use Rattle.definitions.proofs.Steps.{refused_call}
 use Rattle.query_trees.specs.Queries.{query_of}
-use Rattle.making.proofs.ErrorsKept.{err_has}
+use Rattle.index_file.proofs.ErrorsKept.{err_has}
 use Rattle.index.proofs.Answering.{count_answered, err_weaker, ok_weaker, read_count, unread_count}
 use Rattle.serde_json.specs.View.{view}
 use Rattle.std.proofs.Common.{ap, ◌∙◌}

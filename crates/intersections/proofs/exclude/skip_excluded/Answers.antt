@@ -1,9 +1,9 @@
 use Rattle.std.proofs.Common.{ap, arith, drop, sym, true, ◌∙◌, ◌≡◌}
-use Rattle.cursors.specs.Entries.{first}
-use Rattle.cursors.specs.EntryLaws.{Rising-drop}
+use Rattle.docsets.specs.Entries.{first}
+use Rattle.docsets.specs.EntryLaws.{Rising-drop}
 use Rattle.intersections.specs.DifferenceLaws.{without-first, without-later}
 use Rattle.intersections.specs.Differences.{without}
-use Rattle.members.specs.MemberLaws.{first-next}
+use Rattle.docsets.specs.MemberLaws.{first-next}
 use Rattle.intersections.proofs.exclude.skip_excluded.Goals as goal
 
 pub returns-then-not-contains-clause-same : goal.returns-then-not-contains-clause-same

@@ -1,6 +1,6 @@
 use Rattle.std.proofs.Common.{◌-◌, ◌≡◌}
 use Rattle.definitions.specs.Postings.{terminated}
-use Rattle.cursors.specs.Entries.{first}
+use Rattle.docsets.specs.Entries.{first}
 use Rattle.intersections.specs.Differences.{without}
 use Rattle.intersections.proofs.exclude.skip_excluded.Given as goal
 

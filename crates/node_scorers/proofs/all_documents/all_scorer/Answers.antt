@@ -3,7 +3,7 @@ use Rattle.std.proofs.lemmas.Int.{to_z-of_z}
 use mir.Syntax.{w64}
 use mir.Val.{SFits}
 use Rattle.definitions.specs.Scoring.{natural}
-use Rattle.leaf_scorers.specs.ScoredEntries.{all_from}
+use Rattle.docsets.specs.ScoredEntries.{all_from}
 use Rattle.node_scorers.proofs.AllDocuments.{all_fit, boosted_all}
 use Rattle.node_scorers.proofs.all_documents.all_scorer.Goals as goal
 

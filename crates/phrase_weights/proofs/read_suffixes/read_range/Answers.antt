@@ -1,8 +1,8 @@
 use Rattle.std.proofs.Common.{[], Some, ap, arith, length, subst, ◌≡◌, ◌∷◌}
 use Rattle.std.proofs.lemmas.List.{length-append}
 use Rattle.std.specs.List.{AllByRecursion}
-use Rattle.inverted_index_reader.specs.Dictionaries.{Placed}
-use Rattle.inverted_index_reader.specs.Readers.{dictionary_in, info_in}
+use Rattle.segment_reader.specs.Dictionaries.{Placed}
+use Rattle.segment_reader.specs.Readers.{dictionary_in, info_in}
 use Rattle.phrase_weights.proofs.RangesRead.{bytes_more, first_taken, read_more, stepped}
 use Rattle.phrase_weights.proofs.read_suffixes.read_range.Goals as goal
 

@@ -1,6 +1,6 @@
 use Rattle.std.proofs.Common.{Some, length, map, take, ◌++◌, ◌+◌, ◌≡◌}
 use Rattle.std.specs.List.{AllByRecursion}
-use Rattle.inverted_index_reader.specs.Readers.{Contents, dictionary_in, info_in}
+use Rattle.segment_reader.specs.Readers.{Contents, dictionary_in, info_in}
 use Rattle.phrase_weights.specs.Suffixes.{HaveBytes, read_places}
 use Rattle.segment_postings.specs.Cursors.{entries_left}
 use Rattle.phrase_weights.proofs.read_suffixes.read_range.Given as goal

@@ -1,6 +1,6 @@
 use Rattle.std.proofs.Common.{IfOk, map, take, subst, ◌≡◌}
 use Rattle.std.proofs.lemmas.Result.{IfOk-weaker}
-use Rattle.inverted_index_reader.specs.Readers.{Contents}
+use Rattle.segment_reader.specs.Readers.{Contents}
 use Rattle.definitions.specs.Terms.{field_of, payload_of}
 use Rattle.phrase_weights.proofs.PrefixTerms.{both_ok, few_suffixes, range_held, read_found}
 use Rattle.phrase_weights.specs.Suffixes.{read_places}

@@ -1,6 +1,6 @@
 use Rattle.std.proofs.Common.{[], List, map, take, ◌≡◌}
 use Rattle.std.specs.List.{AllByRecursion}
-use Rattle.cursors.specs.Entries.{from}
+use Rattle.docsets.specs.Entries.{from}
 use Rattle.definitions.specs.Analyzers.{Analyzer}
 use Rattle.definitions.specs.Postings.{postings}
 use Rattle.definitions.specs.Schema.{Schema}

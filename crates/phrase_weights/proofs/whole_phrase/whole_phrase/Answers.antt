@@ -3,11 +3,11 @@ use Rattle.std.proofs.lemmas.Bool.Decides.{nat_tests}
 use Rattle.std.proofs.lemmas.Int.{to_z-of_z}
 use mir.Syntax.{w64}
 use mir.Val.{SFits}
-use Rattle.cursors.specs.Entries.{from, most_positions}
+use Rattle.docsets.specs.Entries.{from, most_positions}
 use Rattle.definitions.specs.Answers.{answers}
 use Rattle.definitions.specs.Query.{phrase}
 use Rattle.definitions.specs.Scoring.{Similarity, natural}
-use Rattle.leaf_scorers.specs.ScoredEntries.{greatest_score}
+use Rattle.docsets.specs.ScoredEntries.{greatest_score}
 use Rattle.phrase_weights.proofs.WholeTerms.{one-bounded, one-few, one-none, one-whole, one-within, several-none, several-whole}
 use Rattle.phrase_weights.specs.PhraseWeights.{slop_of, terms_of}
 use Rattle.phrase_weights.specs.PlacedAnswers.{placed_answers, whole_weight}

@@ -1,6 +1,6 @@
 use Rattle.std.proofs.Common.{[], ap, arith, map, sym, ◌∙◌}
 use Rattle.std.proofs.lemmas.List.{get_or-map, length-map}
-use Rattle.cursors.specs.Entries.{most_positions}
+use Rattle.docsets.specs.Entries.{most_positions}
 use Rattle.phrases.proofs.SuffixCounts.{most-take}
 use Rattle.phrases.proofs.phrase_prefix_scorer.most_of_suffixes.Goals as goal
 

@@ -1,7 +1,7 @@
 use Rattle.std.proofs.Common.{length, ◌+◌, ◌≡◌, ◌≤◌}
-use Rattle.cursors.specs.Entries.{first}
+use Rattle.docsets.specs.Entries.{first}
 use Rattle.definitions.specs.Sinks.{fed}
-use Rattle.leaf_scorers.specs.ScoredEntries.{pairs_of}
+use Rattle.docsets.specs.ScoredEntries.{pairs_of}
 use Rattle.phrases.proofs.sink.for_each_pruning_scorer.Given as goal
 
 -- what the sink has come to and what is left to feed make what all make

@@ -1,8 +1,8 @@
 use Rattle.std.proofs.Common.{ap, arith, get_or, length, subst, sym, ◌+◌, ◌-◌, ◌<◌, ◌∙◌, ◌≡◌, ◌≢◌, ℕ}
 use Rattle.std.proofs.Math.Seq.{map-set_same}
 use Rattle.std.proofs.lemmas.List.{get_or-map, length-map}
-use Rattle.cursors.specs.Entries.{first, from}
-use Rattle.leaf_scorers.specs.ScoredEntryLaws.{by_place}
+use Rattle.docsets.specs.Entries.{first, from}
+use Rattle.docsets.specs.ScoredEntryLaws.{by_place}
 use Rattle.phrases.specs.Places.{Rises}
 use Rattle.phrases.specs.Rows.{IsRow, docs_of, end_of, most_count}
 use Rattle.phrases.proofs.RowLaws.{added-behind, added-visited, count-fits, end-behind, from-later, kept-by, rest-behind, rises-apart, rises-before, rows-get, rows-set}

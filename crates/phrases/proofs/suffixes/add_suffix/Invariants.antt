@@ -1,5 +1,5 @@
 use Rattle.std.proofs.Common.{length, map, slice_index, vec_capacity, ◌-◌, ◌<◌, ◌≡◌, ◌≤◌, ℕ}
-use Rattle.cursors.specs.Entries.{first, from, most_positions}
+use Rattle.docsets.specs.Entries.{first, from, most_positions}
 use Rattle.definitions.specs.Postings.{terminated}
 use Rattle.phrases.specs.Rows.{AreRows, added_one, docs_of, end_of}
 use Rattle.phrases.proofs.suffixes.add_suffix.Given as goal

@@ -1,5 +1,5 @@
 use Rattle.std.proofs.Common.{drop, map, take, vec_capacity, ◌++◌, ◌*◌, ◌≡◌, ◌≤◌}
-use Rattle.cursors.specs.Entries.{from}
+use Rattle.docsets.specs.Entries.{from}
 use Rattle.phrases.specs.Rows.{AreRows, added, docs_of, end_of, most_count}
 use Rattle.phrases.proofs.suffixes.add_suffixes.Given as goal
 

@@ -1,8 +1,8 @@
 use Rattle.std.proofs.Common.{[], ap, arith, drop, sym, ◌+◌, ◌∙◌, ◌≡◌}
-use Rattle.cursors.specs.Entries.{first, from}
-use Rattle.cursors.specs.EntryLaws.{drop-one}
-use Rattle.members.specs.MemberLaws.{entries-cut, entries-kept}
-use Rattle.members.specs.Members.{entries_of}
+use Rattle.docsets.specs.Entries.{first, from}
+use Rattle.docsets.specs.EntryLaws.{drop-one}
+use Rattle.docsets.specs.MemberLaws.{entries-cut, entries-kept}
+use Rattle.docsets.specs.Members.{entries_of}
 use Rattle.phrases.specs.PrefixEntries.{continued_by}
 use Rattle.phrases.specs.Rows.{counted_on, places_in}
 use Rattle.phrases.proofs.RowLaws.{counted-row, from-later}

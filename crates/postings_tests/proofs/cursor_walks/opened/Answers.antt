@@ -1,7 +1,7 @@
 use Rattle.std.proofs.Common.{[], ◌*◌, ◌∙◌, Bool, ap, if◌then◌else◌, replicate, subst, sym}
 use Rattle.definitions.specs.Schema.{has_freq, has_positions}
 use Rattle.options.specs.RecordOption.{record_option_of}
-use Rattle.cursors.specs.Entries.{from}
+use Rattle.docsets.specs.Entries.{from}
 use Rattle.segment_postings.specs.Reading.{HasPostings}
 use Rattle.postings_tests.proofs.TermEntries.{none_from}
 use Rattle.postings_tests.proofs.cursor_walks.opened.Goals as goal

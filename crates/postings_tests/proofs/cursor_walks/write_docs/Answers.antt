@@ -1,5 +1,5 @@
 use Rattle.std.proofs.Common.{[], ◌*◌, ◌+◌, ◌++◌, ◌∙◌, ◌∷◌, arith, length-append}
-use Rattle.postings_serializer.specs.TermWriting.{recorded_count}
+use Rattle.postings_writer.specs.TermWriting.{recorded_count}
 use Rattle.postings_tests.proofs.TermEntries.{all_below, all_below_and}
 use Rattle.postings_tests.proofs.cursor_walks.write_docs.Goals as goal
 

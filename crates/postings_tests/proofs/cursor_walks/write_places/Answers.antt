@@ -3,7 +3,7 @@ use Rattle.std.proofs.lemmas.List.Sums.{sum_by-cons}
 use Rattle.definitions.specs.Schema.{has_freq}
 use Rattle.positions.specs.Places.{places}
 use Rattle.segment_postings.specs.TermEntries.{HasPositions}
-use Rattle.postings_serializer.specs.TermWriting.{recorded_count}
+use Rattle.postings_writer.specs.TermWriting.{recorded_count}
 use Rattle.postings_tests.proofs.TermEntries.{one_more, sum_taken}
 use Rattle.postings_tests.proofs.cursor_walks.write_places.Goals as goal
 

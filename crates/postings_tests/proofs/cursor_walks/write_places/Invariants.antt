@@ -1,6 +1,6 @@
 use Rattle.std.proofs.Common.{[], ◌*◌, ◌≡◌, ◌≤◌, List, None, length, ℕ}
 use Rattle.segment_postings.specs.TermEntries.{HasPositions}
-use Rattle.postings_serializer.specs.TermWriting.{AreWritten}
+use Rattle.postings_writer.specs.TermWriting.{AreWritten}
 use Rattle.postings_tests.proofs.cursor_walks.write_places.Given as goal
 
 abbrev pub invariant-loop-place : goal.invariant-loop-place

@@ -2,7 +2,7 @@ use Rattle.std.proofs.Common.{[], map}
 use Rattle.std.proofs.lemmas.Result.{err_from_is_err_and}
 use Rattle.definitions.specs.Postings.{Posting}
 use Rattle.layouts.specs.Positions.{position_numbers}
-use Rattle.postings_serializer.specs.TermWriting.{recorded_count}
+use Rattle.postings_writer.specs.TermWriting.{recorded_count}
 use Rattle.postings_writer.specs.Serializing.{postings_from}
 use Rattle.postings_writer.proofs.WrittenTerms.{close_passes, term_written, write_passes}
 use Rattle.postings_writer.proofs.serialize_term.serialize_term.Goals as goal

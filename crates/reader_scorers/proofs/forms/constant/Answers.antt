@@ -2,7 +2,7 @@ use Rattle.std.proofs.Common.{ap, arith, to_z, ◌∙◌, ◌≡◌}
 use Rattle.std.proofs.lemmas.Int.{to_z_pos}
 use mir.Syntax.{w64}
 use Rattle.definitions.specs.Scoring.{natural}
-use Rattle.leaf_scorers.specs.ScoredEntries.{rescored_by}
+use Rattle.docsets.specs.ScoredEntries.{rescored_by}
 use Rattle.reader_scorers.proofs.forms.constant.Goals as goal
 
 pub returns : goal.returns

@@ -3,7 +3,7 @@ use Rattle.scorer_answers.proofs.Held.{held_within, of_documents}
 use Rattle.scorer_answers.proofs.LivingCounts.{term_alive, term_each, term_none}
 use Rattle.definitions.specs.Merging.{documents_in}
 use Rattle.definitions.specs.Schema.{basic}
-use Rattle.inverted_index_reader.specs.OpenedTerms.{entry_as}
+use Rattle.segment_reader.specs.OpenedTerms.{entry_as}
 use Rattle.segment_postings.specs.Cursors.{entries_left}
 use Rattle.scorer_answers.proofs.counts.count_term.Goals as goal
 

@@ -3,7 +3,7 @@ use Rattle.std.proofs.lemmas.Int.{to_z-of_z}
 use mir.Syntax.{w64}
 use mir.Val.{SFits, of_z, to_z}
 use Rattle.definitions.specs.Scoring.{max_score, natural}
-use Rattle.leaf_scorers.specs.ScoredEntries.{all_from, greatest_score}
+use Rattle.docsets.specs.ScoredEntries.{all_from, greatest_score}
 use Rattle.scorer_cases.proofs.GreatestOnes.{boosted-fits, ones-greatest}
 use Rattle.scorer_cases.proofs.changed.boosted.Goals as goal
 

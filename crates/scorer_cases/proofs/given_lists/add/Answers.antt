@@ -1,10 +1,10 @@
 use Rattle.std.proofs.Common.{[], List, ap, arith, length, map, ◌*◌, ◌++◌, ◌∙◌, ◌∷◌, ◌≡◌, ◌≤◌}
 use Rattle.std.proofs.lemmas.List.{length-append, map-append}
-use Rattle.cursors.specs.Entries.{Entry}
-use Rattle.leaf_scorers.specs.ScoredEntries.{greatest_score}
-use Rattle.leaf_scorers.specs.contracts.list_scorer.ListScorerDocSet.TheImpl.{entries-value}
-use Rattle.members.specs.AtLeastLaws.{greatest-last}
-use Rattle.members.specs.Members.{greatest_sum}
+use Rattle.docsets.specs.Entries.{Entry}
+use Rattle.docsets.specs.ScoredEntries.{greatest_score}
+use Rattle.docsets.specs.contracts.list_scorer.ListScorerDocSet.TheImpl.{entries-value}
+use Rattle.docsets.specs.AtLeastLaws.{greatest-last}
+use Rattle.docsets.specs.Members.{greatest_sum}
 use Rattle.scorer_cases.proofs.given_lists.add.Goals as goal
 
 added : {X : Type 0} (entries : X → List Entry) (xs ys : List X) (x : X) → ys ≡ xs ++ x ∷ [] → greatest_score (entries x) ≤ 1000000000 → greatest_sum (map entries xs) ≤ length xs * 1000000000 → greatest_sum (map entries ys) ≤ length ys * 1000000000

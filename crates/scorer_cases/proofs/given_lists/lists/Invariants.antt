@@ -1,6 +1,6 @@
 use Rattle.std.proofs.Common.{length, map, ◌*◌, ◌≤◌}
-use Rattle.leaf_scorers.specs.contracts.list_scorer.ListScorerDocSet.TheImpl.{entries-value}
-use Rattle.members.specs.Members.{greatest_sum}
+use Rattle.docsets.specs.contracts.list_scorer.ListScorerDocSet.TheImpl.{entries-value}
+use Rattle.docsets.specs.Members.{greatest_sum}
 use Rattle.scorer_cases.proofs.given_lists.lists.Given as goal
 
 -- the greatest scores of so many lists

@@ -1,7 +1,7 @@
 use Rattle.std.proofs.Common.{ap, arith, map}
 use Rattle.intersections.specs.Differences.{has, unscored}
-use Rattle.leaf_scorers.specs.ScoredEntries.{greatest_score}
-use Rattle.members.specs.Members.{at_least}
+use Rattle.docsets.specs.ScoredEntries.{greatest_score}
+use Rattle.docsets.specs.Members.{at_least}
 use Rattle.scorer_cases.proofs.NestedScores.{greatest-without}
 use Rattle.scorer_cases.proofs.nested.without.Goals as goal
 

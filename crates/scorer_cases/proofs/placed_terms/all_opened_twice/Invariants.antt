@@ -1,7 +1,7 @@
 use Rattle.std.proofs.Common.{map, sum, ◌*◌, ◌≡◌, ◌≤◌, ℕ}
-use Rattle.members.specs.Members.{entries_at, greatest_sum}
+use Rattle.docsets.specs.Members.{entries_at, greatest_sum}
 use Rattle.segment_postings.specs.Cursors.{entries_left}
-use Rattle.unions.specs.Uniting.{counts_in}
+use Rattle.scorers.specs.Uniting.{counts_in}
 use Rattle.scorer_cases.proofs.placed_terms.all_opened_twice.Given as goal
 
 -- the cursors so far are the same twice, without scores, and each has few positions

@@ -4,7 +4,7 @@ use Rattle.definitions.specs.Postings.{Posting}
 use Rattle.definitions.specs.Schema.{with_freqs_and_positions}
 use Rattle.layouts.specs.Positions.{position_numbers}
 use Rattle.segment_postings.specs.TermEntries.{HasPositions}
-use Rattle.inverted_index_reader.proofs.OpenedPostings.{has_positions_in, has_postings, placed_as}
+use Rattle.segment_reader.proofs.OpenedPostings.{has_positions_in, has_postings, placed_as}
 use Rattle.scorer_cases.proofs.placed_terms.opened.Goals as goal
 
 pub new-reader-requires : goal.new-reader-requires

@@ -1,9 +1,9 @@
 use Rattle.std.proofs.Common.{ap, arith, sum, sym, ◌∙◌}
 use Rattle.definitions.specs.Schema.{with_freqs_and_positions}
-use Rattle.inverted_index_reader.specs.OpenedTerms.{HasTerm}
-use Rattle.leaf_scorers.specs.ScoredEntries.{greatest_score}
-use Rattle.members.specs.Members.{entries_of}
-use Rattle.unions.specs.Uniting.{counts_in}
+use Rattle.segment_reader.specs.OpenedTerms.{HasTerm}
+use Rattle.docsets.specs.ScoredEntries.{greatest_score}
+use Rattle.docsets.specs.Members.{entries_of}
+use Rattle.scorers.specs.Uniting.{counts_in}
 use Rattle.scorer_cases.proofs.PlacedTerms.{counted, unscored}
 use Rattle.scorer_cases.proofs.placed_terms.opened_twice.Goals as goal
 

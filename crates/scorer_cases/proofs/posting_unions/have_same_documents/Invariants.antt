@@ -1,6 +1,6 @@
 use Rattle.std.proofs.Common.{length, ◌≡◌}
-use Rattle.cursors.specs.Entries.{first}
-use Rattle.unions.specs.Documents.{documents}
+use Rattle.docsets.specs.Entries.{first}
+use Rattle.scorers.specs.Documents.{documents}
 use Rattle.scorer_cases.proofs.posting_unions.have_same_documents.Given as goal
 
 -- where what remains has the same documents, all has

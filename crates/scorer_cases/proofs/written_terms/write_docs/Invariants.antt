@@ -1,5 +1,5 @@
 use Rattle.std.proofs.Common.{List, None, length, ◌≡◌, ◌≤◌, ℕ}
-use Rattle.postings_serializer.specs.TermWriting.{AreWritten}
+use Rattle.postings_writer.specs.TermWriting.{AreWritten}
 use Rattle.scorer_cases.proofs.written_terms.write_docs.Given as goal
 
 abbrev pub invariant-loop-place : goal.invariant-loop-place

@@ -1,6 +1,6 @@
 use Rattle.std.proofs.Common.{List, ℕ}
 use Rattle.definitions.specs.Values.{Document}
-use Rattle.segment_writer.specs.Writers.{HasWritten}
+use Rattle.segment.specs.Writers.{HasWritten}
 use Rattle.segment_cases.proofs.written_segments.add_all.Given as goal
 
 abbrev pub invariant-loop-doc : goal.invariant-loop-doc

@@ -1,5 +1,5 @@
 use Rattle.std.proofs.Common.{map, ℕ}
-use Rattle.searcher.specs.declared.doc_address.DocAddress.{DocAddress}
+use Rattle.segment_reader.specs.declared.doc_address.DocAddress.{DocAddress}
 use Rattle.segment_search.proofs.HitsRead.{kept_then, read_next}
 use Rattle.segment_search.specs.Hits.{hit_of, shown_of}
 use Rattle.segment_search.proofs.hits.read_hits.Goals as goal

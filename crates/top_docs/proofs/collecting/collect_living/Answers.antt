@@ -1,7 +1,7 @@
 use Rattle.std.proofs.Common.{[], ap, arith, drop, false, slice_index_or, subst, sym, true, ◌++◌, ◌<◌, ◌∙◌, ◌∷◌, ◌≡◌}
 use Rattle.std.specs.List.{AllByRecursion}
-use Rattle.cursors.specs.EntryLaws.{none_left}
-use Rattle.cursors.specs.Entries.{first, first_score, from}
+use Rattle.docsets.specs.EntryLaws.{none_left}
+use Rattle.docsets.specs.Entries.{first, first_score, from}
 use Rattle.scorer_answers.specs.Rows.{flags_in}
 use Rattle.segment_reader.specs.SegmentReaders.{max_doc_of}
 use Rattle.top_docs.specs.Collected.{IsFound, living_items}

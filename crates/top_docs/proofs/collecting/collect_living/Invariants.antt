@@ -1,5 +1,5 @@
 use Rattle.std.proofs.Common.{[], length, ◌++◌, ◌≡◌}
-use Rattle.cursors.specs.Entries.{first, from}
+use Rattle.docsets.specs.Entries.{first, from}
 use Rattle.scorer_answers.specs.Rows.{flags_in}
 use Rattle.segment_reader.specs.SegmentReaders.{max_doc_of}
 use Rattle.top_docs.specs.Collected.{living_items}

@@ -4,7 +4,7 @@ use Rattle.std.proofs.lemmas.Result.{IfOk-weaker}
 use Rattle.scorer_answers.specs.Rows.{HasRows}
 use Rattle.query_trees.specs.Queries.{query_of}
 use Rattle.definitions.specs.Refusing.{tree_fault}
-use Rattle.segment_lists.specs.Found.{places_from, places_in}
+use Rattle.segment_definitions.specs.Found.{places_from, places_in}
 use Rattle.top_docs.specs.Collected.{best_places, place_at}
 use Rattle.top_docs.proofs.BestPlaces.{after_segment, all_segments, next_zip, none_zip}
 use Rattle.top_n_computer.specs.Best.{best_of, limit_of}

@@ -6,7 +6,7 @@ use Rattle.definitions.specs.Refusing.{tree_fault}
 use Rattle.definitions.specs.Schema.{Schema}
 use Rattle.query_trees.specs.Queries.{query_of}
 use Rattle.scorer_answers.specs.Rows.{HasRows}
-use Rattle.segment_lists.specs.Found.{places_from}
+use Rattle.segment_definitions.specs.Found.{places_from}
 use Rattle.top_docs.specs.Collected.{IsFound, best_places, place_at}
 use Rattle.top_n_computer.specs.Best.{best_of, limit_of}
 use Rattle.top_docs.proofs.searching.top_docs.Given as goal

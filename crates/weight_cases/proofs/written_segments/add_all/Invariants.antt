@@ -1,6 +1,6 @@
 use Rattle.std.proofs.Common.{List, ℕ}
 use Rattle.definitions.specs.Values.{Document}
-use Rattle.segment_writer.specs.Writers.{HasWritten}
+use Rattle.segment.specs.Writers.{HasWritten}
 use Rattle.weight_cases.proofs.written_segments.add_all.Given as goal
 
 -- some documents were written

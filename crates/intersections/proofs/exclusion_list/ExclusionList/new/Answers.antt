@@ -1,8 +1,8 @@
 use Rattle.std.proofs.Common.{ap, map, ◌∙◌}
 use Rattle.intersections.specs.Differences.{has, unscored}
 use Rattle.intersections.specs.ExclusionLaws.{has-one}
-use Rattle.members.specs.MemberLaws.{from-zero}
-use Rattle.members.specs.Members.{at_least}
+use Rattle.docsets.specs.MemberLaws.{from-zero}
+use Rattle.docsets.specs.Members.{at_least}
 use Rattle.intersections.proofs.exclusion_list.ExclusionList.new.Goals as goal
 
 pub returns-clause-entries : goal.returns-clause-entries

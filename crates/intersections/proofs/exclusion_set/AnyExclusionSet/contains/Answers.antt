@@ -1,6 +1,6 @@
 use Rattle.std.proofs.Common.{sym}
-use Rattle.cursors.specs.DangerLaws.{danger-kept}
-use Rattle.cursors.specs.declared.seek_danger_result.SeekDangerResult.TheVariants.{Found}
+use Rattle.docsets.specs.DangerLaws.{danger-kept}
+use Rattle.docsets.specs.declared.seek_danger_result.SeekDangerResult.TheVariants.{Found}
 use Rattle.intersections.specs.DifferenceLaws.{has-found, has-kept, has-missed}
 use Rattle.intersections.proofs.exclusion_set.AnyExclusionSet.contains.Goals as goal
 

@@ -1,7 +1,7 @@
 use Rattle.std.proofs.Common.{[], ap, arith, get_or, length, map, rules, set, subst, sym, ◌<◌, ◌∙◌, ◌≡◌, ◌≤◌}
 use Rattle.std.proofs.Math.Seq.{map-set_same}
 use Rattle.std.proofs.lemmas.List.{get_or-map, length-set, map-set}
-use Rattle.cursors.specs.Entries.{Entry, first, first_positions, single}
+use Rattle.docsets.specs.Entries.{Entry, first, first_positions, single}
 use Rattle.definitions.specs.Postings.{terminated}
 use Rattle.intersections.specs.ColumnLaws.{all-have, column-is, column-within, stands-at}
 use Rattle.intersections.specs.Meetings.{IsMeeting, meeting}

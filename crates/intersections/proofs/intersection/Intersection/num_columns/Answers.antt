@@ -1,5 +1,5 @@
 use Rattle.std.proofs.Common.{arith, length, sym, ◌<◌, ◌∙◌, ◌≡◌}
-use Rattle.cursors.specs.Entries.{first_positions}
+use Rattle.docsets.specs.Entries.{first_positions}
 use Rattle.intersections.specs.ColumnLaws.{columns-count}
 use Rattle.intersections.proofs.intersection.Intersection.num_columns.Goals as goal
 

@@ -1,6 +1,6 @@
 use Rattle.std.proofs.Common.{ap, arith, map, sym, ◌+◌, ◌∙◌}
-use Rattle.cursors.specs.Entries.{from}
-use Rattle.cursors.specs.EntryLaws.{drop-one}
+use Rattle.docsets.specs.Entries.{from}
+use Rattle.docsets.specs.EntryLaws.{drop-one}
 use Rattle.intersections.specs.MeetingLaws.{meets-on}
 use Rattle.intersections.specs.Meetings.{meeting}
 use Rattle.intersections.proofs.intersection.IntersectionDocSet.advance.Goals as goal

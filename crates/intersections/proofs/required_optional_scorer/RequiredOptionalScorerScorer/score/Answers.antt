@@ -3,15 +3,15 @@ use Rattle.std.proofs.lemmas.Int.{ints, to_z-of_z}
 use Rattle.std.proofs.lemmas.List.{append-nil}
 use Rattle.definitions.specs.Postings.{terminated}
 use Rattle.definitions.specs.Scoring.{max_score}
-use Rattle.cursors.specs.Entries.{first, first_score, from}
-use Rattle.cursors.specs.EntryLaws.{IsRest-from, first-from}
+use Rattle.docsets.specs.Entries.{first, first_score, from}
+use Rattle.docsets.specs.EntryLaws.{IsRest-from, first-from}
 use Rattle.intersections.specs.OptionalLaws.{optional-first, optional-fits, optional-score}
 use Rattle.intersections.specs.Optionals.{score_with, with_optional}
-use Rattle.leaf_scorers.specs.CombiningLaws.{sum-cons}
-use Rattle.leaf_scorers.specs.ScoredEntries.{greatest_score}
-use Rattle.leaf_scorers.specs.ScoredEntryLaws.{IsRest-along, first-rescored, first_score-least, greatest-rest}
-use Rattle.members.specs.MemberLaws.{entries-kept}
-use Rattle.members.specs.Members.{entries_of, scores_in}
+use Rattle.docsets.specs.CombiningLaws.{sum-cons}
+use Rattle.docsets.specs.ScoredEntries.{greatest_score}
+use Rattle.docsets.specs.ScoredEntryLaws.{IsRest-along, first-rescored, first_score-least, greatest-rest}
+use Rattle.docsets.specs.MemberLaws.{entries-kept}
+use Rattle.docsets.specs.Members.{entries_of, scores_in}
 use mir.Syntax.{w64}
 use mir.Val.{SFits}
 use Rattle.intersections.proofs.required_optional_scorer.RequiredOptionalScorerScorer.score.Given.{Over}

@@ -3,7 +3,7 @@ use Rattle.std.proofs.lemmas.Int.{to_z-of_z}
 use Rattle.std.specs.List.{AllByRecursion}
 use mir.Syntax.{w64}
 use mir.Val.{SFits}
-use Rattle.cursors.specs.Entries.{from}
+use Rattle.docsets.specs.Entries.{from}
 use Rattle.definitions.specs.Phrases.{phrase_count}
 use Rattle.definitions.specs.Scoring.{natural, weight_sum}
 use Rattle.phrase_weights.proofs.PrefixWeighed.{bounded-on, greatest_get, greatest_taken, prefix_none, prefix_some, some_is, sorted_whole, whole_is}

@@ -3,10 +3,10 @@ use Rattle.std.proofs.lemmas.Int.{to_z-of_z, to_z_pos}
 use Rattle.std.specs.List.{AllByRecursion}
 use mir.Syntax.{w64}
 use mir.Val.{SFits}
-use Rattle.cursors.specs.Entries.{from}
+use Rattle.docsets.specs.Entries.{from}
 use Rattle.definitions.specs.Postings.{postings}
 use Rattle.definitions.specs.Scoring.{length_id, natural}
-use Rattle.leaf_scorers.specs.ScoredEntries.{greatest_score, pairs_of}
+use Rattle.docsets.specs.ScoredEntries.{greatest_score, pairs_of}
 use Rattle.phrase_weights.proofs.PhraseEntriesRead.{as-many, few-places, first-field, phrase-bounded, phrase-within}
 use Rattle.phrase_weights.proofs.PhraseScores.{missing-answers, scores-answer, scores-placed}
 use Rattle.phrase_weights.specs.ReadTerms.{HasMissing, placed_entries, placed_left}
@@ -18,7 +18,7 @@ use Rattle.term_scorer.specs.Similarities.{similarity_data}
 use Rattle.term_scorer.specs.TermScoreLaws.{score-below}
 use Rattle.term_scorer.specs.TermScores.{TermSimilarity, score_by}
 use Rattle.term_weight.proofs.TermsFound.{weighed}
-use Rattle.term_weight.specs.LengthIds.{AreIds}
+use Rattle.segment_reader.specs.LengthIds.{AreIds}
 use Rattle.phrase_weights.proofs.phrase_weight.PhraseWeight.phrase_scorer.Goals as goal
 
 pub returns-in_default-clause-none : goal.returns-in_default-clause-none

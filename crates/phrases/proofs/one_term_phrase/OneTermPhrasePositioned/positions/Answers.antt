@@ -1,5 +1,5 @@
 use Rattle.std.proofs.Common.{[], List, ap, arith, length, subst, sym, ◌<◌, ◌∙◌, ◌∷◌, ◌≡◌, ℕ}
-use Rattle.cursors.specs.Entries.{AreSingle, Entry, first, first_positions, single}
+use Rattle.docsets.specs.Entries.{AreSingle, Entry, first, first_positions, single}
 use Rattle.definitions.specs.Postings.{terminated}
 use Rattle.phrases.specs.OneTermLaws.{first-one_term, positions-one_term}
 use Rattle.phrases.specs.PlaceLaws.{reached-one}

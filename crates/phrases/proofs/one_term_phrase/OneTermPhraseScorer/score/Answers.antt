@@ -3,7 +3,7 @@ use Rattle.std.proofs.lemmas.Int.{ints, to_z-of_z}
 use mir.Syntax.{w64}
 use mir.Val.{SFits}
 use Rattle.std.proofs.Common.{sym}
-use Rattle.cursors.specs.Entries.{first}
+use Rattle.docsets.specs.Entries.{first}
 use Rattle.definitions.specs.Postings.{terminated}
 use Rattle.phrases.specs.OneTermLaws.{first-one_term, first_score-one_term}
 use Rattle.phrases.proofs.one_term_phrase.OneTermPhraseScorer.score.Goals as goal

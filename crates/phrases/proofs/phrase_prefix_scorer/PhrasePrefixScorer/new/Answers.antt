@@ -1,5 +1,5 @@
 use Rattle.std.proofs.Common.{List, length, map, subst, sym, ◌++◌}
-use Rattle.cursors.specs.Entries.{Entry, Rising, most_positions}
+use Rattle.docsets.specs.Entries.{Entry, Rising, most_positions}
 use Rattle.phrases.specs.PrefixEntries.{prefixed}
 use Rattle.phrases.specs.PrefixEntryLaws.{Rising-prefixed, most_suffix_positions}
 use Rattle.phrases.specs.Windows.{IsWindow, left_in}

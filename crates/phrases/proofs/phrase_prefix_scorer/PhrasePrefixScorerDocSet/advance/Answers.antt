@@ -1,6 +1,6 @@
 use Rattle.std.proofs.Common.{ap, drop, length, map, subst, sym, ◌++◌, ◌∙◌, ◌≡◌}
-use Rattle.cursors.specs.Entries.{Rising, most_positions}
-use Rattle.cursors.specs.EntryLaws.{Rising-drop}
+use Rattle.docsets.specs.Entries.{Rising, most_positions}
+use Rattle.docsets.specs.EntryLaws.{Rising-drop}
 use Rattle.phrases.specs.PrefixEntries.{prefixed}
 use Rattle.phrases.specs.PrefixEntryLaws.{most_suffix_positions}
 use Rattle.phrases.specs.Windows.{left_in}

@@ -1,7 +1,7 @@
 use Rattle.std.proofs.Common.{ap, arith, length, map, subst, sym, ◌++◌, ◌∙◌, ◌≡◌, ◌≤◌}
-use Rattle.cursors.specs.Entries.{Rising, from, most_positions}
-use Rattle.cursors.specs.EntryLaws.{IsRest-from, Rising-from}
-use Rattle.leaf_scorers.specs.ScoredEntryLaws.{IsRest-along}
+use Rattle.docsets.specs.Entries.{Rising, from, most_positions}
+use Rattle.docsets.specs.EntryLaws.{IsRest-from, Rising-from}
+use Rattle.docsets.specs.ScoredEntryLaws.{IsRest-along}
 use Rattle.phrases.specs.PrefixEntries.{prefixed}
 use Rattle.phrases.specs.PrefixEntryLaws.{from-prefixed, most-rest, most_suffix_positions}
 use Rattle.phrases.specs.Windows.{IsWindow, left_in}

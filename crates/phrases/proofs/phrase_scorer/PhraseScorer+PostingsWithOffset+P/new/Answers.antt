@@ -2,7 +2,7 @@ use Rattle.std.proofs.Common.{ap, arith, length, map, ◌∙◌, ℕ}
 use Rattle.std.proofs.lemmas.Result.{IfOk-weaker}
 use Rattle.definitions.specs.Scoring.{greatest_of}
 use Rattle.intersections.specs.Meetings.{meeting}
-use Rattle.members.specs.Members.{greatest_sum}
+use Rattle.docsets.specs.Members.{greatest_sum}
 use Rattle.phrases.specs.PhraseEntries.{phrased, placed}
 use Rattle.phrases.specs.PhraseScores.{phrase_score_by}
 use Rattle.phrases.proofs.Adjusted.{adjusted-is, covered-docsets, no-scores}

@@ -1,5 +1,5 @@
 use Rattle.std.proofs.Common.{List, arith, length, map, subst, sym, ◌≤◌}
-use Rattle.cursors.specs.Entries.{Entry}
+use Rattle.docsets.specs.Entries.{Entry}
 use Rattle.intersections.specs.Meetings.{meeting}
 use Rattle.phrases.specs.Finders.{HasRoom}
 use Rattle.phrases.specs.PhraseEntries.{HaveColumns, longest_column}

@@ -1,5 +1,5 @@
 use Rattle.std.proofs.Common.{List, ap, arith, length, map, ◌<◌}
-use Rattle.cursors.specs.Entries.{Entry, first, first_positions}
+use Rattle.docsets.specs.Entries.{Entry, first, first_positions}
 use Rattle.definitions.specs.Postings.{terminated}
 use Rattle.intersections.specs.Meetings.{meeting}
 use Rattle.phrases.specs.PhraseEntryLaws.{first-columns, phrased-stands}

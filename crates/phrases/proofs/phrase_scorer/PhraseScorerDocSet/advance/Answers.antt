@@ -1,5 +1,5 @@
 use Rattle.std.proofs.Common.{List, length, map}
-use Rattle.cursors.specs.Entries.{Entry}
+use Rattle.docsets.specs.Entries.{Entry}
 use Rattle.intersections.specs.Meetings.{meeting}
 use Rattle.phrases.specs.PhraseEntryLaws.{IsRest-on}
 use Rattle.phrases.specs.StandingLaws.{stands-on}

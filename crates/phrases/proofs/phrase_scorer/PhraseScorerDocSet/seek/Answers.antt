@@ -1,8 +1,8 @@
 use Rattle.std.proofs.Common.{List, ap, length, map, sym, ◌∙◌, ℕ}
-use Rattle.cursors.specs.EntryLaws.{IsRest-from}
-use Rattle.cursors.specs.Entries.{Entry, from}
+use Rattle.docsets.specs.EntryLaws.{IsRest-from}
+use Rattle.docsets.specs.Entries.{Entry, from}
 use Rattle.intersections.specs.Meetings.{meeting}
-use Rattle.leaf_scorers.specs.ScoredEntryLaws.{IsRest-along}
+use Rattle.docsets.specs.ScoredEntryLaws.{IsRest-along}
 use Rattle.phrases.specs.PhraseEntries.{longest_column, phrased}
 use Rattle.phrases.specs.PhraseEntryLaws.{HaveColumns-rest, IsRest-on, from-phrased, longest-rest}
 use Rattle.phrases.specs.PhraseScores.{phrase_score_by}

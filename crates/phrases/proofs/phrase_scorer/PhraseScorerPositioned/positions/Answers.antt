@@ -1,5 +1,5 @@
 use Rattle.std.proofs.Common.{List, ap, arith, length, map, sym, ◌<◌, ◌∙◌, ◌≡◌, ℕ}
-use Rattle.cursors.specs.Entries.{Entry, first, first_positions, single}
+use Rattle.docsets.specs.Entries.{Entry, first, first_positions, single}
 use Rattle.definitions.specs.Postings.{terminated}
 use Rattle.intersections.specs.Meetings.{meeting}
 use Rattle.phrases.specs.PhraseEntries.{phrased}
@@ -7,7 +7,7 @@ use Rattle.phrases.specs.PhraseEntryLaws.{phrased-first, phrased-stands}
 use Rattle.phrases.specs.PhraseScores.{phrase_score_by}
 use Rattle.phrases.specs.Settled.{IsSettled}
 use Rattle.phrases.specs.declared.place_finder.PlaceFinder.{PlaceFinder}
-use Rattle.cursors.specs.Entries.{Rising}
+use Rattle.docsets.specs.Entries.{Rising}
 use Rattle.phrases.proofs.phrase_scorer.PhraseScorerPositioned.positions.Goals as goal
 
 -- the places of a finder are those of the first document

@@ -1,5 +1,5 @@
 use Rattle.std.proofs.Common.{[], List, ap, arith, get_or, length, map, reverse, subst, sym, take, vec_capacity, ◌+◌, ◌∙◌, ◌≡◌, ◌≤◌, ℕ}
-use Rattle.cursors.specs.Entries.{first_positions}
+use Rattle.docsets.specs.Entries.{first_positions}
 use Rattle.intersections.specs.Meetings.{meeting}
 use Rattle.phrases.specs.Costs.{IsGradual, IsTable, cheap, column_costs, nearest_costs}
 use Rattle.phrases.specs.PhraseEntries.{longest}

@@ -1,5 +1,5 @@
 use Rattle.std.proofs.Common.{map, reverse, take, ◌≡◌, ℕ}
-use Rattle.cursors.specs.Entries.{first_positions}
+use Rattle.docsets.specs.Entries.{first_positions}
 use Rattle.intersections.specs.Meetings.{meeting}
 use Rattle.phrases.specs.Costs.{column_costs}
 use Rattle.phrases.specs.Finders.{HasRoom}

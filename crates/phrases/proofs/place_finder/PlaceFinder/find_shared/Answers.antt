@@ -1,7 +1,7 @@
 use Rattle.std.proofs.Common.{[], List, ap, arith, filter, get_or, length, map, refl, subst, sym, vec_capacity, vec_len, ◌+◌, ◌-◌, ◌∙◌, ◌≡◌, ◌≤◌, ℕ}
 use Rattle.std.proofs.lemmas.Bool.Decides.{nat_tests}
 use Rattle.std.proofs.lemmas.List.{nil_from_length}
-use Rattle.cursors.specs.Entries.{first_positions}
+use Rattle.docsets.specs.Entries.{first_positions}
 use Rattle.intersections.specs.Meetings.{meeting}
 use Rattle.phrases.specs.PhraseEntries.{longest}
 use Rattle.phrases.specs.MergeLaws.{Ascends-filter, distinct-filter}

@@ -1,5 +1,5 @@
 use Rattle.std.proofs.Common.{ap, arith, drop, get_or, length, ◌≡◌}
-use Rattle.cursors.specs.Entries.{from}
+use Rattle.docsets.specs.Entries.{from}
 use Rattle.phrases.specs.Rows.{docs_of, row_entries}
 use Rattle.phrases.specs.Windows.{left_in}
 use Rattle.phrases.proofs.WindowLaws.{left-sought}

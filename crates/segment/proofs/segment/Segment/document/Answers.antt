@@ -1,7 +1,7 @@
 use Rattle.std.proofs.Common.{inl, inr, subst, sym}
 use Rattle.std.proofs.lemmas.Result.{IfErr-weaker, IfOk-weaker, err_from_is_err_and}
 use Rattle.segment.proofs.Fetching.{never_none, opened_again, past_documents, read_is, shown_is, stands_again, stands_hold, within}
-use Rattle.segment_layouts.specs.Slots.{slots}
+use Rattle.segment_definitions.specs.Slots.{slots}
 use Rattle.store.specs.Slots.{HasSlot}
 use Rattle.segment.proofs.segment.Segment.document.Goals as goal
 

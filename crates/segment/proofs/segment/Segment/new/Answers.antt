@@ -4,7 +4,7 @@ use Rattle.segment.proofs.KnownSegments.{Makes, fields_known, lengths_known, nor
 use Rattle.segment.proofs.Opening.{store_short}
 use Rattle.definitions.specs.NumberCodes.{AreBytes}
 use Rattle.segment.specs.Sections.{sections_in}
-use Rattle.segment_layouts.specs.Segments.{AreWritten}
+use Rattle.segment_definitions.specs.Segments.{AreWritten}
 use Rattle.segment.proofs.segment.Segment.new.Goals as goal
 
 pub known_sections-requires : goal.known_sections-requires

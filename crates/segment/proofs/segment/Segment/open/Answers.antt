@@ -6,9 +6,9 @@ use Rattle.document_indexer.proofs.KeptLengths.{fields_ascend}
 use Rattle.layouts.specs.Deltas.{IsAscendingFrom}
 use Rattle.layouts.specs.FieldNorms.{IsNorms}
 use Rattle.layouts.specs.InvertedIndexes.{AreSections}
-use Rattle.inverted_index_reader.specs.Readers.{IsReader}
+use Rattle.segment_reader.specs.Readers.{IsReader}
 use Rattle.segment.specs.Sections.{sections_in}
-use Rattle.segment_layouts.specs.Segments.{AreWritten}
+use Rattle.segment_definitions.specs.Segments.{AreWritten}
 use Rattle.segment.proofs.Opening.{norms_over, parts_told, store_short}
 use Rattle.segment.proofs.segment.Segment.open.Goals as goal
 

@@ -1,7 +1,7 @@
 use Rattle.std.proofs.Common.{length, subst, sym, ◌≡◌, ◌∙◌}
 use Rattle.std.proofs.Math.Logic.{∥∥₁_map}
 use Rattle.std.specs.List.{AllByRecursion}
-use Rattle.inverted_index_reader.specs.Readers.{IsReader}
+use Rattle.segment_reader.specs.Readers.{IsReader}
 use Rattle.segment.proofs.Reading.{documents_lengths, opened_lengths, reader_stands}
 use Rattle.segment.proofs.segment.Segment.reader.Goals as goal
 

@@ -1,6 +1,6 @@
 use Rattle.std.proofs.Common.{IsSome, ap, ap₂, arith, drop, length, subst, sum, sym, take, ◌++◌, ◌+◌, ◌∙◌, ◌≡◌}
 use Rattle.std.proofs.Math.Logic.{∥∥₁_map}
-use Rattle.cursors.specs.Entries.{first_positions, single}
+use Rattle.docsets.specs.Entries.{first_positions, single}
 use Rattle.layouts.specs.Positions.{differences}
 use Rattle.segment_postings.proofs.BoundedCounts.{still_told, told_room}
 use Rattle.segment_postings.proofs.EntryMoves.{count_within, positions_there, stands_within}

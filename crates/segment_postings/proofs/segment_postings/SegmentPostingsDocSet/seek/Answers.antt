@@ -3,7 +3,7 @@ use Rattle.std.proofs.Math.Logic.{∥∥₁_map}
 use Rattle.segment_postings.proofs.BoundedCounts.{still_told}
 use Rattle.segment_postings.proofs.EntryMoves.{from_place, place_on, single_from}
 use Rattle.segment_postings.specs.Cursors.{counts_left, docs_left, entries_left}
-use Rattle.cursors.specs.Entries.{from}
+use Rattle.docsets.specs.Entries.{from}
 use Rattle.segment_postings.specs.Reading.{below}
 use Rattle.segment_postings.specs.TermEntries.{entries_from, numbers_of}
 use Rattle.segment_postings.proofs.segment_postings.SegmentPostingsDocSet.seek.Goals.{After-seek-self}

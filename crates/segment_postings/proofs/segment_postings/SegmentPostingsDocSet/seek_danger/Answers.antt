@@ -1,7 +1,7 @@
 use Rattle.std.proofs.Common.{ap, arith, drop, max, subst, sum, take, ◌+◌, ◌≡◌, ◌≤◌}
-use Rattle.cursors.specs.DangerLaws.{missed-seek}
-use Rattle.cursors.specs.Entries.{first, from}
-use Rattle.cursors.specs.EntryLaws.{first-from}
+use Rattle.docsets.specs.DangerLaws.{missed-seek}
+use Rattle.docsets.specs.Entries.{first, from}
+use Rattle.docsets.specs.EntryLaws.{first-from}
 use Rattle.segment_postings.proofs.CursorMoves.{stays}
 use Rattle.segment_postings.proofs.EntryMoves.{below_behind, below_from}
 use Rattle.segment_postings.specs.Cursors.{HasMoved, counts_left, docs_left, entries_left, rising_left}

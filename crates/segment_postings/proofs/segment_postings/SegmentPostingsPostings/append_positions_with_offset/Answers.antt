@@ -4,7 +4,7 @@ use Rattle.segment_postings.proofs.BoundedCounts.{still_told, told_room}
 use Rattle.segment_postings.proofs.EntryMoves.{count_within, positions_there, stands_within}
 use Rattle.segment_postings.specs.CountBounds.{TellCounts}
 use Rattle.segment_postings.specs.Cursors.{counts_left, docs_left, entries_left}
-use Rattle.cursors.specs.Entries.{first_positions, highest, single}
+use Rattle.docsets.specs.Entries.{first_positions, highest, single}
 use Rattle.positions.specs.Places.{places}
 use Rattle.segment_postings.specs.TermEntries.{numbers_of}
 use Rattle.segment_postings.proofs.segment_postings.SegmentPostingsPostings.append_positions_with_offset.Goals.{After-positions_before-begin}

@@ -1,5 +1,5 @@
 use Rattle.std.proofs.Common.{IfOk, ap, pos, subst, sym, ◌∙◌, ◌≡◌, ℕ}
-use Rattle.cursors.specs.Entries.{first_count}
+use Rattle.docsets.specs.Entries.{first_count}
 use Rattle.segment_postings.specs.Cursors.{entries_left}
 use Rattle.term_scorer.specs.Explaining.{explained_value}
 use Rattle.term_scorer.specs.ScoredTerms.{scored_left}

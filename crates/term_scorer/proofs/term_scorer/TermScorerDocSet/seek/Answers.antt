@@ -1,7 +1,7 @@
 use Rattle.std.proofs.Common.{ap, arith, sym, ◌∙◌}
-use Rattle.cursors.specs.EntryLaws.{IsRest-from}
-use Rattle.leaf_scorers.specs.ScoredEntries.{rescored_by}
-use Rattle.leaf_scorers.specs.ScoredEntryLaws.{IsRest-along, from-rescored}
+use Rattle.docsets.specs.EntryLaws.{IsRest-from}
+use Rattle.docsets.specs.ScoredEntries.{rescored_by}
+use Rattle.docsets.specs.ScoredEntryLaws.{IsRest-along, from-rescored}
 use Rattle.segment_postings.specs.Cursors.{entries_left, rising_left}
 use Rattle.term_scorer.specs.Similarities.{similarity_data}
 use Rattle.term_scorer.specs.TermScores.{entry_score}

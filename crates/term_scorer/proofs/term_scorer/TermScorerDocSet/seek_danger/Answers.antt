@@ -1,5 +1,5 @@
 use Rattle.std.proofs.Common.{arith}
-use Rattle.leaf_scorers.specs.ScoredEntryLaws.{danger-rescored, danger-rest}
+use Rattle.docsets.specs.ScoredEntryLaws.{danger-rescored, danger-rest}
 use Rattle.segment_postings.specs.Cursors.{entries_left, rising_left}
 use Rattle.term_scorer.specs.Similarities.{similarity_data}
 use Rattle.term_scorer.specs.TermScores.{entry_score}

@@ -1,5 +1,5 @@
 use Rattle.std.proofs.Common.{ap, arith, of_z, pos, sym, to_z, ◌∙◌, ◌≤◌}
-use Rattle.cursors.specs.Entries.{first_count}
+use Rattle.docsets.specs.Entries.{first_count}
 use Rattle.term_scorer.specs.ScoredTerms.{scored_left}
 use mir.Syntax.{w64}
 use Rattle.definitions.specs.Scoring.{max_score}

@@ -2,13 +2,13 @@ use Rattle.std.proofs.Common.{ap, arith, of_z, refl, rules, subst, sym, to_z, â—
 use Rattle.std.proofs.lemmas.Int.{to_z-of_z, to_z_pos}
 use mir.Syntax.{w64}
 use mir.Val.{SFits}
-use Rattle.cursors.specs.Entries.{from}
+use Rattle.docsets.specs.Entries.{from}
 use Rattle.definitions.specs.Scoring.{length_id, natural}
-use Rattle.leaf_scorers.specs.ScoredEntries.{greatest_score, pairs_of}
+use Rattle.docsets.specs.ScoredEntries.{greatest_score, pairs_of}
 use Rattle.segment_postings.specs.Cursors.{entries_left}
 use Rattle.segment_reader.specs.SegmentReaders.{max_doc_of}
 use Rattle.term_scorer.specs.Similarities.{similarity_data}
-use Rattle.term_weight.specs.LengthIds.{AreIds}
+use Rattle.segment_reader.specs.LengthIds.{AreIds}
 use Rattle.term_scorer.specs.TermScoreLaws.{greatest-below}
 use Rattle.term_weight.specs.TermWeights.{option_asked, term_of}
 use Rattle.term_weight.proofs.TermsFound.{all_within, if_none, none_found, scored_found, scored_within, weighed}

@@ -1,9 +1,0 @@
-use Rattle.std.proofs.Common.{ap, map, sym, ◌∙◌}
-use Rattle.packed_blocks.specs.UnpackedBlocks.{listed}
-use Rattle.definitions.specs.Blocks.{least_of}
-use Rattle.layouts.specs.TermPostings.{id_of}
-use Rattle.checked_postings.proofs.NumberFolds.{no_ids}
-use Rattle.checked_postings.proofs.folds.least_id.Goals as goal
-
-pub returns-in_default : goal.returns-in_default
-returns-in_default c = sym (ap (λ ids. least_of (map (id_of (listed ids)) c.args.docs.now)) c.in_default.is ∙ no_ids c.args.docs.now c.requires.some)

@@ -1,4 +1,0 @@
--- Words of the contracts.
-pub mod Blocks
-pub mod Terms
-pub mod Placed

@@ -1,0 +1,165 @@
+//! A device over a file of the system.
+
+ghost use Rattle.std.specs.Prelude.{◌≡◌, ◌⊎◌, ◌↔◌, IfErr, IfOk, IsErrOf, IsOk};
+ghost use Rattle.definitions.specs.declared.fault.Fault.TheVariants as faults;
+ghost use Rattle.definitions.specs.Disk.{HasCause};
+
+use crate::Device;
+use definitions::Fault;
+use std::alloc::Global;
+use std::fs::{File, OpenOptions};
+use std::io;
+use std::io::ErrorKind;
+use std::os::fd::AsRawFd;
+use std::os::unix::fs::FileExt;
+
+/// Bytes that are read at a time.
+const BUFFER_LEN: usize = 65536;
+
+/// How often a read looks at the file, at most.
+const MAX_LOOKS: u64 = 1 << 48;
+
+/// The number of standard error, the last of the standard streams.
+const LAST_STREAM: i32 = 2;
+
+/// A device over a file. It isn't honest, since no contract can say what a disk does.
+#[derive(Drop)]
+pub struct FileDevice {
+    file: File,
+    failed: u64,
+}
+
+impl FileDevice {
+    /// Opens a file for reading and writing, makes it where it is absent, and locks it for this device alone.
+    pub fn open(rt: &HostRuntime, path: &str) -> Result<Self, Fault>
+        ensures failed { IfOk result (λ device. ⟦<FileDevice as Device>⟧.failed device ≡ 0) }
+        ensures fault { IfErr result (λ fault. fault ≡ faults.Device) }
+    {
+        match OpenOptions::new()
+            .read(true)
+            .write(true)
+            .create(true)
+            .open(rt, path)
+        {
+            Ok(file) => FileDevice::new(file),
+            Err(_) => Err(Fault::Device),
+        }
+    }
+
+    /// Locks an open file for this device alone.
+    ///
+    /// The lock is the advisory one on the whole file (`flock`); it is freed when the device is dropped or the process
+    /// ends. A file that another device holds is refused, and its bytes stay as they are.
+    pub fn new(file: File) -> Result<Self, Fault>
+        ensures failed { IfOk result (λ device. ⟦<FileDevice as Device>⟧.failed device ≡ 0) }
+        ensures fault { IfErr result (λ fault. fault ≡ faults.Device) }
+    {
+        match beyond_streams(file).and_then(held_alone) {
+            Ok(file) => Ok(FileDevice { file, failed: 0 }),
+            Err(_) => Err(Fault::Device),
+        }
+    }
+}
+
+// The file, under a number above those of the standard streams: what is meant for a stream that was closed before must
+// not go into the file.
+fn beyond_streams(file: File) -> io::Result<File> {
+    if file.as_raw_fd() <= LAST_STREAM {
+        return file.try_clone();
+    }
+    Ok(file)
+}
+
+// The file, locked: opening an index cuts what follows its last commit, which would be the record that another program
+// is writing.
+fn held_alone(file: File) -> io::Result<File> {
+    file.try_lock()?;
+    Ok(file)
+}
+
+// The bytes of a file, from its start to its end.
+fn read_whole(file: &File, alloc: Global) -> Result<Vec<u8>, Fault>
+    ensures fault { IfErr result (λ fault. (fault ≡ faults.Device) ⊎ (fault ≡ faults.OutOfMemory)) }
+{
+    let mut bytes = Vec::new(alloc);
+    let mut buffer = [0; BUFFER_LEN];
+    for _ in 0..MAX_LOOKS {
+        match file.read_at(&mut buffer, bytes.len() as u64) {
+            Ok(0) => return Ok(bytes),
+            Ok(len) => bytes.extend_from_slice(&buffer[..len])?,
+            Err(error) if error.kind() == ErrorKind::Interrupted => {}
+            Err(_) => return Err(Fault::Device),
+        }
+    }
+    Err(Fault::Device)
+}
+
+// Counts a failure where that is the answer.
+fn count_failure<T>(failed: &mut u64, answer: Result<T, Fault>) -> Result<T, Fault>
+    ensures answer { result ≡ answer }
+    ensures cause { HasCause failed.old failed.new answer }
+    ensures counted { ¬ IsErrOf answer faults.Device → failed.new ≡ failed.old }
+{
+    if let Err(Fault::Device) = &answer {
+        *failed = failed.saturating_add(1);
+    }
+    answer
+}
+
+// What is answered where this came of a call of the system.
+fn answer(outcome: io::Result<()>) -> Result<(), Fault>
+    ensures ok { IsOk result ↔ IsOk outcome }
+    ensures fault { IfErr result (λ fault. fault ≡ faults.Device) }
+{
+    if outcome.is_err() {
+        return Err(Fault::Device);
+    }
+    Ok(())
+}
+
+impl Device for FileDevice {
+    ghost use Rattle.std.specs.Prelude.{[], false};
+    ghost use Rattle.std.proofs.lemmas.Bool.{false≢true};
+    ghost use Rattle.definitions.specs.Disk.{settled};
+
+    ghost honest = { λ _. false };
+
+    ghost content = { λ _. [] };
+
+    ghost failed = { λ device. device.failed };
+
+    ghost unsynced = { λ _. settled 0 };
+
+    ghost moment = { λ _. 0 };
+
+    ghost left_since = { λ _ _ _. ⊥ };
+
+    ghost remains = { λ _ no. absurd (false≢true no) };
+
+    ghost counts_now = { λ _ _ _ no _ _. absurd (false≢true no) };
+
+    ghost only_now = { λ _ _ no _. absurd (false≢true no) };
+
+    fn read(&mut self, alloc: Global) -> Result<Vec<u8>, Fault> {
+        count_failure(&mut self.failed, read_whole(&self.file, alloc))
+    }
+
+    fn write_at(&mut self, at: usize, bytes: &[u8]) -> Result<(), Fault> {
+        let outcome = self.file.write_all_at(bytes, at as u64);
+        count_failure(&mut self.failed, answer(outcome))
+    }
+
+    fn cut(&mut self, len: usize) -> Result<(), Fault> {
+        let outcome = self.file.set_len(len as u64);
+        count_failure(&mut self.failed, answer(outcome))
+    }
+
+    fn sync(&mut self) -> Result<(), Fault> {
+        let outcome = self.file.sync_all();
+        count_failure(&mut self.failed, answer(outcome))
+    }
+
+    fn failures(&self) -> u64 {
+        self.failed
+    }
+}

@@ -1,4 +1,0 @@
-pub mod Entries
-pub mod EntryLaws
-pub mod Danger
-pub mod DangerLaws

@@ -1,0 +1,2 @@
+pub mod FirstDocuments
+pub mod ListCuts

@@ -1,0 +1,27 @@
+-- Laws of cursors that were asked for a document.
+use Rattle.std.proofs.Common.{◌<◌, ◌≡◌, ◌∙◌, List, ap, arith, refl, ℕ}
+use Rattle.docsets.specs.Entries.{Entry, Rising, first, from}
+use Rattle.docsets.specs.EntryLaws.{IsRest-from, IsRest-refl, from-first, from-from}
+use Rattle.docsets.specs.Danger.{IsDangerAnswer, Missed}
+use Rattle.docsets.specs.declared.seek_danger_result.SeekDangerResult.{SeekDangerResult}
+use Rattle.docsets.specs.declared.seek_danger_result.SeekDangerResult.TheVariants.{Found, SeekLowerBound}
+
+-- whatever the answer, what remains from the document on is what remained
+pub danger-kept : (answer : SeekDangerResult) (t : ℕ) (before after : List Entry) → IsDangerAnswer answer t before after → from t after ≡ from t before
+danger-kept Found t before after d = ap (from t) d.1 ∙ from-from t t before (omega arith)
+danger-kept (SeekLowerBound bound) t before after d = d.kept
+
+-- a plain seek past the document is an answer
+pub missed-seek : (t bound low : ℕ) (before after : List Entry) → Rising low before → after ≡ from t before → bound ≡ first after → t < bound → Missed t bound before after
+missed-seek t bound low before after r cut at l =
+    let place : bound ≡ first (from t before) = at ∙ ap first cut in
+    record {
+      above = l;
+      before_next = omega (arith, place);
+      rest = (let rest = IsRest-from t low before r in (rest.0, cut ∙ rest.1));
+      kept = ap (from t) cut ∙ from-from t t before (omega arith);
+    }
+
+-- and without a move where the cursor stands behind the document already
+pub missed-here : (t low : ℕ) (es : List Entry) → Rising low es → t < first es → Missed t (first es) es es
+missed-here t low es r l = record { above = l; before_next = (let all = from-first t low es (omega (arith, l)) r in rw all (omega arith)); rest = IsRest-refl es; kept = refl }

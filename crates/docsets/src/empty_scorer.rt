@@ -1,0 +1,54 @@
+//! No document.
+
+ghost use Rattle.std.specs.Prelude.{[], ◌≡◌};
+
+use crate::DocSet;
+use crate::all_scorer::AllScorer;
+use crate::scorer::Scorer;
+use common::{DocId, Score};
+
+/// No document: it stands at the end, as all documents below 0 do.
+#[derive(Drop)]
+pub struct EmptyScorer {
+    none: AllScorer,
+}
+
+impl EmptyScorer {
+    /// Stands at the end.
+    pub fn new() -> EmptyScorer
+        ensures { ⟦<EmptyScorer as DocSet>⟧.entries result ≡ [] }
+    {
+        EmptyScorer {
+            none: AllScorer::new(0),
+        }
+    }
+}
+
+impl DocSet for EmptyScorer {
+    ghost use Rattle.docsets.specs.ScoredEntryLaws.{rising_all};
+
+    ghost entries = { λ s. ⟦<AllScorer as DocSet>⟧.entries s.none };
+
+    #[inline]
+    fn advance(&mut self) -> DocId {
+        self.none.advance()
+    }
+
+    #[inline]
+    fn doc(&self) -> DocId {
+        self.none.doc()
+    }
+
+    fn size_hint(&self) -> u32 {
+        self.none.size_hint()
+    }
+
+    ghost rising = { λ s. rising_all s.none.doc s.none.max_doc s.none.small };
+}
+
+impl Scorer for EmptyScorer {
+    #[inline]
+    fn score(&mut self) -> Score {
+        self.none.score()
+    }
+}

@@ -1,0 +1,121 @@
+use Rattle.std.proofs.Common.{[], Ok, Some, ap, false, sym, subst, ◌++◌, ◌∙◌, ◌∷◌, ◌≡◌, ◌≢◌, OnOk}
+use Rattle.std.specs.Result.{result_err}
+use Rattle.definitions.specs.Calls as calls
+use Rattle.definitions.specs.Reading.{read_data}
+use Rattle.definitions.specs.Values.{Document}
+use Rattle.definitions.specs.declared.fault.Fault.TheVariants as faults
+use Rattle.index_state.proofs.Outcomes.{err_has, err_map, err_same, own_refuses, status_refuses}
+use Rattle.index_state.specs.Standing.{Stands}
+use Rattle.engine.specs.Indexes.{HasLongSlot, PassesLimit, open_of}
+use Rattle.engine.proofs.Adding.{adds_document, adds_value, any_refusal, as_other, early_no_limit, given_is, no_limit, one_document, refused_no_ok, same_refusal, unread_left}
+use Rattle.serde_json.specs.View.{view}
+use Rattle.engine.proofs.index.Index.add_value.Goals as goal
+
+pub returns-in_err-check_writer-clause-left : goal.returns-in_err-check_writer-clause-left
+returns-in_err-check_writer-clause-left g c k x s =
+    let call = calls.add_value (view c.args.value.now) in
+    let fault = c.in_err-check_writer.field-0.0 in
+    let refuses = ap (λ status. calls.status_fault status false) s.status ∙ sym c.check_writer.ensures.value ∙ ap result_err c.in_err-check_writer.was in
+    subst (λ r. (y : calls.Index) × calls.Leaves k x call r y × Stands g.A.Analyzer.analyze c.args.self.now.index_state k y) (err_same c.from_residual.result fault c.from_residual.ensures.1)
+    (x, calls.refused fault (status_refuses k x call fault refuses), s)
+
+pub returns-in_err-check_writer-clause-exact : goal.returns-in_err-check_writer-clause-exact
+returns-in_err-check_writer-clause-exact g c k x s =
+    let call = calls.add_value (view c.args.value.now) in
+    let fault = c.in_err-check_writer.field-0.0 in
+    let refuses = ap (λ status. calls.status_fault status false) s.status ∙ sym c.check_writer.ensures.value ∙ ap result_err c.in_err-check_writer.was in
+    err_has c.from_residual.result fault (λ f. f ≢ faults.OutOfMemory → f ≢ faults.Limit → calls.call_fault k x call ≡ Some f) c.from_residual.ensures.1 (λ memory limit. status_refuses k x call fault refuses)
+
+pub returns-in_err-doc-clause-left : goal.returns-in_err-doc-clause-left
+returns-in_err-doc-clause-left g c k x s =
+    let d = view c.args.value.now in
+    let call = calls.add_value d in
+    let old = c.args.self.now.index_state in
+    let fault = c.in_err-doc.field-0.0 in
+    let none = ap (λ status. calls.status_fault status false) s.status ∙ sym c.check_writer.ensures.value ∙ ap result_err c.in_ok-check_writer.was in
+    let own : fault ≢ faults.OutOfMemory → calls.own_fault k x.state call ≡ Some fault =
+    λ other. ap (λ (m : calls.Configuration). result_err (calls.document_value m.schema d)) s.made ∙ ap (λ r. result_err (calls.if_indexable old.schema r)) (ap (λ t. read_data t d) (sym c.schema.ensures) ∙ c.in_err-doc.ensures.err other) in
+    subst (λ r. (y : calls.Index) × calls.Leaves k x call r y × Stands g.A.Analyzer.analyze old k y) (err_same c.from_residual-in_err-doc.result fault c.from_residual-in_err-doc.ensures.1)
+    (x, unread_left k x call fault (adds_value d) none own, s)
+
+pub returns-in_err-doc-clause-exact : goal.returns-in_err-doc-clause-exact
+returns-in_err-doc-clause-exact g c k x s =
+    let d = view c.args.value.now in
+    let call = calls.add_value d in
+    let old = c.args.self.now.index_state in
+    let fault = c.in_err-doc.field-0.0 in
+    let none = ap (λ status. calls.status_fault status false) s.status ∙ sym c.check_writer.ensures.value ∙ ap result_err c.in_ok-check_writer.was in
+    let own : fault ≢ faults.OutOfMemory → calls.own_fault k x.state call ≡ Some fault =
+    λ other. ap (λ (m : calls.Configuration). result_err (calls.document_value m.schema d)) s.made ∙ ap (λ r. result_err (calls.if_indexable old.schema r)) (ap (λ t. read_data t d) (sym c.schema.ensures) ∙ c.in_err-doc.ensures.err other) in
+    err_has c.from_residual-in_err-doc.result fault (λ f. f ≢ faults.OutOfMemory → f ≢ faults.Limit → calls.call_fault k x call ≡ Some f) c.from_residual-in_err-doc.ensures.1 (λ memory limit. own_refuses k x call none ∙ own memory)
+
+pub returns-clause-left : goal.returns-clause-left
+returns-clause-left g c k x s =
+    let d = view c.args.value.now in
+    let doc = c.in_ok-doc.doc in
+    let read : read_data k.schema d ≡ Ok doc = ap (λ (m : calls.Configuration). read_data m.schema d) s.made ∙ ap (λ t. read_data t d) (sym c.schema.ensures) ∙ c.in_ok-doc.ensures.ok in
+    let given = given_is k.schema d doc read in
+    let left = c.add_document.ensures.left k x s in
+    (left.0, as_other k x (calls.add_document doc) (calls.add_value d) (adds_document doc) (adds_value d) (ap result_err given) (ap (λ r. calls.after_document r x.state) given) left.1, left.2)
+
+pub returns-clause-exact : goal.returns-clause-exact
+returns-clause-exact g c k x s =
+    let d = view c.args.value.now in
+    let doc = c.in_ok-doc.doc in
+    let read : read_data k.schema d ≡ Ok doc = ap (λ (m : calls.Configuration). read_data m.schema d) s.made ∙ ap (λ t. read_data t d) (sym c.schema.ensures) ∙ c.in_ok-doc.ensures.ok in
+    let given = given_is k.schema d doc read in
+    let same = same_refusal k x (calls.add_document doc) (calls.add_value d) (adds_document doc) (adds_value d) (ap result_err given) (ap (λ r. calls.after_document r x.state) given) in
+    err_map c.add_document.result (λ f. f ≢ faults.OutOfMemory → f ≢ faults.Limit → calls.call_fault k x (calls.add_document doc) ≡ Some f) (λ f. f ≢ faults.OutOfMemory → f ≢ faults.Limit → calls.call_fault k x (calls.add_value d) ≡ Some f)
+    (λ f refused memory limit. same ∙ refused memory limit) (c.add_document.ensures.exact k x s)
+
+pub returns-in_err-check_writer-clause-limit : goal.returns-in_err-check_writer-clause-limit
+returns-in_err-check_writer-clause-limit g c k x s =
+    let fault = c.in_err-check_writer.field-0.0 in
+    let refuses = ap (λ status. calls.status_fault status false) s.status ∙ sym c.check_writer.ensures.value ∙ ap result_err c.in_err-check_writer.was in
+    err_has c.from_residual.result fault (λ f. f ≡ faults.Limit → (doc : Document) × (read_data k.schema (view c.args.value.now) ≡ Ok doc) × PassesLimit g.A.Analyzer.analyze c.args.self.now (open_of c.args.self.now ++ doc ∷ [])) c.from_residual.ensures.1
+    (λ limit. absurd (no_limit k x (calls.add_value (view c.args.value.now)) fault (status_refuses k x (calls.add_value (view c.args.value.now)) fault refuses) limit))
+
+pub returns-in_err-doc-clause-limit : goal.returns-in_err-doc-clause-limit
+returns-in_err-doc-clause-limit g c k x s =
+    let old = c.args.self.now.index_state in
+    let fault = c.in_err-doc.field-0.0 in
+    let none = ap (λ status. calls.status_fault status false) s.status ∙ sym c.check_writer.ensures.value ∙ ap result_err c.in_ok-check_writer.was in
+    let d = view c.args.value.now in
+    let own : fault ≢ faults.OutOfMemory → calls.own_fault k x.state (calls.add_value d) ≡ Some fault =
+    λ other. ap (λ (m : calls.Configuration). result_err (calls.document_value m.schema d)) s.made ∙ ap (λ r. result_err (calls.if_indexable old.schema r)) (ap (λ t. read_data t d) (sym c.schema.ensures) ∙ c.in_err-doc.ensures.err other) in
+    err_has c.from_residual-in_err-doc.result fault (λ f. f ≡ faults.Limit → (doc : Document) × (read_data k.schema (view c.args.value.now) ≡ Ok doc) × PassesLimit g.A.Analyzer.analyze c.args.self.now (open_of c.args.self.now ++ doc ∷ [])) c.from_residual-in_err-doc.ensures.1
+    (λ limit. absurd (early_no_limit k x (calls.add_value (view c.args.value.now)) fault (λ memory. own_refuses k x (calls.add_value (view c.args.value.now)) none ∙ own memory) limit))
+
+pub returns-clause-limit : goal.returns-clause-limit
+returns-clause-limit g c k x s =
+    let d = view c.args.value.now in
+    let doc = c.in_ok-doc.doc in
+    let read : read_data k.schema d ≡ Ok doc = ap (λ (m : calls.Configuration). read_data m.schema d) s.made ∙ ap (λ t. read_data t d) (sym c.schema.ensures) ∙ c.in_ok-doc.ensures.ok in
+    err_map c.add_document.result (λ f. f ≡ faults.Limit → PassesLimit g.A.Analyzer.analyze c.args.self.now (open_of c.args.self.now ++ doc ∷ [])) (λ f. f ≡ faults.Limit → (doc : Document) × (read_data k.schema (view c.args.value.now) ≡ Ok doc) × PassesLimit g.A.Analyzer.analyze c.args.self.now (open_of c.args.self.now ++ doc ∷ []))
+    (λ f passes limit. (doc, read, passes limit)) c.add_document.ensures.limit
+
+pub returns-in_err-check_writer-clause-short : goal.returns-in_err-check_writer-clause-short
+returns-in_err-check_writer-clause-short g c k x doc s is = refused_no_ok c.from_residual.result c.in_err-check_writer.field-0.0 (¬ HasLongSlot c.args.self.now doc) c.from_residual.ensures.1
+
+pub returns-in_err-check_writer-clause-long : goal.returns-in_err-check_writer-clause-long
+returns-in_err-check_writer-clause-long g c k x doc s is long = any_refusal c.from_residual.result _ s
+
+pub returns-in_err-doc-clause-short : goal.returns-in_err-doc-clause-short
+returns-in_err-doc-clause-short g c k x doc s is = refused_no_ok c.from_residual-in_err-doc.result c.in_err-doc.field-0.0 (¬ HasLongSlot c.args.self.now doc) c.from_residual-in_err-doc.ensures.1
+
+pub returns-in_err-doc-clause-long : goal.returns-in_err-doc-clause-long
+returns-in_err-doc-clause-long g c k x doc s is long = any_refusal c.from_residual-in_err-doc.result _ s
+
+pub returns-clause-short : goal.returns-clause-short
+returns-clause-short g c k x doc s is =
+    let d = view c.args.value.now in
+    let found = c.in_ok-doc.doc in
+    let read : read_data k.schema d ≡ Ok found = ap (λ (m : calls.Configuration). read_data m.schema d) s.made ∙ ap (λ t. read_data t d) (sym c.schema.ensures) ∙ c.in_ok-doc.ensures.ok in
+    subst (λ e. OnOk c.add_document.result (¬ HasLongSlot c.args.self.now e)) (one_document (read_data k.schema d) found doc read is) c.add_document.ensures.short
+
+pub returns-clause-long : goal.returns-clause-long
+returns-clause-long g c k x doc s is long =
+    let d = view c.args.value.now in
+    let found = c.in_ok-doc.doc in
+    let read : read_data k.schema d ≡ Ok found = ap (λ (m : calls.Configuration). read_data m.schema d) s.made ∙ ap (λ t. read_data t d) (sym c.schema.ensures) ∙ c.in_ok-doc.ensures.ok in
+    c.add_document.ensures.long k x s (subst (HasLongSlot c.args.self.now) (sym (one_document (read_data k.schema d) found doc read is)) long)

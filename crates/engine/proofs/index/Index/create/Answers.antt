@@ -1,0 +1,46 @@
+use Rattle.std.proofs.Common.{[], ap, inl, inr, is_some, ◌∙◌, ◌∷◌}
+use Rattle.definitions.proofs.CallRuns.{started}
+use Rattle.engine.specs.Files.{BodiesLeave, is_first}
+use Rattle.layouts.specs.RecordBodies.{first_body}
+use Rattle.layouts.specs.RecordFiles.{IsFresh}
+use Rattle.index_file.proofs.Openings.{same_device}
+use Rattle.index_state.specs.Standing.{members_of}
+use Rattle.engine.proofs.FileSayings.{leave_first, leave_same}
+use Rattle.engine.proofs.index.Index.create.Goals as goal
+
+pub returns-in-Err-clause-kept : goal.returns-in-Err-clause-kept
+returns-in-Err-clause-kept g c h other =
+    let d = g.D.Device in
+    same_device d.moment d.left_since d.content d.unsynced c.args.device (λ image left. g.met.D.Device.only_now c.args.device image h left)
+
+pub returns-in-Err-clause-any_moment : goal.returns-in-Err-clause-any_moment
+returns-in-Err-clause-any_moment g c h images =
+    let d = g.D.Device in
+    started d.moment d.left_since c.args.device (IsFresh is_first) (λ image left. images image (g.met.D.Device.only_now c.args.device image h left))
+
+pub returns-in-Ok-create-clause-any_moment : goal.returns-in-Ok-create-clause-any_moment
+returns-in-Ok-create-clause-any_moment g c h images =
+    c.in-Ok-create.ensures.any_moment is_first (first_body c.args.schema c.args.settings) h (c.deref.ensures.value ∙ c.in-Ok.ensures.ok) (ap is_some c.in-Ok.ensures.read_back) images
+
+pub returns-in-Err-create-clause-kept : goal.returns-in-Err-create-clause-kept
+returns-in-Err-create-clause-kept g c h other = elim c.in-Err-create.ensures.fault [
+  | inl device ↦ absurd (other device)
+  | inr (inl memory) ↦ c.in-Err-create.ensures.kept h (inr memory)
+  | inr (inr held) ↦ c.in-Err-create.ensures.kept h (inl (c.in-Err-create.ensures.not_empty h held))
+]
+
+pub returns-in-Err-create-clause-any_moment : goal.returns-in-Err-create-clause-any_moment
+returns-in-Err-create-clause-any_moment g c h images =
+    c.in-Err-create.ensures.any_moment is_first (first_body c.args.schema c.args.settings) h (c.deref.ensures.value ∙ c.in-Ok.ensures.ok) (ap is_some c.in-Ok.ensures.read_back) images
+
+pub returns-in-Ok-create-clause-rests : goal.returns-in-Ok-create-clause-rests
+returns-in-Ok-create-clause-rests g c h =
+    let body = first_body c.args.schema c.args.settings in
+    let new = c.new-index_state.result in
+    let leave : BodiesLeave c.args.schema c.args.settings (body ∷ []) [] = leave_first c.args.schema c.args.settings body c.in-Ok.ensures.read_back in
+    record {
+      bodies = body ∷ [];
+      at_rest = c.in-Ok-create.ensures.at_rest body h (c.deref.ensures.value ∙ c.in-Ok.ensures.ok);
+      leave = leave_same c.args.schema new.schema c.args.settings new.settings (body ∷ []) [] (members_of new) c.new-index_state.ensures.made.0 c.new-index_state.ensures.made.1 c.new-index_state.ensures.none leave;
+      synced = c.in-Ok-create.ensures.unsynced h;
+    }

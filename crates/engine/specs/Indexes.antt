@@ -1,0 +1,147 @@
+-- An index as its calls speak of it: what it is made of and stands for, its device, and the file on it.
+use Rattle.std.specs.Prelude.{[], ⊤, ◌++◌, ◌+◌, ◌<◌, ◌^◌, ◌∷◌, ◌≡◌, ◌≤◌, ◌⊎◌, Err, IsTrue, List, Ok, Result, length, ℕ}
+use Rattle.std.specs.List.{AllZip}
+use Rattle.std.specs.declared.alloc.Global.{Global}
+use Rattle.common.specs.declared.device.Device as devices
+use Rattle.definitions.specs.Analyzers.{Analyzer}
+use Rattle.definitions.specs.Calls as calls
+use Rattle.definitions.specs.Schema.{Schema}
+use Rattle.definitions.specs.Settings.{Settings}
+use Rattle.definitions.specs.Step.{configuration_of, reopened}
+use Rattle.definitions.specs.Values.{Document}
+use Rattle.definitions.specs.declared.fault.Fault.{Fault}
+use Rattle.layouts.specs.RecordFiles.{IsAtRest}
+use Rattle.index_file.specs.Frames.{frame_bytes}
+use Rattle.index_state.specs.Standing as collections
+use Rattle.engine.specs.Files.{LeavesEither, LeavesMembers, Rests}
+use Rattle.engine.specs.declared.index.Index.{Index}
+use Rattle.engine.specs.declared.refused.Refused.{Refused}
+use Rattle.segment_definitions.specs.SegmentBodies.{Makes, Member}
+use Rattle.segment_definitions.specs.SegmentFiles.{IsGroup}
+use Rattle.segment_definitions.specs.Segments.{IsSegment}
+
+module _ {D A : Type 0} {d : devices.Ghosts D} where
+  -- ---- what it is made of
+
+  -- what cuts its texts
+  abbrev pub analyzer_of : Index D A d → A
+  analyzer_of index = collections.analyzer_of index.index_state
+
+  -- its fields
+  abbrev pub schema_of : Index D A d → Schema
+  schema_of index = collections.schema_of index.index_state
+
+  -- its numbers for scores and segments
+  abbrev pub settings_of : Index D A d → Settings
+  settings_of index = collections.settings_of index.index_state
+
+  -- what it takes memory from
+  abbrev pub alloc_of : Index D A d → Global
+  alloc_of index = collections.alloc_of index.index_state
+
+  -- analyzer, fields and settings are as before
+  abbrev pub KeepsMaking : Index D A d → Index D A d → Type 0
+  KeepsMaking old new = collections.IsMadeAlike old.index_state new.index_state
+
+  -- ---- what it stands for
+
+  -- it has this configuration, these documents committed, these waiting, and this status
+  abbrev pub IndexStands : (A → Analyzer) → Index D A d → calls.Configuration → calls.Index → Type 0
+  IndexStands analyze index c x = collections.Stands analyze index.index_state c x
+
+  -- the segments that are committed, each with a flag for each of its documents
+  abbrev pub members_of : Index D A d → List Member
+  members_of index = collections.members_of index.index_state
+
+  -- a segment of these documents passes a limit
+  abbrev pub PassesLimit : (A → Analyzer) → Index D A d → List Document → Type 0
+  PassesLimit analyze index docs = collections.PassesLimit analyze index.index_state docs
+
+  -- the documents that wait in a segment that isn't full
+  abbrev pub open_of : Index D A d → List Document
+  open_of index = collections.open_of index.index_state
+
+  -- the slot of this document is too long beside a block
+  abbrev pub HasLongSlot : Index D A d → Document → Type 0
+  HasLongSlot index doc = collections.HasLongSlot index.index_state doc
+
+  -- ---- its file
+
+  -- what its file lies on
+  abbrev pub device_of : Index D A d → D
+  device_of index = index.file.device
+
+  -- the place of the file's closed gate
+  abbrev pub gate_of : Index D A d → ℕ
+  gate_of index = index.file.gate
+
+  -- device and gate are as before, and the segments that are committed
+  abbrev pub KeepsFile : Index D A d → Index D A d → Type 0
+  KeepsFile old new = (device_of new ≡ device_of old) × (gate_of new ≡ gate_of old) × (members_of new ≡ members_of old)
+
+  -- the file leaves the segments that are committed, its closed gate at its place and nothing after it, and all of it is
+  -- on the disk
+  abbrev pub IndexRests : Index D A d → Type 0
+  IndexRests index =
+      Rests (schema_of index) (settings_of index) (members_of index)
+      (d.content (device_of index)) (d.unsynced (device_of index)) (gate_of index)
+
+  -- over an honest device a ready index rests in its file
+  abbrev pub IsInFile : Index D A d → calls.Index → Type 0
+  IsInFile index x = IsTrue (d.honest (device_of index)) → x.status ≡ calls.ready → IndexRests index
+
+  -- the body of a record that makes of the segments of the index others, of which these documents stand in groups
+  abbrev pub IsBodyOf : (A → Analyzer) → Index D A d → List (List Document) → List ℕ → Type 0
+  IsBodyOf analyze index groups body =
+      (after : List Member) × Makes (IsSegment (schema_of index)) (members_of index) after body
+      × AllZip (IsGroup (schema_of index) (analyze (analyzer_of index))) after groups
+
+  -- a file with nothing after its closed gate has one record more, and that record makes these groups
+  abbrev pub AppendsRecord : (A → Analyzer) → Index D A d → Index D A d → List (List Document) → Type 0
+  AppendsRecord analyze old new groups =
+      (bodies : List (List ℕ)) → IsAtRest (d.content (device_of old)) (gate_of old) bodies
+      → (body : List ℕ) × IsBodyOf analyze old groups body
+      × IsAtRest (d.content (device_of new)) (gate_of new) (bodies ++ body ∷ [])
+
+  -- with a record that makes these groups the file would pass 2^63 bytes
+  abbrev pub PassesFile : (A → Analyzer) → Index D A d → List (List Document) → Type 0
+  PassesFile analyze index groups =
+      (body : List ℕ) × IsBodyOf analyze index groups body × (2 ^ 63 < gate_of index + 1 + length (frame_bytes body))
+
+  -- a limit that a commit meets: in the documents of the segment that isn't full, in how many segments there are
+  -- afterwards, or in the bytes of the file
+  abbrev pub CommitPasses : (A → Analyzer) → Index D A d → Index D A d → List (List Document) → Type 0
+  CommitPasses analyze old new groups =
+      PassesLimit analyze old (open_of old) ⊎ (2 ^ 32 ≤ collections.num_written new.index_state)
+      ⊎ PassesFile analyze old groups
+
+  -- a crash at any moment from the old index to the new one leaves a file of the one or the other groups
+  abbrev pub CrashLeavesEither : (A → Analyzer) → Index D A d → Index D A d → List (List Document) → List (List Document) → Type 0
+  CrashLeavesEither analyze old new one other =
+      LeavesEither d.moment d.left_since (device_of old) (device_of new) (schema_of old) (settings_of old)
+      (analyze (analyzer_of old)) one other
+
+  -- the segments that the file of the device leaves are committed, and nothing waits: whatever documents they are of
+  pub record IsOpened (analyze : A → Analyzer) (analyzer : Analyzer) (device : D) (index : Index D A d) : Type 0 where
+    pub stands :
+        (groups : List (List Document)) → AllZip (IsGroup (schema_of index) analyzer) (members_of index) groups
+        → IndexStands analyze index (configuration_of (schema_of index) analyzer (settings_of index)) (reopened groups)
+    pub file : IsTrue (d.honest device) → LeavesMembers (schema_of index) (settings_of index) (members_of index) (d.content device)
+    pub rests : IsTrue (d.honest device) → IndexRests index
+
+  -- ---- what a call hands back that makes or opens an index, or refuses to
+
+  -- the device: that of the index, or the one that is handed back
+  abbrev pub device_after : Result (Index D A d) (Refused D A) → D
+  device_after (Ok index) = device_of index
+  device_after (Err refused) = refused.device
+
+  -- and the analyzer
+  abbrev pub analyzer_after : Result (Index D A d) (Refused D A) → A
+  analyzer_after (Ok index) = analyzer_of index
+  analyzer_after (Err refused) = refused.analyzer
+
+  -- how the call ended
+  abbrev pub ending_of : Result (Index D A d) (Refused D A) → Result ⊤ Fault
+  ending_of (Ok index) = Ok tt
+  ending_of (Err refused) = Err refused.fault

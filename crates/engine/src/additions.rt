@@ -1,0 +1,107 @@
+//! Documents that are added to an index.
+
+ghost use Rattle.std.specs.Prelude.{[], ◌++◌, ◌<◌, ◌∷◌, ◌≡◌, ◌≢◌, IfErr, IfOk, None, Ok, OnErr, OnOk, Some};
+ghost use Rattle.definitions.specs.Calls as calls;
+ghost use Rattle.definitions.specs.Reading.{read_data, read_json};
+ghost use Rattle.definitions.specs.Values.{Document};
+ghost use Rattle.definitions.specs.declared.fault.Fault.TheVariants as faults;
+ghost use Rattle.engine.specs.Indexes.{HasLongSlot, IndexStands, KeepsFile, KeepsMaking, PassesLimit, open_of};
+ghost use Rattle.serde_json.specs.Read.{read};
+ghost use Rattle.serde_json.specs.View.{view};
+
+use crate::index::Index;
+use common::{Analyzer, Device};
+use definitions::Fault;
+use document::CompactDoc;
+use serde_json::Value as Json;
+use std::alloc::Global;
+
+impl<D: Device + Drop, A: Analyzer + Drop> Index<D, A> {
+    /// Adds a document; a search sees it after the next commit. One of an unknown field is `UnknownField`, and one with
+    /// a value that can't be indexed `NotIndexable`; one whose stored values are too long beside a block is `Limit`, and
+    /// changes nothing. Where a document fills a segment, the segment is made: want of memory or a limit then closes the
+    /// writer.
+    pub fn add_document(&mut self, doc: CompactDoc) -> Result<(), Fault>
+        ensures left { (c : calls.Configuration) (x : calls.Index) → IndexStands A.analyze self.old c x
+            → (y : calls.Index) × calls.Leaves c x (calls.add_document doc) result y
+            × IndexStands A.analyze self.new c y }
+        ensures exact { (c : calls.Configuration) (x : calls.Index) → IndexStands A.analyze self.old c x
+            → IfErr result (λ fault. fault ≢ faults.OutOfMemory → fault ≢ faults.Limit
+            → calls.call_fault c x (calls.add_document doc) ≡ Some fault) }
+        ensures limit { IfErr result (λ fault. fault ≡ faults.Limit
+            → PassesLimit A.analyze self.old (open_of self.old ++ doc ∷ [])) }
+        ensures short { OnOk result (¬ HasLongSlot self.old doc) }
+        ensures long { (c : calls.Configuration) (x : calls.Index) → IndexStands A.analyze self.old c x
+            → HasLongSlot self.old doc → OnErr result (IndexStands A.analyze self.new c x) }
+        ensures made { KeepsMaking self.old self.new }
+        ensures file { KeepsFile self.old self.new }
+    {
+        self.index_state.add_document(doc)
+    }
+
+    /// Adds the document that a JSON text holds, as `add_document` does. A text that holds no JSON object is
+    /// `NotAnObject`; a value that its field doesn't take is refused as its type says.
+    pub fn add_json(&mut self, text: &str) -> Result<(), Fault>
+        ensures left { (c : calls.Configuration) (x : calls.Index) → IndexStands A.analyze self.old c x
+            → (y : calls.Index) × calls.Leaves c x (calls.add_json text.now) result y
+            × IndexStands A.analyze self.new c y }
+        ensures exact { (c : calls.Configuration) (x : calls.Index) → IndexStands A.analyze self.old c x
+            → IfErr result (λ fault. fault ≢ faults.OutOfMemory → fault ≢ faults.Limit
+            → calls.call_fault c x (calls.add_json text.now) ≡ Some fault) }
+        ensures limit { (c : calls.Configuration) (x : calls.Index) → IndexStands A.analyze self.old c x
+            → IfErr result (λ fault. fault ≡ faults.Limit
+            → (doc : Document) × (read_json c.schema text.now ≡ Ok doc)
+            × PassesLimit A.analyze self.old (open_of self.old ++ doc ∷ [])) }
+        ensures short { (c : calls.Configuration) (x : calls.Index) (doc : Document)
+            → IndexStands A.analyze self.old c x → read_json c.schema text.now ≡ Ok doc
+            → OnOk result (¬ HasLongSlot self.old doc) }
+        ensures long { (c : calls.Configuration) (x : calls.Index) (doc : Document)
+            → IndexStands A.analyze self.old c x → read_json c.schema text.now ≡ Ok doc → HasLongSlot self.old doc
+            → OnErr result (IndexStands A.analyze self.new c x) }
+        ensures made { KeepsMaking self.old self.new }
+        ensures file { KeepsFile self.old self.new }
+    {
+        self.index_state.check_writer()?;
+        let json = read_json(self.alloc(), text)?;
+        self.add_value(&json)
+    }
+
+    /// Adds the document in a JSON value, as `add_json` does.
+    pub fn add_value(&mut self, value: &Json) -> Result<(), Fault>
+        ensures left { (c : calls.Configuration) (x : calls.Index) → IndexStands A.analyze self.old c x
+            → (y : calls.Index) × calls.Leaves c x (calls.add_value (view value.now)) result y
+            × IndexStands A.analyze self.new c y }
+        ensures exact { (c : calls.Configuration) (x : calls.Index) → IndexStands A.analyze self.old c x
+            → IfErr result (λ fault. fault ≢ faults.OutOfMemory → fault ≢ faults.Limit
+            → calls.call_fault c x (calls.add_value (view value.now)) ≡ Some fault) }
+        ensures limit { (c : calls.Configuration) (x : calls.Index) → IndexStands A.analyze self.old c x
+            → IfErr result (λ fault. fault ≡ faults.Limit
+            → (doc : Document) × (read_data c.schema (view value.now) ≡ Ok doc)
+            × PassesLimit A.analyze self.old (open_of self.old ++ doc ∷ [])) }
+        ensures short { (c : calls.Configuration) (x : calls.Index) (doc : Document)
+            → IndexStands A.analyze self.old c x → read_data c.schema (view value.now) ≡ Ok doc
+            → OnOk result (¬ HasLongSlot self.old doc) }
+        ensures long { (c : calls.Configuration) (x : calls.Index) (doc : Document)
+            → IndexStands A.analyze self.old c x → read_data c.schema (view value.now) ≡ Ok doc → HasLongSlot self.old doc
+            → OnErr result (IndexStands A.analyze self.new c x) }
+        ensures made { KeepsMaking self.old self.new }
+        ensures file { KeepsFile self.old self.new }
+    {
+        self.index_state.check_writer()?;
+        let doc = CompactDoc::from_json_object(self.alloc(), self.schema(), value)?;
+        self.index_state.add_document(doc)
+    }
+}
+
+/// The value in a text.
+fn read_json(alloc: Global, text: &str) -> Result<Json, Fault>
+    ensures ok { IfOk result (λ json. read text.now ≡ Some (view json)) }
+    ensures err { IfErr result (λ fault. fault ≢ faults.OutOfMemory
+        → (fault ≡ faults.NotAnObject) × (read text.now ≡ None)) }
+{
+    match Json::from_str(alloc, text) {
+        Ok(json) => Ok(json),
+        Err(e) if e.is_memory() => Err(Fault::OutOfMemory),
+        Err(_) => Err(Fault::NotAnObject),
+    }
+}

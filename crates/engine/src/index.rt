@@ -1,0 +1,204 @@
+//! The index: its segments, and the file that keeps each commit.
+
+ghost use Rattle.std.specs.Prelude.{[], ◌≡◌, ◌≢◌, ◌⊎◌, IfErr, IfOk, IsTrue, List, None, OnOk, Some, false, true, ℕ};
+ghost use Rattle.std.specs.Result.{result_err};
+ghost use Rattle.definitions.specs.Calls as calls;
+ghost use Rattle.definitions.specs.Disk.{HasCause};
+ghost use Rattle.definitions.specs.Making.{are_analyzed, making_fault};
+ghost use Rattle.definitions.specs.Moments.{LeavesOnly};
+ghost use Rattle.definitions.specs.State as states;
+ghost use Rattle.definitions.specs.Step.{configuration_of, fresh_index};
+ghost use Rattle.definitions.specs.declared.fault.Fault.TheVariants as faults;
+ghost use Rattle.layouts.specs.RecordFiles.{IsFresh, IsOneOf};
+ghost use Rattle.index_file.specs.Kept.{IsKept, LeavesNow};
+ghost use Rattle.index_file.specs.Outcomes.{CountsNoOther};
+ghost use Rattle.index_state.specs.Standing.{status_of};
+ghost use Rattle.engine.specs.Files.{IsCreateRefusal, IsOpenRefusal, is_first};
+ghost use Rattle.engine.specs.Indexes.{IndexRests, IndexStands, IsOpened, alloc_of, analyzer_after, analyzer_of, device_after, device_of, ending_of, members_of, schema_of, settings_of};
+
+use crate::open_file::{open_file, read_file};
+use crate::refused::Refused;
+use common::{Analyzer, Device};
+use definitions::Fault;
+use index_file::{RecordFile, first_frame};
+use index_state::{IndexState, Status};
+use schema::Schema;
+use settings::Settings;
+use std::alloc::Global;
+
+/// An index: it takes documents and deletions, keeps each commit as a record of its device's file, and finds the
+/// documents that are committed.
+#[derive(Drop)]
+pub struct Index<D: Device, A: Analyzer> {
+    pub(crate) index_state: IndexState<A>,
+    pub(crate) file: RecordFile<D>,
+}
+
+impl<D: Device + Drop, A: Analyzer + Drop> Index<D, A> {
+    /// An index without documents, as the one record of an empty device's file. Refusals come in this order:
+    /// `TooManyFields` past 65536 fields, `UnknownTokenizer`, `BadSettings` where a weighted term has no JSON form,
+    /// `Device`, and `NotEmpty` where the device holds a byte.
+    pub fn create(
+        alloc: Global,
+        device: D,
+        analyzer: A,
+        schema: Schema,
+        settings: Settings,
+    ) -> Result<Index<D, A>, Refused<D, A>>
+        ensures ok { IfOk result (λ index.
+            IndexStands A.analyze index (configuration_of schema (A.analyze analyzer) settings) fresh_index) }
+        ensures of { IfOk result (λ index. (schema_of index ≡ schema) × (settings_of index ≡ settings)
+            × (members_of index ≡ [])) }
+        ensures made { OnOk result (making_fault (A.knows_name analyzer) schema settings ≡ None) }
+        ensures exact { IfErr result (λ r. (r.fault ≡ faults.OutOfMemory)
+            ⊎ (making_fault (A.knows_name analyzer) schema settings ≡ Some r.fault)
+            ⊎ ((making_fault (A.knows_name analyzer) schema settings ≡ None) × IsCreateRefusal r.fault)) }
+
+        ensures honest { D.honest (device_after result) ≡ D.honest device }
+        ensures analyzer { analyzer_after result ≡ analyzer }
+        ensures cause { HasCause (D.failed device) (D.failed (device_after result)) (ending_of result) }
+        ensures counted { CountsNoOther (D.failed device) (D.failed (device_after result)) (ending_of result) }
+
+        ensures empty { IsTrue (D.honest device) → OnOk result (D.content device ≡ []) }
+        ensures not_empty { IsTrue (D.honest device)
+            → IfErr result (λ r. r.fault ≡ faults.NotEmpty → D.content device ≢ []) }
+        ensures rests { IsTrue (D.honest device) → IfOk result IndexRests }
+
+        // What no index can be made of doesn't touch the device; of other refusals `Device` alone may.
+        ensures untouched { IfErr result (λ r.
+            making_fault (A.knows_name analyzer) schema settings ≡ Some r.fault → r.device ≡ device) }
+        ensures kept { IsTrue (D.honest device) → IfErr result (λ r. r.fault ≢ faults.Device
+            → IsKept D.moment D.left_since D.content D.unsynced device r.device) }
+
+        // A crash at any moment leaves no index, or one without documents, if before it could leave nothing else.
+        ensures any_moment { IsTrue (D.honest device)
+            → LeavesNow D.content D.unsynced device (IsFresh is_first)
+            → LeavesOnly D.moment D.left_since device (device_after result) (IsFresh is_first) }
+    {
+        let frame = match first_frame(alloc, &analyzer, &schema, &settings) {
+            Ok(frame) => frame,
+            Err(fault) => {
+                return Err(Refused {
+                    fault,
+                    device,
+                    analyzer,
+                });
+            }
+        };
+        match RecordFile::create(alloc, device, &frame) {
+            Ok(file) => {
+                let index_state = IndexState::new(alloc, analyzer, schema, settings);
+                Ok(Index { index_state, file })
+            }
+            Err((fault, device)) => Err(Refused {
+                fault,
+                device,
+                analyzer,
+            }),
+        }
+    }
+
+    /// The index of a device's file, with the documents that were committed last. Refusals come in this order:
+    /// `Device`, `NoIndex`, `Damaged` with the place of a gate, `UnknownTokenizer`.
+    pub fn open(alloc: Global, device: D, analyzer: A) -> Result<Index<D, A>, Refused<D, A>>
+        ensures opened { IfOk result (IsOpened A.analyze (A.analyze analyzer) device) }
+        ensures known { IfOk result (λ index. are_analyzed (A.knows_name analyzer) (schema_of index) ≡ true) }
+        ensures refused { IsTrue (D.honest device) → IfErr result (λ r.
+            (r.fault ≡ faults.Device) ⊎ (r.fault ≡ faults.OutOfMemory)
+            ⊎ IsOpenRefusal (A.knows_name analyzer) (D.content device) r.fault) }
+
+        ensures honest { D.honest (device_after result) ≡ D.honest device }
+        ensures analyzer { analyzer_after result ≡ analyzer }
+        ensures cause { HasCause (D.failed device) (D.failed (device_after result)) (ending_of result) }
+        ensures counted { CountsNoOther (D.failed device) (D.failed (device_after result)) (ending_of result) }
+        ensures kept { IsTrue (D.honest device) → IfErr result (λ r. r.fault ≢ faults.Device
+            → IsKept D.moment D.left_since D.content D.unsynced device r.device) }
+
+        // What a crash may leave is of one of two files, or fresh, at every moment, if it was so before.
+        ensures any_moment { (a b : List (List ℕ)) → IsTrue (D.honest device)
+            → LeavesNow D.content D.unsynced device (IsOneOf a b)
+            → LeavesOnly D.moment D.left_since device (device_after result) (IsOneOf a b) }
+        ensures fresh { IsTrue (D.honest device)
+            → LeavesNow D.content D.unsynced device (IsFresh is_first)
+            → LeavesOnly D.moment D.left_since device (device_after result) (IsFresh is_first) }
+    {
+        let mut device = device;
+        match read_file(alloc, &mut device, &analyzer) {
+            Ok(file) => open_file(alloc, device, analyzer, file),
+            Err(fault) => Err(Refused {
+                fault,
+                device,
+                analyzer,
+            }),
+        }
+    }
+
+    /// The device and the analyzer, whatever the state; what waits is dropped.
+    pub fn into_device(self) -> (D, A)
+        ensures { (result.0 ≡ device_of self) × (result.1 ≡ analyzer_of self) }
+    {
+        let Index { index_state, file } = self;
+        (file.into_device(), index_state.into_analyzer())
+    }
+
+    /// What the index may still do.
+    pub fn state(&self) -> Status
+        ensures { (c : calls.Configuration) (x : calls.Index) → IndexStands A.analyze self.now c x
+            → x.status ≡ status_of result }
+    {
+        self.index_state.state()
+    }
+
+    /// The fields.
+    pub fn schema(&self) -> &Schema
+        ensures { result.now ≡ schema_of self.now }
+    {
+        self.index_state.schema()
+    }
+
+    /// The settings.
+    pub fn settings(&self) -> &Settings
+        ensures { result.now ≡ settings_of self.now }
+    {
+        self.index_state.settings()
+    }
+
+    /// What it takes memory from.
+    pub fn alloc(&self) -> Global
+        ensures { result ≡ alloc_of self.now }
+    {
+        self.index_state.alloc()
+    }
+
+    /// Whether searches are answered.
+    pub fn check_open(&self) -> Result<(), Fault>
+        ensures { (c : calls.Configuration) (x : calls.Index) → IndexStands A.analyze self.now c x
+            → result_err result ≡ calls.status_fault x.status true }
+    {
+        self.index_state.check_open()
+    }
+
+    /// Whether changes are taken.
+    pub fn check_writer(&self) -> Result<(), Fault>
+        ensures { (c : calls.Configuration) (x : calls.Index) → IndexStands A.analyze self.now c x
+            → result_err result ≡ calls.status_fault x.status false }
+    {
+        self.index_state.check_writer()
+    }
+
+    /// How many segments are committed, those without living documents too.
+    pub fn num_segments(&self) -> usize
+        ensures { (c : calls.Configuration) (x : calls.Index) → IndexStands A.analyze self.now c x
+            → result ≡ states.num_segments x.state }
+    {
+        self.index_state.num_segments()
+    }
+
+    /// How many documents are committed and alive.
+    pub fn num_docs(&self) -> u64
+        ensures { (c : calls.Configuration) (x : calls.Index) → IndexStands A.analyze self.now c x
+            → result ≡ states.num_docs x.state }
+    {
+        self.index_state.num_docs()
+    }
+}

@@ -1,0 +1,17 @@
+//! The index: it takes documents and deletions, keeps each commit as a record of its device's file, and finds what is
+//! committed.
+#![tactic(auto)]
+
+mod additions;
+mod commit;
+mod deletions;
+pub mod file_laws;
+mod index;
+mod merge;
+mod open_file;
+mod refused;
+mod searches;
+
+pub use index::Index;
+pub use index_state::{Hit, Status};
+pub use refused::Refused;

@@ -1,6 +1,0 @@
-//! A device over a file.
-#![tactic(auto)]
-
-mod file_device;
-
-pub use file_device::FileDevice;

@@ -1,0 +1,24 @@
+//! What files of segments promise.
+
+ghost use Rattle.std.specs.Prelude.{◌++◌, ◌+◌, ◌∷◌, List, take, ℕ};
+ghost use Rattle.definitions.specs.Analyzers.{Analyzer};
+ghost use Rattle.definitions.specs.Schema.{Schema};
+ghost use Rattle.definitions.specs.Settings.{Settings};
+ghost use Rattle.definitions.specs.Values.{Document};
+ghost use Rattle.layouts.specs.RecordFiles.{EndsAt};
+ghost use Rattle.segment_definitions.specs.SegmentFiles.{IsRecordFile, TakesSegments};
+
+/// A body that lists documents by themselves is taken nowhere.
+pub fn bodies_of_documents_are_not_taken()
+    ensures { (before : List (List ℕ)) (body : List ℕ) → ¬ TakesSegments before (3 ∷ body) }
+{}
+
+/// A file stands for the same lists when it is cut behind its closed gate, and when bytes follow it.
+pub fn bytes_behind_the_closed_gate_change_no_list()
+    ensures cut { (schema : Schema) (settings : Settings) (analyze : Analyzer) (content : List ℕ) (gate : ℕ) (bodies : List (List ℕ))
+        (lists : List (List (List Document))) → EndsAt content gate bodies → IsRecordFile schema settings analyze content lists
+        → IsRecordFile schema settings analyze (take (gate + 1) content) lists }
+    ensures added { (schema : Schema) (settings : Settings) (analyze : Analyzer) (content more : List ℕ) (gate : ℕ) (bodies : List (List ℕ))
+        (lists : List (List (List Document))) → EndsAt content gate bodies → IsRecordFile schema settings analyze content lists
+        → IsRecordFile schema settings analyze (content ++ more) lists }
+{}

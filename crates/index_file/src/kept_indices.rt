@@ -1,0 +1,24 @@
+//! The places of kept segments in the list before.
+
+ghost use Rattle.std.specs.Prelude.{◌≡◌, map};
+ghost use Rattle.index_file.specs.Parts.{part_of};
+ghost use Rattle.index_file.specs.Places.{places_rise};
+
+use crate::part::Part;
+
+/// Whether the places of kept segments rise, so that none stands twice, each below the length of the list before.
+pub fn places_follow(parts: &[Part<'_>], len_before: usize) -> bool
+    ensures { result ≡ places_rise 0 len_before (map part_of parts.now) }
+{
+    let mut least = 0;
+    for part in parts {
+        if let Part::Kept(place) = part {
+            let place = *place as usize;
+            if place < least || place >= len_before {
+                return false;
+            }
+            least = place + 1;
+        }
+    }
+    true
+}

@@ -1,0 +1,64 @@
+//! The parts of a body, read.
+
+ghost use Rattle.std.specs.Prelude.{◌≡◌, ◌≢◌, IfErr, IfOk, None, Some, map};
+ghost use Rattle.definitions.specs.declared.fault.Fault.TheVariants as faults;
+ghost use Rattle.layouts.specs.DocumentReading.{take_many};
+ghost use Rattle.index_file.specs.Parts.{part_of, take_fresh, take_kept, take_part};
+
+use crate::part::Part;
+use common::{take_u32, take_u64};
+use definitions::Fault;
+use std::alloc::Global;
+
+/// So many parts, and what follows them.
+pub(crate) fn take_parts<'a>(
+    alloc: Global,
+    num_parts: u32,
+    bytes: &'a [u8],
+) -> Result<(Vec<Part<'a>>, &'a [u8]), Fault>
+    ensures ok { IfOk result (λ p. take_many take_part num_parts bytes.now ≡ Some (map part_of p.0.items, p.1.now)) }
+    ensures err { IfErr result (λ fault. fault ≢ faults.OutOfMemory → take_many take_part num_parts bytes.now ≡ None) }
+{
+    let mut parts = Vec::new(alloc);
+    let mut rest = bytes;
+    for _i in 0..num_parts {
+        let (part, after) = take_part(rest)?;
+        parts.push(part)?;
+        rest = after;
+    }
+    Ok((parts, rest))
+}
+
+/// A part, and what follows it.
+fn take_part(bytes: &[u8]) -> Result<(Part<'_>, &[u8]), Fault>
+    ensures ok { IfOk result (λ p. take_part bytes.now ≡ Some (part_of p.0, p.1.now)) }
+    ensures err { IfErr result (λ fault. (fault ≡ faults.Damaged None) × (take_part bytes.now ≡ None)) }
+{
+    let (code, rest) = bytes.split_first().ok_or(Fault::Damaged(None))?;
+    match *code {
+        0 => take_kept(rest),
+        1 => take_fresh(rest),
+        _ => Err(Fault::Damaged(None)),
+    }
+}
+
+/// A segment by its place in the list before, behind its code, and what follows it.
+fn take_kept(bytes: &[u8]) -> Result<(Part<'_>, &[u8]), Fault>
+    ensures ok { IfOk result (λ p. take_kept bytes.now ≡ Some (part_of p.0, p.1.now)) }
+    ensures err { IfErr result (λ fault. (fault ≡ faults.Damaged None) × (take_kept bytes.now ≡ None)) }
+{
+    let (place, rest) = take_u32(bytes)?;
+    Ok((Part::Kept(place), rest))
+}
+
+/// A new segment, behind its code, and what follows it.
+fn take_fresh(bytes: &[u8]) -> Result<(Part<'_>, &[u8]), Fault>
+    ensures ok { IfOk result (λ p. take_fresh bytes.now ≡ Some (part_of p.0, p.1.now)) }
+    ensures err { IfErr result (λ fault. (fault ≡ faults.Damaged None) × (take_fresh bytes.now ≡ None)) }
+{
+    let (length, rest) = take_u64(bytes)?;
+    let (segment, rest) = rest
+        .split_at_checked(length as usize)
+        .ok_or(Fault::Damaged(None))?;
+    Ok((Part::Fresh(segment), rest))
+}

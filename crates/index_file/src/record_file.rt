@@ -1,0 +1,153 @@
+//! A file of records that is open: its device and the place of its closed gate.
+
+ghost use Rattle.std.specs.Prelude.{Bool, [], ◌++◌, ◌+◌, ◌<◌, ◌^◌, ◌∷◌, ◌≡◌, ◌≢◌, ◌↔◌, ◌⊎◌, IfErr, IfOk, IsErrOf, IsTrue, List, OnOk, length, ℕ};
+ghost use Rattle.definitions.specs.Disk.{HasCause, IsEither, settled};
+ghost use Rattle.definitions.specs.Moments.{LeavesOnly};
+ghost use Rattle.definitions.specs.declared.fault.Fault.TheVariants as faults;
+ghost use Rattle.layouts.specs.RecordFiles.{EndsAt, IsAtRest, IsFresh, IsOneOf};
+ghost use Rattle.index_file.specs.Frames.{frame_bytes};
+ghost use Rattle.index_file.specs.Kept.{IsKept, LeavesNow};
+ghost use Rattle.index_file.specs.Outcomes.{CountsNoOther};
+
+use crate::append_steps::{append_record, create_file, settle_file};
+use crate::frame::Frame;
+use common::Device;
+use definitions::Fault;
+use std::alloc::Global;
+
+/// The most bytes that a file may have.
+const MOST_BYTES: usize = 1 << 63;
+
+/// A file of records: its device, and the place of its closed gate.
+#[derive(Drop)]
+pub struct RecordFile<D: Device> {
+    pub device: D,
+    pub gate: usize,
+    ghost within: { IsTrue (D.honest device) → gate < length (D.content device) },
+}
+
+impl<D: Device> RecordFile<D> {
+    ghost use Rattle.index_file.specs.HandedBack.{device_after, ending_of};
+
+    /// Creates a file of one record, given as its frame, on an empty device. The memory that this
+    /// takes is for a copy of the frame, and the device's, to read.
+    pub fn create(alloc: Global, device: D, frame: &[u8]) -> Result<RecordFile<D>, (Fault, D)>
+        ensures fault { IfErr result (λ refusal.
+            (refusal.0 ≡ faults.Device) ⊎ (refusal.0 ≡ faults.OutOfMemory) ⊎ (refusal.0 ≡ faults.NotEmpty)) }
+        ensures not_empty { IsTrue (D.honest device)
+            → IfErr result (λ refusal. refusal.0 ≡ faults.NotEmpty → D.content device ≢ []) }
+        ensures empty { IsTrue (D.honest device) → OnOk result (D.content device ≡ []) }
+
+        ensures honest { D.honest (device_after result) ≡ D.honest device }
+        ensures cause { HasCause (D.failed device) (D.failed (device_after result)) (ending_of result) }
+        ensures counted { CountsNoOther (D.failed device) (D.failed (device_after result)) (ending_of result) }
+        // A device that holds a byte, or that is read without memory, stays as it is.
+        ensures kept { IsTrue (D.honest device)
+            → IfErr result (λ refusal. (D.content device ≢ []) ⊎ (refusal.0 ≡ faults.OutOfMemory)
+            → IsKept D.moment D.left_since D.content D.unsynced device refusal.1) }
+
+        ensures at_rest { (body : List ℕ) → IsTrue (D.honest device) → frame.now ≡ frame_bytes body
+            → IfOk result (λ file. IsAtRest (D.content file.device) file.gate (body ∷ [])) }
+        ensures unsynced { IsTrue (D.honest device)
+            → IfOk result (λ file. D.unsynced file.device ≡ settled (length (D.content file.device))) }
+
+        ensures any_moment { (takes : List ℕ → Bool) (body : List ℕ)
+            → IsTrue (D.honest device) → frame.now ≡ frame_bytes body → IsTrue (takes body)
+            → LeavesNow D.content D.unsynced device (IsFresh takes)
+            → LeavesOnly D.moment D.left_since device (device_after result) (IsFresh takes) }
+    {
+        let mut device = device;
+        match create_file(alloc, &mut device, frame) {
+            Ok(()) => Ok(RecordFile {
+                device,
+                gate: frame.len(),
+            }),
+            Err(fault) => Err((fault, device)),
+        }
+    }
+
+    /// Puts a file that was read on the disk, with nothing after its closed gate: syncs, cuts
+    /// behind the gate, syncs.
+    pub fn settle(device: D, gate: usize) -> Result<RecordFile<D>, (Fault, D)>
+        requires inside { IsTrue (D.honest device) → gate < length (D.content device) }
+        requires short { gate < 2 ^ 63 }
+        ensures fault { IfErr result (λ refusal. refusal.0 ≡ faults.Device) }
+
+        ensures honest { D.honest (device_after result) ≡ D.honest device }
+        ensures cause { HasCause (D.failed device) (D.failed (device_after result)) (ending_of result) }
+        ensures counted { CountsNoOther (D.failed device) (D.failed (device_after result)) (ending_of result) }
+
+        ensures at_rest { (bodies : List (List ℕ)) → IsTrue (D.honest device)
+            → EndsAt (D.content device) gate bodies
+            → IfOk result (λ file. IsAtRest (D.content file.device) file.gate bodies) }
+        ensures unsynced { IsTrue (D.honest device)
+            → IfOk result (λ file. D.unsynced file.device ≡ settled (length (D.content file.device))) }
+
+        ensures any_moment { (bodies a b : List (List ℕ)) → IsTrue (D.honest device)
+            → EndsAt (D.content device) gate bodies
+            → LeavesNow D.content D.unsynced device (IsOneOf a b)
+            → LeavesOnly D.moment D.left_since device (device_after result) (IsOneOf a b) }
+        ensures fresh { (takes : List ℕ → Bool) (bodies : List (List ℕ)) → IsTrue (D.honest device)
+            → EndsAt (D.content device) gate bodies
+            → LeavesNow D.content D.unsynced device (IsFresh takes)
+            → LeavesOnly D.moment D.left_since device (device_after result) (IsFresh takes) }
+        // The bodies that were read are those of one of the two lists, or the first one alone.
+        ensures one { (bodies a b : List (List ℕ)) → IsTrue (D.honest device)
+            → EndsAt (D.content device) gate bodies
+            → LeavesNow D.content D.unsynced device (IsOneOf a b)
+            → IsEither a b bodies }
+        ensures first { (takes : List ℕ → Bool) (bodies : List (List ℕ)) → IsTrue (D.honest device)
+            → EndsAt (D.content device) gate bodies → bodies ≢ []
+            → LeavesNow D.content D.unsynced device (IsFresh takes)
+            → (body : List ℕ) × (bodies ≡ body ∷ []) }
+    {
+        let mut device = device;
+        match settle_file(&mut device, gate) {
+            Ok(()) => Ok(RecordFile { device, gate }),
+            Err(fault) => Err((fault, device)),
+        }
+    }
+
+    /// Appends a record, given as its frame. It takes no memory.
+    ///
+    /// After `Device` nothing is known of the closed gate: the file must be read again.
+    pub fn append(&mut self, frame: &Frame) -> Result<(), Fault>
+        ensures fault { IfErr result (λ fault. (fault ≡ faults.Device) ⊎ (fault ≡ faults.Limit)) }
+        ensures limit { IsErrOf result faults.Limit ↔ (2 ^ 63 < self.old.gate + 1 + length frame.now) }
+        ensures unchanged { IsErrOf result faults.Limit
+            → (self.new.device ≡ self.old.device) × (self.new.gate ≡ self.old.gate) }
+
+        ensures honest { D.honest self.new.device ≡ D.honest self.old.device }
+        ensures cause { HasCause (D.failed self.old.device) (D.failed self.new.device) result }
+        ensures counted { CountsNoOther (D.failed self.old.device) (D.failed self.new.device) result }
+
+        ensures gate { OnOk result (self.new.gate ≡ self.old.gate + length frame.now) }
+        ensures appended { (bodies : List (List ℕ)) (body : List ℕ) → IsTrue (D.honest self.old.device)
+            → frame.now ≡ frame_bytes body
+            → IsAtRest (D.content self.old.device) self.old.gate bodies
+            → OnOk result (IsAtRest (D.content self.new.device) self.new.gate (bodies ++ body ∷ [])) }
+        ensures unsynced { IsTrue (D.honest self.old.device)
+            → OnOk result (D.unsynced self.new.device ≡ settled (length (D.content self.new.device))) }
+
+        ensures any_moment { (bodies : List (List ℕ)) (body : List ℕ) → IsTrue (D.honest self.old.device)
+            → frame.now ≡ frame_bytes body
+            → IsAtRest (D.content self.old.device) self.old.gate bodies
+            → D.unsynced self.old.device ≡ settled (length (D.content self.old.device))
+            → LeavesOnly D.moment D.left_since self.old.device self.new.device (IsOneOf bodies (bodies ++ body ∷ [])) }
+    {
+        if MOST_BYTES.saturating_sub(self.gate) <= frame.len() {
+            return Err(Fault::Limit);
+        }
+        append_record(&mut self.device, self.gate, frame)?;
+        self.gate += frame.len();
+        Ok(())
+    }
+
+    /// The device, as it is.
+    pub fn into_device(self) -> D
+        ensures { result ≡ self.device }
+    {
+        let RecordFile { device, .. } = self;
+        device
+    }
+}

@@ -1,0 +1,95 @@
+-- Lists of which some elements give way to others, and pairs of lists.
+use Rattle.std.proofs.Common.{[], ◌++◌, ◌+◌, ◌-◌, ◌∙◌, ◌∷◌, ◌≡◌, ◌≤◌, List, ap, ap₂, arith, drop, length, length-append, map, refl, suc, sym, take, zero, ℕ}
+use Rattle.std.proofs.lemmas.List.{drop-drop, drop-map, length-drop, length-take-le, map-append, take-map}
+use Rattle.std.specs.List.{AllByRecursion, AllZip, zip}
+use Rattle.segment_search.proofs.Places.{all_take, zip_more}
+use Rattle.index_state.proofs.BodyMade.{all_both}
+use Rattle.index_state.proofs.Members.{zip_take}
+use Rattle.index_state.specs.Merges.{replaced}
+
+-- ---- fronts and rests
+
+pub all_drop : {X : Type 0} (P : X → Type 0) (n : ℕ) (xs : List X) → AllByRecursion P xs → AllByRecursion P (drop n xs)
+all_drop P zero xs h = h
+all_drop P (suc n) [] h = tt
+all_drop P (suc n) (x ∷ xs) h = all_drop P n xs h.1
+
+pub zip_drop : {X Y : Type 0} (R : X → Y → Type 0) (xs : List X) (ys : List Y) (n : ℕ) → AllZip R xs ys → AllZip R (drop n xs) (drop n ys)
+zip_drop R xs ys zero h = h
+zip_drop R [] [] (suc n) h = tt
+zip_drop R [] (y ∷ ys) (suc n) h = absurd h
+zip_drop R (x ∷ xs) [] (suc n) h = absurd h
+zip_drop R (x ∷ xs) (y ∷ ys) (suc n) h = zip_drop R xs ys n h.1
+
+pub drop_past : {X : Type 0} (xs ys : List X) (n : ℕ) → drop (length xs + n) (xs ++ ys) ≡ drop n ys
+drop_past [] ys n = ap (λ k. drop k ys) (let e : 0 + n ≡ n = omega arith in e)
+drop_past (x ∷ xs) ys n = ap (λ k. drop k (x ∷ xs ++ ys)) (let e : suc (length xs) + n ≡ suc (length xs + n) = omega arith in e) ∙ drop_past xs ys n
+
+-- ---- with others in place of some
+
+pub length-replaced : {X : Type 0} (from to : ℕ) (news xs : List X) → from ≤ length xs → length (replaced from to news xs) ≡ from + (length news + (length xs - to))
+length-replaced from to news xs l =
+    let first = length-take-le from xs l in
+    let rest = length-drop to xs in
+    let both = length-append (take from xs) (news ++ drop to xs) in
+    let later = length-append news (drop to xs) in
+    omega (arith, first, rest, both, later)
+
+pub all_replaced : {X : Type 0} (P : X → Type 0) (from to : ℕ) (news xs : List X) → AllByRecursion P news → AllByRecursion P xs → AllByRecursion P (replaced from to news xs)
+all_replaced P from to news xs new old = all_both P (take from xs) (news ++ drop to xs) (all_take P from xs old) (all_both P news (drop to xs) new (all_drop P to xs old))
+
+pub zip_replaced : {X Y : Type 0} (R : X → Y → Type 0) (from to : ℕ) (news xs : List X) (others ys : List Y) → AllZip R news others → AllZip R xs ys → AllZip R (replaced from to news xs) (replaced from to others ys)
+zip_replaced R from to news xs others ys new old = zip_more R (take from xs) (news ++ drop to xs) (take from ys) (others ++ drop to ys) (zip_take R xs ys from old) (zip_more R news (drop to xs) others (drop to ys) new (zip_drop R xs ys to old))
+
+pub map_replaced : {X Y : Type 0} (f : X → Y) (from to : ℕ) (news xs : List X) → map f (replaced from to news xs) ≡ replaced from to (map f news) (map f xs)
+map_replaced f from to news xs =
+    map-append f (take from xs) (news ++ drop to xs)
+    ∙ ap₂ (λ first later. first ++ later) (sym (take-map f from xs)) (map-append f news (drop to xs) ∙ ap (λ rest. map f news ++ rest) (sym (drop-map f to xs)))
+
+-- what stands behind as many elements as the one list has then is what stood behind as many as it had
+pub drop_replaced : {X Y : Type 0} (from to : ℕ) (news xs : List X) (others ys : List Y) → length news ≡ length others → from ≤ to → to ≤ length ys → length ys ≤ length xs → drop (length (replaced from to others ys)) (replaced from to news xs) ≡ drop (length ys) xs
+drop_replaced from to news xs others ys same l m k =
+    let inside : from ≤ length ys = omega (arith, l, m) in
+    let within : from ≤ length xs = omega (arith, l, m, k) in
+    let first = length-take-le from xs within in
+    let count = length-replaced from to others ys inside in
+    let left = length ys - to in
+    let all : length (replaced from to others ys) ≡ length (take from xs) + (length news + left) = omega (arith, count, first, same) in
+    let behind : to + left ≡ length ys = omega (arith, m) in
+    ap (λ n. drop n (replaced from to news xs)) all
+    ∙ drop_past (take from xs) (news ++ drop to xs) (length news + left)
+    ∙ drop_past news (drop to xs) left
+    ∙ drop-drop left to xs
+    ∙ ap (λ n. drop n xs) behind
+
+-- ---- pairs
+
+pub zipped_take : {X Y : Type 0} (n : ℕ) (xs : List X) (ys : List Y) → zip (take n xs) (take n ys) ≡ take n (zip xs ys)
+zipped_take zero xs ys = refl
+zipped_take (suc n) [] ys = refl
+zipped_take (suc n) (x ∷ xs) [] = refl
+zipped_take (suc n) (x ∷ xs) (y ∷ ys) = ap (λ ps. (x, y) ∷ ps) (zipped_take n xs ys)
+
+zipped_none : {X Y : Type 0} (xs : List X) → zip {K = X} {X = Y} xs [] ≡ []
+zipped_none [] = refl
+zipped_none (x ∷ xs) = refl
+
+pub zipped_drop : {X Y : Type 0} (n : ℕ) (xs : List X) (ys : List Y) → zip (drop n xs) (drop n ys) ≡ drop n (zip xs ys)
+zipped_drop zero xs ys = refl
+zipped_drop (suc n) [] ys = refl
+zipped_drop (suc n) (x ∷ xs) [] = zipped_none (drop n xs)
+zipped_drop (suc n) (x ∷ xs) (y ∷ ys) = zipped_drop n xs ys
+
+pub zipped_both : {X Y : Type 0} (xs more : List X) (ys others : List Y) → length xs ≡ length ys → zip (xs ++ more) (ys ++ others) ≡ zip xs ys ++ zip more others
+zipped_both [] more [] others e = refl
+zipped_both [] more (y ∷ ys) others e = absurd (omega (arith, e))
+zipped_both (x ∷ xs) more [] others e = absurd (omega (arith, e))
+zipped_both (x ∷ xs) more (y ∷ ys) others e = ap (λ ps. (x, y) ∷ ps) (zipped_both xs more ys others (omega (arith, e)))
+
+pub zipped_replaced : {X Y : Type 0} (from to : ℕ) (news xs : List X) (others ys : List Y) → length news ≡ length others → from ≤ length ys → length ys ≤ length xs → zip (replaced from to news xs) (replaced from to others ys) ≡ replaced from to (zip news others) (zip xs ys)
+zipped_replaced from to news xs others ys same l k =
+    let within : from ≤ length xs = omega (arith, l, k) in
+    let one = length-take-le from xs within in
+    let other = length-take-le from ys l in
+    zipped_both (take from xs) (news ++ drop to xs) (take from ys) (others ++ drop to ys) (omega (arith, one, other))
+    ∙ ap₂ (λ first later. first ++ later) (zipped_take from xs ys) (zipped_both news (drop to xs) others (drop to ys) same ∙ ap (λ rest. zip news others ++ rest) (zipped_drop to xs ys))

@@ -1,0 +1,51 @@
+use Rattle.std.proofs.Common.{Some, ap, subst, sym, ◌∙◌, ◌≡◌, ◌≢◌}
+use Rattle.std.proofs.Math.Logic.{∥∥₁_map}
+use Rattle.std.specs.List.{AllByRecursion, AllZip}
+use Rattle.std.specs.Result.{result_err}
+use Rattle.definitions.specs.Alive.{live}
+use Rattle.definitions.specs.Calls as calls
+use Rattle.definitions.specs.Scanning.{scan_count}
+use Rattle.definitions.specs.State as states
+use Rattle.definitions.specs.declared.fault.Fault.TheVariants as faults
+use Rattle.query_trees.specs.Queries.{query_of}
+use Rattle.segment.specs.Opened.{IsOpened, StandsFor}
+use Rattle.index_state.proofs.Outcomes.{err_has, err_map, own_refuses, status_refuses}
+use Rattle.index_state.proofs.Searching.{live_committed, ok_both, query_refused, query_taken}
+use Rattle.index_state.specs.Flags.{flagged_each}
+use Rattle.index_state.proofs.index_state.IndexState.count.Goals as goal
+
+pub returns-in_err-check_open-clause-err : goal.returns-in_err-check_open-clause-err
+returns-in_err-check_open-clause-err g c k x s =
+    let call = calls.count_all (query_of c.args.query.now) in
+    let fault = c.in_err-check_open.field-0.0 in
+    err_has c.from_residual.result fault (λ f. f ≢ faults.OutOfMemory → calls.call_fault k x call ≡ Some f) c.from_residual.ensures.1
+    (λ other. status_refuses k x call fault (sym (c.check_open.ensures k x s) ∙ ap result_err c.in_err-check_open.was))
+
+pub count-requires-clause-opened : goal.count-requires-clause-opened
+count-requires-clause-opened g c =
+    let index = c.args.self.now in
+    ∥∥₁_map index.opened (λ all. (index.schema, subst (AllByRecursion (IsOpened index.schema)) (sym c.deref.ensures.value) all))
+
+pub returns-clause-ok : goal.returns-clause-ok
+returns-clause-ok g c k x s =
+    let index = c.args.self.now in
+    let analyze = g.A.Analyzer.analyze index.analyzer in
+    let q = query_of c.args.query.now in
+    let call = calls.count_all q in
+    let ready = sym (c.check_open.ensures k x s) ∙ ap result_err c.in_ok-check_open.was in
+    let stands = subst (AllZip (StandsFor index.schema analyze) s.docs) (sym c.deref.ensures.value) s.segments in
+    let seen = ap (λ sets. live (flagged_each s.docs sets)) c.deref-2.ensures.value ∙ live_committed g.A.Analyzer.analyze index k x s in
+    ok_both c.count.result _ _ _
+    (λ count taken told. (
+      own_refuses k x call ready ∙ query_taken g.A.Analyzer.analyze index k x s q taken,
+      subst (λ (m : calls.Configuration). count ≡ scan_count m.schema m.analyze (states.committed x.state) q) (sym s.made) (told ∙ ap (λ ds. scan_count index.schema analyze ds q) seen),
+    ))
+    c.count.ensures.accepted (c.count.ensures.ok analyze s.docs stands)
+
+pub returns-clause-err : goal.returns-clause-err
+returns-clause-err g c k x s =
+    let index = c.args.self.now in
+    let q = query_of c.args.query.now in
+    let call = calls.count_all q in
+    let ready = sym (c.check_open.ensures k x s) ∙ ap result_err c.in_ok-check_open.was in
+    err_map c.count.result _ _ (λ fault told other. own_refuses k x call ready ∙ query_refused g.A.Analyzer.analyze index k x s q fault (told other)) c.count.ensures.refused

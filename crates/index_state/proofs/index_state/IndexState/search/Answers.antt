@@ -1,0 +1,86 @@
+use Rattle.std.proofs.Common.{Some, ap, map, refl, subst, sym, ◌∙◌, ◌≡◌, ◌≢◌}
+use Rattle.std.proofs.Math.Logic.{∥∥₁_map}
+use Rattle.std.specs.List.{AllByRecursion, AllZip, zip}
+use Rattle.std.specs.Result.{result_err}
+use Rattle.definitions.specs.Alive.{live}
+use Rattle.definitions.specs.Calls as calls
+use Rattle.definitions.specs.Scanning.{scan}
+use Rattle.definitions.specs.Settings.{similarity_of}
+use Rattle.definitions.specs.State as states
+use Rattle.definitions.specs.declared.fault.Fault.TheVariants as faults
+use Rattle.query_trees.specs.Queries.{query_of}
+use Rattle.segment.specs.Opened.{IsOpened, StandsFor, bytes_of}
+use Rattle.index_state.proofs.Outcomes.{err_has, err_map, own_refuses, status_refuses}
+use Rattle.index_state.proofs.Searching.{live_committed, ok_both, query_refused, query_taken, segments_held}
+use Rattle.index_state.proofs.Standings.{stands_with}
+use Rattle.index_state.specs.Flags.{AreFlagged, flagged_each}
+use Rattle.segment_search.specs.Hits.{hit_of, scored}
+use Rattle.index_state.proofs.index_state.IndexState.search.Goals as goal
+
+pub returns-in_err-check_open-clause-err : goal.returns-in_err-check_open-clause-err
+returns-in_err-check_open-clause-err g c k x s =
+    let call = calls.search_best (query_of c.args.query.now) c.args.limit in
+    let fault = c.in_err-check_open.field-0.0 in
+    err_has c.from_residual.result fault (λ f. f ≢ faults.OutOfMemory → calls.call_fault k x call ≡ Some f) c.from_residual.ensures.1
+    (λ other. status_refuses k x call fault (sym (c.check_open.ensures k x s) ∙ ap result_err c.in_err-check_open.was))
+
+pub search-requires-clause-opened : goal.search-requires-clause-opened
+search-requires-clause-opened g c =
+    let index = c.args.self.now in
+    ∥∥₁_map index.opened (λ all. (index.schema, subst (AllByRecursion (IsOpened index.schema)) (sym c.deref_mut.ensures.value) all))
+
+pub invariant_of-self : goal.invariant_of-self
+invariant_of-self g c =
+    let index = c.args.self.now in
+    let kept = c.search.ensures.kept in
+    let held = segments_held index.segments c.deref_mut.result.now c.search.new.segments c.deref_mut.ensures.len kept in
+    record {
+      opened = ∥∥₁_map index.opened (λ all. subst (AllByRecursion (IsOpened index.schema)) (sym held) (kept.opened index.schema (subst (AllByRecursion (IsOpened index.schema)) (sym c.deref_mut.ensures.value) all)));
+      flagged = subst (λ ss. AreFlagged ss index.alive.items) (sym held) (subst (AreFlagged c.search.new.segments) c.deref.ensures.value c.search.ensures.flagged);
+      given = index.given;
+      few = index.few;
+    }
+
+pub returns-clause-ok : goal.returns-clause-ok
+returns-clause-ok g c k x s =
+    let index = c.args.self.now in
+    let analyze = g.A.Analyzer.analyze index.analyzer in
+    let q = query_of c.args.query.now in
+    let call = calls.search_best q c.args.limit in
+    let ready = sym (c.check_open.ensures k x s) ∙ ap result_err c.in_ok-check_open.was in
+    let stands = subst (AllZip (StandsFor index.schema analyze) s.docs) (sym c.deref_mut.ensures.value) s.segments in
+    let seen = ap (λ sets. live (flagged_each s.docs sets)) c.deref.ensures.value ∙ live_committed g.A.Analyzer.analyze index k x s in
+    ok_both c.search.result _ _ _
+    (λ hits taken told. (
+      own_refuses k x call ready ∙ query_taken g.A.Analyzer.analyze index k x s q taken,
+      subst (λ (m : calls.Configuration). map hit_of hits.items ≡ map scored (scan m.schema m.analyze m.similarity (states.committed x.state) q c.args.limit)) (sym s.made)
+          (told ∙ ap (λ ds. map scored (scan index.schema analyze (similarity_of index.settings) ds q c.args.limit)) seen),
+    ))
+    c.search.ensures.accepted (c.search.ensures.ok analyze s.docs stands)
+
+pub returns-clause-err : goal.returns-clause-err
+returns-clause-err g c k x s =
+    let index = c.args.self.now in
+    let analyze = g.A.Analyzer.analyze index.analyzer in
+    let q = query_of c.args.query.now in
+    let call = calls.search_best q c.args.limit in
+    let ready = sym (c.check_open.ensures k x s) ∙ ap result_err c.in_ok-check_open.was in
+    let stands = subst (AllZip (StandsFor index.schema analyze) s.docs) (sym c.deref_mut.ensures.value) s.segments in
+    err_map c.search.result _ _ (λ fault told other. own_refuses k x call ready ∙ query_refused g.A.Analyzer.analyze index k x s q fault (told other)) (c.search.ensures.refused analyze s.docs stands)
+
+pub returns-clause-left : goal.returns-clause-left
+returns-clause-left g c k x s =
+    let index = c.args.self.now in
+    let analyze = g.A.Analyzer.analyze index.analyzer in
+    let kept = c.search.ensures.kept in
+    let held = segments_held index.segments c.deref_mut.result.now c.search.new.segments c.deref_mut.ensures.len kept in
+    let stands = subst (AllZip (StandsFor index.schema analyze) s.docs) (sym c.deref_mut.ensures.value) s.segments in
+    stands_with g.A.Analyzer.analyze index _ (record { analyzer = refl; schema = refl; settings = refl }) k x s x s.docs
+    (subst (AllZip (StandsFor index.schema analyze) s.docs) (sym held) (kept.stands index.schema analyze s.docs stands)) s.status s.groups s.waits
+
+pub returns-clause-members : goal.returns-clause-members
+returns-clause-members g c =
+    let index = c.args.self.now in
+    let kept = c.search.ensures.kept in
+    let held = segments_held index.segments c.deref_mut.result.now c.search.new.segments c.deref_mut.ensures.len kept in
+    ap (λ bs. zip bs index.alive.items) (ap (map bytes_of) held ∙ kept.bytes ∙ ap (map bytes_of) c.deref_mut.ensures.value)

@@ -1,0 +1,10 @@
+-- Words of the contracts.
+pub mod Deletions
+pub mod Flags
+pub mod Given
+pub mod Bodies
+pub mod Limits
+pub mod Parts
+pub mod Standing
+pub mod Commits
+pub mod Merges

@@ -1,0 +1,101 @@
+-- What segments and what waits stand for.
+use Rattle.std.specs.Prelude.{◌+◌, ◌<◌, ◌^◌, ◌≡◌, ◌≤◌, Bool, List, drop, length, map, take, ℕ}
+use Rattle.std.specs.List.{AllByRecursion, AllZip}
+use Rattle.std.specs.declared.alloc.Global.{Global}
+use Rattle.definitions.specs.Alive.{live_groups}
+use Rattle.definitions.specs.Analyzers.{Analyzer}
+use Rattle.definitions.specs.Calls as calls
+use Rattle.definitions.specs.Schema.{Schema}
+use Rattle.definitions.specs.Settings.{Settings}
+use Rattle.definitions.specs.State.{Pending}
+use Rattle.definitions.specs.Step.{configuration_of}
+use Rattle.definitions.specs.Values.{Document}
+use Rattle.segment.specs.Opened.{StandsFor}
+use Rattle.segment.specs.declared.segment.Segment as code
+use Rattle.segment_definitions.specs.SegmentBodies.{Member}
+use Rattle.segment_definitions.specs.Slots.{slot}
+use Rattle.segment_definitions.specs.Waiting.{Waits}
+use Rattle.index_state.specs.Deletions.{IsSmall, numbered}
+use Rattle.index_state.specs.Flags.{flagged_each, members}
+use Rattle.index_state.specs.Limits.{DocumentsPass}
+use Rattle.index_state.specs.declared.pending_deletion.Deletion.{Deletion}
+use Rattle.index_state.specs.declared.index_state.IndexState.{IndexState}
+use Rattle.index_state.specs.declared.status.Status.{Status}
+use Rattle.index_state.specs.declared.status.Status.TheVariants as status
+
+-- what may still be done
+abbrev pub status_of : Status → calls.Status
+status_of status.Ready = calls.ready
+status_of status.WriterClosed = calls.writer_closed
+status_of status.Closed = calls.closed
+
+-- what waits: documents in full segments and in one that isn't, and deletions
+pub record IsWaiting (n : ℕ) (pending : List Pending) (full : List (List Document)) (last : List Document) (dels : List Deletion) : Type 0 where
+  pub waits : Waits n pending full last (map (numbered n) dels)
+  pub small : AllByRecursion (IsSmall n) dels
+
+-- The index has this configuration and this status, and its segments are of documents, of which the living are
+-- committed. What waits matters while changes are taken alone.
+pub record Stands {A : Type 0} (analyze : A → Analyzer) (index : IndexState A) (c : calls.Configuration) (x : calls.Index) : Type 0 where
+  pub made : c ≡ configuration_of index.schema (analyze index.analyzer) index.settings
+  pub status : x.status ≡ status_of index.status
+  pub sized : 0 < index.settings.docs_per_segment
+  pub docs : List (List Document)
+  pub segments : AllZip (StandsFor index.schema (analyze index.analyzer)) docs index.segments.items
+  pub groups : x.state.groups ≡ live_groups (flagged_each docs index.alive.items)
+  pub waits : x.status ≡ calls.ready → IsWaiting index.settings.docs_per_segment x.state.pending (drop (length index.alive.items) docs) index.open index.deletions.items
+
+-- made of the same schema, analyzer and settings
+pub record IsMadeAlike {A : Type 0} (old new : IndexState A) : Type 0 where
+  pub analyzer : new.analyzer ≡ old.analyzer
+  pub schema : new.schema ≡ old.schema
+  pub settings : new.settings ≡ old.settings
+
+module _ {A : Type 0} where
+  -- what cuts its texts
+  abbrev pub analyzer_of : IndexState A → A
+  analyzer_of index = index.analyzer
+
+  -- its fields
+  abbrev pub schema_of : IndexState A → Schema
+  schema_of index = index.schema
+
+  -- its numbers for scores and segments
+  abbrev pub settings_of : IndexState A → Settings
+  settings_of index = index.settings
+
+  -- what it takes memory from
+  abbrev pub alloc_of : IndexState A → Global
+  alloc_of index = index.alloc
+
+  -- what may still be done
+  abbrev pub state_of : IndexState A → calls.Status
+  state_of index = status_of index.status
+
+  -- the segments that are committed
+  abbrev pub committed_of : IndexState A → List code.Segment
+  committed_of index = take (length index.alive.items) index.segments.items
+
+  -- which of their documents are alive
+  abbrev pub alive_of : IndexState A → List (List Bool)
+  alive_of index = index.alive.items
+
+  -- the bytes of the segments that are committed, with a flag for each of their documents
+  abbrev pub members_of : IndexState A → List Member
+  members_of index = members index.segments.items index.alive.items
+
+  -- the documents of the segment that isn't full
+  abbrev pub open_of : IndexState A → List Document
+  open_of index = index.open
+
+  -- how many segments there are, those that wait too
+  abbrev pub num_written : IndexState A → ℕ
+  num_written index = length index.segments.items
+
+  -- a segment of these documents passes a limit
+  abbrev pub PassesLimit : (A → Analyzer) → IndexState A → List Document → Type 0
+  PassesLimit analyze index docs = DocumentsPass index.schema (analyze index.analyzer) index.settings.block_size docs
+
+  -- the slot of this document is too long beside a block
+  abbrev pub HasLongSlot : IndexState A → Document → Type 0
+  HasLongSlot index doc = 2 ^ 32 ≤ index.settings.block_size + length (slot index.schema doc) + 8

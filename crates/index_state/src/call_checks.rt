@@ -1,0 +1,64 @@
+//! What an add and a deletion are refused by.
+
+ghost use Rattle.std.specs.Prelude.{◌+◌, ◌<◌, ◌^◌, ◌≡◌, ◌≤◌, ◌⊎◌, IfErr, OnOk, length};
+ghost use Rattle.std.specs.Result.{result_err};
+ghost use Rattle.definitions.specs.Calls.{delete_fault, document_given};
+ghost use Rattle.definitions.specs.declared.fault.Fault.TheVariants as faults;
+ghost use Rattle.index_state.specs.Given.{IsGiven};
+ghost use Rattle.segment_definitions.specs.Slots.{slot};
+
+use definitions::Fault;
+use document::{CompactDoc, has_unknown_field};
+use schema::Schema;
+use std::alloc::Global;
+use terms::Term;
+
+/// Why an add doesn't take a document: the schema lacks a field of it, or else a value can't be indexed.
+pub(crate) fn check_document(schema: &Schema, doc: &CompactDoc) -> Result<(), Fault>
+    ensures fault { result_err result ≡ result_err (document_given schema.now doc.now) }
+    ensures given { OnOk result (IsGiven schema.now doc.now) }
+    ensures err { IfErr result (λ fault. (fault ≡ faults.UnknownField) ⊎ (fault ≡ faults.NotIndexable)) }
+{
+    if has_unknown_field(schema, doc) {
+        return Err(Fault::UnknownField);
+    }
+    if !doc.indexable(schema) {
+        return Err(Fault::NotIndexable);
+    }
+    Ok(())
+}
+
+/// Why a document can't be stored: memory is wanting, or its slot is too long beside a block.
+pub(crate) fn check_slot(
+    alloc: Global,
+    schema: &Schema,
+    block_size: u32,
+    doc: &CompactDoc,
+) -> Result<(), Fault>
+    ensures ok { OnOk result (block_size + length (slot schema.now doc.now) + 8 < 2 ^ 32) }
+    ensures err { IfErr result (λ fault. (fault ≡ faults.OutOfMemory)
+        ⊎ ((fault ≡ faults.Limit) × (2 ^ 32 ≤ block_size + length (slot schema.now doc.now) + 8))) }
+{
+    let beside = block_size as usize + 8;
+    if doc.serialized_at_most().saturating_add(beside) < 1 << 32 {
+        return Ok(());
+    }
+    let slot = doc.serialize(alloc, schema)?;
+    if slot.len() + beside >= 1 << 32 {
+        return Err(Fault::Limit);
+    }
+    Ok(())
+}
+
+/// Why no documents are deleted by a term: the schema lacks its field, or that isn't indexed.
+pub(crate) fn check_deletion(schema: &Schema, term: &Term) -> Result<(), Fault>
+    ensures { result_err result ≡ delete_fault schema.now term.now }
+{
+    if term.field().field_id() as usize >= schema.num_fields() {
+        return Err(Fault::UnknownField);
+    }
+    if !schema.get_field_entry(term.field()).is_indexed() {
+        return Err(Fault::NotIndexed);
+    }
+    Ok(())
+}

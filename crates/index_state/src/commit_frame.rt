@@ -1,0 +1,74 @@
+//! The frame of a commit's record.
+
+ghost use Rattle.std.specs.Prelude.{◌++◌, ◌-◌, ◌<◌, ◌^◌, ◌≡◌, ◌≤◌, IfOk, OnOk, flat_map, length, map};
+ghost use Rattle.layouts.specs.AliveSets.{alive_bytes};
+ghost use Rattle.index_file.specs.Frames.{frame_bytes};
+ghost use Rattle.segment.specs.Opened.{bytes_of};
+ghost use Rattle.index_state.specs.Bodies.{kept_from, next_parts};
+ghost use Rattle.segment_definitions.specs.SegmentBodies.{fresh, part_bytes, segments_body};
+
+use common::AliveBitSet;
+use index_file::{Frame, SegmentsBodyWriter};
+use segment::Segment;
+use std::alloc::{AllocError, Global};
+
+/// The frame of a record of these segments, each with its alive set, where so many of them are committed before: these
+/// are put by their places, and the others whole.
+pub(crate) fn commit_frame(
+    alloc: Global,
+    segments: &[Segment],
+    num_committed: usize,
+    alive: &[AliveBitSet],
+) -> Result<Frame, AllocError>
+    requires few { length segments.now < 2 ^ 32 }
+    requires within { num_committed ≤ length segments.now }
+    ensures { IfOk result (λ frame. frame
+        ≡ frame_bytes (segments_body (next_parts num_committed (map bytes_of segments.now)) alive.now)) }
+{
+    let mut body = SegmentsBodyWriter::begin(alloc, segments.len() as u32)?;
+    put_kept(&mut body, 0, num_committed)?;
+    put_fresh(&mut body, &segments[num_committed..])?;
+    framed(alloc, body, alive)
+}
+
+/// Puts the segments from one place to another, which are kept.
+pub(crate) fn put_kept(
+    body: &mut SegmentsBodyWriter,
+    from: usize,
+    to: usize,
+) -> Result<(), AllocError>
+    requires within { from ≤ to }
+    requires few { to < 2 ^ 32 }
+    ensures { OnOk result (body.new ≡ body.old ++ flat_map part_bytes (kept_from from (to - from))) }
+{
+    for place in from as u32..to as u32 {
+        body.put_kept(place)?;
+    }
+    Ok(())
+}
+
+/// Puts new segments, whose bytes are shared.
+pub(crate) fn put_fresh(
+    body: &mut SegmentsBodyWriter,
+    segments: &[Segment],
+) -> Result<(), AllocError>
+    ensures { OnOk result (body.new ≡ body.old ++ flat_map part_bytes (map fresh (map bytes_of segments.now))) }
+{
+    for segment in segments {
+        body.put_fresh(segment.to_bytes()?)?;
+    }
+    Ok(())
+}
+
+/// The frame of a record of these segments and alive sets.
+pub(crate) fn framed(
+    alloc: Global,
+    body: SegmentsBodyWriter,
+    alive: &[AliveBitSet],
+) -> Result<Frame, AllocError>
+    ensures { IfOk result (λ frame. frame ≡ frame_bytes (body ++ flat_map alive_bytes alive.now)) }
+{
+    let mut body = body;
+    body.put_sets(alive)?;
+    Frame::of_body(alloc, body.finish()?)
+}

@@ -1,0 +1,137 @@
+//! The alive sets after a commit.
+
+ghost use Rattle.std.specs.Prelude.{[], ◌*◌, ◌++◌, ◌≡◌, ◌≤◌, IfOk, List, OnOk, drop, length, map, ℕ};
+ghost use Rattle.std.specs.List.{AllByRecursion, AllZip};
+ghost use Rattle.definitions.specs.Analyzers.{Analyzer};
+ghost use Rattle.definitions.specs.Recorded.{holds};
+ghost use Rattle.definitions.specs.Schema.{Schema};
+ghost use Rattle.definitions.specs.Values.{Document};
+ghost use Rattle.segment.specs.Opened.{IsOpened, StandsFor, num_docs_of};
+ghost use Rattle.index_state.specs.Deletions.{IsSmall, numbered, term_of};
+ghost use Rattle.index_state.specs.Flags.{AreFlagged, flagged_each};
+ghost use Rattle.segment_definitions.specs.Rows.{flagged, left_rows};
+ghost use Rattle.segment_definitions.specs.Waiting.{numbered_rows, pending_rows};
+
+use crate::deletions::{delete_all, delete_pending};
+use crate::pending_deletion::Deletion;
+use common::AliveBitSet;
+use segment::Segment;
+use std::alloc::{AllocError, Global};
+
+/// The alive sets of all segments after a commit: of those that are committed after all deletions, and of those that
+/// wait after the deletions that follow their documents.
+pub(crate) fn next_sets(
+    alloc: Global,
+    segments: &[Segment],
+    alive: &[AliveBitSet],
+    deletions: &[Deletion],
+) -> Result<Vec<AliveBitSet>, AllocError>
+    requires opened { ∥ ((schema : Schema) × AllByRecursion (IsOpened schema) segments.now) ∥₁ }
+    requires flagged { AreFlagged segments.now alive.now }
+    ensures flagged { IfOk result (λ sets. AreFlagged segments.now sets.items) }
+    ensures each { IfOk result (λ sets. length sets.items ≡ length segments.now) }
+    ensures rows { (schema : Schema) (analyze : Analyzer) (n : ℕ) (docs : List (List Document))
+        → AllZip (StandsFor schema analyze) docs segments.now
+        → AllByRecursion (λ ds. length ds ≤ n) (drop (length alive.now) docs)
+        → AllByRecursion (IsSmall n) deletions.now
+        → IfOk result (λ sets. flagged_each docs sets.items
+        ≡ map (left_rows (holds schema analyze) (map term_of deletions.now)) (flagged_each docs alive.now)
+        ++ pending_rows (holds schema analyze) (map (numbered n) deletions.now) n 0 (drop (length alive.now) docs)) }
+{
+    let mut sets = Vec::new(alloc);
+    push_left(alloc, segments, alive, deletions, &mut sets)?;
+    push_new(alloc, segments, alive.len(), deletions, &mut sets)?;
+    Ok(sets)
+}
+
+/// Appends the alive sets of committed segments after all deletions.
+fn push_left(
+    alloc: Global,
+    segments: &[Segment],
+    alive: &[AliveBitSet],
+    deletions: &[Deletion],
+    sets: &mut Vec<AliveBitSet>,
+) -> Result<(), AllocError>
+    requires opened { ∥ ((schema : Schema) × AllByRecursion (IsOpened schema) segments.now) ∥₁ }
+    requires flagged { AreFlagged segments.now alive.now }
+    requires within { length alive.now ≤ length segments.now }
+    requires none { sets.old.items ≡ [] }
+    ensures flagged { OnOk result (AreFlagged segments.now sets.new.items) }
+    ensures each { OnOk result (length sets.new.items ≡ length alive.now) }
+    ensures rows { (schema : Schema) (analyze : Analyzer) (docs : List (List Document))
+        → AllZip (StandsFor schema analyze) docs segments.now
+        → OnOk result (flagged_each docs sets.new.items
+        ≡ map (left_rows (holds schema analyze) (map term_of deletions.now)) (flagged_each docs alive.now)) }
+{
+    for number in 0..alive.len() {
+        let set = left_set(alloc, &segments[number], &alive[number], deletions)?;
+        sets.push(set)?;
+    }
+    Ok(())
+}
+
+/// Appends the alive sets of the segments that wait, behind those of the committed ones.
+fn push_new(
+    alloc: Global,
+    segments: &[Segment],
+    num_committed: usize,
+    deletions: &[Deletion],
+    sets: &mut Vec<AliveBitSet>,
+) -> Result<(), AllocError>
+    requires opened { ∥ ((schema : Schema) × AllByRecursion (IsOpened schema) segments.now) ∥₁ }
+    requires flagged { AreFlagged segments.now sets.old.items }
+    requires each { length sets.old.items ≡ num_committed }
+    ensures flagged { OnOk result (AreFlagged segments.now sets.new.items) }
+    ensures each { OnOk result (length sets.new.items ≡ length segments.now) }
+    ensures rows { (schema : Schema) (analyze : Analyzer) (n : ℕ) (docs : List (List Document))
+        → AllZip (StandsFor schema analyze) docs segments.now
+        → AllByRecursion (λ ds. length ds ≤ n) (drop num_committed docs)
+        → AllByRecursion (IsSmall n) deletions.now
+        → OnOk result (flagged_each docs sets.new.items ≡ flagged_each docs sets.old.items
+        ++ pending_rows (holds schema analyze) (map (numbered n) deletions.now) n 0 (drop num_committed docs)) }
+{
+    for at in num_committed..segments.len() {
+        let set = new_set(alloc, &segments[at], at - num_committed, deletions)?;
+        sets.push(set)?;
+    }
+    Ok(())
+}
+
+/// The alive set of a committed segment after all deletions.
+fn left_set(
+    alloc: Global,
+    segment: &Segment,
+    alive: &AliveBitSet,
+    deletions: &[Deletion],
+) -> Result<AliveBitSet, AllocError>
+    requires flagged { length alive.now ≡ num_docs_of segment.now }
+    requires opened { ∥ ((schema : Schema) × IsOpened schema segment.now) ∥₁ }
+    ensures flagged { IfOk result (λ set. length set ≡ num_docs_of segment.now) }
+    ensures rows { (schema : Schema) (analyze : Analyzer) (docs : List Document)
+        → StandsFor schema analyze docs segment.now
+        → IfOk result (λ set. flagged docs set
+        ≡ left_rows (holds schema analyze) (map term_of deletions.now) (flagged docs alive.now)) }
+{
+    let mut set = alive.try_clone(alloc)?;
+    delete_all(segment, deletions, &mut set);
+    Ok(set)
+}
+
+/// The alive set of a segment that waits behind so many full ones, after the deletions that follow its documents.
+fn new_set(
+    alloc: Global,
+    segment: &Segment,
+    number: usize,
+    deletions: &[Deletion],
+) -> Result<AliveBitSet, AllocError>
+    requires opened { ∥ ((schema : Schema) × IsOpened schema segment.now) ∥₁ }
+    ensures flagged { IfOk result (λ set. length set ≡ num_docs_of segment.now) }
+    ensures rows { (schema : Schema) (analyze : Analyzer) (n : ℕ) (docs : List Document)
+        → StandsFor schema analyze docs segment.now → length docs ≤ n → AllByRecursion (IsSmall n) deletions.now
+        → IfOk result (λ set. flagged docs set
+        ≡ numbered_rows (holds schema analyze) (map (numbered n) deletions.now) (n * number) docs) }
+{
+    let mut set = AliveBitSet::for_max_doc(alloc, segment.num_docs())?;
+    delete_pending(alloc, segment, number, deletions, &mut set)?;
+    Ok(set)
+}

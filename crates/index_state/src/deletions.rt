@@ -1,0 +1,117 @@
+//! Deletions on alive sets.
+
+ghost use Rattle.std.specs.Prelude.{[], ◌*◌, ◌+◌, ◌∷◌, ◌≡◌, ◌≤◌, List, OnOk, length, map, ℕ};
+ghost use Rattle.std.specs.List.{AllByRecursion};
+ghost use Rattle.definitions.specs.Analyzers.{Analyzer};
+ghost use Rattle.definitions.specs.Recorded.{holds};
+ghost use Rattle.definitions.specs.Schema.{Schema};
+ghost use Rattle.definitions.specs.Values.{Document};
+ghost use Rattle.segment.specs.Opened.{IsOpened, StandsFor, num_docs_of};
+ghost use Rattle.index_state.specs.Deletions.{IsSmall, numbered, term_of};
+ghost use Rattle.segment_definitions.specs.Rows.{cut_flags, flagged, left_rows};
+ghost use Rattle.segment_definitions.specs.Waiting.{struck_from};
+
+use crate::pending_deletion::Deletion;
+use common::{AliveBitSet, DocId};
+use segment::{Segment, delete_in};
+use std::alloc::{AllocError, Global};
+use terms::Term;
+
+/// Every deletion, on a segment that is committed.
+pub(crate) fn delete_all(segment: &Segment, deletions: &[Deletion], alive: &mut AliveBitSet)
+    requires flagged { length alive.old ≡ num_docs_of segment.now }
+    requires opened { ∥ ((schema : Schema) × IsOpened schema segment.now) ∥₁ }
+    ensures long { length alive.new ≡ length alive.old }
+    ensures dead { (schema : Schema) (analyze : Analyzer) (docs : List Document)
+        → StandsFor schema analyze docs segment.now
+        → flagged docs alive.new
+        ≡ left_rows (holds schema analyze) (map term_of deletions.now) (flagged docs alive.old) }
+{
+    for deletion in deletions {
+        delete_in(segment, &deletion.term, alive);
+    }
+}
+
+/// Every deletion, on the segment that waits behind so many full ones.
+pub(crate) fn delete_pending(
+    alloc: Global,
+    segment: &Segment,
+    number: usize,
+    deletions: &[Deletion],
+    alive: &mut AliveBitSet,
+) -> Result<(), AllocError>
+    requires flagged { length alive.old ≡ num_docs_of segment.now }
+    requires opened { ∥ ((schema : Schema) × IsOpened schema segment.now) ∥₁ }
+    ensures long { length alive.new ≡ length alive.old }
+    ensures dead { (schema : Schema) (analyze : Analyzer) (n : ℕ) (docs : List Document)
+        → StandsFor schema analyze docs segment.now → length docs ≤ n → AllByRecursion (IsSmall n) deletions.now
+        → OnOk result (flagged docs alive.new
+        ≡ struck_from (holds schema analyze) (map (numbered n) deletions.now) (n * number) (flagged docs alive.old)) }
+{
+    for deletion in deletions {
+        delete_one(alloc, segment, number, deletion, alive)?;
+    }
+    Ok(())
+}
+
+/// A deletion, on the segment that waits behind so many full ones: all of it stands before a deletion of a later
+/// segment, and none before one of an earlier.
+fn delete_one(
+    alloc: Global,
+    segment: &Segment,
+    number: usize,
+    deletion: &Deletion,
+    alive: &mut AliveBitSet,
+) -> Result<(), AllocError>
+    requires flagged { length alive.old ≡ num_docs_of segment.now }
+    requires opened { ∥ ((schema : Schema) × IsOpened schema segment.now) ∥₁ }
+    ensures long { length alive.new ≡ length alive.old }
+    ensures dead { (schema : Schema) (analyze : Analyzer) (n : ℕ) (docs : List Document)
+        → StandsFor schema analyze docs segment.now → length docs ≤ n → IsSmall n deletion.now
+        → OnOk result (flagged docs alive.new
+        ≡ struck_from (holds schema analyze) (numbered n deletion.now ∷ []) (n * number) (flagged docs alive.old)) }
+{
+    if deletion.segments > number {
+        delete_in(segment, &deletion.term, alive);
+        return Ok(());
+    }
+    if deletion.segments == number {
+        return delete_before(alloc, segment, &deletion.term, deletion.docs, alive);
+    }
+    Ok(())
+}
+
+/// Lets those of the first documents be dead that hold a term.
+fn delete_before(
+    alloc: Global,
+    segment: &Segment,
+    term: &Term,
+    docs: usize,
+    alive: &mut AliveBitSet,
+) -> Result<(), AllocError>
+    requires flagged { length alive.old ≡ num_docs_of segment.now }
+    requires opened { ∥ ((schema : Schema) × IsOpened schema segment.now) ∥₁ }
+    ensures long { length alive.new ≡ length alive.old }
+    ensures dead { (schema : Schema) (analyze : Analyzer) (i : ℕ) (ds : List Document)
+        → StandsFor schema analyze ds segment.now
+        → OnOk result (flagged ds alive.new
+        ≡ struck_from (holds schema analyze) ((term.now, i + docs) ∷ []) i (flagged ds alive.old)) }
+{
+    let mut left = AliveBitSet::for_max_doc(alloc, segment.num_docs())?;
+    delete_in(segment, term, &mut left);
+    kill_before(alive, &left, docs);
+    Ok(())
+}
+
+/// Lets those of the first documents be dead that are dead in another set.
+fn kill_before(alive: &mut AliveBitSet, left: &AliveBitSet, docs: usize)
+    requires { length alive.old ≡ length left.now }
+    ensures { alive.new ≡ cut_flags docs left.now alive.old }
+{
+    let end = docs.min(left.len()) as DocId;
+    for doc in 0..end {
+        if !left.is_alive(doc) {
+            alive.kill(doc);
+        }
+    }
+}

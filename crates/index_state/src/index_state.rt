@@ -1,0 +1,461 @@
+//! The segments of an index, and what waits for a commit.
+
+ghost use Rattle.std.specs.Prelude.{[], ◌++◌, ◌<◌, ◌^◌, ◌∷◌, ◌≡◌, ◌≢◌, ◌≤◌, ◌⊎◌, Err, IfErr, IfOk, List, None, OnErr, OnOk, Some, false, length, map, true, ℕ};
+ghost use Rattle.std.specs.List.{AllByRecursion, AllByRecursion-prop, AllZip};
+ghost use Rattle.std.specs.Result.{result_err};
+ghost use Rattle.definitions.specs.Alive.{live_groups};
+ghost use Rattle.definitions.specs.Calls as calls;
+ghost use Rattle.definitions.specs.Scanning as scanning;
+ghost use Rattle.definitions.specs.State as states;
+ghost use Rattle.definitions.specs.Step.{configuration_of, fresh_index, reopened};
+ghost use Rattle.definitions.specs.Values.{Document};
+ghost use Rattle.definitions.specs.declared.fault.Fault.TheVariants as faults;
+ghost use Rattle.query_trees.specs.Queries.{query_of};
+ghost use Rattle.index_file.specs.Frames.{frame_bytes};
+ghost use Rattle.segment.specs.Opened.{IsOpened, StandsFor};
+ghost use Rattle.index_state.specs.Flags.{AreFlagged, AreFlagged-prop, flagged_each, members};
+ghost use Rattle.index_state.specs.Given.{AreGiven-prop, IsGiven};
+ghost use Rattle.index_file.specs.Lists.{IsListed, member_of};
+ghost use Rattle.segment_definitions.specs.SegmentBodies.{Makes};
+ghost use Rattle.segment_definitions.specs.SegmentFiles.{IsGroup};
+ghost use Rattle.segment_definitions.specs.Segments.{IsSegment};
+ghost use Rattle.segment_search.specs.Hits.{hit_of, scored};
+
+use crate::call_checks::{check_deletion, check_document, check_slot};
+use crate::commit_frame::commit_frame;
+use crate::committed_alive_sets::next_sets;
+use crate::parts::parted;
+use crate::pending_deletion::Deletion;
+use crate::pending_documents::WaitingDocs;
+use crate::prepared::Prepared;
+use crate::status::Status;
+use crate::written_segment::written_segment;
+use common::{AliveBitSet, Analyzer};
+use definitions::Fault;
+use document::CompactDoc;
+use index_file::Member;
+use query_trees::AnyQuery;
+use schema::Schema;
+use segment::Segment;
+use segment_search::{Hit, count, search};
+use settings::Settings;
+use std::alloc::Global;
+use std::mem::replace;
+use terms::Term;
+
+/// The most segments that an index commits.
+const MAX_SEGMENTS: usize = 4294967295;
+
+/// The segments of an index: those that are committed, which searches see, each with which of its documents are alive;
+/// and what waits for a commit, documents and deletions. The documents of a segment that isn't full wait as they are,
+/// and are indexed when it is full or committed.
+#[derive(Drop)]
+pub struct IndexState<A> {
+    pub(crate) alloc: Global,
+    pub(crate) analyzer: A,
+    pub(crate) schema: Schema,
+    pub(crate) settings: Settings,
+    // Those that are committed, and behind them those that wait and are full.
+    pub(crate) segments: Vec<Segment>,
+    // One for each that is committed.
+    pub(crate) alive: Vec<AliveBitSet>,
+    // The documents of the segment that isn't full.
+    pub(crate) open: WaitingDocs,
+    pub(crate) deletions: Vec<Deletion>,
+    pub(crate) status: Status,
+    ghost opened: { ∥ AllByRecursion (IsOpened schema) segments.items ∥₁ },
+    ghost flagged: { AreFlagged segments.items alive.items } by { AreFlagged-prop segments.items alive.items },
+    ghost given: { AllByRecursion (IsGiven schema) «open» } by { AreGiven-prop schema «open» },
+    ghost few: { length alive.items < 2 ^ 32 },
+}
+
+impl<A: Analyzer + Drop> IndexState<A> {
+    ghost use Rattle.index_state.specs.Commits.{AreSets, IsPrepared, frame_in, members_with, sets_in};
+    ghost use Rattle.index_state.specs.Standing.{HasLongSlot, IsMadeAlike, PassesLimit, Stands, alive_of, alloc_of, analyzer_of, committed_of, members_of, num_written, open_of, schema_of, settings_of, state_of, status_of};
+
+    /// An index without documents.
+    pub fn new(alloc: Global, analyzer: A, schema: Schema, settings: Settings) -> IndexState<A>
+        ensures stands { Stands A.analyze result (configuration_of schema (A.analyze analyzer) settings) fresh_index }
+        ensures made { (schema_of result ≡ schema) × (settings_of result ≡ settings) × (analyzer_of result ≡ analyzer) }
+        ensures none { members_of result ≡ [] }
+    {
+        let segments = Vec::new(alloc);
+        let alive = Vec::new(alloc);
+        IndexState::of_parts(alloc, analyzer, schema, settings, segments, alive)
+    }
+
+    /// The state of segments, each with which of its documents are alive, in which nothing waits.
+    pub fn of_parts(
+        alloc: Global,
+        analyzer: A,
+        schema: Schema,
+        settings: Settings,
+        segments: Vec<Segment>,
+        alive: Vec<AliveBitSet>,
+    ) -> IndexState<A>
+        requires opened { AllByRecursion (IsOpened schema) segments.items }
+        requires flagged { AreFlagged segments.items alive.items }
+        requires each { length alive.items ≡ length segments.items }
+        requires few { length alive.items < 2 ^ 32 }
+        ensures stands { (groups : List (List Document))
+            → AllZip (IsGroup schema (A.analyze analyzer)) (members segments.items alive.items) groups
+            → Stands A.analyze result (configuration_of schema (A.analyze analyzer) settings) (reopened groups) }
+        ensures made { (schema_of result ≡ schema) × (settings_of result ≡ settings) × (analyzer_of result ≡ analyzer) }
+        ensures members { members_of result ≡ members segments.items alive.items }
+    {
+        let _docs_per_segment = settings.docs_per_segment();
+        let open = WaitingDocs::new(alloc);
+        let deletions = Vec::new(alloc);
+        IndexState {
+            alloc,
+            analyzer,
+            schema,
+            settings,
+            segments,
+            alive,
+            open,
+            deletions,
+            status: Status::Ready,
+        }
+    }
+
+    /// The state of the members that a file lists, in which nothing waits; where memory is wanting, the analyzer.
+    pub fn of_members(
+        alloc: Global,
+        analyzer: A,
+        schema: Schema,
+        settings: Settings,
+        members: Vec<Member>,
+    ) -> Result<IndexState<A>, A>
+        requires listed { AllByRecursion (IsListed schema) members.items }
+        requires few { length members.items < 2 ^ 32 }
+        ensures stands { (groups : List (List Document))
+            → AllZip (IsGroup schema (A.analyze analyzer)) (map member_of members.items) groups
+            → IfOk result (λ index. Stands A.analyze index (configuration_of schema (A.analyze analyzer) settings)
+            (reopened groups)) }
+        ensures made { IfOk result (λ index. (schema_of index ≡ schema) × (settings_of index ≡ settings)
+            × (analyzer_of index ≡ analyzer)) }
+        ensures members { IfOk result (λ index. members_of index ≡ map member_of members.items) }
+        ensures err { IfErr result (λ handed. handed ≡ analyzer) }
+    {
+        match parted(alloc, members) {
+            Ok((segments, alive)) => Ok(IndexState::of_parts(
+                alloc, analyzer, schema, settings, segments, alive,
+            )),
+            Err(_) => Err(analyzer),
+        }
+    }
+
+    /// The analyzer; what waits is dropped.
+    pub fn into_analyzer(self) -> A
+        ensures { result ≡ analyzer_of self }
+    {
+        let IndexState { analyzer, .. } = self;
+        analyzer
+    }
+
+    /// The fields.
+    pub fn schema(&self) -> &Schema
+        ensures { result.now ≡ schema_of self.now }
+    {
+        &self.schema
+    }
+
+    /// The settings.
+    pub fn settings(&self) -> &Settings
+        ensures { result.now ≡ settings_of self.now }
+    {
+        &self.settings
+    }
+
+    /// What it takes memory from.
+    pub fn alloc(&self) -> Global
+        ensures { result ≡ alloc_of self.now }
+    {
+        self.alloc
+    }
+
+    /// What the index may still do.
+    pub fn state(&self) -> Status
+        ensures { (c : calls.Configuration) (x : calls.Index) → Stands A.analyze self.now c x
+            → x.status ≡ status_of result }
+    {
+        self.status
+    }
+
+    /// Whether searches are answered.
+    pub fn check_open(&self) -> Result<(), Fault>
+        ensures { (c : calls.Configuration) (x : calls.Index) → Stands A.analyze self.now c x
+            → result_err result ≡ calls.status_fault x.status true }
+    {
+        match self.status {
+            Status::Ready | Status::WriterClosed => Ok(()),
+            Status::Closed => Err(Fault::Closed),
+        }
+    }
+
+    /// Whether changes are taken.
+    pub fn check_writer(&self) -> Result<(), Fault>
+        ensures value { result_err result ≡ calls.status_fault (state_of self.now) false }
+        ensures fault { IfErr result (λ fault. (fault ≡ faults.WriterClosed) ⊎ (fault ≡ faults.Closed)) }
+    {
+        match self.status {
+            Status::Ready => Ok(()),
+            Status::WriterClosed => Err(Fault::WriterClosed),
+            Status::Closed => Err(Fault::Closed),
+        }
+    }
+
+    /// Adds a document; a search sees it after the next commit. One of an unknown field is `UnknownField`, and one with
+    /// a value that can't be indexed `NotIndexable`; one whose stored values are too long beside a block is `Limit`, and
+    /// changes nothing. Where a document fills a segment, the segment is written: want of memory or a limit then closes
+    /// the writer.
+    pub fn add_document(&mut self, doc: CompactDoc) -> Result<(), Fault>
+        ensures left { (c : calls.Configuration) (x : calls.Index) → Stands A.analyze self.old c x
+            → (y : calls.Index) × calls.Leaves c x (calls.add_document doc) result y × Stands A.analyze self.new c y }
+        ensures exact { (c : calls.Configuration) (x : calls.Index) → Stands A.analyze self.old c x
+            → IfErr result (λ fault. fault ≢ faults.OutOfMemory → fault ≢ faults.Limit
+            → calls.call_fault c x (calls.add_document doc) ≡ Some fault) }
+        ensures limit { IfErr result (λ fault. fault ≡ faults.Limit
+            → PassesLimit A.analyze self.old (open_of self.old ++ doc ∷ [])) }
+        ensures short { OnOk result (¬ HasLongSlot self.old doc) }
+        ensures long { (c : calls.Configuration) (x : calls.Index) → Stands A.analyze self.old c x
+            → HasLongSlot self.old doc → OnErr result (Stands A.analyze self.new c x) }
+        ensures made { IsMadeAlike self.old self.new }
+        ensures members { members_of self.new ≡ members_of self.old }
+    {
+        self.check_writer()?;
+        check_document(&self.schema, &doc)?;
+        check_slot(self.alloc, &self.schema, self.settings.block_size(), &doc)?;
+        self.open.push(&doc)?;
+        if self.open.len() < self.settings.docs_per_segment() as usize {
+            return Ok(());
+        }
+        self.status = Status::WriterClosed;
+        self.close_open()?;
+        self.status = Status::Ready;
+        Ok(())
+    }
+
+    /// Deletes the documents with a term that were added before; a search misses them after the next commit. A term of
+    /// an unknown field is `UnknownField`, one of a field that isn't indexed `NotIndexed`.
+    pub fn delete_term(&mut self, term: &Term) -> Result<(), Fault>
+        ensures left { (c : calls.Configuration) (x : calls.Index) → Stands A.analyze self.old c x
+            → (y : calls.Index) × calls.Leaves c x (calls.delete_term term.now) result y
+            × Stands A.analyze self.new c y }
+        ensures exact { (c : calls.Configuration) (x : calls.Index) → Stands A.analyze self.old c x
+            → IfErr result (λ fault. fault ≢ faults.OutOfMemory
+            → calls.call_fault c x (calls.delete_term term.now) ≡ Some fault) }
+        ensures made { IsMadeAlike self.old self.new }
+        ensures members { members_of self.new ≡ members_of self.old }
+    {
+        self.check_writer()?;
+        check_deletion(&self.schema, term)?;
+        let deletion = Deletion {
+            term: copied(self.alloc, term)?,
+            segments: self.segments.len() - self.alive.len(),
+            docs: self.open.len(),
+        };
+        self.deletions.push(deletion)?;
+        Ok(())
+    }
+
+    /// Makes a full segment of the documents that wait in one that isn't, where there are any.
+    fn close_open(&mut self) -> Result<(), Fault>
+        ensures err { IfErr result (λ fault. (fault ≡ faults.OutOfMemory) ⊎ (fault ≡ faults.Limit)) }
+        ensures limit { IfErr result (λ fault. fault ≡ faults.Limit
+            → PassesLimit A.analyze self.old (open_of self.old)) }
+        ensures closed { (docs : List (List Document))
+            → AllZip (StandsFor self.old.schema (A.analyze self.old.analyzer)) docs self.old.segments.items
+            → OnOk result (AllZip (StandsFor self.old.schema (A.analyze self.old.analyzer))
+            (docs ++ states.as_group self.old.open) self.new.segments.items × (self.new.open ≡ [])) }
+        ensures stands { (docs : List (List Document))
+            → AllZip (StandsFor self.old.schema (A.analyze self.old.analyzer)) docs self.old.segments.items
+            → OnErr result (AllZip (StandsFor self.old.schema (A.analyze self.old.analyzer)) docs
+            self.new.segments.items) }
+        ensures made { IsMadeAlike self.old self.new }
+        ensures same { (self.new.alive.items ≡ self.old.alive.items)
+            × (self.new.deletions.items ≡ self.old.deletions.items) × (self.new.status ≡ self.old.status) }
+        ensures members { members_of self.new ≡ members_of self.old }
+    {
+        if self.open.is_empty() {
+            return Ok(());
+        }
+        let docs = replace(&mut self.open, WaitingDocs::new(self.alloc));
+        let segment = written_segment(
+            self.alloc,
+            &self.analyzer,
+            &self.schema,
+            &self.settings,
+            docs,
+        )?;
+        self.segments.push(segment)?;
+        Ok(())
+    }
+
+    /// Makes what a commit writes and installs, in memory: all that it takes is found here. Past the greatest number of
+    /// segments it is `Limit`. Until the commit is installed no other change is taken.
+    pub fn prepare(&mut self) -> Result<Prepared, Fault>
+        ensures prepared { (c : calls.Configuration) (x : calls.Index) → Stands A.analyze self.old c x
+            → IfOk result (λ prepared. IsPrepared A.analyze self.new (sets_in prepared) c x) }
+        ensures taken { (c : calls.Configuration) (x : calls.Index) → Stands A.analyze self.old c x
+            → OnOk result (x.status ≡ calls.ready) }
+        ensures stopped { (c : calls.Configuration) (x : calls.Index) → Stands A.analyze self.old c x
+            → OnOk result (Stands A.analyze self.new c (record { state = x.state; status = calls.writer_closed })) }
+        ensures left { (c : calls.Configuration) (x : calls.Index) → Stands A.analyze self.old c x
+            → IfErr result (λ fault. (y : calls.Index) × calls.Leaves c x calls.commit_pending (Err fault) y
+            × Stands A.analyze self.new c y) }
+        ensures exact { (c : calls.Configuration) (x : calls.Index) → Stands A.analyze self.old c x
+            → IfErr result (λ fault. fault ≢ faults.OutOfMemory → fault ≢ faults.Limit
+            → calls.call_fault c x calls.commit_pending ≡ Some fault) }
+        ensures fault { IfErr result (λ fault. (fault ≡ faults.OutOfMemory) ⊎ (fault ≡ faults.Limit)
+            ⊎ (fault ≡ faults.WriterClosed) ⊎ (fault ≡ faults.Closed)) }
+        ensures limit { IfErr result (λ fault. fault ≡ faults.Limit
+            → PassesLimit A.analyze self.old (open_of self.old) ⊎ (2 ^ 32 ≤ num_written self.new)) }
+        ensures body { (c : calls.Configuration) (x : calls.Index) → Stands A.analyze self.old c x
+            → IfOk result (λ prepared. (body : List ℕ) × (frame_in prepared ≡ frame_bytes body)
+            × Makes (IsSegment c.schema) (members_of self.old) (members_with self.new prepared) body) }
+        ensures flagged { IfOk result (λ prepared. AreSets self.new (sets_in prepared)) }
+        ensures few { IfOk result (λ prepared. length (sets_in prepared) < 2 ^ 32) }
+        ensures made { IsMadeAlike self.old self.new }
+        ensures members { members_of self.new ≡ members_of self.old }
+    {
+        self.check_writer()?;
+        self.status = Status::WriterClosed;
+        self.close_open()?;
+        if self.segments.len() > MAX_SEGMENTS {
+            return Err(Fault::Limit);
+        }
+        let alive = next_sets(self.alloc, &self.segments, &self.alive, &self.deletions)?;
+        let frame = commit_frame(self.alloc, &self.segments, self.alive.len(), &alive)?;
+        Ok(Prepared { frame, alive })
+    }
+
+    /// Makes searches see what was prepared, and changes are taken again. It takes no memory.
+    pub fn install(&mut self, prepared: Prepared)
+        requires flagged { AreSets self.old (sets_in prepared) }
+        requires few { length (sets_in prepared) < 2 ^ 32 }
+        ensures left { (c : calls.Configuration) (x : calls.Index)
+            → IsPrepared A.analyze self.old (sets_in prepared) c x → Stands A.analyze self.new c
+            (record { state = calls.after c x.state calls.commit_pending; status = calls.ready }) }
+        ensures made { IsMadeAlike self.old self.new }
+        ensures members { members_of self.new ≡ members_with self.old prepared }
+    {
+        let Prepared { alive, .. } = prepared;
+        self.alive = alive;
+        self.deletions = Vec::new(self.alloc);
+        self.status = Status::Ready;
+    }
+
+    /// Takes no more calls but those of this status, which isn't that of all calls.
+    pub fn stop(&mut self, status: Status)
+        requires { status_of status ≢ calls.ready }
+        ensures left { (c : calls.Configuration) (x : calls.Index) → Stands A.analyze self.old c x
+            → Stands A.analyze self.new c (record { state = x.state; status = status_of status }) }
+        ensures made { IsMadeAlike self.old self.new }
+        ensures members { members_of self.new ≡ members_of self.old }
+    {
+        self.status = status;
+    }
+
+    /// How many segments are committed, those without living documents too.
+    pub fn num_segments(&self) -> usize
+        ensures { (c : calls.Configuration) (x : calls.Index) → Stands A.analyze self.now c x
+            → result ≡ states.num_segments x.state }
+    {
+        self.alive.len()
+    }
+
+    /// How many documents are committed and alive.
+    pub fn num_docs(&self) -> u64
+        ensures { (c : calls.Configuration) (x : calls.Index) → Stands A.analyze self.now c x
+            → result ≡ states.num_docs x.state }
+    {
+        let mut count = 0;
+        for set in &self.alive {
+            let _documents = set.len();
+            count += set.num_alive() as u64;
+        }
+        count
+    }
+
+    /// The best of the committed documents that match, so many at most: by score, and then by addition. The caches of the
+    /// segments' stores keep the blocks that are read.
+    pub fn search(&mut self, query: &AnyQuery, limit: usize) -> Result<Vec<Hit>, Fault>
+        ensures ok { (c : calls.Configuration) (x : calls.Index) → Stands A.analyze self.old c x
+            → IfOk result (λ hits.
+            (calls.call_fault c x (calls.search_best (query_of query.now) limit) ≡ None)
+            × (map hit_of hits.items
+            ≡ map scored (scanning.scan c.schema c.analyze c.similarity (states.committed x.state) (query_of query.now) limit))) }
+        ensures err { (c : calls.Configuration) (x : calls.Index) → Stands A.analyze self.old c x
+            → IfErr result (λ fault. fault ≢ faults.OutOfMemory
+            → calls.call_fault c x (calls.search_best (query_of query.now) limit) ≡ Some fault) }
+        ensures left { (c : calls.Configuration) (x : calls.Index) → Stands A.analyze self.old c x
+            → Stands A.analyze self.new c x }
+        ensures made { IsMadeAlike self.old self.new }
+        ensures members { members_of self.new ≡ members_of self.old }
+    {
+        self.check_open()?;
+        search(
+            self.alloc,
+            &self.schema,
+            &mut self.segments,
+            &self.alive,
+            &self.settings,
+            query,
+            limit,
+        )
+    }
+
+    /// How many of the committed documents match.
+    pub fn count(&self, query: &AnyQuery) -> Result<u64, Fault>
+        ensures ok { (c : calls.Configuration) (x : calls.Index) → Stands A.analyze self.now c x
+            → IfOk result (λ count.
+            (calls.call_fault c x (calls.count_all (query_of query.now)) ≡ None)
+            × (count ≡ scanning.scan_count c.schema c.analyze (states.committed x.state) (query_of query.now))) }
+        ensures err { (c : calls.Configuration) (x : calls.Index) → Stands A.analyze self.now c x
+            → IfErr result (λ fault. fault ≢ faults.OutOfMemory
+            → calls.call_fault c x (calls.count_all (query_of query.now)) ≡ Some fault) }
+    {
+        self.check_open()?;
+        count(
+            self.alloc,
+            &self.schema,
+            &self.segments,
+            &self.alive,
+            &self.settings,
+            query,
+        )
+    }
+
+    /// The segments that are committed.
+    pub fn segments(&self) -> &[Segment]
+        ensures value { result.now ≡ committed_of self.now }
+        ensures opened { ∥ AllByRecursion (IsOpened (schema_of self.now)) result.now ∥₁ }
+        ensures flagged { AreFlagged result.now (alive_of self.now) }
+        ensures each { length result.now ≡ length (alive_of self.now) }
+        ensures stands { (c : calls.Configuration) (x : calls.Index) → Stands A.analyze self.now c x
+            → (docs : List (List Document)) × AllZip (StandsFor c.schema c.analyze) docs result.now
+            × (x.state.groups ≡ live_groups (flagged_each docs (alive_of self.now))) }
+        ensures groups { (c : calls.Configuration) (x : calls.Index) → Stands A.analyze self.now c x
+            → AllZip (IsGroup c.schema c.analyze) (members_of self.now) x.state.groups }
+    {
+        &self.segments[..self.alive.len()]
+    }
+
+    /// Which of their documents are alive, a set for each.
+    pub fn alive(&self) -> &[AliveBitSet]
+        ensures { result.now ≡ alive_of self.now }
+    {
+        &self.alive
+    }
+}
+
+/// The same term, in memory of its own.
+fn copied(alloc: Global, term: &Term) -> Result<Term, Fault>
+    ensures value { IfOk result (λ copy. copy ≡ term.now) }
+    ensures err { IfErr result (λ fault. fault ≡ faults.OutOfMemory) }
+{
+    let _type = term.typ();
+    Term::wrap(term.serialized_term().to_vec(alloc)?)
+}

@@ -1,0 +1,26 @@
+//! What an index keeps in memory: segments that are committed, which of their documents are alive, and what waits for a
+//! commit.
+#![tactic(auto)]
+
+mod call_checks;
+mod commit_frame;
+mod committed_alive_sets;
+mod deletions;
+mod index_state;
+mod merge;
+mod merge_frame;
+mod merged_alive_sets;
+mod parts;
+mod pending_deletion;
+mod pending_documents;
+mod prepared;
+mod prepared_merge;
+mod replaced_segments;
+mod status;
+mod written_segment;
+
+pub use index_state::IndexState;
+pub use prepared::Prepared;
+pub use prepared_merge::PreparedMerge;
+pub use segment_search::Hit;
+pub use status::Status;

@@ -1,0 +1,40 @@
+//! Calls that the system refuses are the device's fault, and are counted.
+
+use common::{Device, FileDevice};
+use definitions::Fault;
+use std::test::Fail;
+
+// A file that two devices ask for.
+const SHARED: &str = "shared_books.idx";
+
+// Where nothing can be written.
+const FULL: &str = "/dev/full";
+
+#[test]
+fn refused_calls_are_counted(rt: HostRuntime) -> Result<(), Fail> {
+    let mut device = FileDevice::open(&rt, FULL)?;
+    let written = device.write_at(0, b"a");
+    let cut = device.cut(0);
+    let synced = device.sync();
+    let refused = Err(Fault::Device);
+    assert!(rt;
+        written == refused && cut == refused && synced == refused && device.failures() == 3
+    );
+    Ok(())
+}
+
+#[test]
+fn what_is_no_file_is_not_opened(rt: HostRuntime) -> Result<(), Fail> {
+    assert!(rt; FileDevice::open(&rt, "missing/books.idx").err() == Some(Fault::Device));
+    Ok(())
+}
+
+#[test]
+fn a_file_in_use_is_not_opened(rt: HostRuntime) -> Result<(), Fail> {
+    let first = FileDevice::open(&rt, SHARED)?;
+    let in_use = FileDevice::open(&rt, SHARED).err() == Some(Fault::Device);
+    drop(first);
+    let reopens = FileDevice::open(&rt, SHARED).is_ok();
+    assert!(rt; in_use && reopens);
+    Ok(())
+}

@@ -1,5 +1,0 @@
-use Rattle.inverted_index_reader.proofs.GivenPostings.{given_held}
-use Rattle.inverted_index_reader.proofs.laws.given_postings_are_held.Goals as goal
-
-pub returns : goal.returns
-returns c = given_held

@@ -1,6 +1,0 @@
-use Rattle.definitions.specs.Postings.{postings}
-use Rattle.inverted_index_reader.proofs.GivenPostings.{given_held}
-use Rattle.inverted_index_reader.proofs.laws.indexed_postings_are_held.Goals as goal
-
-pub returns : goal.returns
-returns c = λ schema analyze docs fields t are. given_held (λ u. postings schema analyze u docs) schema fields t are

@@ -1,8 +1,0 @@
-use Rattle.std.proofs.Common.{arith, ◌∙◌}
-use Rattle.cursors.specs.EntryLaws.{from-first}
-use Rattle.leaf_scorers.specs.SetEntries.{set_entries}
-use Rattle.leaf_scorers.specs.SetEntryLaws.{Rising-flags}
-use Rattle.leaf_scorers.proofs.bit_set_doc_set.BitSetDocSet.from.Goals as goal
-
-pub returns : goal.returns
-returns c = c.first_document-doc.ensures.same ∙ from-first 0 0 (set_entries c.args.docs) (omega arith) (Rising-flags 0 c.args.docs (omega (arith, c.requires)))

@@ -1,9 +1,0 @@
-use Rattle.std.proofs.Common.{false, slice_index_or, sym, ◌∙◌}
-use Rattle.leaf_scorers.specs.ScoredEntryLaws.{count-rescored, none-rescored}
-use Rattle.leaf_scorers.proofs.const_scorer.ConstScorerDocSet.count.Goals as goal
-
-pub count-requires : goal.count-requires
-count-requires g c = none-rescored (λ e. c.args.self.now.score) _ (g.D.DocSet.entries c.args.self.now.docset) c.requires
-
-pub returns-clause-count : goal.returns-clause-count
-returns-clause-count g c = c.count.ensures.count ∙ sym (count-rescored (λ e. c.args.self.now.score) (λ d. slice_index_or c.args.alive.now d false) (g.D.DocSet.entries c.args.self.now.docset))

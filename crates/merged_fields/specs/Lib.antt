@@ -1,6 +1,0 @@
--- Words of the contracts.
-pub mod Members
-pub mod MergedTerm
-pub mod MergedTerms
-pub mod MergedFields
-pub mod ToldFields

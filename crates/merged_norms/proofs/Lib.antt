@@ -1,2 +1,0 @@
-pub mod LivingIds
-pub mod NormsOfLiving

@@ -1,4 +1,0 @@
--- Words of the contracts.
-pub mod Mappings
-pub mod Living
-pub mod Written

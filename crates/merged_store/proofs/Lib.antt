@@ -1,3 +1,0 @@
-pub mod SlotsLeft
-pub mod MembersHeld
-pub mod WrittenBlocks

@@ -1,3 +1,0 @@
--- Words of the contracts.
-pub mod LivingSlots
-pub mod MemberStores

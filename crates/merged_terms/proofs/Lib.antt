@@ -1,3 +1,0 @@
-pub mod MergedKeys
-pub mod MergedSteps
-pub mod MergerSteps

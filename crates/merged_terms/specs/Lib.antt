@@ -1,3 +1,0 @@
--- Words of the contracts.
-pub mod MergedTerms
-pub mod Walking

@@ -1,0 +1,17 @@
+pub mod MergedKeys
+pub mod MergedSteps
+pub mod MergerSteps
+pub mod Numbers
+pub mod LivingEntries
+pub mod Writes
+pub mod LivingIds
+pub mod NormsOfLiving
+pub mod SlotsLeft
+pub mod MembersHeld
+pub mod WrittenBlocks
+pub mod MemberPostings
+pub mod MembersWritten
+pub mod TermMerged
+pub mod TermsMerged
+pub mod FieldMerged
+pub mod AllMerged

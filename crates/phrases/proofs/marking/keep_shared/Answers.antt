@@ -1,6 +1,0 @@
-use Rattle.std.proofs.Common.{subst, sym}
-use Rattle.phrases.specs.Places.{Ascends}
-use Rattle.phrases.proofs.marking.keep_shared.Goals as goal
-
-pub are_below-requires : goal.are_below-requires
-are_below-requires c = subst (Ascends 0) (sym c.deref.ensures.value) c.requires.left

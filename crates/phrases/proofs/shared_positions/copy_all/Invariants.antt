@@ -1,0 +1,10 @@
+use Rattle.std.proofs.Common.{drop, vec_capacity, vec_len, ◌++◌, ◌≡◌}
+use Rattle.phrases.proofs.shared_positions.copy_all.Given as goal
+
+-- what is copied and what is left to copy are all
+abbrev pub invariant-loop-i : goal.invariant-loop-i
+invariant-loop-i l = record {
+  items : l.output.items ++ drop l.i l.positions ≡ l.positions;
+  len : vec_len l.output ≡ l.i;
+  room : vec_capacity l.output ≡ vec_capacity l.fn.output;
+}

@@ -1,0 +1,10 @@
+use Rattle.std.proofs.Common.{drop, map, vec_capacity, vec_len, ◌++◌, ◌≡◌}
+use Rattle.phrases.proofs.slop_costs.copy_positions.Given as goal
+
+-- what is put and what is left to put are all
+abbrev pub invariant-loop-i : goal.invariant-loop-i
+invariant-loop-i l = record {
+  items : l.output.items ++ map (λ c. c.0) (drop l.i l.table) ≡ map (λ c. c.0) l.table;
+  len : vec_len l.output ≡ l.i;
+  room : vec_capacity l.output ≡ vec_capacity l.fn.output;
+}

@@ -1,3 +1,0 @@
-pub mod WaitingBlocks
-pub mod WrittenPostings
-pub mod ClosedTerms

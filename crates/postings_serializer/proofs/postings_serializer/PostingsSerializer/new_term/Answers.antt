@@ -1,5 +1,0 @@
-use Rattle.postings_serializer.proofs.WrittenPostings.{nothing_stands}
-use Rattle.postings_serializer.proofs.postings_serializer.PostingsSerializer.new_term.Goals as goal
-
-pub returns-clause-nothing : goal.returns-clause-nothing
-returns-clause-nothing c = nothing_stands c.clear.new.self _ _ _ c.clear.ensures

@@ -1,2 +1,0 @@
-pub mod TermWriting
-pub mod FieldWriting

@@ -1,4 +1,0 @@
-pub mod Numbers
-pub mod PhraseSteps
-pub mod QueryForms
-pub mod QuerySteps

@@ -1,3 +1,0 @@
-pub mod QueryNames
-pub mod ReadPhrases
-pub mod ReadQueries

@@ -1,2 +1,0 @@
--- Lemmas behind the laws.
-pub mod Orders

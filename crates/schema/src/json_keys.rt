@@ -1,0 +1,93 @@
+//! What stands at the keys of JSON objects.
+ghost use Rattle.std.specs.Prelude.{◌++◌, ◌≡◌, bytes_eq, map, option_map};
+ghost use Rattle.std.specs.List.{list_any};
+ghost use Rattle.definitions.specs.Json as definitions;
+ghost use Rattle.definitions.specs.SchemaGrammar.{flag_or, object_at};
+ghost use Rattle.serde_json.specs.View.{members_view, view};
+
+use serde_json::{Map, Value};
+
+/// Whether the value is an object with no key but these.
+pub fn has_only(value: &Value, keys: &[&str]) -> bool
+    ensures { result ≡ definitions.has_only (map (λ k. k.now) keys.now) (view value.now) }
+{
+    has_only_beside(value, keys, &[])
+}
+
+/// Whether the value is an object with no key but these and further ones.
+pub fn has_only_beside(value: &Value, keys: &[&str], further: &[&str]) -> bool
+    ensures { result ≡ definitions.has_only (map (λ k. k.now) keys.now ++ map (λ k. k.now) further.now) (view value.now) }
+{
+    match value.as_object() {
+        Some(members) => members_have_only(members, keys, further),
+        None => false,
+    }
+}
+
+/// The text at a key.
+pub fn text_at<'a>(value: &'a Value, key: &str) -> Option<&'a str>
+    ensures { option_map (λ s. s.now) result ≡ definitions.text_at key.now (view value.now) }
+{
+    value.get(key).and_then(Value::as_str)
+}
+
+/// The object at a key.
+pub fn object_at<'a>(value: &'a Value, key: &str) -> Option<&'a Value>
+    ensures { option_map (λ o. view o.now) result ≡ object_at key.now (view value.now) }
+{
+    let object = value.get(key)?;
+    if object.is_object() {
+        Some(object)
+    } else {
+        None
+    }
+}
+
+/// The option at a key, true or false; where it is absent, this.
+pub fn flag_or(options: &Value, key: &str, absent: bool) -> Option<bool>
+    ensures { result ≡ flag_or absent key.now (view options.now) }
+{
+    match options.get(key) {
+        Some(flag) => flag.as_bool(),
+        None => Some(absent),
+    }
+}
+
+/// The number at a key, a whole one from 0 to 2^63 - 1.
+pub fn number_at(value: &Value, key: &str) -> Option<u64>
+    ensures { result ≡ definitions.number_at key.now (view value.now) }
+{
+    number_in(value.get(key)?)
+}
+
+/// A whole number from 0 to 2^63 - 1.
+pub fn number_in(value: &Value) -> Option<u64>
+    ensures { result ≡ definitions.number_in (view value.now) }
+{
+    let number = value.as_u64()?;
+    if number < 1 << 63 { Some(number) } else { None }
+}
+
+/// Whether each key is one of these.
+fn members_have_only(members: &Map<String, Value>, keys: &[&str], further: &[&str]) -> bool
+    ensures { result ≡ definitions.members_have_only (map (λ k. k.now) keys.now ++ map (λ k. k.now) further.now) (members_view members.now.entries) }
+{
+    for (key, _member) in members.iter() {
+        if !is_one_of(key.as_str(), keys) && !is_one_of(key.as_str(), further) {
+            return false;
+        }
+    }
+    true
+}
+
+/// Whether the key is one of these.
+fn is_one_of(key: &str, keys: &[&str]) -> bool
+    ensures { result ≡ list_any (bytes_eq key.now) (map (λ k. k.now) keys.now) }
+{
+    for other in keys {
+        if key == *other {
+            return true;
+        }
+    }
+    false
+}

@@ -1,0 +1,113 @@
+//! Moves of several cursors past documents that one of them alone has.
+
+ghost use Rattle.std.specs.Prelude.{◌+◌, ◌<◌, ◌≡◌, ◌≤◌, length, map, max, min, ℕ};
+ghost use Rattle.docsets.specs.Entries.{first, from};
+ghost use Rattle.definitions.specs.Postings.{terminated};
+ghost use Rattle.docsets.specs.Members.{entries_at, least};
+ghost use Rattle.scorers.specs.TwoLeast.{AreTwoLeast};
+
+use common::{DocId, TERMINATED};
+use docsets::{DocSet, Leader};
+
+/// The least document on which cursors stand, the least document of the others, which may be the same, and the place of
+/// the first that stands on the least.
+#[derive(Clone, Copy, Debug)]
+pub(crate) struct TwoLeast {
+    pub(crate) doc: DocId,
+    pub(crate) next: DocId,
+    pub(crate) place: usize,
+}
+
+impl TwoLeast {
+    /// Those of no cursor.
+    #[inline]
+    fn none() -> TwoLeast
+        ensures doc { result.doc ≡ terminated }
+        ensures next { result.next ≡ terminated }
+        ensures place { result.place ≡ 0 }
+    {
+        TwoLeast {
+            doc: TERMINATED,
+            next: TERMINATED,
+            place: 0,
+        }
+    }
+
+    /// Those beside one more cursor, at a place, which stands on a document. No branch depends on the documents, since
+    /// many would be mispredicted.
+    #[inline]
+    fn beside(self, place: usize, doc: DocId) -> TwoLeast
+        ensures least { result.doc ≡ min self.doc doc }
+        ensures next { result.next ≡ min self.next (max self.doc doc) }
+        ensures before { doc < self.doc → result.place ≡ place }
+        ensures behind { self.doc ≤ doc → result.place ≡ self.place }
+    {
+        TwoLeast {
+            doc: self.doc.min(doc),
+            next: self.next.min(self.doc.max(doc)),
+            place: if doc < self.doc { place } else { self.place },
+        }
+    }
+}
+
+/// The two least documents on which cursors stand.
+fn two_least<D: DocSet>(docsets: &Vec<D>) -> TwoLeast
+    ensures { AreTwoLeast (map D.entries docsets.now.items) result }
+{
+    let mut two = TwoLeast::none();
+    for i in 0..docsets.len() {
+        two = two.beside(i, docsets[i].doc());
+    }
+    two
+}
+
+/// Moves a cursor to the first document that isn't below a target, which is past its own. The next is tried first.
+#[inline]
+fn advance_to<D: DocSet>(docset: &mut D, target: DocId)
+    requires ahead { first (D.entries docset.old) < target }
+    requires small { target ≤ terminated }
+    ensures { D.entries docset.new ≡ from target (D.entries docset.old) }
+{
+    if docset.advance() < target {
+        docset.seek(target);
+    }
+}
+
+/// How many cursors stand on the least document.
+fn count_least<D: DocSet>(docsets: &Vec<D>, two: TwoLeast) -> usize
+    requires { AreTwoLeast (map D.entries docsets.now.items) two }
+    ensures { two.doc < terminated → result ≡ length (entries_at two.doc (map D.entries docsets.now.items)) }
+{
+    let mut count = 0;
+    for i in two.place..docsets.len() {
+        count += (docsets[i].doc() == two.doc) as usize;
+    }
+    count
+}
+
+/// Moves past all documents that one cursor alone has, and answers the first that several have, and how many have it, or
+/// another number if both are at least the minimum. They are counted where two of them aren't enough.
+pub(crate) fn past_alone<D: DocSet>(docsets: &mut Vec<D>, minimum: usize) -> Leader
+    requires { 2 ≤ minimum }
+    ensures moved { map D.entries docsets.new.items ≡ map (from result.doc) (map D.entries docsets.old.items) }
+    ensures few { (d : ℕ) → d < result.doc → length (entries_at d (map D.entries docsets.old.items)) ≤ 1 }
+    ensures least { result.doc ≡ least (map D.entries docsets.new.items) }
+    ensures count { result.doc < terminated → min minimum result.count
+        ≡ min minimum (length (entries_at result.doc (map D.entries docsets.new.items))) }
+    ensures several { result.doc < terminated → 2 ≤ length (entries_at result.doc (map D.entries docsets.new.items)) }
+{
+    let mut two = two_least(docsets);
+    while two.doc < two.next {
+        advance_to(&mut docsets[two.place], two.next);
+        two = two_least(docsets);
+    }
+    let count = if minimum == 2 {
+        2
+    } else {
+        count_least(docsets, two)
+    };
+    Leader {
+        doc: two.doc,
+        count,
+    }
+}

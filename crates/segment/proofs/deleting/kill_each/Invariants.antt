@@ -1,6 +1,0 @@
-use Rattle.std.proofs.Common.{take, ◌≡◌}
-use Rattle.segment.specs.Killed.{killed}
-use Rattle.segment.proofs.deleting.kill_each.Given as goal
-
-abbrev pub invariant-loop-doc : goal.invariant-loop-doc
-invariant-loop-doc l = l.alive ≡ killed (take l.doc-index l.docs) l.fn.alive

@@ -1,0 +1,10 @@
+use Rattle.std.proofs.Common.{ap, map, sym, ◌∙◌}
+use Rattle.segment.proofs.Counts.{mapped_twice, take_whole}
+use Rattle.segment.specs.Members.{member_of}
+use Rattle.segment.specs.Slots.{with_blocks}
+use Rattle.segment.proofs.merged_slots.member_stores.Goals as goal
+
+pub returns : goal.returns
+returns c =
+    let ms = c.args.members.now in
+    c.loop-member.invariant ∙ ap (map (λ m. with_blocks (member_of m))) (take_whole c.loop-member.member-index ms c.loop-member-test.false) ∙ sym (mapped_twice member_of with_blocks ms)

@@ -1,0 +1,33 @@
+use Rattle.std.proofs.Common.{ap, arith, length, ◌∙◌, ◌≡◌}
+use Rattle.segment_definitions.specs.Segments.{Sections, segment_bytes}
+use Rattle.segment_definitions.specs.Slots.{slots}
+use Rattle.segment.proofs.Adding.{docs_counted}
+use Rattle.store.proofs.SlotLaws.{slots_kept}
+use Rattle.store.specs.Writing.{blocks_of}
+use Rattle.segment.proofs.segment_writer.SegmentWriter.close.Goals as goal
+
+pub returns-clause-ok : goal.returns-clause-ok
+returns-clause-ok c analyze block_size docs h =
+    let schema = c.args.schema.now in
+    let w = c.args.self.store in
+    let count : c.num_docs-num_docs.result ≡ length docs = c.num_docs-num_docs.ensures.count ∙ docs_counted w schema docs h.stored in
+    let asked = c.num_docs-num_docs.ensures.count ∙ docs_counted w schema c.requires.2 c.requires.3.stored in
+    let some = c.requires.4 in
+    let sections : Sections = record { terms = c.in_ok-terms.terms.items; postings = c.in_ok-terms.postings.items; positions = c.in_ok-terms.positions.items; norms = c.in_ok-terms.norms.items; store = c.in_ok-close.field-0.items } in
+    let terms = c.in_ok-terms.ensures.ok analyze docs h.indexed in
+    let kept = slots_kept w.blocks w.pending (slots schema docs) w.block_size c.num_docs-num_docs.ensures.valid h.stored in
+    record {
+      sections = sections;
+      fields = terms.0;
+      taken = h.taken;
+      written = record {
+        some = omega (arith, count, asked, some);
+        few = h.few;
+        short = c.in_ok-into_segment.ensures.short;
+        whole = c.in_ok-into_segment.ensures.whole ∙ ap (λ n. segment_bytes n sections) count;
+      };
+      terms_are = terms.1;
+      indexed = terms.2;
+      norms_are = c.in_ok-terms.ensures.lengths analyze docs h.indexed;
+      store_is = (blocks_of w, kept.0, kept.1, c.in_ok-close.ensures);
+    }

@@ -1,0 +1,13 @@
+use Rattle.std.proofs.Common.{[], ap, arith, refl, subst, sym}
+use Rattle.store.specs.Writing.{HoldsSlots, Written}
+use Rattle.segment.proofs.segment_writer.SegmentWriter.new.Goals as goal
+
+pub returns : goal.returns
+returns c analyze =
+    record {
+      taken = tt;
+      few = omega arith;
+      indexed = c.in_ok-for_schema.ensures analyze;
+      stored = subst (λ (w : Written). HoldsSlots w []) (sym c.new.ensures) ([], refl, refl);
+      sized = ap (λ (w : Written). w.block_size) c.new.ensures;
+    }

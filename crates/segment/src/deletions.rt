@@ -1,0 +1,55 @@
+//! Deletions of the documents that hold a term.
+
+ghost use Rattle.std.specs.Prelude.{◌<◌, ◌≡◌, List, length, map};
+ghost use Rattle.std.specs.List.{AllByRecursion};
+ghost use Rattle.definitions.specs.Analyzers.{Analyzer};
+ghost use Rattle.definitions.specs.Recorded.{holds};
+ghost use Rattle.definitions.specs.Schema.{Schema};
+ghost use Rattle.definitions.specs.Values.{Document};
+ghost use Rattle.segment.specs.Killed.{killed};
+ghost use Rattle.segment.specs.Opened.{IsOpened, StandsFor, num_docs_of};
+ghost use Rattle.segment_definitions.specs.Rows.{flagged, struck};
+ghost use Rattle.segment_postings.specs.Cursors.{docs_left};
+
+use crate::segment::Segment;
+use common::{AliveBitSet, DocId};
+use options::IndexRecordOption;
+use segment_postings::BlockSegmentPostings;
+use terms::Term;
+
+/// Lets the documents of a segment be dead that hold a term, whatever their counts. The others stay as they are.
+pub fn delete_in(segment: &Segment, term: &Term, alive: &mut AliveBitSet)
+    requires flagged { length alive.old ≡ num_docs_of segment.now }
+    requires opened { ∥ ((schema : Schema) × IsOpened schema segment.now) ∥₁ }
+    ensures dead { (schema : Schema) (analyze : Analyzer) (docs : List Document)
+        → StandsFor schema analyze docs segment.now
+        → flagged docs alive.new ≡ map (struck (holds schema analyze term.now)) (flagged docs alive.old) }
+    ensures long { length alive.new ≡ length alive.old }
+{
+    let index = segment.inverted_index();
+    if let Some(postings) = index.read_block_postings(term, IndexRecordOption::Basic) {
+        kill_postings(postings, alive);
+    }
+}
+
+/// Lets the documents of postings be dead.
+fn kill_postings(postings: BlockSegmentPostings<'_>, alive: &mut AliveBitSet)
+    requires { AllByRecursion (λ doc. doc < length alive.old) (docs_left postings) }
+    ensures { alive.new ≡ killed (docs_left postings.entry) alive.old }
+{
+    let mut left = postings;
+    while left.block_len() > 0 {
+        kill_each(left.docs(), alive);
+        left.advance();
+    }
+}
+
+/// Lets documents be dead.
+fn kill_each(docs: &[DocId], alive: &mut AliveBitSet)
+    requires { AllByRecursion (λ doc. doc < length alive.old) docs.now }
+    ensures { alive.new ≡ killed docs.now alive.old }
+{
+    for doc in docs {
+        alive.kill(*doc);
+    }
+}

@@ -1,0 +1,52 @@
+//! The members of a merge, which are lent.
+
+ghost use Rattle.std.specs.Prelude.{◌≡◌, IfOk, length, map};
+ghost use Rattle.std.specs.List.{zip};
+ghost use Rattle.segment.specs.Members.{member_of};
+
+use crate::Segment;
+use common::AliveBitSet;
+use std::alloc::{AllocError, Global};
+
+/// A member of a merge: a segment, and which of its documents are alive.
+#[derive(Drop)]
+pub(crate) struct MemberSegment<'a> {
+    pub(crate) segment: &'a Segment,
+    pub(crate) alive: &'a AliveBitSet,
+}
+
+/// The members in a list of pairs.
+pub(crate) fn members_of_pairs<'a>(
+    alloc: Global,
+    pairs: &'a [(Segment, AliveBitSet)],
+) -> Result<Vec<MemberSegment<'a>>, AllocError>
+    ensures { IfOk result (λ members. map member_of members.items ≡ pairs.now) }
+{
+    let mut members = Vec::with_capacity(alloc, pairs.len())?;
+    for pair in pairs {
+        members.push(MemberSegment {
+            segment: &pair.0,
+            alive: &pair.1,
+        })?;
+    }
+    Ok(members)
+}
+
+/// The members of segments, each with the set of the same place.
+pub(crate) fn members_of_lists<'a>(
+    alloc: Global,
+    segments: &'a [Segment],
+    sets: &'a [AliveBitSet],
+) -> Result<Vec<MemberSegment<'a>>, AllocError>
+    requires { length segments.now ≡ length sets.now }
+    ensures { IfOk result (λ members. map member_of members.items ≡ zip segments.now sets.now) }
+{
+    let mut members = Vec::with_capacity(alloc, segments.len())?;
+    for place in 0..segments.len() {
+        members.push(MemberSegment {
+            segment: &segments[place],
+            alive: &sets[place],
+        })?;
+    }
+    Ok(members)
+}

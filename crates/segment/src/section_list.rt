@@ -1,0 +1,73 @@
+//! The sections of a segment, written one behind the other.
+
+ghost use Rattle.std.specs.Prelude.{◌++◌, ◌<◌, ◌^◌, ◌≡◌, ◌≤◌, IfOk, OnOk, drop, length};
+ghost use Rattle.segment_definitions.specs.Segments.{Sections, section_bytes, segment_bytes};
+ghost use Rattle.segment.specs.Written.{sections_of};
+
+use common::{put_u32, put_u64};
+use std::alloc::{AllocError, Global};
+
+/// The five sections of a segment.
+#[derive(Drop)]
+pub struct Sections {
+    pub terms: Vec<u8>,
+    pub postings: Vec<u8>,
+    pub positions: Vec<u8>,
+    pub norms: Vec<u8>,
+    pub store: Vec<u8>,
+}
+
+impl Sections {
+    /// The bytes of a segment of so many documents with these sections. Each section but the store is let go when it is
+    /// copied, and what stands before the store is put in front of it within its own memory: at no time are the
+    /// segment's bytes held twice.
+    pub fn into_segment(self, alloc: Global, num_docs: u32) -> Result<Vec<u8>, AllocError>
+        ensures whole { IfOk result (λ bytes. bytes.items ≡ segment_bytes num_docs (sections_of self)) }
+        ensures short { IfOk result (λ bytes. length bytes.items < 2 ^ 64) }
+    {
+        let Sections {
+            terms,
+            postings,
+            positions,
+            norms,
+            store,
+        } = self;
+        let mut front = Vec::new(alloc);
+        put_u32(&mut front, num_docs)?;
+        put_section(&mut front, terms)?;
+        put_section(&mut front, postings)?;
+        put_section(&mut front, positions)?;
+        put_section(&mut front, norms)?;
+        put_u64(&mut front, store.len() as u64)?;
+        let mut bytes = store;
+        put_front(&mut bytes, &front)?;
+        Ok(bytes)
+    }
+}
+
+/// Appends a section behind its length, and lets it go.
+fn put_section(out: &mut Vec<u8>, section: Vec<u8>) -> Result<(), AllocError>
+    ensures { OnOk result (out.new.items ≡ out.old.items ++ section_bytes section.items) }
+{
+    put_u64(out, section.len() as u64)?;
+    out.extend_from_slice(&section)
+}
+
+/// Puts bytes in front of others.
+fn put_front(bytes: &mut Vec<u8>, front: &[u8]) -> Result<(), AllocError>
+    ensures { OnOk result (bytes.new.items ≡ front.now ++ bytes.old.items) }
+{
+    let len = bytes.len();
+    bytes.resize(front.len() + len, 0)?;
+    bytes.copy_within(0..len, front.len());
+    overwrite_front(bytes, front);
+    Ok(())
+}
+
+/// Writes bytes over the first of others.
+fn overwrite_front(bytes: &mut Vec<u8>, front: &[u8])
+    requires { length front.now ≤ length bytes.old.items }
+    ensures { bytes.new.items ≡ front.now ++ drop (length front.now) bytes.old.items }
+{
+    bytes[0..front.len()].copy_from_slice(front);
+}

@@ -1,0 +1,118 @@
+//! A segment while it is written.
+
+ghost use Rattle.std.specs.Prelude.{[], ◌++◌, ◌<◌, ◌∷◌, ◌≡◌, IfErr, IfOk, List, OnErr, OnOk, length, ℕ};
+ghost use Rattle.definitions.specs.Analyzers as definitions;
+ghost use Rattle.definitions.specs.KeptLengths.{norms_of};
+ghost use Rattle.definitions.specs.Postings.{postings};
+ghost use Rattle.definitions.specs.Schema as schemas;
+ghost use Rattle.definitions.specs.Values.{Document};
+ghost use Rattle.postings_writer.specs.Limits.{IsSerializeRefusal};
+ghost use Rattle.segment_definitions.specs.Segments.{IsSegmentOf, IsTaken};
+ghost use Rattle.segment.specs.Writers.{HasWritten, IsAddRefusal, IsWithin, PassesStore};
+
+use crate::section_list::Sections;
+use common::{Analyzer, TERMINATED};
+use definitions::Fault;
+use document::CompactDoc;
+use document_indexer::DocumentIndexer;
+use schema::Schema;
+use std::alloc::{AllocError, Global};
+use store::StoreWriter;
+
+/// A segment while it is written: the documents' terms and lengths, and the slots of their stored values. Each call is
+/// given the schema and the analyzer that all of them are indexed by.
+#[derive(Drop)]
+pub struct SegmentWriter {
+    alloc: Global,
+    indexer: DocumentIndexer,
+    store: StoreWriter,
+}
+
+impl SegmentWriter {
+    /// No document yet. A block of the store is closed when its documents' bytes come over the block size.
+    pub fn new(
+        alloc: Global,
+        schema: &Schema,
+        block_size: usize,
+    ) -> Result<SegmentWriter, AllocError>
+        ensures { (analyze : definitions.Analyzer)
+            → IfOk result (λ writer. HasWritten schema.now analyze block_size writer []) }
+    {
+        Ok(SegmentWriter {
+            alloc,
+            indexer: DocumentIndexer::for_schema(alloc, schema)?,
+            store: StoreWriter::new(alloc, block_size),
+        })
+    }
+
+    /// Adds a document. Where its slot would pass a limit of the store, the writer stays as it was; after each other
+    /// refusal it is of no use.
+    pub fn add<A: Analyzer>(
+        &mut self,
+        schema: &Schema,
+        analyzer: &A,
+        doc: &CompactDoc,
+    ) -> Result<(), Fault>
+        requires taken { IsTaken schema.now doc.now }
+        requires written { (block_size : ℕ) × (docs : List Document)
+            × HasWritten schema.now (A.analyze analyzer.now) block_size self.old docs }
+        ensures ok { (block_size : ℕ) (docs : List Document)
+            → HasWritten schema.now (A.analyze analyzer.now) block_size self.old docs
+            → OnOk result (HasWritten schema.now (A.analyze analyzer.now) block_size self.new (docs ++ doc.now ∷ [])) }
+        ensures within { (block_size : ℕ) (docs : List Document)
+            → HasWritten schema.now (A.analyze analyzer.now) block_size self.old docs
+            → OnOk result (IsWithin schema.now (A.analyze analyzer.now) block_size docs doc.now) }
+        ensures err { (block_size : ℕ) (docs : List Document)
+            → HasWritten schema.now (A.analyze analyzer.now) block_size self.old docs
+            → IfErr result (λ fault. IsAddRefusal fault schema.now (A.analyze analyzer.now) block_size docs doc.now) }
+        ensures unchanged { (block_size : ℕ) (docs : List Document)
+            → HasWritten schema.now (A.analyze analyzer.now) block_size self.old docs
+            → PassesStore schema.now block_size docs doc.now → OnErr result (self.new ≡ self.old) }
+    {
+        if self.store.num_docs() >= TERMINATED {
+            return Err(Fault::Limit);
+        }
+        self.store.store(self.alloc, doc, schema)?;
+        self.indexer.add(schema, analyzer, doc)?;
+        Ok(())
+    }
+
+    /// How many documents were added.
+    pub fn num_docs(&self) -> u32
+        ensures { (schema : schemas.Schema) (analyze : definitions.Analyzer) (block_size : ℕ) (docs : List Document)
+            → HasWritten schema analyze block_size self.now docs → result ≡ length docs }
+    {
+        self.store.num_docs()
+    }
+
+    /// The bytes of the segment of these documents.
+    pub fn close(self, schema: &Schema) -> Result<Vec<u8>, Fault>
+        requires { (analyze : definitions.Analyzer) × (block_size : ℕ) × (docs : List Document)
+            × HasWritten schema.now analyze block_size self docs × (0 < length docs) }
+        ensures ok { (analyze : definitions.Analyzer) (block_size : ℕ) (docs : List Document)
+            → HasWritten schema.now analyze block_size self docs
+            → IfOk result (λ bytes. IsSegmentOf schema.now analyze docs bytes.items) }
+        ensures err { (analyze : definitions.Analyzer) (block_size : ℕ) (docs : List Document)
+            → HasWritten schema.now analyze block_size self docs
+            → IfErr result (λ fault. IsSerializeRefusal fault schema.now (norms_of schema.now analyze docs)
+            (λ t. postings schema.now analyze t docs)) }
+    {
+        let SegmentWriter {
+            alloc,
+            indexer,
+            store,
+        } = self;
+        let num_docs = store.num_docs();
+        let (terms, postings, positions, norms) = indexer.serialize(alloc, schema)?;
+        // What was recorded is let go before the bytes of the segment are put together.
+        drop(indexer);
+        let sections = Sections {
+            terms,
+            postings,
+            positions,
+            norms,
+            store: store.close(alloc)?,
+        };
+        Ok(sections.into_segment(alloc, num_docs)?)
+    }
+}

@@ -1,7 +1,0 @@
--- What is written and what is left make the whole.
-use Rattle.std.proofs.Common.{◌++◌, ◌≡◌, flat_map, drop}
-use Rattle.layouts.specs.AliveSets.{alive_bytes}
-use Rattle.segment_bodies.proofs.body_writer.put_sets.Given as goal
-
-abbrev pub invariant-loop-set : goal.invariant-loop-set
-invariant-loop-set l = l.out.items ++ flat_map alive_bytes (drop l.set-index l.alive) ≡ l.fn.out.items ++ flat_map alive_bytes l.alive

@@ -1,5 +1,0 @@
-use Rattle.segment_bodies.proofs.FilesCut.{not_taken}
-use Rattle.segment_bodies.proofs.file_laws.bodies_of_documents_are_not_taken.Goals as goal
-
-pub returns : goal.returns
-returns c = not_taken

@@ -1,8 +1,0 @@
--- The places that are left decide.
-use Rattle.std.proofs.Common.{◌≡◌, drop, map}
-use Rattle.segment_bodies.specs.Parts.{part_of}
-use Rattle.segment_bodies.specs.Places.{places_rise}
-use Rattle.segment_bodies.proofs.places.places_follow.Given as goal
-
-abbrev pub invariant-loop-part : goal.invariant-loop-part
-invariant-loop-part l = places_rise l.least l.len_before (map part_of (drop l.part-index l.parts)) ≡ places_rise 0 l.len_before (map part_of l.parts)

@@ -1,0 +1,10 @@
+-- How segments and the records that list them stand as bytes.
+pub mod Slots
+pub mod Segments
+pub mod SegmentBodies
+pub mod SegmentFiles
+pub mod SegmentExamples
+-- The lists that an index over segments stands on: documents that may be dead, and what waits for a commit.
+pub mod Rows
+pub mod Waiting
+pub mod Found

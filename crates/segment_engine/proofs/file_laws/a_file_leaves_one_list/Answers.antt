@@ -1,5 +1,0 @@
-use Rattle.segment_engine.proofs.FileSayings.{one_list}
-use Rattle.segment_engine.proofs.file_laws.a_file_leaves_one_list.Goals as goal
-
-pub returns : goal.returns
-returns c schema fields settings numbers members others bytes first second = one_list schema fields settings numbers members others bytes first second

@@ -1,5 +1,0 @@
-use Rattle.segment_lists.proofs.FoundLive.{best_is_scan}
-use Rattle.segment_lists.proofs.laws.the_best_over_segments_are_those_of_a_scan.Goals as goal
-
-pub returns : goal.returns
-returns c = best_is_scan

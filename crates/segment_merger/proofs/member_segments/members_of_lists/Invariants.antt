@@ -1,8 +1,0 @@
-use Rattle.std.proofs.Common.{map, take, ◌≡◌}
-use Rattle.std.specs.List.{zip}
-use Rattle.segment_merger.specs.Members.{member_of}
-use Rattle.segment_merger.proofs.member_segments.members_of_lists.Given as goal
-
--- the members so far
-abbrev pub invariant-loop-place : goal.invariant-loop-place
-invariant-loop-place l = map member_of l.members.items ≡ zip (take l.place l.segments) (take l.place l.sets)

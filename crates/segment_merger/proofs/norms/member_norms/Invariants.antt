@@ -1,7 +1,0 @@
-use Rattle.std.proofs.Common.{map, take, ◌≡◌}
-use Rattle.segment_merger.specs.Members.{member_of, with_lengths}
-use Rattle.segment_merger.proofs.norms.member_norms.Given as goal
-
--- the lengths of the members so far
-abbrev pub invariant-loop-member : goal.invariant-loop-member
-invariant-loop-member l = map (λ n. (n.norms, n.alive.now)) l.lengths.items ≡ map (λ m. with_lengths (member_of m)) (take l.member-index l.members)

@@ -1,0 +1,159 @@
+//! The positions of a term, checked.
+
+ghost use Rattle.std.specs.Prelude.{IfErr, IfNone, IfOk, IfSome, IsTrue, List, None, OnOk, ℕ, ◌+◌, ◌<◌, ◌^◌, ◌≡◌, ◌≤◌, ◌↔◌, drop, length, sum, take, true};
+ghost use Rattle.segment_postings.specs.Placed.{AreBounded, HasNumbers};
+ghost use Rattle.definitions.specs.Blocks.{block_len};
+ghost use Rattle.definitions.specs.declared.fault.Fault.TheVariants as faults;
+ghost use Rattle.segment_postings.specs.Cursors.{counts_left, docs_left};
+ghost use Rattle.segment_postings.specs.Reading.{HasPostings};
+
+use crate::BlockSegmentPostings;
+use definitions::Fault;
+use packed_blocks::COMPRESSION_BLOCK_SIZE;
+use positions::PositionReader;
+use skips::Recorded;
+
+/// Checks the positions of a term whose postings are known, with the sum of its counts.
+pub(crate) fn check_positions(
+    postings: &[u8],
+    positions: &[u8],
+    doc_freq: u32,
+    total: u64,
+) -> Result<(), Fault>
+    requires { ∥ ((docs counts : List ℕ) × HasPostings true true doc_freq postings.now docs counts × (total ≡ sum counts)) ∥₁ }
+    ensures ok { OnOk result ((docs counts : List ℕ) → HasPostings true true doc_freq postings.now docs counts → HasNumbers counts positions.now) }
+    ensures err { IfErr result (λ fault. (fault ≡ faults.Damaged None) × ((docs counts : List ℕ) → HasPostings true true doc_freq postings.now docs counts → HasNumbers counts positions.now → ⊥)) }
+{
+    let mut reader = PositionReader::open(positions)?;
+    let recorded = Recorded {
+        counts: true,
+        positions: true,
+    };
+    let mut blocks = BlockSegmentPostings::new(postings, doc_freq, recorded, true, false);
+    if reader.num_positions() != total as u128 {
+        return Err(Fault::Damaged(None));
+    }
+    if !are_bounded(&mut blocks, &mut reader) {
+        return Err(Fault::Damaged(None));
+    }
+    Ok(())
+}
+
+/// Whether each document's positions are below 2^31, where there are as many as the counts say.
+fn are_bounded(blocks: &mut BlockSegmentPostings, reader: &mut PositionReader) -> bool
+    requires same { length (counts_left blocks.old) ≡ length (docs_left blocks.old) }
+    requires many { sum (counts_left blocks.old) ≡ length reader.old }
+    requires few { sum (counts_left blocks.old) < 2 ^ 64 }
+    ensures { IsTrue result ↔ AreBounded (counts_left blocks.old) reader.old }
+{
+    let mut place = 0;
+    let mut room = [0; COMPRESSION_BLOCK_SIZE];
+    while blocks.block_len() > 0 {
+        match block_end(blocks.freqs(), reader, place, &mut room) {
+            Some(end) => place = end,
+            None => return false,
+        }
+        blocks.advance();
+    }
+    true
+}
+
+/// Where the positions of a block's documents end that begin at a place, where each document's are below 2^31.
+/// Mostly the numbers of the whole block have a sum below that, which one walk over them tells.
+fn block_end(
+    counts: &[u32],
+    reader: &mut PositionReader,
+    place: u64,
+    room: &mut [u32; COMPRESSION_BLOCK_SIZE],
+) -> Option<u64>
+    requires block { length counts.now ≤ block_len }
+    requires within { place + sum counts.now ≤ length reader.old }
+    requires few { place + sum counts.now < 2 ^ 64 }
+    ensures some { IfSome result (λ end. AreBounded counts.now (drop place reader.old) × (end ≡ place + sum counts.now)) }
+    ensures none { IfNone result (AreBounded counts.now (drop place reader.old) → ⊥) }
+    ensures same { reader.new ≡ reader.old }
+{
+    let count = sum_of(counts);
+    if is_bounded(reader, place, count, room) {
+        return Some(place + count);
+    }
+    bounded_end(counts, reader, place, room)
+}
+
+/// The same, by a sum for each document.
+fn bounded_end(
+    counts: &[u32],
+    reader: &mut PositionReader,
+    place: u64,
+    room: &mut [u32; COMPRESSION_BLOCK_SIZE],
+) -> Option<u64>
+    requires within { place + sum counts.now ≤ length reader.old }
+    requires few { place + sum counts.now < 2 ^ 64 }
+    ensures some { IfSome result (λ end. AreBounded counts.now (drop place reader.old) × (end ≡ place + sum counts.now)) }
+    ensures none { IfNone result (AreBounded counts.now (drop place reader.old) → ⊥) }
+    ensures same { reader.new ≡ reader.old }
+{
+    let mut end = place;
+    for count in counts {
+        if !is_bounded(reader, end, u64::from(*count), room) {
+            return None;
+        }
+        end += u64::from(*count);
+    }
+    Some(end)
+}
+
+/// Whether the sum of `count` numbers from a place on is below 2^31.
+fn is_bounded(
+    reader: &mut PositionReader,
+    place: u64,
+    count: u64,
+    room: &mut [u32; COMPRESSION_BLOCK_SIZE],
+) -> bool
+    requires within { place + count ≤ length reader.old }
+    requires few { place + count < 2 ^ 64 }
+    ensures value { IsTrue result ↔ (sum (take count (drop place reader.old)) < 2 ^ 31) }
+    ensures same { reader.new ≡ reader.old }
+{
+    let mut done: u64 = 0;
+    let mut total: u64 = 0;
+    while done < count {
+        let len = (count - done).min(COMPRESSION_BLOCK_SIZE as u64);
+        total += sum_at(reader, place + done, len as usize, room);
+        if total >= 1 << 31 {
+            return false;
+        }
+        done += len;
+    }
+    true
+}
+
+/// The sum of `len` numbers from a place on.
+fn sum_at(
+    reader: &mut PositionReader,
+    place: u64,
+    len: usize,
+    room: &mut [u32; COMPRESSION_BLOCK_SIZE],
+) -> u64
+    requires few { len ≤ block_len }
+    requires within { place + len ≤ length reader.old }
+    ensures value { result ≡ sum (take len (drop place reader.old)) }
+    ensures small { result ≤ 549755813760 }
+    ensures same { reader.new ≡ reader.old }
+{
+    reader.read(place, &mut room[..len]);
+    sum_of(&room[..len])
+}
+
+/// The sum of at most 128 numbers.
+fn sum_of(numbers: &[u32]) -> u64
+    requires { length numbers.now ≤ block_len }
+    ensures value { result ≡ sum numbers.now }
+    ensures small { result ≤ 549755813760 }
+{
+    let mut total = 0;
+    for number in numbers {
+        total += u64::from(*number);
+    }
+    total
+}

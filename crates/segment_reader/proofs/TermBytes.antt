@@ -1,0 +1,140 @@
+-- The bytes of terms and of fields, one after another, and where they end.
+use Rattle.std.proofs.Common.{[], List, ap, append_assoc, arith, drop, false, flat_map, length, length-append, length-drop, map, refl, sym, true, ◌++◌, ◌+◌, ◌<◌, ◌≡◌, ◌≤◌, ◌∙◌, ◌∷◌, ◌^◌, Bool, nat_lt, ℕ}
+use Rattle.std.proofs.Math.Seq.{drop-append_seam}
+use Rattle.std.proofs.lemmas.List.{drop-drop}
+use Rattle.std.proofs.lemmas.Bool.Decides.{nat_tests}
+use Rattle.std.specs.List.{AllByRecursion}
+use Rattle.common.proofs.VintDigits.{vint_high, vint_low}
+use Rattle.definitions.specs.NumberCodes.{sized_bytes, vint_bytes}
+use Rattle.layouts.specs.InvertedIndexes.{IndexedField, IndexedTerm, field_terms, lengths_of}
+use Rattle.layouts.specs.TermSections.{FieldTerms, TermsAscend, entry_of_term, field_terms_bytes}
+use Rattle.segment_reader.proofs.TermsLoop.{ends_grow}
+use Rattle.segment_reader.specs.TakenTerms.{Told}
+use Rattle.segment_reader.specs.TermPlaces.{AreFields, EntryFits, IsReadField, behind, end_of, field_end, fields_end, first_in, header_of}
+use Rattle.segment_reader.specs.declared.term_starts.TermStart.{TermStart}
+
+-- ---- words
+
+-- what the section of terms tells of terms
+abbrev pub told_of : List IndexedTerm → List Told
+told_of xs = map lengths_of xs
+
+-- the bytes of their postings and of their positions
+abbrev pub postings_of : List IndexedTerm → List ℕ
+postings_of xs = flat_map (λ (x : IndexedTerm). x.postings_bytes) xs
+
+abbrev pub positions_of : List IndexedTerm → List ℕ
+positions_of xs = flat_map (λ (x : IndexedTerm). x.positions_bytes) xs
+
+-- the same of fields
+abbrev pub all_postings : List IndexedField → List ℕ
+all_postings fields = flat_map (λ (f : IndexedField). flat_map (λ (x : IndexedTerm). x.postings_bytes) f.terms) fields
+
+abbrev pub all_positions : List IndexedField → List ℕ
+all_positions fields = flat_map (λ (f : IndexedField). flat_map (λ (x : IndexedTerm). x.positions_bytes) f.terms) fields
+
+-- places are equal where their parts are
+pub same_place : (a b : TermStart) → a.entry ≡ b.entry → a.postings ≡ b.postings → a.positions ≡ b.positions → a ≡ b
+same_place a b entry postings positions =
+    ap (λ n. record { entry = n; postings = a.postings; positions = a.positions }) entry
+    ∙ ap (λ n. record { entry = b.entry; postings = n; positions = a.positions }) postings
+    ∙ ap (λ n. record { entry = b.entry; postings = b.postings; positions = n }) positions
+
+-- what follows a piece
+pub rest_there : (n : ℕ) (xs a b : List ℕ) → drop n xs ≡ a ++ b → drop (n + length a) xs ≡ b
+rest_there n xs a b is = sym (drop-drop (length a) n xs) ∙ ap (drop (length a)) is ∙ drop-append_seam a b
+
+-- ---- where terms end
+
+pub end_entry : (at : TermStart) (ts : List Told) → (end_of at ts).entry ≡ at.entry + length (flat_map entry_of_term ts)
+end_entry at [] = omega arith
+end_entry at (t ∷ ts) = (let later = end_entry (behind at t) ts in omega (arith, later, length-append (entry_of_term t) (flat_map entry_of_term ts)))
+
+pub end_postings : (at : TermStart) (xs : List IndexedTerm) → (end_of at (told_of xs)).postings ≡ at.postings + length (postings_of xs)
+end_postings at [] = omega arith
+end_postings at (x ∷ xs) = (let later = end_postings (behind at (lengths_of x)) xs in omega (arith, later, length-append x.postings_bytes (postings_of xs)))
+
+pub end_positions : (at : TermStart) (xs : List IndexedTerm) → (end_of at (told_of xs)).positions ≡ at.positions + length (positions_of xs)
+end_positions at [] = omega arith
+end_positions at (x ∷ xs) = (let later = end_positions (behind at (lengths_of x)) xs in omega (arith, later, length-append x.positions_bytes (positions_of xs)))
+
+-- ---- where fields end
+
+pub field_entry : (at : TermStart) (f : FieldTerms) → (field_end at f).entry ≡ at.entry + length (field_terms_bytes f)
+field_entry at f = (let last = end_entry (first_in at f) f.terms in omega (arith, last, length-append (header_of f) (flat_map entry_of_term f.terms)))
+
+pub fields_entry : (at : TermStart) (fs : List FieldTerms) → (fields_end at fs).entry ≡ at.entry + length (flat_map field_terms_bytes fs)
+fields_entry at [] = omega arith
+fields_entry at (f ∷ fs) = (let later = fields_entry (field_end at f) fs in omega (arith, later, field_entry at f, length-append (field_terms_bytes f) (flat_map field_terms_bytes fs)))
+
+pub fields_postings : (at : TermStart) (fields : List IndexedField) → (fields_end at (map field_terms fields)).postings ≡ at.postings + length (all_postings fields)
+fields_postings at [] = omega arith
+fields_postings at (f ∷ fields) = (let later = fields_postings (field_end at (field_terms f)) fields in omega (arith, later, end_postings (first_in at (field_terms f)) f.terms, length-append (postings_of f.terms) (all_postings fields)))
+
+pub fields_positions : (at : TermStart) (fields : List IndexedField) → (fields_end at (map field_terms fields)).positions ≡ at.positions + length (all_positions fields)
+fields_positions at [] = omega arith
+fields_positions at (f ∷ fields) = (let later = fields_positions (field_end at (field_terms f)) fields in omega (arith, later, end_positions (first_in at (field_terms f)) f.terms, length-append (positions_of f.terms) (all_positions fields)))
+
+pub fields_grow : (at : TermStart) (fs : List FieldTerms) → (at.postings ≤ (fields_end at fs).postings) × (at.positions ≤ (fields_end at fs).positions)
+fields_grow at [] = (omega arith, omega arith)
+fields_grow at (f ∷ fs) =
+    let here = ends_grow (first_in at f) f.terms in
+    let later = fields_grow (field_end at f) fs in
+    (omega (arith, here.0, later.0), omega (arith, here.1, later.1))
+
+-- ---- fields as they stand
+
+-- a number takes at least a byte
+vint_some : (n : ℕ) → 0 < length (vint_bytes n)
+vint_some n = go (nat_lt n 128) refl
+  where
+    go : (b : Bool) → nat_lt n 128 ≡ b → 0 < length (vint_bytes n)
+    go true e = (let h : n < 128 = grind (arith, nat_tests) in omega (arith, ap length (vint_low n h)))
+    go false e = (let h : 128 ≤ n = grind (arith, nat_tests) in omega (arith, ap length (vint_high n h)))
+
+-- a term takes at least a byte
+terms_few : (ts : List Told) → length ts ≤ length (flat_map entry_of_term ts)
+terms_few [] = omega arith
+terms_few (t ∷ ts) =
+    let b = vint_bytes t.1.positions_len in
+    let a = sized_bytes t.0 ++ vint_bytes t.1.doc_freq ++ vint_bytes t.1.postings_len in
+    omega (arith, terms_few ts, vint_some t.1.positions_len, length-append a b, length-append (entry_of_term t) (flat_map entry_of_term ts))
+
+-- ascending terms, whose numbers fit
+pub record FieldFits (f : FieldTerms) : Type 0 where
+  pub ascend : TermsAscend (map (λ (t : Told). t.0) f.terms)
+  pub tokens_fit : f.num_tokens < 2 ^ 64
+  pub fit : AllByRecursion EntryFits f.terms
+
+pub field_stands : (section : List ℕ) (at : TermStart) (p q : ℕ) (f : FieldTerms) (rest : List ℕ) → length section < 2 ^ 63 → at.entry ≤ length section → FieldFits f → drop at.entry section ≡ field_terms_bytes f ++ rest → (field_end at f).postings ≤ p → (field_end at f).positions ≤ q → IsReadField section at p q f (field_end at f)
+field_stands section at p q f rest short within fits is first second =
+    let h = header_of f in
+    let ts = flat_map entry_of_term f.terms in
+    let parts : drop at.entry section ≡ h ++ (ts ++ rest) = is ∙ append_assoc h ts rest in
+    let terms : drop (first_in at f).entry section ≡ ts ++ rest = rest_there at.entry section h (ts ++ rest) parts in
+    let last : drop (field_end at f).entry section ≡ rest = ap (λ k. drop k section) (end_entry (first_in at f) f.terms) ∙ rest_there (first_in at f).entry section ts rest terms in
+    let long : length section ≡ at.entry + length h + length ts + length rest = (let l = ap length parts in omega (arith, within, l, length-drop at.entry section, length-append h (ts ++ rest), length-append ts rest)) in
+    record {
+      header = record {
+        spelled = parts ∙ ap (λ xs. h ++ xs) (sym terms);
+        tokens_fit = fits.tokens_fit;
+        terms_fit = omega (arith, short, long, terms_few f.terms);
+        end_is = refl;
+        within = omega (arith, long);
+      };
+      read = record {
+        terms = record { spelled = terms ∙ ap (λ xs. ts ++ xs) (sym last); ascend = fits.ascend; fit = fits.fit; postings_end = first; positions_end = second };
+        end_is = refl;
+        within = omega (arith, long, end_entry (first_in at f) f.terms);
+      };
+    }
+
+pub fields_stand : (section : List ℕ) (at : TermStart) (p q : ℕ) (fs : List FieldTerms) (rest : List ℕ) → length section < 2 ^ 63 → at.entry ≤ length section → AllByRecursion FieldFits fs → drop at.entry section ≡ flat_map field_terms_bytes fs ++ rest → (fields_end at fs).postings ≤ p → (fields_end at fs).positions ≤ q → AreFields section at p q fs
+fields_stand section at p q [] rest short within fits is first second = tt
+fields_stand section at p q (f ∷ fs) rest short within fits is first second =
+    let after = flat_map field_terms_bytes fs ++ rest in
+    let here : drop at.entry section ≡ field_terms_bytes f ++ after = is ∙ append_assoc (field_terms_bytes f) (flat_map field_terms_bytes fs) rest in
+    let grow = fields_grow (field_end at f) fs in
+    let field = field_stands section at p q f after short within fits.0 here (omega (arith, grow.0, first)) (omega (arith, grow.1, second)) in
+    let last : drop (field_end at f).entry section ≡ after = ap (λ k. drop k section) (field_entry at f) ∙ rest_there at.entry section (field_terms_bytes f) after here in
+    (field, fields_stand section (field_end at f) p q fs rest short field.read.within fits.1 last first second)

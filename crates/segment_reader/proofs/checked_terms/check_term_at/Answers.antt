@@ -1,0 +1,13 @@
+use Rattle.std.proofs.Common.{IfOk, Result, refl, sym, ℕ}
+use Rattle.definitions.specs.declared.fault.Fault.{Fault}
+use Rattle.segment_reader.proofs.CheckedOnce.{one_checked}
+use Rattle.segment_reader.specs.CheckedTerms.{bytes_of}
+use Rattle.segment_reader.specs.TakenTerms.{entry_of}
+use Rattle.segment_reader.proofs.checked_terms.check_term_at.Goals as goal
+
+if_ok : {P Q : ℕ → Type 0} (r : Result ℕ Fault) → ((n : ℕ) → P n → Q n) → IfOk r P → IfOk r Q
+if_ok (Rattle.std.proofs.Common.Ok n) to p = to n p
+if_ok (Rattle.std.proofs.Common.Err e) to p = p
+
+pub returns-clause-ok : goal.returns-clause-ok
+returns-clause-ok c = if_ok c.check_term.result (λ total found. one_checked (bytes_of c.args.sections) c.args.start c.args.kind (entry_of c.entry_at-entry.result) _ c.args.num_docs _ _ _ found.0 total c.entry_at-entry.ensures c.option_of.ensures refl refl found.1 found.2 found.3) c.check_term.ensures.ok

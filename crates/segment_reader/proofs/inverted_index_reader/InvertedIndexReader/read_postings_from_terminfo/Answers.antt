@@ -1,0 +1,33 @@
+use Rattle.std.proofs.Common.{[], List, ap, subst, sym, ◌≡◌, ◌∙◌}
+use Rattle.std.proofs.Math.Logic.{∥∥₁_map}
+use Rattle.docsets.specs.Entries.{Entry, from}
+use Rattle.layouts.specs.InvertedIndexes.{field_ids}
+use Rattle.options.specs.RecordOption.{record_option_of}
+use Rattle.segment_reader.proofs.PostingsFound.{has_term, is_info, option_told}
+use Rattle.segment_reader.proofs.OpenedPostings.{entries_within}
+use Rattle.segment_reader.specs.OpenedTerms.{entries_of_postings}
+use Rattle.segment_reader.specs.Readers.{postings_in}
+use Rattle.segment_reader.proofs.inverted_index_reader.InvertedIndexReader.read_postings_from_terminfo.Goals as goal
+
+pub bytes_of-requires : goal.bytes_of-requires
+bytes_of-requires c = is_info c.args.self.now c.args.field c.args.value_bytes.now c.args.term_info.now c.option_of-recorded.ensures.known c.requires
+
+pub open_term-requires : goal.open_term-requires
+open_term-requires c = ∥∥₁_map c.option_of-recorded.ensures.known (λ contents. (postings_in contents.fields c.args.field c.args.value_bytes.now, has_term c.args.self.now c.args.field c.args.value_bytes.now c.args.term_info.now contents (record_option_of c.option_of-recorded.result) c.bytes_of.result.0.now c.bytes_of.result.1.now c.requires c.option_of-recorded.ensures.option c.bytes_of.ensures.postings c.bytes_of.ensures.positions))
+
+pub returns-clause-ok : goal.returns-clause-ok
+returns-clause-ok c contents = c.open_term.ensures.entries (postings_in contents.fields c.args.field c.args.value_bytes.now) (has_term c.args.self.now c.args.field c.args.value_bytes.now c.args.term_info.now contents (record_option_of c.option_of-recorded.result) c.bytes_of.result.0.now c.bytes_of.result.1.now c.requires c.option_of-recorded.ensures.option c.bytes_of.ensures.postings c.bytes_of.ensures.positions)
+
+pub returns-clause-within : goal.returns-clause-within
+returns-clause-within c contents =
+    let known = (has_term c.args.self.now c.args.field c.args.value_bytes.now c.args.term_info.now contents (record_option_of c.option_of-recorded.result) c.bytes_of.result.0.now c.bytes_of.result.1.now c.requires c.option_of-recorded.ensures.option c.bytes_of.ensures.postings c.bytes_of.ensures.positions) in
+    let P : List Entry → Type 0 = λ es. from contents.num_docs es ≡ [] in
+    subst P (sym (c.open_term.ensures.entries (postings_in contents.fields c.args.field c.args.value_bytes.now) known)) (entries_within (record_option_of c.args.option) _ contents.num_docs (postings_in contents.fields c.args.field c.args.value_bytes.now) known.is.each)
+
+pub returns-clause-skips : goal.returns-clause-skips
+returns-clause-skips c contents =
+    let known = (has_term c.args.self.now c.args.field c.args.value_bytes.now c.args.term_info.now contents (record_option_of c.option_of-recorded.result) c.bytes_of.result.0.now c.bytes_of.result.1.now c.requires c.option_of-recorded.ensures.option c.bytes_of.ensures.postings c.bytes_of.ensures.positions) in
+    c.open_term.ensures.skips (postings_in contents.fields c.args.field c.args.value_bytes.now) known ∙ ap (λ o. entries_of_postings o (field_ids contents.norms c.args.field) (postings_in contents.fields c.args.field c.args.value_bytes.now)) (option_told c.args.self.now c.args.field c.args.value_bytes.now c.args.term_info.now contents (record_option_of c.option_of-recorded.result) c.requires c.option_of-recorded.ensures.option)
+
+pub returns-clause-positions : goal.returns-clause-positions
+returns-clause-positions c contents = c.open_term.ensures.positions (postings_in contents.fields c.args.field c.args.value_bytes.now) (has_term c.args.self.now c.args.field c.args.value_bytes.now c.args.term_info.now contents (record_option_of c.option_of-recorded.result) c.bytes_of.result.0.now c.bytes_of.result.1.now c.requires c.option_of-recorded.ensures.option c.bytes_of.ensures.postings c.bytes_of.ensures.positions)

@@ -1,0 +1,60 @@
+-- Dictionaries: the terms of a field, and where their postings stand.
+use Rattle.std.specs.Prelude.{[], ◌+◌, ◌<◌, ◌^◌, ◌∷◌, List, None, Option, Some, map, ℕ}
+use Rattle.std.specs.List.{AllByRecursion}
+use Rattle.layouts.specs.TermSections.{TermLengths, TermsAscend}
+use Rattle.segment_reader.specs.TakenTerms.{entry_at}
+use Rattle.segment_reader.specs.declared.term_info.TermInfo.{TermInfo}
+use Rattle.segment_reader.specs.declared.term_starts.TermStart.{TermStart}
+
+-- a term by its value bytes, and where its postings stand
+abbrev pub Placed : Type 0
+Placed = List ℕ × TermInfo
+
+-- where the postings of a term stand that begin at these places
+abbrev pub info_from : ℕ → ℕ → TermLengths → TermInfo
+info_from postings positions l = record {
+  doc_freq = l.doc_freq;
+  postings_range = record { start = postings; end = postings + l.postings_len };
+  positions_range = record { start = positions; end = positions + l.positions_len };
+}
+
+-- the term that begins at a place of the section
+abbrev pub term_at : List ℕ → TermStart → Placed
+term_at bs s = ((entry_at bs s.entry).0, info_from s.postings s.positions (entry_at bs s.entry).1)
+
+-- the terms of which these are the places
+abbrev pub terms_at : List ℕ → List TermStart → List Placed
+terms_at bs starts = map (term_at bs) starts
+
+-- the numbers of a term's entry fit those of the code
+pub record InfoFits (info : TermInfo) : Type 0 where
+  pub docs : info.doc_freq < 2 ^ 32
+  pub postings : info.postings_range.end < 2 ^ 64
+  pub positions : info.positions_range.end < 2 ^ 64
+
+-- terms whose numbers fit
+abbrev pub AllFit : List Placed → Type 0
+AllFit terms = AllByRecursion (λ t. InfoFits t.1) terms
+
+-- a walk over terms: the one on which it stands, if it stands on one, and those that it has before it
+pub record Walked : Type 0 where
+  pub here : Option Placed
+  pub rest : List Placed
+
+-- before the first of these terms
+abbrev pub ahead : List Placed → Walked
+ahead terms = record { here = None; rest = terms }
+
+-- on the first of these terms
+abbrev pub onto : List Placed → Walked
+onto [] = record { here = None; rest = [] }
+onto (t ∷ ts) = record { here = Some t; rest = ts }
+
+-- one term further
+abbrev pub advanced : Walked → Walked
+advanced w = onto w.rest
+
+-- ascending terms, whose numbers fit
+pub record IsDictionary (terms : List Placed) : Type 0 where
+  pub ascend : TermsAscend (map (λ t. t.0) terms)
+  pub fit : AllByRecursion (λ t. InfoFits t.1) terms

@@ -1,0 +1,93 @@
+//! The terms of fields, each checked in its layout.
+
+ghost use Rattle.std.specs.Prelude.{IfErr, IfOk, IfSome, List, None, OnOk, ◌≡◌, ◌≤◌, length, sum_by};
+ghost use Rattle.std.specs.List.{AllByRecursion};
+ghost use Rattle.packed_blocks.specs.UnpackedBlocks.{listed};
+ghost use Rattle.definitions.specs.Postings.{terminated};
+ghost use Rattle.definitions.specs.declared.fault.Fault.TheVariants as faults;
+ghost use Rattle.segment_reader.specs.CheckedTerms.{AreCheckedFields, IsCheckedField, IsTermAt, IsWithin, bytes_of};
+ghost use Rattle.segment_reader.specs.FieldKinds.{option_in};
+ghost use Rattle.layouts.specs.InvertedIndexes.{IndexedTerm, IsTerm};
+
+use crate::field_index::FieldIndex;
+use crate::field_kind::FieldKind;
+use crate::section_bytes::SectionBytes;
+use crate::term_entry::entry_at;
+use crate::term_starts::TermStart;
+use definitions::Fault;
+use fieldnorms::{FieldNormReader, FieldNormReaders};
+use segment_postings::check_term;
+
+/// Checks the term that begins at a place, and answers how many tokens it has.
+fn check_term_at(
+    sections: SectionBytes<'_>,
+    kind: FieldKind,
+    start: TermStart,
+    fieldnorm_reader: &Option<FieldNormReader>,
+    num_docs: u32,
+) -> Result<u64, Fault>
+    requires kept { IfSome fieldnorm_reader.now (λ ids. length ids ≡ num_docs) }
+    requires few { num_docs ≤ terminated }
+    requires within { IsWithin (bytes_of sections) start }
+    ensures ok { IfOk result (λ total. (x : IndexedTerm) × IsTermAt (bytes_of sections.entry) start x × IsTerm (option_in kind x.key) num_docs (listed fieldnorm_reader.now) x × (total ≡ sum_by (λ p. p.count) x.postings)) }
+    ensures err { IfErr result (λ fault. (fault ≡ faults.Damaged None) × ((x : IndexedTerm) → IsTermAt (bytes_of sections.entry) start x → IsTerm (option_in kind x.key) num_docs (listed fieldnorm_reader.now) x → ⊥)) }
+{
+    let entry = entry_at(sections.terms, start.entry);
+    let postings_end = start.postings + entry.postings_len as usize;
+    let positions_end = start.positions + entry.positions_len as usize;
+    check_term(
+        &sections.postings[start.postings..postings_end],
+        &sections.positions[start.positions..positions_end],
+        entry.doc_freq as u32,
+        kind.option_of(entry.key),
+        fieldnorm_reader,
+        num_docs,
+    )
+}
+
+/// Checks the terms of a field, and their number of tokens.
+pub(crate) fn check_field(
+    sections: SectionBytes<'_>,
+    index: &FieldIndex,
+    fieldnorm_reader: &Option<FieldNormReader>,
+    num_docs: u32,
+) -> Result<(), Fault>
+    requires kept { IfSome fieldnorm_reader.now (λ ids. length ids ≡ num_docs) }
+    requires few { num_docs ≤ terminated }
+    requires within { AllByRecursion (IsWithin (bytes_of sections)) index.now.starts.items }
+    ensures ok { OnOk result ((xs : List IndexedTerm) × IsCheckedField (bytes_of sections.entry) num_docs (listed fieldnorm_reader.now) index.now xs) }
+    ensures err { IfErr result (λ fault. (fault ≡ faults.Damaged None) × ((xs : List IndexedTerm) → IsCheckedField (bytes_of sections.entry) num_docs (listed fieldnorm_reader.now) index.now xs → ⊥)) }
+{
+    let mut left = index.num_tokens;
+    for start in &index.starts {
+        let total = check_term_at(sections, index.kind, *start, fieldnorm_reader, num_docs)?;
+        if total > left {
+            return Err(Fault::Damaged(None));
+        }
+        left -= total;
+    }
+    if left != 0 {
+        return Err(Fault::Damaged(None));
+    }
+    Ok(())
+}
+
+/// Checks the terms of fields whose lengths are given.
+pub(crate) fn check_fields(
+    sections: SectionBytes<'_>,
+    indexes: &[FieldIndex],
+    fieldnorm_readers: &FieldNormReaders<'_>,
+    num_docs: u32,
+) -> Result<(), Fault>
+    requires kept { AllByRecursion (λ p. length p.1 ≡ num_docs) fieldnorm_readers.now }
+    requires few { num_docs ≤ terminated }
+    requires within { AllByRecursion (λ i. AllByRecursion (IsWithin (bytes_of sections)) i.starts.items) indexes.now }
+    ensures ok { OnOk result ((xss : List (List IndexedTerm)) × AreCheckedFields (bytes_of sections.entry) num_docs fieldnorm_readers.now indexes.now xss) }
+    ensures err { IfErr result (λ fault. (fault ≡ faults.Damaged None) × ((xss : List (List IndexedTerm)) → AreCheckedFields (bytes_of sections.entry) num_docs fieldnorm_readers.now indexes.now xss → ⊥)) }
+{
+    for index in indexes {
+        let fieldnorm_reader = fieldnorm_readers.get_field(index.kind.field);
+        check_field(sections, index, &fieldnorm_reader, num_docs)?;
+    }
+    Ok(())
+}

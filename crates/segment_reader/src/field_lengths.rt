@@ -1,0 +1,26 @@
+//! The lengths of a field's documents, whether the field keeps them or not.
+
+ghost use Rattle.std.specs.Prelude.{◌≡◌, List, length};
+ghost use Rattle.definitions.specs.Analyzers.{Analyzer};
+ghost use Rattle.definitions.specs.Schema.{Schema};
+ghost use Rattle.definitions.specs.Scoring.{length_id};
+ghost use Rattle.definitions.specs.Values.{Document};
+ghost use Rattle.segment_reader.specs.SegmentReaders.{StandsFor, max_doc_of};
+ghost use Rattle.segment_reader.specs.LengthIds.{AreIds};
+
+use crate::segment_reader::SegmentReader;
+use fieldnorms::FieldNormReader;
+use terms::Field;
+
+/// The length ids of a field; that of length 1 for each document where the field keeps none.
+pub fn lengths_of_field<'a>(reader: &SegmentReader<'a>, field: Field) -> FieldNormReader<'a>
+    ensures each { length result ≡ max_doc_of reader.now }
+    ensures ids { (schema : Schema) (analyze : Analyzer) (docs : List Document)
+        → StandsFor schema analyze docs reader.now
+        → AreIds (length_id schema analyze field) docs result }
+{
+    match reader.fieldnorms_readers().get_field(field.field_id()) {
+        Some(ids) => ids,
+        None => FieldNormReader::constant(reader.max_doc(), 1),
+    }
+}

@@ -1,0 +1,63 @@
+//! The terms of fields, read from their section.
+
+ghost use Rattle.std.specs.Prelude.{◌++◌, ◌<◌, ◌^◌, ◌≡◌, ◌≢◌, ◌≤◌, IfErr, IfOk, List, None, drop, length, ℕ};
+ghost use Rattle.definitions.specs.declared.fault.Fault.TheVariants as faults;
+ghost use Rattle.layouts.specs.TermSections.{FieldTerms};
+ghost use Rattle.segment_reader.specs.TermPlaces.{IsField, IsHeader, IsReadField, first_in, header_bytes, starts_from};
+
+use crate::term_starts::TermStart;
+use crate::terms_read::{SectionLengths, take_terms};
+use common::{take_u32, take_u64, take_vint};
+use definitions::Fault;
+use std::alloc::Global;
+
+/// How many tokens and how many terms a field has, and where its terms begin.
+#[derive(Clone, Copy)]
+struct Header {
+    num_tokens: u64,
+    num_terms: u64,
+    first: usize,
+}
+
+/// The header of a field at a place of the section of terms.
+fn take_header(section: &[u8], place: usize, field: u32) -> Result<Header, Fault>
+    requires { place ≤ length section.now }
+    ensures ok { IfOk result (λ h. IsHeader section.now place field h.num_tokens h.num_terms h.first) }
+    ensures err { IfErr result (λ fault. (fault ≡ faults.Damaged None) × ((num_tokens num_terms : ℕ) (rest : List ℕ) → num_tokens < 2 ^ 64 → num_terms < 2 ^ 64 → drop place section.now ≡ header_bytes field num_tokens num_terms ++ rest → ⊥)) }
+{
+    let (number, rest) = take_u32(&section[place..])?;
+    if number != field {
+        return Err(Fault::Damaged(None));
+    }
+    let (num_tokens, rest) = take_u64(rest)?;
+    let (num_terms, rest) = take_vint(rest)?;
+    Ok(Header {
+        num_tokens,
+        num_terms,
+        first: section.len() - rest.len(),
+    })
+}
+
+/// A field at a place: how many tokens it has, where each of its terms begins, and where it ends.
+pub(crate) fn take_field(
+    alloc: Global,
+    section: &[u8],
+    place: TermStart,
+    lengths: SectionLengths,
+    field: u32,
+) -> Result<(u64, Vec<TermStart>, TermStart), Fault>
+    requires entry { place.entry ≤ length section.now }
+    requires postings { place.postings ≤ lengths.postings }
+    requires positions { place.positions ≤ lengths.positions }
+    ensures ok { IfOk result (λ p. (f : FieldTerms) × (f.field ≡ field) × (f.num_tokens ≡ p.0) × IsReadField section.now place lengths.postings lengths.positions f p.2 × (p.1.items ≡ starts_from (first_in place f) f.terms)) }
+    ensures err { IfErr result (λ fault. fault ≢ faults.OutOfMemory → (fault ≡ faults.Damaged None) × ((f : FieldTerms) (rest : List ℕ) → f.field ≡ field → IsField section.now place lengths.postings lengths.positions f rest → ⊥)) }
+{
+    let header = take_header(section, place.entry, field)?;
+    let first = TermStart {
+        entry: header.first,
+        postings: place.postings,
+        positions: place.positions,
+    };
+    let (starts, end) = take_terms(alloc, section, first, lengths, header.num_terms)?;
+    Ok((header.num_tokens, starts, end))
+}

@@ -1,0 +1,157 @@
+//! The terms of a field.
+
+ghost use Rattle.std.specs.Prelude.{◌-◌, ◌≡◌, ◌≤◌, IfOk, IsTrue, bytes_eq, drop, find, length, option_map, take};
+ghost use Rattle.std.specs.List.{prefix_len};
+ghost use Rattle.segment_reader.specs.Dictionaries.{InfoFits, IsDictionary, ahead, info_from, terms_at};
+ghost use Rattle.segment_reader.specs.Searching.{between, is_before, is_below};
+ghost use Rattle.segment_reader.specs.TakenTerms.{entry_of, key_at};
+
+use crate::key_prefix::prefix_of;
+use crate::term_entry::{TermEntry, entry_at, key_at};
+use crate::term_info::TermInfo;
+use crate::term_range::TermRange;
+use crate::term_starts::TermStart;
+use std::alloc::{AllocError, Global};
+use std::marker::Model;
+
+/// The terms of a field by their value bytes, in ascending order, lent from the section of terms. Where a key stands is
+/// looked up among the terms' first bytes, and then checked: no answer rests on these.
+#[derive(Drop)]
+pub struct TermDictionary<'a> {
+    section: &'a [u8],
+    starts: &'a [TermStart],
+    prefixes: &'a [u64],
+}
+
+impl<'a> Model for TermDictionary<'a> {
+    ghost use Rattle.std.specs.Prelude.{List};
+    ghost use Rattle.segment_reader.specs.Dictionaries.{IsDictionary, Placed, terms_at};
+
+    ghost Value = { List Placed };
+
+    ghost view = { λ d. terms_at d.section.now d.starts.now };
+
+    ghost invariant = { λ d. ∥ IsDictionary (terms_at d.section.now d.starts.now) ∥₁ };
+}
+
+impl<'a> TermDictionary<'a> {
+    /// The terms that begin at these places of the section of terms, with the prefixes of their keys.
+    pub(crate) fn new(
+        section: &'a [u8],
+        starts: &'a [TermStart],
+        prefixes: &'a [u64],
+    ) -> TermDictionary<'a>
+        requires { ∥ IsDictionary (terms_at section.now starts.now) ∥₁ }
+        ensures { result ≡ terms_at section.now starts.now }
+    {
+        TermDictionary {
+            section,
+            starts,
+            prefixes,
+        }
+    }
+
+    /// How many terms there are.
+    pub fn num_terms(&self) -> usize
+        ensures { result ≡ length self.now }
+    {
+        self.starts.len()
+    }
+
+    /// Where the postings of a term stand, by its value bytes; none where the field doesn't have it.
+    pub fn get(&self, key: &[u8]) -> Option<TermInfo>
+        ensures { result ≡ option_map (λ t. t.1) (find (λ t. bytes_eq t.0 key.now) self.now) }
+    {
+        let start = self.starts.get(self.first_from(key))?;
+        let entry = entry_at(self.section, start.entry);
+        if entry.key != key {
+            return None;
+        }
+        Some(info_of(start, &entry))
+    }
+
+    /// The number of the first term that isn't below these value bytes.
+    pub(crate) fn first_from(&self, key: &[u8]) -> usize
+        ensures { result ≡ prefix_len (λ t. is_below key.now t.0) self.now }
+    {
+        let place = self.place_by_prefix(key);
+        if self.is_first_from(place, key) {
+            return place;
+        }
+        self.starts
+            .partition_point(|start| is_below(self.section, start.entry, key))
+    }
+
+    /// Where prefixes say that these value bytes stand, or would stand; keys are read only among equal prefixes.
+    fn place_by_prefix(&self, key: &[u8]) -> usize {
+        let prefix = prefix_of(key);
+        let first = self.prefixes.partition_point(|other| *other < prefix);
+        let last = self.prefixes.partition_point(|other| *other <= prefix);
+        let Some(equal) = self.starts.get(first..last) else {
+            return first;
+        };
+        first + equal.partition_point(|start| is_below(self.section, start.entry, key))
+    }
+
+    /// Whether the term of a number isn't below these value bytes, or there is none of it, and the one before is.
+    fn is_first_from(&self, place: usize, key: &[u8]) -> bool
+        ensures { IsTrue result → place ≡ prefix_len (λ t. is_below key.now t.0) self.now }
+    {
+        place <= self.starts.len()
+            && (place == 0 || is_below(self.section, self.starts[place - 1].entry, key))
+            && (place == self.starts.len()
+                || !is_below(self.section, self.starts[place].entry, key))
+    }
+
+    /// The number of the first term that doesn't stand before an end, if there is one.
+    fn end_from(&self, end: Option<&[u8]>) -> usize
+        ensures { result ≡ prefix_len (λ t. is_before (option_map (λ key. key.now) end.entry) t.0) self.now }
+    {
+        match end {
+            Some(key) => self.first_from(key),
+            None => self.num_terms(),
+        }
+    }
+
+    /// The terms from a start on that stand before an end, if there is one. Where each key stands whole in its
+    /// section, as it does today, no memory is taken.
+    pub fn range(
+        &self,
+        _alloc: Global,
+        start: &[u8],
+        end: Option<&[u8]>,
+    ) -> Result<TermRange<'a>, AllocError>
+        ensures { IfOk result (λ range. range ≡ ahead (between start.now (option_map (λ key. key.now) end.entry) self.now)) }
+    {
+        let first = self.first_from(start);
+        let last = self.end_from(end).max(first);
+        Ok(TermRange::new(self.section, part(self.starts, first, last)))
+    }
+}
+
+/// The places from one number on, before another.
+fn part(starts: &[TermStart], first: usize, last: usize) -> &[TermStart]
+    requires { (first ≤ last) × (last ≤ length starts.now) }
+    ensures { result.now ≡ take (last - first) (drop first starts.now) }
+{
+    &starts[first..last]
+}
+
+/// Whether the term that begins at a place of the section of terms stands before one with these value bytes.
+fn is_below(section: &[u8], start: usize, key: &[u8]) -> bool
+    ensures { result ≡ is_below key.now (key_at section.now start) }
+{
+    key_at(section, start) < key
+}
+
+/// Where the postings of a term stand.
+pub(crate) fn info_of(start: &TermStart, entry: &TermEntry<'_>) -> TermInfo
+    requires { InfoFits (info_from start.now.postings start.now.positions (entry_of entry.now).1) }
+    ensures { result ≡ info_from start.now.postings start.now.positions (entry_of entry.now).1 }
+{
+    TermInfo {
+        doc_freq: entry.doc_freq as u32,
+        postings_range: start.postings..start.postings + entry.postings_len as usize,
+        positions_range: start.positions..start.positions + entry.positions_len as usize,
+    }
+}

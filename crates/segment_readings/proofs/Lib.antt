@@ -1,4 +1,0 @@
--- Lemmas behind readings.
-pub mod BlockReadings
-pub mod TermReadings
-pub mod SegmentReadings

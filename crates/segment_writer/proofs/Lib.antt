@@ -1,3 +1,0 @@
--- Lemmas behind the writing of segments.
-pub mod Adding
-pub mod SlicesInFront

@@ -1,7 +1,0 @@
--- The sections of a segment, as they are written.
-use Rattle.segment_layouts.specs.Segments as layout
-use Rattle.segment_writer.specs.declared.sections.Sections.{Sections}
-
--- their bytes
-abbrev pub sections_of : Sections → layout.Sections
-sections_of s = record { terms = s.terms.items; postings = s.postings.items; positions = s.positions.items; norms = s.norms.items; store = s.store.items }

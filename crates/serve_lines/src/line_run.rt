@@ -1,0 +1,127 @@
+//! The run over the lines of an input.
+
+ghost use Rattle.std.specs.Prelude.{◌≡◌, ℕ, ◌<◌, ◌^◌, List, OnOk, IfErr, IfOk, IfSome, IsTrue};
+ghost use Rattle.std.specs.Io.KnownBytes.{Appends};
+ghost use Rattle.common.specs.declared.run_fault.RunFault.TheVariants as run_faults;
+ghost use Rattle.definitions.specs.Lines.{lines_of};
+ghost use Rattle.serve_lines.specs.Reading.{Holds};
+ghost use Rattle.definitions.specs.Replying.{output_line, Writes};
+ghost use Rattle.serve_lines.specs.Serving.{ServesAll, ServesLine, WritesAnswer};
+
+use crate::line::LineBuffer;
+use crate::line_reader::{flush, read_line};
+use crate::{RunFault, Service};
+use std::alloc::Global;
+use std::io::{BufRead, Write};
+
+/// The most looks at its reader that a run takes.
+const MOST_TURNS: u64 = 1 << 48;
+
+/// Answers each line of the input in turn, until the input ends. Before a read that may wait, what
+/// was written is flushed. Of a line no more is kept than a line may have.
+pub fn run<R: BufRead, W: Write, S: Service>(
+    alloc: Global,
+    reader: &mut R,
+    writer: &mut W,
+    service: &mut S,
+) -> Result<(), RunFault>
+    // Where the reader's bytes are known, the replies to its lines are written.
+    ensures replies { (s : S.State) → S.stands service.old s
+        → OnOk result (IfSome (R.remaining reader.old) (λ input.
+        Writes S.answer S.after s (lines_of input) (W.contents writer.old) (W.contents writer.new))) }
+    // The service stands for the state after all lines, unless that of `Device` is among the replies, or that of
+    // another fault that stops where it doesn't last.
+    ensures stands { (s : S.State) → S.stands service.old s
+        → OnOk result (IfSome (R.remaining reader.old) (λ input.
+        ServesAll S.answer S.after S.leaves (IsTrue (S.lasts service.old)) (S.stands service.new) s (lines_of input)
+        (W.contents writer.old) (W.contents writer.new))) }
+{
+    run_within(alloc, reader, writer, service, most_turns())
+}
+
+/// The most looks at its reader that a run takes.
+fn most_turns() -> u64
+    ensures { result ≡ 2 ^ 48 }
+{
+    MOST_TURNS
+}
+
+/// The same with another number of looks at the reader; where they don't suffice it ends with `ReadFault`.
+pub fn run_within<R: BufRead, W: Write, S: Service>(
+    alloc: Global,
+    reader: &mut R,
+    writer: &mut W,
+    service: &mut S,
+    most_turns: u64,
+) -> Result<(), RunFault>
+    ensures replies { (s : S.State) → S.stands service.old s
+        → OnOk result (IfSome (R.remaining reader.old) (λ input.
+        Writes S.answer S.after s (lines_of input) (W.contents writer.old) (W.contents writer.new))) }
+    ensures stands { (s : S.State) → S.stands service.old s
+        → OnOk result (IfSome (R.remaining reader.old) (λ input.
+        ServesAll S.answer S.after S.leaves (IsTrue (S.lasts service.old)) (S.stands service.new) s (lines_of input)
+        (W.contents writer.old) (W.contents writer.new))) }
+{
+    let mut line = LineBuffer::new(alloc);
+    let mut turns = most_turns;
+    while serve_line(reader, writer, service, &mut line, &mut turns)? {}
+    flush(writer)?;
+    Ok(())
+}
+
+// Reads the next line and answers it; where there is none the answer is false.
+fn serve_line<R: BufRead, W: Write, S: Service>(
+    reader: &mut R,
+    writer: &mut W,
+    service: &mut S,
+    line: &mut LineBuffer,
+    turns: &mut u64,
+) -> Result<bool, RunFault>
+    ensures turns { OnOk result (turns.new < turns.old) }
+    ensures lasts { S.lasts service.new ≡ S.lasts service.old }
+    ensures served { IfOk result (λ more.
+        ServesLine S.answer S.after S.leaves (IsTrue (S.lasts service.old)) (S.stands service.old) (S.stands service.new)
+        more (R.remaining reader.old) (R.remaining reader.new) (W.contents writer.old) (W.contents writer.new)) }
+{
+    if !read_line(reader, writer, line, turns)? {
+        return Ok(false);
+    }
+    answer_line(writer, service, line)?;
+    Ok(true)
+}
+
+// Writes the answer to a line that was read.
+fn answer_line<W: Write, S: Service>(
+    writer: &mut W,
+    service: &mut S,
+    line: &LineBuffer,
+) -> Result<(), RunFault>
+    ensures fault { IfErr result (λ fault. fault ≡ run_faults.WriteFault) }
+    ensures lasts { S.lasts service.new ≡ S.lasts service.old }
+    ensures answered { (seen : List ℕ) → Holds line.now seen
+        → OnOk result (WritesAnswer S.answer S.after S.leaves (IsTrue (S.lasts service.old))
+        (S.stands service.old) (S.stands service.new) seen (W.contents writer.old) (W.contents writer.new)) }
+{
+    match line.text() {
+        Ok(text) => match service.reply(text) {
+            Ok(reply) => tell(writer, &reply),
+            Err(fault) => tell(writer, fault.reply()),
+        },
+        Err(fault) => tell(writer, fault.reply()),
+    }
+}
+
+// Writes a reply and its newline.
+fn tell<W: Write>(writer: &mut W, reply: &str) -> Result<(), RunFault>
+    ensures written { OnOk result
+        (Appends (W.contents writer.old) (W.contents writer.new) (output_line reply.now)) }
+    ensures fault { IfErr result (λ fault. fault ≡ run_faults.WriteFault) }
+{
+    let newline = "\n";
+    if writer.write_all(reply.as_bytes()).is_err()
+        || writer.write_all(newline.as_bytes()).is_err()
+    {
+        return Err(RunFault::WriteFault);
+    }
+    Ok(())
+}

@@ -1,0 +1,22 @@
+use Rattle.std.proofs.Common.{[], ap, arith, flat_map, length, ◌++◌, ◌+◌, ◌∙◌, ◌∷◌}
+use Rattle.definitions.specs.NumberCodes.{u32_bytes}
+use Rattle.store.proofs.Writes.{pending_long, stands_at, stands_closed}
+use Rattle.store.proofs.writer_fields.Parts.close_block.Goals as goal
+
+pub put_block_end-requires : goal.put_block_end-requires
+put_block_end-requires c = (let few = c.requires.3 in let many = (pending_long c.requires.2).1 in omega (arith, ap length c.deref.ensures.value))
+
+pub overflow_cast-reach : goal.overflow_cast-reach
+overflow_cast-reach c = (let few = c.requires.3 in let many = (pending_long c.requires.2).1 in omega arith)
+
+pub overflow_add-reach : goal.overflow_add-reach
+overflow_add-reach c = (let few = c.requires.3 in let first = c.requires.2.doc in let many = (pending_long c.requires.2).1 in omega arith)
+
+pub returns-clause-ok : goal.returns-clause-ok
+returns-clause-ok c = λ bs ds st.
+    stands_closed st
+    (c.in_ok-put_block_end.ensures.ok ∙ ap (λ ss. c.args.self.now.out.items ++ (flat_map u32_bytes ss ++ u32_bytes (length ss))) c.deref.ensures.value)
+    (omega (arith, c.args.self.now.starts.ok.0))
+    (omega (arith, c.put_block_end.new.out.ok.0))
+    (c.in_ok-push.ensures.items ∙ ap (λ xs. xs ++ stands_at c.args.self.now.first_doc (c.args.self.now.first_doc + c.len.result) c.args.self.now.first_byte c.len-2.result ∷ []) c.in_ok-reserve.ensures.items)
+    c.clear.ensures.items

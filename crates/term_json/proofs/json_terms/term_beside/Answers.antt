@@ -1,7 +1,0 @@
--- The field that is named is one of the schema's.
-use Rattle.std.proofs.Common.{refl}
-use Rattle.term_json.proofs.FieldsByName.{named_within}
-use Rattle.term_json.proofs.json_terms.term_beside.Goals as goal
-
-pub get_field_entry-entry-requires : goal.get_field_entry-entry-requires
-get_field_entry-entry-requires c = named_within c.args.schema.now c.in-Ok.field c.in-Some.name.now ((c.in-Ok.ensures.exact c.in-Ok.field).0 refl)
