@@ -1,5 +1,5 @@
 -- A document has the terms that its steps give, each at the same positions.
-use Rattle.std.proofs.Common.{[], ◌++◌, ◌+◌, ◌<◌, ◌==◌, ◌^◌, ◌≡◌, ◌≢◌, ◌≤◌, ◌∙◌, ◌∷◌, Bool, List, None, Option, Some, ap, ap₂, arith, cond, false, filter, flat_map, if◌then◌else◌, is_some, length, map, option_map, refl, slice_get, suc, sym, take, true, zero, ℕ}
+use Rattle.std.proofs.Common.{[], ◌++◌, ◌+◌, ◌<◌, ◌==◌, ◌^◌, ◌≡◌, ◌≢◌, ◌≤◌, ◌∙◌, ◌∷◌, Bool, List, None, Option, Some, ap, append-nil, ap₂, arith, cond, false, filter, flat_map, if◌then◌else◌, is_some, length, map, option_map, refl, slice_get, suc, sym, take, true, zero, ℕ}
 use Rattle.std.specs.List.{AllByRecursion, enumerate_from, range_with_len}
 use Rattle.std.specs.Option.{option_map_or}
 use Rattle.std.proofs.lemmas.Bool.Decides.{nat_tests}
@@ -137,17 +137,13 @@ module _ (analyze : Analyzer) (t : List ℕ) where
       at-append t (field_terms analyze doc (n, e)) (flat_map (field_terms analyze doc) (enumerate_from (n + 1) es))
       ∙ ap₂ (λ ms ns. ms ++ ns) (other_field n (omega arith) (λ same. absurd (omega arith)) doc e) (fields_passed doc (n + 1) es (omega arith) (omega arith))
 
-  append_nil : (xs : List ℕ) → xs ++ [] ≡ xs
-  append_nil [] = refl
-  append_nil (x ∷ xs) = ap (λ ys. x ∷ ys) (append_nil xs)
-
   own_field : (doc : Document) (n j : ℕ) (es : Schema) → f ≡ n + j → n + length es ≤ max_fields → at t (flat_map (field_terms analyze doc) (enumerate_from n es)) ≡ option_map_or (λ e. at t (field_terms analyze doc (f, e))) (slice_get es j) []
   own_field doc n j [] is few = refl
   own_field doc n zero (e ∷ es) is few =
       let here : f ≡ n = omega arith in
       at-append t (field_terms analyze doc (n, e)) (flat_map (field_terms analyze doc) (enumerate_from (n + 1) es))
       ∙ ap (λ ns. at t (field_terms analyze doc (n, e)) ++ ns) (fields_passed doc (n + 1) es (omega arith) (omega arith))
-      ∙ append_nil (at t (field_terms analyze doc (n, e)))
+      ∙ append-nil (at t (field_terms analyze doc (n, e)))
       ∙ ap (λ m. at t (field_terms analyze doc (m, e))) (sym here)
   own_field doc n (suc j) (e ∷ es) is few =
       at-append t (field_terms analyze doc (n, e)) (flat_map (field_terms analyze doc) (enumerate_from (n + 1) es))

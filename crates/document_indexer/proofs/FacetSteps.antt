@@ -1,5 +1,5 @@
 -- The prefixes of a facet's steps, as its text has them.
-use Rattle.std.proofs.Common.{[], ◌++◌, ◌+◌, ◌<◌, ◌≡◌, ◌≢◌, ◌≤◌, ◌∙◌, ◌∷◌, Bool, List, ap, ap₂, append_assoc, arith, cond, drop, eq-eqb, eqb, false, get_or, if◌then◌else◌, length, map, ne_eqb, refl, suc, sym, take, true, zero, ℕ}
+use Rattle.std.proofs.Common.{[], ◌++◌, ◌+◌, ◌<◌, ◌≡◌, ◌≢◌, ◌≤◌, ◌∙◌, ◌∷◌, Bool, List, ap, append-nil, ap₂, append_assoc, arith, cond, drop, eq-eqb, eqb, false, get_or, if◌then◌else◌, length, map, ne_eqb, refl, suc, sym, take, true, zero, ℕ}
 use Rattle.std.specs.List.{onto_first, range_with_len}
 use Rattle.std.proofs.Math.Seq.{drop-cons, take-suc}
 use Rattle.std.proofs.lemmas.Bool.Decides.{nat_tests}
@@ -10,10 +10,6 @@ use Rattle.definitions.specs.Terms.{term_bytes}
 use Rattle.definitions.specs.Values.{facet}
 use Rattle.layouts.specs.DocumentReading.{steps_in}
 use Rattle.document_indexer.specs.Steps.{Step, facet_steps, term_step}
-
-append_nil : {A : Type 0} (xs : List A) → xs ++ [] ≡ xs
-append_nil [] = refl
-append_nil (x ∷ xs) = ap (λ ys. x ∷ ys) (append_nil xs)
 
 -- ---- by steps
 
@@ -69,7 +65,7 @@ some_part (b ∷ rest) none = go (eqb b 0) (steps_in rest) none
     go false (s ∷ ss) is = cc
 
 ends_cuts : (done text : List ℕ) → map (λ bs. done ++ bs) (ends (steps_in text)) ≡ cuts done text
-ends_cuts done [] = ap (λ bs. bs ∷ []) (append_nil done)
+ends_cuts done [] = ap (λ bs. bs ∷ []) (append-nil done)
 ends_cuts done (b ∷ rest) = go (eqb b 0) refl (ends_cuts (done ++ b ∷ []) rest)
   where
     parts : List (List ℕ)
@@ -86,7 +82,7 @@ ends_cuts done (b ∷ rest) = go (eqb b 0) refl (ends_cuts (done ++ b ∷ []) re
         → map (λ bs. done ++ bs) (ends (cond c ([] ∷ parts) (onto_first b parts))) ≡ (if c then done ∷ cuts (done ++ b ∷ []) rest else cuts (done ++ b ∷ []) rest)
     go true none ih =
         let is : 0 ≡ b = grind (arith, nat_tests) in
-        ap₂ (λ x xs. x ∷ xs) (append_nil done) (map_map (λ bs. done ++ bs) (λ bs. 0 ∷ bs) (ends parts) ∙ onto 0 is ∙ ih)
+        ap₂ (λ x xs. x ∷ xs) (append-nil done) (map_map (λ bs. done ++ bs) (λ bs. 0 ∷ bs) (ends parts) ∙ onto 0 is ∙ ih)
     go false other ih = ap (map (λ bs. done ++ bs)) (ends_onto b parts (some_part rest)) ∙ map_map (λ bs. done ++ bs) (λ bs. b ∷ bs) (ends parts) ∙ onto b refl ∙ ih
 
 -- ---- the steps of indexing

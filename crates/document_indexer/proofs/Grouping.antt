@@ -1,5 +1,5 @@
 -- Places of documents in order, grouped by document.
-use Rattle.std.proofs.Common.{[], ◌++◌, ◌+◌, ◌<◌, ◌≡◌, ◌∙◌, ◌∷◌, Bool, List, ap, append_assoc, arith, cond, false, filter, flat_map, length, map, nat_eq, refl, sym, true, ℕ}
+use Rattle.std.proofs.Common.{[], ◌++◌, ◌+◌, ◌<◌, ◌≡◌, ◌∙◌, ◌∷◌, Bool, List, ap, append-nil, append_assoc, arith, cond, false, filter, flat_map, length, map, nat_eq, refl, sym, true, ℕ}
 use Rattle.std.specs.List.{AllByRecursion, enumerate_from}
 use Rattle.std.proofs.lemmas.Bool.Decides.{nat_tests}
 use Rattle.postings_writer.specs.Occurrences.{by_document, grouped, last_count}
@@ -60,11 +60,7 @@ last_count_below bound k xss some all = (let e = ap last_count (all_grouped k xs
 -- ---- one document more
 
 enumerate_more : {X Y : Type 0} (f : ℕ × X → List Y) (k : ℕ) (xs : List X) (x : X) → flat_map f (enumerate_from k (xs ++ x ∷ [])) ≡ flat_map f (enumerate_from k xs) ++ f (k + length xs, x)
-enumerate_more f k [] x = append_nil (f (k, x)) ∙ ap (λ n. f (n, x)) (let e : k ≡ k + 0 = omega arith in e)
-  where
-    append_nil : {A : Type 0} (ys : List A) → ys ++ [] ≡ ys
-    append_nil [] = refl
-    append_nil (y ∷ ys) = ap (λ zs. y ∷ zs) (append_nil ys)
+enumerate_more f k [] x = append-nil (f (k, x)) ∙ ap (λ n. f (n, x)) (let e : k ≡ k + 0 = omega arith in e)
 enumerate_more f k (y ∷ xs) x =
     ap (λ ys. f (k, y) ++ ys) (enumerate_more f (k + 1) xs x ∙ ap (λ n. flat_map f (enumerate_from (k + 1) xs) ++ f (n, x)) (let e : k + 1 + length xs ≡ k + length (y ∷ xs) = omega arith in e))
     ∙ sym (append_assoc (f (k, y)) (flat_map f (enumerate_from (k + 1) xs)) (f (k + length (y ∷ xs), x)))

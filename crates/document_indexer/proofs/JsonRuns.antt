@@ -1,5 +1,5 @@
 -- The terms of a JSON field, as its steps give them.
-use Rattle.std.proofs.Common.{[], ◌++◌, ◌+◌, ◌≡◌, ◌≢◌, ◌∙◌, ◌∷◌, Bool, List, None, Option, Some, ap, ap₂, bytes_eq, codes, cond, false, filter, filter_map, flat_map, if◌then◌else◌, is_some, map, nat_lt, not, option_and_then, option_map, pos, refl, sym, take, true, true≢false, ◌^◌, ◌||◌, ℕ}
+use Rattle.std.proofs.Common.{[], ◌++◌, ◌+◌, ◌≡◌, ◌≢◌, ◌∙◌, ◌∷◌, Bool, List, None, Option, Some, ap, append-nil, ap₂, bytes_eq, codes, cond, false, filter, filter_map, flat_map, if◌then◌else◌, is_some, map, nat_lt, not, option_and_then, option_map, pos, refl, sym, take, true, true≢false, ◌^◌, ◌||◌, ℕ}
 use Rattle.std.specs.List.{cons_option, list_any}
 use Rattle.std.specs.Option.{option_map_or}
 use Rattle.std.proofs.lemmas.List.{map-append}
@@ -46,10 +46,6 @@ others_left q x ns (y ∷ ys) differ = go (bytes_eq x y) refl (others_left q x n
     go true same ih = ih ∙ ap (λ b. cond b ns [] ++ flat_map (share q ns) ys) (sym (ap (bytes_eq q) (sym ((bytes_eq-Decides x y).0 same)) ∙ differ))
     go false other ih = ap (λ ms. share q ns y ++ ms) ih
 
-append_nil : {A : Type 0} (xs : List A) → xs ++ [] ≡ xs
-append_nil [] = refl
-append_nil (x ∷ xs) = ap (λ ys. x ∷ ys) (append_nil xs)
-
 -- a path has its share once, if it stands there
 once_share : (q ns : List ℕ) (xs : List (List ℕ)) → flat_map (share q ns) (once bytes_eq xs) ≡ cond (list_any (bytes_eq q) xs) ns []
 once_share q ns [] = refl
@@ -59,7 +55,7 @@ once_share q ns (x ∷ xs) = go (bytes_eq q x) refl (once_share q ns xs)
     rest = filter (λ y. not (bytes_eq x y)) (once bytes_eq xs)
 
     go : (b : Bool) → bytes_eq q x ≡ b → flat_map (share q ns) (once bytes_eq xs) ≡ cond (list_any (bytes_eq q) xs) ns [] → cond b ns [] ++ flat_map (share q ns) rest ≡ cond (b || list_any (bytes_eq q) xs) ns []
-    go true same ih = ap (λ p. ns ++ flat_map (share q ns) (filter (λ y. not (bytes_eq p y)) (once bytes_eq xs))) (sym ((bytes_eq-Decides q x).0 same)) ∙ ap (λ ms. ns ++ ms) (none_left q ns (once bytes_eq xs)) ∙ append_nil ns
+    go true same ih = ap (λ p. ns ++ flat_map (share q ns) (filter (λ y. not (bytes_eq p y)) (once bytes_eq xs))) (sym ((bytes_eq-Decides q x).0 same)) ∙ ap (λ ms. ns ++ ms) (none_left q ns (once bytes_eq xs)) ∙ append-nil ns
     go false other ih = others_left q x ns (once bytes_eq xs) other ∙ ih
 
 -- ---- the texts on a path
@@ -304,7 +300,7 @@ module _ (analyze : Analyzer) (field : ℕ) (e : Entry) (t : List ℕ) where
             texts_run_at is starts ls clean
             ∙ ap (λ n. text_places n (texts_at q ls)) first
             ∙ sym own_path
-            ∙ sym (append_nil (at t texts))
+            ∙ sym (append-nil (at t texts))
             ∙ ap (λ ns. at t texts ++ ns) (sym (no_leaf is ls clean))
         go false is =
             let no_text : IsText → ⊥ = λ text. true≢false (sym text ∙ is) in

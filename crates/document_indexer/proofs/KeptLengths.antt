@@ -1,5 +1,5 @@
 -- The lengths of documents, as they are kept document by document.
-use Rattle.std.proofs.Common.{[], ◌&&◌, ◌++◌, ◌+◌, ◌-◌, ◌<◌, ◌==◌, ◌≡◌, ◌≢◌, ◌≤◌, ◌∙◌, ◌∷◌, Bool, List, None, Option, Some, ap, ap₂, arith, cond, false, filter, length, map, nat_le, nat_lt, refl, replicate, slice_get, subst, sym, true, ℕ}
+use Rattle.std.proofs.Common.{[], ◌&&◌, ◌++◌, ◌+◌, ◌-◌, ◌<◌, ◌==◌, ◌≡◌, ◌≢◌, ◌≤◌, ◌∙◌, ◌∷◌, Bool, List, None, Option, Some, ap, append-nil, ap₂, arith, cond, false, filter, length, map, nat_le, nat_lt, refl, replicate, slice_get, subst, sym, true, ℕ}
 use Rattle.std.specs.List.{AllByRecursion, enumerate_from}
 use Rattle.std.specs.Option.{option_map_or}
 use Rattle.std.specs.Prelude.{slice_index_or}
@@ -70,12 +70,8 @@ field_more lengths fields doc k n (p ∷ ps) kept is = ap₂ (λ q qs. q ∷ qs)
     put : Bool → ℕ × List ℕ → ℕ × List ℕ
     put c q = cond c (q.0, padded doc q.1 ++ fieldnorm_to_id n ∷ []) q
 
-    append_nil : (xs : List ℕ) → xs ++ [] ≡ xs
-    append_nil [] = refl
-    append_nil (x ∷ xs) = ap (λ ys. x ∷ ys) (append_nil xs)
-
     whole : padded doc p.1 ≡ p.1
-    whole = (let none : doc - length p.1 ≡ 0 = (let long = kept.0.1 in omega arith) in ap (λ m. p.1 ++ replicate m 0) none ∙ append_nil p.1)
+    whole = (let none : doc - length p.1 ≡ 0 = (let long = kept.0.1 in omega arith) in ap (λ m. p.1 ++ replicate m 0) none ∙ append-nil p.1)
 
     last : (c : Bool) → (p.0 == k) ≡ c → nat_lt p.0 k ≡ false → put c p ≡ part lengths (k + 1) p
     last true same e =

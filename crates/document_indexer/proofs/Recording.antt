@@ -1,5 +1,5 @@
 -- Steps that are recorded one after the other.
-use Rattle.std.proofs.Common.{[], ◌++◌, ◌+◌, ◌<◌, ◌==◌, ◌^◌, ◌≡◌, ◌≤◌, ◌∙◌, ◌∷◌, Bool, Err, IfErr, IfSome, List, Ok, OnOk, Option, Result, Some, ap, append_assoc, arith, bytes_eq, cond, eq-eqb, false, inl, inr, map, min, refl, subst, sym, true, ℕ}
+use Rattle.std.proofs.Common.{[], ◌++◌, ◌+◌, ◌<◌, ◌==◌, ◌^◌, ◌≡◌, ◌≤◌, ◌∙◌, ◌∷◌, Bool, Err, IfErr, IfSome, List, Ok, OnOk, Option, Result, Some, ap, append-nil, append_assoc, arith, bytes_eq, cond, eq-eqb, false, inl, inr, map, min, refl, subst, sym, true, ℕ}
 use Rattle.std.specs.Map.{lookup}
 use Rattle.std.specs.Option.{option_map_or}
 use Rattle.std.proofs.lemmas.List.{map-append}
@@ -18,10 +18,6 @@ use Rattle.postings_writer.proofs.Standing.{places_of-push}
 use Rattle.document_indexer.specs.Contexts.{AreBefore, CanIndex, Context, HasStarts, Holds, IsReady, IsRefusal, Positions, Records, Refuses, context, start_of}
 use Rattle.document_indexer.specs.Runs.{AreStepsWithin, Starts, occurrence_at, occurrences_at, next_starts, run_terms, starts_after, step_terms}
 use Rattle.document_indexer.specs.Steps.{Step, term_step, text_step}
-
-append_nil : {A : Type 0} (xs : List A) → xs ++ [] ≡ xs
-append_nil [] = refl
-append_nil (x ∷ xs) = ap (λ ys. x ∷ ys) (append_nil xs)
 
 -- ---- steps behind others
 
@@ -52,7 +48,7 @@ joined doc os ps qs = append_assoc os (occurrences_at doc ps) (occurrences_at do
 -- nothing is recorded
 pub records_none : (schema : Schema) (c : Context) → IsReady schema c → Records schema c c []
 records_none schema c ready = record {
-  holds = λ os starts h. record { stands = subst (Stands schema c.writer) (sym (append_nil os)) h.stands; starts_are = h.starts_are };
+  holds = λ os starts h. record { stands = subst (Stands schema c.writer) (sym (append-nil os)) h.stands; starts_are = h.starts_are };
   within = λ os starts h. tt;
   made = ready.made;
   doc = refl;
@@ -219,7 +215,7 @@ pub text_recorded : (schema : Schema) (w new : Writer) (positions later : Positi
 text_recorded schema w new positions later doc prefix gap start next ts start_is stands next_is within made docs put = record {
   holds = λ os starts h.
       let real : start ≡ min (2 ^ 31) (starts prefix) = start_is ∙ h.starts_are prefix in
-      let same : text_occurrences doc prefix (starts prefix) ts ≡ occurrences_at doc (run_terms starts (text_step prefix gap ts ∷ [])) = sym (tokens_recorded doc prefix (starts prefix) ts) ∙ ap (occurrences_at doc) (sym (append_nil (map (placed_at prefix (starts prefix)) ts))) in
+      let same : text_occurrences doc prefix (starts prefix) ts ≡ occurrences_at doc (run_terms starts (text_step prefix gap ts ∷ [])) = sym (tokens_recorded doc prefix (starts prefix) ts) ∙ ap (occurrences_at doc) (sym (append-nil (map (placed_at prefix (starts prefix)) ts))) in
       record {
         stands = subst (λ more. Stands schema new (os ++ more)) same (stands os (starts prefix) h.stands real);
         starts_are = start_more positions later starts doc prefix gap next ts h.starts_are (next_is (starts prefix) real) put;
@@ -250,7 +246,7 @@ text_refused fault schema w positions doc prefix gap start ts start_is err os st
         before = map place count.before;
         after = map place count.after;
         term = count.term;
-        split = append_nil (map place ts) ∙ ap (map place) count.split ∙ map-append place count.before count.after;
+        split = append-nil (map place ts) ∙ ap (map place) count.split ∙ map-append place count.before count.after;
         past = subst (λ more. 2 ^ 32 ≤ last_count (by_document (places_of count.term (os ++ more)))) (sym (tokens_recorded doc prefix (starts prefix) count.before)) count.past;
       }),
     )

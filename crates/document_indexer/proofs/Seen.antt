@@ -1,5 +1,5 @@
 -- The steps of a loop: those that were recorded, and those that are left.
-use Rattle.std.proofs.Common.{[], ◌++◌, ◌≡◌, ◌∙◌, ◌∷◌, Err, IfErr, List, Ok, OnOk, Result, ap, append_assoc, refl, subst, sym, ℕ}
+use Rattle.std.proofs.Common.{[], ◌++◌, ◌≡◌, ◌∙◌, ◌∷◌, Err, IfErr, List, Ok, OnOk, Result, ap, append-nil, append_assoc, refl, subst, sym, ℕ}
 use Rattle.definitions.specs.Schema.{Kind, Schema}
 use Rattle.definitions.specs.declared.fault.Fault.{Fault}
 use Rattle.document_indexer.specs.Contexts.{CanIndex, Context, IsReady, Records, Refuses}
@@ -11,10 +11,6 @@ pub record Seen (schema : Schema) (was now : Context) (left all : List Step) : T
   pub seen : List Step
   pub split : all ≡ seen ++ left
   pub records : Records schema was now seen
-
-append_nil : {A : Type 0} (xs : List A) → xs ++ [] ≡ xs
-append_nil [] = refl
-append_nil (x ∷ xs) = ap (λ ys. x ∷ ys) (append_nil xs)
 
 -- none was
 pub seen_none : (schema : Schema) (c : Context) (all : List Step) → IsReady schema c → Seen schema c c all all
@@ -30,7 +26,7 @@ seen_more schema a b c left xs rest all s is more = record {
 
 -- all were
 pub seen_all : (schema : Schema) (a b : Context) (left all : List Step) → Seen schema a b left all → left ≡ [] → Records schema a b all
-seen_all schema a b left all s none = subst (Records schema a b) (sym (s.split ∙ ap (λ ys. s.seen ++ ys) none ∙ append_nil s.seen)) s.records
+seen_all schema a b left all s none = subst (Records schema a b) (sym (s.split ∙ ap (λ ys. s.seen ++ ys) none ∙ append-nil s.seen)) s.records
 
 -- the next ones are refused
 pub seen_refused : (schema : Schema) (a b : Context) (left xs rest all : List Step) (fault : Fault) → Seen schema a b left all → left ≡ xs ++ rest → Refuses schema b xs fault → Refuses schema a all fault

@@ -1,4 +1,4 @@
--- Lemmas behind the index over segments and its file.
+-- Lemmas behind the index and its file.
 pub mod FileSayings
 pub mod Commits
 pub mod Adding

@@ -1,4 +1,4 @@
--- The file of an index over segments: what it says, and how it lies on a device.
+-- The file of an index: what it says, and how it lies on a device.
 use Rattle.std.specs.Prelude.{[], ◌∷◌, ◌≡◌, ◌⊎◌, Bool, List, Some, false, is_some, length, ℕ}
 use Rattle.std.specs.List.{AllZip, last_or}
 use Rattle.definitions.specs.Analyzers.{Analyzer}

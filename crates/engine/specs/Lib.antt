@@ -1,4 +1,4 @@
--- What an index over segments and its file are.
+-- What an index and its file are.
 pub mod Files
 pub mod Indexes
 pub mod Merges

@@ -1,35 +1,12 @@
--- Files of segments: what stands behind the closed gate, and bodies that are none.
-use Rattle.std.proofs.Common.{[], ◌++◌, ◌+◌, ◌∷◌, ◌≡◌, List, arith, subst, sym, take, ℕ}
+-- Files of segments: what stands behind the closed gate.
+use Rattle.std.proofs.Common.{◌++◌, ◌+◌, ◌∷◌, List, subst, take, ℕ}
 use Rattle.definitions.specs.Analyzers.{Analyzer}
 use Rattle.definitions.specs.Schema.{Schema}
 use Rattle.definitions.specs.Settings.{Settings}
 use Rattle.definitions.specs.Values.{Document}
-use Rattle.layouts.specs.RecordBodies.{first_in}
-use Rattle.layouts.specs.RecordFiles.{EndsAt, IsAtRest, IsFile}
-use Rattle.layouts.proofs.FilesOfRecords.{any_rest, cut_at_rest, ends_at_rest, one_reading}
-use Rattle.segment_definitions.specs.SegmentBodies.{Makes, Member}
-use Rattle.segment_definitions.specs.SegmentFiles.{AreMade, IsRecordFile, TakesSegments}
-use Rattle.segment_definitions.specs.Segments.{IsSegment}
-use Rattle.index_file.proofs.BodiesBack.{body_rest}
-use Rattle.index_file.proofs.PlacesFollow.{made_body}
-
--- ---- a body of documents
-
-not_made : (schema : Schema) (before after : List Member) (body : List ℕ) → ¬ Makes (IsSegment schema) before after (3 ∷ body)
-not_made schema before after body makes = (let code = (body_rest makes.parts _ 3 body (made_body schema before after (3 ∷ body) makes)).0 in omega (arith, code))
-
-none_made : (schema : Schema) (before : List Member) (bodies : List (List ℕ)) (body : List ℕ) (lists : List (List Member)) → ¬ AreMade (IsSegment schema) before (bodies ++ (3 ∷ body) ∷ []) lists
-none_made schema before [] body [] made = made
-none_made schema before [] body (after ∷ lists) made = not_made schema before after body made.0
-none_made schema before (first ∷ bodies) body [] made = made
-none_made schema before (first ∷ bodies) body (after ∷ lists) made = none_made schema after bodies body lists made.1
-
-pub not_taken : (before : List (List ℕ)) (body : List ℕ) → ¬ TakesSegments before (3 ∷ body)
-unfolding first_in
-not_taken [] body (schema, settings, lists, made, follow) = cc
-not_taken (first ∷ bodies) body (schema, settings, lists, made, follow) = none_made schema [] bodies body lists follow
-
--- ---- what stands behind the gate
+use Rattle.layouts.specs.RecordFiles.{EndsAt, IsFile}
+use Rattle.layouts.proofs.FilesOfRecords.{any_rest, cut_at_rest, one_reading}
+use Rattle.segment_definitions.specs.SegmentFiles.{IsRecordFile}
 
 -- other bytes are a file of the same lists where they are one of the same bodies
 same_lists : (schema : Schema) (settings : Settings) (analyze : Analyzer) (content other : List ℕ) (bodies : List (List ℕ)) (lists : List (List (List Document)))

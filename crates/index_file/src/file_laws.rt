@@ -1,17 +1,12 @@
-//! What files of segments promise.
+//! What is said of files that list segments.
 
-ghost use Rattle.std.specs.Prelude.{◌++◌, ◌+◌, ◌∷◌, List, take, ℕ};
+ghost use Rattle.std.specs.Prelude.{◌++◌, ◌+◌, List, take, ℕ};
 ghost use Rattle.definitions.specs.Analyzers.{Analyzer};
 ghost use Rattle.definitions.specs.Schema.{Schema};
 ghost use Rattle.definitions.specs.Settings.{Settings};
 ghost use Rattle.definitions.specs.Values.{Document};
 ghost use Rattle.layouts.specs.RecordFiles.{EndsAt};
-ghost use Rattle.segment_definitions.specs.SegmentFiles.{IsRecordFile, TakesSegments};
-
-/// A body that lists documents by themselves is taken nowhere.
-pub fn bodies_of_documents_are_not_taken()
-    ensures { (before : List (List ℕ)) (body : List ℕ) → ¬ TakesSegments before (3 ∷ body) }
-{}
+ghost use Rattle.segment_definitions.specs.SegmentFiles.{IsRecordFile};
 
 /// A file stands for the same lists when it is cut behind its closed gate, and when bytes follow it.
 pub fn bytes_behind_the_closed_gate_change_no_list()

@@ -1,4 +1,4 @@
-//! The file of an index over segments, opened.
+//! The file of an index, opened.
 
 ghost use Rattle.std.specs.Prelude.{[], ◌++◌, ◌<◌, ◌^◌, ◌∷◌, ◌≡◌, ◌≢◌, ◌≤◌, ◌⊎◌, IfErr, IfOk, List, None, Some, drop, length, map, ℕ};
 ghost use Rattle.std.specs.List.{AllByRecursion, AllZip};

@@ -1,5 +1,5 @@
 -- All fields of a merge, one after another.
-use Rattle.std.proofs.Common.{[], ◌++◌, ◌≡◌, ◌∙◌, ◌∷◌, Bool, List, Some, ap, ap₂, append_assoc, cond, false, filter, flat_map, inl, inr, map, refl, slice_get, subst, sym, true, ℕ}
+use Rattle.std.proofs.Common.{[], ◌++◌, ◌≡◌, ◌∙◌, ◌∷◌, Bool, List, Some, ap, append-nil, ap₂, append_assoc, cond, false, filter, flat_map, inl, inr, map, refl, slice_get, subst, sym, true, ℕ}
 use Rattle.std.proofs.lemmas.List.{map-append}
 use Rattle.std.specs.List.{AllByRecursion, enumerate_from}
 use Rattle.definitions.specs.Schema.{Entry, Schema, is_indexed}
@@ -24,20 +24,16 @@ pub record AreSome (schema : Schema) (norms : List (ℕ × List ℕ)) (ms : List
   pub each : AllByRecursion (IsMergedField schema norms ms all) fields
   pub added : AreFieldsAdded was now fields
 
-append_nil : {A : Type 0} (xs : List A) → xs ++ [] ≡ xs
-append_nil [] = refl
-append_nil (x ∷ xs) = ap (λ ys. x ∷ ys) (append_nil xs)
-
 pub none_merged : (schema : Schema) (norms : List (ℕ × List ℕ)) (ms : List Member) (all : List (List IndexedField)) (was : Sections) (whole : List (ℕ × Entry)) → AreSome schema norms ms all was was whole whole
 none_merged schema norms ms all was whole = record {
   fields = [];
   names = refl;
   each = tt;
-  added = record { terms = sym (append_nil was.terms); postings = sym (append_nil was.postings); positions = sym (append_nil was.positions) };
+  added = record { terms = sym (append-nil was.terms); postings = sym (append-nil was.postings); positions = sym (append-nil was.positions) };
 }
 
 joined : {A : Type 0} (f : A → List ℕ) (was now new : List ℕ) (xs : List A) (x : A) → now ≡ was ++ flat_map f xs → new ≡ now ++ flat_map f (x ∷ []) → new ≡ was ++ flat_map f (xs ++ x ∷ [])
-joined f was now new xs x first more = more ∙ ap₂ (λ ys zs. ys ++ zs) first (append_nil (f x)) ∙ append_assoc was (flat_map f xs) (f x) ∙ ap (λ ys. was ++ ys) (sym (flat_map_push f xs x))
+joined f was now new xs x first more = more ∙ ap₂ (λ ys zs. ys ++ zs) first (append-nil (f x)) ∙ append_assoc was (flat_map f xs) (f x) ∙ ap (λ ys. was ++ ys) (sym (flat_map_push f xs x))
 
 added_more : (was now new : Sections) (fields : List IndexedField) (f : IndexedField) → AreFieldsAdded was now fields → AreFieldsAdded now new (f ∷ []) → AreFieldsAdded was new (fields ++ f ∷ [])
 added_more was now new fields f before more = record {
@@ -70,7 +66,7 @@ module _ (schema : Schema) (norms : List (ℕ × List ℕ)) (ms : List Member) (
 pub all_merged : (schema : Schema) (norms : List (ℕ × List ℕ)) (ms : List Member) (all : List (List IndexedField)) (was now : Sections) (rest : List (ℕ × Entry)) → rest ≡ [] → AreSome schema norms ms all was now (enumerate_from 0 schema) rest → AreMerged schema norms ms all was now
 all_merged schema norms ms all was now rest none done = record {
   fields = done.fields;
-  names = sym (done.names ∙ ap (λ ps. map (λ (f : IndexedField). f.field) done.fields ++ numbers ps) none ∙ append_nil (map (λ (f : IndexedField). f.field) done.fields));
+  names = sym (done.names ∙ ap (λ ps. map (λ (f : IndexedField). f.field) done.fields ++ numbers ps) none ∙ append-nil (map (λ (f : IndexedField). f.field) done.fields));
   each = done.each;
   added = done.added;
 }

@@ -1,5 +1,5 @@
 -- A field of a merge has the terms for which there are postings.
-use Rattle.std.proofs.Common.{[], Bool, IsSomeAnd, List, None, Option, Some, ap, append_assoc, arith, bytes_eq, false, find, flat_map, if◌then◌else◌, inl, inr, length, map, option_map, refl, slice_get, subst, suc, sum_by, sym, true, true≢false, zero, ◌++◌, ◌+◌, ◌<◌, ◌^◌, ◌||◌, ◌≡◌, ◌≤◌, ◌∙◌, ◌∷◌, ℕ}
+use Rattle.std.proofs.Common.{[], Bool, IsSomeAnd, List, None, Option, Some, ap, append-nil, append_assoc, arith, bytes_eq, false, find, flat_map, if◌then◌else◌, inl, inr, length, map, option_map, refl, slice_get, subst, suc, sum_by, sym, true, true≢false, zero, ◌++◌, ◌+◌, ◌<◌, ◌^◌, ◌||◌, ◌≡◌, ◌≤◌, ◌∙◌, ◌∷◌, ℕ}
 use Rattle.std.proofs.lemmas.List.{length-map}
 use Rattle.std.proofs.lemmas.List.Sums.{sum_by-cons}
 use Rattle.std.specs.List.{AllByRecursion, list_any}
@@ -145,12 +145,8 @@ all_among schema end ms all field key are some = told_among key field (merged_ke
 
 -- ---- a field behind the others
 
-append_nil : {A : Type 0} (xs : List A) → xs ++ [] ≡ xs
-append_nil [] = refl
-append_nil (x ∷ xs) = ap (λ ys. x ∷ ys) (append_nil xs)
-
 regroup : (a b c d e : List ℕ) → a ++ b ++ c ++ d ++ e ≡ a ++ ((b ++ c ++ d ++ e) ++ [])
-regroup a b c d e = append_assoc (a ++ b ++ c) d e ∙ append_assoc (a ++ b) c (d ++ e) ∙ append_assoc a b (c ++ (d ++ e)) ∙ ap (λ xs. a ++ xs) (sym (append_nil (b ++ c ++ d ++ e) ∙ append_assoc (b ++ c) d e ∙ append_assoc b c (d ++ e)))
+regroup a b c d e = append_assoc (a ++ b ++ c) d e ∙ append_assoc (a ++ b) c (d ++ e) ∙ append_assoc a b (c ++ (d ++ e)) ∙ ap (λ xs. a ++ xs) (sym (append-nil (b ++ c ++ d ++ e) ∙ append_assoc (b ++ c) d e ∙ append_assoc b c (d ++ e)))
 
 abbrev spelled_field : List ℕ → ℕ → ℕ → ℕ → List ℕ → List ℕ
 spelled_field closed field tokens count entries = closed ++ u32_bytes field ++ u64_bytes tokens ++ vint_bytes count ++ entries
@@ -200,8 +196,8 @@ module _ (s now : Sections) (field : ℕ) (e : Entry) (norms : Option (List ℕ)
   pub field_added : now ≡ field_closed w → AreFieldsAdded s now (record { field = field; terms = ts } ∷ [])
   field_added is = record {
     terms = ap (λ (x : Sections). x.terms) is ∙ terms_added;
-    postings = ap (λ (x : Sections). x.postings) is ∙ added.postings ∙ ap (λ xs. s.postings ++ xs) (sym (append_nil (flat_map (λ (t : IndexedTerm). t.postings_bytes) ts)));
-    positions = ap (λ (x : Sections). x.positions) is ∙ ap (λ (x : List ℕ × List ℕ). x.0) added.positions ∙ ap (λ xs. s.positions ++ xs) (sym (append_nil (flat_map (λ (t : IndexedTerm). t.positions_bytes) ts)));
+    postings = ap (λ (x : Sections). x.postings) is ∙ added.postings ∙ ap (λ xs. s.postings ++ xs) (sym (append-nil (flat_map (λ (t : IndexedTerm). t.postings_bytes) ts)));
+    positions = ap (λ (x : Sections). x.positions) is ∙ ap (λ (x : List ℕ × List ℕ). x.0) added.positions ∙ ap (λ xs. s.positions ++ xs) (sym (append-nil (flat_map (λ (t : IndexedTerm). t.positions_bytes) ts)));
   }
 
   pub field_given : TermsAscend (keys_told told) → AllByRecursion (IsOf given) told → ((key : List ℕ) → 0 < length (given key) → list_any (bytes_eq key) (keys_told told) ≡ true) → IsFieldGiven e (listed norms) given (record { field = field; terms = ts })

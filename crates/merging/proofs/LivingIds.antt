@@ -1,5 +1,5 @@
 -- Length ids of living documents.
-use Rattle.std.proofs.Common.{[], Bool, List, None, Some, ap, ap₂, append_assoc, arith, false, find, if◌then◌else◌, length, option_map, refl, slice_index, subst, suc, sym, take, true, zero, ◌++◌, ◌+◌, ◌<◌, ◌==◌, ◌≡◌, ◌≤◌, ◌∙◌, ◌∷◌, ℕ}
+use Rattle.std.proofs.Common.{[], Bool, List, None, Some, ap, append-nil, ap₂, append_assoc, arith, false, find, if◌then◌else◌, length, option_map, refl, slice_index, subst, suc, sym, take, true, zero, ◌++◌, ◌+◌, ◌<◌, ◌==◌, ◌≡◌, ◌≤◌, ◌∙◌, ◌∷◌, ℕ}
 use Rattle.std.specs.List.{AllByRecursion, items_where_true, slice_index_or}
 use Rattle.std.specs.Option.{option_map_or}
 use Rattle.layouts.specs.FieldNorms.{ids_of}
@@ -53,11 +53,7 @@ flagged_ids m field ids all is = go m.norms all is
 
 merged_suc : (field i : ℕ) (ms : List MemberNorms) (d : MemberNorms) → i < length ms → merged_ids field (take (suc i) ms) ≡ merged_ids field (take i ms) ++ items_where_true (slice_index_or ms i d).alive.now (field_ids (slice_index_or ms i d).norms field)
 merged_suc field i [] d within = absurd (omega (arith, within))
-merged_suc field zero (m ∷ ms) d within = append_nil (items_where_true m.alive.now (field_ids m.norms field))
-  where
-    append_nil : (xs : List ℕ) → xs ++ [] ≡ xs
-    append_nil [] = refl
-    append_nil (x ∷ xs) = ap (λ ys. x ∷ ys) (append_nil xs)
+merged_suc field zero (m ∷ ms) d within = append-nil (items_where_true m.alive.now (field_ids m.norms field))
 merged_suc field (suc i) (m ∷ ms) d within = ap (λ xs. items_where_true m.alive.now (field_ids m.norms field) ++ xs) (merged_suc field i ms d (omega (arith, within))) ∙ sym (append_assoc (items_where_true m.alive.now (field_ids m.norms field)) (merged_ids field (take i ms)) (items_where_true (slice_index_or ms i d).alive.now (field_ids (slice_index_or ms i d).norms field)))
 
 -- a member that has the field
@@ -74,11 +70,7 @@ merged_none field i ms m is within at =
     ∙ ap (λ (x : MemberNorms). merged_ids field (take i ms) ++ items_where_true x.alive.now (field_ids x.norms field)) (sym is)
     ∙ ap (λ o. merged_ids field (take i ms) ++ items_where_true m.alive.now (option_map_or (λ xs. xs) o [])) at
     ∙ ap (λ xs. merged_ids field (take i ms) ++ xs) (none_living m.alive.now)
-    ∙ append_nil (merged_ids field (take i ms))
-  where
-    append_nil : (xs : List ℕ) → xs ++ [] ≡ xs
-    append_nil [] = refl
-    append_nil (x ∷ xs) = ap (λ ys. x ∷ ys) (append_nil xs)
+    ∙ append-nil (merged_ids field (take i ms))
 
 pub all_members : (field i : ℕ) (ms : List MemberNorms) → length ms ≤ i → merged_ids field (take i ms) ≡ merged_ids field ms
 all_members field i ms long = ap (merged_ids field) (take_whole i ms long)

@@ -1,5 +1,5 @@
 -- The postings of a member's term.
-use Rattle.std.proofs.Common.{[], Bool, List, None, Option, Some, ap, arith, bytes_eq, false, find, if◌then◌else◌, length, map, refl, subst, sym, true, ◌++◌, ◌<◌, ◌==◌, ◌^◌, ◌≡◌, ◌∙◌, ◌∷◌, ℕ}
+use Rattle.std.proofs.Common.{[], Bool, List, None, Option, Some, ap, append-nil, arith, bytes_eq, false, find, if◌then◌else◌, length, map, refl, subst, sym, true, ◌++◌, ◌<◌, ◌==◌, ◌^◌, ◌≡◌, ◌∙◌, ◌∷◌, ℕ}
 use Rattle.std.specs.List.{AllByRecursion}
 use Rattle.std.specs.Option.{option_map_or}
 use Rattle.std.proofs.Math.Logic.{∥∥₁_elim}
@@ -105,13 +105,9 @@ none_from t es none = go (from t es) refl
 
 -- ---- nothing is written
 
-append_nil : {A : Type 0} (xs : List A) → xs ++ [] ≡ xs
-append_nil [] = refl
-append_nil (x ∷ xs) = ap (λ ys. x ∷ ys) (append_nil xs)
-
 pub nothing_written : (was : FieldWriting) → AreWritten was was []
 nothing_written was = record {
-  open_is = λ docs counts numbers is. subst (λ ns. IsOpen was (docs ++ []) (counts ++ []) ns) (sym (append_nil numbers)) (subst (λ ns. IsOpen was (docs ++ []) ns numbers) (sym (append_nil counts)) (subst (λ ds. IsOpen was ds counts numbers) (sym (append_nil docs)) is));
+  open_is = λ docs counts numbers is. subst (λ ns. IsOpen was (docs ++ []) (counts ++ []) ns) (sym (append-nil numbers)) (subst (λ ns. IsOpen was (docs ++ []) ns numbers) (sym (append-nil counts)) (subst (λ ds. IsOpen was ds counts numbers) (sym (append-nil docs)) is));
   total = omega arith;
   same = (refl, refl, refl, refl, refl, refl, refl, refl, refl);
 }

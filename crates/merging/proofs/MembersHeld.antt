@@ -1,8 +1,7 @@
 -- Members that are appended one after another.
-use Rattle.std.proofs.Common.{[], List, Some, ap, ap₂, append_assoc, arith, inl, inr, length, refl, slice_get, subst, suc, sym, take, zero, ◌++◌, ◌+◌, ◌<◌, ◌≡◌, ◌≤◌, ◌∙◌, ◌∷◌, ℕ}
+use Rattle.std.proofs.Common.{[], List, Some, ap, append-nil, ap₂, append_assoc, arith, inl, inr, length, refl, slice_get, subst, suc, sym, take, zero, ◌++◌, ◌+◌, ◌<◌, ◌≡◌, ◌≤◌, ◌∙◌, ◌∷◌, ℕ}
 use Rattle.std.specs.List.{AllByRecursion, items_where_true, slice_index_or}
 use Rattle.layouts.specs.Stores.{Hold}
-use Rattle.merging.proofs.SlotsLeft.{append_nil}
 use Rattle.common.specs.BitSets.{count_set}
 use Rattle.definitions.specs.declared.fault.Fault.{Fault}
 use Rattle.merging.specs.LivingSlots.{HasLongSlot, IsAppendRefusal}
@@ -19,7 +18,7 @@ pub record HeldAt (k : ℕ) (ms : List MemberStore) (all : List (List (List ℕ)
 at_number : (k : ℕ) (ms : List MemberStore) (all : List (List (List ℕ))) (d : MemberStore) → AreHeld ms all → k < length ms → HeldAt k ms all (slice_index_or ms k d)
 at_number k [] all d held within = absurd (omega (arith, within))
 at_number k (m ∷ ms) [] d held within = absurd held
-at_number zero (m ∷ ms) (slots ∷ all) d held within = record { slots = slots; hold = held.0; more = append_nil (items_where_true m.alive.now slots) }
+at_number zero (m ∷ ms) (slots ∷ all) d held within = record { slots = slots; hold = held.0; more = append-nil (items_where_true m.alive.now slots) }
 at_number (suc k) (m ∷ ms) (slots ∷ all) d held within =
     let later = at_number k ms all d held.1 (omega (arith, within)) in
     record {

@@ -1,5 +1,5 @@
 -- Members that are written one after another.
-use Rattle.std.proofs.Common.{[], List, ap, ap₂, append_assoc, arith, inl, inr, length, map, refl, subst, suc, sym, take, zero, ◌++◌, ◌+◌, ◌<◌, ◌||◌, ◌≡◌, ◌≤◌, ◌∙◌, ◌∷◌, ℕ}
+use Rattle.std.proofs.Common.{[], List, ap, append-nil, ap₂, append_assoc, arith, inl, inr, length, map, refl, subst, suc, sym, take, zero, ◌++◌, ◌+◌, ◌<◌, ◌||◌, ◌≡◌, ◌≤◌, ◌∙◌, ◌∷◌, ℕ}
 use Rattle.std.proofs.lemmas.List.{map-append}
 use Rattle.std.proofs.lemmas.List.Sums.{sum_by-append}
 use Rattle.std.specs.List.{slice_index_or}
@@ -74,10 +74,6 @@ ends_rise schema next end (m ∷ ms) (fields ∷ all) are =
     let base = are.1 in
     omega (arith, later, base)
 
-append_nil : {A : Type 0} (xs : List A) → xs ++ [] ≡ xs
-append_nil [] = refl
-append_nil (x ∷ xs) = ap (λ ys. x ∷ ys) (append_nil xs)
-
 pub member_at : (schema : Schema) (next end k : ℕ) (ms : List Member) (all : List (List IndexedField)) (d : Member) → AreMembers schema next end ms all → k < length ms → MemberAt schema end next k ms all (slice_index_or ms k d)
 member_at schema next end k [] all d are within = absurd (omega (arith, within))
 member_at schema next end k (m ∷ ms) [] d are within = absurd are
@@ -87,7 +83,7 @@ member_at schema next end zero (m ∷ ms) (fields ∷ all) d are within = record
   base = are.1;
   ends = refl;
   within = ends_rise schema (end_of m.doc_ids) end ms all are.2;
-  more = λ field key. append_nil (living_of m.doc_ids (postings_in fields field key));
+  more = λ field key. append-nil (living_of m.doc_ids (postings_in fields field key));
   split = λ field key. (merged_in field key ms all, refl);
 }
 member_at schema next end (suc k) (m ∷ ms) (fields ∷ all) d are within =

@@ -1,5 +1,5 @@
 -- Slots of living documents.
-use Rattle.std.proofs.Common.{[], Bool, List, ap, ap₂, arith, false, filter, if◌then◌else◌, inl, inr, leb-true, length, length-append, nat_le, nat_lt, refl, suc, take, true, zero, ◌++◌, ◌+◌, ◌<◌, ◌^◌, ◌||◌, ◌≡◌, ◌≤◌, ◌⊎◌, ◌∙◌, ◌∷◌, ℕ}
+use Rattle.std.proofs.Common.{[], Bool, List, ap, append-nil, ap₂, arith, false, filter, if◌then◌else◌, inl, inr, leb-true, length, length-append, nat_le, nat_lt, refl, suc, take, true, zero, ◌++◌, ◌+◌, ◌<◌, ◌^◌, ◌||◌, ◌≡◌, ◌≤◌, ◌⊎◌, ◌∙◌, ◌∷◌, ℕ}
 use Rattle.std.proofs.lemmas.List.Sums.{count_by_more_yes, length-filter}
 use Rattle.std.specs.List.{concat, items_where_true, slice_index_or}
 use Rattle.common.specs.BitSets.{count_set}
@@ -43,10 +43,6 @@ take_whole (suc k) (x ∷ xs) long = ap (λ ys. x ∷ ys) (take_whole k xs (omeg
 
 pub living_all : {X : Type 0} (i : ℕ) (flags : List Bool) (xs : List X) → length xs ≤ i → length xs ≡ length flags → items_where_true (take i flags) (take i xs) ≡ items_where_true flags xs
 living_all i flags xs long same = ap₂ items_where_true (take_whole i flags (omega (arith, long, same))) (take_whole i xs long)
-
-pub append_nil : {X : Type 0} (xs : List X) → xs ++ [] ≡ xs
-append_nil [] = refl
-append_nil (x ∷ xs) = ap (λ ys. x ∷ ys) (append_nil xs)
 
 -- ---- all are alive
 

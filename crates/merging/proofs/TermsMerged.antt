@@ -1,5 +1,5 @@
 -- Terms of a merge that are written one after another.
-use Rattle.std.proofs.Common.{[], IsSomeAnd, List, None, Some, ap, ap₂, append_assoc, arith, drop, flat_map, inl, inr, length, length-append, map, refl, slice_get, subst, sym, ◌++◌, ◌+◌, ◌<◌, ◌^◌, ◌≡◌, ◌∙◌, ◌∷◌, ℕ}
+use Rattle.std.proofs.Common.{[], IsSomeAnd, List, None, Some, ap, append-nil, ap₂, append_assoc, arith, drop, flat_map, inl, inr, length, length-append, map, refl, slice_get, subst, sym, ◌++◌, ◌+◌, ◌<◌, ◌^◌, ◌≡◌, ◌∙◌, ◌∷◌, ℕ}
 use Rattle.std.proofs.lemmas.List.{length-map, map-append}
 use Rattle.std.proofs.lemmas.List.Sums.{sum_by-append, sum_by-cons, sum_by_push}
 use Rattle.definitions.specs.Postings.{Posting}
@@ -18,10 +18,6 @@ use Rattle.postings_writer.specs.Limits.{TermPasses}
 use Rattle.postings_writer.specs.Sections.{IsSpelled, option_in}
 use Rattle.postings_writer.specs.Serializing.{IsWrittenTerm}
 
-append_nil : {A : Type 0} (xs : List A) → xs ++ [] ≡ xs
-append_nil [] = refl
-append_nil (x ∷ xs) = ap (λ ys. x ∷ ys) (append_nil xs)
-
 abbrev told_of : IndexedTerm → List ℕ × List Posting
 told_of t = (t.key, t.postings)
 
@@ -33,9 +29,9 @@ pub none_added : (kind : Kind) (was : FieldWriting) → was.positions.1 ≡ [] �
 none_added kind was nothing = record {
   told_are = refl;
   each = tt;
-  terms = ap₂ (λ es n. record { closed = was.terms.closed; entries = es; num_terms = n }) (sym (append_nil was.terms.entries)) (let P : was.terms.num_terms ≡ was.terms.num_terms + 0 = omega arith in P);
-  postings = sym (append_nil was.postings);
-  positions = ap₂ (λ xs ys. (xs, ys)) (sym (append_nil was.positions.0)) nothing;
+  terms = ap₂ (λ es n. record { closed = was.terms.closed; entries = es; num_terms = n }) (sym (append-nil was.terms.entries)) (let P : was.terms.num_terms ≡ was.terms.num_terms + 0 = omega arith in P);
+  postings = sym (append-nil was.postings);
+  positions = ap₂ (λ xs ys. (xs, ys)) (sym (append-nil was.positions.0)) nothing;
   few = λ some. absurd (omega arith);
   tokens = omega arith;
   tokens_fit = λ fit. fit;
@@ -121,7 +117,7 @@ more_so_far kind was now new rest whole key (p ∷ ps) before written = record {
 }
 
 pub all_so_far : (kind : Kind) (was now : FieldWriting) (whole : Told) → AreSoFar kind was now [] whole → (ts : List IndexedTerm) × AreAdded kind was now whole ts
-all_so_far kind was now whole done = (done.terms, subst (λ told. AreAdded kind was now told done.terms) (sym (append_nil done.told) ∙ done.split) done.added)
+all_so_far kind was now whole done = (done.terms, subst (λ told. AreAdded kind was now told done.terms) (sym (append-nil done.told) ∙ done.split) done.added)
 
 -- ---- what is refused
 

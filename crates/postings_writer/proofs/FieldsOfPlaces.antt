@@ -1,5 +1,5 @@
 -- A field that was written has the terms that have places, with their postings.
-use Rattle.std.proofs.Common.{[], ◌++◌, ◌⊎◌, ◌≤◌, IsSomeAnd, inl, inr, slice_get, suc, zero, ◌+◌, ◌<◌, ◌^◌, ◌≡◌, ◌∙◌, ◌∷◌, IsSome, List, Option, Some, ap, ap₂, append_assoc, arith, bytes_eq, length, map, refl, subst, sum_by, sym, true, zero-add, ℕ}
+use Rattle.std.proofs.Common.{[], ◌++◌, ◌⊎◌, ◌≤◌, IsSomeAnd, append-nil, inl, inr, slice_get, suc, zero, ◌+◌, ◌<◌, ◌^◌, ◌≡◌, ◌∙◌, ◌∷◌, IsSome, List, Option, Some, ap, ap₂, append_assoc, arith, bytes_eq, length, map, refl, subst, sum_by, sym, true, zero-add, ℕ}
 use Rattle.std.specs.List.{AllByRecursion, flat_map, list_any}
 use Rattle.std.specs.Map.{lookup}
 use Rattle.std.proofs.lemmas.List.{length-map}
@@ -76,12 +76,8 @@ keys_told (t ∷ ts) (r ∷ rs) told =
 
 -- ---- a field behind the others
 
-append_nil : {A : Type 0} (xs : List A) → xs ++ [] ≡ xs
-append_nil [] = refl
-append_nil (x ∷ xs) = ap (λ ys. x ∷ ys) (append_nil xs)
-
 regroup : (a b c d e : List ℕ) → a ++ b ++ c ++ d ++ e ≡ a ++ ((b ++ c ++ d ++ e) ++ [])
-regroup a b c d e = append_assoc (a ++ b ++ c) d e ∙ append_assoc (a ++ b) c (d ++ e) ∙ append_assoc a b (c ++ (d ++ e)) ∙ ap (λ xs. a ++ xs) (sym (append_nil (b ++ c ++ d ++ e) ∙ append_assoc (b ++ c) d e ∙ append_assoc b c (d ++ e)))
+regroup a b c d e = append_assoc (a ++ b ++ c) d e ∙ append_assoc (a ++ b) c (d ++ e) ∙ append_assoc a b (c ++ (d ++ e)) ∙ ap (λ xs. a ++ xs) (sym (append-nil (b ++ c ++ d ++ e) ∙ append_assoc (b ++ c) d e ∙ append_assoc b c (d ++ e)))
 
 abbrev spelled_field : List ℕ → ℕ → ℕ → ℕ → List ℕ → List ℕ
 spelled_field closed field tokens count entries = closed ++ u32_bytes field ++ u64_bytes tokens ++ vint_bytes count ++ entries
@@ -113,8 +109,8 @@ module _ (s now : Sections) (field : ℕ) (mode : IndexRecordOption) (norms : Op
   pub field_added : now ≡ field_closed w → AreFieldsAdded s now (record { field = field; terms = ts } ∷ [])
   field_added is = record {
     terms = ap (λ (x : Sections). x.terms) is ∙ terms_added;
-    postings = ap (λ (x : Sections). x.postings) is ∙ added.postings ∙ ap (λ xs. s.postings ++ xs) (sym (append_nil (flat_map (λ (t : IndexedTerm). t.postings_bytes) ts)));
-    positions = ap (λ (x : Sections). x.positions) is ∙ ap (λ (x : List ℕ × List ℕ). x.0) added.positions ∙ ap (λ xs. s.positions ++ xs) (sym (append_nil (flat_map (λ (t : IndexedTerm). t.positions_bytes) ts)));
+    postings = ap (λ (x : Sections). x.postings) is ∙ added.postings ∙ ap (λ xs. s.postings ++ xs) (sym (append-nil (flat_map (λ (t : IndexedTerm). t.postings_bytes) ts)));
+    positions = ap (λ (x : Sections). x.positions) is ∙ ap (λ (x : List ℕ × List ℕ). x.0) added.positions ∙ ap (λ xs. s.positions ++ xs) (sym (append-nil (flat_map (λ (t : IndexedTerm). t.positions_bytes) ts)));
   }
 
 -- behind no term there are as many as there may be

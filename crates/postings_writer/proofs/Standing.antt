@@ -1,5 +1,5 @@
 -- What a writer stands for, as one more occurrence is recorded.
-use Rattle.std.proofs.Common.{[], ◌++◌, ◌+◌, ◌<◌, ◌^◌, ◌≡◌, ◌≢◌, ◌≤◌, ◌∙◌, ◌∷◌, Bool, List, Some, ap, arith, bytes_eq, cond, drop, false, filter, length, map, nat_eq, refl, replicate, set, slice_get, subst, suc, sym, true, zero, ℕ}
+use Rattle.std.proofs.Common.{[], ◌++◌, ◌+◌, ◌<◌, ◌^◌, ◌≡◌, ◌≢◌, ◌≤◌, ◌∙◌, ◌∷◌, Bool, List, Some, ap, append-nil, arith, bytes_eq, cond, drop, false, filter, length, map, nat_eq, refl, replicate, set, slice_get, subst, suc, sym, true, zero, ℕ}
 use Rattle.std.specs.Int.{from_be_bytes, w32}
 use Rattle.std.specs.List.{AllByRecursion}
 use Rattle.std.proofs.Math.Seq.{drop-append_seam}
@@ -32,13 +32,9 @@ places_of-push t os o =
     go true = refl
     go false = refl
 
-append_nil : {A : Type 0} (xs : List A) → xs ++ [] ≡ xs
-append_nil [] = refl
-append_nil (x ∷ xs) = ap (λ ys. x ∷ ys) (append_nil xs)
-
 joined : (b : Bool) (ps : List (ℕ × ℕ)) (p : ℕ × ℕ) → ps ++ cond b (p ∷ []) [] ≡ cond b (ps ++ p ∷ []) ps
 joined true ps p = refl
-joined false ps p = append_nil ps
+joined false ps p = append-nil ps
 
 all_more : {A : Type 0} (P Q : A → Type 0) (xs : List A) (x : A) → ((y : A) → P y → Q y) → AllByRecursion P xs → Q x → AllByRecursion Q (xs ++ x ∷ [])
 all_more P Q [] x to each last = (last, tt)
@@ -82,7 +78,7 @@ module _ (schema : Schema) (w : Writer) (os : List Occurrence) (t : List ℕ) (d
   other_field f kind fits apart q =
       sym (places_of-push (term_bytes f kind q) os here
       ∙ ap (λ b. places_of (term_bytes f kind q) os ++ cond b ((doc, position) ∷ []) []) (ap (λ s. bytes_eq s (term_bytes f kind q)) k.whole ∙ other_fields k.field f k.entry.kind kind k.key q k.fits fits apart)
-      ∙ append_nil (places_of (term_bytes f kind q) os))
+      ∙ append-nil (places_of (term_bytes f kind q) os))
 
   -- one occurrence more
   pub stands_more : (new : Terms) → Stands schema w os → w.num_docs ≤ doc + 1 → position < 2 ^ 31

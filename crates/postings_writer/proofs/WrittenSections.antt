@@ -1,5 +1,5 @@
 -- All fields, as they are written to the sections of a segment.
-use Rattle.std.proofs.Common.{[], ◌++◌, ◌⊎◌, inl, inr, sum_by, ◌+◌, ◌<◌, ◌^◌, ◌≡◌, ◌≤◌, ◌∙◌, ◌∷◌, ◌||◌, Bool, List, Some, ap, ap₂, append_assoc, arith, bytes_eq, cond, false, filter, length, map, nat_eq, refl, slice_get, subst, suc, sym, true, zero, zero-add, ℕ}
+use Rattle.std.proofs.Common.{[], ◌++◌, ◌⊎◌, append-nil, inl, inr, sum_by, ◌+◌, ◌<◌, ◌^◌, ◌≡◌, ◌≤◌, ◌∙◌, ◌∷◌, ◌||◌, Bool, List, Some, ap, ap₂, append_assoc, arith, bytes_eq, cond, false, filter, length, map, nat_eq, refl, slice_get, subst, suc, sym, true, zero, zero-add, ℕ}
 use Rattle.std.specs.List.{AllByRecursion, enumerate_from, flat_map, list_any}
 use Rattle.std.specs.Option.{option_map_or}
 use Rattle.std.proofs.lemmas.Bool.Decides.{nat_tests}
@@ -47,20 +47,16 @@ pub record AreWrittenOf (schema : Schema) (norms : List (ℕ × List ℕ)) (os :
   pub each : AllByRecursion (IsStanding schema norms os) fields
   pub added : AreFieldsAdded was now fields
 
-append_nil : {A : Type 0} (xs : List A) → xs ++ [] ≡ xs
-append_nil [] = refl
-append_nil (x ∷ xs) = ap (λ ys. x ∷ ys) (append_nil xs)
-
 pub none_written : (schema : Schema) (norms : List (ℕ × List ℕ)) (os : List Occurrence) (was : Sections) (all : List (ℕ × Entry)) → AreWrittenOf schema norms os was was all all
 none_written schema norms os was all = record {
   fields = [];
   names = refl;
   each = tt;
-  added = record { terms = sym (append_nil was.terms); postings = sym (append_nil was.postings); positions = sym (append_nil was.positions) };
+  added = record { terms = sym (append-nil was.terms); postings = sym (append-nil was.postings); positions = sym (append-nil was.positions) };
 }
 
 joined : {A : Type 0} (f : A → List ℕ) (was now new : List ℕ) (xs : List A) (x : A) → now ≡ was ++ flat_map f xs → new ≡ now ++ flat_map f (x ∷ []) → new ≡ was ++ flat_map f (xs ++ x ∷ [])
-joined f was now new xs x first more = more ∙ ap₂ (λ ys zs. ys ++ zs) first (append_nil (f x)) ∙ append_assoc was (flat_map f xs) (f x) ∙ ap (λ ys. was ++ ys) (sym (flat_map_push f xs x))
+joined f was now new xs x first more = more ∙ ap₂ (λ ys zs. ys ++ zs) first (append-nil (f x)) ∙ append_assoc was (flat_map f xs) (f x) ∙ ap (λ ys. was ++ ys) (sym (flat_map_push f xs x))
 
 added_more : (was now new : Sections) (fields : List IndexedField) (f : IndexedField) → AreFieldsAdded was now fields → AreFieldsAdded now new (f ∷ []) → AreFieldsAdded was new (fields ++ f ∷ [])
 added_more was now new fields f before more = record {
@@ -226,7 +222,7 @@ module _ (schema : Schema) (w : Writer) (num_docs : ℕ) (norms : List (ℕ × L
   -- what all fields together are
   pub all_written : (was now : Sections) (rest : List (ℕ × Entry)) → was ≡ record { terms = 0 ∷ []; postings = []; positions = [] } → rest ≡ [] → AreWrittenOf schema norms os was now (enumerate_from 0 schema) rest → (fields : List IndexedField) × AreSections schema num_docs norms fields now.terms now.postings now.positions × AreGiven given schema fields × AllByRecursion (IsFieldWithin schema) fields
   all_written was now rest new none written =
-      let names : map (λ (f : IndexedField). f.field) written.fields ≡ indexed_fields schema = sym (written.names ∙ ap (λ es. map (λ (f : IndexedField). f.field) written.fields ++ numbers es) none ∙ append_nil (map (λ (f : IndexedField). f.field) written.fields)) in (
+      let names : map (λ (f : IndexedField). f.field) written.fields ≡ indexed_fields schema = sym (written.names ∙ ap (λ es. map (λ (f : IndexedField). f.field) written.fields ++ numbers es) none ∙ append-nil (map (λ (f : IndexedField). f.field) written.fields)) in (
         written.fields,
         record {
           names = names;

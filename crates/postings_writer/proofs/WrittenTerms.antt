@@ -1,5 +1,5 @@
 -- Postings as they are written to a term, one after another.
-use Rattle.std.proofs.Common.{[], ◌++◌, ◌+◌, ◌<◌, ◌^◌, ◌≡◌, ◌≤◌, ◌∙◌, ◌∷◌, ◌⊎◌, IfSome, List, None, Option, Some, ap, ap₂, append_assoc, arith, drop, inl, inr, length, length-append, map, refl, slice_index, subst, suc, sum, sum_by, sym, zero, ◌*◌, ◌/◌, ℕ}
+use Rattle.std.proofs.Common.{[], ◌++◌, ◌+◌, ◌<◌, ◌^◌, ◌≡◌, ◌≤◌, ◌∙◌, ◌∷◌, ◌⊎◌, IfSome, List, None, Option, Some, ap, append-nil, ap₂, append_assoc, arith, drop, inl, inr, length, length-append, map, refl, slice_index, subst, suc, sum, sum_by, sym, zero, ◌*◌, ◌/◌, ℕ}
 use Rattle.std.specs.List.{AllByRecursion}
 use Rattle.std.proofs.lemmas.List.{map-append}
 use Rattle.std.proofs.lemmas.List.Sums.{sum_by_push}
@@ -48,16 +48,12 @@ pub record Written (was now : FieldWriting) (all rest : List Posting) : Type 0 w
   pub total : now.total_term_freq ≡ was.total_term_freq + tokens_in done
   pub same : IsSame was now
 
-append_nil : {A : Type 0} (xs : List A) → xs ++ [] ≡ xs
-append_nil [] = refl
-append_nil (x ∷ xs) = ap (λ ys. x ∷ ys) (append_nil xs)
-
 pub none_written : (was : FieldWriting) (all : List Posting) → CanWrite was.writing.next was.writing.norms all → Written was was all all
 none_written was all can = record {
   done = [];
   split = refl;
   can = can;
-  open_is = λ docs counts numbers is. subst (λ ns. IsOpen was (docs ++ []) (counts ++ []) ns) (sym (append_nil numbers)) (subst (λ ns. IsOpen was (docs ++ []) ns numbers) (sym (append_nil counts)) (subst (λ ds. IsOpen was ds counts numbers) (sym (append_nil docs)) is));
+  open_is = λ docs counts numbers is. subst (λ ns. IsOpen was (docs ++ []) (counts ++ []) ns) (sym (append-nil numbers)) (subst (λ ns. IsOpen was (docs ++ []) ns numbers) (sym (append-nil counts)) (subst (λ ds. IsOpen was ds counts numbers) (sym (append-nil docs)) is));
   total = omega arith;
   same = (refl, refl, refl, refl, refl, refl, refl, refl, refl);
 }
@@ -109,7 +105,7 @@ written_more was now new all rest after p deltas before is deltas_are more count
         ∙ ap (λ ns. counts ++ ns) (sym (map-append (λ (q : Posting). recorded_count was.writing.option q.count) before.done (p ∷ [])))
 
     numbers_join : (ps : List Posting) → numbers_in (ps ++ p ∷ []) ≡ numbers_in ps ++ differences 0 p.positions
-    numbers_join [] = append_nil (differences 0 p.positions)
+    numbers_join [] = append-nil (differences 0 p.positions)
     numbers_join (q ∷ ps) = ap (λ ns. differences 0 q.positions ++ ns) (numbers_join ps) ∙ sym (append_assoc (differences 0 q.positions) (numbers_in ps) (differences 0 p.positions))
 
     numbers_are : (numbers : List ℕ) → (numbers ++ numbers_in before.done) ++ deltas ≡ numbers ++ numbers_in (before.done ++ p ∷ [])
@@ -117,7 +113,7 @@ written_more was now new all rest after p deltas before is deltas_are more count
 
 -- all were written
 pub written_all : (was now : FieldWriting) (all rest : List Posting) (before : Written was now all rest) → rest ≡ [] → before.done ≡ all
-written_all was now all rest before none = sym (before.split ∙ ap (λ ps. before.done ++ ps) none ∙ append_nil before.done)
+written_all was now all rest before none = sym (before.split ∙ ap (λ ps. before.done ++ ps) none ∙ append-nil before.done)
 
 pub all_opened : (was now : FieldWriting) (all rest : List Posting) → Written was now all rest → rest ≡ [] → (docs counts numbers : List ℕ) → IsOpen was docs counts numbers → IsOpen now (docs ++ docs_in all) (counts ++ counts_in was all) (numbers ++ numbers_in all)
 all_opened was now all rest before none docs counts numbers is = subst (λ ps. IsOpen now (docs ++ docs_in ps) (counts ++ counts_in was ps) (numbers ++ numbers_in ps)) (written_all was now all rest before none) (before.open_is docs counts numbers is)

@@ -1,8 +1,8 @@
-use Rattle.std.proofs.Common.{[], Bool, List, ap, append_assoc, arith, false, length, subst, sym, take, true, ◌++◌, ◌+◌, ◌<◌, ◌≡◌, ◌≤◌, ◌∙◌, ◌∷◌, ℕ}
+use Rattle.std.proofs.Common.{[], Bool, List, ap, append-nil, append_assoc, arith, false, length, subst, sym, take, true, ◌++◌, ◌+◌, ◌<◌, ◌≡◌, ◌≤◌, ◌∙◌, ◌∷◌, ℕ}
 use Rattle.std.proofs.lemmas.List.Sums.{count_by_more_no, count_by_more_yes}
 use Rattle.std.proofs.lemmas.Result.{err_from_is_err_and}
 use Rattle.std.specs.List.{items_where_true, slice_index_or}
-use Rattle.merging.proofs.SlotsLeft.{all_counted, append_nil, hold_many, living_all, living_more, slot_refused}
+use Rattle.merging.proofs.SlotsLeft.{all_counted, hold_many, living_all, living_more, slot_refused}
 use Rattle.store.specs.Writing.{HoldsSlots, Written, docs_of}
 use Rattle.merging.proofs.living_slots.append_slots.Goals as goal
 use Rattle.merging.proofs.living_slots.append_slots.Goals.{else-is_alive, then-is_alive+in_ok-append_slot}
@@ -47,7 +47,7 @@ loop-doc-preserved c =
                 let within : i < length slots = omega (arith, many, inside, end) in
                 let alike : length slots ≡ length flags = omega (arith, many, same) in
                 subst (λ x. HoldsSlots x (held ++ items_where_true (take (i + 1) flags) (take (i + 1) slots))) (sym w.writer-is)
-                (subst (λ xs. HoldsSlots c.loop-doc.writer (held ++ xs)) (sym (living_more i flags slots [] false within alike dead ∙ append_nil (before slots)))
+                (subst (λ xs. HoldsSlots c.loop-doc.writer (held ++ xs)) (sym (living_more i flags slots [] false within alike dead ∙ append-nil (before slots)))
                 (inv.held held slots holds hold)));
             docs = omega (arith, more, docs, now);
             size = ap (λ (x : Written). x.block_size) w.writer-is ∙ inv.size;

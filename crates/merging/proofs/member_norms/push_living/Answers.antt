@@ -1,12 +1,8 @@
-use Rattle.std.proofs.Common.{[], ap, append_assoc, arith, false, length, refl, slice_index, sym, take, true, ◌++◌, ◌<◌, ◌≡◌, ◌∙◌, ◌∷◌, ℕ, List}
+use Rattle.std.proofs.Common.{[], ap, append-nil, append_assoc, arith, false, length, refl, slice_index, sym, take, true, ◌++◌, ◌<◌, ◌≡◌, ◌∙◌, ◌∷◌, ℕ, List}
 use Rattle.std.specs.List.{items_where_true}
 use Rattle.merging.proofs.LivingIds.{living_more}
 use Rattle.merging.proofs.member_norms.push_living.Goals as goal
 use Rattle.merging.proofs.member_norms.push_living.Goals.{else-is_alive, then-is_alive+in_ok-push}
-
-append_nil : (xs : List ℕ) → xs ++ [] ≡ xs
-append_nil [] = refl
-append_nil (x ∷ xs) = ap (λ ys. x ∷ ys) (append_nil xs)
 
 pub loop-doc-preserved : goal.loop-doc-preserved
 loop-doc-preserved c =
@@ -26,5 +22,5 @@ loop-doc-preserved c =
           ∙ ap (λ xs. c.args.out.now.items ++ xs) (sym (living_more i flags ids true within c.requires (sym c.is_alive.ensures ∙ w.if-is_alive.true)))
       | else-is_alive w ↦
           ap (λ v. v.items) w.out-is ∙ c.loop-doc.invariant
-          ∙ ap (λ xs. c.args.out.now.items ++ xs) (sym (living_more i flags ids false within c.requires (sym c.is_alive.ensures ∙ w.if-is_alive.false) ∙ append_nil before))
+          ∙ ap (λ xs. c.args.out.now.items ++ xs) (sym (living_more i flags ids false within c.requires (sym c.is_alive.ensures ∙ w.if-is_alive.false) ∙ append-nil before))
     ]
