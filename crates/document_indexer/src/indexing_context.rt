@@ -12,7 +12,7 @@ ghost use Rattle.document_indexer.specs.Contexts.{CanIndex, IsReady, Records, Re
 ghost use Rattle.document_indexer.specs.FieldLengths.{cut};
 ghost use Rattle.document_indexer.specs.Steps.{path_step, term_step, text_step};
 
-use crate::indexing_positions::IndexingPositions;
+use crate::indexing_positions::{IndexingPositions, POSITION_GAP};
 use crate::json_field::JsonField;
 use common::{Analyzer, BufferedStream, Token, TokenBuffer};
 use definitions::Fault;
@@ -21,9 +21,6 @@ use schema::Schema;
 use std::alloc::{AllocError, Global};
 use std::marker::Model;
 use terms::{Field, Type, push_json_path, push_term_header};
-
-/// How many positions stand between two texts.
-const POSITION_GAP: u32 = 1;
 
 /// What is recorded, where the next texts begin, and the document that is indexed. Each term is written into one
 /// buffer, and the tokens of each text into another.

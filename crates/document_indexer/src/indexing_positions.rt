@@ -8,6 +8,9 @@ use std::alloc::{AllocError, Global};
 use std::collections::HashMap;
 use std::marker::Model;
 
+/// How many positions stand between two texts of one field or path.
+pub(crate) const POSITION_GAP: u32 = 1;
+
 /// By the first bytes of a text's terms, the document that had such a text last, and where its next one begins.
 #[derive(Drop)]
 pub(crate) struct IndexingPositions {

@@ -11,7 +11,7 @@ use Rattle.segment_definitions.specs.SegmentBodies.{IsOfPart, Part, fresh, kept,
 use Rattle.index_file.specs.Lists.{IsListed, member_of}
 use Rattle.index_file.specs.Reading.{IsLeft}
 use Rattle.index_file.specs.declared.member.Member as code
-use Rattle.index_file.specs.declared.opener.Opener.{Opener}
+use Rattle.index_file.specs.declared.segment_opener.Opener.{Opener}
 use Rattle.index_file.specs.declared.part_reader.PartReader.{PartReader}
 
 -- what stands at a place begins what is left from there on

@@ -15,13 +15,13 @@ pub mod laws;
 mod making_checks;
 mod member;
 mod next_list;
-mod opener;
 mod part;
 mod part_reader;
 mod parts_reader;
 mod pieces;
 mod record;
 mod record_file;
+mod segment_opener;
 
 pub use body_reader::{SegmentsBody, read_segments_body};
 pub use body_writer::SegmentsBodyWriter;

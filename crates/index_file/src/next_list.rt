@@ -13,8 +13,8 @@ ghost use Rattle.segment_definitions.specs.SegmentBodies.{Makes, part_bytes};
 ghost use Rattle.segment_definitions.specs.Segments.{IsSegment};
 
 use crate::member::Member;
-use crate::opener::Opener;
 use crate::part_reader::PartReader;
+use crate::segment_opener::Opener;
 use crate::{Part, places_follow, read_segments_body};
 use bytes::Bytes;
 use common::AliveBitSet;

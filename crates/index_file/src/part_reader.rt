@@ -13,7 +13,7 @@ ghost use Rattle.segment_definitions.specs.Segments.{IsSegment};
 
 use crate::Part;
 use crate::member::Member;
-use crate::opener::Opener;
+use crate::segment_opener::Opener;
 use bytes::Bytes;
 use definitions::Fault;
 use segment::Segment;

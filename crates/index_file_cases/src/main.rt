@@ -1,4 +1,4 @@
-//! `segment_file_cases`: answers worked cases on files of an index over segments. Each line of standard input is a case,
+//! `index_file_cases`: answers worked cases on files of an index. Each line of standard input is a case,
 //! an operation and its arguments, and the line of standard output with the same number is its answer.
 #![tactic(auto)]
 

@@ -28,7 +28,7 @@ use Rattle.index_state.specs.Deletions.{IsSmall, numbered}
 use Rattle.index_state.specs.Flags.{AreFlagged, flagged_each}
 use Rattle.index_state.specs.Given.{IsGiven}
 use Rattle.index_state.specs.Standing.{IsMadeAlike, IsWaiting, Stands, status_of}
-use Rattle.index_state.specs.declared.pending_deletion.Deletion.{Deletion}
+use Rattle.index_state.specs.declared.deletions.Deletion.{Deletion}
 use Rattle.index_state.specs.declared.index_state.IndexState.{IndexState}
 use Rattle.index_state.specs.declared.status.Status.{Status}
 use Rattle.index_state.specs.declared.status.Status.TheVariants as statuses

@@ -1,7 +1,7 @@
 -- Deletions that wait for a commit.
 use Rattle.std.specs.Prelude.{◌*◌, ◌+◌, ◌<◌, List, ℕ}
 use Rattle.segment_definitions.specs.Waiting.{Numbered}
-use Rattle.index_state.specs.declared.pending_deletion.Deletion.{Deletion}
+use Rattle.index_state.specs.declared.deletions.Deletion.{Deletion}
 
 -- its term
 abbrev pub term_of : Deletion → List ℕ

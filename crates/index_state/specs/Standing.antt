@@ -18,7 +18,7 @@ use Rattle.segment_definitions.specs.Waiting.{Waits}
 use Rattle.index_state.specs.Deletions.{IsSmall, numbered}
 use Rattle.index_state.specs.Flags.{flagged_each, members}
 use Rattle.index_state.specs.Limits.{DocumentsPass}
-use Rattle.index_state.specs.declared.pending_deletion.Deletion.{Deletion}
+use Rattle.index_state.specs.declared.deletions.Deletion.{Deletion}
 use Rattle.index_state.specs.declared.index_state.IndexState.{IndexState}
 use Rattle.index_state.specs.declared.status.Status.{Status}
 use Rattle.index_state.specs.declared.status.Status.TheVariants as status

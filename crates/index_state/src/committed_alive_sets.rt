@@ -12,8 +12,7 @@ ghost use Rattle.index_state.specs.Flags.{AreFlagged, flagged_each};
 ghost use Rattle.segment_definitions.specs.Rows.{flagged, left_rows};
 ghost use Rattle.segment_definitions.specs.Waiting.{numbered_rows, pending_rows};
 
-use crate::deletions::{delete_all, delete_pending};
-use crate::pending_deletion::Deletion;
+use crate::deletions::{Deletion, delete_all, delete_pending};
 use common::AliveBitSet;
 use segment::Segment;
 use std::alloc::{AllocError, Global};

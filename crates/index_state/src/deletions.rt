@@ -1,8 +1,10 @@
-//! Deletions on alive sets.
+//! Deletions by term: by what they are refused, while they wait, and on alive sets.
 
 ghost use Rattle.std.specs.Prelude.{[], ◌*◌, ◌+◌, ◌∷◌, ◌≡◌, ◌≤◌, List, OnOk, length, map, ℕ};
 ghost use Rattle.std.specs.List.{AllByRecursion};
+ghost use Rattle.std.specs.Result.{result_err};
 ghost use Rattle.definitions.specs.Analyzers.{Analyzer};
+ghost use Rattle.definitions.specs.Calls.{delete_fault};
 ghost use Rattle.definitions.specs.Recorded.{holds};
 ghost use Rattle.definitions.specs.Schema.{Schema};
 ghost use Rattle.definitions.specs.Values.{Document};
@@ -11,11 +13,34 @@ ghost use Rattle.index_state.specs.Deletions.{IsSmall, numbered, term_of};
 ghost use Rattle.segment_definitions.specs.Rows.{cut_flags, flagged, left_rows};
 ghost use Rattle.segment_definitions.specs.Waiting.{struck_from};
 
-use crate::pending_deletion::Deletion;
 use common::{AliveBitSet, DocId};
+use definitions::Fault;
+use schema::Schema;
 use segment::{Segment, delete_in};
 use std::alloc::{AllocError, Global};
 use terms::Term;
+
+/// A deletion of the documents with a term that were added before it: those of so many full segments that wait, and so
+/// many of the segment behind them.
+#[derive(Drop)]
+pub(crate) struct Deletion {
+    pub(crate) term: Term,
+    pub(crate) segments: usize,
+    pub(crate) docs: usize,
+}
+
+/// Why no documents are deleted by a term: the schema lacks its field, or that isn't indexed.
+pub(crate) fn check_deletion(schema: &Schema, term: &Term) -> Result<(), Fault>
+    ensures { result_err result ≡ delete_fault schema.now term.now }
+{
+    if term.field().field_id() as usize >= schema.num_fields() {
+        return Err(Fault::UnknownField);
+    }
+    if !schema.get_field_entry(term.field()).is_indexed() {
+        return Err(Fault::NotIndexed);
+    }
+    Ok(())
+}
 
 /// Every deletion, on a segment that is committed.
 pub(crate) fn delete_all(segment: &Segment, deletions: &[Deletion], alive: &mut AliveBitSet)

@@ -21,11 +21,11 @@ ghost use Rattle.segment_definitions.specs.SegmentFiles.{IsGroup};
 ghost use Rattle.segment_definitions.specs.Segments.{IsSegment};
 ghost use Rattle.segment_search.specs.Hits.{hit_of, scored};
 
-use crate::call_checks::{check_deletion, check_document, check_slot};
+use crate::add_checks::{check_document, check_slot};
 use crate::commit_frame::commit_frame;
 use crate::committed_alive_sets::next_sets;
+use crate::deletions::{Deletion, check_deletion};
 use crate::parts::parted;
-use crate::pending_deletion::Deletion;
 use crate::pending_documents::WaitingDocs;
 use crate::prepared::Prepared;
 use crate::status::Status;

@@ -2,7 +2,7 @@
 //! commit.
 #![tactic(auto)]
 
-mod call_checks;
+mod add_checks;
 mod commit_frame;
 mod committed_alive_sets;
 mod deletions;
@@ -11,7 +11,6 @@ mod merge;
 mod merge_frame;
 mod merged_alive_sets;
 mod parts;
-mod pending_deletion;
 mod pending_documents;
 mod prepared;
 mod prepared_merge;

@@ -3,12 +3,12 @@
 
 mod phrase_prefix_weight;
 mod phrase_weight;
-mod prefixes;
+mod prefix_ends;
 mod read_suffixes;
 mod read_terms;
 mod whole_phrase;
 
 pub use phrase_prefix_weight::PhrasePrefixWeight;
 pub use phrase_weight::PhraseWeight;
-pub use prefixes::prefix_end;
+pub use prefix_ends::prefix_end;
 pub use whole_phrase::WholePhrase;

@@ -12,7 +12,7 @@ ghost use Rattle.phrase_weights.specs.Suffixes.{HaveBytes, read_places, suffix_p
 ghost use Rattle.segment_postings.specs.Cursors.{entries_left};
 ghost use Rattle.segment_reader.specs.SegmentReaders.{index_of};
 
-use crate::prefixes::prefix_end;
+use crate::prefix_ends::prefix_end;
 use options::IndexRecordOption;
 use segment_postings::SegmentPostings;
 use segment_reader::{InvertedIndexReader, SegmentReader, TermDictionary, TermInfo, TermRange};

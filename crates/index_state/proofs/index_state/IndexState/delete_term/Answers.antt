@@ -6,7 +6,7 @@ use Rattle.segment_search.proofs.Flagging.{flagged_within}
 use Rattle.index_state.proofs.Outcomes.{err_same, own_refuses, ready_of, status_refuses}
 use Rattle.index_state.proofs.Standings.{deleted_stands, kept_stands}
 use Rattle.index_state.specs.Standing.{Stands}
-use Rattle.index_state.specs.declared.pending_deletion.Deletion.{Deletion}
+use Rattle.index_state.specs.declared.deletions.Deletion.{Deletion}
 use Rattle.index_state.proofs.index_state.IndexState.delete_term.Goals as goal
 
 pub returns-in_err-check_writer-clause-left : goal.returns-in_err-check_writer-clause-left

@@ -1,8 +1,8 @@
-//! What an add and a deletion are refused by.
+//! What an add is refused by.
 
 ghost use Rattle.std.specs.Prelude.{◌+◌, ◌<◌, ◌^◌, ◌≡◌, ◌≤◌, ◌⊎◌, IfErr, OnOk, length};
 ghost use Rattle.std.specs.Result.{result_err};
-ghost use Rattle.definitions.specs.Calls.{delete_fault, document_given};
+ghost use Rattle.definitions.specs.Calls.{document_given};
 ghost use Rattle.definitions.specs.declared.fault.Fault.TheVariants as faults;
 ghost use Rattle.index_state.specs.Given.{IsGiven};
 ghost use Rattle.segment_definitions.specs.Slots.{slot};
@@ -11,7 +11,6 @@ use definitions::Fault;
 use document::{CompactDoc, has_unknown_field};
 use schema::Schema;
 use std::alloc::Global;
-use terms::Term;
 
 /// Why an add doesn't take a document: the schema lacks a field of it, or else a value can't be indexed.
 pub(crate) fn check_document(schema: &Schema, doc: &CompactDoc) -> Result<(), Fault>
@@ -46,19 +45,6 @@ pub(crate) fn check_slot(
     let slot = doc.serialize(alloc, schema)?;
     if slot.len() + beside >= 1 << 32 {
         return Err(Fault::Limit);
-    }
-    Ok(())
-}
-
-/// Why no documents are deleted by a term: the schema lacks its field, or that isn't indexed.
-pub(crate) fn check_deletion(schema: &Schema, term: &Term) -> Result<(), Fault>
-    ensures { result_err result ≡ delete_fault schema.now term.now }
-{
-    if term.field().field_id() as usize >= schema.num_fields() {
-        return Err(Fault::UnknownField);
-    }
-    if !schema.get_field_entry(term.field()).is_indexed() {
-        return Err(Fault::NotIndexed);
     }
     Ok(())
 }

@@ -1,7 +1,7 @@
 use Rattle.std.proofs.Common.{Some, ap, rules, sym, ◌++◌, ◌≡◌, ◌∙◌, ◌∷◌, []}
 use Rattle.definitions.specs.Prefixes.{prefix_end}
 use Rattle.phrase_weights.proofs.PrefixEnds.{ends_before, ends_here}
-use Rattle.phrase_weights.proofs.prefixes.prefix_end.Goals as goal
+use Rattle.phrase_weights.proofs.prefix_ends.prefix_end.Goals as goal
 
 -- src/prefixes.rt:17:13
 pub returns-then-last-lt255 : goal.returns-then-last-lt255

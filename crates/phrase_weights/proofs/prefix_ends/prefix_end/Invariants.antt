@@ -1,6 +1,6 @@
 use Rattle.std.proofs.Common.{length, ◌≡◌}
 use Rattle.definitions.specs.Prefixes.{prefix_end}
-use Rattle.phrase_weights.proofs.prefixes.prefix_end.Given as goal
+use Rattle.phrase_weights.proofs.prefix_ends.prefix_end.Given as goal
 
 -- what was taken away ends nowhere
 abbrev pub invariant-loop-last : goal.invariant-loop-last
