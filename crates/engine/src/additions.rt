@@ -1,4 +1,4 @@
-//! Documents that are added to an index.
+//! Additions of documents to an index.
 
 ghost use Rattle.std.specs.Prelude.{[], ◌++◌, ◌<◌, ◌∷◌, ◌≡◌, ◌≢◌, IfErr, IfOk, None, Ok, OnErr, OnOk, Some};
 ghost use Rattle.definitions.specs.Calls as calls;
@@ -17,10 +17,10 @@ use serde_json::Value as Json;
 use std::alloc::Global;
 
 impl<D: Device + Drop, A: Analyzer + Drop> Index<D, A> {
-    /// Adds a document; a search sees it after the next commit. One of an unknown field is `UnknownField`, and one with
-    /// a value that can't be indexed `NotIndexable`; one whose stored values are too long beside a block is `Limit`, and
-    /// changes nothing. Where a document fills a segment, the segment is made: want of memory or a limit then closes the
-    /// writer.
+    /// Adds `doc`; a search sees it after the next commit. A document of an unknown field is `UnknownField`, and one
+    /// with a value that can't be indexed `NotIndexable`; one whose stored values are too long beside a block is
+    /// `Limit`, and changes nothing. If `doc` fills a segment, the segment is written: out of memory or a limit then
+    /// closes the writer.
     pub fn add_document(&mut self, doc: CompactDoc) -> Result<(), Fault>
         ensures left { (c : calls.Configuration) (x : calls.Index) → IndexStands A.analyze self.old c x
             → (y : calls.Index) × calls.Leaves c x (calls.add_document doc) result y
@@ -39,8 +39,8 @@ impl<D: Device + Drop, A: Analyzer + Drop> Index<D, A> {
         self.index_state.add_document(doc)
     }
 
-    /// Adds the document that a JSON text holds, as `add_document` does. A text that holds no JSON object is
-    /// `NotAnObject`; a value that its field doesn't take is refused as its type says.
+    /// Adds the document in the JSON `text`, like `add_document`. A text that isn't a JSON object is `NotAnObject`; a
+    /// value that its field doesn't accept is refused as its type says.
     pub fn add_json(&mut self, text: &str) -> Result<(), Fault>
         ensures left { (c : calls.Configuration) (x : calls.Index) → IndexStands A.analyze self.old c x
             → (y : calls.Index) × calls.Leaves c x (calls.add_json text.now) result y
@@ -66,7 +66,7 @@ impl<D: Device + Drop, A: Analyzer + Drop> Index<D, A> {
         self.add_value(&json)
     }
 
-    /// Adds the document in a JSON value, as `add_json` does.
+    /// Adds the document in the JSON value `value`, like `add_json`.
     pub fn add_value(&mut self, value: &Json) -> Result<(), Fault>
         ensures left { (c : calls.Configuration) (x : calls.Index) → IndexStands A.analyze self.old c x
             → (y : calls.Index) × calls.Leaves c x (calls.add_value (view value.now)) result y
@@ -93,7 +93,7 @@ impl<D: Device + Drop, A: Analyzer + Drop> Index<D, A> {
     }
 }
 
-/// The value in a text.
+/// Parses a JSON text.
 fn read_json(alloc: Global, text: &str) -> Result<Json, Fault>
     ensures ok { IfOk result (λ json. read text.now ≡ Some (view json)) }
     ensures err { IfErr result (λ fault. fault ≢ faults.OutOfMemory

@@ -14,9 +14,10 @@ use definitions::Fault;
 use index_state::Status;
 
 impl<D: Device + Drop, A: Analyzer + Drop> Index<D, A> {
-    /// Writes a record of what waits, also where nothing does, and makes searches see it: new segments whole, of those
-    /// that are committed a place and which documents are alive. `Limit`, as want of memory, closes the writer; after
-    /// `Device` the index is closed, and the file may have either list.
+    /// Commits what is pending: writes a record of it, also if nothing is, and makes searches see it. The record holds
+    /// new segments whole, and of each committed one its index in the list before; and which documents of each are
+    /// alive. `Limit`, like out of memory, closes the writer; after `Device` the index is closed, and the file may have
+    /// either list.
     pub fn commit(&mut self) -> Result<(), Fault>
         ensures left { (c : calls.Configuration) (x : calls.Index) → IndexStands A.analyze self.old c x
             → (y : calls.Index) × calls.Leaves c x calls.commit_pending result y
@@ -35,7 +36,7 @@ impl<D: Device + Drop, A: Analyzer + Drop> Index<D, A> {
         ensures short { OnOk result (gate_of self.new < 2 ^ 63) }
         ensures kept { IfErr result (λ fault. fault ≢ faults.Device → KeepsFile self.old self.new) }
 
-        // One record, also where nothing waits.
+        // One record, also if nothing is pending.
         ensures appended { (c : calls.Configuration) (x : calls.Index) → IndexStands A.analyze self.old c x
             → IsTrue (D.honest (device_of self.old))
             → OnOk result (AppendsRecord A.analyze self.old self.new
@@ -63,7 +64,7 @@ impl<D: Device + Drop, A: Analyzer + Drop> Index<D, A> {
     }
 }
 
-/// What may still be done after a commit that failed so.
+/// Returns what may still be done after a commit failed with `fault`.
 fn status_after(fault: Fault) -> Status
     ensures { status_of result ≡ (elim fault [ faults.Device ↦ calls.closed | _ ↦ calls.writer_closed ]) }
 {

@@ -11,7 +11,7 @@ use definitions::Fault;
 use terms::Term;
 
 impl<D: Device + Drop, A: Analyzer + Drop> Index<D, A> {
-    /// Deletes the documents with a term that were added before; a search misses them after the next commit. A term of
+    /// Deletes the documents with `term` that were added before; a search misses them after the next commit. A term of
     /// an unknown field is `UnknownField`, one of a field that isn't indexed `NotIndexed`.
     pub fn delete_term(&mut self, term: &Term) -> Result<(), Fault>
         ensures left { (c : calls.Configuration) (x : calls.Index) → IndexStands A.analyze self.old c x

@@ -26,7 +26,7 @@ use schema::Schema;
 use settings::Settings;
 use std::alloc::Global;
 
-/// An index: it takes documents and deletions, keeps each commit as a record of its device's file, and finds the
+/// An index: it accepts documents and deletions, keeps each commit as a record of its device's file, and finds the
 /// documents that are committed.
 #[derive(Drop)]
 pub struct Index<D: Device, A: Analyzer> {
@@ -35,9 +35,9 @@ pub struct Index<D: Device, A: Analyzer> {
 }
 
 impl<D: Device + Drop, A: Analyzer + Drop> Index<D, A> {
-    /// An index without documents, as the one record of an empty device's file. Refusals come in this order:
-    /// `TooManyFields` past 65536 fields, `UnknownTokenizer`, `BadSettings` where a weighted term has no JSON form,
-    /// `Device`, and `NotEmpty` where the device holds a byte.
+    /// Creates an index without documents, as the one record of the file on an empty `device`. Errors come in this
+    /// order: `TooManyFields` past 65536 fields, `UnknownTokenizer`, `BadSettings` if a weighted term has no JSON form,
+    /// `Device`, and `NotEmpty` if the device holds a byte.
     pub fn create(
         alloc: Global,
         device: D,
@@ -64,7 +64,7 @@ impl<D: Device + Drop, A: Analyzer + Drop> Index<D, A> {
             → IfErr result (λ r. r.fault ≡ faults.NotEmpty → D.content device ≢ []) }
         ensures rests { IsTrue (D.honest device) → IfOk result IndexRests }
 
-        // What no index can be made of doesn't touch the device; of other refusals `Device` alone may.
+        // What no index can be made of doesn't touch the device; of other errors only `Device` may.
         ensures untouched { IfErr result (λ r.
             making_fault (A.knows_name analyzer) schema settings ≡ Some r.fault → r.device ≡ device) }
         ensures kept { IsTrue (D.honest device) → IfErr result (λ r. r.fault ≢ faults.Device
@@ -98,8 +98,8 @@ impl<D: Device + Drop, A: Analyzer + Drop> Index<D, A> {
         }
     }
 
-    /// The index of a device's file, with the documents that were committed last. Refusals come in this order:
-    /// `Device`, `NoIndex`, `Damaged` with the place of a gate, `UnknownTokenizer`.
+    /// Opens the index of the file on `device`, with the documents that were committed last. Errors come in this order:
+    /// `Device`, `NoIndex`, `Damaged` with the offset of a gate, `UnknownTokenizer`.
     pub fn open(alloc: Global, device: D, analyzer: A) -> Result<Index<D, A>, Refused<D, A>>
         ensures opened { IfOk result (IsOpened A.analyze (A.analyze analyzer) device) }
         ensures known { IfOk result (λ index. are_analyzed (A.knows_name analyzer) (schema_of index) ≡ true) }
@@ -133,7 +133,7 @@ impl<D: Device + Drop, A: Analyzer + Drop> Index<D, A> {
         }
     }
 
-    /// The device and the analyzer, whatever the state; what waits is dropped.
+    /// Returns the device and the analyzer, whatever the state; what is pending is dropped.
     pub fn into_device(self) -> (D, A)
         ensures { (result.0 ≡ device_of self) × (result.1 ≡ analyzer_of self) }
     {
@@ -141,7 +141,7 @@ impl<D: Device + Drop, A: Analyzer + Drop> Index<D, A> {
         (file.into_device(), index_state.into_analyzer())
     }
 
-    /// What the index may still do.
+    /// Returns what the index may still do.
     pub fn state(&self) -> Status
         ensures { (c : calls.Configuration) (x : calls.Index) → IndexStands A.analyze self.now c x
             → x.status ≡ status_of result }
@@ -149,28 +149,28 @@ impl<D: Device + Drop, A: Analyzer + Drop> Index<D, A> {
         self.index_state.state()
     }
 
-    /// The fields.
+    /// Returns the schema.
     pub fn schema(&self) -> &Schema
         ensures { result.now ≡ schema_of self.now }
     {
         self.index_state.schema()
     }
 
-    /// The settings.
+    /// Returns the settings.
     pub fn settings(&self) -> &Settings
         ensures { result.now ≡ settings_of self.now }
     {
         self.index_state.settings()
     }
 
-    /// What it takes memory from.
+    /// Returns the allocator.
     pub fn alloc(&self) -> Global
         ensures { result ≡ alloc_of self.now }
     {
         self.index_state.alloc()
     }
 
-    /// Whether searches are answered.
+    /// Checks that searches are answered.
     pub fn check_open(&self) -> Result<(), Fault>
         ensures { (c : calls.Configuration) (x : calls.Index) → IndexStands A.analyze self.now c x
             → result_err result ≡ calls.status_fault x.status true }
@@ -178,7 +178,7 @@ impl<D: Device + Drop, A: Analyzer + Drop> Index<D, A> {
         self.index_state.check_open()
     }
 
-    /// Whether changes are taken.
+    /// Checks that changes are accepted.
     pub fn check_writer(&self) -> Result<(), Fault>
         ensures { (c : calls.Configuration) (x : calls.Index) → IndexStands A.analyze self.now c x
             → result_err result ≡ calls.status_fault x.status false }
@@ -186,7 +186,7 @@ impl<D: Device + Drop, A: Analyzer + Drop> Index<D, A> {
         self.index_state.check_writer()
     }
 
-    /// How many segments are committed, those without living documents too.
+    /// Returns the number of committed segments, those without living documents too.
     pub fn num_segments(&self) -> usize
         ensures { (c : calls.Configuration) (x : calls.Index) → IndexStands A.analyze self.now c x
             → result ≡ states.num_segments x.state }
@@ -194,7 +194,7 @@ impl<D: Device + Drop, A: Analyzer + Drop> Index<D, A> {
         self.index_state.num_segments()
     }
 
-    /// How many documents are committed and alive.
+    /// Returns the number of documents that are committed and alive.
     pub fn num_docs(&self) -> u64
         ensures { (c : calls.Configuration) (x : calls.Index) → IndexStands A.analyze self.now c x
             → result ≡ states.num_docs x.state }

@@ -1,4 +1,4 @@
-//! The index: it takes documents and deletions, keeps each commit as a record of its device's file, and finds what is
+//! The index: it accepts documents and deletions, keeps each commit as a record of its device's file, and finds what is
 //! committed.
 #![tactic(auto)]
 

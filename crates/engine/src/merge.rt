@@ -16,11 +16,10 @@ use index_state::Status;
 use std::ops::Range;
 
 impl<D: Device + Drop, A: Analyzer + Drop> Index<D, A> {
-    /// Makes one segment of the living documents of the committed segments in a range, in their place, or none where
-    /// there are no such documents, and writes a record of it. Searches answer as before; what waits for a commit
-    /// stays, and deletions that wait cover the merged documents. `BadRange` where the range names no segment, or more
-    /// than there are. After `Device` the index is closed, and the file may have either list; other refusals change
-    /// nothing.
+    /// Merges the committed segments of `range`: one segment of their living documents takes their place, or none if
+    /// there are no such documents, and a record of it is written. Searches answer as before; what is pending stays,
+    /// and pending deletions cover the merged documents. `BadRange` if the range names no segment, or more than there
+    /// are. After `Device` the index is closed, and the file may have either list; other errors change nothing.
     pub fn merge(&mut self, range: Range<usize>) -> Result<(), Fault>
         ensures left { (c : calls.Configuration) (x : calls.Index) → IndexStands A.analyze self.old c x
             → (y : calls.Index) × calls.Leaves c x (calls.merge_range range.start range.end) result y

@@ -1,4 +1,4 @@
-//! Reading the file of a device, and the index of what was read.
+//! The reading of a device's file, and the index of what was read.
 
 ghost use Rattle.std.specs.Prelude.{◌<◌, ◌^◌, ◌≡◌, ◌⊎◌, IfErr, IfOk, IsTrue, List, OnOk, length, map, true, ℕ};
 ghost use Rattle.std.specs.List.{AllByRecursion, AllZip};
@@ -58,7 +58,7 @@ pub(crate) fn read_file<D: Device, A: Analyzer>(
     Ok(file)
 }
 
-/// The index of what was read of a device's file.
+/// Opens the index of `file`, which was read from `device`.
 pub(crate) fn open_file<D: Device + Drop, A: Analyzer + Drop>(
     alloc: Global,
     device: D,

@@ -1,20 +1,20 @@
-//! A refusal that hands back what was handed in.
+//! An error that hands back what was handed in.
 
 ghost use Rattle.std.specs.Prelude.{◌≡◌};
 
 use definitions::Fault;
 
-/// Why an index isn't made or opened, and what was handed in.
+/// The error of an index that isn't made or opened, with what was handed in.
 pub struct Refused<D, A> {
-    /// The refusal.
+    /// The error.
     pub fault: Fault,
-    /// The device; after `Device` a part of the file may stand on it.
+    /// The device; after `Device` it may hold a part of the file.
     pub device: D,
     /// The analyzer.
     pub analyzer: A,
 }
 
-/// The refusal alone: device and analyzer are dropped.
+/// The error alone: device and analyzer are dropped.
 impl<D: Drop, A: Drop> From<Refused<D, A>> for Fault {
     ghost from_gives = { λ refused fault. fault ≡ refused.fault };
 

@@ -1,4 +1,4 @@
-//! Calls that ask an index.
+//! Searches of an index.
 
 ghost use Rattle.std.specs.Prelude.{◌≡◌, ◌≢◌, IfErr, IfOk, None, Some, map};
 ghost use Rattle.definitions.specs.Calls as calls;
@@ -16,8 +16,8 @@ use index_state::Hit;
 use query_trees::AnyQuery;
 
 impl<D: Device + Drop, A: Analyzer + Drop> Index<D, A> {
-    /// The best k of the committed documents that match, by score, and then by addition. The caches of the segments'
-    /// stores keep the blocks that are read.
+    /// Returns the best `k` of the committed documents that match, by score, and then in the order of addition. The
+    /// caches of the segments' stores keep the blocks that are read.
     pub fn search(&mut self, query: &AnyQuery, k: usize) -> Result<Vec<Hit>, Fault>
         ensures ok { (c : calls.Configuration) (x : calls.Index) → IndexStands A.analyze self.old c x
             → IfOk result (λ hits.
@@ -35,7 +35,7 @@ impl<D: Device + Drop, A: Analyzer + Drop> Index<D, A> {
         self.index_state.search(query, k)
     }
 
-    /// How many of the committed documents match.
+    /// Returns the number of committed documents that match.
     pub fn count(&self, query: &AnyQuery) -> Result<u64, Fault>
         ensures ok { (c : calls.Configuration) (x : calls.Index) → IndexStands A.analyze self.now c x
             → IfOk result (λ count.

@@ -1,4 +1,4 @@
-//! What is replied to requests of the index that stands.
+//! The replies to requests to the session's index.
 
 ghost use Rattle.std.specs.Prelude.{◌≡◌, ◌≢◌, ◌⊎◌, Err, IfErr, IfOk, IsErrOf, IsTrue, List, OnErr, OnOk, Some, false, map};
 ghost use Rattle.std.specs.Cow.{cow_str_bytes};
@@ -28,10 +28,10 @@ use serde_json::Value as Json;
 use settings::read_term;
 use std::borrow::CowStr;
 
-/// What is replied to a request that changed something.
+/// The reply to a request that changed something.
 const OK_REPLY: &str = "{\"ok\":true}";
 
-/// Does what a request asks for.
+/// Answers `request` to `index`.
 pub(crate) fn answer<D: Device + Drop, A: Analyzer + Drop>(
     index: &mut Index<D, A>,
     request: IndexRequest<'_>,
@@ -64,7 +64,7 @@ pub(crate) fn answer<D: Device + Drop, A: Analyzer + Drop>(
     }
 }
 
-/// Deletes the documents with a term that is read from JSON.
+/// Deletes the documents with a term that is decoded from JSON.
 fn delete<D: Device + Drop, A: Analyzer + Drop>(
     index: &mut Index<D, A>,
     term: &Json,
@@ -86,7 +86,7 @@ fn delete<D: Device + Drop, A: Analyzer + Drop>(
     index.delete_term(&term)
 }
 
-/// The reply to a search.
+/// Answers a search.
 fn search<D: Device + Drop, A: Analyzer + Drop>(
     index: &mut Index<D, A>,
     query: &Json,
@@ -108,7 +108,7 @@ fn search<D: Device + Drop, A: Analyzer + Drop>(
     }
 }
 
-/// The reply to a count.
+/// Answers a count.
 fn count<D: Device + Drop, A: Analyzer + Drop>(
     index: &Index<D, A>,
     query: &Json,
@@ -125,7 +125,7 @@ fn count<D: Device + Drop, A: Analyzer + Drop>(
     }
 }
 
-/// The hits of a query that is read from JSON.
+/// Returns the best `k` hits of a query that is decoded from JSON.
 fn find<D: Device + Drop, A: Analyzer + Drop>(
     index: &mut Index<D, A>,
     query: &Json,
@@ -149,7 +149,7 @@ fn find<D: Device + Drop, A: Analyzer + Drop>(
     index.search(&query, k as usize)
 }
 
-/// How many documents match a query that is read from JSON.
+/// Counts the documents that match a query that is decoded from JSON.
 fn find_count<D: Device + Drop, A: Analyzer + Drop>(
     index: &Index<D, A>,
     query: &Json,
@@ -168,7 +168,7 @@ fn find_count<D: Device + Drop, A: Analyzer + Drop>(
     index.count(&query)
 }
 
-/// The reply to a call that changes something.
+/// Encodes the reply to a call that changes something.
 pub(crate) fn answer_change(change: Result<(), Fault>) -> Result<CowStr<'static>, Fault>
     ensures text { IfOk result (λ text. cow_str_bytes text ≡ change_text change) }
     ensures on { OnOk result (GoesOn change) }
@@ -181,7 +181,7 @@ pub(crate) fn answer_change(change: Result<(), Fault>) -> Result<CowStr<'static>
     }
 }
 
-/// The reply that tells a fault. One that stops is told by the run.
+/// Returns the reply that reports `fault`. One that stops the run is an error here, and reported by the run.
 pub(crate) fn refusal(fault: Fault) -> Result<CowStr<'static>, Fault>
     ensures text { IfOk result (λ text. cow_str_bytes text ≡ reply_text fault) }
     ensures on { OnOk result (stops fault ≡ false) }

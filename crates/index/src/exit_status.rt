@@ -4,7 +4,7 @@ ghost use Rattle.std.specs.Prelude.{◌≡◌, IsErr, IsOk};
 
 use common::RunFault;
 
-/// The exit status of a program whose run ended so.
+/// Returns the exit status of a program whose run ended with `outcome`.
 pub fn status_of(outcome: &Result<(), RunFault>) -> u8
     ensures ok { IsOk outcome.now → result ≡ 0 }
     ensures err { IsErr outcome.now → result ≡ 1 }

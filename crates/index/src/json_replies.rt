@@ -1,4 +1,4 @@
-//! Replies written as JSON.
+//! Replies encoded as JSON.
 
 ghost use Rattle.std.specs.Prelude.{◌≡◌, IfOk, string_bytes};
 ghost use Rattle.definitions.specs.Replies as definitions;
@@ -7,14 +7,14 @@ ghost use Rattle.serde_json.specs.View.{view};
 use serde_json::{Value as Json, json};
 use std::alloc::{AllocError, Global};
 
-/// The text that a count is answered.
+/// Encodes the reply to a count.
 pub(crate) fn count_text(alloc: Global, count: u64) -> Result<String, AllocError>
     ensures { IfOk result (λ text. string_bytes text ≡ definitions.reply_of (definitions.count_reply count)) }
 {
     count_json(alloc, count)?.to_string(alloc)
 }
 
-/// What a count is answered.
+/// Returns the reply to a count as JSON.
 fn count_json(alloc: Global, count: u64) -> Result<Json, AllocError>
     ensures { IfOk result (λ json. view json ≡ definitions.count_reply count) }
 {

@@ -1,4 +1,4 @@
-//! Requests of an index as lines of JSON: what is asked, what is replied, and the run over the lines of an input.
+//! Requests to an index as lines of JSON: their forms, the replies, and the run over the lines of an input.
 #![tactic(auto)]
 
 mod answers;

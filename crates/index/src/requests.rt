@@ -1,4 +1,4 @@
-//! Requests read from JSON, and what an index is to be made of.
+//! Requests decoded from JSON, and what an index is to be made of.
 
 ghost use Rattle.std.specs.Prelude.{◌≡◌, ◌≢◌, ◌⊎◌, Err, IfErr, IfOk, Ok, option_map};
 ghost use Rattle.definitions.specs.Requests as definitions;
@@ -15,35 +15,35 @@ use serde_json::Value as Json;
 use settings::Settings;
 use std::alloc::Global;
 
-/// What a request asks for, with what it is about as it was sent.
+/// A request, with its arguments as they were sent.
 #[derive(Clone, Copy)]
 pub(crate) enum Request<'a> {
-    /// That an index be made of a schema and, where they are given, settings.
+    /// Create an index of a schema and, if they are given, settings.
     Create(&'a Json, Option<&'a Json>),
-    /// That the index of the device's file be opened.
+    /// Open the index of the device's file.
     Open,
-    /// Something of the index that stands.
+    /// A request to the session's index.
     Index(IndexRequest<'a>),
 }
 
-/// What is asked of the index that stands.
+/// A request to the session's index.
 #[derive(Clone, Copy)]
 pub(crate) enum IndexRequest<'a> {
-    /// That a document be added.
+    /// Add a document.
     Add(&'a Json),
-    /// That the documents with a term be deleted.
+    /// Delete the documents with a term.
     Delete(&'a Json),
-    /// That the committed segments from one place to another be made one.
+    /// Merge the committed segments from one index up to another.
     Merge(usize, usize),
-    /// That all that waits be seen.
+    /// Commit what is pending.
     Commit,
-    /// The best documents that match, and how many of them.
+    /// Search for the best documents that match: a query, and their number at most.
     Search(&'a Json, u64),
-    /// How many documents match.
+    /// Count the documents that match.
     Count(&'a Json),
 }
 
-/// The request in a JSON object, whose key `op` names it.
+/// Decodes the request in a JSON object, whose key `op` names it.
 #[tactic(auto, using(crate::proofs::RequestForms::request_by_name))]
 pub(crate) fn request_in(value: &Json) -> Option<Request<'_>>
     ensures { option_map request_of result ≡ definitions.request_in (view value.now) }
@@ -61,7 +61,7 @@ pub(crate) fn request_in(value: &Json) -> Option<Request<'_>>
     }
 }
 
-/// The request for an index to be made.
+/// Decodes a request to create an index.
 fn create_in(value: &Json) -> Option<Request<'_>>
     ensures { option_map request_of result ≡ definitions.create_request (view value.now) }
 {
@@ -72,7 +72,7 @@ fn create_in(value: &Json) -> Option<Request<'_>>
     Some(Request::Create(schema, value.get("settings")))
 }
 
-/// The request for an index to be opened.
+/// Decodes a request to open an index.
 fn open_in(value: &Json) -> Option<Request<'_>>
     ensures { option_map request_of result ≡ definitions.open_request (view value.now) }
 {
@@ -82,7 +82,7 @@ fn open_in(value: &Json) -> Option<Request<'_>>
     Some(Request::Open)
 }
 
-/// The request for a document to be added.
+/// Decodes a request to add a document.
 fn add_in(value: &Json) -> Option<Request<'_>>
     ensures { option_map request_of result ≡ definitions.add_request (view value.now) }
 {
@@ -92,7 +92,7 @@ fn add_in(value: &Json) -> Option<Request<'_>>
     Some(Request::Index(IndexRequest::Add(value.get("doc")?)))
 }
 
-/// The request for a deletion.
+/// Decodes a request to delete documents.
 fn delete_in(value: &Json) -> Option<Request<'_>>
     ensures { option_map request_of result ≡ definitions.delete_request (view value.now) }
 {
@@ -102,7 +102,7 @@ fn delete_in(value: &Json) -> Option<Request<'_>>
     Some(Request::Index(IndexRequest::Delete(value.get("term")?)))
 }
 
-/// The request for a merge.
+/// Decodes a request to merge segments.
 fn merge_in(value: &Json) -> Option<Request<'_>>
     ensures { option_map request_of result ≡ definitions.merge_request (view value.now) }
 {
@@ -114,7 +114,7 @@ fn merge_in(value: &Json) -> Option<Request<'_>>
     Some(Request::Index(IndexRequest::Merge(from as usize, to as usize)))
 }
 
-/// The request for a commit.
+/// Decodes a request to commit.
 fn commit_in(value: &Json) -> Option<Request<'_>>
     ensures { option_map request_of result ≡ definitions.commit_request (view value.now) }
 {
@@ -124,7 +124,7 @@ fn commit_in(value: &Json) -> Option<Request<'_>>
     Some(Request::Index(IndexRequest::Commit))
 }
 
-/// The request for the best documents.
+/// Decodes a request to search.
 fn search_in(value: &Json) -> Option<Request<'_>>
     ensures { option_map request_of result ≡ definitions.search_request (view value.now) }
 {
@@ -136,7 +136,7 @@ fn search_in(value: &Json) -> Option<Request<'_>>
     Some(Request::Index(IndexRequest::Search(query, k)))
 }
 
-/// The request for a count.
+/// Decodes a request to count.
 fn count_in(value: &Json) -> Option<Request<'_>>
     ensures { option_map request_of result ≡ definitions.count_request (view value.now) }
 {
@@ -146,7 +146,7 @@ fn count_in(value: &Json) -> Option<Request<'_>>
     Some(Request::Index(IndexRequest::Count(value.get("query")?)))
 }
 
-/// The schema and the settings that a request gives. Without settings the defaults stand.
+/// Decodes the schema and the settings of a request. Without `settings` they are the defaults.
 pub(crate) fn read_making(
     alloc: Global,
     schema: &Json,
@@ -163,7 +163,7 @@ pub(crate) fn read_making(
     Ok((schema, settings))
 }
 
-/// The settings that a request gives.
+/// Decodes the settings of a request, or returns the defaults.
 fn read_settings(alloc: Global, schema: &Schema, settings: Option<&Json>) -> Result<Settings, Fault>
     ensures ok { IfOk result (λ made.
         steps.settings_sent schema.now (option_map (λ d. view d.now) settings.entry) ≡ Ok made) }

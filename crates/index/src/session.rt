@@ -1,4 +1,4 @@
-//! A session: lines of JSON that speak to the index of a device.
+//! A session: lines of JSON that make requests to the index of a device.
 
 ghost use Rattle.std.specs.Prelude.{◌≡◌, IfErr, IfOk, IsErrOf, IsTrue, Some, false, is_some, option_map, true};
 ghost use Rattle.definitions.specs.Calls as calls;
@@ -25,7 +25,7 @@ use settings::Settings;
 use std::alloc::{AllocError, Global};
 use std::borrow::CowStr;
 
-/// A device, with the index on it where one stands, of which requests are made line by line.
+/// A session: a device, with its index once one is created or opened, to which requests are made line by line.
 #[derive(Drop)]
 pub struct Session<D: Device, A: Analyzer> {
     pub(crate) alloc: Global,
@@ -37,7 +37,7 @@ pub struct Session<D: Device, A: Analyzer> {
 impl<D: Device + Drop, A: Analyzer + Drop> Session<D, A> {
     ghost use Rattle.index.specs.Sessions.{HasHeld, IsKnown, IsSpare, StandsFor, analysis_of, parts_of, session_of, session_on};
 
-    /// A session over a device, in which no index stands.
+    /// Returns a session over `device`, in which no index is created or opened yet.
     pub fn new(alloc: Global, device: D, analyzer: A) -> Session<D, A>
         ensures stands { (held : steps.Held) → HasHeld D.honest D.content (A.analyze analyzer) device held
             → StandsFor result (session_on (analysis_of A.knows_name A.analyze analyzer) held) }
@@ -49,7 +49,7 @@ impl<D: Device + Drop, A: Analyzer + Drop> Session<D, A> {
         }
     }
 
-    /// A session in which this index stands.
+    /// Returns a session with `index`.
     pub fn with_index(index: Index<D, A>) -> Session<D, A>
         ensures stands { (x : calls.Index)
             → IndexStands A.analyze index
@@ -67,10 +67,10 @@ impl<D: Device + Drop, A: Analyzer + Drop> Session<D, A> {
         }
     }
 
-    /// The device and the analyzer, whatever stands; what waits is dropped.
+    /// Returns the device and the analyzer, with an index or without; what is pending is dropped.
     pub fn into_device(self) -> (D, A)
         ensures parts { parts_of self ≡ Some result }
-        // An honest device holds what is committed, so that a session over it, once its index is open, answers the same.
+        // An honest device holds what is committed, so a session over it answers alike, once its index is open.
         ensures held { (s : steps.Session) → StandsFor self s → IsTrue (D.honest result.0)
             → IsSpare D.honest D.content A.knows_name A.analyze s.analysis result.0 result.1 (steps.held_by s.stage) }
     {
@@ -106,7 +106,7 @@ impl<D: Device + Drop, A: Analyzer + Drop> Service for Session<D, A> {
 impl<D: Device + Drop, A: Analyzer + Drop> Session<D, A> {
     ghost use Rattle.index.specs.Sessions.{LeavesStage, Replies, StandsFor, failures_of, honest_of};
 
-    /// Answers a line.
+    /// Answers the request in `line`.
     pub(crate) fn answer_line(&mut self, line: &str) -> Result<CowStr<'static>, Fault>
         ensures answered { (s : steps.Session) → StandsFor self.old s
             → Replies self.old self.new s (steps.line_request line.now) result }
@@ -119,7 +119,7 @@ impl<D: Device + Drop, A: Analyzer + Drop> Session<D, A> {
         }
     }
 
-    /// Does what a value asks for.
+    /// Answers the request in a JSON value.
     fn answer_value(&mut self, json: &Json) -> Result<CowStr<'static>, Fault>
         ensures answered { (s : steps.Session) → StandsFor self.old s
             → Replies self.old self.new s (requests.request_in (view json.now)) result }
@@ -132,7 +132,7 @@ impl<D: Device + Drop, A: Analyzer + Drop> Session<D, A> {
         }
     }
 
-    /// Does what a request asks for.
+    /// Answers `request`.
     fn answer(&mut self, request: Request<'_>) -> Result<CowStr<'static>, Fault>
         ensures answered { (s : steps.Session) → StandsFor self.old s
             → Replies self.old self.new s (Some (request_of request.entry)) result }
@@ -146,7 +146,7 @@ impl<D: Device + Drop, A: Analyzer + Drop> Session<D, A> {
         }
     }
 
-    /// Makes an index, unless one is ready.
+    /// Creates an index, unless one is ready.
     fn create(&mut self, schema: &Json, settings: Option<&Json>) -> Result<CowStr<'static>, Fault>
         ensures answered { (s : steps.Session) → StandsFor self.old s
             → Replies self.old self.new s
@@ -176,7 +176,7 @@ impl<D: Device + Drop, A: Analyzer + Drop> Session<D, A> {
         answer_change(self.reopen())
     }
 
-    /// Does what is asked of the index that stands.
+    /// Answers a request to the session's index.
     fn ask(&mut self, request: IndexRequest<'_>) -> Result<CowStr<'static>, Fault>
         ensures answered { (s : steps.Session) → StandsFor self.old s
             → Replies self.old self.new s (Some (index_request_of request.entry)) result }
@@ -190,7 +190,7 @@ impl<D: Device + Drop, A: Analyzer + Drop> Session<D, A> {
         }
     }
 
-    /// Makes an index of these in place of what stands.
+    /// Creates an index of `schema` and `settings`, in place of the session's index, if any.
     fn make(&mut self, schema: Schema, settings: Settings) -> Result<(), Fault>
         ensures left { (s : steps.Session) → StandsFor self.old s → steps.is_ready s.stage ≡ false
             → LeavesStage A.knows_name A.analyze s.analysis (steps.held_by s.stage) self.new.stage result
@@ -207,7 +207,7 @@ impl<D: Device + Drop, A: Analyzer + Drop> Session<D, A> {
         change
     }
 
-    /// Opens the index of the device's file in place of what stands.
+    /// Opens the index of the device's file, in place of the session's index, if any.
     fn reopen(&mut self) -> Result<(), Fault>
         ensures left { (s : steps.Session) → StandsFor self.old s → steps.is_ready s.stage ≡ false
             → LeavesStage A.knows_name A.analyze s.analysis (steps.held_by s.stage) self.new.stage result
@@ -225,7 +225,7 @@ impl<D: Device + Drop, A: Analyzer + Drop> Session<D, A> {
         change
     }
 
-    /// Whether an index stands that takes every call.
+    /// Returns whether the session has an index that accepts every call.
     fn has_ready_index(&self) -> bool
         ensures { (s : steps.Session) → StandsFor self.now s → result ≡ steps.is_ready s.stage }
     {
@@ -236,7 +236,7 @@ impl<D: Device + Drop, A: Analyzer + Drop> Session<D, A> {
     }
 }
 
-/// The value in a line, if it is JSON.
+/// Parses `line`; `None` if it isn't JSON.
 fn parse_line(alloc: Global, line: &str) -> Result<Option<Json>, AllocError>
     ensures { IfOk result (λ found. option_map view found ≡ read line.now) }
 {

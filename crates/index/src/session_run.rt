@@ -1,5 +1,5 @@
-//! A run: the lines of an input, each answered by a session. Its functions stand beside no struct with a ghost field,
-//! since what their contracts cite names the session.
+//! The run over the lines of an input, each answered by a session. Its functions aren't beside a struct with a ghost
+//! field, since what their contracts cite names the session.
 
 ghost use Rattle.std.specs.Prelude.{◌≡◌, ◌≢◌, IfErr, IfOk, IfSome, IsErrOf, IsTrue, OnOk};
 ghost use Rattle.std.specs.Cow.{cow_str_bytes};
@@ -18,7 +18,7 @@ use std::alloc::Global;
 use std::borrow::CowStr;
 use std::io::{BufRead, Write};
 
-/// Answers the lines of an input one by one, until it ends, over a device on which no index stands yet.
+/// Answers the lines of `reader` one by one, until it ends, over a `device` on which no index is open yet.
 pub fn run<R: BufRead, W: Write, D: Device + Drop, A: Analyzer + Drop>(
     alloc: Global,
     reader: &mut R,
@@ -36,7 +36,7 @@ pub fn run<R: BufRead, W: Write, D: Device + Drop, A: Analyzer + Drop>(
     run_session(reader, writer, &mut session)
 }
 
-/// Answers the lines of an input one by one, until it ends.
+/// Answers the lines of `reader` one by one, until it ends.
 pub fn run_session<R: BufRead, W: Write, D: Device + Drop, A: Analyzer + Drop>(
     reader: &mut R,
     writer: &mut W,
@@ -46,8 +46,8 @@ pub fn run_session<R: BufRead, W: Write, D: Device + Drop, A: Analyzer + Drop>(
     ensures replies { (s : steps.Session) → StandsFor session.old s
         → OnOk result (IfSome (R.remaining reader.old) (λ input.
         Writes steps.answer_of steps.after_line s (lines_of input) (W.contents writer.old) (W.contents writer.new))) }
-    // Unless the reply of `Device` is among them, the session stands for what comes after all lines, over an honest device
-    // also where memory was wanted or a limit met; so the file has what is committed then.
+    // Unless the reply of `Device` is among them, the session stands for what comes after all lines, over an honest
+    // device also after out of memory or a limit; so the file has what is committed then.
     ensures stands { (s : steps.Session) → StandsFor session.old s
         → OnOk result (IfSome (R.remaining reader.old) (λ input.
         ServesAll steps.answer_of steps.after_line IsLeft (IsTrue (honest_of session.old)) (StandsFor session.new) s
@@ -56,10 +56,9 @@ pub fn run_session<R: BufRead, W: Write, D: Device + Drop, A: Analyzer + Drop>(
     serve_lines::run(session.alloc, reader, writer, session)
 }
 
-/// The reply to one line of JSON, and what the session stands for after it. `OutOfMemory`, `Limit` and `Device` are
-/// the errors. `Device` comes only where the device failed, and after it the session need not stand for any state;
-/// `Limit` comes only where an add, a merge or a commit meets a limit: of a document's stored values, of a segment or of
-/// the file.
+/// Answers one `line` of JSON, and returns the reply. The errors are `OutOfMemory`, `Limit` and `Device`. `Device`
+/// comes only if the device failed, and after it the session need not stand for any state; `Limit` comes only if an
+/// add, a merge or a commit meets a limit: of a document's stored values, of a segment or of the file.
 pub fn reply<D: Device + Drop, A: Analyzer + Drop>(
     session: &mut Session<D, A>,
     line: &str,

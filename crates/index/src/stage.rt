@@ -1,4 +1,4 @@
-//! What stands on a device: no index, or one. An index is made or opened in place of what stands.
+//! The stage of a session: a device without an index, or with one. An index is created or opened in place of the other.
 
 ghost use Rattle.std.specs.Prelude.{◌≡◌, IsErrOf, IsTrue, Some, false};
 ghost use Rattle.definitions.specs.Disk.{HasCause};
@@ -14,17 +14,17 @@ use schema::Schema;
 use settings::Settings;
 use std::alloc::Global;
 
-/// What stands on a device.
+/// The stage of a session: a device without an index, or with one.
 #[derive(Drop)]
 pub(crate) enum Stage<D: Device, A: Analyzer> {
-    /// No index. Device and analyzer wait for one.
+    /// No index: the device and the analyzer for one.
     Spare(D, A),
     /// An index.
     Standing(Index<D, A>),
 }
 
 impl<D: Device + Drop, A: Analyzer + Drop> Stage<D, A> {
-    /// Whether an index stands that takes every call.
+    /// Returns whether there is an index that accepts every call.
     pub(crate) fn is_ready(&self) -> bool
         ensures { (a : steps.Analysis) (s : steps.Stage) → IsStage A.knows_name A.analyze a self.now s
             → result ≡ steps.is_ready s }
@@ -35,7 +35,7 @@ impl<D: Device + Drop, A: Analyzer + Drop> Stage<D, A> {
         }
     }
 
-    /// Makes an index of these in place of what stands.
+    /// Creates an index of `schema` and `settings`, in place of the stage's index, if any.
     pub(crate) fn create(
         self,
         alloc: Global,
@@ -54,7 +54,7 @@ impl<D: Device + Drop, A: Analyzer + Drop> Stage<D, A> {
         leave(Index::create(alloc, device, analyzer, schema, settings))
     }
 
-    /// Opens the index of the device's file in place of what stands.
+    /// Opens the index of the device's file, in place of the stage's index, if any.
     pub(crate) fn open(self, alloc: Global) -> (Stage<D, A>, Result<(), Fault>)
         ensures left { (a : steps.Analysis) (s : steps.Stage) → IsStage A.knows_name A.analyze a self s
             → steps.is_ready s ≡ false
@@ -69,7 +69,7 @@ impl<D: Device + Drop, A: Analyzer + Drop> Stage<D, A> {
         leave(Index::open(alloc, device, analyzer))
     }
 
-    /// The device and the analyzer. An index that stands is dropped, and what waits in it is lost.
+    /// Returns the device and the analyzer. An index is dropped, and what is pending in it is lost.
     pub(crate) fn into_device(self) -> (D, A)
         ensures device { result.0 ≡ device_on self }
         ensures analyzer { result.1 ≡ analyzer_on self }
@@ -87,7 +87,7 @@ impl<D: Device + Drop, A: Analyzer + Drop> Stage<D, A> {
     }
 }
 
-/// Whether every call is taken.
+/// Returns whether every call is accepted in `status`.
 fn takes_calls(status: Status) -> bool
     ensures { result ≡ steps.takes_calls (status_of status) }
 {
@@ -97,7 +97,7 @@ fn takes_calls(status: Status) -> bool
     }
 }
 
-/// What stands after an index was to be made or opened, and whether it was.
+/// Returns the stage after an index was to be created or opened, and whether it was.
 fn leave<D: Device + Drop, A: Analyzer + Drop>(
     outcome: Result<Index<D, A>, Refused<D, A>>,
 ) -> (Stage<D, A>, Result<(), Fault>)

@@ -1,4 +1,4 @@
-//! The alive sets of a body, read.
+//! The decoder of the alive sets of a body.
 
 ghost use Rattle.std.specs.Prelude.{◌++◌, ◌<◌, ◌≡◌, ◌≢◌, ◌^◌, Bool, IfErr, IfOk, List, length, ℕ};
 ghost use Rattle.std.specs.List.{AllByRecursion, flat_map};
@@ -10,7 +10,7 @@ use common::{AliveBitSet, take_u32};
 use definitions::Fault;
 use std::alloc::Global;
 
-/// So many alive sets, and what follows them.
+/// Decodes `num_sets` alive sets; returns them and what follows.
 pub(crate) fn take_sets(
     alloc: Global,
     num_sets: usize,
@@ -32,7 +32,7 @@ pub(crate) fn take_sets(
     Ok((sets, rest))
 }
 
-/// An alive set, and what follows it.
+/// Decodes an alive set; returns it and what follows.
 fn take_set(alloc: Global, bytes: &[u8]) -> Result<(AliveBitSet, &[u8]), Fault>
     ensures short { IfOk result (λ p. IsShort p.0) }
     ensures whole { IfOk result (λ p. bytes.now ≡ alive_bytes p.0 ++ p.1.now) }

@@ -1,4 +1,4 @@
-//! The steps in which a file of records is created, settled and appended to, on a device that is lent.
+//! The steps that create, settle and append to a file of records, on a borrowed device.
 
 ghost use Rattle.std.specs.Prelude.{Bool, [], ◌++◌, ◌+◌, ◌<◌, ◌^◌, ◌∷◌, ◌≡◌, ◌≢◌, ◌≤◌, ◌⊎◌, IfErr, IsErrOf, IsTrue, List, OnErr, OnOk, length, ℕ};
 ghost use Rattle.definitions.specs.Disk.{HasCause, IsEither, settled};
@@ -15,7 +15,7 @@ use common::{Device, cut_synced, write_synced};
 use definitions::Fault;
 use std::alloc::Global;
 
-/// Puts a file on the disk, with nothing after its closed gate.
+/// Settles a file with its closed gate at offset `gate`: syncs, cuts what follows the gate, syncs.
 pub(crate) fn settle_file<D: Device>(device: &mut D, gate: usize) -> Result<(), Fault>
     requires inside { IsTrue (D.honest device.old) → gate < length (D.content device.old) }
     requires short { gate < 2 ^ 63 }
@@ -49,7 +49,7 @@ pub(crate) fn settle_file<D: Device>(device: &mut D, gate: usize) -> Result<(), 
     cut_synced(device, gate + 1)
 }
 
-/// Appends a record at a closed gate.
+/// Appends the record of `frame` at the closed gate at offset `gate`.
 pub(crate) fn append_record<D: Device>(
     device: &mut D,
     gate: usize,

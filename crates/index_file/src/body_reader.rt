@@ -1,4 +1,4 @@
-//! The bodies of segments, read.
+//! The decoder of bodies that list segments.
 
 ghost use Rattle.std.specs.Prelude.{◌∷◌, ◌≡◌, ◌≢◌, Bool, IfErr, IfNone, IfOk, IfSome, List, map, ℕ};
 ghost use Rattle.definitions.specs.declared.fault.Fault.TheVariants as faults;
@@ -13,16 +13,17 @@ use common::{AliveBitSet, take_u32};
 use definitions::Fault;
 use std::alloc::{AllocError, Global};
 
-/// What a body says: the segments of a list, and which documents of each are alive.
+/// A decoded body: the segments of a list, and which documents of each are alive.
 #[derive(Drop)]
 pub struct SegmentsBody<'a> {
     pub parts: Vec<Part<'a>>,
     pub alive: Vec<AliveBitSet>,
 }
 
-/// The segments and the alive sets of a body; nothing where it is no body of segments. New segments are lent.
+/// Decodes the segments and the alive sets of `body`; `None` if it isn't a body that lists segments. New segments are
+/// borrowed from it.
 ///
-/// Places aren't compared with the list before, nor alive sets with their segments: nothing here is opened.
+/// Indices aren't compared with the list before, nor alive sets with their segments: nothing here is opened.
 pub fn read_segments_body(
     alloc: Global,
     body: &[u8],
@@ -37,7 +38,7 @@ pub fn read_segments_body(
     }
 }
 
-/// The same, where whatever is no body of segments is refused.
+/// Like `read_segments_body`, but with an error for what isn't a body that lists segments.
 fn take_body(alloc: Global, body: &[u8]) -> Result<SegmentsBody<'_>, Fault>
     ensures ok { IfOk result (λ b. IsBody (map part_of b.parts.items) b.alive.items body.now) }
     ensures err { IfErr result (λ fault. fault ≢ faults.OutOfMemory → (parts : List layout.Part) (sets : List (List Bool))
@@ -53,7 +54,7 @@ fn take_body(alloc: Global, body: &[u8]) -> Result<SegmentsBody<'_>, Fault>
     Ok(SegmentsBody { parts, alive })
 }
 
-/// What stands behind byte 2.
+/// Returns what follows byte 2.
 fn behind_code(body: &[u8]) -> Result<&[u8], Fault>
     ensures ok { IfOk result (λ rest. body.now ≡ 2 ∷ rest.now) }
     ensures err { IfErr result (λ fault. (rest : List ℕ) → body.now ≢ 2 ∷ rest) }

@@ -1,4 +1,4 @@
-//! The bodies of segments, written.
+//! The encoder of bodies that list segments.
 
 ghost use Rattle.std.specs.Prelude.{◌++◌, ◌∷◌, ◌≡◌, IfOk, OnOk, flat_map};
 ghost use Rattle.std.specs.List.{concat};
@@ -12,12 +12,12 @@ use std::alloc::{AllocError, Global};
 use std::marker::Model;
 use std::mem;
 
-/// Writes a body in pieces, of which each new segment is one: it isn't copied.
+/// An encoder of a body in pieces. Each new segment is a piece: it isn't copied.
 #[derive(Drop)]
 pub struct SegmentsBodyWriter {
     alloc: Global,
     pieces: Vec<Bytes>,
-    // What is written behind them.
+    // What is written after the pieces.
     tail: Vec<u8>,
 }
 
@@ -31,7 +31,7 @@ impl Model for SegmentsBodyWriter {
 }
 
 impl SegmentsBodyWriter {
-    /// Begins a body of so many segments: byte 2 and their number.
+    /// Starts a body of `num_segments` segments: byte 2 and their number.
     pub fn begin(alloc: Global, num_segments: u32) -> Result<SegmentsBodyWriter, AllocError>
         ensures { IfOk result (λ body. body ≡ 2 ∷ u32_bytes num_segments) }
     {
@@ -46,7 +46,7 @@ impl SegmentsBodyWriter {
         })
     }
 
-    /// Appends a segment of the list before, by its place there: code 0 and the place.
+    /// Appends a segment of the list before, by its index there: code 0 and the index.
     pub fn put_kept(&mut self, place: u32) -> Result<(), AllocError>
         ensures { OnOk result (self.new ≡ self.old ++ part_bytes (kept place)) }
     {
@@ -73,7 +73,7 @@ impl SegmentsBodyWriter {
         put_sets(self.alloc, &mut self.tail, alive)
     }
 
-    /// The body, in pieces.
+    /// Returns the body, in pieces.
     pub fn finish(self) -> Result<Vec<Bytes>, AllocError>
         ensures { IfOk result (λ pieces. concat pieces.items ≡ self) }
     {

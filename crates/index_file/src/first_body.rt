@@ -1,4 +1,4 @@
-//! First bodies: what an index is made of.
+//! First bodies: the schema and settings of an index.
 
 ghost use Rattle.std.specs.Prelude.{true, ◌++◌, ◌≡◌, IfOk, OnOk, Some, string_bytes};
 ghost use Rattle.layouts.specs.RecordBodies as definitions;
@@ -14,7 +14,7 @@ use std::alloc::{AllocError, Global};
 /// The most fields of an index.
 pub const MAX_INDEX_FIELDS: usize = 65536;
 
-/// Appends byte 1, and the compact JSON of a schema and settings.
+/// Appends byte 1 and the compact JSON of `schema` and `settings` to `out`.
 #[tactic(auto, unfolding(layouts::specs::RecordBodies::first_body, layouts::specs::RecordBodies::first_in))]
 pub fn put_first_body(
     alloc: Global,
@@ -30,7 +30,7 @@ pub fn put_first_body(
     out.extend_from_slice(text.as_bytes())
 }
 
-/// What a first body says an index is made of; nothing where it is no first body.
+/// Decodes the schema and settings from a first body; `None` if `body` isn't one.
 #[tactic(auto, unfolding(layouts::specs::RecordBodies::first_in))]
 pub fn read_first_body(alloc: Global, body: &[u8]) -> Result<Option<(Schema, Settings)>, AllocError>
     ensures value { IfOk result (λ found. found ≡ definitions.first_in body.now) }
@@ -44,7 +44,7 @@ pub fn read_first_body(alloc: Global, body: &[u8]) -> Result<Option<(Schema, Set
     read_text(alloc, text)
 }
 
-/// The compact JSON of a schema and settings.
+/// Returns the compact JSON of a schema and settings.
 #[tactic(auto, using(crate::proofs::PlainData::made_float, crate::proofs::MadeTexts::text_back, crate::proofs::MadeTexts::string_utf8))]
 fn made_text(alloc: Global, schema: &Schema, settings: &Settings) -> Result<String, AllocError>
     ensures text { IfOk result (λ text. string_bytes text ≡ compact_text (definitions.made_data schema.now settings.now)) }
@@ -55,7 +55,7 @@ fn made_text(alloc: Global, schema: &Schema, settings: &Settings) -> Result<Stri
     Ok(text)
 }
 
-/// A schema and settings as a JSON object.
+/// Converts a schema and settings to a JSON object.
 fn made_to_json(alloc: Global, schema: &Schema, settings: &Settings) -> Result<Json, AllocError>
     ensures value { IfOk result (λ json. view json ≡ definitions.made_data schema.now settings.now) }
     ensures read_back { IfOk result (λ json. definitions.makes_index schema.now settings.now ≡ true → definitions.made_in (view json) ≡ Some (schema.now, settings.now)) }
@@ -65,7 +65,7 @@ fn made_to_json(alloc: Global, schema: &Schema, settings: &Settings) -> Result<J
     json!(in alloc; {"schema": schema_json, "settings": settings_json})
 }
 
-/// What a JSON text says an index is made of.
+/// Decodes the schema and settings from a JSON text.
 #[tactic(auto, using(crate::proofs::MadeTexts::text_read, crate::proofs::MadeTexts::text_refused))]
 fn read_text(alloc: Global, text: &[u8]) -> Result<Option<(Schema, Settings)>, AllocError>
     ensures value { IfOk result (λ found. found ≡ definitions.made_in_text text.now) }
@@ -77,7 +77,7 @@ fn read_text(alloc: Global, text: &[u8]) -> Result<Option<(Schema, Settings)>, A
     }
 }
 
-/// What an object says an index is made of.
+/// Decodes the schema and settings from a JSON object.
 fn read_made(alloc: Global, json: &Json) -> Result<Option<(Schema, Settings)>, AllocError>
     ensures value { IfOk result (λ found. found ≡ definitions.made_in (view json.now)) }
 {
@@ -96,7 +96,7 @@ fn read_made(alloc: Global, json: &Json) -> Result<Option<(Schema, Settings)>, A
     Ok(Some((schema, settings)))
 }
 
-/// The schema at its key, if there is one.
+/// Decodes the schema at its key, if there is one.
 fn read_schema(alloc: Global, json: &Json) -> Result<Option<Schema>, AllocError>
     ensures { IfOk result (λ found. found ≡ definitions.schema_at (view json.now)) }
 {
@@ -110,7 +110,7 @@ fn read_schema(alloc: Global, json: &Json) -> Result<Option<Schema>, AllocError>
     }
 }
 
-/// The settings at their key, if there are some.
+/// Decodes the settings at their key, if there are any.
 fn read_settings(
     alloc: Global,
     schema: &Schema,

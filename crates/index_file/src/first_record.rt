@@ -14,7 +14,7 @@ use schema::Schema;
 use settings::Settings;
 use std::alloc::Global;
 
-/// The frame of a first record, if an index can be made of these.
+/// Encodes the frame of a first record, if an index can be made of `analyzer`, `schema` and `settings`.
 pub fn first_frame<A: Analyzer>(
     alloc: Global,
     analyzer: &A,

@@ -1,4 +1,4 @@
-//! A record as it is written: without its open gate, and with the closed gate that follows it.
+//! Records as they are written: without the open gate, and with the closed gate that follows.
 
 ghost use Rattle.std.specs.Prelude.{◌≡◌, ◌+◌, ◌≤◌, IfOk, IfSome, OnOk, drop, length};
 ghost use Rattle.std.specs.List.{concat};
@@ -11,13 +11,13 @@ use common::put_u64;
 use std::alloc::{AllocError, Global};
 use std::marker::Model;
 
-/// How many bytes the length of a body has.
+/// The number of bytes of a body's length.
 pub(crate) const LENGTH_BYTES: usize = 8;
 
 /// The byte of an open gate.
 pub(crate) const OPEN: u8 = 165;
 
-/// The byte of a gate that is closed.
+/// The byte of a closed gate.
 const CLOSED: u8 = 0;
 
 /// A record as it is written, in pieces that share their bytes.
@@ -39,7 +39,7 @@ impl Model for Frame {
 }
 
 impl Frame {
-    /// The frame of a body in pieces, none of which is copied.
+    /// Frames `body`, whose pieces aren't copied.
     pub fn of_body(alloc: Global, body: Vec<Bytes>) -> Result<Frame, AllocError>
         ensures { IfOk result (λ frame. frame ≡ frame_bytes (concat body.items)) }
     {
@@ -52,7 +52,7 @@ impl Frame {
         Ok(Frame { pieces, len })
     }
 
-    /// Bytes that are a frame already, copied.
+    /// Copies `bytes` that are a frame already.
     pub fn copied(alloc: Global, bytes: &[u8]) -> Result<Frame, AllocError>
         ensures { IfOk result (λ frame. frame ≡ bytes.now) }
     {
@@ -62,14 +62,14 @@ impl Frame {
         Ok(Frame { pieces, len })
     }
 
-    /// How many bytes it has.
+    /// Returns the number of bytes.
     pub fn len(&self) -> usize
         ensures { result ≡ length self.now }
     {
         self.len
     }
 
-    /// Its pieces, in order.
+    /// Returns the pieces, in order.
     pub(crate) fn pieces(&self) -> &[Bytes]
         ensures { concat result.now ≡ self.now }
     {
@@ -77,7 +77,7 @@ impl Frame {
     }
 }
 
-/// How many bytes pieces have, where so many are counted.
+/// Returns the number of bytes of `pieces`; `None` on overflow.
 fn joined_len(pieces: &[Bytes]) -> Option<usize>
     ensures { IfSome result (λ len. len ≡ length (concat pieces.now)) }
 {
@@ -88,7 +88,7 @@ fn joined_len(pieces: &[Bytes]) -> Option<usize>
     Some(len)
 }
 
-/// Eight bytes of room for the length of a body, which is then appended to them.
+/// Starts a frame with eight bytes of room for the length of the body, which is then appended to them.
 pub fn start_frame(alloc: Global) -> Result<Vec<u8>, AllocError>
     ensures { IfOk result (λ frame. frame.items ≡ u64_bytes 0) }
 {
@@ -97,7 +97,7 @@ pub fn start_frame(alloc: Global) -> Result<Vec<u8>, AllocError>
     Ok(frame)
 }
 
-/// Writes the length of the body that stands behind the room, and appends a closed gate.
+/// Writes the length of the body after the room into it, and appends a closed gate.
 pub fn finish_frame(frame: &mut Vec<u8>) -> Result<(), AllocError>
     requires { 8 ≤ length frame.old.items }
     ensures { OnOk result (frame.new.items ≡ frame_bytes (drop 8 frame.old.items)) }
@@ -108,7 +108,7 @@ pub fn finish_frame(frame: &mut Vec<u8>) -> Result<(), AllocError>
     Ok(())
 }
 
-// Writes bytes over others.
+// Overwrites the bytes at offset `at`.
 fn overwrite(frame: &mut Vec<u8>, at: usize, bytes: &[u8])
     requires { at + length bytes.now ≤ length frame.old.items }
     ensures { frame.new.items ≡ overwritten at bytes.now frame.old.items }

@@ -31,10 +31,11 @@ use std::alloc::Global;
 /// The fewest bytes of a file with a record.
 const LEAST_BYTES: usize = 10;
 
-/// What a file says: what its index is made of, and the segments after its last record, which share its bytes.
+/// The content of a file: the schema and settings of its index, and the segments after its last record, which share the
+/// file's bytes.
 #[derive(Drop)]
 pub struct IndexFile {
-    /// The place of the closed gate.
+    /// The offset of the closed gate.
     pub gate: usize,
     pub schema: Schema,
     pub settings: Settings,
@@ -42,8 +43,8 @@ pub struct IndexFile {
 }
 
 impl IndexFile {
-    /// Opens a file. Each segment is opened once, where it is new, and those that a record doesn't keep are let go there;
-    /// their bytes aren't copied.
+    /// Opens the file of these `bytes`. Each segment is opened once, where it is new, and freed at the first record
+    /// that doesn't keep it; the bytes of segments aren't copied.
     pub fn open(alloc: Global, bytes: Bytes) -> Result<IndexFile, Fault>
         ensures ok { IfOk result (λ file.
             LeavesList file.schema file.settings bytes file.gate (map member_of file.members.items)) }
@@ -76,8 +77,7 @@ impl IndexFile {
     }
 }
 
-/// The list that the last record leaves, and the place of the closed gate behind it, where the first record of a file of
-/// so many bytes is read, and its rest begins with a gate.
+/// Reads the records in `rest`, after the first one; returns the last one's list and the offset of the closed gate.
 fn last_list(
     opener: Opener<'_>,
     num_bytes: usize,
@@ -106,7 +106,7 @@ fn last_list(
     Ok((members, num_bytes - rest.len()))
 }
 
-/// What the first record says an index is made of; what is no first record is refused.
+/// Decodes the schema and settings from the first record; what isn't a first record is an error.
 fn take_first(alloc: Global, rest: &mut Bytes) -> Result<(Schema, Settings), Fault>
     requires { 0 < length rest.old }
     ensures ok { IfOk result (λ made. HasFirst made rest.old rest.new) }
@@ -117,7 +117,7 @@ fn take_first(alloc: Global, rest: &mut Bytes) -> Result<(Schema, Settings), Fau
     read_made(alloc, body)
 }
 
-/// What a body says an index is made of; what is no first body is refused.
+/// Decodes the schema and settings from `body`; what isn't a first body is an error.
 fn read_made(alloc: Global, body: Bytes) -> Result<(Schema, Settings), Fault>
     ensures ok { IfOk result (λ made. first_in body ≡ Some made) }
     ensures err { IfErr result (λ fault. fault ≢ faults.OutOfMemory → first_in body ≡ None) }
@@ -126,7 +126,7 @@ fn read_made(alloc: Global, body: Bytes) -> Result<(Schema, Settings), Fault>
     made.ok_or(Fault::Damaged(None))
 }
 
-/// The list that the next record makes of the list before; what is no record that may follow is refused.
+/// Applies the next record to the list `before`; what isn't a record that may follow is an error.
 fn take_next(
     opener: Opener<'_>,
     before: Vec<Member>,
@@ -146,7 +146,7 @@ fn take_next(
     next_list(opener, before, body)
 }
 
-/// What is refused where the record at a gate is.
+/// Converts an error at the record whose gate is at offset `place`: all but out of memory are `Damaged` there.
 fn at_gate(fault: Fault, place: usize) -> Fault
     ensures { ((fault ≡ faults.OutOfMemory) × (result ≡ faults.OutOfMemory))
         ⊎ ((fault ≢ faults.OutOfMemory) × (result ≡ faults.Damaged (Some place))) }

@@ -1,4 +1,4 @@
-//! The places of kept segments in the list before.
+//! The indices of kept segments in the list before.
 
 ghost use Rattle.std.specs.Prelude.{◌≡◌, map};
 ghost use Rattle.index_file.specs.Parts.{part_of};
@@ -6,7 +6,7 @@ ghost use Rattle.index_file.specs.Places.{places_rise};
 
 use crate::part::Part;
 
-/// Whether the places of kept segments rise, so that none stands twice, each below the length of the list before.
+/// Returns whether the indices of kept segments ascend strictly, so that none is there twice, each below `len_before`.
 pub fn places_follow(parts: &[Part<'_>], len_before: usize) -> bool
     ensures { result ≡ places_rise 0 len_before (map part_of parts.now) }
 {

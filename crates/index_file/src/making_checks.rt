@@ -1,4 +1,4 @@
-//! Whether an index can be made.
+//! Checks of whether an index can be made.
 
 ghost use Rattle.std.specs.Prelude.{◌≡◌, ◌≢◌, Err};
 ghost use Rattle.std.specs.Result.{result_err};
@@ -12,7 +12,7 @@ use schema::{FieldEntry, Schema, Type};
 use settings::Settings;
 use std::alloc::Global;
 
-/// Whether an index can be made of the analyzer, the schema and the settings.
+/// Checks that an index can be made of `analyzer`, `schema` and `settings`.
 pub fn check_making<A: Analyzer>(
     alloc: Global,
     analyzer: &A,
@@ -34,7 +34,7 @@ pub fn check_making<A: Analyzer>(
     Ok(())
 }
 
-/// Whether the analyzer knows the tokenizers of all fields.
+/// Returns whether the analyzer knows the tokenizers of all fields.
 pub fn are_analyzed<A: Analyzer>(analyzer: &A, schema: &Schema) -> bool
     ensures { result ≡ are_analyzed (A.knows_name analyzer.now) schema.now }
 {
@@ -46,7 +46,7 @@ pub fn are_analyzed<A: Analyzer>(analyzer: &A, schema: &Schema) -> bool
     true
 }
 
-/// Whether the analyzer knows the field's tokenizer, where it has one.
+/// Returns whether the analyzer knows the field's tokenizer, where the field has one.
 fn is_analyzed<A: Analyzer>(analyzer: &A, entry: &FieldEntry) -> bool
     ensures { result ≡ is_analyzed (A.knows_name analyzer.now) entry.now }
 {

@@ -1,4 +1,4 @@
-//! The list that a body makes of the list before.
+//! The list of segments that a body makes of the list before.
 
 ghost use Rattle.std.specs.Prelude.{◌++◌, ◌≡◌, ◌≢◌, IfErr, IfOk, IfSome, List, None, Some, flat_map, length, map, true, ℕ};
 ghost use Rattle.std.specs.List.{AllByRecursion};
@@ -13,20 +13,18 @@ ghost use Rattle.segment_definitions.specs.SegmentBodies.{Makes, part_bytes};
 ghost use Rattle.segment_definitions.specs.Segments.{IsSegment};
 
 use crate::member::Member;
+use crate::part::{HEAD_BYTES, Part};
 use crate::part_reader::PartReader;
 use crate::segment_opener::Opener;
-use crate::{Part, places_follow, read_segments_body};
+use crate::{places_follow, read_segments_body};
 use bytes::Bytes;
 use common::AliveBitSet;
 use definitions::Fault;
 use segment::Segment;
 use std::collections::VecDeque;
 
-/// How many bytes stand before the parts of a body.
-const HEAD_BYTES: usize = 5;
-
-/// The list that a body makes of the list before; what makes none is refused. Segments that aren't kept are let go, and
-/// new ones are opened, which share the bytes of the body.
+/// Applies `body` to the list `before` and returns the list that it makes; a body that makes none is an error. Segments
+/// that aren't kept are freed, and new ones are opened, which share the bytes of the body.
 pub(crate) fn next_list(
     opener: Opener<'_>,
     before: Vec<Member>,
@@ -45,7 +43,7 @@ pub(crate) fn next_list(
     make_list(opener, before, read.parts, read.alive, &body)
 }
 
-/// The list that a body makes which has these parts and alive sets.
+/// Applies the body of `parts` and `alive` to the list `before`.
 fn make_list(
     opener: Opener<'_>,
     before: Vec<Member>,
@@ -69,7 +67,7 @@ fn make_list(
     take_members(opener, before, &parts, alive, bytes)
 }
 
-/// The segments of parts, with which the bytes begin, each with its alive set.
+/// Reads the segments of `parts` from the front of `bytes`, each with its alive set.
 fn take_members(
     opener: Opener<'_>,
     before: Vec<Member>,
@@ -104,7 +102,7 @@ fn take_members(
     Ok(members)
 }
 
-/// A segment with its alive set, where there is one, and it is one of as many documents.
+/// Pairs `segment` with `alive`; `Damaged` if there is none, or one for another number of documents.
 fn flagged(segment: Segment, alive: Option<AliveBitSet>) -> Result<Member, Fault>
     ensures ok { IfOk result (λ m. (m.segment ≡ segment) × (Some m.alive ≡ alive)
         × (length m.alive ≡ num_docs_of segment)) }

@@ -1,4 +1,4 @@
-//! The segments that the parts of a body stand for.
+//! The segments that the parts of a body represent.
 
 ghost use Rattle.std.specs.Prelude.{[], ◌+◌, ◌-◌, ◌<◌, ◌∷◌, ◌≡◌, ◌≢◌, ◌≤◌, IfErr, IfOk, List, MatchOption, OnErr, OnOk, drop, length, map, take, ℕ};
 ghost use Rattle.definitions.specs.declared.fault.Fault.TheVariants as faults;
@@ -11,34 +11,28 @@ ghost use Rattle.segment_definitions.specs.SegmentBodies as layout;
 ghost use Rattle.segment_definitions.specs.SegmentBodies.{IsMember, IsOfPart};
 ghost use Rattle.segment_definitions.specs.Segments.{IsSegment};
 
-use crate::Part;
 use crate::member::Member;
+use crate::part::{FRESH_HEAD_BYTES, KEPT_BYTES, Part};
 use crate::segment_opener::Opener;
 use bytes::Bytes;
 use definitions::Fault;
 use segment::Segment;
 use std::collections::VecDeque;
 
-/// How many bytes stand before those of a new segment.
-const FRESH_HEAD_BYTES: usize = 9;
-
-/// How many bytes a kept segment has.
-const KEPT_BYTES: usize = 5;
-
 /// What is left of a body, and of the list before it.
 #[derive(Drop)]
 pub(crate) struct PartReader<'a> {
     pub(crate) opener: Opener<'a>,
-    // What stands in the list before behind the last segment that was kept.
+    // The members of the list before that follow the last segment kept.
     pub(crate) before: VecDeque<Member>,
-    // How many stand up to it.
+    // The number of members up to it.
     pub(crate) passed: usize,
     // The parts that are left, and what follows them.
     pub(crate) bytes: Bytes,
 }
 
 impl PartReader<'_> {
-    /// The segment of the next part: one of the list before, or a new one, opened.
+    /// Reads the segment of the next part: takes it from the list before, or opens a new one.
     pub(crate) fn take(&mut self, part: &Part<'_>) -> Result<Segment, Fault>
         requires { (all : List code.Member) × (parts : List layout.Part) × (more : List ℕ)
             × IsLeft all (part_of part.now ∷ parts) more self.old }
@@ -61,7 +55,7 @@ impl PartReader<'_> {
         }
     }
 
-    /// The segment that stands at a place of the list before.
+    /// Takes the segment at index `place` of the list before.
     fn take_kept(&mut self, place: u32) -> Result<Segment, Fault>
         requires from { self.old.passed ≤ place }
         requires bytes { 5 ≤ length self.old.bytes }
@@ -82,7 +76,7 @@ impl PartReader<'_> {
         }
     }
 
-    /// A new segment of so many bytes, which are shared with those of the body.
+    /// Opens a new segment of `len` bytes, which it shares with the body.
     fn open_fresh(&mut self, len: usize) -> Result<Segment, Fault>
         requires { 9 + len ≤ length self.old.bytes }
         ensures ok { IfOk result (IsOpened self.old.opener.schema.now) }
@@ -99,7 +93,7 @@ impl PartReader<'_> {
     }
 }
 
-/// Lets so many of a list go, and takes the next one out of it.
+/// Frees the first `skipped` of `members`, and takes the next one.
 fn take_at(members: &mut VecDeque<Member>, skipped: usize) -> Option<Member>
     ensures { MatchOption result (length members.old.items ≤ skipped)
         (λ m. drop skipped members.old.items ≡ m ∷ members.new.items) }

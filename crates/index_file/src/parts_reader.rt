@@ -1,4 +1,4 @@
-//! The parts of a body, read.
+//! The decoder of the parts of a body.
 
 ghost use Rattle.std.specs.Prelude.{◌≡◌, ◌≢◌, IfErr, IfOk, None, Some, map};
 ghost use Rattle.definitions.specs.declared.fault.Fault.TheVariants as faults;
@@ -10,7 +10,7 @@ use common::{take_u32, take_u64};
 use definitions::Fault;
 use std::alloc::Global;
 
-/// So many parts, and what follows them.
+/// Decodes `num_parts` parts; returns them and what follows.
 pub(crate) fn take_parts<'a>(
     alloc: Global,
     num_parts: u32,
@@ -29,7 +29,7 @@ pub(crate) fn take_parts<'a>(
     Ok((parts, rest))
 }
 
-/// A part, and what follows it.
+/// Decodes a part; returns it and what follows.
 fn take_part(bytes: &[u8]) -> Result<(Part<'_>, &[u8]), Fault>
     ensures ok { IfOk result (λ p. take_part bytes.now ≡ Some (part_of p.0, p.1.now)) }
     ensures err { IfErr result (λ fault. (fault ≡ faults.Damaged None) × (take_part bytes.now ≡ None)) }
@@ -42,7 +42,7 @@ fn take_part(bytes: &[u8]) -> Result<(Part<'_>, &[u8]), Fault>
     }
 }
 
-/// A segment by its place in the list before, behind its code, and what follows it.
+/// Decodes a kept segment after its code: its index in the list before; returns it and what follows.
 fn take_kept(bytes: &[u8]) -> Result<(Part<'_>, &[u8]), Fault>
     ensures ok { IfOk result (λ p. take_kept bytes.now ≡ Some (part_of p.0, p.1.now)) }
     ensures err { IfErr result (λ fault. (fault ≡ faults.Damaged None) × (take_kept bytes.now ≡ None)) }
@@ -51,7 +51,7 @@ fn take_kept(bytes: &[u8]) -> Result<(Part<'_>, &[u8]), Fault>
     Ok((Part::Kept(place), rest))
 }
 
-/// A new segment, behind its code, and what follows it.
+/// Decodes a new segment after its code; returns it and what follows.
 fn take_fresh(bytes: &[u8]) -> Result<(Part<'_>, &[u8]), Fault>
     ensures ok { IfOk result (λ p. take_fresh bytes.now ≡ Some (part_of p.0, p.1.now)) }
     ensures err { IfErr result (λ fault. (fault ≡ faults.Damaged None) × (take_fresh bytes.now ≡ None)) }

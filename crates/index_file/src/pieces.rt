@@ -13,7 +13,7 @@ use bytes::Bytes;
 use common::Device;
 use definitions::Fault;
 
-/// Writes a frame piece by piece, and then syncs once.
+/// Writes `frame` at offset `at` piece by piece, and then syncs once.
 pub(crate) fn write_frame<D: Device>(device: &mut D, at: usize, frame: &Frame) -> Result<(), Fault>
     requires inside { IsTrue (D.honest device.old) → at ≤ length (D.content device.old) }
     requires room { at + length frame.now < 2 ^ 64 }
@@ -36,7 +36,7 @@ pub(crate) fn write_frame<D: Device>(device: &mut D, at: usize, frame: &Frame) -
     device.sync()
 }
 
-/// Writes pieces one behind another.
+/// Writes `pieces` one after another, from offset `at`.
 fn write_pieces<D: Device>(device: &mut D, at: usize, pieces: &[Bytes]) -> Result<(), Fault>
     requires inside { IsTrue (D.honest device.old) → at ≤ length (D.content device.old) }
     requires room { at + length (concat pieces.now) < 2 ^ 64 }

@@ -1,4 +1,4 @@
-//! Records, taken from the bytes of a file.
+//! Records, decoded from the bytes of a file.
 
 ghost use Rattle.std.specs.Prelude.{◌++◌, ◌<◌, ◌^◌, ◌≡◌, ◌≢◌, ◌∷◌, IfErr, IfOk, List, None, drop, length, ℕ};
 ghost use Rattle.definitions.specs.NumberCodes.{u64_bytes};
@@ -10,8 +10,8 @@ use bytes::Bytes;
 use common::take_u64;
 use definitions::Fault;
 
-/// The body of the record whose gate begins the bytes, which is shared with them. From the gate behind it on they are
-/// left.
+/// Splits the record whose gate is at the front of `rest` off it, and returns its body, which shares the bytes. From
+/// the gate after the body on, the bytes are left in `rest`.
 pub(crate) fn take_record(rest: &mut Bytes) -> Result<Bytes, Fault>
     requires { 0 < length rest.old }
     ensures ok { IfOk result (λ body. (length body < 2 ^ 64) × (drop 1 rest.old ≡ sized_body body ++ rest.new)
@@ -26,7 +26,7 @@ pub(crate) fn take_record(rest: &mut Bytes) -> Result<Bytes, Fault>
     Ok(rest.split_to(len)?)
 }
 
-/// The length that begins the bytes, where a body of that length and a gate follow it.
+/// Decodes the length at the front of `bytes`, if a body of that length and a gate follow it.
 fn body_length(bytes: &[u8]) -> Result<usize, Fault>
     ensures ok { IfOk result (λ n. (bytes.now ≡ u64_bytes n ++ drop 8 bytes.now) × (n < length (drop 8 bytes.now))) }
     ensures err { IfErr result (λ fault. (fault ≡ faults.Damaged None)

@@ -1,4 +1,4 @@
-//! A file of records that is open: its device and the place of its closed gate.
+//! An open file of records: its device and the offset of its closed gate.
 
 ghost use Rattle.std.specs.Prelude.{Bool, [], ◌++◌, ◌+◌, ◌<◌, ◌^◌, ◌∷◌, ◌≡◌, ◌≢◌, ◌↔◌, ◌⊎◌, IfErr, IfOk, IsErrOf, IsTrue, List, OnOk, length, ℕ};
 ghost use Rattle.definitions.specs.Disk.{HasCause, IsEither, settled};
@@ -18,7 +18,7 @@ use std::alloc::Global;
 /// The most bytes that a file may have.
 const MOST_BYTES: usize = 1 << 63;
 
-/// A file of records: its device, and the place of its closed gate.
+/// An open file of records: its device, and the offset of its closed gate.
 #[derive(Drop)]
 pub struct RecordFile<D: Device> {
     pub device: D,
@@ -29,8 +29,8 @@ pub struct RecordFile<D: Device> {
 impl<D: Device> RecordFile<D> {
     ghost use Rattle.index_file.specs.HandedBack.{device_after, ending_of};
 
-    /// Creates a file of one record, given as its frame, on an empty device. The memory that this
-    /// takes is for a copy of the frame, and the device's, to read.
+    /// Creates a file of one record, given as its `frame`, on an empty device. The memory that this takes is for a copy
+    /// of the frame, and the device's, to read.
     pub fn create(alloc: Global, device: D, frame: &[u8]) -> Result<RecordFile<D>, (Fault, D)>
         ensures fault { IfErr result (λ refusal.
             (refusal.0 ≡ faults.Device) ⊎ (refusal.0 ≡ faults.OutOfMemory) ⊎ (refusal.0 ≡ faults.NotEmpty)) }
@@ -66,8 +66,7 @@ impl<D: Device> RecordFile<D> {
         }
     }
 
-    /// Puts a file that was read on the disk, with nothing after its closed gate: syncs, cuts
-    /// behind the gate, syncs.
+    /// Settles a file that was read, with its closed gate at offset `gate`: syncs, cuts after the gate, syncs.
     pub fn settle(device: D, gate: usize) -> Result<RecordFile<D>, (Fault, D)>
         requires inside { IsTrue (D.honest device) → gate < length (D.content device) }
         requires short { gate < 2 ^ 63 }
@@ -108,7 +107,7 @@ impl<D: Device> RecordFile<D> {
         }
     }
 
-    /// Appends a record, given as its frame. It takes no memory.
+    /// Appends a record, given as its `frame`. It takes no memory.
     ///
     /// After `Device` nothing is known of the closed gate: the file must be read again.
     pub fn append(&mut self, frame: &Frame) -> Result<(), Fault>
@@ -143,7 +142,7 @@ impl<D: Device> RecordFile<D> {
         Ok(())
     }
 
-    /// The device, as it is.
+    /// Returns the device, as it is.
     pub fn into_device(self) -> D
         ensures { result ≡ self.device }
     {

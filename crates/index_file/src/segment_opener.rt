@@ -1,4 +1,4 @@
-//! What segments are opened with.
+//! The arguments that segments are opened with.
 
 ghost use Rattle.std.specs.Prelude.{◌≡◌, ◌≢◌, IfErr, IfOk, ℕ};
 ghost use Rattle.definitions.specs.declared.fault.Fault.TheVariants as faults;
@@ -11,7 +11,7 @@ use schema::Schema;
 use segment::Segment;
 use std::alloc::Global;
 
-/// What segments are opened with.
+/// The arguments that segments are opened with.
 #[derive(Clone, Copy)]
 pub(crate) struct Opener<'a> {
     pub(crate) alloc: Global,
@@ -20,7 +20,7 @@ pub(crate) struct Opener<'a> {
 }
 
 impl Opener<'_> {
-    /// Opens a segment.
+    /// Opens a segment from `bytes`.
     pub(crate) fn open(&self, bytes: Bytes) -> Result<Segment, Fault>
         ensures ok { IfOk result (IsOpened self.now.schema.now) }
         ensures bytes { IfOk result (λ segment. bytes_of segment ≡ bytes) }

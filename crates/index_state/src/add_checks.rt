@@ -1,4 +1,4 @@
-//! What an add is refused by.
+//! Checks of the documents that are added.
 
 ghost use Rattle.std.specs.Prelude.{◌+◌, ◌<◌, ◌^◌, ◌≡◌, ◌≤◌, ◌⊎◌, IfErr, OnOk, length};
 ghost use Rattle.std.specs.Result.{result_err};
@@ -12,7 +12,7 @@ use document::{CompactDoc, has_unknown_field};
 use schema::Schema;
 use std::alloc::Global;
 
-/// Why an add doesn't take a document: the schema lacks a field of it, or else a value can't be indexed.
+/// Checks that an add accepts `doc`: the schema has its fields, and then each of its values can be indexed.
 pub(crate) fn check_document(schema: &Schema, doc: &CompactDoc) -> Result<(), Fault>
     ensures fault { result_err result ≡ result_err (document_given schema.now doc.now) }
     ensures given { OnOk result (IsGiven schema.now doc.now) }
@@ -27,7 +27,7 @@ pub(crate) fn check_document(schema: &Schema, doc: &CompactDoc) -> Result<(), Fa
     Ok(())
 }
 
-/// Why a document can't be stored: memory is wanting, or its slot is too long beside a block.
+/// Checks that `doc` can be stored; `Limit` if its slot is too long beside a block.
 pub(crate) fn check_slot(
     alloc: Global,
     schema: &Schema,

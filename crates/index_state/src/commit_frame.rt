@@ -12,8 +12,8 @@ use index_file::{Frame, SegmentsBodyWriter};
 use segment::Segment;
 use std::alloc::{AllocError, Global};
 
-/// The frame of a record of these segments, each with its alive set, where so many of them are committed before: these
-/// are put by their places, and the others whole.
+/// Encodes a commit record: the first `num_committed` of `segments` by index, the rest inline, then the set of `alive`
+/// for each.
 pub(crate) fn commit_frame(
     alloc: Global,
     segments: &[Segment],
@@ -31,7 +31,7 @@ pub(crate) fn commit_frame(
     framed(alloc, body, alive)
 }
 
-/// Puts the segments from one place to another, which are kept.
+/// Encodes the kept segments `from..to`, by index.
 pub(crate) fn put_kept(
     body: &mut SegmentsBodyWriter,
     from: usize,
@@ -47,7 +47,7 @@ pub(crate) fn put_kept(
     Ok(())
 }
 
-/// Puts new segments, whose bytes are shared.
+/// Encodes new segments inline; their bytes are shared.
 pub(crate) fn put_fresh(
     body: &mut SegmentsBodyWriter,
     segments: &[Segment],
@@ -60,7 +60,7 @@ pub(crate) fn put_fresh(
     Ok(())
 }
 
-/// The frame of a record of these segments and alive sets.
+/// Appends the alive sets to the body of a record, and frames it.
 pub(crate) fn framed(
     alloc: Global,
     body: SegmentsBodyWriter,

@@ -17,8 +17,8 @@ use common::AliveBitSet;
 use segment::Segment;
 use std::alloc::{AllocError, Global};
 
-/// The alive sets of all segments after a commit: of those that are committed after all deletions, and of those that
-/// wait after the deletions that follow their documents.
+/// Returns the alive sets of all `segments` after a commit: of the committed ones after all deletions, and of the
+/// pending ones after the deletions that follow their documents.
 pub(crate) fn next_sets(
     alloc: Global,
     segments: &[Segment],
@@ -43,7 +43,7 @@ pub(crate) fn next_sets(
     Ok(sets)
 }
 
-/// Appends the alive sets of committed segments after all deletions.
+/// Appends the alive sets of the committed segments after all deletions.
 fn push_left(
     alloc: Global,
     segments: &[Segment],
@@ -69,7 +69,7 @@ fn push_left(
     Ok(())
 }
 
-/// Appends the alive sets of the segments that wait, behind those of the committed ones.
+/// Appends the alive sets of the pending segments, after those of the committed ones.
 fn push_new(
     alloc: Global,
     segments: &[Segment],
@@ -96,7 +96,7 @@ fn push_new(
     Ok(())
 }
 
-/// The alive set of a committed segment after all deletions.
+/// Returns the alive set of a committed segment after all deletions.
 fn left_set(
     alloc: Global,
     segment: &Segment,
@@ -116,7 +116,7 @@ fn left_set(
     Ok(set)
 }
 
-/// The alive set of a segment that waits behind so many full ones, after the deletions that follow its documents.
+/// Returns the alive set of the pending segment of index `number`, after the deletions that follow its documents.
 fn new_set(
     alloc: Global,
     segment: &Segment,

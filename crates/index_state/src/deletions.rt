@@ -1,4 +1,4 @@
-//! Deletions by term: by what they are refused, while they wait, and on alive sets.
+//! Deletions by term: their checks, those that are pending, and their effect on alive sets.
 
 ghost use Rattle.std.specs.Prelude.{[], ◌*◌, ◌+◌, ◌∷◌, ◌≡◌, ◌≤◌, List, OnOk, length, map, ℕ};
 ghost use Rattle.std.specs.List.{AllByRecursion};
@@ -20,8 +20,8 @@ use segment::{Segment, delete_in};
 use std::alloc::{AllocError, Global};
 use terms::Term;
 
-/// A deletion of the documents with a term that were added before it: those of so many full segments that wait, and so
-/// many of the segment behind them.
+/// A deletion of the documents with a term that were added before it: those of the first `segments` full pending
+/// segments, and the first `docs` of the segment after them.
 #[derive(Drop)]
 pub(crate) struct Deletion {
     pub(crate) term: Term,
@@ -29,7 +29,7 @@ pub(crate) struct Deletion {
     pub(crate) docs: usize,
 }
 
-/// Why no documents are deleted by a term: the schema lacks its field, or that isn't indexed.
+/// Checks that documents can be deleted by `term`: the schema has its field, and that is indexed.
 pub(crate) fn check_deletion(schema: &Schema, term: &Term) -> Result<(), Fault>
     ensures { result_err result ≡ delete_fault schema.now term.now }
 {
@@ -42,7 +42,7 @@ pub(crate) fn check_deletion(schema: &Schema, term: &Term) -> Result<(), Fault>
     Ok(())
 }
 
-/// Every deletion, on a segment that is committed.
+/// Applies every deletion to the alive set of a committed segment.
 pub(crate) fn delete_all(segment: &Segment, deletions: &[Deletion], alive: &mut AliveBitSet)
     requires flagged { length alive.old ≡ num_docs_of segment.now }
     requires opened { ∥ ((schema : Schema) × IsOpened schema segment.now) ∥₁ }
@@ -57,7 +57,7 @@ pub(crate) fn delete_all(segment: &Segment, deletions: &[Deletion], alive: &mut 
     }
 }
 
-/// Every deletion, on the segment that waits behind so many full ones.
+/// Applies every deletion to the alive set of the pending segment of index `number`.
 pub(crate) fn delete_pending(
     alloc: Global,
     segment: &Segment,
@@ -79,8 +79,7 @@ pub(crate) fn delete_pending(
     Ok(())
 }
 
-/// A deletion, on the segment that waits behind so many full ones: all of it stands before a deletion of a later
-/// segment, and none before one of an earlier.
+/// Applies a deletion to pending segment `number`: all of it if made during a later segment, none if during an earlier.
 fn delete_one(
     alloc: Global,
     segment: &Segment,
@@ -106,7 +105,7 @@ fn delete_one(
     Ok(())
 }
 
-/// Lets those of the first documents be dead that hold a term.
+/// Marks those of the first `docs` documents dead that hold `term`.
 fn delete_before(
     alloc: Global,
     segment: &Segment,
@@ -128,7 +127,7 @@ fn delete_before(
     Ok(())
 }
 
-/// Lets those of the first documents be dead that are dead in another set.
+/// Marks those of the first `docs` documents dead that are dead in `left`.
 fn kill_before(alive: &mut AliveBitSet, left: &AliveBitSet, docs: usize)
     requires { length alive.old ≡ length left.now }
     ensures { alive.new ≡ cut_flags docs left.now alive.old }

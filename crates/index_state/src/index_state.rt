@@ -1,4 +1,4 @@
-//! The segments of an index, and what waits for a commit.
+//! The segments of an index, and what is pending until a commit.
 
 ghost use Rattle.std.specs.Prelude.{[], ◌++◌, ◌<◌, ◌^◌, ◌∷◌, ◌≡◌, ◌≢◌, ◌≤◌, ◌⊎◌, Err, IfErr, IfOk, List, None, OnErr, OnOk, Some, false, length, map, true, ℕ};
 ghost use Rattle.std.specs.List.{AllByRecursion, AllByRecursion-prop, AllZip};
@@ -47,17 +47,17 @@ use terms::Term;
 const MAX_SEGMENTS: usize = 4294967295;
 
 /// The segments of an index: those that are committed, which searches see, each with which of its documents are alive;
-/// and what waits for a commit, documents and deletions. The documents of a segment that isn't full wait as they are,
-/// and are indexed when it is full or committed.
+/// and what is pending until a commit, documents and deletions. The documents of a segment that isn't full are kept as
+/// they are, and are indexed when it is full or committed.
 #[derive(Drop)]
 pub struct IndexState<A> {
     pub(crate) alloc: Global,
     pub(crate) analyzer: A,
     pub(crate) schema: Schema,
     pub(crate) settings: Settings,
-    // Those that are committed, and behind them those that wait and are full.
+    // The committed ones, and after them the pending ones that are full.
     pub(crate) segments: Vec<Segment>,
-    // One for each that is committed.
+    // One for each committed segment.
     pub(crate) alive: Vec<AliveBitSet>,
     // The documents of the segment that isn't full.
     pub(crate) open: WaitingDocs,
@@ -73,7 +73,7 @@ impl<A: Analyzer + Drop> IndexState<A> {
     ghost use Rattle.index_state.specs.Commits.{AreSets, IsPrepared, frame_in, members_with, sets_in};
     ghost use Rattle.index_state.specs.Standing.{HasLongSlot, IsMadeAlike, PassesLimit, Stands, alive_of, alloc_of, analyzer_of, committed_of, members_of, num_written, open_of, schema_of, settings_of, state_of, status_of};
 
-    /// An index without documents.
+    /// Returns an index without documents.
     pub fn new(alloc: Global, analyzer: A, schema: Schema, settings: Settings) -> IndexState<A>
         ensures stands { Stands A.analyze result (configuration_of schema (A.analyze analyzer) settings) fresh_index }
         ensures made { (schema_of result ≡ schema) × (settings_of result ≡ settings) × (analyzer_of result ≡ analyzer) }
@@ -84,7 +84,7 @@ impl<A: Analyzer + Drop> IndexState<A> {
         IndexState::of_parts(alloc, analyzer, schema, settings, segments, alive)
     }
 
-    /// The state of segments, each with which of its documents are alive, in which nothing waits.
+    /// Returns an index of `segments`, each with the set of its alive documents in `alive`; nothing is pending.
     pub fn of_parts(
         alloc: Global,
         analyzer: A,
@@ -119,7 +119,8 @@ impl<A: Analyzer + Drop> IndexState<A> {
         }
     }
 
-    /// The state of the members that a file lists, in which nothing waits; where memory is wanting, the analyzer.
+    /// Returns an index of the `members` that a file lists, in which nothing is pending; hands `analyzer` back if out
+    /// of memory.
     pub fn of_members(
         alloc: Global,
         analyzer: A,
@@ -146,7 +147,7 @@ impl<A: Analyzer + Drop> IndexState<A> {
         }
     }
 
-    /// The analyzer; what waits is dropped.
+    /// Returns the analyzer; what is pending is dropped.
     pub fn into_analyzer(self) -> A
         ensures { result ≡ analyzer_of self }
     {
@@ -154,28 +155,28 @@ impl<A: Analyzer + Drop> IndexState<A> {
         analyzer
     }
 
-    /// The fields.
+    /// Returns the schema.
     pub fn schema(&self) -> &Schema
         ensures { result.now ≡ schema_of self.now }
     {
         &self.schema
     }
 
-    /// The settings.
+    /// Returns the settings.
     pub fn settings(&self) -> &Settings
         ensures { result.now ≡ settings_of self.now }
     {
         &self.settings
     }
 
-    /// What it takes memory from.
+    /// Returns the allocator.
     pub fn alloc(&self) -> Global
         ensures { result ≡ alloc_of self.now }
     {
         self.alloc
     }
 
-    /// What the index may still do.
+    /// Returns what the index may still do.
     pub fn state(&self) -> Status
         ensures { (c : calls.Configuration) (x : calls.Index) → Stands A.analyze self.now c x
             → x.status ≡ status_of result }
@@ -183,7 +184,7 @@ impl<A: Analyzer + Drop> IndexState<A> {
         self.status
     }
 
-    /// Whether searches are answered.
+    /// Checks that searches are answered.
     pub fn check_open(&self) -> Result<(), Fault>
         ensures { (c : calls.Configuration) (x : calls.Index) → Stands A.analyze self.now c x
             → result_err result ≡ calls.status_fault x.status true }
@@ -194,7 +195,7 @@ impl<A: Analyzer + Drop> IndexState<A> {
         }
     }
 
-    /// Whether changes are taken.
+    /// Checks that changes are accepted.
     pub fn check_writer(&self) -> Result<(), Fault>
         ensures value { result_err result ≡ calls.status_fault (state_of self.now) false }
         ensures fault { IfErr result (λ fault. (fault ≡ faults.WriterClosed) ⊎ (fault ≡ faults.Closed)) }
@@ -206,10 +207,10 @@ impl<A: Analyzer + Drop> IndexState<A> {
         }
     }
 
-    /// Adds a document; a search sees it after the next commit. One of an unknown field is `UnknownField`, and one with
-    /// a value that can't be indexed `NotIndexable`; one whose stored values are too long beside a block is `Limit`, and
-    /// changes nothing. Where a document fills a segment, the segment is written: want of memory or a limit then closes
-    /// the writer.
+    /// Adds `doc`; a search sees it after the next commit. A document of an unknown field is `UnknownField`, and one
+    /// with a value that can't be indexed `NotIndexable`; one whose stored values are too long beside a block is
+    /// `Limit`, and changes nothing. If `doc` fills a segment, the segment is written: out of memory or a limit then
+    /// closes the writer.
     pub fn add_document(&mut self, doc: CompactDoc) -> Result<(), Fault>
         ensures left { (c : calls.Configuration) (x : calls.Index) → Stands A.analyze self.old c x
             → (y : calls.Index) × calls.Leaves c x (calls.add_document doc) result y × Stands A.analyze self.new c y }
@@ -237,7 +238,7 @@ impl<A: Analyzer + Drop> IndexState<A> {
         Ok(())
     }
 
-    /// Deletes the documents with a term that were added before; a search misses them after the next commit. A term of
+    /// Deletes the documents with `term` that were added before; a search misses them after the next commit. A term of
     /// an unknown field is `UnknownField`, one of a field that isn't indexed `NotIndexed`.
     pub fn delete_term(&mut self, term: &Term) -> Result<(), Fault>
         ensures left { (c : calls.Configuration) (x : calls.Index) → Stands A.analyze self.old c x
@@ -260,7 +261,7 @@ impl<A: Analyzer + Drop> IndexState<A> {
         Ok(())
     }
 
-    /// Makes a full segment of the documents that wait in one that isn't, where there are any.
+    /// Writes the pending documents of the segment that isn't full, if there are any, as a full segment.
     fn close_open(&mut self) -> Result<(), Fault>
         ensures err { IfErr result (λ fault. (fault ≡ faults.OutOfMemory) ⊎ (fault ≡ faults.Limit)) }
         ensures limit { IfErr result (λ fault. fault ≡ faults.Limit
@@ -293,8 +294,8 @@ impl<A: Analyzer + Drop> IndexState<A> {
         Ok(())
     }
 
-    /// Makes what a commit writes and installs, in memory: all that it takes is found here. Past the greatest number of
-    /// segments it is `Limit`. Until the commit is installed no other change is taken.
+    /// Prepares a commit: makes what it writes and installs, in memory, and allocates all that it needs. Past the
+    /// greatest number of segments it is `Limit`. Until the commit is installed no other change is accepted.
     pub fn prepare(&mut self) -> Result<Prepared, Fault>
         ensures prepared { (c : calls.Configuration) (x : calls.Index) → Stands A.analyze self.old c x
             → IfOk result (λ prepared. IsPrepared A.analyze self.new (sets_in prepared) c x) }
@@ -331,7 +332,7 @@ impl<A: Analyzer + Drop> IndexState<A> {
         Ok(Prepared { frame, alive })
     }
 
-    /// Makes searches see what was prepared, and changes are taken again. It takes no memory.
+    /// Installs `prepared`: searches see it, and changes are accepted again. It takes no memory.
     pub fn install(&mut self, prepared: Prepared)
         requires flagged { AreSets self.old (sets_in prepared) }
         requires few { length (sets_in prepared) < 2 ^ 32 }
@@ -347,7 +348,7 @@ impl<A: Analyzer + Drop> IndexState<A> {
         self.status = Status::Ready;
     }
 
-    /// Takes no more calls but those of this status, which isn't that of all calls.
+    /// Stops the index: it accepts no more calls but those of `status`, which isn't that of all calls.
     pub fn stop(&mut self, status: Status)
         requires { status_of status ≢ calls.ready }
         ensures left { (c : calls.Configuration) (x : calls.Index) → Stands A.analyze self.old c x
@@ -358,7 +359,7 @@ impl<A: Analyzer + Drop> IndexState<A> {
         self.status = status;
     }
 
-    /// How many segments are committed, those without living documents too.
+    /// Returns the number of committed segments, those without living documents too.
     pub fn num_segments(&self) -> usize
         ensures { (c : calls.Configuration) (x : calls.Index) → Stands A.analyze self.now c x
             → result ≡ states.num_segments x.state }
@@ -366,7 +367,7 @@ impl<A: Analyzer + Drop> IndexState<A> {
         self.alive.len()
     }
 
-    /// How many documents are committed and alive.
+    /// Returns the number of documents that are committed and alive.
     pub fn num_docs(&self) -> u64
         ensures { (c : calls.Configuration) (x : calls.Index) → Stands A.analyze self.now c x
             → result ≡ states.num_docs x.state }
@@ -379,8 +380,8 @@ impl<A: Analyzer + Drop> IndexState<A> {
         count
     }
 
-    /// The best of the committed documents that match, so many at most: by score, and then by addition. The caches of the
-    /// segments' stores keep the blocks that are read.
+    /// Returns the best `limit` of the committed documents that match, by score, and then in the order of addition. The
+    /// caches of the segments' stores keep the blocks that are read.
     pub fn search(&mut self, query: &AnyQuery, limit: usize) -> Result<Vec<Hit>, Fault>
         ensures ok { (c : calls.Configuration) (x : calls.Index) → Stands A.analyze self.old c x
             → IfOk result (λ hits.
@@ -407,7 +408,7 @@ impl<A: Analyzer + Drop> IndexState<A> {
         )
     }
 
-    /// How many of the committed documents match.
+    /// Returns the number of committed documents that match.
     pub fn count(&self, query: &AnyQuery) -> Result<u64, Fault>
         ensures ok { (c : calls.Configuration) (x : calls.Index) → Stands A.analyze self.now c x
             → IfOk result (λ count.
@@ -428,7 +429,7 @@ impl<A: Analyzer + Drop> IndexState<A> {
         )
     }
 
-    /// The segments that are committed.
+    /// Returns the committed segments.
     pub fn segments(&self) -> &[Segment]
         ensures value { result.now ≡ committed_of self.now }
         ensures opened { ∥ AllByRecursion (IsOpened (schema_of self.now)) result.now ∥₁ }
@@ -443,7 +444,7 @@ impl<A: Analyzer + Drop> IndexState<A> {
         &self.segments[..self.alive.len()]
     }
 
-    /// Which of their documents are alive, a set for each.
+    /// Returns the alive sets of the committed segments, one for each.
     pub fn alive(&self) -> &[AliveBitSet]
         ensures { result.now ≡ alive_of self.now }
     {
@@ -451,7 +452,7 @@ impl<A: Analyzer + Drop> IndexState<A> {
     }
 }
 
-/// The same term, in memory of its own.
+/// Copies `term` into memory of its own.
 fn copied(alloc: Global, term: &Term) -> Result<Term, Fault>
     ensures value { IfOk result (λ copy. copy ≡ term.now) }
     ensures err { IfErr result (λ fault. fault ≡ faults.OutOfMemory) }

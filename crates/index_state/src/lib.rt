@@ -1,5 +1,4 @@
-//! What an index keeps in memory: segments that are committed, which of their documents are alive, and what waits for a
-//! commit.
+//! The state of an index in memory: committed segments, which of their documents are alive, and what is pending.
 #![tactic(auto)]
 
 mod add_checks;

@@ -1,4 +1,4 @@
-//! Merges of neighbouring segments that are committed.
+//! Merges of neighbouring committed segments.
 
 ghost use Rattle.std.specs.Prelude.{[], ◌<◌, ◌≡◌, ◌≢◌, ◌≤◌, Err, IfErr, IfOk, IfSome, List, MatchOption, None, OnOk, Some, length, ℕ};
 ghost use Rattle.std.specs.Result.{result_err};
@@ -23,9 +23,9 @@ impl<A: Analyzer + Drop> IndexState<A> {
     ghost use Rattle.index_state.specs.Merges.{Joins, MergePasses, Replaces, joined_groups, members_merged, merge_frame_in};
     ghost use Rattle.index_state.specs.Standing.{IsMadeAlike, Stands, alive_of, analyzer_of, members_of, schema_of};
 
-    /// Makes what a merge of the committed segments in a range writes and installs, in memory: all that it takes is
-    /// found here. `BadRange` where the range names no segment, or more than there are; `Limit` where one segment of
-    /// their living documents would pass a limit. Whatever it answers, the index stays as it is.
+    /// Prepares a merge of the committed segments `from..to`: makes what it writes and installs, in memory, and
+    /// allocates all that it needs. `BadRange` if the range names no segment, or more than there are; `Limit` if one
+    /// segment of their living documents would pass a limit. Whatever it returns, the index stays as it is.
     pub fn prepare_merge(&self, from: usize, to: usize) -> Result<PreparedMerge, Fault>
         ensures taken { (c : calls.Configuration) (x : calls.Index) → Stands A.analyze self.now c x
             → OnOk result (calls.call_fault c x (calls.merge_range from to) ≡ None) }
@@ -59,7 +59,7 @@ impl<A: Analyzer + Drop> IndexState<A> {
         })
     }
 
-    /// The segment of the living documents of the committed segments in a range, where there are any.
+    /// Merges the living documents of the committed segments `from..to` into a segment, if there are any.
     fn merged_segment(&self, from: usize, to: usize) -> Result<Option<Segment>, Fault>
         requires some { from < to }
         requires within { to ≤ length (alive_of self.now) }
@@ -82,7 +82,7 @@ impl<A: Analyzer + Drop> IndexState<A> {
         )
     }
 
-    /// Makes searches see what was prepared; what waits for a commit stays. It takes no memory.
+    /// Installs `prepared`: searches see it; what is pending stays. It takes no memory.
     pub fn install_merge(&mut self, prepared: PreparedMerge)
         requires { Replaces self.old prepared }
         ensures left { (c : calls.Configuration) (x : calls.Index) (from to : ℕ) → Stands A.analyze self.old c x
@@ -103,7 +103,7 @@ impl<A: Analyzer + Drop> IndexState<A> {
     }
 }
 
-/// Why no segments are merged: the range names none of so many, or more than there are.
+/// Checks a range of `num_segments` segments: it names at least one, and none past the last.
 fn check_range(from: usize, to: usize, num_segments: usize) -> Result<(), Fault>
     ensures fault { result_err result ≡ range_fault from to num_segments }
     ensures within { OnOk result ((from < to) × (to ≤ num_segments)) }

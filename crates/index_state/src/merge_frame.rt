@@ -12,8 +12,8 @@ use index_file::{Frame, SegmentsBodyWriter};
 use segment::Segment;
 use std::alloc::{AllocError, Global};
 
-/// The frame of a record of so many committed segments, of which those from one place to another give way to a new one,
-/// or to none: that one is put whole, and the others by their places. The alive sets are those afterwards.
+/// Encodes the record of a merge of the segments `from..to` of `num_committed`: these give way to `segment`, new and
+/// inline, or to none; the others are put by index. `alive` are the alive sets after the merge.
 pub(crate) fn merge_frame(
     alloc: Global,
     num_committed: usize,

@@ -7,7 +7,7 @@ use common::AliveBitSet;
 use segment::Segment;
 use std::alloc::{AllocError, Global};
 
-/// The alive sets of segments of which those from one place to another give way to a new one, or to none.
+/// Returns the alive sets after the segments `from..to` are replaced by `segment`, or by none.
 pub(crate) fn merged_sets(
     alloc: Global,
     alive: &[AliveBitSet],
@@ -40,7 +40,7 @@ fn push_copies(
     Ok(())
 }
 
-/// Appends the alive set of a new segment, where there is one.
+/// Appends the alive set of the new segment, if there is one.
 fn push_new(
     alloc: Global,
     segment: &Option<Segment>,

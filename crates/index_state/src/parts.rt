@@ -1,4 +1,4 @@
-//! The segments of a list, and their alive sets.
+//! The segments of a list, apart from their alive sets.
 
 ghost use Rattle.std.specs.Prelude.{◌≡◌, IfOk, map};
 ghost use Rattle.index_state.specs.Parts.{flags_in, segment_in};
@@ -9,7 +9,7 @@ use segment::Segment;
 use std::alloc::{AllocError, Global};
 use std::collections::VecDeque;
 
-/// The segments of members, and the alive set of each.
+/// Splits `members` into their segments and their alive sets.
 pub(crate) fn parted(
     alloc: Global,
     members: Vec<Member>,

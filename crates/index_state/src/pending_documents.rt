@@ -1,4 +1,4 @@
-//! The documents that wait in the segment that isn't full.
+//! The pending documents of the segment that isn't full.
 
 ghost use Rattle.std.specs.Prelude.{[], ◌++◌, ◌∷◌, ◌≡◌, IfOk, OnErr, OnOk, flat_map, length, nat_eq};
 
@@ -8,11 +8,11 @@ use std::collections::VecDeque;
 use std::marker::Model;
 use std::mem::replace;
 
-/// How many documents a chunk has when it is full. So many take more memory, even if they are short, than the C library
+/// The number of documents of a full chunk. This many take more memory, even if they are short, than the C library
 /// keeps for itself when it is freed.
 const DOCS_PER_CHUNK: usize = 8192;
 
-/// Documents in chunks, so that each chunk's memory is given back as soon as its documents are indexed.
+/// Documents in chunks, so that each chunk's memory is freed as soon as its documents are indexed.
 #[derive(Drop)]
 pub struct WaitingDocs {
     alloc: Global,
@@ -37,7 +37,7 @@ impl Model for WaitingDocs {
 }
 
 impl WaitingDocs {
-    /// No document.
+    /// Returns a list without documents.
     pub fn new(alloc: Global) -> WaitingDocs
         ensures { result ≡ [] }
     {
@@ -49,21 +49,21 @@ impl WaitingDocs {
         }
     }
 
-    /// How many documents there are.
+    /// Returns the number of documents.
     pub fn len(&self) -> usize
         ensures { result ≡ length self.now }
     {
         self.len
     }
 
-    /// Whether there is no document.
+    /// Returns whether there is no document.
     pub fn is_empty(&self) -> bool
         ensures { result ≡ nat_eq (length self.now) 0 }
     {
         self.len == 0
     }
 
-    /// Puts a copy of a document behind the others. A refused call changes nothing.
+    /// Appends a copy of `doc`. A refused call changes nothing.
     pub fn push(&mut self, doc: &CompactDoc) -> Result<(), AllocError>
         ensures ok { OnOk result (self.new ≡ self.old ++ doc.now ∷ []) }
         ensures err { OnErr result (self.new ≡ self.old) }
@@ -79,7 +79,7 @@ impl WaitingDocs {
         Ok(())
     }
 
-    /// Begins another chunk.
+    /// Starts another chunk.
     fn close_chunk(&mut self) -> Result<(), AllocError>
         ensures { self.new ≡ self.old }
     {
@@ -89,7 +89,7 @@ impl WaitingDocs {
         Ok(())
     }
 
-    /// The documents, chunk by chunk.
+    /// Returns the documents, chunk by chunk.
     pub fn into_chunks(self) -> Result<VecDeque<CompactDocs>, AllocError>
         ensures { IfOk result (λ chunks. flat_map (λ docs. docs) chunks.items ≡ self) }
     {

@@ -1,4 +1,4 @@
-//! A commit that is prepared.
+//! A prepared commit.
 
 ghost use Rattle.std.specs.Prelude.{◌≡◌};
 ghost use Rattle.index_state.specs.Commits.{frame_in};
@@ -6,16 +6,16 @@ ghost use Rattle.index_state.specs.Commits.{frame_in};
 use common::AliveBitSet;
 use index_file::Frame;
 
-/// What a commit writes and then installs.
+/// A prepared commit: what it writes and then installs.
 #[derive(Drop)]
 pub struct Prepared {
     pub(crate) frame: Frame,
-    // One for each segment, those that were new too.
+    // One for each segment, the new ones too.
     pub(crate) alive: Vec<AliveBitSet>,
 }
 
 impl Prepared {
-    /// The frame of the commit's record.
+    /// Returns the frame of the commit's record.
     pub fn frame(&self) -> &Frame
         ensures { result.now ≡ frame_in self.now }
     {

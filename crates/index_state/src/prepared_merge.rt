@@ -1,4 +1,4 @@
-//! A merge that is prepared.
+//! A prepared merge.
 
 ghost use Rattle.std.specs.Prelude.{◌≡◌};
 ghost use Rattle.index_state.specs.Merges.{merge_frame_in};
@@ -7,20 +7,20 @@ use common::AliveBitSet;
 use index_file::Frame;
 use segment::Segment;
 
-/// What a merge writes and then installs.
+/// A prepared merge: what it writes and then installs.
 #[derive(Drop)]
 pub struct PreparedMerge {
     pub(crate) frame: Frame,
-    // Those from one place to another give way to it; where no document is alive there is none.
+    // Replaces the committed segments `from..to`; none if no document is alive.
     pub(crate) segment: Option<Segment>,
     pub(crate) from: usize,
     pub(crate) to: usize,
-    // One for each segment that is committed afterwards.
+    // One for each segment that is committed after the merge.
     pub(crate) alive: Vec<AliveBitSet>,
 }
 
 impl PreparedMerge {
-    /// The frame of the merge's record.
+    /// Returns the frame of the merge's record.
     pub fn frame(&self) -> &Frame
         ensures { result.now ≡ merge_frame_in self.now }
     {

@@ -1,11 +1,11 @@
-//! Segments that give way to one.
+//! The replacement of segments by one.
 
 ghost use Rattle.std.specs.Prelude.{◌<◌, ◌≡◌, ◌≤◌, length, option_to_list};
 ghost use Rattle.index_state.specs.Merges.{replaced};
 
 use segment::Segment;
 
-/// Puts a segment, or none, in place of those from one place to another. It takes no memory.
+/// Replaces `segments[from..to]` by `segment`, or by none. It takes no memory.
 pub(crate) fn replace_range(
     segments: &mut Vec<Segment>,
     from: usize,

@@ -1,12 +1,12 @@
-//! What an index may still do.
+//! The calls that an index still accepts.
 
-/// What an index may still do.
+/// The calls that an index still accepts.
 #[derive(Clone, Copy, Debug, PartialEq, Eq)]
 pub enum Status {
-    /// Everything.
+    /// All calls.
     Ready,
-    /// Searches of what was committed, since an add or a commit met want of memory or a limit half way.
+    /// Searches of what was committed, after an add or a commit ran out of memory or met a limit half way.
     WriterClosed,
-    /// Nothing, since the device failed.
+    /// No calls, since the device failed.
     Closed,
 }

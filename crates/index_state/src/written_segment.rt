@@ -1,4 +1,4 @@
-//! A segment, written of documents and opened.
+//! A segment, written from documents and opened.
 
 ghost use Rattle.std.specs.Prelude.{◌++◌, ◌<◌, ◌≡◌, ◌⊎◌, IfErr, IfOk, List, OnOk, length, ℕ};
 ghost use Rattle.std.specs.List.{AllByRecursion};
@@ -20,7 +20,7 @@ use segment::{Segment, SegmentWriter};
 use settings::Settings;
 use std::alloc::Global;
 
-/// The segment of these documents, opened; `Limit` where they pass one.
+/// Writes `docs` as a segment and opens it; `Limit` if they pass one.
 pub(crate) fn written_segment<A: Analyzer>(
     alloc: Global,
     analyzer: &A,
@@ -47,7 +47,7 @@ pub(crate) fn written_segment<A: Analyzer>(
     Ok(segment)
 }
 
-/// The bytes of the segment of these documents; `Limit` where they pass one.
+/// Encodes the segment of `docs`; `Limit` if they pass one.
 fn written_bytes<A: Analyzer>(
     alloc: Global,
     analyzer: &A,
@@ -66,8 +66,7 @@ fn written_bytes<A: Analyzer>(
     writer.close(schema)
 }
 
-/// A writer of a segment to which these documents were added, each chunk let go when it was; `Limit` where they pass
-/// one.
+/// Returns a segment writer with `docs` added, each chunk freed once it was; `Limit` if they pass one.
 fn written<A: Analyzer>(
     alloc: Global,
     analyzer: &A,
@@ -89,7 +88,7 @@ fn written<A: Analyzer>(
     Ok(writer)
 }
 
-/// Adds documents behind those that were added; `Limit` where one of them passes one.
+/// Adds `docs` after those that were added; `Limit` if one of them passes one.
 fn add_docs<A: Analyzer>(
     alloc: Global,
     analyzer: &A,

@@ -1,4 +1,4 @@
-//! What a search is answered, written as a text.
+//! The reply to a search, encoded as a text.
 
 ghost use Rattle.std.specs.Prelude.{◌++◌, ◌≡◌, IfOk, List, OnOk, map, string_bytes};
 ghost use Rattle.definitions.specs.Replies as definitions;
@@ -14,7 +14,7 @@ use json::Writer;
 use segment_search::Hit;
 use std::alloc::{AllocError, Global};
 
-/// The text that a search is answered, written hit by hit. A score is not negative.
+/// Encodes the reply to a search, hit by hit. A score is not negative.
 pub fn hits_text(alloc: Global, hits: &[Hit]) -> Result<String, AllocError>
     ensures { (hs : List scanning.Hit) → map hit_of hits.now ≡ map scored hs
         → IfOk result (λ text. string_bytes text ≡ definitions.reply_of (definitions.hits_reply hs)) }
@@ -25,7 +25,7 @@ pub fn hits_text(alloc: Global, hits: &[Hit]) -> Result<String, AllocError>
     Ok(unsafe { String::from_utf8_unchecked(out.into_inner()) })
 }
 
-/// Writes what a search is answered.
+/// Writes the reply to a search.
 fn write_reply(alloc: Global, hits: &[Hit], out: &mut Writer) -> Result<(), AllocError>
     ensures ok { OnOk result (out.new.tokens
         ≡ out.old.tokens ++ json_tokens (outline (definitions.hits_reply (map told hits.now)))) }

@@ -1,4 +1,4 @@
-//! Replies with documents, written as JSON texts.
+//! Replies with documents, encoded as JSON texts.
 #![tactic(auto)]
 
 mod hit_texts;

@@ -1,4 +1,4 @@
-//! Stored documents written as JSON.
+//! Stored documents encoded as JSON.
 
 ghost use Rattle.std.specs.Prelude.{◌++◌, ◌≡◌, IfOk, OnOk};
 ghost use Rattle.definitions.specs.Printed.{printed_fields, printed_named};
@@ -14,7 +14,7 @@ use json::Writer;
 use std::alloc::{AllocError, Global};
 use std::collections::BTreeMap;
 
-/// Writes a document as one object: the names of its fields as keys, with a list of values for each.
+/// Writes `doc` as one object: the names of its fields as keys, with a list of values for each.
 pub(crate) fn write_document(
     alloc: Global,
     doc: &NamedDocument,
@@ -26,7 +26,7 @@ pub(crate) fn write_document(
     write_fields(alloc, by_name(alloc, doc)?, out)
 }
 
-/// The fields in the order of their names' bytes.
+/// Sorts the fields by the bytes of their names.
 fn by_name<'a>(
     alloc: Global,
     doc: &'a NamedDocument,

@@ -1,4 +1,4 @@
-//! Values written as JSON.
+//! Values encoded as JSON.
 
 ghost use Rattle.std.specs.Prelude.{◌++◌, ◌≡◌, IfOk, OnOk};
 ghost use Rattle.definitions.specs.Printed.{printed, printed_list, printed_onto};
@@ -15,7 +15,7 @@ use std::alloc::{AllocError, Global};
 use std::collections::BTreeMap;
 use values_json::{address_text, bytes_text, date_text};
 
-/// Writes a value: dates, facets, byte strings and addresses as texts, a pre-tokenised text as its text.
+/// Writes `value`: dates, facets, byte strings and addresses as texts, a pre-tokenised text as its text.
 #[cycle(write_json)]
 fn write_value(alloc: Global, value: &OwnedValue, out: &mut Writer) -> Result<(), AllocError>
     ensures ok { OnOk result (out.new.tokens
@@ -38,7 +38,7 @@ fn write_value(alloc: Global, value: &OwnedValue, out: &mut Writer) -> Result<()
     }
 }
 
-/// Writes the values as one list.
+/// Writes `values` as one list.
 #[cycle(write_json)]
 pub(crate) fn write_list(
     alloc: Global,
@@ -57,7 +57,7 @@ pub(crate) fn write_list(
     Ok(())
 }
 
-/// Writes the members as one object.
+/// Writes `members` as one object.
 #[cycle(write_json)]
 fn write_object(
     alloc: Global,
@@ -77,7 +77,7 @@ fn write_object(
     Ok(())
 }
 
-/// The members in the order of their keys' bytes. Of the members of one key the last stands.
+/// Sorts `members` by the bytes of their keys; of those of one key the last is kept.
 fn by_key<'a>(
     alloc: Global,
     members: &'a [(String, OwnedValue)],

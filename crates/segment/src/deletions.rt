@@ -17,7 +17,8 @@ use options::IndexRecordOption;
 use segment_postings::BlockSegmentPostings;
 use terms::Term;
 
-/// Lets the documents of a segment be dead that hold a term, whatever their counts. The others stay as they are.
+/// Marks the documents of `segment` that hold `term` dead in `alive`, whatever their counts. The others stay as they
+/// are.
 pub fn delete_in(segment: &Segment, term: &Term, alive: &mut AliveBitSet)
     requires flagged { length alive.old ≡ num_docs_of segment.now }
     requires opened { ∥ ((schema : Schema) × IsOpened schema segment.now) ∥₁ }
@@ -32,7 +33,7 @@ pub fn delete_in(segment: &Segment, term: &Term, alive: &mut AliveBitSet)
     }
 }
 
-/// Lets the documents of postings be dead.
+/// Marks the documents of `postings` dead.
 fn kill_postings(postings: BlockSegmentPostings<'_>, alive: &mut AliveBitSet)
     requires { AllByRecursion (λ doc. doc < length alive.old) (docs_left postings) }
     ensures { alive.new ≡ killed (docs_left postings.entry) alive.old }
@@ -44,7 +45,7 @@ fn kill_postings(postings: BlockSegmentPostings<'_>, alive: &mut AliveBitSet)
     }
 }
 
-/// Lets documents be dead.
+/// Marks `docs` dead.
 fn kill_each(docs: &[DocId], alive: &mut AliveBitSet)
     requires { AllByRecursion (λ doc. doc < length alive.old) docs.now }
     ensures { alive.new ≡ killed docs.now alive.old }

@@ -1,4 +1,4 @@
-//! Documents: which of them an add takes, and what is read of them from their slots.
+//! Documents: which an add accepts, and how they are decoded from their slots.
 
 ghost use Rattle.std.specs.Prelude.{◌<◌, ◌^◌, ◌≡◌, ◌⊎◌, ◌↔◌, IfErr, IfOk, IsTrue, List, None, length};
 ghost use Rattle.definitions.specs.declared.fault.Fault.TheVariants as faults;
@@ -10,7 +10,7 @@ use document::{CompactDoc, has_unknown_field};
 use schema::Schema;
 use std::alloc::Global;
 
-/// The document of the schema's fields that a slot is; `Damaged` where it is none.
+/// Decodes a slot as a document of the schema's fields; `Damaged` if it isn't one.
 pub(crate) fn read_slot(alloc: Global, schema: &Schema, slot: &[u8]) -> Result<CompactDoc, Fault>
     ensures ok { IfOk result (λ read. IsSlotOf schema.now slot.now read) }
     ensures err { IfErr result (λ fault. (fault ≡ faults.OutOfMemory)
@@ -24,7 +24,7 @@ pub(crate) fn read_slot(alloc: Global, schema: &Schema, slot: &[u8]) -> Result<C
     Ok(doc)
 }
 
-/// Whether an add takes a document: the schema has its fields, and each of its values can be indexed.
+/// Returns whether an add accepts `doc`: the schema has its fields, and each of its values can be indexed.
 pub fn is_taken(schema: &Schema, doc: &CompactDoc) -> bool
     ensures { IsTrue result ↔ IsTaken schema.now doc.now }
 {

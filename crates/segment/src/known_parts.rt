@@ -1,5 +1,5 @@
-//! The parts of a segment whose bytes are known to be one: they are taken by the same steps, and memory alone may be
-//! wanting.
+//! Parts of a segment whose bytes are known to be one: decoded by the checking functions, with out of memory as the
+//! only error.
 
 ghost use Rattle.std.specs.Prelude.{◌<◌, ◌^◌, ◌≡◌, ◌≢◌, IfOk, List, length, sum_by, ℕ};
 ghost use Rattle.definitions.specs.NumberCodes.{AreBytes};
@@ -16,7 +16,7 @@ use definitions::Fault;
 use std::alloc::{AllocError, Global};
 use store::StoreReader;
 
-/// The sections of bytes that are known to consist of sections.
+/// Splits `bytes`, which are known to consist of sections.
 pub(crate) fn known_sections(bytes: Bytes) -> Result<Sections, AllocError>
     requires { ∥ ((num_docs : ℕ) × (sections : layout.Sections) × AreWritten num_docs sections bytes) ∥₁ }
     ensures written { IfOk result (λ s. AreWritten s.num_docs (sections_in s) bytes) }
@@ -28,7 +28,7 @@ pub(crate) fn known_sections(bytes: Bytes) -> Result<Sections, AllocError>
     }
 }
 
-/// A reader of a store that is known to have that number of documents.
+/// Opens a store that is known to have `num_docs` documents.
 pub(crate) fn known_store(
     alloc: Global,
     bytes: Bytes,
@@ -47,7 +47,7 @@ pub(crate) fn known_store(
     }
 }
 
-/// What a refusal is that can be for want of memory alone.
+/// Converts an error that can only be out of memory.
 fn want_of_memory(_fault: &Fault) -> AllocError
     requires { (_fault.now ≢ faults.OutOfMemory) → ⊥ }
 {

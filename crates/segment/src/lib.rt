@@ -1,5 +1,5 @@
-//! Segments: written of documents, opened from bytes that are checked whole but for the store's blocks, read, deleted
-//! in, and merged.
+//! Segments: writing them from documents, opening them from bytes (all checked but the store's blocks), reading,
+//! deleting documents, and merging.
 #![tactic(auto)]
 
 mod deletions;

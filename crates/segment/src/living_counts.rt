@@ -1,4 +1,4 @@
-//! Counts the living documents of the members of a merge.
+//! The number of living documents of a merge.
 
 ghost use Rattle.std.specs.Prelude.{◌<◌, ◌≡◌, ◌≤◌, IfErr, IfOk, map};
 ghost use Rattle.definitions.specs.declared.fault.Fault.TheVariants as faults;
@@ -9,7 +9,7 @@ use crate::member_segments::MemberSegment;
 use common::TERMINATED;
 use definitions::Fault;
 
-/// How many documents are alive, which is `Limit` where no segment may have so many.
+/// Counts the living documents of `members`; `Limit` for more than a segment may have.
 pub(crate) fn num_living(members: &[MemberSegment<'_>]) -> Result<u32, Fault>
     ensures ok { IfOk result (λ n. (n ≡ living_count (map member_of members.now)) × (n ≤ max_docs)) }
     ensures err { IfErr result (λ fault. (fault ≡ faults.Limit)

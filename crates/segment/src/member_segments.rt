@@ -1,4 +1,4 @@
-//! The members of a merge, which are lent.
+//! The members of a merge, borrowed.
 
 ghost use Rattle.std.specs.Prelude.{◌≡◌, IfOk, length, map};
 ghost use Rattle.std.specs.List.{zip};
@@ -15,7 +15,7 @@ pub(crate) struct MemberSegment<'a> {
     pub(crate) alive: &'a AliveBitSet,
 }
 
-/// The members in a list of pairs.
+/// Borrows the members of `pairs`.
 pub(crate) fn members_of_pairs<'a>(
     alloc: Global,
     pairs: &'a [(Segment, AliveBitSet)],
@@ -32,7 +32,7 @@ pub(crate) fn members_of_pairs<'a>(
     Ok(members)
 }
 
-/// The members of segments, each with the set of the same place.
+/// Pairs each of `segments` with the alive set at its index in `sets`.
 pub(crate) fn members_of_lists<'a>(
     alloc: Global,
     segments: &'a [Segment],

@@ -1,4 +1,4 @@
-//! Writes the lengths of a merge.
+//! The lengths of a merge.
 
 ghost use Rattle.std.specs.Prelude.{◌≡◌, IfOk, List, map, ℕ};
 ghost use Rattle.definitions.specs.Alive as alive;
@@ -13,7 +13,7 @@ use crate::member_segments::MemberSegment;
 use merging::{MemberNorms, merge_norms};
 use std::alloc::{AllocError, Global};
 
-/// The section of the lengths of the members' living documents, in the fields that keep lengths.
+/// Encodes the section of the lengths of the members' living documents in `fields`, those that keep lengths.
 pub(crate) fn merge_lengths(
     alloc: Global,
     fields: &[u32],
@@ -33,7 +33,7 @@ pub(crate) fn merge_lengths(
     merge_norms(alloc, fields, &lengths)
 }
 
-/// The lengths of each member, and which of its documents are alive.
+/// Lists the lengths of each member, and which of its documents are alive.
 fn member_norms<'a>(
     alloc: Global,
     members: &[MemberSegment<'a>],

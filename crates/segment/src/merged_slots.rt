@@ -1,4 +1,4 @@
-//! Writes the store of a merge.
+//! The store of a merge.
 
 ghost use Rattle.std.specs.Prelude.{◌≡◌, IfErr, IfOk, List, map, ℕ};
 ghost use Rattle.definitions.specs.Schema.{Schema};
@@ -12,7 +12,7 @@ use definitions::Fault;
 use merging::{MemberStore, merge_stores};
 use std::alloc::{AllocError, Global};
 
-/// The store of the living documents of the members.
+/// Encodes the store of the living documents of `members`.
 pub(crate) fn merge_slots(
     alloc: Global,
     block_size: usize,
@@ -29,7 +29,7 @@ pub(crate) fn merge_slots(
     merge_stores(alloc, block_size, &stores)
 }
 
-/// The store of each member, and which of its documents are alive.
+/// Lists the store of each member, and which of its documents are alive.
 fn member_stores<'a>(
     alloc: Global,
     members: &[MemberSegment<'a>],

@@ -1,4 +1,4 @@
-//! Writes the terms of a merge.
+//! The terms, postings and positions of a merge.
 
 ghost use Rattle.std.specs.Prelude.{◌<◌, ◌≡◌, ◌≢◌, ◌≤◌, IfErr, IfOk, List, length, map};
 ghost use Rattle.std.specs.List.{AllByRecursion};
@@ -20,8 +20,8 @@ use postings_writer::InvertedIndexSerializer;
 use schema::Schema;
 use std::alloc::{AllocError, Global};
 
-/// The sections of terms, postings and positions of the members' living documents, of whose lengths these are the
-/// readers.
+/// Encodes the sections of terms, postings and positions of the members' living documents, whose lengths are read by
+/// `fieldnorm_readers`.
 pub(crate) fn merge_terms(
     alloc: Global,
     schema: &Schema,
@@ -54,7 +54,7 @@ pub(crate) fn merge_terms(
     Ok(serializer.close())
 }
 
-/// The terms of each member, and the numbers that its living documents get, behind those of the members before.
+/// Lists the terms of each member, with the new ids of its living documents, after those of the members before it.
 fn numbered_members<'a>(
     alloc: Global,
     members: &[MemberSegment<'a>],

@@ -1,4 +1,4 @@
-//! Merges segments.
+//! Merges of segments.
 
 ghost use Rattle.std.specs.Prelude.{[], ◌<◌, ◌≡◌, ◌≢◌, ◌≤◌, IfErr, IfOk, IfSome, List, MatchOption, None, length, map, ℕ};
 ghost use Rattle.std.specs.List.{zip};
@@ -27,10 +27,10 @@ use fieldnorms::FieldNormReaders;
 use schema::{Schema, length_fields};
 use std::alloc::Global;
 
-/// The segment of the living documents of segments, one after the other; none where no document is alive. Blocks of its
-/// store are closed when their documents' bytes come over the block size; those of members whose documents are all
-/// alive stay as they are, without a look at their slots. It is opened, and keeps as many blocks as the cache has room
-/// for. Too many documents are `Limit` before anything is written.
+/// Merges the living documents of `members`, in order, into one open segment; `None` if no document is alive. Blocks of
+/// its store are closed when their documents' bytes exceed `block_size`; those of members whose documents are all alive
+/// stay as they are, without a look at their slots. The store caches up to `cache_num_blocks` blocks. Too many
+/// documents are `Limit` before anything is written.
 pub fn merge_segments(
     alloc: Global,
     schema: &Schema,
@@ -57,7 +57,8 @@ pub fn merge_segments(
     merge_members(alloc, schema, block_size, cache_num_blocks, &members)
 }
 
-/// The same of segments and alive sets in lists of their own: the set of each segment stands at its place.
+/// Like `merge_segments`, but with the segments and their alive sets in two lists: the set of each segment is at its
+/// index.
 pub fn merge_lists(
     alloc: Global,
     schema: &Schema,
@@ -88,7 +89,7 @@ pub fn merge_lists(
     merge_members(alloc, schema, block_size, cache_num_blocks, &members)
 }
 
-/// The same of members that are lent.
+/// Like `merge_segments`, but with borrowed members.
 fn merge_members(
     alloc: Global,
     schema: &Schema,
@@ -123,7 +124,7 @@ fn merge_members(
     Ok(Some(segment))
 }
 
-/// The bytes of the segment of so many living documents.
+/// Encodes the segment of the `num_docs` living documents of `members`.
 fn merged_bytes(
     alloc: Global,
     schema: &Schema,

@@ -1,4 +1,4 @@
-//! Segments have one reading.
+//! The law that a segment has one reading.
 
 ghost use Rattle.std.specs.Prelude.{length, ◌<◌, ◌^◌, ◌≡◌, List, ℕ};
 ghost use Rattle.definitions.specs.Analyzers.{Analyzer};
@@ -10,8 +10,8 @@ ghost use Rattle.definitions.specs.Values.{Document};
 ghost use Rattle.segment_definitions.specs.Segments.{IsSegmentOf};
 ghost use Rattle.segment_definitions.specs.Slots.{slots};
 
-/// Documents of which the same bytes are a segment differ in nothing that a search sees, whatever analyzer made their
-/// tokens: as many documents, the same lengths, the same postings of every term, and the same slots.
+/// States that two lists of documents encoded by the same segment differ in nothing that a search sees, whatever
+/// analyzers made their tokens: their number, lengths, postings of every term, and slots are equal.
 pub fn a_segment_has_one_reading()
     ensures { (schema : Schema) (analyze other : Analyzer) (docs others : List Document) (bytes : List ℕ)
         → AreBytes bytes → length bytes < 2 ^ 63 → length schema < 2 ^ 32

@@ -1,4 +1,4 @@
-//! The sections of lengths and of the store, checked.
+//! Checks of the sections of lengths and of the store.
 
 ghost use Rattle.std.specs.Prelude.{◌<◌, ◌^◌, ◌≡◌, ◌≢◌, ◌≤◌, IfErr, IfOk, List, None, length, sum_by, ℕ};
 ghost use Rattle.definitions.specs.KeptLengths.{length_fields};
@@ -13,7 +13,7 @@ use schema::{Schema, length_fields};
 use std::alloc::Global;
 use store::StoreReader;
 
-/// The numbers of the fields that keep lengths, where the bytes are the section of their lengths.
+/// Checks the section of lengths, and returns the fields that keep lengths.
 pub(crate) fn checked_norms(
     alloc: Global,
     schema: &Schema,
@@ -30,7 +30,7 @@ pub(crate) fn checked_norms(
     Ok(fields)
 }
 
-/// A reader of a store with that number of documents.
+/// Opens a store of `num_docs` documents; `Damaged` for another number of them.
 pub(crate) fn open_store(
     alloc: Global,
     bytes: Bytes,

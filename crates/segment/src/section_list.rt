@@ -1,4 +1,4 @@
-//! The sections of a segment, written one behind the other.
+//! The sections of a segment, written one after another.
 
 ghost use Rattle.std.specs.Prelude.{◌++◌, ◌<◌, ◌^◌, ◌≡◌, ◌≤◌, IfOk, OnOk, drop, length};
 ghost use Rattle.segment_definitions.specs.Segments.{Sections, section_bytes, segment_bytes};
@@ -18,9 +18,9 @@ pub struct Sections {
 }
 
 impl Sections {
-    /// The bytes of a segment of so many documents with these sections. Each section but the store is let go when it is
-    /// copied, and what stands before the store is put in front of it within its own memory: at no time are the
-    /// segment's bytes held twice.
+    /// Encodes the segment of `num_docs` documents with these sections. Each section but the store is freed once it is
+    /// copied, and what comes before the store is moved in front of it within the store's own memory: at no time are
+    /// the segment's bytes held twice.
     pub fn into_segment(self, alloc: Global, num_docs: u32) -> Result<Vec<u8>, AllocError>
         ensures whole { IfOk result (λ bytes. bytes.items ≡ segment_bytes num_docs (sections_of self)) }
         ensures short { IfOk result (λ bytes. length bytes.items < 2 ^ 64) }
@@ -45,7 +45,7 @@ impl Sections {
     }
 }
 
-/// Appends a section behind its length, and lets it go.
+/// Appends `section` after its length, and frees it.
 fn put_section(out: &mut Vec<u8>, section: Vec<u8>) -> Result<(), AllocError>
     ensures { OnOk result (out.new.items ≡ out.old.items ++ section_bytes section.items) }
 {
@@ -53,7 +53,7 @@ fn put_section(out: &mut Vec<u8>, section: Vec<u8>) -> Result<(), AllocError>
     out.extend_from_slice(&section)
 }
 
-/// Puts bytes in front of others.
+/// Inserts `front` before `bytes`.
 fn put_front(bytes: &mut Vec<u8>, front: &[u8]) -> Result<(), AllocError>
     ensures { OnOk result (bytes.new.items ≡ front.now ++ bytes.old.items) }
 {
@@ -64,7 +64,7 @@ fn put_front(bytes: &mut Vec<u8>, front: &[u8]) -> Result<(), AllocError>
     Ok(())
 }
 
-/// Writes bytes over the first of others.
+/// Overwrites the first of `bytes` with `front`.
 fn overwrite_front(bytes: &mut Vec<u8>, front: &[u8])
     requires { length front.now ≤ length bytes.old.items }
     ensures { bytes.new.items ≡ front.now ++ drop (length front.now) bytes.old.items }

@@ -1,4 +1,4 @@
-//! The sections of a segment, taken from its bytes.
+//! The sections of a segment, decoded from its bytes.
 
 ghost use Rattle.std.specs.Prelude.{◌<◌, ◌≡◌, ◌≢◌, ◌≤◌, IfErr, IfOk, List, None, Some, length, ℕ, ◌^◌};
 ghost use Rattle.definitions.specs.NumberCodes.{AreBytes, take_u32};
@@ -12,7 +12,7 @@ use bytes::Bytes;
 use common::{TERMINATED, take_u32, take_u64};
 use definitions::Fault;
 
-/// How many documents a segment has, and its five sections, which are shared with its bytes.
+/// The number of documents of a segment, and its five sections, which share its bytes.
 #[derive(Drop)]
 pub(crate) struct Sections {
     pub(crate) num_docs: u32,
@@ -24,7 +24,7 @@ pub(crate) struct Sections {
 }
 
 impl Sections {
-    /// The sections that the bytes consist of. What is in them isn't looked at.
+    /// Splits `bytes` into sections. Their content isn't looked at.
     pub(crate) fn of_bytes(bytes: Bytes) -> Result<Sections, Fault>
         ensures ok { IfOk result (λ s. AreWritten s.num_docs (sections_in s) bytes) }
         ensures bytes { IfOk result (λ _. AreBytes bytes) }
@@ -53,7 +53,7 @@ impl Sections {
     }
 }
 
-/// The number of documents with which the bytes begin: one or more, and no more than a segment may have.
+/// Decodes the number of documents at the start of `bytes`: at least one, and at most what a segment may have.
 fn first_number(bytes: &[u8]) -> Result<u32, Fault>
     ensures ok { IfOk result (λ n. (rest : List ℕ) × (take_u32 bytes.now ≡ Some (n, rest)) × (0 < n) × (n ≤ max_docs)) }
     ensures bytes { AreBytes bytes.now }
@@ -68,7 +68,7 @@ fn first_number(bytes: &[u8]) -> Result<u32, Fault>
     Ok(num_docs)
 }
 
-/// A section behind its length, with which the bytes begin. What follows it is left.
+/// Splits a length and a section of that length off the front of `rest`.
 fn take_section(rest: &mut Bytes) -> Result<Bytes, Fault>
     ensures ok { IfOk result (λ section. take_section rest.old ≡ Some (section, rest.new)) }
     ensures err { IfErr result (λ fault. fault ≢ faults.OutOfMemory

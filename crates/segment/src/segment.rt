@@ -1,4 +1,4 @@
-//! A segment, opened.
+//! An open segment.
 
 ghost use Rattle.std.specs.Prelude.{◌≡◌, ◌≢◌, IfErr, IfOk, List, None, Some, length, option_map, slice_get, ℕ};
 ghost use Rattle.definitions.specs.Analyzers.{Analyzer};
@@ -27,7 +27,7 @@ use segment_reader::{InvertedIndexReader, SegmentReader};
 use std::alloc::{AllocError, Global};
 use store::StoreReader;
 
-/// A segment, opened: its terms, the lengths of its fields, and its store, which share its bytes.
+/// An open segment: its terms, the lengths of its fields, and its store, which share the segment's bytes.
 #[derive(Drop)]
 pub struct Segment {
     bytes: Bytes,
@@ -40,8 +40,8 @@ pub struct Segment {
 }
 
 impl Segment {
-    /// Opens a segment of documents of the schema. All of it is checked but for the blocks of the store; bytes that
-    /// aren't a segment are `Damaged`. No part of it is copied. The store keeps as many blocks as the cache has room for.
+    /// Opens a segment of documents of `schema` from `bytes`. All of it is checked but the blocks of the store; bytes
+    /// that aren't a segment are `Damaged`. Nothing is copied. The store caches up to `cache_num_blocks` blocks.
     pub fn open(
         alloc: Global,
         schema: &Schema,
@@ -78,8 +78,8 @@ impl Segment {
         })
     }
 
-    /// The same of bytes that are known to be a segment, since they were just written. Nothing is checked again: the
-    /// section of terms is walked once, and memory alone may be wanting.
+    /// Opens a segment from `bytes` that are known to be one, since they were just written. Nothing is checked again:
+    /// the section of terms is walked once, and the only error is out of memory.
     pub fn new(
         alloc: Global,
         schema: &Schema,
@@ -111,21 +111,21 @@ impl Segment {
         })
     }
 
-    /// The bytes of the segment, which are shared.
+    /// Returns the bytes of the segment, shared.
     pub fn to_bytes(&self) -> Result<Bytes, AllocError>
         ensures { IfOk result (λ bytes. bytes ≡ bytes_of self.now) }
     {
         self.bytes.clone()
     }
 
-    /// How many documents there are, dead or alive.
+    /// Returns the number of documents, dead or alive.
     pub fn num_docs(&self) -> u32
         ensures { result ≡ num_docs_of self.now }
     {
         self.num_docs
     }
 
-    /// The segment as queries see it, with all of its documents alive where no set tells otherwise.
+    /// Returns a reader of the segment for queries. All documents are alive where `alive_bitset` is `None`.
     pub fn reader<'a>(&'a self, alive_bitset: Option<&'a AliveBitSet>) -> SegmentReader<'a>
         requires flagged { HasFlags (num_docs_of self.now) (option_map (λ flags. flags.now) alive_bitset) }
         requires opened { ∥ ((schema : schemas.Schema) × IsOpened schema self.now) ∥₁ }
@@ -137,9 +137,9 @@ impl Segment {
         SegmentReader::new(self.num_docs, &self.inverted_index, lengths, alive_bitset)
     }
 
-    /// The stored pairs of a document, pre-tokenised texts as texts. A number past the last is `InvalidArgument`; a
-    /// damaged block, and a slot that is no document of the schema's fields, are `Damaged`. The store's cache keeps the
-    /// block.
+    /// Reads the stored pairs of document `doc`, pre-tokenised texts as texts. A document id past the last is
+    /// `InvalidArgument`; a damaged block, and a slot that isn't a document of the schema's fields, are `Damaged`. The
+    /// store's cache keeps the block.
     pub fn document(
         &mut self,
         alloc: Global,
@@ -168,14 +168,14 @@ impl Segment {
         read_slot(alloc, schema, slot.as_slice())
     }
 
-    /// The terms of the documents.
+    /// Returns the terms of the documents.
     pub fn inverted_index(&self) -> &InvertedIndexReader
         ensures { result.now ≡ index_of self.now }
     {
         &self.inverted_index
     }
 
-    /// The length ids of all fields that keep lengths.
+    /// Returns the length ids of all fields that keep lengths.
     pub fn fieldnorms_readers(&self) -> FieldNormReaders<'_>
         requires { ∥ ((schema : schemas.Schema) × IsOpened schema self.now) ∥₁ }
         ensures { result ≡ lengths_of self.now }
@@ -183,7 +183,7 @@ impl Segment {
         FieldNormReaders::new(self.norms.as_slice(), self.num_docs, &self.length_fields)
     }
 
-    /// The slots of the documents, in blocks that aren't checked yet.
+    /// Returns the store: the slots of the documents, in blocks that aren't checked yet.
     pub fn store(&self) -> &StoreReader
         ensures { result.now.blocks ≡ blocks_of self.now }
     {

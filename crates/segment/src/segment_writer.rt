@@ -19,8 +19,8 @@ use schema::Schema;
 use std::alloc::{AllocError, Global};
 use store::StoreWriter;
 
-/// A segment while it is written: the documents' terms and lengths, and the slots of their stored values. Each call is
-/// given the schema and the analyzer that all of them are indexed by.
+/// A segment while it is written: the documents' terms and lengths, and the slots of their stored values. Each call
+/// takes the schema and the analyzer that all of its documents are indexed with.
 #[derive(Drop)]
 pub struct SegmentWriter {
     alloc: Global,
@@ -29,7 +29,8 @@ pub struct SegmentWriter {
 }
 
 impl SegmentWriter {
-    /// No document yet. A block of the store is closed when its documents' bytes come over the block size.
+    /// Returns a writer without documents. A block of the store is closed when its documents' bytes exceed
+    /// `block_size`.
     pub fn new(
         alloc: Global,
         schema: &Schema,
@@ -45,8 +46,8 @@ impl SegmentWriter {
         })
     }
 
-    /// Adds a document. Where its slot would pass a limit of the store, the writer stays as it was; after each other
-    /// refusal it is of no use.
+    /// Adds `doc`. If its slot would pass a limit of the store, the writer is unchanged; after any other error it is of
+    /// no use.
     pub fn add<A: Analyzer>(
         &mut self,
         schema: &Schema,
@@ -77,7 +78,7 @@ impl SegmentWriter {
         Ok(())
     }
 
-    /// How many documents were added.
+    /// Returns the number of documents added.
     pub fn num_docs(&self) -> u32
         ensures { (schema : schemas.Schema) (analyze : definitions.Analyzer) (block_size : ℕ) (docs : List Document)
             → HasWritten schema analyze block_size self.now docs → result ≡ length docs }
@@ -85,7 +86,7 @@ impl SegmentWriter {
         self.store.num_docs()
     }
 
-    /// The bytes of the segment of these documents.
+    /// Encodes the segment of the documents added.
     pub fn close(self, schema: &Schema) -> Result<Vec<u8>, Fault>
         requires { (analyze : definitions.Analyzer) × (block_size : ℕ) × (docs : List Document)
             × HasWritten schema.now analyze block_size self docs × (0 < length docs) }
@@ -104,7 +105,7 @@ impl SegmentWriter {
         } = self;
         let num_docs = store.num_docs();
         let (terms, postings, positions, norms) = indexer.serialize(alloc, schema)?;
-        // What was recorded is let go before the bytes of the segment are put together.
+        // The indexer's memory is freed before the bytes of the segment are put together.
         drop(indexer);
         let sections = Sections {
             terms,
