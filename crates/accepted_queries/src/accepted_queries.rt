@@ -16,7 +16,7 @@ use settings::Statistics;
 use std::alloc::Global;
 use tree_scorers::{SegmentScorers, scorer_of};
 
-/// Whether a query is refused, by what `check_query` refuses. Where it isn't, it has a scorer in every segment.
+/// Checks that `query` is accepted, as `check_query` does. An accepted query has a scorer in every segment.
 #[tactic(auto, using(crate::proofs::Accepting::accepts, crate::proofs::Accepting::passes))]
 pub fn accept_query<S: Statistics>(
     schema: &Schema,
@@ -32,8 +32,8 @@ pub fn accept_query<S: Statistics>(
     check_query(schema, statistics, query)
 }
 
-/// The scorer of a query in a segment, whose weights are those of the statistics. Where memory is not wanting, it is
-/// refused exactly where `check_query` refuses the query, and by the same.
+/// Returns the scorer of `query` in a segment, by the weights of `statistics`. Unless out of memory, it is refused
+/// exactly if `check_query` refuses the query, with the same fault.
 pub fn accepted_scorer<S: Statistics, F: SegmentScorers>(
     alloc: Global,
     schema: &Schema,

@@ -16,11 +16,11 @@ use intersections::{Exclude, ExclusionList, Intersection, RequiredOptionalScorer
 use scorers::{BufferedUnionScorer, Disjunction};
 use std::alloc::{AllocError, Global};
 
-/// A scorer of the documents that one of several has, or that at least so many have.
+/// A scorer of the documents that one of several scorers has, or that at least a minimum of them have.
 type SomeScorer<S> = EitherScorer<BufferedUnionScorer<S, SumCombiner>, Disjunction<S, SumCombiner>>;
 
-/// The documents that match clauses, each with the scores of those that it must and should have added up, walked
-/// whole. The number of documents is a hint.
+/// Lists the documents that match clauses, each with the scores of `musts` and `shoulds` added up. The scorers are
+/// walked whole. `num_docs`, the number of documents, is a hint.
 pub fn boolean_scorer<S: Scorer + Drop>(
     alloc: Global,
     musts: Vec<S>,
@@ -45,7 +45,7 @@ pub fn boolean_scorer<S: Scorer + Drop>(
     listed(alloc, Exclude::new(counted, ExclusionList::new(must_nots)))
 }
 
-/// The same where there is nothing that documents must not have. It is led by what they must have.
+/// Like `boolean_scorer`, but with nothing that documents must not have. It is led by `musts`.
 fn counted_scorer<S: Scorer + Drop>(
     alloc: Global,
     musts: Vec<S>,
@@ -69,7 +69,7 @@ fn counted_scorer<S: Scorer + Drop>(
     both_scorer(alloc, required, some)
 }
 
-/// The documents that so many of the scorers have, one at least, with the sums of their scores.
+/// Returns the documents that at least `minimum` of `shoulds` have, and at least one, with the sums of their scores.
 fn some_scorer<S: Scorer + Drop>(
     alloc: Global,
     shoulds: Vec<S>,
@@ -91,7 +91,7 @@ fn some_scorer<S: Scorer + Drop>(
     Ok(EitherScorer::Left(union))
 }
 
-/// The same as a list.
+/// Lists the documents of `some`.
 fn listed_some<S: Scorer + Drop>(
     alloc: Global,
     some: SomeScorer<S>,
@@ -105,7 +105,7 @@ fn listed_some<S: Scorer + Drop>(
     }
 }
 
-/// The documents of the required scorer, each with its score and those that it has in the optional ones.
+/// Lists the documents of `required`, each with its score plus those that it has in `shoulds`.
 fn optional_scorer<S: Scorer + Drop>(
     alloc: Global,
     required: ListScorer,
@@ -128,7 +128,7 @@ fn optional_scorer<S: Scorer + Drop>(
     )
 }
 
-/// The documents that both scorers have, with the sums of their scores.
+/// Lists the documents that both `left` and `right` have, with the sums of their scores.
 fn both_scorer<A: Scorer + Drop, B: Scorer + Drop>(
     alloc: Global,
     left: A,
@@ -142,7 +142,7 @@ fn both_scorer<A: Scorer + Drop, B: Scorer + Drop>(
     listed(alloc, Intersection::new(both))
 }
 
-/// Two scorers, one after the other.
+/// Returns a list of `left` and `right`.
 fn pair_of<A: Scorer + Drop, B: Scorer + Drop>(
     alloc: Global,
     left: A,

@@ -13,8 +13,8 @@ use docsets::{DisjunctionMaxCombiner, DocSet, ListScorer, Scorer};
 use scorers::BufferedUnionScorer;
 use std::alloc::{AllocError, Global};
 
-/// The documents that some scorer has, each with its best score and so many thousandths of the others, walked whole.
-/// The number of documents is a hint.
+/// Lists the documents that some of `disjuncts` has, each with its best score and `tie_breaker` thousandths of the
+/// others. The scorers are walked whole. `num_docs`, the number of documents, is a hint.
 pub fn disjunction_max_scorer<S: Scorer + Drop>(
     alloc: Global,
     disjuncts: Vec<S>,

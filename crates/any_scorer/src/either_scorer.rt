@@ -3,7 +3,7 @@
 use common::{AliveBitSet, DocId, Score};
 use docsets::{DocSet, Scorer, SeekDangerResult};
 
-/// A scorer of one form or of another. What remains is what remains of the one that it has.
+/// A scorer of one of two forms.
 #[derive(Drop)]
 pub enum EitherScorer<A: Scorer, B: Scorer> {
     /// The first form.

@@ -1,4 +1,4 @@
-//! What all of several scorers have.
+//! The documents that all of several scorers have.
 
 ghost use Rattle.std.specs.Prelude.{[], ◌<◌, ◌≡◌, ◌≤◌, IfOk, length, map, ℕ};
 ghost use Rattle.any_scorer.specs.Clauses.{by_number, scores_of};
@@ -12,8 +12,8 @@ use docsets::{DocSet, ListScorer, Scorer};
 use intersections::Intersection;
 use std::alloc::{AllocError, Global};
 
-/// The documents that all of the scorers have, with the sums of their scores, walked whole; none where there is no
-/// scorer.
+/// Lists the documents that all of `scorers` have, with the sums of their scores; none if there is no scorer. The
+/// scorers are walked whole.
 pub fn intersect_scorers<S: Scorer + Drop>(
     alloc: Global,
     scorers: Vec<S>,

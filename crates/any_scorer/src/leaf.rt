@@ -3,17 +3,16 @@
 use common::{AliveBitSet, DocId, Score};
 use docsets::{DocSet, Scorer, SeekDangerResult};
 
-/// The scorer of a query that holds no other, or a list of what a query of another form has. What remains is what
-/// remains of the one that it has.
+/// A scorer of a query that holds no other, or a list of the documents of a query of another form.
 #[derive(Drop)]
 pub enum Leaf<A: Scorer, T: Scorer, P: Scorer, X: Scorer, L: Scorer> {
     /// Every document, boosted.
     All(A),
     /// The documents of a term.
     Term(T),
-    /// The documents where a phrase stands.
+    /// The documents where a phrase occurs.
     Phrase(P),
-    /// The documents where a phrase stands that the terms with a prefix follow.
+    /// The documents where terms with a prefix follow a phrase.
     PhrasePrefix(X),
     /// A list of documents.
     List(L),

@@ -8,7 +8,7 @@ use common::{DocId, Score, TERMINATED};
 use docsets::{DocSet, ListScorer, Scorer};
 use std::alloc::{AllocError, Global};
 
-/// The documents that remain, each with its score. The scorer then stands at the end.
+/// Lists the remaining documents, each with its score. The scorer is then exhausted.
 pub fn for_each_scorer<S: Scorer>(
     alloc: Global,
     scorer: &mut S,
@@ -26,7 +26,7 @@ pub fn for_each_scorer<S: Scorer>(
     Ok(pairs)
 }
 
-/// The same documents with the same scores, as a list.
+/// Lists the documents of `scorer`, with their scores.
 pub fn listed<S: Scorer + Drop>(alloc: Global, scorer: S) -> Result<ListScorer, AllocError>
     ensures { IfOk result (λ list. pairs_of (⟦<ListScorer as DocSet>⟧.entries list) ≡ pairs_of (S.entries scorer)) }
 {

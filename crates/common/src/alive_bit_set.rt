@@ -1,4 +1,4 @@
-//! Which documents of a segment are alive.
+//! Alive sets: which documents of a segment are alive.
 
 ghost use Rattle.std.specs.Prelude.{◌<◌, ◌^◌, ◌≡◌, ◌⊎◌, Bool, IfErr, IfOk, IfSome, List, None, false, length, replicate, slice_index_or, slice_set, true};
 ghost use Rattle.std.specs.Iterator.{YieldsFirstBy, item_count};
@@ -14,7 +14,7 @@ use definitions::Fault;
 use std::alloc::{AllocError, Global};
 use std::marker::Model;
 
-/// Which documents of a segment are alive, seen as a flag for each document.
+/// An alive set: an alive flag for each document of a segment.
 #[derive(Drop)]
 pub struct AliveBitSet {
     alive: BitSet,
@@ -29,7 +29,7 @@ impl Model for AliveBitSet {
 }
 
 impl AliveBitSet {
-    /// So many documents, all alive.
+    /// Makes the alive set of `max_doc` documents, all alive.
     pub fn for_max_doc(alloc: Global, max_doc: DocId) -> Result<AliveBitSet, AllocError>
         ensures { IfOk result (λ alive. alive ≡ replicate max_doc true) }
     {
@@ -38,7 +38,7 @@ impl AliveBitSet {
         })
     }
 
-    /// The same set, in memory of its own.
+    /// Copies the alive set.
     pub fn try_clone(&self, alloc: Global) -> Result<AliveBitSet, AllocError>
         ensures { IfOk result (λ alive. alive ≡ self.now) }
     {
@@ -47,7 +47,7 @@ impl AliveBitSet {
         })
     }
 
-    /// Whether a document is alive.
+    /// Whether `doc` is alive.
     #[inline]
     pub fn is_alive(&self, doc: DocId) -> bool
         requires { doc < length self.now }
@@ -56,7 +56,7 @@ impl AliveBitSet {
         self.alive.has(doc)
     }
 
-    /// Lets a document be dead from now on.
+    /// Marks `doc` dead.
     pub fn kill(&mut self, doc: DocId)
         requires { doc < length self.old }
         ensures { self.new ≡ slice_set self.old doc false }
@@ -64,7 +64,7 @@ impl AliveBitSet {
         self.alive.remove(doc);
     }
 
-    /// How many documents there are, dead or alive.
+    /// Returns the number of documents, dead or alive.
     pub fn len(&self) -> usize
         ensures len { result ≡ length self.now }
         ensures few { length self.now < 2 ^ 32 }
@@ -72,14 +72,14 @@ impl AliveBitSet {
         self.alive.max_value() as usize
     }
 
-    /// How many documents are alive.
+    /// Returns the number of documents that are alive.
     pub fn num_alive(&self) -> usize
         ensures { result ≡ count_set self.now }
     {
         self.alive.len()
     }
 
-    /// The first document from one on that is alive.
+    /// Returns the first document >= `doc` that is alive.
     pub fn first_alive_from(&self, doc: DocId) -> Option<DocId>
         ensures first { IsFirst (λ i. slice_index_or self.now i false) doc result }
         ensures within { IfSome result (λ at. (at < length self.now) × (length self.now < 2 ^ 32)) }
@@ -87,7 +87,7 @@ impl AliveBitSet {
         self.alive.first_from(doc)
     }
 
-    /// The bytes that stand for the set: how many documents, and then 64 flags in each word.
+    /// Encodes the alive set: the number of documents in four bytes, then words of 64 flags.
     pub fn to_bytes(&self, alloc: Global) -> Result<Vec<u8>, AllocError>
         ensures { IfOk result (λ bytes. bytes.items ≡ alive_bytes self.now) }
     {
@@ -98,7 +98,7 @@ impl AliveBitSet {
         Ok(bytes)
     }
 
-    /// The set that these bytes stand for; `Damaged` where they stand for none.
+    /// Decodes an alive set; `Damaged` if `bytes` represent none.
     pub fn from_bytes(alloc: Global, bytes: &[u8]) -> Result<AliveBitSet, Fault>
         ensures ok { IfOk result (λ alive. IsAliveSet alive bytes.now) }
         ensures err { IfErr result (λ fault. (fault ≡ faults.OutOfMemory) ⊎ ((fault ≡ faults.Damaged None) × ((flags : List Bool) → ¬ IsAliveSet flags bytes.now))) }

@@ -1,4 +1,4 @@
-//! Sets of numbers below a bound, one bit for each number.
+//! Sets of numbers below a bound, with one bit for each number.
 
 ghost use Rattle.std.specs.Prelude.{◌+◌, ◌/◌, ◌<◌, ◌^◌, ◌≡◌, ◌≢◌, Bool, IfNone, IfOk, IfSome, List, false, length, replicate, slice_index, slice_index_or, slice_set, true, ℕ};
 ghost use Rattle.common.specs.BitSets.{IsFirst, count_set};
@@ -8,7 +8,7 @@ use crate::bit_words::{count_bits, first_bit, full_words, has_bit, is_clear_from
 use std::alloc::{AllocError, Global};
 use std::marker::Model;
 
-/// A set of numbers below a bound, seen as a flag for each of them.
+/// A set of numbers below a bound: a flag for each of them.
 #[derive(Drop)]
 pub struct BitSet {
     words: Vec<u64>,
@@ -28,7 +28,7 @@ impl Model for BitSet {
 }
 
 impl BitSet {
-    /// A set of none of the numbers below a bound.
+    /// Makes an empty set of numbers below `max_value`.
     pub fn with_max_value(alloc: Global, max_value: u32) -> Result<BitSet, AllocError>
         ensures { IfOk result (λ set. set ≡ replicate max_value false) }
     {
@@ -39,7 +39,7 @@ impl BitSet {
         })
     }
 
-    /// A set of all numbers below a bound.
+    /// Makes the set of all numbers below `max_value`.
     pub fn with_max_value_and_full(alloc: Global, max_value: u32) -> Result<BitSet, AllocError>
         ensures { IfOk result (λ set. set ≡ replicate max_value true) }
     {
@@ -50,7 +50,7 @@ impl BitSet {
         })
     }
 
-    /// The same set, in memory of its own.
+    /// Copies the set.
     pub fn try_clone(&self, alloc: Global) -> Result<BitSet, AllocError>
         ensures { IfOk result (λ set. set ≡ self.now) }
     {
@@ -63,7 +63,7 @@ impl BitSet {
         })
     }
 
-    /// Puts a number in.
+    /// Inserts `el`.
     #[inline]
     pub fn insert(&mut self, el: u32)
         requires { el < length self.old }
@@ -78,7 +78,7 @@ impl BitSet {
         }
     }
 
-    /// Takes a number out.
+    /// Removes `el`.
     #[inline]
     pub fn remove(&mut self, el: u32)
         requires { el < length self.old }
@@ -93,7 +93,7 @@ impl BitSet {
         }
     }
 
-    /// Takes all numbers out, a word at a time.
+    /// Removes all numbers, a word at a time.
     pub fn clear(&mut self)
         ensures { self.new ≡ replicate (length self.old) false }
     {
@@ -101,7 +101,7 @@ impl BitSet {
         self.len = 0;
     }
 
-    /// Whether a number is in. None from the bound on is.
+    /// Whether `el` is in the set; false for numbers from the bound on.
     #[inline]
     pub fn contains(&self, el: u32) -> bool
         ensures { result ≡ slice_index_or self.now el false }
@@ -109,7 +109,7 @@ impl BitSet {
         el < self.max_value && has_bit(&self.words, el)
     }
 
-    /// The least number that is in and isn't below this one.
+    /// Returns the least number >= `el` in the set.
     #[inline]
     pub fn first_from(&self, el: u32) -> Option<u32>
         ensures first { IsFirst (λ i. slice_index_or self.now i false) el result }
@@ -118,7 +118,7 @@ impl BitSet {
         first_bit(&self.words, el)
     }
 
-    /// How many numbers are in.
+    /// Returns the number of elements.
     #[inline]
     pub fn len(&self) -> usize
         ensures { result ≡ count_set self.now }
@@ -126,7 +126,7 @@ impl BitSet {
         self.len
     }
 
-    /// The bound that the numbers are below.
+    /// Returns the bound of the set.
     #[inline]
     pub fn max_value(&self) -> u32
         ensures { result ≡ length self.now }
@@ -134,7 +134,7 @@ impl BitSet {
         self.max_value
     }
 
-    /// Whether a number below the bound is in.
+    /// Whether `el`, which is below the bound, is in the set.
     #[inline]
     pub(crate) fn has(&self, el: u32) -> bool
         requires { el < length self.now }
@@ -143,14 +143,14 @@ impl BitSet {
         has_bit(&self.words, el)
     }
 
-    /// The flags in words of 64.
+    /// Returns the flags as words of 64.
     pub(crate) fn words(&self) -> &[u64]
         ensures { result.now ≡ alive_words self.now }
     {
         &self.words
     }
 
-    /// The set with these words; none where a bit from the bound on is set.
+    /// Makes the set with these `words`; `None` if a bit from `max_value` on is set.
     pub(crate) fn from_words(words: Vec<u64>, max_value: u32) -> Option<BitSet>
         requires { length words.items ≡ (max_value + 63) / 64 }
         ensures some { IfSome result (λ set. (length set ≡ max_value) × (words.items ≡ alive_words set)) }

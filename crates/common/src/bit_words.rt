@@ -1,4 +1,4 @@
-//! Words of 64 bits, one bit for each number, and their bytes.
+//! Words of 64 bits, with one bit for each number, and their bytes.
 
 ghost use Rattle.std.specs.Prelude.{◌%◌, ◌*◌, ◌++◌, ◌+◌, ◌/◌, ◌<◌, ◌≡◌, ◌≤◌, ◌^◌, IfOk, OnOk, count_ones, length, slice_index, ℕ};
 ghost use Rattle.std.specs.List.{flat_map, sum_by};
@@ -8,14 +8,14 @@ ghost use Rattle.definitions.specs.NumberCodes.{u64_bytes};
 use crate::number_codes::put_u64;
 use std::alloc::{AllocError, Global};
 
-/// How many words hold a bit for each number below a bound.
+/// Returns the number of words with a bit for each number below `max_value`.
 pub(crate) fn num_words(max_value: u32) -> usize
     ensures { result ≡ (max_value + 63) / 64 }
 {
     (max_value as usize + 63) / 64
 }
 
-/// Words with the bits of all numbers below a bound.
+/// Makes words with the bits of all numbers below `max_value` set.
 pub(crate) fn full_words(alloc: Global, max_value: u32) -> Result<Vec<u64>, AllocError>
     ensures { IfOk result (λ words. AreFull max_value words.items) }
 {
@@ -28,7 +28,7 @@ pub(crate) fn full_words(alloc: Global, max_value: u32) -> Result<Vec<u64>, Allo
     Ok(words)
 }
 
-/// Whether a number's bit is set.
+/// Whether the bit of `el` is set.
 #[inline]
 pub(crate) fn has_bit(words: &[u64], el: u32) -> bool
     requires { el / 64 < length words.now }
@@ -37,7 +37,7 @@ pub(crate) fn has_bit(words: &[u64], el: u32) -> bool
     words[(el / 64) as usize] >> (el % 64) & 1 == 1
 }
 
-/// Whether no bit from a bound on is set.
+/// Whether no bit from `max_value` on is set.
 pub(crate) fn is_clear_from(words: &[u64], max_value: u32) -> bool
     requires { length words.now ≡ (max_value + 63) / 64 }
     ensures cut { result ≡ is_cut max_value words.now }
@@ -47,7 +47,7 @@ pub(crate) fn is_clear_from(words: &[u64], max_value: u32) -> bool
     rest == 0 || words[(max_value / 64) as usize] >> rest == 0
 }
 
-/// How many bits are set.
+/// Counts the bits that are set.
 pub(crate) fn count_bits(words: &[u64]) -> usize
     requires { length words.now < 2 ^ 32 }
     ensures { result ≡ sum_by count_ones words.now }
@@ -55,7 +55,7 @@ pub(crate) fn count_bits(words: &[u64]) -> usize
     words.iter().map(|word| word.count_ones() as usize).sum()
 }
 
-/// The least number from one on whose bit is set.
+/// Returns the least number >= `from` whose bit is set.
 #[inline]
 pub(crate) fn first_bit(words: &[u64], from: u32) -> Option<u32>
     requires { length words.now ≤ 2 ^ 26 }
@@ -78,7 +78,7 @@ pub(crate) fn first_bit(words: &[u64], from: u32) -> Option<u32>
     None
 }
 
-/// Appends words in eight bytes each, the lowest first.
+/// Encodes `words` in eight bytes each, little-endian.
 pub(crate) fn put_words(out: &mut Vec<u8>, words: &[u64]) -> Result<(), AllocError>
     ensures { OnOk result (out.new.items ≡ out.old.items ++ flat_map u64_bytes words.now) }
 {
@@ -88,7 +88,7 @@ pub(crate) fn put_words(out: &mut Vec<u8>, words: &[u64]) -> Result<(), AllocErr
     Ok(())
 }
 
-/// The words of bytes, eight for each.
+/// Decodes words of eight bytes each.
 pub(crate) fn words_in(alloc: Global, bytes: &[u8]) -> Result<Vec<u64>, AllocError>
     requires { length bytes.now % 8 ≡ 0 }
     ensures { IfOk result (λ words. flat_map u64_bytes words.items ≡ bytes.now) }

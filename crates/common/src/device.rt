@@ -1,4 +1,4 @@
-//! What holds a file's bytes, and may fail or crash.
+//! Devices, which hold a file's bytes, and may fail or crash.
 
 ghost use Rattle.std.specs.Prelude.{◌++◌, ◌≡◌, ◌≢◌, ◌≤◌, ◌⊎◌, Bool, IfErr, IfOk, IsErrOf, IsTrue, List, OnErr, OnOk, length, take, ℕ};
 ghost use Rattle.definitions.specs.declared.fault.Fault.TheVariants as faults;
@@ -8,30 +8,30 @@ ghost use Rattle.definitions.specs.Moments.{Elapses};
 use definitions::Fault;
 use std::alloc::Global;
 
-/// Holds the bytes of a file, and counts its failures.
+/// A device: the bytes of a file, with a count of its failures.
 ///
-/// Of an honest device the contracts say what is read and what a crash may leave. Of another they
-/// say nothing of its bytes.
+/// The contracts say what an honest device reads, and what a crash of it may leave. They say nothing about the bytes of
+/// other devices.
 pub trait Device {
-    // Whether the other members are true of it. No call changes this.
+    // Whether the other members hold of the device. No call changes this.
     ghost honest: { Self → Bool };
 
-    // What a read gives.
+    // What a read returns.
     ghost content: { Self → List ℕ };
 
-    // How often it failed.
+    // The number of failures.
     ghost failed: { Self → ℕ };
 
-    // What isn't sure to be on the disk.
+    // What may not be on the disk.
     ghost unsynced: { Self → Unsynced };
 
     // The time, as a number that doesn't fall.
     ghost moment: { Self → ℕ };
 
-    // What a crash at some moment from this one on might have left.
+    // What a crash at some moment from this one on may have left.
     ghost left_since: { Self → ℕ → List ℕ → Type 0 };
 
-    /// The whole content.
+    /// Reads the whole content.
     fn read(&mut self, alloc: Global) -> Result<Vec<u8>, Fault>
         ensures honest { honest self.new ≡ honest self.old }
         ensures cause { HasCause (failed self.old) (failed self.new) result }
@@ -42,7 +42,7 @@ pub trait Device {
         ensures unsynced { IsTrue (honest self.old) → unsynced self.new ≡ unsynced self.old }
         ensures time { IsTrue (honest self.old) → Elapses (moment self.old) (moment self.new) (left_since self.old) (left_since self.new) (IsImage (content self.new) (unsynced self.new)) };
 
-    /// Writes over what stands there, and past the end.
+    /// Writes `bytes` at offset `at`, over what is there and past the end.
     fn write_at(&mut self, at: usize, bytes: &[u8]) -> Result<(), Fault>
         requires { IsTrue (honest self.old) → at ≤ length (content self.old) }
         ensures honest { honest self.new ≡ honest self.old }
@@ -55,7 +55,7 @@ pub trait Device {
         ensures unsynced_err { IsTrue (honest self.old) → OnErr result (IsEither (unsynced self.old) (written at (length bytes.now) (unsynced self.old)) (unsynced self.new)) }
         ensures time { IsTrue (honest self.old) → Elapses (moment self.old) (moment self.new) (left_since self.old) (left_since self.new) (IsImage (content self.new) (unsynced self.new)) };
 
-    /// Takes away what stands from this length on.
+    /// Cuts the content to `len` bytes.
     fn cut(&mut self, len: usize) -> Result<(), Fault>
         requires { IsTrue (honest self.old) → len ≤ length (content self.old) }
         ensures honest { honest self.new ≡ honest self.old }
@@ -68,7 +68,7 @@ pub trait Device {
         ensures unsynced_err { IsTrue (honest self.old) → OnErr result (IsEither (unsynced self.old) (shortened len (unsynced self.old)) (unsynced self.new)) }
         ensures time { IsTrue (honest self.old) → Elapses (moment self.old) (moment self.new) (left_since self.old) (left_since self.new) (IsImage (content self.new) (unsynced self.new)) };
 
-    /// Puts everything on the disk: from then on a crash leaves what a read gives.
+    /// Syncs: from then on, a crash leaves what a read returns.
     fn sync(&mut self) -> Result<(), Fault>
         ensures honest { honest self.new ≡ honest self.old }
         ensures cause { HasCause (failed self.old) (failed self.new) result }
@@ -79,11 +79,11 @@ pub trait Device {
         ensures unsynced_err { IsTrue (honest self.old) → OnErr result (unsynced self.new ≡ unsynced self.old) }
         ensures time { IsTrue (honest self.old) → Elapses (moment self.old) (moment self.new) (left_since self.old) (left_since self.new) (IsImage (content self.new) (unsynced self.new)) };
 
-    /// How often it failed, up to the greatest number.
+    /// Returns the number of failures, saturating.
     fn failures(&self) -> u64
         ensures { result ≡ failed self.now };
 
-    // A crash may leave what a read gives.
+    // A crash may leave what a read returns.
     ghost remains: { (device : Self) → IsTrue (honest device) → IsImage (content device) (unsynced device) (content device) };
 
     // This moment is one of those since an earlier one.

@@ -1,4 +1,4 @@
-//! A device over a file of the system.
+//! Devices over files of the system.
 
 ghost use Rattle.std.specs.Prelude.{◌≡◌, ◌⊎◌, ◌↔◌, IfErr, IfOk, IsErrOf, IsOk};
 ghost use Rattle.definitions.specs.declared.fault.Fault.TheVariants as faults;
@@ -13,13 +13,13 @@ use std::io::ErrorKind;
 use std::os::fd::AsRawFd;
 use std::os::unix::fs::FileExt;
 
-/// Bytes that are read at a time.
+/// The number of bytes of one read.
 const BUFFER_LEN: usize = 65536;
 
-/// How often a read looks at the file, at most.
+/// The most `read_at` calls of one read of a whole file.
 const MAX_LOOKS: u64 = 1 << 48;
 
-/// The number of standard error, the last of the standard streams.
+/// The descriptor of standard error, the last of the standard streams.
 const LAST_STREAM: i32 = 2;
 
 /// A device over a file. It isn't honest, since no contract can say what a disk does.
@@ -30,7 +30,8 @@ pub struct FileDevice {
 }
 
 impl FileDevice {
-    /// Opens a file for reading and writing, makes it where it is absent, and locks it for this device alone.
+    /// Opens the file at `path` for reading and writing, creates it if it is absent, and locks it for this device
+    /// alone.
     pub fn open(rt: &HostRuntime, path: &str) -> Result<Self, Fault>
         ensures failed { IfOk result (λ device. ⟦<FileDevice as Device>⟧.failed device ≡ 0) }
         ensures fault { IfErr result (λ fault. fault ≡ faults.Device) }
@@ -46,10 +47,10 @@ impl FileDevice {
         }
     }
 
-    /// Locks an open file for this device alone.
+    /// Locks the open `file` for this device alone.
     ///
     /// The lock is the advisory one on the whole file (`flock`); it is freed when the device is dropped or the process
-    /// ends. A file that another device holds is refused, and its bytes stay as they are.
+    /// ends. A file that another device holds is an error, and its bytes stay as they are.
     pub fn new(file: File) -> Result<Self, Fault>
         ensures failed { IfOk result (λ device. ⟦<FileDevice as Device>⟧.failed device ≡ 0) }
         ensures fault { IfErr result (λ fault. fault ≡ faults.Device) }
@@ -61,8 +62,7 @@ impl FileDevice {
     }
 }
 
-// The file, under a number above those of the standard streams: what is meant for a stream that was closed before must
-// not go into the file.
+// Moves the file to a descriptor above the standard streams': output for a stream that was closed must not go into it.
 fn beyond_streams(file: File) -> io::Result<File> {
     if file.as_raw_fd() <= LAST_STREAM {
         return file.try_clone();
@@ -70,14 +70,13 @@ fn beyond_streams(file: File) -> io::Result<File> {
     Ok(file)
 }
 
-// The file, locked: opening an index cuts what follows its last commit, which would be the record that another program
-// is writing.
+// Locks the file: opening an index cuts what follows its last commit, maybe a record that another program writes.
 fn held_alone(file: File) -> io::Result<File> {
     file.try_lock()?;
     Ok(file)
 }
 
-// The bytes of a file, from its start to its end.
+// Reads the bytes of the file, from its start to its end.
 fn read_whole(file: &File, alloc: Global) -> Result<Vec<u8>, Fault>
     ensures fault { IfErr result (λ fault. (fault ≡ faults.Device) ⊎ (fault ≡ faults.OutOfMemory)) }
 {
@@ -94,7 +93,7 @@ fn read_whole(file: &File, alloc: Global) -> Result<Vec<u8>, Fault>
     Err(Fault::Device)
 }
 
-// Counts a failure where that is the answer.
+// Counts a failure if `answer` is `Device`.
 fn count_failure<T>(failed: &mut u64, answer: Result<T, Fault>) -> Result<T, Fault>
     ensures answer { result ≡ answer }
     ensures cause { HasCause failed.old failed.new answer }
@@ -106,7 +105,7 @@ fn count_failure<T>(failed: &mut u64, answer: Result<T, Fault>) -> Result<T, Fau
     answer
 }
 
-// What is answered where this came of a call of the system.
+// Converts the outcome of a system call.
 fn answer(outcome: io::Result<()>) -> Result<(), Fault>
     ensures ok { IsOk result ↔ IsOk outcome }
     ensures fault { IfErr result (λ fault. fault ≡ faults.Device) }

@@ -1,16 +1,16 @@
-//! What has a length.
+//! Things that have a length.
 
 ghost use Rattle.std.specs.Prelude.{◌==◌, ◌≡◌, ℕ};
 
-/// What has a length that is known without a walk.
+/// Types whose length is known without a walk.
 pub trait HasLen {
     ghost count: { Self → ℕ };
 
-    /// How many elements there are.
+    /// Returns the number of elements.
     fn len(&self) -> usize
         ensures { result ≡ count self.now };
 
-    /// Whether there is none.
+    /// Whether there are no elements.
     fn is_empty(&self) -> bool
         ensures { result ≡ (count self.now == 0) }
     {

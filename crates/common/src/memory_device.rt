@@ -1,4 +1,4 @@
-//! A device over memory.
+//! Devices in memory.
 
 ghost use Rattle.std.specs.Prelude.{[], ◌++◌, ◌<◌, ◌∷◌, ◌≡◌, ◌≤◌, IfErr, IsErrOf, OnErr, OnOk, length, slice_index, take, true, ℕ};
 ghost use Rattle.definitions.specs.declared.fault.Fault.TheVariants as faults;
@@ -10,8 +10,7 @@ use crate::device::Device;
 use definitions::Fault;
 use std::alloc::{AllocError, Global};
 
-/// An honest device over memory. It keeps a record of its calls. A call that it finds no memory
-/// for is a failure, and changes nothing.
+/// An honest device in memory. It records its calls. A call that runs out of memory is a failure, and changes nothing.
 #[derive(Drop)]
 pub struct MemoryDevice {
     alloc: Global,
@@ -31,7 +30,7 @@ pub(crate) enum Call {
 }
 
 impl MemoryDevice {
-    /// A device without bytes.
+    /// Makes a device without bytes.
     pub fn new(alloc: Global) -> Self
         ensures honest { ⟦<MemoryDevice as Device>⟧.honest result ≡ true }
         ensures content { ⟦<MemoryDevice as Device>⟧.content result ≡ [] }
@@ -46,7 +45,7 @@ impl MemoryDevice {
         }
     }
 
-    // Makes a call and keeps it, or counts a failure.
+    // Makes and records a call, or counts a failure.
     fn make(&mut self, call: Call) -> Result<(), Fault>
         requires { IsWithin (length self.old.bytes.items) call }
         ensures ok { OnOk result (disk_after self.new.calls.items ≡ after_call (disk_after self.old.calls.items) call) }
@@ -63,7 +62,7 @@ impl MemoryDevice {
     }
 }
 
-// Counts a failure, and answers it.
+// Counts a failure, and returns it.
 fn fail(failed: &mut u64) -> Result<(), Fault>
     ensures cause { HasCause failed.old failed.new result }
     ensures fault { IsErrOf result faults.Device }
@@ -72,7 +71,7 @@ fn fail(failed: &mut u64) -> Result<(), Fault>
     Err(Fault::Device)
 }
 
-// Makes a call and adds it to those made, or does nothing.
+// Makes and records a call, or changes nothing.
 fn record_call(bytes: &mut Vec<u8>, calls: &mut Vec<Call>, call: Call) -> Result<(), AllocError>
     requires { IsWithin (length bytes.old.items) call }
     ensures bytes { content_after calls.old.items ≡ bytes.old.items → OnOk result (bytes.new.items ≡ (after_call (disk_after calls.old.items) call).content) }
@@ -87,12 +86,12 @@ fn record_call(bytes: &mut Vec<u8>, calls: &mut Vec<Call>, call: Call) -> Result
         Call::Cut { len } => bytes.truncate(*len),
         Call::Sync => {}
     }
-    // There is room.
+    // There is room for it.
     calls.push(call)?;
     Ok(())
 }
 
-// Puts bytes over those that stand there, and past the end, or does nothing.
+// Writes `bytes` at offset `at`, over what is there and past the end, or changes nothing.
 fn overwrite(content: &mut Vec<u8>, at: usize, bytes: &[u8]) -> Result<(), AllocError>
     requires { at ≤ length content.old.items }
     ensures ok { OnOk result (content.new.items ≡ overwritten at bytes.now content.old.items) }
@@ -132,7 +131,7 @@ impl Device for MemoryDevice {
         Ok(self.bytes.to_vec(alloc)?)
     }
 
-    /// Where no memory is found nothing is written.
+    /// Writes nothing if it runs out of memory.
     fn write_at(&mut self, at: usize, bytes: &[u8]) -> Result<(), Fault>
         requires { at ≤ length (content_of self.old) }
         ensures cause { HasCause (failures_of self.old) (failures_of self.new) result }
@@ -151,7 +150,7 @@ impl Device for MemoryDevice {
         }
     }
 
-    /// Where no memory is found nothing is cut.
+    /// Cuts nothing if it runs out of memory.
     fn cut(&mut self, len: usize) -> Result<(), Fault>
         requires { len ≤ length (content_of self.old) }
         ensures cause { HasCause (failures_of self.old) (failures_of self.new) result }

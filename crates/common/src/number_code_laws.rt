@@ -1,10 +1,10 @@
-//! What number codes promise.
+//! Laws of number codes.
 #![tactic(auto, unfolding(definitions::specs::NumberCodes::vint_bytes, definitions::proofs::OnLiterals::definitions_on_literals))]
 
 ghost use Rattle.std.specs.Prelude.{[], ◌++◌, ◌-◌, ◌<◌, ◌≡◌, ◌^◌, ◌∷◌, IsUtf8, List, None, Some, codes, length, ℕ};
 ghost use Rattle.definitions.specs.NumberCodes.{AreBytes, sized_bytes, take_bytes, take_text, take_u32, take_u64, take_vint, u32_bytes, u64_bytes, vint_bytes};
 
-/// What was put is taken back, and what follows it is untouched.
+/// States that decoding gives the value that was encoded, and leaves the bytes after it.
 pub fn what_was_put_is_taken_back()
     ensures vint { (n : ℕ) (rest : List ℕ) → n < 2 ^ 64 → take_vint (vint_bytes n ++ rest) ≡ Some (n, rest) }
     ensures u32 { (n : ℕ) (rest : List ℕ) → n < 2 ^ 32 → take_u32 (u32_bytes n ++ rest) ≡ Some (n, rest) }
@@ -13,7 +13,7 @@ pub fn what_was_put_is_taken_back()
     ensures text { (text rest : List ℕ) → IsUtf8 text → length text < 2 ^ 64 → take_text (sized_bytes text ++ rest) ≡ Some (text, rest) }
 {}
 
-/// What is taken stood there as it is put: nothing else is taken.
+/// States that what is decoded is what encodes to those bytes: nothing else is decoded.
 pub fn what_is_taken_was_put()
     ensures vint { (bs rest : List ℕ) (n : ℕ) → AreBytes bs → take_vint bs ≡ Some (n, rest) → (n < 2 ^ 64) × (bs ≡ vint_bytes n ++ rest) }
     ensures u32 { (bs rest : List ℕ) (n : ℕ) → AreBytes bs → take_u32 bs ≡ Some (n, rest) → (n < 2 ^ 32) × (bs ≡ u32_bytes n ++ rest) }
@@ -22,7 +22,7 @@ pub fn what_is_taken_was_put()
     ensures text { (bs rest text : List ℕ) → AreBytes bs → take_text bs ≡ Some (text, rest) → IsUtf8 text × (length text < 2 ^ 64) × (bs ≡ sized_bytes text ++ rest) }
 {}
 
-/// Numbers in bytes of seven bits.
+/// States the bytes of some numbers in groups of seven bits.
 pub fn numbers_have_bytes()
     ensures zero { vint_bytes 0 ≡ 128 ∷ [] }
     ensures one_byte { vint_bytes 127 ≡ 255 ∷ [] }
@@ -36,7 +36,7 @@ pub fn numbers_have_bytes()
     ensures greatest { vint_bytes (2 ^ 64 - 1) ≡ 127 ∷ 127 ∷ 127 ∷ 127 ∷ 127 ∷ 127 ∷ 127 ∷ 127 ∷ 127 ∷ 129 ∷ [] }
 {}
 
-/// Bytes that begin with a number, and those that don't.
+/// States which bytes begin with a number, and which don't.
 pub fn bytes_begin_with_numbers()
     ensures three_hundred { take_vint (0x2c ∷ 0x82 ∷ 7 ∷ []) ≡ Some (300, 7 ∷ []) }
     ensures zero { take_vint (128 ∷ 0 ∷ []) ≡ Some (0, 0 ∷ []) }
@@ -52,7 +52,7 @@ pub fn bytes_begin_with_numbers()
     ensures cut_u64 { take_u64 (1 ∷ 2 ∷ 0 ∷ 0 ∷ 0 ∷ 0 ∷ 0 ∷ []) ≡ None }
 {}
 
-/// Byte strings and texts stand behind their length.
+/// States that byte strings and texts come after their length.
 pub fn strings_have_bytes()
     ensures empty { sized_bytes [] ≡ 128 ∷ [] }
     ensures two { sized_bytes (codes "ab") ≡ 130 ∷ 97 ∷ 98 ∷ [] }

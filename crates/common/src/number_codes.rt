@@ -1,6 +1,6 @@
-//! Numbers, byte strings and texts as bytes: put one after another, and taken back.
+//! Number codes: numbers, byte strings and texts as bytes, encoded one after another and decoded again.
 //!
-//! What is taken is lent from the bytes. A text is put by its bytes.
+//! What is decoded is borrowed from the bytes. A text is encoded by its UTF-8 bytes.
 
 ghost use Rattle.std.specs.Prelude.{nat_eq, nat_lt, ok_or, ◌%◌, ◌&&◌, ◌*◌, ◌++◌, ◌+◌, ◌<◌, ◌≡◌, ◌≤◌, ◌^◌, ◌||◌, IfErr, IfOk, None, OnErr, OnOk, Some, length, take};
 ghost use Rattle.definitions.specs.Json.{only_if};
@@ -11,7 +11,7 @@ use definitions::Fault;
 use simdutf8::from_utf8_baseline;
 use std::alloc::AllocError;
 
-/// Appends a number in as few bytes of seven bits as it takes, the lowest first.
+/// Encodes `n` in as few bytes of seven bits as possible, the lowest first.
 pub fn put_vint(out: &mut Vec<u8>, n: u64) -> Result<(), AllocError>
     ensures ok { OnOk result (out.new.items ≡ out.old.items ++ vint_bytes n) }
     ensures err { OnErr result (take (length out.old.items) out.new.items ≡ out.old.items) }
@@ -25,7 +25,7 @@ pub fn put_vint(out: &mut Vec<u8>, n: u64) -> Result<(), AllocError>
     Ok(())
 }
 
-/// Appends a number in four bytes, the lowest first.
+/// Encodes `n` in four bytes, the lowest first.
 pub fn put_u32(out: &mut Vec<u8>, n: u32) -> Result<(), AllocError>
     ensures ok { OnOk result (out.new.items ≡ out.old.items ++ u32_bytes n) }
     ensures err { OnErr result (out.new.items ≡ out.old.items) }
@@ -33,7 +33,7 @@ pub fn put_u32(out: &mut Vec<u8>, n: u32) -> Result<(), AllocError>
     out.extend_from_slice(&u32::to_le_bytes(n))
 }
 
-/// Appends a number in eight bytes, the lowest first.
+/// Encodes `n` in eight bytes, the lowest first.
 pub fn put_u64(out: &mut Vec<u8>, n: u64) -> Result<(), AllocError>
     ensures ok { OnOk result (out.new.items ≡ out.old.items ++ u64_bytes n) }
     ensures err { OnErr result (out.new.items ≡ out.old.items) }
@@ -41,7 +41,7 @@ pub fn put_u64(out: &mut Vec<u8>, n: u64) -> Result<(), AllocError>
     out.extend_from_slice(&u64::to_le_bytes(n))
 }
 
-/// Appends how many bytes there are, and then these.
+/// Encodes `bytes`: their number, then the bytes.
 pub fn put_bytes(out: &mut Vec<u8>, bytes: &[u8]) -> Result<(), AllocError>
     ensures ok { OnOk result (out.new.items ≡ out.old.items ++ sized_bytes bytes.now) }
     ensures err { OnErr result (take (length out.old.items) out.new.items ≡ out.old.items) }
@@ -50,7 +50,7 @@ pub fn put_bytes(out: &mut Vec<u8>, bytes: &[u8]) -> Result<(), AllocError>
     out.extend_from_slice(bytes)
 }
 
-/// A number in bytes of seven bits, and what follows it.
+/// Decodes a number of bytes of seven bits; returns it and the bytes after it.
 pub fn take_vint(bytes: &[u8]) -> Result<(u64, &[u8]), Fault>
     ensures ok { IfOk result (λ p. take_vint bytes.now ≡ Some (p.0, p.1.now)) }
     ensures err { IfErr result (λ fault. (fault ≡ faults.Damaged None) × (take_vint bytes.now ≡ None)) }
@@ -73,7 +73,7 @@ pub fn take_vint(bytes: &[u8]) -> Result<(u64, &[u8]), Fault>
     Err(Fault::Damaged(None))
 }
 
-/// A number in four bytes, and what follows it.
+/// Decodes a number of four bytes; returns it and the bytes after it.
 pub fn take_u32(bytes: &[u8]) -> Result<(u32, &[u8]), Fault>
     ensures ok { IfOk result (λ p. take_u32 bytes.now ≡ Some (p.0, p.1.now)) }
     ensures err { IfErr result (λ fault. (fault ≡ faults.Damaged None) × (take_u32 bytes.now ≡ None)) }
@@ -82,7 +82,7 @@ pub fn take_u32(bytes: &[u8]) -> Result<(u32, &[u8]), Fault>
     Ok((u32::from_le_bytes(*first), rest))
 }
 
-/// A number in eight bytes, and what follows it.
+/// Decodes a number of eight bytes; returns it and the bytes after it.
 pub fn take_u64(bytes: &[u8]) -> Result<(u64, &[u8]), Fault>
     ensures ok { IfOk result (λ p. take_u64 bytes.now ≡ Some (p.0, p.1.now)) }
     ensures err { IfErr result (λ fault. (fault ≡ faults.Damaged None) × (take_u64 bytes.now ≡ None)) }
@@ -91,7 +91,7 @@ pub fn take_u64(bytes: &[u8]) -> Result<(u64, &[u8]), Fault>
     Ok((u64::from_le_bytes(*first), rest))
 }
 
-/// A byte string, and what follows it.
+/// Decodes a byte string; returns it and the bytes after it.
 pub fn take_bytes(bytes: &[u8]) -> Result<(&[u8], &[u8]), Fault>
     ensures ok { IfOk result (λ p. take_bytes bytes.now ≡ Some (p.0.now, p.1.now)) }
     ensures err { IfErr result (λ fault. (fault ≡ faults.Damaged None) × (take_bytes bytes.now ≡ None)) }
@@ -101,7 +101,7 @@ pub fn take_bytes(bytes: &[u8]) -> Result<(&[u8], &[u8]), Fault>
         .ok_or(Fault::Damaged(None))
 }
 
-/// A text, and what follows it.
+/// Decodes a text; returns it and the bytes after it.
 pub fn take_text(bytes: &[u8]) -> Result<(&str, &[u8]), Fault>
     ensures ok { IfOk result (λ p. take_text bytes.now ≡ Some (p.0.now, p.1.now)) }
     ensures err { IfErr result (λ fault. (fault ≡ faults.Damaged None) × (take_text bytes.now ≡ None)) }
@@ -113,7 +113,7 @@ pub fn take_text(bytes: &[u8]) -> Result<(&str, &[u8]), Fault>
     }
 }
 
-/// The value with its last digit, where that isn't zero after others and the whole is below 2^64.
+/// Adds the last digit to `value`; `Damaged` for a zero after other digits, and for numbers from 2^64 on.
 fn with_last(value: u64, shift: u32, digit: u8) -> Result<u64, Fault>
     requires value { value < 2 ^ shift }
     requires places { shift % 7 ≡ 0 }
@@ -127,14 +127,14 @@ fn with_last(value: u64, shift: u32, digit: u8) -> Result<u64, Fault>
     Ok(value + ((digit as u64) << shift))
 }
 
-/// Whether a spelling that ends with this digit has no shorter one: a digit after others isn't zero.
+/// Whether no shorter encoding ends with `digit`: it isn't a zero after other digits.
 fn is_shortest(shift: u32, digit: u8) -> bool
     ensures { result ≡ (nat_eq shift 0 || nat_lt 0 digit) }
 {
     shift == 0 || digit > 0
 }
 
-/// Whether the value with this digit is below 2^64.
+/// Whether `value` with `digit` is below 2^64.
 fn has_room(value: u64, shift: u32, digit: u8) -> bool
     requires value { value < 2 ^ shift }
     requires places { shift % 7 ≡ 0 }

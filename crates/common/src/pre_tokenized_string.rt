@@ -9,7 +9,7 @@ use crate::token::Token;
 use definitions::Fault;
 use std::marker::Model;
 
-/// A text with its tokens, seen as the pair of both. Their positions don't fall.
+/// A text with its tokens. Its model is the pair of both. The positions of the tokens don't fall.
 #[derive(Drop)]
 pub struct PreTokenizedString {
     text: String,
@@ -29,7 +29,7 @@ impl Model for PreTokenizedString {
 }
 
 impl PreTokenizedString {
-    /// A text with these tokens; `BadTokens` where one stands before the token before it.
+    /// Pairs `text` with `tokens`; `BadTokens` if a token's position is before the previous one's.
     pub fn new(text: String, tokens: Vec<Token>) -> Result<PreTokenizedString, Fault>
         ensures ok { IfOk result (λ p. (p ≡ (string_bytes text, map token_of tokens.items)) × AreTokens p.1) }
         ensures err { IfErr result (λ fault. (fault ≡ faults.BadTokens) × (AreTokens (map token_of tokens.items) → ⊥)) }
@@ -40,14 +40,14 @@ impl PreTokenizedString {
         Ok(PreTokenizedString { text, tokens })
     }
 
-    /// The text.
+    /// Returns the text.
     pub fn text(&self) -> &str
         ensures { result.now ≡ self.now.0 }
     {
         self.text.as_str()
     }
 
-    /// The tokens.
+    /// Returns the tokens.
     pub fn tokens(&self) -> &[Token]
         ensures tokens { map token_of result.now ≡ self.now.1 }
         ensures rise { AreTokens self.now.1 }
@@ -56,7 +56,7 @@ impl PreTokenizedString {
     }
 }
 
-/// Whether no token stands before the one before it.
+/// Whether no token's position is before the previous one's.
 fn positions_rise(tokens: &[Token]) -> bool
     ensures { result ≡ positions_rise 0 (map token_of tokens.now) }
 {

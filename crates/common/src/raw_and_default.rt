@@ -1,4 +1,4 @@
-//! The two analyzers that are always there.
+//! The two analyzers that are always available.
 
 ghost use Rattle.std.specs.Prelude.{◌++◌, ◌≡◌, ◌≤◌, IfOk, IsCharBoundary, List, OnOk, map, option_to_list, slice_range, ℕ};
 ghost use Rattle.std.specs.Char.{to_ascii_lowercase};
@@ -12,8 +12,8 @@ use std::alloc::{AllocError, Global};
 
 /// The analyzers `raw`, whose one token is the whole text, and `default`, whose tokens are the words.
 ///
-/// A word is a longest run of ASCII letters, ASCII digits and characters past ASCII. One of more
-/// than 40 bytes takes its place and gives no token; the others have their ASCII letters lowered.
+/// A word is a longest run of ASCII letters, ASCII digits and characters past ASCII. One of more than 40 bytes takes a
+/// position, but isn't a token; the others have their ASCII letters lowered.
 #[derive(Clone, Copy, Debug)]
 pub struct RawAndDefault;
 
@@ -73,7 +73,7 @@ fn raw_tokens(alloc: Global, text: &str) -> Result<Vec<Token>, AllocError>
     Ok(tokens)
 }
 
-// Each byte is looked at once. From `start` on there are only bytes of one word, or none yet.
+// Looks at each byte once. From `start` on there are only bytes of one word, or none yet.
 fn default_tokens(alloc: Global, text: &str) -> Result<Vec<Token>, AllocError>
     ensures { IfOk result (λ ts. map token_of ts.items ≡ default_tokens text.now) }
 {
@@ -121,7 +121,7 @@ fn push_word(
     Ok(())
 }
 
-// The same loop over a text whose letters are lowered all at once, with no text of its own for a word.
+// Like `default_tokens`, but lowers all letters of the text at once, without a text of its own for each word.
 fn put_words(buffer: &mut TokenBuffer, text: &str) -> Result<(), AllocError>
     ensures { OnOk result (buffer.new.1 ≡ default_tokens text.now) }
 {
@@ -143,7 +143,7 @@ fn put_words(buffer: &mut TokenBuffer, text: &str) -> Result<(), AllocError>
     Ok(())
 }
 
-// A word of a text whose letters are lowered in the buffer.
+// Appends a word of the lowered text in the buffer.
 fn put_word(
     buffer: &mut TokenBuffer,
     position: usize,

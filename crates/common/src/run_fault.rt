@@ -1,4 +1,4 @@
-//! Why serving requests ended before the input did.
+//! Errors that end a run of requests before its input ends.
 
 use thiserror::Error;
 

@@ -1,4 +1,4 @@
-//! The steps that end with a sync: of each, one clause says what a crash may leave while it runs.
+//! Writes and cuts that end with a sync; one clause of each says what a crash may leave while it runs.
 
 ghost use Rattle.std.specs.Prelude.{◌≡◌, ◌≤◌, IfErr, IsErrOf, IsTrue, OnErr, OnOk, length, take};
 ghost use Rattle.definitions.specs.declared.fault.Fault.TheVariants as faults;
@@ -8,7 +8,7 @@ ghost use Rattle.definitions.specs.Moments.{LeavesOnly};
 use crate::device::Device;
 use definitions::Fault;
 
-/// Writes, and then syncs.
+/// Writes `bytes` at offset `at`, then syncs.
 pub fn write_synced<D: Device>(device: &mut D, at: usize, bytes: &[u8]) -> Result<(), Fault>
     requires { IsTrue (D.honest device.old) → at ≤ length (D.content device.old) }
     ensures honest { D.honest device.new ≡ D.honest device.old }
@@ -28,7 +28,7 @@ pub fn write_synced<D: Device>(device: &mut D, at: usize, bytes: &[u8]) -> Resul
     device.sync()
 }
 
-/// Cuts, and then syncs.
+/// Cuts the content to `len` bytes, then syncs.
 pub fn cut_synced<D: Device>(device: &mut D, len: usize) -> Result<(), Fault>
     requires { IsTrue (D.honest device.old) → len ≤ length (D.content device.old) }
     ensures honest { D.honest device.new ≡ D.honest device.old }

@@ -1,4 +1,4 @@
-//! Every document.
+//! A scorer of all documents below a bound.
 
 ghost use Rattle.std.specs.Prelude.{◌-◌, ◌≡◌, ◌≤◌};
 ghost use Rattle.docsets.specs.Entries.{first};
@@ -9,7 +9,7 @@ use crate::DocSet;
 use crate::scorer::Scorer;
 use common::{DocId, Score, TERMINATED};
 
-/// The documents below a number, each with score 1.
+/// The documents below `max_doc`, each with score 1.
 #[derive(Drop)]
 pub struct AllScorer {
     doc: DocId,
@@ -19,7 +19,7 @@ pub struct AllScorer {
 }
 
 impl AllScorer {
-    /// Stands on document 0, or at the end where there is none.
+    /// Returns a scorer on document 0, exhausted if `max_doc` is 0.
     pub fn new(max_doc: DocId) -> AllScorer
         requires { max_doc ≤ terminated }
         ensures { ⟦<AllScorer as DocSet>⟧.entries result ≡ all_from 0 max_doc }
@@ -31,7 +31,7 @@ impl AllScorer {
     }
 }
 
-/// A document below a number, or the end where it isn't.
+/// Returns `doc` if it is below `max_doc`, else `TERMINATED`.
 #[inline]
 fn within(doc: DocId, max_doc: DocId) -> DocId
     requires { max_doc ≤ terminated }

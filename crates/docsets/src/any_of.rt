@@ -1,4 +1,4 @@
-//! Several cursors as their union, which stands on the least of their documents.
+//! Moves of several cursors as their union, whose current document is the least of theirs.
 
 ghost use Rattle.std.specs.Prelude.{◌+◌, ◌≡◌, ◌≤◌, List, drop, map, ℕ};
 ghost use Rattle.docsets.specs.Entries.{Entry, first, from};
@@ -9,8 +9,8 @@ use crate::DocSet;
 use crate::leader::lead;
 use common::{DocId, TERMINATED};
 
-/// Moves each cursor to the first document that isn't below a target, and answers the first that any of them has,
-/// whatever is made of their entries.
+/// Moves each cursor to its first document >= `target`; returns the least of these documents, whatever is made of their
+/// entries.
 pub fn seek_any<D: DocSet>(docsets: &mut Vec<D>, target: DocId) -> DocId
     requires { target ≤ terminated }
     ensures moved { map D.entries docsets.new.items ≡ map (from target) (map D.entries docsets.old.items) }
@@ -23,7 +23,7 @@ pub fn seek_any<D: DocSet>(docsets: &mut Vec<D>, target: DocId) -> DocId
     lead(docsets, target).doc
 }
 
-/// Moves the cursors that stand on the least document, and answers the next that any of them has, whatever is made of
+/// Moves the cursors whose current document is the least, `doc`; returns the next least document, whatever is made of
 /// their entries.
 pub fn advance_any<D: DocSet>(docsets: &mut Vec<D>, doc: DocId) -> DocId
     requires { doc ≡ least (map D.entries docsets.old.items) }

@@ -1,4 +1,4 @@
-//! A set of documents.
+//! A cursor over a set of documents.
 
 ghost use Rattle.std.specs.Prelude.{◌≡◌, ◌≤◌, length};
 ghost use Rattle.docsets.specs.Entries.{first, from};
@@ -8,7 +8,7 @@ ghost use Rattle.docsets.specs.SetEntries.{set_entries};
 use crate::DocSet;
 use common::{BitSet, DocId, TERMINATED};
 
-/// The documents of a set, without scores. Its moves look at words of 64 bits.
+/// The documents of a bit set, without scores. Its moves look at words of 64 bits.
 #[derive(Drop)]
 pub struct BitSetDocSet {
     docs: BitSet,
@@ -17,7 +17,7 @@ pub struct BitSetDocSet {
     ghost at: { doc ≡ first (from doc (set_entries docs)) },
 }
 
-/// The first document of a set that isn't below a number, or the end.
+/// Returns the first document of `docs` that is >= `low`, or `TERMINATED`.
 #[inline]
 fn first_document(docs: &BitSet, low: DocId) -> DocId
     requires small { length docs.now ≤ terminated }
@@ -32,7 +32,7 @@ fn first_document(docs: &BitSet, low: DocId) -> DocId
 }
 
 impl BitSetDocSet {
-    /// Stands on the first document of a set, whose bound is at most `TERMINATED`.
+    /// Returns a cursor on the first document of `docs`, whose bound is at most `TERMINATED`.
     pub fn from(docs: BitSet) -> BitSetDocSet
         requires { length docs ≤ terminated }
         ensures { ⟦<BitSetDocSet as DocSet>⟧.entries result ≡ set_entries docs }

@@ -1,4 +1,4 @@
-//! Scores times a boost.
+//! A scorer with boosted scores.
 
 ghost use Rattle.std.specs.Prelude.{◌*◌, ◌≡◌, ◌≤ℤ◌, ◌≤◌, pos};
 ghost use Rattle.definitions.specs.Scoring.{max_score, natural};
@@ -17,7 +17,7 @@ pub struct BoostScorer<S: Scorer> {
 }
 
 impl<S: Scorer> BoostScorer<S> {
-    /// The documents of a scorer, each with its score times a boost.
+    /// Returns a scorer of the documents of `underlying`, each with its score times `boost`.
     pub fn new(underlying: S, boost: Score) -> BoostScorer<S>
         requires positive { pos 0 ≤ℤ boost }
         requires fits { natural boost * greatest_score (S.entries underlying) ≤ max_score }

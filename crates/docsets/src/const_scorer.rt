@@ -1,4 +1,4 @@
-//! A constant in place of each score.
+//! A scorer with a constant score.
 
 ghost use Rattle.std.specs.Prelude.{◌≡◌, ◌≤ℤ◌, ◌≤◌, pos};
 ghost use Rattle.definitions.specs.Scoring.{max_score, natural};
@@ -17,7 +17,7 @@ pub struct ConstScorer<D: DocSet> {
 }
 
 impl<D: DocSet> ConstScorer<D> {
-    /// The documents of a cursor, each with a score.
+    /// Returns a scorer of the documents of `docset`, each with `score`.
     pub fn new(docset: D, score: Score) -> ConstScorer<D>
         requires positive { pos 0 ≤ℤ score }
         requires small { score ≤ℤ pos max_score }

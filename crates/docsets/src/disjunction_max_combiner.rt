@@ -9,7 +9,7 @@ use crate::score_combiner::ScoreCombiner;
 use crate::scorer::Scorer;
 use common::Score;
 
-/// Takes the greatest score, and so many thousandths of the sum of the others.
+/// A combiner that takes the greatest score, and `tie_breaker` thousandths of the sum of the others.
 #[derive(Clone, Copy, Debug)]
 pub struct DisjunctionMaxCombiner {
     max: u64,
@@ -21,7 +21,7 @@ pub struct DisjunctionMaxCombiner {
 }
 
 impl DisjunctionMaxCombiner {
-    /// No score yet, and so many thousandths of the others.
+    /// Returns a combiner without scores, which adds `tie_breaker` thousandths of the sum of all but the greatest.
     pub fn with_tie_breaker(tie_breaker: Score) -> DisjunctionMaxCombiner
         requires positive { pos 0 ≤ℤ tie_breaker }
         requires share { tie_breaker ≤ℤ pos 1000 }

@@ -6,7 +6,7 @@ use crate::score_combiner::ScoreCombiner;
 use crate::scorer::Scorer;
 use common::Score;
 
-/// Ignores the scores: every document has 1.
+/// A combiner that ignores the scores: every document has score 1.
 #[derive(Clone, Copy, Debug)]
 pub struct DoNothingCombiner;
 

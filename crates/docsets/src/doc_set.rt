@@ -7,22 +7,22 @@ ghost use Rattle.docsets.specs.Entries.{Entry, Rising, first, from};
 use crate::seek_danger_result::SeekDangerResult;
 use common::{AliveBitSet, DocId, TERMINATED};
 
-/// How many documents `fill_buffer` gives at most.
+/// The greatest number of documents that `fill_buffer` writes.
 pub const COLLECT_BLOCK_BUFFER_LEN: usize = 64;
 
-/// A cursor over ascending documents: it stands on the first that remains, or on `TERMINATED`.
+/// A cursor over ascending documents: its current document is the first that remains, or `TERMINATED` if exhausted.
 pub trait DocSet {
     ghost use Rattle.docsets.specs.Danger.{IsDangerAnswer};
 
-    // What remains. No move changes an entry.
+    // The entries that remain. No move changes an entry.
     ghost entries: { Self → List Entry };
 
-    /// Goes on to the next document, and answers it. Behind the last it stays at `TERMINATED`.
+    /// Moves to the next document and returns it; stays at `TERMINATED` after the last.
     fn advance(&mut self) -> DocId
         ensures rest { entries self.new ≡ drop 1 (entries self.old) }
         ensures at { result ≡ first (entries self.new) };
 
-    /// Goes on to the first document that isn't below the target, and answers it.
+    /// Moves to the first document >= `target` and returns it.
     fn seek(&mut self, target: DocId) -> DocId
         requires ahead { first (entries self.old) ≤ target }
         requires small { target ≤ terminated }
@@ -36,8 +36,8 @@ pub trait DocSet {
         doc
     }
 
-    /// Whether a document remains, which may be any below `TERMINATED`. The cursor then stands on it, or
-    /// somewhere before the next.
+    /// Checks whether `target`, any document below `TERMINATED`, remains. The cursor then is on it, or somewhere
+    /// before the next document.
     fn seek_danger(&mut self, target: DocId) -> SeekDangerResult
         requires { target < terminated }
         ensures { IsDangerAnswer result target (entries self.old) (entries self.new) }
@@ -53,8 +53,7 @@ pub trait DocSet {
         SeekDangerResult::Found
     }
 
-    /// Fills a buffer with the documents that remain, as many as it takes, and goes on behind them; answers
-    /// how many these are.
+    /// Writes as many of the remaining documents into `buffer` as it takes, moves after them, and returns their number.
     fn fill_buffer(&mut self, buffer: &mut [DocId; 64]) -> usize
         ensures len { result ≡ min 64 (length (entries self.old)) }
         ensures written { take result buffer.new ≡ map (λ e. e.doc) (take 64 (entries self.old)) }
@@ -71,20 +70,20 @@ pub trait DocSet {
         COLLECT_BLOCK_BUFFER_LEN
     }
 
-    /// The document on which it stands.
+    /// Returns the current document.
     fn doc(&self) -> DocId
         ensures { result ≡ first (entries self.now) };
 
-    /// A hint of how many documents remain.
+    /// Returns an estimate of the number of remaining documents.
     fn size_hint(&self) -> u32;
 
-    /// A hint of what it costs to go over them.
+    /// Returns an estimate of the cost of a walk over the remaining documents.
     fn cost(&self) -> u64 {
         u64::from(self.size_hint())
     }
 
-    /// How many of the documents that remain are alive, where the set has a flag for each. It then stands on
-    /// `TERMINATED`.
+    /// Returns the number of remaining documents that are alive; `alive` has a flag for each of them. The cursor is
+    /// exhausted after it.
     fn count(&mut self, alive: &AliveBitSet) -> u32
         requires { from (length alive.now) (entries self.old) ≡ [] }
         ensures count { result ≡ count_by (λ e. slice_index_or alive.now e.doc false) (entries self.old) }
@@ -99,7 +98,7 @@ pub trait DocSet {
         count
     }
 
-    /// How many documents remain. It then stands on `TERMINATED`.
+    /// Returns the number of remaining documents. The cursor is exhausted after it.
     fn count_including_deleted(&mut self) -> u32
         ensures count { result ≡ length (entries self.old) }
         ensures done { entries self.new ≡ [] }

@@ -1,4 +1,4 @@
-//! No document.
+//! A scorer without documents.
 
 ghost use Rattle.std.specs.Prelude.{[], ◌≡◌};
 
@@ -7,14 +7,14 @@ use crate::all_scorer::AllScorer;
 use crate::scorer::Scorer;
 use common::{DocId, Score};
 
-/// No document: it stands at the end, as all documents below 0 do.
+/// A scorer without documents: those below 0.
 #[derive(Drop)]
 pub struct EmptyScorer {
     none: AllScorer,
 }
 
 impl EmptyScorer {
-    /// Stands at the end.
+    /// Returns an exhausted scorer.
     pub fn new() -> EmptyScorer
         ensures { ⟦<EmptyScorer as DocSet>⟧.entries result ≡ [] }
     {

@@ -1,4 +1,4 @@
-//! The least document of several cursors, and how many have it.
+//! The least current document of several cursors, and how many of them are on it.
 
 ghost use Rattle.std.specs.Prelude.{◌+◌, ◌<◌, ◌≡◌, ◌≤◌, length, map};
 ghost use Rattle.docsets.specs.Entries.{from};
@@ -9,17 +9,17 @@ use crate::DocSet;
 use crate::moves::move_to;
 use common::{DocId, TERMINATED};
 
-/// A document and how many cursors stand on it.
+/// A document, and how many cursors are on it.
 #[derive(Clone, Copy, Debug)]
 pub struct Leader {
     /// The document.
     pub doc: DocId,
-    /// How many have it.
+    /// The number of cursors on it.
     pub count: usize,
 }
 
 impl Leader {
-    /// The leader beside one more cursor, which stands on a document.
+    /// Returns the leader after one more cursor, whose current document is `doc`.
     #[inline]
     fn beside(self, doc: DocId) -> Leader
         requires { self.count < 18446744073709551615 }
@@ -38,8 +38,8 @@ impl Leader {
     }
 }
 
-/// Moves each cursor to the first document that isn't below a target, and answers which of these documents is the
-/// least, and how many have it.
+/// Moves each cursor to its first document >= `target`; returns the least of these documents, and how many cursors are
+/// on it.
 pub fn lead<D: DocSet>(docsets: &mut Vec<D>, target: DocId) -> Leader
     requires { target ≤ terminated }
     ensures moved { map D.entries docsets.new.items ≡ map (from target) (map D.entries docsets.old.items) }

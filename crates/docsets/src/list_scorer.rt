@@ -1,4 +1,4 @@
-//! A list of documents with scores.
+//! A scorer of a list of documents with scores.
 
 ghost use Rattle.std.specs.Prelude.{◌<◌, ◌≡◌, ◌≤◌, drop, length, nat_lt, slice_index_or, ℕ, ℤ};
 ghost use Rattle.docsets.specs.Entries.{from};
@@ -18,8 +18,8 @@ pub struct ListScorer {
 }
 
 impl ListScorer {
-    /// Stands on the first document of a list, whose documents ascend below `TERMINATED`, with scores from 0 to
-    /// `MAX_SCORE`.
+    /// Returns a scorer on the first document of `pairs`, whose documents ascend below `TERMINATED`, with scores from 0
+    /// to `MAX_SCORE`.
     pub fn new(pairs: Vec<(DocId, Score)>) -> ListScorer
         requires { AreScores 0 pairs.items }
         ensures { ⟦<ListScorer as DocSet>⟧.entries result ≡ scored (naturals pairs.items) }
@@ -28,7 +28,7 @@ impl ListScorer {
     }
 }
 
-/// Whether a document stands before a target.
+/// Whether the document of `pair` is before `target`.
 #[inline]
 fn is_before(pair: &(DocId, Score), target: DocId) -> bool
     ensures { result ≡ nat_lt pair.now.0 target }
@@ -36,7 +36,7 @@ fn is_before(pair: &(DocId, Score), target: DocId) -> bool
     pair.0 < target
 }
 
-/// A place, at most the end, where the document isn't before a target: the first that is tried of 1, 2, 4 and so on.
+/// Returns the first of the indexes 1, 2, 4 and so on, cut at the end, whose document isn't before `target`.
 #[inline]
 fn reach(pairs: &[(DocId, Score)], target: DocId) -> usize
     ensures bound { result ≤ length pairs.now }
@@ -49,7 +49,7 @@ fn reach(pairs: &[(DocId, Score)], target: DocId) -> usize
     place.min(pairs.len())
 }
 
-/// The pairs from a place on.
+/// Returns the pairs from index `place` on.
 #[inline]
 fn rest(pairs: &[(DocId, Score)], place: usize) -> &[(DocId, Score)]
     requires { place ≤ length pairs.now }
@@ -58,7 +58,7 @@ fn rest(pairs: &[(DocId, Score)], place: usize) -> &[(DocId, Score)]
     &pairs[place..]
 }
 
-/// How many documents stand before a target. It takes few steps where these are few.
+/// Returns the number of documents before `target`, in few steps if these are few.
 #[inline]
 fn count_before(pairs: &[(DocId, Score)], target: DocId) -> usize
     requires { AreScores 0 pairs.now }

@@ -1,4 +1,4 @@
-//! What several lists make, in the words of the definitions.
+//! Laws of the entries of several lists, in the words of the definitions.
 
 ghost use Rattle.std.specs.Prelude.{◌≡◌, ◌≤◌, List, length, map, sum, ℕ};
 ghost use Rattle.std.specs.List.{AllByRecursion};
@@ -7,8 +7,8 @@ ghost use Rattle.definitions.specs.ScoredLists as lists;
 ghost use Rattle.docsets.specs.ScoredEntries.{pairs_of};
 ghost use Rattle.docsets.specs.Members.{at_least, combining, joining};
 
-/// The documents that so many lists have, with what a combiner makes of their scores, and those that all of several
-/// lists have, with their sums, are those of the definitions.
+/// States that the documents that at least `minimum` lists have, with what a combiner makes of their scores or, where
+/// entries are joined, with the sums of these, are those of the definitions.
 pub fn at_least_is_that_of_definitions()
     ensures combined { (minimum : ℕ) (f : List ℕ → ℕ) (ess : List (List Entry))
         → 1 ≤ minimum → AllByRecursion (Rising 0) ess

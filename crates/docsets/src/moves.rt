@@ -8,7 +8,7 @@ ghost use Rattle.docsets.specs.Members.{least};
 use crate::DocSet;
 use common::{DocId, TERMINATED};
 
-/// Moves a cursor to the first document that isn't below a target, which may be below its own.
+/// Moves a cursor to its first document >= `target`, which may be before its current one.
 #[inline]
 pub fn move_to<D: DocSet>(docset: &mut D, target: DocId) -> DocId
     requires { target ≤ terminated }
@@ -25,7 +25,7 @@ pub fn move_to<D: DocSet>(docset: &mut D, target: DocId) -> DocId
     docset.seek(target)
 }
 
-/// Moves each cursor there.
+/// Moves each cursor to its first document >= `target`, like `move_to`.
 pub fn move_all<D: DocSet>(docsets: &mut Vec<D>, target: DocId)
     requires { target ≤ terminated }
     ensures { map D.entries docsets.new.items ≡ map (from target) (map D.entries docsets.old.items) }
@@ -35,7 +35,7 @@ pub fn move_all<D: DocSet>(docsets: &mut Vec<D>, target: DocId)
     }
 }
 
-/// The least document on which one of the cursors stands.
+/// Returns the least of the cursors' current documents, `TERMINATED` if there is none.
 pub fn least_of<D: DocSet>(docsets: &Vec<D>) -> DocId
     ensures { result ≡ least (map D.entries docsets.now.items) }
 {

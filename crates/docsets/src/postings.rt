@@ -1,4 +1,4 @@
-//! Cursors that tell counts and positions.
+//! Cursors that have counts and positions.
 
 ghost use Rattle.std.specs.Prelude.{[], ◌+◌, ◌<◌, ◌≡◌, ◌≤◌, List, OnErr, OnOk, length, map, vec_capacity, ℕ};
 ghost use Rattle.definitions.specs.Postings.{terminated};
@@ -7,21 +7,21 @@ ghost use Rattle.docsets.specs.Entries.{first, first_count, first_positions, hig
 use crate::doc_set::DocSet;
 use std::alloc::AllocError;
 
-/// A cursor over the documents of a term, which tells how often it stands in the current one, and where.
+/// A cursor over the documents of a term, with how often it occurs in the current one, and at which positions.
 ///
-/// What takes positions wants memory only where the output hasn't the room for what it then holds.
+/// The calls that write positions allocate only if `output` hasn't the room for what it then holds.
 pub trait Postings: DocSet {
     ghost use Rattle.docsets.specs.Entries.{AreSingle};
 
-    // How positions are put behind those that an output holds.
+    // How positions are appended to those that an output holds.
     ghost joined: { List ℕ → List ℕ → List ℕ };
 
-    /// How often the term stands in the current document.
+    /// Returns how often the term occurs in the current document.
     fn term_freq(&self) -> u32
         requires { first (Self.entries self.now) < terminated }
         ensures { result ≡ first_count (Self.entries self.now) };
 
-    /// Puts the positions in the current document, each plus an offset, behind those that the output holds.
+    /// Appends the positions in the current document, each plus `offset`, to `output`.
     fn append_positions_with_offset(
         &mut self,
         offset: u32,
@@ -35,8 +35,8 @@ pub trait Postings: DocSet {
         ensures full { OnErr result (vec_capacity output.old < length (joined output.old.items (map (λ p. p + offset) (single (first_positions (Self.entries self.old)))))) }
         ensures room { vec_capacity output.old ≤ vec_capacity output.new };
 
-    /// Puts the positions in the current document, each plus an offset, in place of those that the output
-    /// holds. Where memory is refused the output holds none.
+    /// Replaces what `output` holds by the positions in the current document, each plus `offset`; by none if out of
+    /// memory.
     fn positions_with_offset(
         &mut self,
         offset: u32,
@@ -55,8 +55,7 @@ pub trait Postings: DocSet {
         Ok(())
     }
 
-    /// Puts the positions in the current document in place of those that the output holds. Where memory is
-    /// refused the output holds none.
+    /// Replaces what `output` holds by the positions in the current document; by none if out of memory.
     fn positions(&mut self, output: &mut Vec<u32>) -> Result<(), AllocError>
         requires on { first (Self.entries self.old) < terminated }
         ensures same { Self.entries self.new ≡ Self.entries self.old }
@@ -69,13 +68,13 @@ pub trait Postings: DocSet {
         Ok(())
     }
 
-    /// A number of positions that no remaining document has more of.
+    /// Returns an upper bound of the number of positions of each remaining document.
     fn most_positions(&self) -> usize
         ensures { most_positions (Self.entries self.now) ≤ result };
 
     // Each entry is of one term; its positions don't fall.
     ghost of_one_term: { (s : Self) → AreSingle (Self.entries s) };
 
-    // The positions of an entry are put alone as they are.
+    // Without others before them, the positions of an entry are put as they are.
     ghost alone: { (s : Self) (offset : ℕ) → joined [] (map (λ p. p + offset) (single (first_positions (Self.entries s)))) ≡ map (λ p. p + offset) (single (first_positions (Self.entries s))) };
 }

@@ -1,4 +1,4 @@
-//! What makes one score of several.
+//! Combiners of several scores into one.
 
 ghost use Rattle.std.specs.Prelude.{[], ◌+◌, ◌<◌, ◌∷◌, ◌≡◌, ◌≤◌, IsPermutation, List, pos, sum, ℕ};
 ghost use Rattle.docsets.specs.Entries.{first, first_score};
@@ -8,18 +8,18 @@ ghost use Rattle.definitions.specs.Scoring.{max_score};
 use crate::scorer::Scorer;
 use common::Score;
 
-/// Takes the scores of a document, one cursor after another. Their order doesn't matter.
+/// A combiner of the scores of a document, taken one cursor after another. Their order doesn't matter.
 pub trait ScoreCombiner: Copy {
-    // The sum of the scores so far, or less where it takes none.
+    // The sum of the scores so far, or less if it takes none.
     ghost total: { Self → ℕ };
 
-    // What the score is after these further ones.
+    // The combined score after these further ones.
     ghost answer: { Self → List ℕ → ℕ };
 
-    // What it is of these alone.
+    // The combined score of these alone.
     ghost anew: { Self → List ℕ → ℕ };
 
-    /// Takes the score of the document on which a cursor stands, or the fact alone that it stands there.
+    /// Takes the score of the current document of `scorer`, or only the fact that it matches.
     fn update<S: Scorer>(&mut self, scorer: &mut S)
         requires on { first (S.entries scorer.old) < terminated }
         requires fits { total self.old + first_score (S.entries scorer.old) ≤ max_score }
@@ -35,11 +35,11 @@ pub trait ScoreCombiner: Copy {
         ensures answer { (xs : List ℕ) → answer self.new xs ≡ anew self.old xs }
         ensures anew { (xs : List ℕ) → anew self.new xs ≡ anew self.old xs };
 
-    /// The score of those so far.
+    /// Returns the combined score of those so far.
     fn score(&self) -> Score
         ensures { result ≡ pos (answer self.now []) };
 
-    // No score is above the greatest where the sum isn't.
+    // No combined score is above the greatest if the sum isn't.
     ghost bounded: { (c : Self) (xs : List ℕ) → total c + sum xs ≤ max_score → answer c xs ≤ max_score };
 
     // The order of the scores doesn't matter.

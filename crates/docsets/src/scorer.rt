@@ -1,4 +1,4 @@
-//! Cursors whose documents have scores.
+//! Cursors with scores.
 
 ghost use Rattle.std.specs.Prelude.{◌<◌, ◌≡◌, pos};
 ghost use Rattle.definitions.specs.Postings.{terminated};
@@ -7,9 +7,9 @@ ghost use Rattle.docsets.specs.Entries.{first, first_score};
 use crate::DocSet;
 use common::Score;
 
-/// A cursor that tells the score of the document on which it stands.
+/// A cursor with a score of its current document.
 pub trait Scorer: DocSet {
-    /// The score of the current document. What remains stays as it is.
+    /// Returns the score of the current document, which stays the current one.
     fn score(&mut self) -> Score
         requires { first (Self.entries self.old) < terminated }
         ensures same { Self.entries self.new ≡ Self.entries self.old }

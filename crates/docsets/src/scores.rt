@@ -1,4 +1,4 @@
-//! Scores of a document, of several cursors.
+//! Scores of a document by several cursors.
 
 ghost use Rattle.std.specs.Prelude.{◌++◌, ◌+◌, ◌<◌, ◌≡◌, ◌≤◌, List, map, sum, ℕ};
 ghost use Rattle.docsets.specs.Entries.{first};
@@ -9,7 +9,7 @@ ghost use Rattle.docsets.specs.Members.{entries_at, entries_of, least, scores_in
 use crate::{ScoreCombiner, Scorer};
 use common::DocId;
 
-/// Takes the score of a document, where the cursor stands on it.
+/// Adds the score of `scorer` to `combiner`, if its current document is `doc`.
 #[inline]
 pub fn take_score<S: Scorer, C: ScoreCombiner>(scorer: &mut S, doc: DocId, combiner: &mut C)
     requires leads { doc ≤ first (S.entries scorer.old) }
@@ -26,7 +26,7 @@ pub fn take_score<S: Scorer, C: ScoreCombiner>(scorer: &mut S, doc: DocId, combi
     }
 }
 
-/// Takes the scores of all cursors that stand on a document.
+/// Combines the scores of all cursors whose current document is `doc`.
 pub fn combine_at<S: Scorer, C: ScoreCombiner>(docsets: &mut Vec<S>, doc: DocId, combiner: C) -> C
     requires leads { doc ≤ least (map S.entries docsets.old.items) }
     requires on { doc < terminated }

@@ -7,7 +7,7 @@ use crate::score_combiner::ScoreCombiner;
 use crate::scorer::Scorer;
 use common::Score;
 
-/// Adds the scores up.
+/// A combiner that adds the scores up.
 #[derive(Clone, Copy, Debug)]
 pub struct SumCombiner {
     sum: u64,

@@ -1,4 +1,4 @@
-//! A list of documents.
+//! A cursor over a list of documents.
 
 ghost use Rattle.std.specs.Prelude.{◌≡◌, drop, length};
 ghost use Rattle.docsets.specs.Entries.{Rising};
@@ -18,7 +18,7 @@ pub struct VecDocSet {
 }
 
 impl VecDocSet {
-    /// Stands on the first document of a list, which ascends below `TERMINATED`.
+    /// Returns a cursor on the first document of `doc_ids`, which ascend below `TERMINATED`.
     pub fn from(doc_ids: Vec<DocId>) -> VecDocSet
         requires { AreScoredFrom 0 (each_scoring 0 doc_ids.items) }
         ensures entries { ⟦<VecDocSet as DocSet>⟧.entries result ≡ scored (each_scoring 0 doc_ids.items) }

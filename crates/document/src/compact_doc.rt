@@ -1,4 +1,4 @@
-//! Documents: values with the numbers of their fields, in one list of bytes.
+//! Documents: values with the ids of their fields, in one list of bytes.
 
 ghost use Rattle.std.specs.Prelude.{[], ◌%◌, ◌++◌, ◌/◌, ◌<◌, ◌^◌, ◌∷◌, ◌≡◌, length, nat_eq, option_map, true, ◌==◌, ◌⊎◌, ℕ, IfErr, IfOk, None, OnErr, OnOk, Some};
 ghost use Rattle.std.specs.Int.{from_bool};
@@ -22,9 +22,9 @@ use std::alloc::{AllocError, Global};
 use std::marker::Model;
 use terms::{DateTime, Facet, Field};
 
-/// A document, seen as the list of its pairs: a field's number and one of its values.
+/// A document, seen as the list of its pairs: the id of a field and one of its values.
 ///
-/// The pairs stand one after another in one list of bytes, as in the binary form; tokens are kept too.
+/// The pairs are one after another in one list of bytes, as in the binary form; tokens are kept too.
 #[derive(Drop)]
 pub struct CompactDoc {
     heap: Vec<u8>,
@@ -49,7 +49,7 @@ impl Model for CompactDoc {
 impl CompactDoc {
     ghost use Rattle.document_values.specs.Shown.{value_of};
 
-    /// A document without pairs.
+    /// Returns a document without pairs.
     pub fn new(alloc: Global) -> CompactDoc
         ensures { result ≡ [] }
     {
@@ -59,7 +59,7 @@ impl CompactDoc {
         }
     }
 
-    /// How many pairs there are.
+    /// Returns how many pairs there are.
     pub fn len(&self) -> usize
         ensures count { result ≡ length self.now }
         ensures pairs { AllByRecursion (IsGoodPair true deepest) self.now }
@@ -68,14 +68,14 @@ impl CompactDoc {
         *count
     }
 
-    /// Whether there is no pair.
+    /// Whether there are no pairs.
     pub fn is_empty(&self) -> bool
         ensures { result ≡ nat_eq (length self.now) 0 }
     {
         self.count == 0
     }
 
-    /// Its bytes, and how many pairs they are.
+    /// Returns the bytes, and how many pairs they are.
     pub(crate) fn held(&self) -> (&[u8], usize)
         ensures heap { IsHeap result.0.now result.1 }
         ensures pairs { pairs_at result.1 result.0.now ≡ self.now }
@@ -83,7 +83,7 @@ impl CompactDoc {
         (self.heap.as_slice(), self.count)
     }
 
-    /// The document of bytes that are so many pairs.
+    /// Returns the document of `bytes`, which are `count` pairs.
     pub(crate) fn of_held(
         alloc: Global,
         bytes: &[u8],
@@ -97,14 +97,14 @@ impl CompactDoc {
         Ok(CompactDoc { heap, count })
     }
 
-    /// The pairs, in order of addition.
+    /// Returns the pairs, in order of addition.
     pub fn field_values(&self) -> FieldValueIterRef<'_>
         ensures { result ≡ self.now }
     {
         FieldValueIterRef::new(self.count, self.heap.as_slice())
     }
 
-    /// The first value of a field.
+    /// Returns the first value of `field`.
     pub fn get_first(&self, field: Field) -> Option<CompactDocValue<'_>>
         ensures { option_map value_of result ≡ option_map (λ p. p.1) (find (λ p. p.0 == field) self.now) }
     {
@@ -116,15 +116,15 @@ impl CompactDoc {
         None
     }
 
-    /// The values of a field, in order of addition.
+    /// Returns the values of `field`, in order of addition.
     pub fn get_all(&self, field: Field) -> ValuesOfField<'_>
         ensures { result ≡ values_of field self.now }
     {
         ValuesOfField::new(field, self.field_values())
     }
 
-    /// The document of the binary form that these bytes are. Bytes that are none are `Damaged`, and so is a
-    /// document with a value that nests more than 128 deep.
+    /// Decodes a document from its binary form. Bytes that are none are `Damaged`, and so is a document with a value
+    /// that nests more than 128 deep.
     pub fn deserialize(alloc: Global, bytes: &[u8]) -> Result<CompactDoc, Fault>
         ensures ok { IfOk result (λ doc. read_document bytes.now ≡ Some doc) }
         ensures err { IfErr result (λ fault. (fault ≡ faults.OutOfMemory) ⊎ ((fault ≡ faults.Damaged None) × (read_document bytes.now ≡ None))) }
@@ -178,7 +178,7 @@ impl CompactDoc {
         self.add_sized(value_head(field, 4), bytes)
     }
 
-    /// Adds an object of these members, in order.
+    /// Adds an object of `members`, in order.
     pub fn add_object(
         &mut self,
         field: Field,
@@ -236,7 +236,7 @@ impl CompactDoc {
         self.add_parts(&value_head(field, 9), &[b as u8])
     }
 
-    /// Adds an address by its 128 bits; one of IPv4 is mapped into IPv6.
+    /// Adds an IP address by its 128 bits; one of IPv4 is mapped into IPv6.
     pub fn add_ip_addr(&mut self, field: Field, address: u128) -> Result<(), AllocError>
         ensures ok { OnOk result (self.new ≡ self.old ++ ((field, values.ip_addr address) ∷ [])) }
         ensures err { OnErr result (self.new ≡ self.old) }
@@ -247,7 +247,7 @@ impl CompactDoc {
 }
 
 impl CompactDoc {
-    /// Adds the pair that these bytes are.
+    /// Adds the encoded `pair`.
     pub(crate) fn add(&mut self, pair: Vec<u8>) -> Result<(), AllocError>
         requires { (p : ℕ × DocValue) × IsGoodPair true deepest p × (pair.items ≡ held_pair p) }
         ensures ok { OnOk result ((p : ℕ × DocValue) → IsGoodPair true deepest p → pair.items ≡ held_pair p → self.new ≡ self.old ++ (p ∷ [])) }
@@ -256,7 +256,7 @@ impl CompactDoc {
         self.add_parts(pair.as_slice(), &[])
     }
 
-    /// Adds the pair that these bytes are, the second behind the first.
+    /// Adds the pair that is encoded as `first` and then `second`.
     fn add_parts(&mut self, first: &[u8], second: &[u8]) -> Result<(), AllocError>
         requires { (p : ℕ × DocValue) × IsGoodPair true deepest p × (first.now ++ second.now ≡ held_pair p) }
         ensures ok { OnOk result ((p : ℕ × DocValue) → IsGoodPair true deepest p → first.now ++ second.now ≡ held_pair p → self.new ≡ self.old ++ (p ∷ [])) }
@@ -267,7 +267,7 @@ impl CompactDoc {
         Ok(())
     }
 
-    /// Adds the pair that these bytes are: the first, how many the second are, and these.
+    /// Adds the pair that is encoded as `first`, the length of `second`, and `second`.
     fn add_sized(&mut self, first: [u8; 5], second: &[u8]) -> Result<(), AllocError>
         requires { (p : ℕ × DocValue) × (length second.now < 2 ^ 64 → IsGoodPair true deepest p) × (first ++ sized_bytes second.now ≡ held_pair p) }
         ensures ok { OnOk result ((p : ℕ × DocValue) → (length second.now < 2 ^ 64 → IsGoodPair true deepest p) → first ++ sized_bytes second.now ≡ held_pair p → self.new ≡ self.old ++ (p ∷ [])) }

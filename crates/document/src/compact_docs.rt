@@ -7,12 +7,12 @@ use crate::compact_doc::CompactDoc;
 use std::alloc::{AllocError, Global};
 use std::marker::Model;
 
-/// Documents, whose pairs stand one after another in one list of bytes: however many there are, they take two pieces of
-/// memory, which grow as a `Vec` does.
+/// Documents, whose pairs are one after another in one list of bytes: however many there are, they take two
+/// allocations, which grow as a `Vec` does.
 #[derive(Drop)]
 pub struct CompactDocs {
     heap: Vec<u8>,
-    // Where the bytes of each end, and how many pairs it has.
+    // The offset at which the bytes of each end, and how many pairs it has.
     ends: Vec<(usize, usize)>,
 }
 
@@ -33,7 +33,7 @@ impl Model for CompactDocs {
 }
 
 impl CompactDocs {
-    /// No document.
+    /// Returns a list of no documents.
     pub fn new(alloc: Global) -> CompactDocs
         ensures { result ≡ [] }
     {
@@ -43,21 +43,21 @@ impl CompactDocs {
         }
     }
 
-    /// How many documents there are.
+    /// Returns how many documents there are.
     pub fn len(&self) -> usize
         ensures { result ≡ length self.now }
     {
         self.ends.len()
     }
 
-    /// Whether there is no document.
+    /// Whether there are no documents.
     pub fn is_empty(&self) -> bool
         ensures { result ≡ nat_eq (length self.now) 0 }
     {
         self.ends.is_empty()
     }
 
-    /// Puts a copy of a document behind the others. A refused call changes nothing.
+    /// Appends a copy of `doc`. A refused call changes nothing.
     pub fn push(&mut self, doc: &CompactDoc) -> Result<(), AllocError>
         ensures ok { OnOk result (self.new ≡ self.old ++ doc.now ∷ []) }
         ensures err { OnErr result (self.new ≡ self.old) }
@@ -69,7 +69,7 @@ impl CompactDocs {
         Ok(())
     }
 
-    /// A copy of the document at a place.
+    /// Returns a copy of the document at index `at`.
     pub fn get(&self, alloc: Global, at: usize) -> Result<CompactDoc, AllocError>
         requires { at < length self.now }
         ensures { IfOk result (λ doc. doc ≡ slice_index_or self.now at []) }
@@ -80,7 +80,7 @@ impl CompactDocs {
     }
 }
 
-/// Where the bytes of the document at a place begin: where those of the one before it end.
+/// Returns the offset at which the document at index `at` begins: where the one before it ends.
 fn start_of(ends: &[(usize, usize)], at: usize) -> usize
     requires { at < length ends.now }
     ensures { result ≡ start_of 0 ends.now at }
@@ -91,7 +91,7 @@ fn start_of(ends: &[(usize, usize)], at: usize) -> usize
     ends[at - 1].0
 }
 
-/// The bytes from one place up to another.
+/// Returns the bytes from the offset `start` up to `end`.
 fn part(heap: &[u8], start: usize, end: usize) -> &[u8]
     requires order { start ≤ end }
     requires within { end ≤ length heap.now }

@@ -17,8 +17,8 @@ use std::collections::BTreeMap;
 use terms::Field;
 
 impl CompactDoc {
-    /// The stored values as the text of one JSON object without spaces: field names as keys, in the order of their
-    /// bytes, with a list of values for each.
+    /// Returns the stored values as the text of one JSON object without spaces: field names as keys, in the order of
+    /// their bytes, with a list of values for each.
     pub fn to_json(&self, alloc: Global, schema: &Schema) -> Result<String, AllocError>
         ensures { IfOk result (λ text. string_bytes text ≡ compact_text (printed_named (stored_values schema.now self.now))) }
     {
@@ -30,7 +30,7 @@ impl CompactDoc {
     }
 }
 
-/// The numbers of the stored fields that have a value, by name.
+/// Returns the ids of the stored fields that have a value, by name.
 fn stored_fields<'a>(
     alloc: Global,
     schema: &'a Schema,

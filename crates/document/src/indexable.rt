@@ -29,7 +29,7 @@ impl CompactDoc {
     }
 }
 
-/// Whether a value of that field can be indexed.
+/// Whether `value` of `field` can be indexed.
 fn is_indexable_value(schema: &Schema, field: Field, value: CompactDocValue<'_>) -> bool
     ensures { result ≡ is_indexable_value schema.now (field, value_of value.entry) }
 {
@@ -44,7 +44,7 @@ fn is_indexable_value(schema: &Schema, field: Field, value: CompactDocValue<'_>)
     }
 }
 
-/// The type of a field that is indexed.
+/// Returns the type of `field`, where it is indexed.
 fn indexed_type(schema: &Schema, field: Field) -> Option<Type>
     ensures { option_map kind_of result ≡ indexed_kind (slice_get schema.now field) }
 {
@@ -58,7 +58,7 @@ fn indexed_type(schema: &Schema, field: Field) -> Option<Type>
     Some(entry.field_type().value_type())
 }
 
-/// Whether a field of that type takes the value.
+/// Whether a field of `field_type` takes `value`.
 fn is_of_type(field_type: Type, value: &CompactDocValue<'_>) -> bool
     ensures { result ≡ is_of_kind (kind_of field_type) (value_of value.now) }
 {
@@ -78,8 +78,7 @@ fn is_of_type(field_type: Type, value: &CompactDocValue<'_>) -> bool
     }
 }
 
-/// Whether a value is or holds what no JSON field takes; nothing where it nests deeper than `depth`, which is
-/// seen before more is gone down.
+/// Whether `value` is or holds what no JSON field takes; `None`, before going deeper, where it nests over `depth` deep.
 #[cycle(foreign_leaf)]
 fn foreign_leaf(depth: usize, value: CompactDocValue<'_>) -> Option<bool>
     ensures { result ≡ only_if (nat_le (nesting (value_of value.entry)) depth) (Some (has_foreign_leaf (value_of value.entry))) }

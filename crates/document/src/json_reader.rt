@@ -21,7 +21,7 @@ use terms::Field;
 use values_json::{Leaf, has_float, read_leaf};
 
 impl CompactDoc {
-    /// The document in a JSON object: the values of each field, in the order of the members' keys. Keys that name
+    /// Reads a document from a JSON object: the values of each field, in the order of the members' keys. Keys that name
     /// no field are skipped, and the elements of an array are values of their own. Anything but an object is
     /// `NotAnObject`; the first value that its field doesn't take is refused as its type says.
     pub fn from_json_object(
@@ -39,7 +39,7 @@ impl CompactDoc {
     }
 }
 
-/// The values of the fields that members name.
+/// Reads the values of the fields that `members` name.
 fn read_members(
     alloc: Global,
     schema: &Schema,
@@ -55,7 +55,7 @@ fn read_members(
     Ok(doc)
 }
 
-/// Adds the values of the field that a member names.
+/// Adds the values of the field that `key` names.
 fn read_member(
     alloc: Global,
     schema: &Schema,
@@ -72,7 +72,7 @@ fn read_member(
     }
 }
 
-/// Adds the values of a field: of an array each element.
+/// Adds the values of `field`: of an array each element.
 fn read_field(
     alloc: Global,
     field: Field,
@@ -106,7 +106,7 @@ fn read_items(
     Ok(())
 }
 
-/// Adds one value. A float is refused wherever it stands in it.
+/// Adds one value. A float in it is refused, at any depth.
 fn read_one(
     alloc: Global,
     field: Field,
@@ -132,7 +132,7 @@ fn read_one(
     Ok(())
 }
 
-/// The text of a text field's value.
+/// Returns the text of a text field's value.
 fn plain_text<'a>(entry: &FieldEntry, json: &'a Json) -> Option<&'a str>
     ensures { IfSome result (λ text. reading.read_value entry.now (view json.now) ≡ Ok (definitions.str text.now)) }
 {
@@ -142,7 +142,7 @@ fn plain_text<'a>(entry: &FieldEntry, json: &'a Json) -> Option<&'a str>
     }
 }
 
-/// One value of a field that has no objects.
+/// Reads one value of a field that has no objects.
 fn read_plain(alloc: Global, entry: &FieldEntry, json: &Json) -> Result<Leaf, Fault>
     requires kind { entry.now.kind ≢ json_kind }
     requires whole { has_float (view json.now) ≡ false }
@@ -164,7 +164,7 @@ fn read_object(alloc: Global, field: Field, json: &Json, doc: &mut CompactDoc) -
     }
 }
 
-/// Adds the object of these members.
+/// Adds an object of `members`.
 fn add_object(
     alloc: Global,
     field: Field,
@@ -195,7 +195,7 @@ fn add_leaf(doc: &mut CompactDoc, field: Field, leaf: Leaf) -> Result<(), AllocE
     }
 }
 
-/// Whether a field of that type coerces.
+/// Whether a field of `field_type` coerces.
 fn coerces(field_type: &FieldType) -> bool
     ensures { result ≡ (entry_of [] field_type.now).coerce }
 {

@@ -35,14 +35,14 @@ impl Model for NamedDocument {
 }
 
 impl NamedDocument {
-    /// The fields with their values, in order.
+    /// Returns the fields with their values, in order.
     pub fn fields(&self) -> &[(String, Vec<OwnedValue>)]
         ensures { named_of result.now ≡ self.now }
     {
         self.fields.as_slice()
     }
 
-    /// The values of the field of that name. `None` where the document has none there.
+    /// Returns the values of the field `name`, or `None` where the document has none.
     pub fn get(&self, name: &str) -> Option<&[OwnedValue]>
         ensures { option_map (λ values. owned_values values.now) result ≡ option_map (λ f. f.1) (find (λ f. bytes_eq f.0 name.now) self.now) }
     {
@@ -56,8 +56,8 @@ impl NamedDocument {
 }
 
 impl CompactDoc {
-    /// The stored values by the names of their fields, each pre-tokenised text as a text. Values of fields that the
-    /// schema doesn't have are left out.
+    /// Returns the stored values by the names of their fields, each pre-tokenised text as a text. Values of fields that
+    /// the schema doesn't have are left out.
     pub fn to_named_doc(&self, alloc: Global, schema: &Schema) -> Result<NamedDocument, AllocError>
         ensures { IfOk result (λ named. named ≡ stored_values schema.now self.now) }
     {
@@ -68,7 +68,7 @@ impl CompactDoc {
     }
 }
 
-/// So many empty lists.
+/// Returns `count` empty lists.
 fn empty_lists(alloc: Global, count: usize) -> Result<Vec<Vec<OwnedValue>>, AllocError>
     ensures len { IfOk result (λ lists. length lists.items ≡ count) }
     ensures lists { IfOk result (λ lists. lists_of lists.items ≡ no_lists count) }
@@ -80,7 +80,7 @@ fn empty_lists(alloc: Global, count: usize) -> Result<Vec<Vec<OwnedValue>>, Allo
     Ok(lists)
 }
 
-/// Puts each stored value at the end of its field's list. There is a list for each field of the schema.
+/// Appends each stored value to its field's list, of which there is one for each field of the schema.
 fn put_stored(
     alloc: Global,
     schema: &Schema,
@@ -99,7 +99,7 @@ fn put_stored(
     Ok(())
 }
 
-/// Puts a value at the end of its field's list.
+/// Appends `value` to the list of `field`.
 #[tactic(auto, using(crate::proofs::NamedParts::put_set))]
 fn put(lists: &mut Vec<Vec<OwnedValue>>, field: Field, value: OwnedValue) -> Result<(), AllocError>
     requires { field < length lists.old.items }
@@ -109,7 +109,7 @@ fn put(lists: &mut Vec<Vec<OwnedValue>>, field: Field, value: OwnedValue) -> Res
     Ok(lists[field.field_id() as usize].push(value)?)
 }
 
-/// The lists that aren't empty, with their fields' names.
+/// Returns the lists that aren't empty, with the names of their fields.
 fn named(
     alloc: Global,
     schema: &Schema,
@@ -134,7 +134,7 @@ fn named(
     Ok(fields)
 }
 
-/// Appends a field's name with its values, where it has some.
+/// Appends the name of `field` with its `values`, where it has some.
 fn push_named(
     alloc: Global,
     schema: &Schema,

@@ -10,7 +10,7 @@ use serde_json::{Map, Value as Json};
 use std::alloc::{AllocError, Global};
 
 impl NamedDocument {
-    /// One object, field names as keys, with a list of values for each.
+    /// Returns one object, with field names as keys, and a list of values for each.
     pub fn to_json_value(&self, alloc: Global) -> Result<Json, AllocError>
         ensures { IfOk result (λ json. view json ≡ printed_named self.now) }
     {

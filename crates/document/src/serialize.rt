@@ -1,4 +1,4 @@
-//! Documents put in the binary form.
+//! Documents encoded in the binary form.
 
 ghost use Rattle.std.specs.Prelude.{◌++◌, ◌+◌, ◌≡◌, ◌≤◌, IfOk, OnOk, Some, flat_map, length, true};
 ghost use Rattle.std.specs.List.{AllByRecursion};
@@ -20,8 +20,8 @@ use std::alloc::{AllocError, Global};
 use terms::Field;
 
 impl CompactDoc {
-    /// The binary form of the pairs of stored fields, pre-tokenised texts as texts. `deserialize` makes the
-    /// document of these pairs of it where no value nests more than 128 deep.
+    /// Encodes the pairs of stored fields in the binary form, pre-tokenised texts as texts. `deserialize` decodes the
+    /// document of these pairs where no value nests more than 128 deep.
     pub fn serialize(&self, alloc: Global, schema: &Schema) -> Result<Vec<u8>, AllocError>
         ensures bytes { IfOk result (λ bytes. bytes.items ≡ document_bytes (stored_pairs schema.now self.now)) }
         ensures read_back { AllByRecursion (λ p. nesting p.1 ≤ max_nesting) self.now → read_document (document_bytes (stored_pairs schema.now self.now)) ≡ Some (stored_pairs schema.now self.now) }
@@ -33,7 +33,7 @@ impl CompactDoc {
         Ok(bytes)
     }
 
-    /// How many bytes its pairs take in memory, and ten for their count. No schema's binary form of it is longer.
+    /// Returns how many bytes the pairs take in memory, and ten for their count. No schema's binary form is longer.
     pub fn serialized_at_most(&self) -> usize
         ensures bytes { result ≡ length (held_pairs self.now) + 10 }
         ensures most { (schema : schemas.Schema) → length (document_bytes (stored_pairs schema self.now)) ≤ result }
@@ -42,7 +42,7 @@ impl CompactDoc {
         bytes.len() + 10
     }
 
-    // How many pairs are of stored fields.
+    // Returns how many pairs are of stored fields.
     fn stored_count(&self, schema: &Schema) -> usize
         ensures count { result ≡ length (stored_pairs schema.now self.now) }
         ensures pairs { AllByRecursion (IsGoodPair true deepest) self.now }
@@ -70,7 +70,7 @@ impl CompactDoc {
     }
 }
 
-/// Whether there is a field of that number, and its values come back with their documents.
+/// Whether the schema has `field`, and its values come back with their documents.
 pub(crate) fn is_stored(schema: &Schema, field: Field) -> bool
     ensures { result ≡ field_has (λ e. e.stored) schema.now field }
 {

@@ -6,7 +6,7 @@ ghost use Rattle.definitions.specs.Calls.{has_unknown_field};
 use crate::compact_doc::CompactDoc;
 use schema::Schema;
 
-/// Whether there is a value of a field that the schema lacks.
+/// Whether `doc` has a value of a field that the schema lacks.
 pub fn has_unknown_field(schema: &Schema, doc: &CompactDoc) -> bool
     ensures { result ≡ has_unknown_field schema.now doc.now }
 {

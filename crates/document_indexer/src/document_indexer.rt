@@ -1,4 +1,4 @@
-//! Indexes documents.
+//! The indexing of documents.
 
 ghost use Rattle.std.specs.Prelude.{[], ◌++◌, ◌∷◌, ◌≡◌, IfErr, IfOk, List, OnOk, length};
 ghost use Rattle.std.specs.List.{AllByRecursion};
@@ -24,19 +24,19 @@ use postings_writer::{InvertedIndexSerializer, PostingsWriter};
 use schema::{Schema, length_fields};
 use std::alloc::{AllocError, Global};
 
-/// Indexes documents, numbered from 0: the terms of their values, by the types of their fields, and the lengths of
-/// their fields. Each call is given the schema and the analyzer that all of them are indexed by. After a refused call
-/// what was recorded is of no use.
+/// An indexer of documents, numbered from 0: of the terms of their values, by the types of their fields, and of the
+/// lengths of their fields. Each call is given the schema and the analyzer that all of them are indexed by. After a
+/// refused call what was recorded is of no use.
 #[derive(Drop)]
 pub struct DocumentIndexer {
     context: IndexingContext,
-    // Of the document that was indexed last, a length for each field.
+    // The length of each field in the document that was indexed last.
     lengths: Vec<u32>,
     norms: FieldNormsWriter,
 }
 
 impl DocumentIndexer {
-    /// No document is indexed yet.
+    /// Returns an indexer for the fields of `schema`, with no document indexed.
     pub fn for_schema(alloc: Global, schema: &Schema) -> Result<DocumentIndexer, AllocError>
         ensures { (analyze : definitions.Analyzer) → IfOk result (λ indexer. HasIndexed schema.now analyze indexer []) }
     {
@@ -50,7 +50,7 @@ impl DocumentIndexer {
         })
     }
 
-    /// Indexes one more document.
+    /// Indexes `doc` as the next document.
     pub fn add<A: Analyzer>(
         &mut self,
         schema: &Schema,
@@ -74,7 +74,7 @@ impl DocumentIndexer {
         Ok(())
     }
 
-    /// How many documents are indexed.
+    /// Returns the number of documents that are indexed.
     pub fn num_docs(&self) -> u32
         ensures { (schema : schemas.Schema) (analyze : definitions.Analyzer) (docs : List Document) → HasIndexed schema analyze self.now docs
             → result ≡ length docs }
@@ -82,14 +82,14 @@ impl DocumentIndexer {
         self.context.doc()
     }
 
-    /// What is recorded.
+    /// Returns what is recorded.
     pub fn postings_writer(&self) -> &PostingsWriter
         ensures { result.now ≡ writer_of self.now }
     {
         self.context.postings_writer()
     }
 
-    /// The sections of terms, postings, positions and lengths of the documents.
+    /// Returns the sections of terms, postings, positions and lengths of the documents.
     pub fn serialize(
         &self,
         alloc: Global,
@@ -114,7 +114,7 @@ impl DocumentIndexer {
         Ok((terms, postings, positions, norms))
     }
 
-    /// The sections of terms, postings and positions, behind the section of lengths.
+    /// Returns the sections of terms, postings and positions, given that of lengths, `norms`.
     fn serialize_terms(
         &self,
         alloc: Global,

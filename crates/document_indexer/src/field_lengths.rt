@@ -9,7 +9,7 @@ use fieldnorms::FieldNormsWriter;
 use std::alloc::AllocError;
 use terms::Field;
 
-/// Leaves a length of 0 for each of a given number of fields.
+/// Sets `lengths` to a length of 0 for each of `num_fields` fields.
 pub(crate) fn begin_lengths(lengths: &mut Vec<u32>, num_fields: usize) -> Result<(), AllocError>
     ensures { OnOk result (lengths.new.items ≡ replicate num_fields 0) }
 {
@@ -17,7 +17,7 @@ pub(crate) fn begin_lengths(lengths: &mut Vec<u32>, num_fields: usize) -> Result
     lengths.resize(num_fields, 0)
 }
 
-/// Adds to the length of a field. A field that has none keeps none.
+/// Adds `len` to the length of `field`; a field that has none keeps none.
 pub(crate) fn add_length(lengths: &mut Vec<u32>, field: Field, len: u32)
     ensures { lengths.new.items ≡ set lengths.old.items field (cut (slice_index_or lengths.old.items field 0 + len)) }
 {
@@ -27,7 +27,7 @@ pub(crate) fn add_length(lengths: &mut Vec<u32>, field: Field, len: u32)
     }
 }
 
-/// Keeps the lengths of a document behind those of the documents before it.
+/// Appends the lengths of `doc` to those of the documents before it.
 pub(crate) fn record_lengths(
     norms: &mut FieldNormsWriter,
     doc: u32,

@@ -17,7 +17,7 @@ use document_values::CompactDocValue;
 use schema::Schema;
 use terms::{Field, Type};
 
-/// Records the terms of a document, value after value, and leaves the lengths of its fields.
+/// Records the terms of `doc`, value after value, and sets `lengths` to the lengths of its fields.
 pub(crate) fn index_document<A: Analyzer>(
     indexer: &mut IndexingContext,
     schema: &Schema,
@@ -38,8 +38,7 @@ pub(crate) fn index_document<A: Analyzer>(
     Ok(())
 }
 
-/// Records the terms of a value, if the schema has its field and that is indexed, and answers what the value adds to
-/// the length of that field.
+/// Records the terms of a value, if its field is known and indexed; returns what it adds to the field's length.
 fn index_field_value<A: Analyzer>(
     indexer: &mut IndexingContext,
     schema: &Schema,

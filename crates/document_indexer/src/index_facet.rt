@@ -31,7 +31,7 @@ pub(crate) fn index_facet(
     }
 }
 
-/// Records what stands before each separator of a facet's text, after the empty prefix and before the whole text.
+/// Records the empty prefix, the text before each separator, and then the whole text.
 fn index_prefixes(
     indexer: &mut IndexingContext,
     schema: &Schema,

@@ -18,7 +18,7 @@ use document_values::{CompactDocArrayIter, CompactDocObjectIter, CompactDocValue
 use schema::{FieldEntry, Schema};
 use terms::{FastValue, Field, has_zero};
 
-/// Records the terms of a value of a JSON field: of each leaf those on its path.
+/// Records the terms of a value of a JSON field: for each leaf those on its path.
 pub(crate) fn index_json<A: Analyzer>(
     indexer: &mut IndexingContext,
     schema: &Schema,
@@ -41,7 +41,7 @@ pub(crate) fn index_json<A: Analyzer>(
     index_leaves(indexer, analyzer, &json_field, &mut keys, value)
 }
 
-/// Records the terms of a value at these keys.
+/// Records the terms of `value` at `keys`.
 #[cycle(leaves)]
 fn index_leaves<'a, A: Analyzer>(
     indexer: &mut IndexingContext,
@@ -75,7 +75,7 @@ fn index_leaves<'a, A: Analyzer>(
     }
 }
 
-/// Records the terms of values that share their keys.
+/// Records the terms of `values`, all at `keys`.
 #[cycle(leaves)]
 fn index_values<'a, A: Analyzer>(
     indexer: &mut IndexingContext,
@@ -95,7 +95,7 @@ fn index_values<'a, A: Analyzer>(
     Ok(())
 }
 
-/// Records the terms of members, each at its own key behind these.
+/// Records the terms of `members`, each at its own key after `keys`.
 #[cycle(leaves)]
 fn index_members<'a, A: Analyzer>(
     indexer: &mut IndexingContext,
@@ -115,7 +115,7 @@ fn index_members<'a, A: Analyzer>(
     Ok(())
 }
 
-/// Records the terms of a member. There is none under a key with U+0000.
+/// Records the terms of a member; none if its key has U+0000.
 #[cycle(leaves)]
 fn index_member<'a, A: Analyzer>(
     indexer: &mut IndexingContext,
@@ -139,7 +139,7 @@ fn index_member<'a, A: Analyzer>(
     Ok(())
 }
 
-/// Records a number at these keys, which is an i64 where it fits.
+/// Records `n` at `keys`, as an i64 if it fits.
 fn index_whole_number(
     indexer: &mut IndexingContext,
     json_field: &JsonField<'_>,
@@ -157,7 +157,7 @@ fn index_whole_number(
     }
 }
 
-/// Records a value of eight bytes at these keys.
+/// Records a value of eight bytes at `keys`.
 fn index_fast_value<T: FastValue>(
     indexer: &mut IndexingContext,
     json_field: &JsonField<'_>,

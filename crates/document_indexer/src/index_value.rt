@@ -43,7 +43,7 @@ pub(crate) fn index_value<A: Analyzer>(
     }
 }
 
-/// Records the tokens of a text, and answers how many were kept. A pre-tokenised text has its own.
+/// Records the tokens of a text, and returns how many were kept. A pre-tokenised text has its own.
 pub(crate) fn index_text<A: Analyzer>(
     indexer: &mut IndexingContext,
     schema: &Schema,
@@ -154,7 +154,7 @@ fn index_bytes(
     }
 }
 
-/// Records an address.
+/// Records an IP address.
 fn index_ip_addr(
     indexer: &mut IndexingContext,
     schema: &Schema,

@@ -1,4 +1,4 @@
-//! What the indexing of a document works on: the terms of its values are written into one buffer, and recorded.
+//! The state of the indexing of a document: the terms of its values are written into one buffer, and recorded.
 
 ghost use Rattle.std.specs.Prelude.{[], ◌++◌, ◌+◌, ◌<◌, ◌∷◌, ◌≡◌, IfErr, IfOk, List, OnOk, length, map, ℕ};
 ghost use Rattle.common.specs.Token.{token_of};
@@ -22,8 +22,8 @@ use std::alloc::{AllocError, Global};
 use std::marker::Model;
 use terms::{Field, Type, push_json_path, push_term_header};
 
-/// What is recorded, where the next texts begin, and the document that is indexed. Each term is written into one
-/// buffer, and the tokens of each text into another.
+/// What is recorded, the starts of the next texts, and the number of the document that is being indexed. Each term is
+/// written into one buffer, and the tokens of each text into another.
 #[derive(Drop)]
 pub(crate) struct IndexingContext {
     alloc: Global,
@@ -43,7 +43,7 @@ impl Model for IndexingContext {
 }
 
 impl IndexingContext {
-    /// Nothing is recorded, and the first document is to be indexed.
+    /// Returns a context with nothing recorded, before the first document.
     pub(crate) fn for_schema(alloc: Global, schema: &Schema) -> Result<IndexingContext, AllocError>
         ensures stands { IfOk result (λ c. Stands schema.now c.writer []) }
         ensures docs { IfOk result (λ c. c.writer.num_docs ≡ 0) }
@@ -60,26 +60,26 @@ impl IndexingContext {
         })
     }
 
-    /// Where memory is taken from.
+    /// Returns the allocator.
     pub(crate) fn alloc(&self) -> Global {
         self.alloc
     }
 
-    /// The document that is indexed.
+    /// Returns the document that is being indexed.
     pub(crate) fn doc(&self) -> u32
         ensures { result ≡ self.now.doc }
     {
         self.doc
     }
 
-    /// What is recorded.
+    /// Returns what is recorded.
     pub(crate) fn postings_writer(&self) -> &PostingsWriter
         ensures { result.now ≡ self.now.writer }
     {
         &self.postings_writer
     }
 
-    /// The next document follows.
+    /// Moves on to the next document.
     pub(crate) fn end_document(&mut self)
         requires { self.old.doc < terminated }
         ensures { self.new ≡ record self.old { doc = self.old.doc + 1 } }
@@ -87,7 +87,7 @@ impl IndexingContext {
         self.doc += 1;
     }
 
-    /// Records the term of a value, by its bytes.
+    /// Records the term of a value of type `kind`, by its bytes.
     pub(crate) fn index_term(
         &mut self,
         schema: &Schema,
@@ -106,7 +106,8 @@ impl IndexingContext {
             .subscribe(schema, self.doc, &self.term_buffer, 0)
     }
 
-    /// Records the tokens of a text of a text field, but for those that are too long, and answers how many that is.
+    /// Records the tokens of a text of a text field, except those that are too long, and returns how many were
+    /// recorded.
     pub(crate) fn index_text<A: Analyzer>(
         &mut self,
         schema: &Schema,
@@ -136,7 +137,7 @@ impl IndexingContext {
         )
     }
 
-    /// The same of a text that comes with its tokens.
+    /// Like `index_text`, but for a text that comes with its tokens.
     pub(crate) fn index_tokens(
         &mut self,
         schema: &Schema,
@@ -164,7 +165,7 @@ impl IndexingContext {
         )
     }
 
-    /// Records the term of a value at these keys of a JSON field, by the value's type and bytes.
+    /// Records the term of a value at `keys` of a JSON field, by the value's type and bytes.
     pub(crate) fn index_leaf(
         &mut self,
         json_field: &JsonField<'_>,
@@ -184,7 +185,7 @@ impl IndexingContext {
             .subscribe(json_field.schema, self.doc, &self.term_buffer, 0)
     }
 
-    /// Records the tokens of a text at these keys of a JSON field, but for those that are too long.
+    /// Records the tokens of a text at `keys` of a JSON field, except those that are too long.
     pub(crate) fn index_path_text<A: Analyzer>(
         &mut self,
         analyzer: &A,
@@ -213,7 +214,7 @@ impl IndexingContext {
     }
 }
 
-/// Leaves in the buffer the first bytes of the terms of a type's values at these keys of a JSON field.
+/// Sets `term_buffer` to the first bytes of the terms of values of type `kind` at `keys` of a JSON field.
 fn begin_leaf(
     term_buffer: &mut Vec<u8>,
     json_field: &JsonField<'_>,
@@ -228,8 +229,7 @@ fn begin_leaf(
     Ok(())
 }
 
-/// Records the tokens of a text of the document, but for those that are too long, and answers how many that is. The
-/// term's buffer holds the first bytes of their terms.
+/// Records the tokens after the first bytes in `term_buffer`, except too long ones; returns how many were recorded.
 fn record_text(
     alloc: Global,
     schema: &Schema,

@@ -1,4 +1,4 @@
-//! Where texts begin.
+//! The starts of texts.
 
 ghost use Rattle.std.specs.Prelude.{[], ◌≡◌, List, OnOk, Some, bytes_eq, if◌then◌else◌, ℕ};
 ghost use Rattle.std.specs.Map.{lookup};
@@ -8,10 +8,10 @@ use std::alloc::{AllocError, Global};
 use std::collections::HashMap;
 use std::marker::Model;
 
-/// How many positions stand between two texts of one field or path.
+/// The number of positions between two texts of one field or path.
 pub(crate) const POSITION_GAP: u32 = 1;
 
-/// By the first bytes of a text's terms, the document that had such a text last, and where its next one begins.
+/// A map from the first bytes of a text's terms to the last document with such a text, and the start of its next one.
 #[derive(Drop)]
 pub(crate) struct IndexingPositions {
     starts: HashMap<Vec<u8>, (u32, u32)>,
@@ -27,7 +27,7 @@ impl Model for IndexingPositions {
 }
 
 impl IndexingPositions {
-    /// No text.
+    /// Returns a map without texts.
     pub(crate) fn new(alloc: Global) -> IndexingPositions
         ensures { result ≡ [] }
     {
@@ -36,7 +36,7 @@ impl IndexingPositions {
         }
     }
 
-    /// Where the document's next text behind these bytes begins.
+    /// Returns the start of the next text of `doc` whose terms begin with `prefix`.
     pub(crate) fn start_of(&self, doc: u32, prefix: &[u8]) -> u32
         ensures { result ≡ start_of doc prefix.now self.now }
     {
@@ -46,7 +46,7 @@ impl IndexingPositions {
         }
     }
 
-    /// Keeps where the document's next text behind these bytes begins.
+    /// Sets the start of the next text of `doc` whose terms begin with `prefix`.
     pub(crate) fn set_start(
         &mut self,
         alloc: Global,

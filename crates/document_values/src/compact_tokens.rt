@@ -1,4 +1,4 @@
-//! Pre-tokenised texts, lent from a document's bytes.
+//! Pre-tokenised texts, borrowed from a document's bytes.
 
 ghost use Rattle.std.specs.Prelude.{◌≡◌, IfOk, Some, map};
 ghost use Rattle.common.specs.Token.{token_of};
@@ -31,7 +31,7 @@ impl<'a> Model for CompactDocTokens<'a> {
 }
 
 impl<'a> CompactDocTokens<'a> {
-    /// A text, with the tokens that begin these bytes.
+    /// Returns `text` with the tokens at the start of `bytes`.
     pub(crate) fn new(text: &'a str, bytes: &'a [u8]) -> CompactDocTokens<'a>
         requires { AreTokensAt bytes.now }
         ensures { result ≡ (text.now, tokens_at bytes.now) }
@@ -39,19 +39,19 @@ impl<'a> CompactDocTokens<'a> {
         CompactDocTokens { text, bytes }
     }
 
-    /// The text.
+    /// Returns the text.
     pub fn text(&self) -> &'a str
         ensures { result.now ≡ self.now.0 }
     {
         self.text
     }
 
-    /// The text and its tokens, copied.
+    /// Copies the text and its tokens.
     pub fn to_pre_tokenized_string(&self, alloc: Global) -> Result<PreTokenizedString, AllocError>
         ensures { IfOk result (λ owned. owned ≡ self.now) }
     {
         let text = String::from_str(alloc, self.text)?;
-        // Tokens stand there and their positions don't fall, so these are refused for want of memory alone.
+        // Tokens are there and their positions don't fall, so these are refused only when out of memory.
         let Ok(tokens) = own_tokens(alloc, self.bytes) else {
             return Err(AllocError);
         };
@@ -62,7 +62,7 @@ impl<'a> CompactDocTokens<'a> {
     }
 }
 
-/// The tokens that begin these bytes.
+/// Copies the tokens at the start of `bytes`.
 fn own_tokens(alloc: Global, bytes: &[u8]) -> Result<Vec<Token>, Fault>
     ensures { IfOk result (λ tokens. map token_of tokens.items ≡ tokens_at bytes.now) }
 {
@@ -80,7 +80,7 @@ fn own_tokens(alloc: Global, bytes: &[u8]) -> Result<Vec<Token>, Fault>
     Ok(tokens)
 }
 
-/// The token that bytes begin with, and what follows it. None stands before `least`.
+/// Copies the first token, whose position must not be below `least`; returns it, and the bytes after it.
 fn own_token(alloc: Global, least: u64, bytes: &[u8]) -> Result<(Token, &[u8]), Fault>
     ensures { IfOk result (λ p. take_token least bytes.now ≡ Some (token_of p.0, p.1.now)) }
 {

@@ -1,10 +1,10 @@
-//! A value of a document, lent from the document's bytes.
+//! A value of a document, borrowed from the document's bytes.
 
 use crate::compact_tokens::CompactDocTokens;
 use crate::iterators::{CompactDocArrayIter, CompactDocObjectIter};
 use terms::DateTime;
 
-/// A value of a document. Texts and bytes are lent, and arrays and objects are read item by item.
+/// A value of a document. Texts and bytes are borrowed, and arrays and objects are decoded item by item.
 #[derive(Drop)]
 pub enum CompactDocValue<'a> {
     /// No value.
@@ -25,10 +25,10 @@ pub enum CompactDocValue<'a> {
     Facet(&'a str),
     /// A byte string.
     Bytes(&'a [u8]),
-    /// An address by its 128 bits; one of IPv4 is mapped into IPv6.
+    /// An IP address by its 128 bits; one of IPv4 is mapped into IPv6.
     IpAddr(u128),
     /// Values, in order.
     Array(CompactDocArrayIter<'a>),
-    /// Values with keys, in order. A key may stand there more than once.
+    /// Values with keys, in order. A key may occur more than once.
     Object(CompactDocObjectIter<'a>),
 }

@@ -15,7 +15,7 @@ use common::{take_bytes, take_text, take_u64, take_vint};
 use definitions::Fault;
 use terms::DateTime;
 
-/// A value that holds no others, or how many it holds.
+/// A leaf, or the number of values or members of an array or object.
 #[derive(Drop)]
 pub(crate) enum Head<'a> {
     Leaf(CompactDocValue<'a>),
@@ -23,7 +23,8 @@ pub(crate) enum Head<'a> {
     Object(u64),
 }
 
-/// The head that bytes begin with, and what follows it. Tokens are taken where they may stand.
+/// Decodes the head at the start of `bytes`; returns it, and the bytes after it. A pre-tokenised text is refused
+/// unless `tokens`.
 pub(crate) fn take_head(tokens: bool, bytes: &[u8]) -> Result<(Head<'_>, &[u8]), Fault>
     ensures ok { IfOk result (λ p. take_head tokens bytes.now ≡ Some (head_of p.0, p.1.now)) }
     ensures err { IfErr result (λ fault. (fault ≡ faults.Damaged None) × (take_head tokens bytes.now ≡ None)) }
@@ -34,7 +35,7 @@ pub(crate) fn take_head(tokens: bool, bytes: &[u8]) -> Result<(Head<'_>, &[u8]),
     }
 }
 
-/// What follows a code.
+/// Decodes what follows a code; returns it, and the bytes after it.
 fn take_coded(tokens: bool, code: u8, bytes: &[u8]) -> Result<(Head<'_>, &[u8]), Fault>
     ensures ok { IfOk result (λ p. take_coded tokens code bytes.now ≡ Some (head_of p.0, p.1.now)) }
     ensures err { IfErr result (λ fault. (fault ≡ faults.Damaged None) × (take_coded tokens code bytes.now ≡ None)) }
@@ -157,7 +158,7 @@ fn tokens_leaf(tokens: bool, bytes: &[u8]) -> Result<(Head<'_>, &[u8]), Fault>
     Ok((Head::Leaf(CompactDocValue::PreTokStr(found)), rest))
 }
 
-/// What follows tokens.
+/// Skips the tokens at the start of `bytes`; returns the bytes after them.
 fn skip_tokens(bytes: &[u8]) -> Result<&[u8], Fault>
     ensures ok { IfOk result (λ rest. skip_tokens bytes.now ≡ Some rest.now) }
     ensures err { IfErr result (λ fault. (fault ≡ faults.Damaged None) × (skip_tokens bytes.now ≡ None)) }
@@ -174,7 +175,7 @@ fn skip_tokens(bytes: &[u8]) -> Result<&[u8], Fault>
     Ok(rest)
 }
 
-/// The place of the token that bytes begin with, and what follows it. No token stands before `least`.
+/// Skips the first token, whose position must not be below `least`; returns the position, and the bytes after it.
 fn skip_token(least: u64, bytes: &[u8]) -> Result<(u64, &[u8]), Fault>
     ensures ok { IfOk result (λ p. taken_map (λ t. t.position) (take_token least bytes.now) ≡ Some (p.0, p.1.now)) }
     ensures err { IfErr result (λ fault. (fault ≡ faults.Damaged None) × (take_token least bytes.now ≡ None)) }

@@ -1,4 +1,4 @@
-//! Values put as a document holds them: as in the binary form, but pre-tokenised texts keep their tokens.
+//! Values encoded as a document holds them: as in the binary form, but pre-tokenised texts keep their tokens.
 
 ghost use Rattle.std.specs.Prelude.{◌++◌, ◌<◌, ◌^◌, ◌≡◌, OnOk, length, map};
 ghost use Rattle.common.specs.Token.{token_of};
@@ -35,7 +35,7 @@ pub(crate) fn put_owned(out: &mut Vec<u8>, value: &OwnedValue) -> Result<(), All
     }
 }
 
-/// Appends an array of these values.
+/// Appends an array of `values`.
 #[cycle(put_owned)]
 fn put_owned_values(out: &mut Vec<u8>, values: &[OwnedValue]) -> Result<(), AllocError>
     ensures put { OnOk result (out.new.items ≡ out.old.items ++ held_bytes (array (to_values (owned_values values.now)))) }
@@ -49,7 +49,7 @@ fn put_owned_values(out: &mut Vec<u8>, values: &[OwnedValue]) -> Result<(), Allo
     Ok(())
 }
 
-/// Appends an object of these members.
+/// Appends an object of `members`.
 #[cycle(put_owned)]
 pub(crate) fn put_owned_members(
     out: &mut Vec<u8>,
@@ -115,7 +115,7 @@ fn put_byte_string(out: &mut Vec<u8>, string: &[u8]) -> Result<(), AllocError>
     put_sized(out, 4, string)
 }
 
-/// Appends an address.
+/// Appends an IP address.
 fn put_ip_addr(out: &mut Vec<u8>, address: u128) -> Result<(), AllocError>
     ensures put { OnOk result (out.new.items ≡ out.old.items ++ held_bytes (ip_addr address)) }
     ensures held { OnOk result (IsHeldValue (ip_addr address)) }
@@ -135,7 +135,7 @@ pub(crate) fn put_pre_tokenized(
     put_tokens(out, text.tokens())
 }
 
-/// Appends how many tokens there are, and these.
+/// Appends the number of `tokens`, and these.
 fn put_tokens(out: &mut Vec<u8>, tokens: &[Token]) -> Result<(), AllocError>
     ensures put { OnOk result (out.new.items ≡ out.old.items ++ tokens_bytes (map token_of tokens.now)) }
     ensures sized { OnOk result (AreSizedTokens (map token_of tokens.now)) }

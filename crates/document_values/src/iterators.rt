@@ -1,4 +1,4 @@
-//! What stands in arrays and objects, one after another.
+//! Iterators over arrays and objects, and over the pairs of a document.
 
 ghost use Rattle.std.specs.Prelude.{[], ◌≡◌, ◌∷◌, length};
 ghost use Rattle.std.specs.Iterator.{YieldsFirstBy, item_count};
@@ -39,7 +39,7 @@ impl<'a> Model for CompactDocArrayIter<'a> {
 }
 
 impl<'a> CompactDocArrayIter<'a> {
-    /// So many values, one after another from the first byte on.
+    /// Returns an iterator over `left` values, one after another from the first byte on.
     pub(crate) fn new(
         tokens: bool,
         depth: usize,
@@ -57,7 +57,7 @@ impl<'a> CompactDocArrayIter<'a> {
         }
     }
 
-    /// How many are left.
+    /// Returns how many values are left.
     pub(crate) fn count_left(&self) -> u64
         ensures { result ≡ length self.now }
     {
@@ -110,7 +110,7 @@ impl<'a> Model for CompactDocObjectIter<'a> {
 }
 
 impl<'a> CompactDocObjectIter<'a> {
-    /// So many members, one after another from the first byte on.
+    /// Returns an iterator over `left` members, one after another from the first byte on.
     pub(crate) fn new(
         tokens: bool,
         depth: usize,
@@ -128,7 +128,7 @@ impl<'a> CompactDocObjectIter<'a> {
         }
     }
 
-    /// How many are left.
+    /// Returns how many members are left.
     pub(crate) fn count_left(&self) -> u64
         ensures { result ≡ length self.now }
     {
@@ -176,7 +176,7 @@ impl<'a> Model for FieldValueIterRef<'a> {
 }
 
 impl<'a> FieldValueIterRef<'a> {
-    /// So many pairs, one after another from the first byte on.
+    /// Returns an iterator over `left` pairs, one after another from the first byte on.
     pub fn new(left: usize, bytes: &'a [u8]) -> FieldValueIterRef<'a>
         ensures { result ≡ pairs_at left bytes.now }
     {
@@ -224,7 +224,7 @@ impl<'a> Model for ValuesOfField<'a> {
 }
 
 impl<'a> ValuesOfField<'a> {
-    /// The values of that field among these pairs.
+    /// Returns an iterator over the values of `field` among `pairs`.
     pub fn new(field: Field, pairs: FieldValueIterRef<'a>) -> ValuesOfField<'a>
         ensures { result ≡ values_of field pairs.entry }
     {

@@ -12,8 +12,8 @@ use serde_json::{Map, Value as Json};
 use std::alloc::{AllocError, Global};
 use values_json::{address_text, bytes_text, date_text};
 
-/// The value as JSON: dates, facets, byte strings and addresses as texts, a pre-tokenised text as its text. Of the
-/// members of one key the last stands.
+/// Returns the value as JSON: dates, facets, byte strings and IP addresses as texts, a pre-tokenised text as its text.
+/// Of the members with one key the last is kept.
 #[cycle(print)]
 pub fn value_to_json(alloc: Global, value: &OwnedValue) -> Result<Json, AllocError>
     ensures { IfOk result (λ json. view json ≡ printed (owned_value value.now)) }
@@ -37,7 +37,7 @@ pub fn value_to_json(alloc: Global, value: &OwnedValue) -> Result<Json, AllocErr
     }
 }
 
-/// The values as JSON, in order.
+/// Returns the values as JSON, in order.
 #[cycle(print)]
 pub fn values_to_json(alloc: Global, values: &[OwnedValue]) -> Result<Vec<Json>, AllocError>
     ensures { IfOk result (λ items. items_view items.items ≡ printed_list (owned_values values.now)) }
@@ -49,7 +49,7 @@ pub fn values_to_json(alloc: Global, values: &[OwnedValue]) -> Result<Vec<Json>,
     Ok(items)
 }
 
-/// The members as JSON, put one by one.
+/// Returns the members as JSON, inserted one by one.
 #[cycle(print)]
 fn members_to_json(
     alloc: Global,

@@ -1,4 +1,4 @@
-//! JSON values as parts of a document.
+//! JSON values encoded as parts of a document.
 
 ghost use Rattle.std.specs.Prelude.{◌++◌, ◌<◌, ◌^◌, ◌≡◌, ◌∷◌, IsUtf8, IfOk, OnOk, length, true};
 ghost use Rattle.definitions.specs.NumberCodes.{sized_bytes, vint_bytes};
@@ -16,7 +16,7 @@ use serde_json::{Map, Number, Value as Json};
 use std::alloc::{AllocError, Global};
 use terms::Field;
 
-/// A field with an object.
+/// Encodes a pair of `field` and an object of `members`.
 pub fn json_object_pair(
     alloc: Global,
     field: Field,
@@ -31,7 +31,7 @@ pub fn json_object_pair(
     Ok(pair)
 }
 
-/// Appends the value that JSON is inside a JSON field. A float would be null.
+/// Appends the value of `json` as it is inside a JSON field. A float would be null.
 #[cycle(put_json)]
 fn put_json(out: &mut Vec<u8>, json: &Json) -> Result<(), AllocError>
     ensures put { OnOk result (out.new.items ≡ out.old.items ++ held_bytes (json_value (view json.now))) }
@@ -69,7 +69,7 @@ fn put_text(out: &mut Vec<u8>, text: &str) -> Result<(), AllocError>
     value_writer::put_sized(out, 0, text.as_bytes())
 }
 
-/// Appends a code and how many parts follow it.
+/// Appends `code`, and how many parts follow it.
 fn put_head(out: &mut Vec<u8>, code: u8, count: usize) -> Result<(), AllocError>
     ensures put { OnOk result (out.new.items ≡ out.old.items ++ code ∷ vint_bytes count) }
     ensures few { count < 2 ^ 64 }
@@ -78,7 +78,7 @@ fn put_head(out: &mut Vec<u8>, code: u8, count: usize) -> Result<(), AllocError>
     put_vint(out, count as u64)
 }
 
-/// Appends an array of these values.
+/// Appends an array of `items`.
 #[cycle(put_json)]
 fn put_array(out: &mut Vec<u8>, items: &[Json]) -> Result<(), AllocError>
     ensures put { OnOk result (out.new.items ≡ out.old.items ++ held_bytes (values.array (json_values (items_view items.now)))) }
@@ -89,7 +89,7 @@ fn put_array(out: &mut Vec<u8>, items: &[Json]) -> Result<(), AllocError>
     Ok(())
 }
 
-/// Appends each of some values.
+/// Appends each of `items`.
 #[cycle(put_json)]
 fn put_items(out: &mut Vec<u8>, items: &[Json]) -> Result<(), AllocError>
     ensures put { OnOk result (out.new.items ≡ out.old.items ++ held_values (json_values (items_view items.now))) }
@@ -102,7 +102,7 @@ fn put_items(out: &mut Vec<u8>, items: &[Json]) -> Result<(), AllocError>
     Ok(())
 }
 
-/// Appends an object of these members.
+/// Appends an object of `members`.
 #[cycle(put_json)]
 fn put_object(out: &mut Vec<u8>, members: &Map<String, Json>) -> Result<(), AllocError>
     ensures put { OnOk result (out.new.items ≡ out.old.items ++ held_bytes (values.object (json_members (members_view members.now.entries)))) }
@@ -113,7 +113,7 @@ fn put_object(out: &mut Vec<u8>, members: &Map<String, Json>) -> Result<(), Allo
     Ok(())
 }
 
-/// Appends each of some members.
+/// Appends each of `members`.
 #[cycle(put_json)]
 fn put_members(out: &mut Vec<u8>, members: &Map<String, Json>) -> Result<(), AllocError>
     ensures put { OnOk result (out.new.items ≡ out.old.items ++ held_members (json_members (members_view members.now.entries))) }

@@ -1,4 +1,4 @@
-//! Values that a document lends, written as JSON.
+//! Borrowed values, written as JSON.
 
 ghost use Rattle.std.specs.Prelude.{◌++◌, ◌≡◌, IfOk, OnOk, string_bytes};
 ghost use Rattle.definitions.specs.Facets.{path_of};
@@ -18,7 +18,7 @@ use std::collections::BTreeMap;
 use terms::Facet;
 use values_json::{address_text, bytes_text, date_text};
 
-/// Writes a value: dates, facets, byte strings and addresses as texts, a pre-tokenised text as its text.
+/// Writes a value: dates, facets, byte strings and IP addresses as texts, a pre-tokenised text as its text.
 #[cycle(write_json)]
 pub fn write_value(
     alloc: Global,
@@ -81,7 +81,7 @@ fn write_object(
     Ok(())
 }
 
-/// The members in the order of their keys' bytes. Of the members of one key the last stands.
+/// Sorts the members by the bytes of their keys. Of the members with one key the last is kept.
 fn by_key<'a>(
     alloc: Global,
     members: CompactDocObjectIter<'a>,
@@ -95,7 +95,7 @@ fn by_key<'a>(
     Ok(sorted)
 }
 
-/// The path of the facet whose steps a text parts by U+0000.
+/// Returns the path of the facet whose steps are separated by U+0000 in `steps`.
 fn path_text(alloc: Global, steps: &str) -> Result<String, AllocError>
     ensures { IfOk result (λ path. string_bytes path ≡ path_of (steps_in steps.now)) }
 {

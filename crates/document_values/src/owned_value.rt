@@ -24,10 +24,10 @@ pub enum OwnedValue {
     Facet(Facet),
     /// A byte string.
     Bytes(Vec<u8>),
-    /// An address by its 128 bits; one of IPv4 is mapped into IPv6.
+    /// An IP address by its 128 bits; one of IPv4 is mapped into IPv6.
     IpAddr(u128),
     /// Values, in order.
     Array(Vec<OwnedValue>),
-    /// Values with keys, in order. A key may stand there more than once.
+    /// Values with keys, in order. A key may occur more than once.
     Object(Vec<(String, OwnedValue)>),
 }

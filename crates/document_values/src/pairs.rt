@@ -1,4 +1,4 @@
-//! Pairs of a field and a value, as the bytes by which a document holds them.
+//! Pairs of a field and a value, encoded as a document holds them.
 
 ghost use Rattle.std.specs.Prelude.{[], ◌%◌, ◌++◌, ◌/◌, ◌<◌, ◌^◌, ◌∷◌, ◌≡◌, true, IfOk, OnErr, OnOk, length};
 ghost use Rattle.definitions.specs.NumberCodes.{sized_bytes, u32_bytes, u64_bytes};
@@ -15,7 +15,7 @@ use common::{PreTokenizedString, put_bytes, put_u32};
 use std::alloc::{AllocError, Global};
 use terms::Field;
 
-/// Appends the first bytes and then the second, or nothing.
+/// Appends `first` and then `second`, or nothing.
 pub fn append(heap: &mut Vec<u8>, first: &[u8], second: &[u8]) -> Result<(), AllocError>
     ensures ok { OnOk result (heap.new.items ≡ heap.old.items ++ (first.now ++ second.now)) }
     ensures err { OnErr result (heap.new.items ≡ heap.old.items) }
@@ -29,7 +29,7 @@ pub fn append(heap: &mut Vec<u8>, first: &[u8], second: &[u8]) -> Result<(), All
     Ok(())
 }
 
-/// Appends the first bytes, how many the second are, and these; or nothing.
+/// Appends `first`, the length of `second`, and `second`; or nothing.
 pub fn append_sized(heap: &mut Vec<u8>, first: [u8; 5], second: &[u8]) -> Result<(), AllocError>
     ensures ok { OnOk result (heap.new.items ≡ heap.old.items ++ (first ++ sized_bytes second.now)) }
     ensures err { OnErr result (heap.new.items ≡ heap.old.items) }
@@ -45,7 +45,7 @@ pub fn append_sized(heap: &mut Vec<u8>, first: [u8; 5], second: &[u8]) -> Result
     Ok(())
 }
 
-/// A field and a code, which stand before a value.
+/// Returns the bytes of `field` and `code`, which come before a value.
 pub fn value_head(field: Field, code: u8) -> [u8; 5]
     ensures head { result ≡ u32_bytes field ++ (code ∷ []) }
     ensures field { field < 2 ^ 32 }
@@ -54,7 +54,7 @@ pub fn value_head(field: Field, code: u8) -> [u8; 5]
     [first, second, third, fourth, code]
 }
 
-/// A field with a text and its tokens.
+/// Encodes a pair of `field` and a text with its tokens.
 pub fn tokens_pair(
     alloc: Global,
     field: Field,
@@ -70,7 +70,7 @@ pub fn tokens_pair(
     Ok(pair)
 }
 
-/// A field with a value.
+/// Encodes a pair of `field` and `value`.
 pub fn owned_pair(alloc: Global, field: Field, value: &OwnedValue) -> Result<Vec<u8>, AllocError>
     ensures pair { IfOk result (λ pair. pair.items ≡ held_pair (field, owned_value value.now)) }
     ensures good { IfOk result (λ _. IsGoodPair true deepest (field, owned_value value.now)) }
@@ -81,7 +81,7 @@ pub fn owned_pair(alloc: Global, field: Field, value: &OwnedValue) -> Result<Vec
     Ok(pair)
 }
 
-/// A field with an object of these members.
+/// Encodes a pair of `field` and an object of `members`.
 pub fn object_pair(
     alloc: Global,
     field: Field,
@@ -96,7 +96,7 @@ pub fn object_pair(
     Ok(pair)
 }
 
-/// A field with an address.
+/// Encodes a pair of `field` and an IP address.
 pub fn address_pair(alloc: Global, field: Field, address: u128) -> Result<Vec<u8>, AllocError>
     ensures pair { IfOk result (λ pair. pair.items ≡ u32_bytes field ++ (10 ∷ (u64_bytes (address % 2 ^ 64) ++ u64_bytes (address / 2 ^ 64)))) }
     ensures field { field < 2 ^ 32 }

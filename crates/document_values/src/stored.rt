@@ -10,7 +10,7 @@ use crate::iterators::{CompactDocArrayIter, CompactDocObjectIter};
 use crate::owned_value::OwnedValue;
 use std::alloc::{AllocError, Global};
 
-/// The value that a document lends, copied, with each pre-tokenised text in it as a text.
+/// Copies a borrowed value, with each pre-tokenised text in it as a text.
 #[cycle(store)]
 pub fn stored_value(alloc: Global, value: CompactDocValue<'_>) -> Result<OwnedValue, AllocError>
     ensures { IfOk result (λ stored. owned_value stored ≡ plain (value_of value.entry)) }
@@ -26,7 +26,7 @@ pub fn stored_value(alloc: Global, value: CompactDocValue<'_>) -> Result<OwnedVa
     }
 }
 
-/// The values of an array.
+/// Copies the values of an array.
 #[cycle(store)]
 fn stored_values(
     alloc: Global,
@@ -41,7 +41,7 @@ fn stored_values(
     Ok(stored)
 }
 
-/// The members of an object.
+/// Copies the members of an object.
 #[cycle(store)]
 fn stored_members(
     alloc: Global,

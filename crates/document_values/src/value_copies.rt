@@ -11,7 +11,7 @@ use std::alloc::{AllocError, Global};
 use terms::Facet;
 
 impl OwnedValue {
-    /// The value that a document lends, with its texts, bytes and parts copied.
+    /// Copies a borrowed value, with its texts, bytes and parts.
     pub fn from_compact(alloc: Global, lent: CompactDocValue<'_>) -> Result<OwnedValue, AllocError>
         ensures { IfOk result (λ owned. owned_value owned ≡ value_of lent.entry) }
     {

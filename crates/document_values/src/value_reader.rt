@@ -1,4 +1,4 @@
-//! Values taken from the bytes that hold them.
+//! Values decoded from the bytes that hold them.
 
 ghost use Rattle.std.specs.Prelude.{[], ◌≡◌, ◌∷◌, IfErr, IfOk, None, Some, suc};
 ghost use Rattle.definitions.specs.declared.fault.Fault.TheVariants as faults;
@@ -14,11 +14,11 @@ use definitions::Fault;
 /// Deeper than any value in memory.
 const DEEPEST: usize = 18446744073709551615;
 
-/// How deep values may nest that are indexed, or stand in the binary form.
+/// How deep values that are indexed, or in the binary form, may nest.
 pub const MAX_NESTING: usize = 128;
 
-/// The value that bytes begin with in the binary form, and what follows it. Bytes that begin with none are
-/// `Damaged`, and so is a value that nests more than 128 deep, which is refused before more is gone down.
+/// Decodes the value at the start of `bytes` in the binary form; returns it, and the bytes after it. Bytes that begin
+/// with none are `Damaged`, and so is a value that nests more than 128 deep, which is refused before going deeper.
 pub fn take_value(bytes: &[u8]) -> Result<(CompactDocValue<'_>, &[u8]), Fault>
     ensures ok { IfOk result (λ p. take_value bytes.now ≡ Some (value_of p.0, p.1.now)) }
     ensures err { IfErr result (λ fault. (fault ≡ faults.Damaged None) × (take_value bytes.now ≡ None)) }
@@ -26,7 +26,7 @@ pub fn take_value(bytes: &[u8]) -> Result<(CompactDocValue<'_>, &[u8]), Fault>
     take(false, MAX_NESTING, bytes)
 }
 
-/// The value that bytes begin with as a document holds it, and what follows it.
+/// Decodes the value at the start of `bytes` as a document holds it; returns it, and the bytes after it.
 #[tactic(auto, unfolding(layouts::specs::DocumentReading::take_any))]
 pub(crate) fn take_any(bytes: &[u8]) -> Result<(CompactDocValue<'_>, &[u8]), Fault>
     ensures ok { IfOk result (λ p. take_any bytes.now ≡ Some (value_of p.0, p.1.now)) }
@@ -35,7 +35,7 @@ pub(crate) fn take_any(bytes: &[u8]) -> Result<(CompactDocValue<'_>, &[u8]), Fau
     take(true, DEEPEST, bytes)
 }
 
-/// What follows a given number of pairs of the binary form.
+/// Skips `count` pairs of the binary form; returns the bytes after them.
 pub fn skip_pairs(count: u64, bytes: &[u8]) -> Result<&[u8], Fault>
     ensures ok { IfOk result (λ rest. skip_many (take_pair take_value) count bytes.now ≡ Some rest.now) }
     ensures err { IfErr result (λ fault. (fault ≡ faults.Damaged None) × (skip_many (take_pair take_value) count bytes.now ≡ None)) }
@@ -51,8 +51,8 @@ pub fn skip_pairs(count: u64, bytes: &[u8]) -> Result<&[u8], Fault>
     Ok(rest)
 }
 
-/// The value that bytes begin with, and what follows it. It nests at most `depth` deep, and is refused
-/// before more is gone down.
+/// Decodes the value at the start of `bytes`; returns it, and the bytes after it. It nests at most `depth` deep, and is
+/// refused before going deeper.
 #[cycle(take)]
 pub(crate) fn take(
     tokens: bool,
@@ -80,7 +80,7 @@ pub(crate) fn take(
     }
 }
 
-/// How deep values may nest inside of one.
+/// Returns how deep values may nest inside of one.
 fn inner(depth: usize) -> Result<usize, Fault>
     ensures ok { IfOk result (λ d. depth ≡ suc d) }
     ensures err { IfErr result (λ fault. (fault ≡ faults.Damaged None) × (depth ≡ 0)) }
@@ -88,7 +88,7 @@ fn inner(depth: usize) -> Result<usize, Fault>
     depth.checked_sub(1).ok_or(Fault::Damaged(None))
 }
 
-/// What follows a given number of values.
+/// Skips `count` values; returns the bytes after them.
 #[cycle(take)]
 fn skip_values(tokens: bool, depth: usize, count: u64, bytes: &[u8]) -> Result<&[u8], Fault>
     ensures ok { IfOk result (λ rest. skip_many (take_held tokens depth) count bytes.now ≡ Some rest.now) }
@@ -104,7 +104,7 @@ fn skip_values(tokens: bool, depth: usize, count: u64, bytes: &[u8]) -> Result<&
     Ok(rest)
 }
 
-/// What follows a given number of members.
+/// Skips `count` members; returns the bytes after them.
 #[cycle(take)]
 fn skip_members(tokens: bool, depth: usize, count: u64, bytes: &[u8]) -> Result<&[u8], Fault>
     ensures ok { IfOk result (λ rest. skip_many (take_member (take_held tokens depth)) count bytes.now ≡ Some rest.now) }

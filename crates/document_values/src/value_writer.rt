@@ -1,4 +1,4 @@
-//! Values put in the binary form.
+//! Values encoded in the binary form.
 
 ghost use Rattle.std.specs.Prelude.{[], ◌%◌, ◌++◌, ◌/◌, ◌^◌, ◌≡◌, ◌∷◌, OnOk};
 ghost use Rattle.std.specs.Int.{from_bool};
@@ -13,8 +13,8 @@ use crate::iterators::{CompactDocArrayIter, CompactDocObjectIter};
 use common::{put_bytes, put_u64, put_vint};
 use std::alloc::AllocError;
 
-/// Appends a value in the binary form, a pre-tokenised text as its text. `take_value` reads back what nests at
-/// most 128 deep.
+/// Appends a value in the binary form, a pre-tokenised text as its text. `take_value` decodes what nests at most 128
+/// deep.
 #[cycle(put_value)]
 pub fn put_value(out: &mut Vec<u8>, value: CompactDocValue<'_>) -> Result<(), AllocError>
     ensures { OnOk result (out.new.items ≡ out.old.items ++ value_bytes (value_of value.entry)) }
@@ -66,7 +66,7 @@ fn put_object(out: &mut Vec<u8>, members: CompactDocObjectIter<'_>) -> Result<()
     Ok(())
 }
 
-/// Appends a code and a byte string.
+/// Appends `code` and a byte string.
 pub(crate) fn put_sized(out: &mut Vec<u8>, code: u8, bytes: &[u8]) -> Result<(), AllocError>
     ensures { OnOk result (out.new.items ≡ out.old.items ++ (code ∷ sized_bytes bytes.now)) }
 {
@@ -74,7 +74,7 @@ pub(crate) fn put_sized(out: &mut Vec<u8>, code: u8, bytes: &[u8]) -> Result<(),
     put_bytes(out, bytes)
 }
 
-/// Appends a code and eight bytes.
+/// Appends `code` and eight bytes.
 pub(crate) fn put_number(out: &mut Vec<u8>, code: u8, n: u64) -> Result<(), AllocError>
     ensures { OnOk result (out.new.items ≡ out.old.items ++ (code ∷ u64_bytes n)) }
 {
@@ -90,7 +90,7 @@ pub(crate) fn put_bool(out: &mut Vec<u8>, b: bool) -> Result<(), AllocError>
     Ok(out.push(b as u8)?)
 }
 
-/// Appends an address.
+/// Appends an IP address.
 pub(crate) fn put_address(out: &mut Vec<u8>, address: u128) -> Result<(), AllocError>
     ensures { OnOk result (out.new.items ≡ out.old.items ++ (10 ∷ (u64_bytes (address % 2 ^ 64) ++ u64_bytes (address / 2 ^ 64)))) }
 {

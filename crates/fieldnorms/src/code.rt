@@ -1,4 +1,4 @@
-//! Length ids: the one byte that stands for the length of a field.
+//! Length ids: the one byte that represents the length of a field.
 
 ghost use Rattle.std.specs.Prelude.{◌<◌, ◌≡◌, slice_index, ℕ};
 ghost use Rattle.definitions.specs.Lengths as lengths;
@@ -6,7 +6,7 @@ ghost use Rattle.definitions.specs.Lengths as lengths;
 /// One more than the greatest length id.
 const LENGTH_IDS: u32 = 256;
 
-/// The length that each id stands for: itself below 24, and from 32 on eight steps for each doubling of
+/// The length that each id represents: itself below 24, and from 32 on eight steps for each doubling of
 /// what is above 24.
 pub const FIELD_NORMS_TABLE: [u32; 256] = [
     0, 1, 2, 3, 4, 5, 6, 7, 8, 9, 10, 11, 12, 13, 14, 15, 16, 17, 18, 19, 20, 21, 22, 23, 24, 25,
@@ -31,19 +31,19 @@ pub const FIELD_NORMS_TABLE: [u32; 256] = [
     1342177304, 1476395032, 1610612760, 1744830488, 1879048216, 2013265944,
 ];
 
-/// The table's numbers are those of the definitions.
+/// States that the table's numbers are those of the definitions.
 pub fn the_table_has_the_lengths_of_all_ids()
     ensures { (id : ℕ) → id < 256 → slice_index FIELD_NORMS_TABLE id ≡ lengths.id_to_fieldnorm id }
 {}
 
-/// The length that an id stands for.
+/// Returns the length that `id` represents.
 pub fn id_to_fieldnorm(id: u8) -> u32
     ensures { result ≡ lengths.id_to_fieldnorm id }
 {
     FIELD_NORMS_TABLE[id as usize]
 }
 
-/// The greatest id whose length isn't above the number.
+/// Returns the greatest id whose length isn't above `fieldnorm`.
 pub fn fieldnorm_to_id(fieldnorm: usize) -> u8
     ensures { result ≡ lengths.fieldnorm_to_id fieldnorm }
 {

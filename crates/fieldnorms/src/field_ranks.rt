@@ -1,9 +1,9 @@
-//! Where a field stands among ascending fields.
+//! The index of a field among ascending fields.
 
 ghost use Rattle.std.specs.Prelude.{length, slice_index, ◌<◌, ◌≡◌, ◌≢◌, IfNone, IfSome, ℕ};
 ghost use Rattle.layouts.specs.Deltas.{IsAscendingFrom};
 
-/// The place of a field, where it is one of them.
+/// Returns the index of `field`, where it is one of `fields`.
 pub(crate) fn place_of(fields: &[u32], field: u32) -> Option<usize>
     requires { IsAscendingFrom 0 fields.now }
     ensures found { IfSome result (λ i. (i < length fields.now) × (slice_index fields.now i ≡ field)) }

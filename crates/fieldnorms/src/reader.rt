@@ -1,4 +1,4 @@
-//! Reads the lengths of fields.
+//! A reader of the lengths of a field.
 
 ghost use Rattle.std.specs.Prelude.{length, replicate, slice_index, ◌<◌, ◌≡◌, ◌≢◌, ◌^◌, IfErr, IfOk, None};
 ghost use Rattle.definitions.specs.Lengths as lengths;
@@ -33,7 +33,7 @@ impl<'a> Model for FieldNormReader<'a> {
 }
 
 impl<'a> FieldNormReader<'a> {
-    /// One length for each of so many documents.
+    /// Returns a reader of `num_docs` documents, each of the length `fieldnorm`.
     pub fn constant(num_docs: u32, fieldnorm: usize) -> FieldNormReader<'a>
         ensures { result ≡ replicate num_docs (lengths.fieldnorm_to_id fieldnorm) }
     {
@@ -45,7 +45,7 @@ impl<'a> FieldNormReader<'a> {
         }
     }
 
-    /// The length ids of so many documents; `Damaged` where there are more or fewer.
+    /// Opens the length ids of `num_docs` documents; `Damaged` where there are more or fewer.
     pub fn open(ids: &'a [u8], num_docs: u32) -> Result<FieldNormReader<'a>, Fault>
         ensures ok { IfOk result (λ reader. (length ids.now ≡ num_docs) × (reader ≡ ids.now)) }
         ensures err { IfErr result (λ fault. (fault ≡ faults.Damaged None) × (length ids.now ≢ num_docs)) }
@@ -56,7 +56,7 @@ impl<'a> FieldNormReader<'a> {
         Ok(FieldNormReader::of_ids(ids))
     }
 
-    /// The length ids of a field.
+    /// Returns a reader of the length ids of a field.
     pub(crate) fn of_ids(ids: &'a [u8]) -> FieldNormReader<'a>
         requires { length ids.now < 2 ^ 32 }
         ensures { result ≡ ids.now }
@@ -66,7 +66,7 @@ impl<'a> FieldNormReader<'a> {
         }
     }
 
-    /// How many documents there are.
+    /// Returns how many documents there are.
     pub fn num_docs(&self) -> u32
         ensures { result ≡ length self.now }
     {
@@ -76,7 +76,7 @@ impl<'a> FieldNormReader<'a> {
         }
     }
 
-    /// A document's length id.
+    /// Returns the length id of `doc`.
     #[inline]
     pub fn fieldnorm_id(&self, doc: u32) -> u8
         requires { doc < length self.now }
@@ -88,7 +88,7 @@ impl<'a> FieldNormReader<'a> {
         }
     }
 
-    /// The length that a document's id stands for.
+    /// Returns the length that the id of `doc` represents.
     pub fn fieldnorm(&self, doc: u32) -> u32
         requires { doc < length self.now }
         ensures { result ≡ lengths.id_to_fieldnorm (slice_index self.now doc) }

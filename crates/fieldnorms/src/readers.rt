@@ -1,4 +1,4 @@
-//! Opens the section that keeps the lengths of fields.
+//! Readers of the section that keeps the lengths of fields.
 
 ghost use Rattle.std.specs.Prelude.{length, take, drop, ◌*◌, ◌+◌, ◌≡◌, ◌≤◌, IfErr, IfOk, List, None, OnOk, Some, ℕ};
 ghost use Rattle.fieldnorms.specs.Readers.{take_ids};
@@ -15,7 +15,7 @@ use std::marker::Model;
 /// How many bytes a field's number takes.
 const NUMBER_LEN: usize = 4;
 
-/// The length ids of all fields that keep lengths, lent from the bytes of their section. Nothing else is kept, so
+/// The length ids of all fields that keep lengths, borrowed from the bytes of their section. Nothing else is kept, so
 /// one can be made for each use.
 #[derive(Drop)]
 pub struct FieldNormReaders<'a> {
@@ -37,7 +37,7 @@ impl<'a> Model for FieldNormReaders<'a> {
 }
 
 impl<'a> FieldNormReaders<'a> {
-    /// The section of these fields, ascending, which is known to have one length id for each of so many documents.
+    /// Opens the section of `fields`, ascending, which is known to have one length id for each of `num_docs` documents.
     pub fn new(bytes: &'a [u8], num_docs: u32, fields: &'a [u32]) -> FieldNormReaders<'a>
         requires ascend { IsAscendingFrom 0 fields.now }
         requires known { ∥ ((norms : List (ℕ × List ℕ)) × IsNorms fields.now num_docs bytes.now norms) ∥₁ }
@@ -50,7 +50,7 @@ impl<'a> FieldNormReaders<'a> {
         }
     }
 
-    /// Reads the section of these fields, ascending, with one length id for each of so many documents.
+    /// Opens the section of `fields`, ascending, with one length id for each of `num_docs` documents.
     /// Other bytes are `Damaged`.
     pub fn open(
         bytes: &'a [u8],
@@ -65,7 +65,7 @@ impl<'a> FieldNormReaders<'a> {
         Ok(FieldNormReaders::new(bytes, num_docs, fields))
     }
 
-    /// The same readers once more.
+    /// Returns a copy of these readers.
     pub fn copied(&self) -> FieldNormReaders<'a>
         ensures { result ≡ self.now }
     {
@@ -76,7 +76,7 @@ impl<'a> FieldNormReaders<'a> {
         }
     }
 
-    /// The length ids of a field, where it keeps lengths.
+    /// Returns the length ids of `field`, where it keeps lengths.
     pub fn get_field(&self, field: u32) -> Option<FieldNormReader<'a>>
         ensures { result ≡ ids_of field self.now }
     {
@@ -86,7 +86,7 @@ impl<'a> FieldNormReaders<'a> {
     }
 }
 
-/// The ids of the field at a place, among fields with so many ids each.
+/// Returns the ids of the field at index `place`, among fields with `num_docs` ids each.
 fn ids_at(bytes: &[u8], place: usize, num_docs: usize) -> &[u8]
     requires { place * (4 + num_docs) + 4 + num_docs ≤ length bytes.now }
     ensures { result.now ≡ take num_docs (drop (place * (4 + num_docs) + 4) bytes.now) }
@@ -95,7 +95,7 @@ fn ids_at(bytes: &[u8], place: usize, num_docs: usize) -> &[u8]
     &bytes[start..start + num_docs]
 }
 
-/// Checks that the bytes are the section of these fields.
+/// Checks that the bytes are the section of `fields`.
 fn check_norms(bytes: &[u8], num_docs: u32, fields: &[u32]) -> Result<(), Fault>
     ensures ok { OnOk result ((norms : List (ℕ × List ℕ)) × IsNorms fields.now num_docs bytes.now norms) }
     ensures err { IfErr result (λ fault. (fault ≡ faults.Damaged None) × ((norms : List (ℕ × List ℕ)) → IsNorms fields.now num_docs bytes.now norms → ⊥)) }
@@ -111,7 +111,7 @@ fn check_norms(bytes: &[u8], num_docs: u32, fields: &[u32]) -> Result<(), Fault>
     Ok(())
 }
 
-/// The ids of a field, which must stand first, and what follows them.
+/// Decodes the ids of `field`, which must come first; returns them, and the bytes after them.
 fn take_ids<'a>(bytes: &'a [u8], field: u32, num_docs: u32) -> Result<(&'a [u8], &'a [u8]), Fault>
     ensures ok { IfOk result (λ p. take_ids num_docs field bytes.now ≡ Some (p.0.now, p.1.now)) }
     ensures err { IfErr result (λ fault. (fault ≡ faults.Damaged None) × (take_ids num_docs field bytes.now ≡ None)) }

@@ -1,4 +1,4 @@
-//! Puts the lengths of fields into the bytes of their section.
+//! A serializer of the lengths of fields.
 
 ghost use Rattle.std.specs.Prelude.{List, ◌++◌, ◌≡◌, OnOk, ℕ};
 ghost use Rattle.layouts.specs.FieldNorms.{field_norms_bytes};
@@ -20,7 +20,7 @@ impl Model for FieldNormsSerializer {
 }
 
 impl FieldNormsSerializer {
-    /// Goes on behind the bytes that stand.
+    /// Returns a serializer that appends to `write`.
     pub fn from_write(write: Vec<u8>) -> FieldNormsSerializer
         ensures { result ≡ write.items }
     {
@@ -35,7 +35,7 @@ impl FieldNormsSerializer {
         self.out.extend_from_slice(ids)
     }
 
-    /// The bytes.
+    /// Returns the bytes.
     pub fn close(self) -> Vec<u8>
         ensures { result.items ≡ self }
     {

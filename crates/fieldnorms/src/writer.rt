@@ -1,4 +1,4 @@
-//! Records the lengths of fields, document by document.
+//! A writer of the lengths of fields, document by document.
 
 ghost use Rattle.std.specs.Prelude.{[], length, map, replicate, zip, ◌++◌, ◌-◌, ◌<◌, ◌≡◌, ◌≤◌, ◌∷◌, IfOk, List, OnErr, OnOk, ℕ};
 ghost use Rattle.std.specs.List.{AllByRecursion};
@@ -30,7 +30,7 @@ impl Model for FieldNormsWriter {
 }
 
 impl FieldNormsWriter {
-    /// A writer for the fields of these numbers, ascending, without documents.
+    /// Returns a writer for `fields`, ascending, without documents.
     pub fn for_fields(alloc: Global, fields: &[u32]) -> Result<FieldNormsWriter, AllocError>
         requires { IsAscendingFrom 0 fields.now }
         ensures { IfOk result (λ writer. writer ≡ map (λ field. (field, [])) fields.now) }
@@ -45,7 +45,7 @@ impl FieldNormsWriter {
         })
     }
 
-    /// Records a document's length in a field. Documents before it that weren't recorded get the id of
+    /// Records the length `fieldnorm` of `doc` in `field`. Documents before it that weren't recorded get the id of
     /// length 0; nothing is recorded for a field that keeps no lengths.
     pub fn record(&mut self, doc: u32, field: u32, fieldnorm: usize) -> Result<(), AllocError>
         requires once { AllByRecursion (λ p. p.0 ≡ field → length p.1 ≤ doc) self.old }
@@ -62,8 +62,8 @@ impl FieldNormsWriter {
         }
     }
 
-    /// Gives the id of length 0 to the documents below a number that weren't recorded. Where memory is
-    /// wanting some fields may have theirs already.
+    /// Gives the id of length 0 to the documents below `max_doc` that weren't recorded. When out of memory some fields
+    /// may have theirs already.
     pub fn fill_up_to_max_doc(&mut self, max_doc: u32) -> Result<(), AllocError>
         ensures ok { OnOk result (self.new ≡ all_padded max_doc self.old) }
         ensures err { OnErr result (all_padded max_doc self.new ≡ all_padded max_doc self.old) }
@@ -74,7 +74,7 @@ impl FieldNormsWriter {
         Ok(())
     }
 
-    /// Appends the section's bytes, and answers all that stands then.
+    /// Appends the section's bytes to those of `serializer`; returns them all.
     pub fn serialize(&self, serializer: FieldNormsSerializer) -> Result<Vec<u8>, AllocError>
         ensures { IfOk result (λ bytes. bytes.items ≡ serializer ++ norms_bytes self.now) }
     {
@@ -86,7 +86,7 @@ impl FieldNormsWriter {
     }
 }
 
-/// Pads the ids up to a number of documents.
+/// Pads `ids` up to `num_docs` documents.
 fn pad(ids: &mut Vec<u8>, num_docs: usize) -> Result<(), AllocError>
     ensures ok { OnOk result (ids.new.items ≡ padded num_docs ids.old.items) }
     ensures err { OnErr result (ids.new.items ≡ ids.old.items) }
@@ -97,7 +97,7 @@ fn pad(ids: &mut Vec<u8>, num_docs: usize) -> Result<(), AllocError>
     Ok(())
 }
 
-/// Pads the ids up to a document, and appends its own.
+/// Pads `ids` up to `doc`, and appends its own `id`.
 fn put_id(ids: &mut Vec<u8>, doc: usize, id: u8) -> Result<(), AllocError>
     ensures ok { OnOk result (ids.new.items ≡ padded doc ids.old.items ++ id ∷ []) }
     ensures err { OnErr result (ids.new.items ≡ ids.old.items) }

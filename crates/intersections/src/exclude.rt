@@ -17,7 +17,7 @@ pub struct Exclude<D: DocSet, E: ExclusionSet> {
     ghost outside: { IsOutside (E.excludes exclusion) (D.entries underlying) } by { IsOutside-prop (E.excludes exclusion) (D.entries underlying) },
 }
 
-/// Goes on to the first document that the set doesn't have, and answers it.
+/// Moves `underlying` to its first document, from the current one on, that `exclusion` doesn't have; returns it.
 fn skip_excluded<D: DocSet, E: ExclusionSet>(underlying: &mut D, exclusion: &mut E) -> DocId
     ensures same { without (E.excludes exclusion.new) (D.entries underlying.new)
         ≡ without (E.excludes exclusion.old) (D.entries underlying.old) }
@@ -35,7 +35,7 @@ fn skip_excluded<D: DocSet, E: ExclusionSet>(underlying: &mut D, exclusion: &mut
 }
 
 impl<D: DocSet, E: ExclusionSet> Exclude<D, E> {
-    /// The documents of a cursor that aren't in a set.
+    /// Returns the documents of `underlying` that aren't in `exclusion`, with their scores.
     pub fn new(underlying: D, exclusion: E) -> Exclude<D, E>
         ensures { ⟦<Exclude<D, E> as DocSet>⟧.entries result ≡ without (E.excludes exclusion) (D.entries underlying) }
     {

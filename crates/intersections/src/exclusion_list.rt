@@ -1,4 +1,4 @@
-//! Several cursors whose documents are left out.
+//! Several cursors whose documents are excluded.
 
 ghost use Rattle.std.specs.Prelude.{◌<◌, ◌≡◌, map, ℕ};
 ghost use Rattle.docsets.specs.Entries.{first};
@@ -9,7 +9,7 @@ ghost use Rattle.docsets.specs.Members.{at_least, enough, least};
 use common::DocId;
 use docsets::{DocSet, advance_any, seek_any};
 
-/// The documents that one of several cursors has, without scores: a set to leave out.
+/// The documents that at least one of several cursors has, without scores: a set to exclude.
 #[derive(Drop)]
 pub struct ExclusionList<D: DocSet> {
     docsets: Vec<D>,
@@ -18,7 +18,7 @@ pub struct ExclusionList<D: DocSet> {
 }
 
 impl<D: DocSet> ExclusionList<D> {
-    /// The documents that one of these cursors has.
+    /// Returns the documents that at least one of `docsets` has.
     pub fn new(docsets: Vec<D>) -> ExclusionList<D>
         ensures entries { ⟦<ExclusionList<D> as DocSet>⟧.entries result
             ≡ at_least 1 unscored (map D.entries docsets.items) }

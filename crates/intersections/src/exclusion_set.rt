@@ -1,4 +1,4 @@
-//! Sets of documents to leave out.
+//! Sets of documents to exclude.
 
 ghost use Rattle.std.specs.Prelude.{◌<◌, ◌≡◌, ◌≤◌, Bool, ℕ};
 ghost use Rattle.definitions.specs.Postings.{terminated};
@@ -6,12 +6,12 @@ ghost use Rattle.definitions.specs.Postings.{terminated};
 use common::DocId;
 use docsets::{DocSet, SeekDangerResult};
 
-/// A set that is asked for documents, ascending.
+/// A set of documents to exclude, which is asked for them in ascending order.
 pub trait ExclusionSet {
     // The documents in it.
     ghost excludes: { Self → ℕ → Bool };
 
-    /// Whether a document is in it. Documents below it aren't asked for any more.
+    /// Whether `doc` is in the set. Documents below `doc` aren't asked for any more.
     fn contains(&mut self, doc: DocId) -> bool
         requires { doc < terminated }
         ensures value { result ≡ excludes self.old doc }

@@ -25,7 +25,7 @@ pub struct Intersection<S: DocSet> {
 }
 
 impl<S: DocSet> Intersection<S> {
-    /// The documents that all of several cursors have. The one that costs least leads.
+    /// Returns the documents that all of `docsets` have. The cursor of the least cost leads.
     pub fn new(docsets: Vec<S>) -> Intersection<S>
         requires several { 2 ≤ length docsets.items }
         requires fits { greatest_sum (map S.entries docsets.items) ≤ max_score }
@@ -39,7 +39,7 @@ impl<S: DocSet> Intersection<S> {
 }
 
 impl<S: Positioned> Intersection<S> {
-    /// How many columns of positions the current document has: one for each cursor.
+    /// Returns the number of columns of positions of the current document: one for each cursor.
     pub fn num_columns(&self) -> usize
         requires { first (⟦<Intersection<S> as DocSet>⟧.entries self.now) < terminated }
         ensures { result ≡ length (first_positions (⟦<Intersection<S> as DocSet>⟧.entries self.now)) }
@@ -47,7 +47,7 @@ impl<S: Positioned> Intersection<S> {
         self.docsets.len()
     }
 
-    /// Puts one column of the current document in place of the positions that the output holds, which has the room.
+    /// Replaces the content of `output`, which has the room, with column `place` of the current document.
     pub fn column(&mut self, place: usize, output: &mut Vec<u32>)
         requires on { first (⟦<Intersection<S> as DocSet>⟧.entries self.old) < terminated }
         requires within { place < length (first_positions (⟦<Intersection<S> as DocSet>⟧.entries self.old)) }

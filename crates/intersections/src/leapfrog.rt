@@ -1,4 +1,4 @@
-//! Cursors that go on together to a document that all of them have.
+//! Moves of several cursors to a document that all of them have.
 
 ghost use Rattle.std.specs.Prelude.{[], ◌<◌, ◌≡◌, ◌≤◌, length, map, slice_index_or};
 ghost use Rattle.docsets.specs.Entries.{first, from};
@@ -9,7 +9,7 @@ ghost use Rattle.docsets.specs.Members.{entries_at, least};
 use common::{DocId, TERMINATED};
 use docsets::{DocSet, SeekDangerResult, move_to};
 
-/// Moves one of several cursors to the first document that isn't below a target, and answers that.
+/// Moves cursor `lead` to its first document >= `target`, and returns that.
 fn lead_on<D: DocSet>(docsets: &mut Vec<D>, lead: usize, target: DocId) -> DocId
     requires within { lead < length docsets.old.items }
     requires small { target ≤ terminated }
@@ -19,7 +19,7 @@ fn lead_on<D: DocSet>(docsets: &mut Vec<D>, lead: usize, target: DocId) -> DocId
     move_to(&mut docsets[lead], target)
 }
 
-/// Moves a cursor to a candidate, or says before which document none remains.
+/// Moves `docset` to `candidate`, or returns a later document before which it has none left.
 #[inline]
 fn reach<D: DocSet>(docset: &mut D, candidate: DocId) -> DocId
     requires { candidate < terminated }
@@ -38,7 +38,7 @@ fn reach<D: DocSet>(docset: &mut D, candidate: DocId) -> DocId
     }
 }
 
-/// Moves all cursors to a candidate, or says before which document they don't meet.
+/// Moves all of `docsets` to `candidate`, or returns a later document before which they don't meet.
 fn meet<D: DocSet>(docsets: &mut Vec<D>, candidate: DocId) -> DocId
     requires { candidate < terminated }
     ensures passes { Passes candidate result (map D.entries docsets.old.items) (map D.entries docsets.new.items) }
@@ -55,8 +55,8 @@ fn meet<D: DocSet>(docsets: &mut Vec<D>, candidate: DocId) -> DocId
     candidate
 }
 
-/// Goes on to the first document that isn't below a number and that all cursors have, and answers it. One cursor
-/// leads: the others are asked for its documents alone.
+/// Moves `docsets` to the first document >= `start` that all of them have, and returns it. Cursor `lead` leads: the
+/// others are asked for its documents alone.
 pub(crate) fn next_match<D: DocSet>(docsets: &mut Vec<D>, lead: usize, start: DocId) -> DocId
     requires within { lead < length docsets.old.items }
     requires small { start ≤ terminated }
@@ -77,7 +77,7 @@ pub(crate) fn next_match<D: DocSet>(docsets: &mut Vec<D>, lead: usize, start: Do
     candidate
 }
 
-/// The place of the cursor that costs least.
+/// Returns the index of the cursor of the least cost.
 pub(crate) fn cheapest<D: DocSet>(docsets: &Vec<D>) -> usize
     requires { 0 < length docsets.now.items }
     ensures { result < length docsets.now.items }

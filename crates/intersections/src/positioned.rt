@@ -1,4 +1,4 @@
-//! Cursors that tell where the term of each of their documents stands.
+//! Cursors whose documents have one list of positions each.
 
 ghost use Rattle.std.specs.Prelude.{◌<◌, ◌≡◌, ◌≤◌, length, vec_capacity};
 ghost use Rattle.docsets.specs.Entries.{first, first_positions, most_positions, single};
@@ -10,7 +10,7 @@ use docsets::DocSet;
 pub trait Positioned: DocSet {
     ghost use Rattle.intersections.specs.Columns.{HaveOneColumn};
 
-    /// Puts the positions in the current document in place of those that the output holds, which has the room.
+    /// Replaces the content of `output`, which has the room, with the positions in the current document.
     fn positions(&mut self, output: &mut Vec<u32>)
         requires on { first (Self.entries self.old) < terminated }
         requires room { length (single (first_positions (Self.entries self.old))) ≤ vec_capacity output.old }
@@ -18,7 +18,7 @@ pub trait Positioned: DocSet {
         ensures items { output.new.items ≡ single (first_positions (Self.entries self.old)) }
         ensures room { vec_capacity output.old ≤ vec_capacity output.new };
 
-    /// A number of positions that no remaining document has more of.
+    /// Returns an upper bound of the number of positions of each remaining document.
     fn most_positions(&self) -> usize
         ensures { most_positions (Self.entries self.now) ≤ result };
 

@@ -1,4 +1,4 @@
-//! A required scorer, whose scores an optional one adds to.
+//! A required scorer, with an optional one that adds to its scores.
 
 ghost use Rattle.std.specs.Prelude.{◌+◌, ◌≡◌, ◌≤◌};
 ghost use Rattle.definitions.specs.Scoring.{max_score};
@@ -20,7 +20,8 @@ pub struct RequiredOptionalScorer<R: Scorer, O: Scorer, C: ScoreCombiner> {
 }
 
 impl<R: Scorer, O: Scorer, C: ScoreCombiner> RequiredOptionalScorer<R, O, C> {
-    /// A required scorer with an optional one. What the combiner has taken is forgotten.
+    /// Returns the documents of `req_scorer`, with the scores that `opt_scorer` adds. What `combiner` has taken is
+    /// forgotten.
     pub fn new(req_scorer: R, opt_scorer: O, combiner: C) -> RequiredOptionalScorer<R, O, C>
         requires { greatest_score (R.entries req_scorer) + greatest_score (O.entries opt_scorer) ≤ max_score }
         ensures { ⟦<RequiredOptionalScorer<R, O, C> as DocSet>⟧.entries result

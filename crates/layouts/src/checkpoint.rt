@@ -1,12 +1,12 @@
-//! Where a block of a store stands.
+//! Where a block of a store lies.
 
 use std::ops::Range;
 
-/// Where a block stands: its documents and its bytes.
+/// The extent of a block: its documents and its bytes.
 #[derive(Debug, Drop, PartialEq, Eq)]
 pub struct Checkpoint {
     /// The block's documents.
     pub doc_range: Range<u32>,
-    /// The block's bytes, counted from the store's first one.
+    /// The block's bytes, as offsets from the store's first byte.
     pub byte_range: Range<usize>,
 }

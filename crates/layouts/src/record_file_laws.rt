@@ -8,7 +8,7 @@ pub fn a_file_has_one_list_of_bodies()
     ensures { (first second : List (List ℕ)) (bytes : List ℕ) → IsFile first bytes → IsFile second bytes → first ≡ second }
 {}
 
-/// Bytes are no index, or damaged from one place on, or a file of bodies that are taken, and never two of these.
+/// States that no bytes are two of these: no index, damaged from one offset on, a file of bodies that are accepted.
 pub fn no_file_has_two_outcomes()
     ensures no_index { (body : List ℕ) (bodies : List (List ℕ)) (bytes : List ℕ) → IsFile (body ∷ bodies) bytes → ¬ IsNoIndex bytes }
     ensures damaged { (takes : List (List ℕ) → List ℕ → Bool) (bodies : List (List ℕ)) (bytes : List ℕ) (place : ℕ) → IsFile bodies bytes → AreTaken (λ before body. IsTrue (takes before body)) [] bodies → ¬ IsDamaged (λ before body. IsTrue (takes before body)) bytes place }

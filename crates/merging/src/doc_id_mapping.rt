@@ -1,4 +1,4 @@
-//! The numbers that the documents of a member get in a merge.
+//! The document ids that the documents of a member get in a merge.
 
 ghost use Rattle.std.specs.Prelude.{◌+◌, ◌<◌, ◌≡◌, ◌≤◌, IfOk, length};
 ghost use Rattle.definitions.specs.Merging.{num_living};
@@ -9,12 +9,12 @@ use common::{AliveBitSet, DocId, TERMINATED};
 use std::alloc::{AllocError, Global};
 use std::marker::Model;
 
-/// The new numbers of a member's documents: the living ones follow one another from a base on.
+/// The new ids of a member's documents: those of the living ones follow one another from a base on.
 #[derive(Drop)]
 pub struct DocIdMapping {
     base: DocId,
     end: DocId,
-    // The new number of each document, and `TERMINATED` of one that is dead.
+    // The new id of each document, `TERMINATED` for one that is dead.
     new_doc_ids: Vec<DocId>,
 }
 
@@ -29,7 +29,7 @@ impl Model for DocIdMapping {
 }
 
 impl DocIdMapping {
-    /// The documents of a set, of which the living ones get the numbers from a base on.
+    /// Returns the mapping of the documents in `alive`, of which the living ones get the ids from `base` on.
     pub fn new(alloc: Global, base: DocId, alive: &AliveBitSet) -> Result<DocIdMapping, AllocError>
         requires { base + num_living alive.now ≤ terminated }
         ensures { IfOk result (λ mapping. mapping ≡ record { base = base; flags = alive.now }) }
@@ -52,7 +52,7 @@ impl DocIdMapping {
         })
     }
 
-    /// The new number of a document; none where it is dead.
+    /// Returns the new id of `doc`; none if it is dead.
     #[inline]
     pub fn get_new_doc_id(&self, doc: DocId) -> Option<DocId>
         requires { doc < length self.now.flags }
@@ -65,7 +65,7 @@ impl DocIdMapping {
         Some(new_doc)
     }
 
-    /// The number behind that of the last living document.
+    /// Returns the id after that of the last living document.
     pub fn end(&self) -> DocId
         ensures end { result ≡ end_of self.now }
         ensures few { end_of self.now ≤ terminated }

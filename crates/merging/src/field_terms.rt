@@ -1,4 +1,4 @@
-//! Writes the terms of a field of a merge.
+//! The writing of the terms of a field of a merge.
 
 ghost use Rattle.std.specs.Prelude.{[], ◌≡◌, ◌≤◌, IfErr, IfSome, List, OnOk, length, map, ℕ};
 ghost use Rattle.definitions.specs.Postings.{terminated};
@@ -17,8 +17,8 @@ use postings_writer::FieldSerializer;
 use std::alloc::Global;
 use terms::{Field, Type};
 
-/// Writes the terms of a field of a type that living documents have, one after another, each with its postings in all
-/// members.
+/// Writes the terms of a field of type `kind` that living documents have, one after another, each with its postings in
+/// all members.
 pub(crate) fn merge_terms(
     alloc: Global,
     members: &[Member<'_>],

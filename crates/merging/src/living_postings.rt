@@ -1,4 +1,4 @@
-//! Writes the postings of a member to a term.
+//! The writing of the postings of a member.
 
 ghost use Rattle.std.specs.Prelude.{[], ◌++◌, ◌+◌, ◌<◌, ◌∷◌, ◌≡◌, ◌≤◌, IfErr, IfOk, IfSome, List, OnErr, OnOk, length, ℕ};
 ghost use Rattle.std.specs.List.{AllByRecursion};
@@ -19,9 +19,8 @@ use docsets::{DocSet, Postings};
 use postings_writer::FieldSerializer;
 use segment_postings::SegmentPostings;
 
-/// Writes the living documents of a cursor to the term that is open, under their new numbers, and answers whether there
-/// are some. Their counts are those that the cursor tells, and the differences of their positions go through the buffer as
-/// they are read.
+/// Writes the living documents of `postings` to the open term, under their new ids, and returns whether there are any.
+/// Their counts are those of the cursor, and the differences of their positions go through `deltas` as they are read.
 pub fn write_postings(
     postings: &mut SegmentPostings<'_>,
     mapping: &DocIdMapping,
@@ -54,7 +53,7 @@ pub fn write_postings(
     Ok(some)
 }
 
-/// Writes the document on which a cursor stands, under its new number.
+/// Writes the current document of `postings` under its new id.
 fn write_posting(
     postings: &mut SegmentPostings<'_>,
     new_doc: u32,

@@ -1,4 +1,4 @@
-//! Appends the slots of a member's living documents to a store.
+//! The appending of a member's living documents to a store.
 
 ghost use Rattle.std.specs.Prelude.{[], ◌++◌, ◌+◌, ◌<◌, ◌∷◌, ◌≡◌, IfErr, List, OnOk, length, ℕ};
 ghost use Rattle.std.specs.List.{items_where_true, slice_index_or};
@@ -11,8 +11,8 @@ use common::AliveBitSet;
 use definitions::Fault;
 use store::{StoreReader, StoreWriter};
 
-/// Appends the slots of a member's living documents to a store. Where all are alive its blocks are stacked, without a
-/// look at their slots.
+/// Appends the slots of a member's living documents to a store. If all are alive its blocks are stacked, without a look
+/// at their slots.
 pub fn append_living(
     store: &StoreReader,
     alive: &AliveBitSet,
@@ -33,7 +33,7 @@ pub fn append_living(
     append_slots(store, alive, writer)
 }
 
-/// The same, slot by slot.
+/// Like `append_living`, but slot by slot.
 fn append_slots(
     store: &StoreReader,
     alive: &AliveBitSet,

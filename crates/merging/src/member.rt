@@ -18,7 +18,7 @@ use postings_writer::FieldSerializer;
 use segment_reader::{InvertedIndexReader, TermInfo};
 use terms::Field;
 
-/// A member of a merge: its terms, and the numbers that its documents get.
+/// A member of a merge: its terms, and the new ids of its documents.
 #[derive(Drop)]
 pub struct Member<'a> {
     pub inverted_index: &'a InvertedIndexReader,
@@ -26,8 +26,8 @@ pub struct Member<'a> {
 }
 
 impl<'a> Member<'a> {
-    /// Writes the living documents that have a term to the term that is open, under their new numbers, and answers
-    /// whether there are some. The info tells where the member's postings of the term stand, if it has it.
+    /// Writes the living documents that have the term `key` to the open term, under their new ids, and returns whether
+    /// there are any. `info` locates the member's postings of the term, if it has it.
     pub(crate) fn write_postings(
         &self,
         field: Field,

@@ -1,4 +1,4 @@
-//! Writes the section of lengths of a merge.
+//! The writing of the section of lengths of a merge.
 
 ghost use Rattle.std.specs.Prelude.{◌++◌, ◌≡◌, IfOk, OnOk, length};
 ghost use Rattle.std.specs.List.{AllByRecursion, items_where_true};
@@ -16,7 +16,7 @@ pub struct MemberNorms<'a> {
     pub alive: &'a AliveBitSet,
 }
 
-/// The section of these fields, with the length ids of the members' living documents.
+/// Returns the section of lengths of `fields`, with the length ids of the members' living documents.
 pub fn merge_norms(
     alloc: Global,
     fields: &[u32],
@@ -33,7 +33,7 @@ pub fn merge_norms(
     Ok(serializer.close())
 }
 
-/// The length ids of a field's living documents.
+/// Returns the length ids of a field's living documents.
 fn living_ids(alloc: Global, field: u32, members: &[MemberNorms<'_>]) -> Result<Vec<u8>, AllocError>
     requires { AllByRecursion IsFlagged members.now }
     ensures { IfOk result (λ ids. ids.items ≡ merged_ids field members.now) }

@@ -1,4 +1,4 @@
-//! Writes the store of a merge.
+//! The writing of the store of a merge.
 
 ghost use Rattle.std.specs.Prelude.{◌≡◌, IfErr, IfOk, List, length, ℕ};
 ghost use Rattle.std.specs.List.{AllByRecursion};
@@ -19,8 +19,8 @@ pub struct MemberStore<'a> {
     pub alive: &'a AliveBitSet,
 }
 
-/// The store of the members' living documents, one member after the other. A block is closed when its documents' bytes
-/// come over the block size; those of members whose documents are all alive stay as they are.
+/// Returns the store of the members' living documents, one member after another. A block is closed when its documents'
+/// bytes pass `block_size`; those of members whose documents are all alive stay as they are.
 pub fn merge_stores(
     alloc: Global,
     block_size: usize,

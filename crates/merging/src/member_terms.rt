@@ -1,4 +1,4 @@
-//! The terms of one member, as far as they are left.
+//! The terms of one member that are left.
 
 ghost use Rattle.std.specs.Prelude.{◌≡◌, drop, option_map};
 ghost use Rattle.merging.specs.KeyLists.{begins_with, first_key};
@@ -7,7 +7,7 @@ ghost use Rattle.merging.specs.Walking.{first_info};
 use segment_reader::{TermInfo, TermRange};
 use std::marker::Model;
 
-/// The terms of a member that are left, the first of which is the one on which its range stands.
+/// The terms of a member that are left; the first is the current one of its range.
 #[derive(Drop)]
 pub(crate) struct MemberTerms<'a> {
     range: TermRange<'a>,
@@ -27,7 +27,7 @@ impl<'a> Model for MemberTerms<'a> {
 }
 
 impl<'a> MemberTerms<'a> {
-    /// All terms of a range that begins before the first of them.
+    /// Returns all terms of `range`, which is before the first of them.
     pub(crate) fn new(mut range: TermRange<'a>) -> MemberTerms<'a>
         ensures { result ≡ range.entry.rest }
     {
@@ -35,7 +35,7 @@ impl<'a> MemberTerms<'a> {
         MemberTerms { range, has_term }
     }
 
-    /// The value bytes of the first term.
+    /// Returns the value bytes of the first term, if there is one.
     pub(crate) fn key(&self) -> Option<&[u8]>
         ensures { option_map (λ key. key.now) result ≡ first_key self.now }
     {
@@ -45,7 +45,7 @@ impl<'a> MemberTerms<'a> {
         Some(self.range.key())
     }
 
-    /// Where the postings of the first term stand.
+    /// Returns where the postings of the first term are, if there is one.
     pub(crate) fn info(&self) -> Option<&TermInfo>
         ensures { option_map (λ info. info.now) result ≡ first_info self.now }
     {
@@ -55,14 +55,14 @@ impl<'a> MemberTerms<'a> {
         Some(self.range.value())
     }
 
-    /// Whether the first term has these value bytes.
+    /// Whether the first term has the value bytes `key`.
     pub(crate) fn begins_with(&self, key: &[u8]) -> bool
         ensures { result ≡ begins_with key.now self.now }
     {
         self.has_term && self.range.key() == key
     }
 
-    /// Goes behind the first term, if there is one.
+    /// Removes the first term, if there is one.
     pub(crate) fn advance(&mut self)
         ensures { self.new ≡ drop 1 self.old }
     {

@@ -1,4 +1,4 @@
-//! What merged postings are in the words of the definitions.
+//! Laws of merged postings in the words of the definitions.
 
 ghost use Rattle.std.specs.Prelude.{◌≡◌, List, ℕ};
 ghost use Rattle.definitions.specs.Merging.{merged_postings};
@@ -7,8 +7,8 @@ ghost use Rattle.layouts.specs.InvertedIndexes.{IndexedField};
 ghost use Rattle.merging.specs.Members.{AreMembers, merged_in, parts_of};
 ghost use Rattle.merging.specs.declared.member.Member.{Member};
 
-/// The postings of a term in all members are the merged postings of the definitions, by the members' flags and by what
-/// each of them has of the term.
+/// States that the postings of a term in all members are the merged postings of the definitions, by the members' alive
+/// flags and by what each of them has of the term.
 pub fn postings_are_merged()
     ensures { (schema : Schema) (num_docs : ℕ) (members : List Member) (all : List (List IndexedField)) (field : ℕ)
         (key : List ℕ) → AreMembers schema 0 num_docs members all

@@ -1,4 +1,4 @@
-//! Writes a field of a merge.
+//! The writing of a field of a merge.
 
 ghost use Rattle.std.specs.Prelude.{[], ◌≡◌, ◌≤◌, ◌∷◌, IfErr, IfOk, IfSome, List, OnOk, length, map, true, ℕ};
 ghost use Rattle.definitions.specs.Postings.{terminated};
@@ -28,8 +28,8 @@ use schema::FieldEntry;
 use std::alloc::{AllocError, Global};
 use terms::{Field, Type};
 
-/// Writes a field behind those before: the terms that living documents of the members have, each with its postings
-/// in all of them, and the lengths of the field, if it keeps any.
+/// Writes a field after those before: the terms that living documents of the members have, each with its postings in
+/// all of them, and the lengths of the field, if it keeps any.
 pub(crate) fn merge_field(
     alloc: Global,
     members: &[Member<'_>],
@@ -93,7 +93,7 @@ fn write_terms(
     merge_terms(alloc, members, field, kind, terms, serializer)
 }
 
-/// What a field records of texts.
+/// Returns what a field records of texts.
 fn index_record_option(entry: &FieldEntry) -> IndexRecordOption
     requires { is_indexed entry.now ≡ true }
     ensures { record_option_of result ≡ entry.now.record_option }
@@ -104,7 +104,7 @@ fn index_record_option(entry: &FieldEntry) -> IndexRecordOption
         .unwrap_or(IndexRecordOption::Basic)
 }
 
-/// The terms of a field in all members.
+/// Returns the terms of a field in all members.
 fn all_terms<'a>(
     alloc: Global,
     members: &[Member<'a>],

@@ -1,4 +1,4 @@
-//! Writes the fields of a merge.
+//! The writing of the fields of a merge.
 
 ghost use Rattle.std.specs.Prelude.{[], ◌≡◌, ◌≤◌, ◌∷◌, IfErr, IfOk, List, Some, length, slice_get, true, ℕ};
 ghost use Rattle.std.specs.List.{AllByRecursion};
@@ -21,7 +21,7 @@ use schema::{FieldEntry, Schema};
 use std::alloc::Global;
 use terms::Field;
 
-/// Writes the indexed fields of a schema, in the order of their numbers: each with the terms that living documents of
+/// Writes the indexed fields of `schema`, in the order of their numbers: each with the terms that living documents of
 /// the members have, and their postings in all members. The lengths are those of the merged documents.
 pub fn merge_fields(
     alloc: Global,
@@ -46,7 +46,7 @@ pub fn merge_fields(
     Ok(serializer)
 }
 
-/// Writes a field behind those before.
+/// Writes a field after those before.
 fn merge_one(
     alloc: Global,
     members: &[Member<'_>],

@@ -1,4 +1,4 @@
-//! Writes a term of a merge.
+//! The writing of a term of a merge.
 
 ghost use Rattle.std.specs.Prelude.{◌++◌, ◌≡◌, ◌≤◌, IfErr, IfOk, IfSome, List, OnErr, OnOk, Some, if◌then◌else◌, length, map, slice_get, ℕ};
 ghost use Rattle.definitions.specs.Postings.{terminated};
@@ -17,8 +17,7 @@ use definitions::Fault;
 use postings_writer::FieldSerializer;
 use terms::Field;
 
-/// Writes the living documents of all members that have the term on which the merger stands to the term that is open,
-/// member by member, and answers whether there are some.
+/// Writes the members' living documents with the current term, `key`, to the open term; returns whether any exist.
 fn write_members(
     members: &[Member<'_>],
     field: Field,
@@ -54,8 +53,8 @@ fn write_members(
     Ok(some)
 }
 
-/// Writes the term on which the merger stands behind those before, if a living document has it. Of a term whose counts
-/// aren't recorded the documents alone are.
+/// Writes the current term of `terms` after those before, if a living document has it; only its documents unless
+/// `record_term_freq`.
 pub(crate) fn merge_term(
     members: &[Member<'_>],
     field: Field,

@@ -1,4 +1,4 @@
-//! What the merged lengths are, where members are segments of documents.
+//! Laws of merged lengths, if members are segments of documents.
 
 ghost use Rattle.std.specs.Prelude.{◌≡◌, List};
 ghost use Rattle.definitions.specs.Alive.{Segment, live};
@@ -9,7 +9,7 @@ ghost use Rattle.merging.specs.LivingNorms.{AreOf};
 ghost use Rattle.merging.specs.MergedNorms.{merged_norms};
 ghost use Rattle.merging.specs.declared.member_norms.MemberNorms.{MemberNorms};
 
-/// The merged lengths are those of the living documents, one segment after the other.
+/// States that the merged lengths are those of the living documents, one segment after another.
 pub fn norms_are_those_of_the_living()
     ensures { (schema : Schema) (analyze : Analyzer) (members : List MemberNorms) (segments : List Segment)
         → AreOf schema analyze members segments

@@ -13,8 +13,8 @@ use segment_reader::{TermDictionary, TermInfo};
 use std::alloc::{AllocError, Global};
 use std::marker::Model;
 
-/// The terms of a field in several members, in ascending order and each once. It stands on the first of them that is
-/// left, and tells which members have it.
+/// The terms of a field in several members, in ascending order and each once: the current one is the first that is
+/// left, with which members have it.
 #[derive(Drop)]
 pub struct TermMerger<'a> {
     dictionaries: Vec<TermDictionary<'a>>,
@@ -36,7 +36,7 @@ impl<'a> Model for TermMerger<'a> {
 }
 
 impl<'a> TermMerger<'a> {
-    /// All terms of these dictionaries, one of each member.
+    /// Returns a merger of all terms of `dictionaries`, one of each member.
     pub fn new(
         alloc: Global,
         dictionaries: Vec<TermDictionary<'a>>,
@@ -54,7 +54,7 @@ impl<'a> TermMerger<'a> {
         })
     }
 
-    /// The value bytes of the term on which it stands; none behind the last.
+    /// Returns the value bytes of the current term; none after the last.
     pub fn key(&self) -> Option<&[u8]>
         ensures { option_map (λ key. key.now) result ≡ slice_get self.now.keys 0 }
     {
@@ -64,7 +64,7 @@ impl<'a> TermMerger<'a> {
         self.members[least].key()
     }
 
-    /// Where the postings of this term stand in a member; none where the member doesn't have it.
+    /// Returns where the postings of the current term are in `member`; none if the member doesn't have it.
     pub fn term_info(&self, member: usize) -> Option<&TermInfo>
         requires { member < length self.now.members }
         ensures { (key : List ℕ) → slice_get self.now.keys 0 ≡ Some key
@@ -80,7 +80,7 @@ impl<'a> TermMerger<'a> {
         None
     }
 
-    /// Goes on to the next term.
+    /// Moves to the next term.
     pub fn advance(&mut self)
         ensures { self.new ≡ record self.old { keys = drop 1 self.old.keys } }
     {
@@ -92,7 +92,7 @@ impl<'a> TermMerger<'a> {
     }
 }
 
-/// The terms of each dictionary.
+/// Returns the terms of each dictionary.
 fn all_terms<'a>(
     alloc: Global,
     dictionaries: &[TermDictionary<'a>],
@@ -106,7 +106,7 @@ fn all_terms<'a>(
     Ok(members)
 }
 
-/// The first member whose first term is the least of all.
+/// Returns the first member whose first term is the least of all.
 fn least_of(members: &[MemberTerms<'_>]) -> Option<usize>
     ensures { IsLeast members.now result }
 {
@@ -119,7 +119,7 @@ fn least_of(members: &[MemberTerms<'_>]) -> Option<usize>
     least
 }
 
-/// Whether the first term of a member doesn't stand behind that of another, if there is one.
+/// Whether member `number` has a first term, which isn't after that of `other`, if there is one.
 fn comes_before(members: &[MemberTerms<'_>], number: usize, other: Option<usize>) -> bool
     requires own { number < length members.now }
     requires within { IfSome other (λ n. n < length members.now) }
@@ -137,8 +137,7 @@ fn comes_before(members: &[MemberTerms<'_>], number: usize, other: Option<usize>
     }
 }
 
-/// Goes behind the first term of a member, in each member whose first term it is. The member itself goes last, since
-/// the others are compared with it.
+/// Removes the first term of member `least` in each that begins with it; in `least` last, as others are compared to it.
 fn pass_first(members: &mut [MemberTerms<'_>], least: usize)
     requires { least < length members.old }
     ensures { (key : List ℕ) → first_key (slice_index_or members.old least []) ≡ Some key
@@ -152,7 +151,7 @@ fn pass_first(members: &mut [MemberTerms<'_>], least: usize)
     members[least].advance();
 }
 
-/// Whether a member begins with the first term of another.
+/// Whether member `number` begins with the first term of `other`.
 fn begin_alike(members: &[MemberTerms<'_>], number: usize, other: usize) -> bool
     requires own { number < length members.now }
     requires within { other < length members.now }

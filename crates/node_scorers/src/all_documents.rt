@@ -10,7 +10,7 @@ use common::Score;
 use docsets::{AllScorer, BoostScorer, DocSet};
 use segment_reader::SegmentReader;
 
-/// Every document of a segment, by the boost.
+/// Returns a scorer of every document of the segment, with `boost` as the score.
 pub fn all_scorer(reader: &SegmentReader<'_>, boost: Score) -> BoostScorer<AllScorer>
     requires positive { pos 0 ≤ℤ boost }
     requires fits { natural boost ≤ max_score }

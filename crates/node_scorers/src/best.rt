@@ -14,8 +14,8 @@ use docsets::{DocSet, ListScorer, Scorer};
 use segment_reader::SegmentReader;
 use std::alloc::{AllocError, Global};
 
-/// The documents that match one of several queries, whose scorers these are, by the best score and so many thousandths
-/// of the others, walked whole.
+/// Lists the documents that match one of several queries, whose scorers are `disjuncts`, by the best score and
+/// `tie_breaker` thousandths of the others. The scorers are walked whole.
 pub fn best_scorer<S: Scorer + Drop>(
     alloc: Global,
     disjuncts: Vec<S>,

@@ -13,7 +13,8 @@ use docsets::{DocSet, ListScorer, Scorer};
 use segment_reader::SegmentReader;
 use std::alloc::{AllocError, Global};
 
-/// The documents that match clauses, whose scorers these are, by what they ask, walked whole.
+/// Lists the documents that match clauses, whose scorers are given by what the clauses ask. The scorers are walked
+/// whole.
 pub fn clauses_scorer<S: Scorer + Drop>(
     alloc: Global,
     musts: Vec<S>,

@@ -10,7 +10,7 @@ ghost use Rattle.segment_reader.specs.declared.segment_reader.SegmentReader.{Seg
 use common::Score;
 use docsets::{ConstScorer, DocSet, Scorer};
 
-/// The documents of a scorer, each with the same score, which is the boost times the constant.
+/// Returns the documents of `scorer`, each with `score`, which is the boost times the constant.
 pub fn constant_scorer<S: Scorer>(scorer: S, score: Score) -> ConstScorer<S>
     requires positive { pos 0 ≤ℤ score }
     requires fits { natural score ≤ max_score }

@@ -6,7 +6,7 @@ use crate::flags::{FastFlag, IndexedFlag, SchemaFlagList, SetsIn, StoredFlag};
 use std::marker::Model;
 use std::ops::BitOr;
 
-/// What a bytes field is for.
+/// The options of a bytes field.
 #[derive(Clone, Copy)]
 pub struct BytesOptions {
     stored: bool,
@@ -24,7 +24,7 @@ impl Model for BytesOptions {
 }
 
 impl BytesOptions {
-    /// Values come back with their documents.
+    /// Stores values with their documents.
     pub fn set_stored(self) -> Self
         ensures { result ≡ record self { stored = true } }
     {
@@ -34,7 +34,7 @@ impl BytesOptions {
         }
     }
 
-    /// Documents are found by their values. No lengths are kept by this alone.
+    /// Lets documents be found by their values. No lengths are kept by this alone.
     pub fn set_indexed(self) -> Self
         ensures { result ≡ record self { indexed = true } }
     {
@@ -44,7 +44,7 @@ impl BytesOptions {
         }
     }
 
-    /// Lengths are kept if the field is indexed: how many values each document has.
+    /// Keeps lengths if the field is indexed: the number of values of each document.
     pub fn set_fieldnorms(self) -> Self
         ensures { result ≡ record self { fieldnorms = true } }
     {
@@ -54,14 +54,14 @@ impl BytesOptions {
         }
     }
 
-    /// Kept as data, without effect.
+    /// Sets a flag that is kept as data, without effect.
     pub fn set_fast(self) -> Self
         ensures { result ≡ record self { fast = true } }
     {
         BytesOptions { fast: true, ..self }
     }
 
-    /// Whether values come back with their documents.
+    /// Whether values are stored with their documents.
     pub fn is_stored(&self) -> bool
         ensures { result ≡ self.now.stored }
     {
@@ -82,7 +82,7 @@ impl BytesOptions {
         self.fieldnorms && self.indexed
     }
 
-    /// What `set_fast` set.
+    /// Returns what `set_fast` set.
     pub fn is_fast(&self) -> bool
         ensures { result ≡ self.now.fast }
     {

@@ -6,7 +6,7 @@ use crate::flags::{FastFlag, IndexedFlag, SchemaFlagList, SetsIn, StoredFlag};
 use std::marker::Model;
 use std::ops::BitOr;
 
-/// What a date field is for.
+/// The options of a date field.
 #[derive(Clone, Copy)]
 pub struct DateOptions {
     stored: bool,
@@ -24,7 +24,7 @@ impl Model for DateOptions {
 }
 
 impl DateOptions {
-    /// Values come back with their documents.
+    /// Stores values with their documents.
     pub fn set_stored(self) -> Self
         ensures { result ≡ record self { stored = true } }
     {
@@ -34,7 +34,7 @@ impl DateOptions {
         }
     }
 
-    /// Documents are found by their values. No lengths are kept by this alone.
+    /// Lets documents be found by their values. No lengths are kept by this alone.
     pub fn set_indexed(self) -> Self
         ensures { result ≡ record self { indexed = true } }
     {
@@ -44,7 +44,7 @@ impl DateOptions {
         }
     }
 
-    /// Lengths are kept if the field is indexed: how many values each document has.
+    /// Keeps lengths if the field is indexed: the number of values of each document.
     pub fn set_fieldnorm(self) -> Self
         ensures { result ≡ record self { fieldnorms = true } }
     {
@@ -54,14 +54,14 @@ impl DateOptions {
         }
     }
 
-    /// Kept as data, without effect.
+    /// Sets a flag that is kept as data, without effect.
     pub fn set_fast(self) -> Self
         ensures { result ≡ record self { fast = true } }
     {
         DateOptions { fast: true, ..self }
     }
 
-    /// Whether values come back with their documents.
+    /// Whether values are stored with their documents.
     pub fn is_stored(&self) -> bool
         ensures { result ≡ self.now.stored }
     {
@@ -82,7 +82,7 @@ impl DateOptions {
         self.fieldnorms && self.indexed
     }
 
-    /// What `set_fast` set.
+    /// Returns what `set_fast` set.
     pub fn is_fast(&self) -> bool
         ensures { result ≡ self.now.fast }
     {

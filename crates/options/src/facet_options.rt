@@ -6,7 +6,7 @@ use crate::flags::{IndexedFlag, SchemaFlagList, SetsIn, StoredFlag};
 use std::marker::Model;
 use std::ops::BitOr;
 
-/// What a facet field is for. It is always indexed.
+/// The options of a facet field. It is always indexed.
 #[derive(Clone, Copy)]
 pub struct FacetOptions {
     stored: bool,
@@ -21,14 +21,14 @@ impl Model for FacetOptions {
 }
 
 impl FacetOptions {
-    /// Facets come back with their documents.
+    /// Stores facets with their documents.
     pub fn set_stored(self) -> Self
         ensures { result ≡ record self { stored = true } }
     {
         FacetOptions { stored: true }
     }
 
-    /// Whether facets come back with their documents.
+    /// Whether facets are stored with their documents.
     pub fn is_stored(&self) -> bool
         ensures { result ≡ self.now.stored }
     {

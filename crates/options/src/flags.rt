@@ -1,9 +1,9 @@
-//! Flags, which options of fields are put together from by `|`.
+//! Flags, which are joined by `|` to the options of fields.
 ghost use Rattle.std.specs.Prelude.{◌≡◌};
 
 use std::ops::BitOr;
 
-/// Values come back with their documents.
+/// Values are stored with their documents.
 #[derive(Clone, Copy, Debug)]
 pub struct StoredFlag;
 
@@ -19,14 +19,14 @@ pub struct CoerceFlag;
 #[derive(Clone, Copy, Debug)]
 pub struct FastFlag;
 
-/// Flags, the last one first.
+/// A list of flags, the last one first.
 #[derive(Clone, Copy, Debug)]
 pub struct SchemaFlagList<Head, Tail> {
     pub head: Head,
     pub tail: Tail,
 }
 
-/// Values come back with their documents.
+/// Values are stored with their documents.
 pub const STORED: SchemaFlagList<StoredFlag, ()> = SchemaFlagList {
     head: StoredFlag,
     tail: (),
@@ -66,11 +66,11 @@ impl<OldHead, OldTail, Head> BitOr<SchemaFlagList<Head, ()>> for SchemaFlagList<
     }
 }
 
-/// A flag that options of that type have, or a list of such flags.
+/// A flag of the options `Options`, or a list of such flags.
 pub trait SetsIn<Options> {
     ghost options_with: { Self → Options → Options };
 
-    /// The options with the flags set.
+    /// Sets the flags in `options`.
     fn set_in(self, options: Options) -> Options
         ensures { result ≡ options_with self options };
 }

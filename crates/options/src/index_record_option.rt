@@ -3,14 +3,14 @@ ghost use Rattle.std.specs.Prelude.{◌≡◌};
 ghost use Rattle.definitions.specs.Schema as schema;
 ghost use Rattle.options.specs.RecordOption.{record_option_of, lesser};
 
-/// What is recorded of a term, the least first.
+/// What is recorded of a term, from the least to the most.
 #[derive(Clone, Copy, Debug, PartialEq, Eq)]
 pub enum IndexRecordOption {
     /// The documents alone.
     Basic,
-    /// The documents, and how often the term stands in each.
+    /// The documents, and the number of times that each holds the term.
     WithFreqs,
-    /// The documents, and where the term stands in each.
+    /// The documents, and the positions of the term in each.
     WithFreqsAndPositions,
 }
 
@@ -35,7 +35,7 @@ impl IndexRecordOption {
         }
     }
 
-    /// The one of the two that records less.
+    /// Returns the one of `self` and `other` that records less.
     pub fn downgrade(self, other: IndexRecordOption) -> IndexRecordOption
         ensures { record_option_of result ≡ lesser (record_option_of self) (record_option_of other) }
     {

@@ -1,4 +1,4 @@
-//! The options of address fields.
+//! The options of IP address fields.
 ghost use Rattle.std.specs.Prelude.{◌≡◌, ◌&&◌, true};
 ghost use Rattle.options.specs.Options.{ValueData, default_value, value_or};
 
@@ -6,7 +6,7 @@ use crate::flags::{FastFlag, IndexedFlag, SchemaFlagList, SetsIn, StoredFlag};
 use std::marker::Model;
 use std::ops::BitOr;
 
-/// What an address field is for.
+/// The options of an IP address field.
 #[derive(Clone, Copy)]
 pub struct IpAddrOptions {
     stored: bool,
@@ -24,7 +24,7 @@ impl Model for IpAddrOptions {
 }
 
 impl IpAddrOptions {
-    /// Values come back with their documents.
+    /// Stores values with their documents.
     pub fn set_stored(self) -> Self
         ensures { result ≡ record self { stored = true } }
     {
@@ -34,7 +34,7 @@ impl IpAddrOptions {
         }
     }
 
-    /// Documents are found by their values. No lengths are kept by this alone.
+    /// Lets documents be found by their values. No lengths are kept by this alone.
     pub fn set_indexed(self) -> Self
         ensures { result ≡ record self { indexed = true } }
     {
@@ -44,7 +44,7 @@ impl IpAddrOptions {
         }
     }
 
-    /// Lengths are kept if the field is indexed: how many values each document has.
+    /// Keeps lengths if the field is indexed: the number of values of each document.
     pub fn set_fieldnorms(self) -> Self
         ensures { result ≡ record self { fieldnorms = true } }
     {
@@ -54,14 +54,14 @@ impl IpAddrOptions {
         }
     }
 
-    /// Kept as data, without effect.
+    /// Sets a flag that is kept as data, without effect.
     pub fn set_fast(self) -> Self
         ensures { result ≡ record self { fast = true } }
     {
         IpAddrOptions { fast: true, ..self }
     }
 
-    /// Whether values come back with their documents.
+    /// Whether values are stored with their documents.
     pub fn is_stored(&self) -> bool
         ensures { result ≡ self.now.stored }
     {
@@ -82,7 +82,7 @@ impl IpAddrOptions {
         self.fieldnorms && self.indexed
     }
 
-    /// What `set_fast` set.
+    /// Returns what `set_fast` set.
     pub fn is_fast(&self) -> bool
         ensures { result ≡ self.now.fast }
     {

@@ -9,7 +9,7 @@ use std::alloc::AllocError;
 use std::marker::Model;
 use std::ops::BitOr;
 
-/// What a JSON field is for.
+/// The options of a JSON field.
 #[derive(Drop)]
 pub struct JsonObjectOptions {
     stored: bool,
@@ -25,7 +25,7 @@ impl Model for JsonObjectOptions {
 }
 
 impl JsonObjectOptions {
-    /// Objects come back with their documents.
+    /// Stores objects with their documents.
     pub fn set_stored(self) -> Self
         ensures { result ≡ record self { stored = true } }
     {
@@ -35,7 +35,7 @@ impl JsonObjectOptions {
         }
     }
 
-    /// Documents are found by the leaves of their objects; texts by their tokens.
+    /// Lets documents be found by the leaves of their objects; texts by their tokens.
     pub fn set_indexing_options(self, indexing: TextFieldIndexing) -> Self
         ensures { result ≡ record self { indexing = Some indexing } }
     {
@@ -45,14 +45,14 @@ impl JsonObjectOptions {
         }
     }
 
-    /// Kept as data, without effect.
+    /// Sets a flag that is kept as data, without effect.
     pub fn set_fast(self) -> Self
         ensures { result ≡ record self { fast = true } }
     {
         JsonObjectOptions { fast: true, ..self }
     }
 
-    /// A dot in a key separates keys.
+    /// Lets a dot in a key separate keys.
     pub fn set_expand_dots_enabled(self) -> Self
         ensures { result ≡ record self { expand_dots = true } }
     {
@@ -62,7 +62,7 @@ impl JsonObjectOptions {
         }
     }
 
-    /// Whether objects come back with their documents.
+    /// Whether objects are stored with their documents.
     pub fn is_stored(&self) -> bool
         ensures { result ≡ self.now.stored }
     {
@@ -76,14 +76,14 @@ impl JsonObjectOptions {
         self.indexing.is_some()
     }
 
-    /// How texts in objects are indexed, or `None` where the field isn't.
+    /// Returns how texts in objects are indexed; `None` if the field isn't indexed.
     pub fn get_text_indexing_options(&self) -> Option<&TextFieldIndexing>
         ensures { option_copied result ≡ self.now.indexing }
     {
         self.indexing.as_ref()
     }
 
-    /// What `set_fast` set.
+    /// Returns what `set_fast` set.
     pub fn is_fast(&self) -> bool
         ensures { result ≡ self.now.fast }
     {

@@ -6,7 +6,7 @@ use crate::flags::{CoerceFlag, FastFlag, IndexedFlag, SchemaFlagList, SetsIn, St
 use std::marker::Model;
 use std::ops::BitOr;
 
-/// What a number or bool field is for.
+/// The options of a number or bool field.
 #[derive(Clone, Copy)]
 pub struct NumericOptions {
     stored: bool,
@@ -25,7 +25,7 @@ impl Model for NumericOptions {
 }
 
 impl NumericOptions {
-    /// Values come back with their documents.
+    /// Stores values with their documents.
     pub fn set_stored(self) -> Self
         ensures { result ≡ record self { stored = true } }
     {
@@ -35,7 +35,7 @@ impl NumericOptions {
         }
     }
 
-    /// Documents are found by their values. No lengths are kept by this alone.
+    /// Lets documents be found by their values. No lengths are kept by this alone.
     pub fn set_indexed(self) -> Self
         ensures { result ≡ record self { indexed = true } }
     {
@@ -45,7 +45,7 @@ impl NumericOptions {
         }
     }
 
-    /// Lengths are kept if the field is indexed: how many values each document has.
+    /// Keeps lengths if the field is indexed: the number of values of each document.
     pub fn set_fieldnorm(self) -> Self
         ensures { result ≡ record self { fieldnorms = true } }
     {
@@ -55,14 +55,14 @@ impl NumericOptions {
         }
     }
 
-    /// Kept as data, without effect.
+    /// Sets a flag that is kept as data, without effect.
     pub fn set_fast(self) -> Self
         ensures { result ≡ record self { fast = true } }
     {
         NumericOptions { fast: true, ..self }
     }
 
-    /// Values are read from texts too.
+    /// Reads values from texts, too.
     pub fn set_coerce(self) -> Self
         ensures { result ≡ record self { coerce = true } }
     {
@@ -72,7 +72,7 @@ impl NumericOptions {
         }
     }
 
-    /// Whether values come back with their documents.
+    /// Whether values are stored with their documents.
     pub fn is_stored(&self) -> bool
         ensures { result ≡ self.now.stored }
     {
@@ -93,14 +93,14 @@ impl NumericOptions {
         self.fieldnorms && self.indexed
     }
 
-    /// What `set_fast` set.
+    /// Returns what `set_fast` set.
     pub fn is_fast(&self) -> bool
         ensures { result ≡ self.now.fast }
     {
         self.fast
     }
 
-    /// Whether values are read from texts too.
+    /// Whether values are read from texts, too.
     pub fn should_coerce(&self) -> bool
         ensures { result ≡ self.now.coerce }
     {

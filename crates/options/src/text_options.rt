@@ -25,12 +25,12 @@ impl Model for TextFieldIndexing {
 
     ghost view = { λ i. record { tokenizer = cow_str_bytes i.tokenizer; fieldnorms = i.fieldnorms; record_option = record_option_of i.index_option } };
 
-    // The names that are always there take no memory.
+    // The names of the two analyzers that are always available take no memory.
     ghost invariant = { λ i. IsKnownTokenizer (cow_str_bytes i.tokenizer) → IsBorrowedStr i.tokenizer };
 }
 
 impl TextFieldIndexing {
-    /// The analyzer that makes tokens of texts. Names other than `raw` and `default` are copied.
+    /// Sets the name of the analyzer of the texts. Names other than `raw` and `default` are copied.
     pub fn set_tokenizer(self, alloc: Global, name: &str) -> Result<Self, AllocError>
         ensures ok { IfOk result (λ i. i ≡ record self { tokenizer = name.now }) }
         ensures succeeds { IsKnownTokenizer name.now → IsOk result }
@@ -43,14 +43,14 @@ impl TextFieldIndexing {
         Ok(TextFieldIndexing { tokenizer, ..self })
     }
 
-    /// The name of the analyzer.
+    /// Returns the name of the analyzer.
     pub fn tokenizer(&self) -> &str
         ensures { result.now ≡ self.now.tokenizer }
     {
         self.tokenizer.as_str()
     }
 
-    /// Whether lengths are kept: how many tokens each document has.
+    /// Sets whether lengths are kept: the number of tokens of each document.
     pub fn set_fieldnorms(self, fieldnorms: bool) -> Self
         ensures { result ≡ record self { fieldnorms = fieldnorms } }
     {
@@ -64,7 +64,7 @@ impl TextFieldIndexing {
         self.fieldnorms
     }
 
-    /// What is recorded of the field's terms.
+    /// Sets what is recorded of the field's terms.
     pub fn set_index_option(self, index_option: IndexRecordOption) -> Self
         ensures { result ≡ record self { record_option = record_option_of index_option } }
     {
@@ -74,7 +74,7 @@ impl TextFieldIndexing {
         }
     }
 
-    /// What is recorded of the field's terms.
+    /// Returns what is recorded of the field's terms.
     pub fn index_option(&self) -> IndexRecordOption
         ensures { record_option_of result ≡ self.now.record_option }
     {
@@ -112,7 +112,7 @@ impl Clone for TextFieldIndexing {
     }
 }
 
-/// What a text field is for.
+/// The options of a text field.
 #[derive(Drop)]
 pub struct TextOptions {
     stored: bool,
@@ -128,7 +128,7 @@ impl Model for TextOptions {
 }
 
 impl TextOptions {
-    /// Texts come back with their documents.
+    /// Stores texts with their documents.
     pub fn set_stored(self) -> Self
         ensures { result ≡ record self { stored = true } }
     {
@@ -138,14 +138,14 @@ impl TextOptions {
         }
     }
 
-    /// Whether texts come back with their documents.
+    /// Whether texts are stored with their documents.
     pub fn is_stored(&self) -> bool
         ensures { result ≡ self.now.stored }
     {
         self.stored
     }
 
-    /// Documents are found by the tokens of their texts.
+    /// Lets documents be found by the tokens of their texts.
     pub fn set_indexing_options(self, indexing: TextFieldIndexing) -> Self
         ensures { result ≡ record self { indexing = Some indexing } }
     {
@@ -155,28 +155,28 @@ impl TextOptions {
         }
     }
 
-    /// How the field is indexed, or `None` where it isn't.
+    /// Returns how the field is indexed; `None` if it isn't.
     pub fn get_indexing_options(&self) -> Option<&TextFieldIndexing>
         ensures { option_copied result ≡ self.now.indexing }
     {
         self.indexing.as_ref()
     }
 
-    /// Kept as data, without effect.
+    /// Sets a flag that is kept as data, without effect.
     pub fn set_fast(self) -> Self
         ensures { result ≡ record self { fast = true } }
     {
         TextOptions { fast: true, ..self }
     }
 
-    /// What `set_fast` set.
+    /// Returns what `set_fast` set.
     pub fn is_fast(&self) -> bool
         ensures { result ≡ self.now.fast }
     {
         self.fast
     }
 
-    /// Texts are read from whole numbers, bools and null too.
+    /// Reads texts from whole numbers, bools and null, too.
     pub fn set_coerce(self) -> Self
         ensures { result ≡ record self { coerce = true } }
     {
@@ -186,7 +186,7 @@ impl TextOptions {
         }
     }
 
-    /// Whether texts are read from whole numbers, bools and null too.
+    /// Whether texts are read from whole numbers, bools and null, too.
     pub fn should_coerce(&self) -> bool
         ensures { result ≡ self.now.coerce }
     {
@@ -309,7 +309,7 @@ impl<Flag: SetsIn<TextOptions>> BitOr<TextOptions> for SchemaFlagList<Flag, ()> 
     }
 }
 
-/// Found by the tokens of `default`, with positions and lengths. Not stored.
+/// A text field that is found by the tokens of `default`, with positions and lengths. Not stored.
 pub const TEXT: TextOptions = TextOptions {
     stored: false,
     indexing: Some(TextFieldIndexing {
@@ -321,7 +321,7 @@ pub const TEXT: TextOptions = TextOptions {
     coerce: false,
 };
 
-/// Found by the whole text, with lengths. Not stored.
+/// A text field that is found by the whole text, with lengths. Not stored.
 pub const STRING: TextOptions = TextOptions {
     stored: false,
     indexing: Some(TextFieldIndexing {

@@ -9,7 +9,7 @@ ghost use lib.Lanes.{number_l};
 /// Room for a block of either kind: 128 numbers in as many as five bytes each.
 pub(crate) const OUTPUT_LEN: usize = 640;
 
-/// The least width in bits that holds all the numbers.
+/// Returns the least width in bits that holds all `numbers`.
 pub fn width_of(numbers: &[u32]) -> u32
     ensures few { result ≤ 32 }
     ensures holds { (i : ℕ) → slice_index numbers.now i < 2 ^ result }
@@ -22,7 +22,7 @@ pub fn width_of(numbers: &[u32]) -> u32
     32 - all.leading_zeros()
 }
 
-/// Writes the block of these numbers at this width.
+/// Packs `numbers` at `width` bits each into the start of `out`.
 pub(crate) fn pack(numbers: &[u32], width: u32, out: &mut [u8; 640])
     requires count { length numbers.now ≡ block_len }
     requires width { width ≤ 32 }
@@ -46,7 +46,7 @@ pub(crate) fn pack(numbers: &[u32], width: u32, out: &mut [u8; 640])
     }
 }
 
-/// Writes four bytes at a place, the lowest first.
+/// Writes the four bytes of `word` at the offset `at`, the lowest first.
 #[inline(always)]
 fn put_word(out: &mut [u8; 640], at: usize, word: u32)
     requires { at + 4 ≤ 640 }

@@ -1,4 +1,4 @@
-//! The numbers of a packed block: eight values a turn, at widths that are known to the compiler.
+//! The numbers of a packed block, unpacked eight at a time at widths that are known to the compiler.
 
 ghost use Rattle.std.specs.Prelude.{◌%◌, ◌*◌, ◌+◌, ◌/◌, ◌<◌, ◌^◌, ◌≡◌, ◌≤◌, length, slice_index, take, ℕ};
 ghost use Rattle.definitions.specs.Blocks.{block_len};
@@ -7,10 +7,10 @@ ghost use lib.Lanes.{number_l};
 
 use crate::block_size::COMPRESSION_BLOCK_SIZE;
 
-/// The longest block, and room for a whole word from its last byte on.
+/// The length of the longest block, with room for a whole word from its last byte on.
 const PADDED_LEN: usize = 520;
 
-/// The numbers of the block of this width that the bytes begin with.
+/// Unpacks the block of `width` bits a number at the start of `bytes` into `out`.
 pub(crate) fn unpack(bytes: &[u8], width: u32, out: &mut [u32; COMPRESSION_BLOCK_SIZE])
     requires width { width ≤ 32 }
     requires room { 16 * width ≤ length bytes.now }
@@ -26,7 +26,7 @@ pub(crate) fn unpack(bytes: &[u8], width: u32, out: &mut [u32; COMPRESSION_BLOCK
     }
 }
 
-/// The bytes of a block, and zeros after them.
+/// Returns the bytes of `block`, with zeros after them.
 pub(crate) fn padded(block: &[u8]) -> [u8; PADDED_LEN]
     requires { length block.now ≤ 512 }
     ensures begins { take (length block.now) result ≡ block.now }
@@ -37,7 +37,7 @@ pub(crate) fn padded(block: &[u8]) -> [u8; PADDED_LEN]
     padded
 }
 
-/// The same, where eight bytes or more follow the block.
+/// Like `unpack`, but with at least eight bytes after the block.
 fn unpack_wide(bytes: &[u8], width: u32, out: &mut [u32; COMPRESSION_BLOCK_SIZE])
     requires width { width ≤ 32 }
     requires room { 16 * width + 8 ≤ length bytes.now }
@@ -81,7 +81,7 @@ fn unpack_wide(bytes: &[u8], width: u32, out: &mut [u32; COMPRESSION_BLOCK_SIZE]
     }
 }
 
-/// The same at a width that is known.
+/// Like `unpack_wide`, but at the constant width `W`.
 fn unpack_at<const W: usize>(bytes: &[u8], out: &mut [u32; COMPRESSION_BLOCK_SIZE])
     requires width { W ≤ 32 }
     requires room { 16 * W + 8 ≤ length bytes.now }
@@ -94,7 +94,7 @@ fn unpack_at<const W: usize>(bytes: &[u8], out: &mut [u32; COMPRESSION_BLOCK_SIZ
     }
 }
 
-/// The value at a place of a group of eight.
+/// Returns the value at index `place` of a group of eight.
 #[inline(always)]
 pub(crate) fn field_at<const W: usize>(bytes: &[u8], group: usize, place: usize) -> u32
     requires width { W ≤ 32 }
@@ -108,7 +108,7 @@ pub(crate) fn field_at<const W: usize>(bytes: &[u8], group: usize, place: usize)
     ((word >> (bit % 8)) & ((1 << W) - 1)) as u32
 }
 
-/// Eight bytes as one number, the lowest first.
+/// Returns the eight bytes at the offset `at` as one number, the lowest first.
 #[inline(always)]
 fn word_at(bytes: &[u8], at: usize) -> u64
     requires { at + 8 ≤ length bytes.now }

@@ -1,4 +1,4 @@
-//! Blocks of 128 numbers, and of 128 ascending documents, read from their bytes.
+//! Blocks of 128 numbers, and of 128 ascending documents, decoded.
 
 ghost use Rattle.std.specs.Prelude.{[], ◌*◌, ◌<◌, ◌^◌, ◌≡◌, ◌≤◌, length, replicate, slice_index, take, List, ℕ};
 ghost use Rattle.definitions.specs.Blocks.{block_len};
@@ -10,7 +10,7 @@ use crate::block_size::{COMPRESSION_BLOCK_SIZE, compressed_block_size};
 use crate::delta_sums::documents;
 use crate::offset::wrapped_after;
 
-/// Room for the numbers of a block, and those that were read last.
+/// A decoder of blocks, with the numbers that were decoded last.
 #[derive(Drop)]
 pub struct BlockDecoder {
     pub(crate) output: [u32; COMPRESSION_BLOCK_SIZE],
@@ -21,7 +21,7 @@ pub struct BlockDecoder {
 impl BlockDecoder {
     ghost use Rattle.packed_blocks.specs.Decoded.{output_list, output_places};
 
-    /// A decoder that has read nothing yet, with the same number at each of its 128 places.
+    /// Returns a decoder that has decoded nothing yet, with `val` at each of its 128 indices.
     pub fn with_val(val: u32) -> BlockDecoder
         ensures nothing { output_list result ≡ [] }
         ensures places { output_places result ≡ replicate block_len val }
@@ -32,7 +32,8 @@ impl BlockDecoder {
         }
     }
 
-    /// Reads a block of this width in bits, and answers how many bytes it takes, whatever follows it.
+    /// Decodes the block of width `num_bits` at the start of `bytes`, whatever follows it.
+    /// Returns how many bytes the block takes.
     pub fn uncompress_block_unsorted(&mut self, bytes: &[u8], num_bits: u8) -> usize
         requires width { num_bits ≤ 32 }
         requires room { 16 * num_bits ≤ length bytes.now }
@@ -44,10 +45,10 @@ impl BlockDecoder {
         compressed_block_size(num_bits)
     }
 
-    /// Reads a block of ascending documents from their strict deltas, and answers how many bytes it takes.
-    /// The offset is the document before the block, or 0 where none stands before.
+    /// Decodes a block of ascending documents from their strict deltas; returns how many bytes it takes.
+    /// `offset` is the document before the block, or 0 where there is none.
     ///
-    /// Where the documents aren't below 2^32 what is read is of no use.
+    /// Documents that aren't all below 2^32 decode to meaningless numbers.
     pub fn uncompress_block_sorted(&mut self, bytes: &[u8], offset: u32, num_bits: u8) -> usize
         requires width { num_bits ≤ 32 }
         requires room { 16 * num_bits ≤ length bytes.now }
@@ -65,14 +66,14 @@ impl BlockDecoder {
         compressed_block_size(num_bits)
     }
 
-    /// The numbers that were read last.
+    /// Returns the numbers that were decoded last.
     pub fn output_array(&self) -> &[u32]
         ensures { result.now ≡ output_list self.now }
     {
         &self.output[..self.output_len]
     }
 
-    /// The number at one of the 128 places, the numbers read last first.
+    /// Returns the number at index `place` of the 128, of which the numbers decoded last come first.
     pub fn output(&self, place: usize) -> u32
         requires { place < block_len }
         ensures { result ≡ slice_index (output_places self.now) place }

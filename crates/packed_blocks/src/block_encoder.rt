@@ -1,4 +1,4 @@
-//! Blocks of 128 numbers, and of 128 ascending documents, written as bytes.
+//! Blocks of 128 numbers, and of 128 ascending documents, encoded.
 
 ghost use Rattle.std.specs.Prelude.{◌*◌, ◌+◌, ◌<◌, ◌^◌, ◌≡◌, ◌≤◌, length, slice_index, take, ℕ};
 ghost use Rattle.definitions.specs.Blocks.{block_len};
@@ -9,19 +9,19 @@ use crate::bit_packer::{pack, width_of};
 use crate::block_size::{COMPRESSION_BLOCK_SIZE, compressed_block_size};
 use crate::offset::least_after;
 
-/// Room for the bytes of a block.
+/// An encoder of blocks, with room for the bytes of one.
 #[derive(Drop)]
 pub struct BlockEncoder {
     pub(crate) output: [u8; 640],
 }
 
 impl BlockEncoder {
-    /// An encoder that has written nothing yet.
+    /// Returns an encoder that has encoded nothing yet.
     pub fn new() -> BlockEncoder {
         BlockEncoder { output: [0; 640] }
     }
 
-    /// The width in bits, and the bytes, of 128 numbers.
+    /// Encodes 128 `numbers`; returns their width in bits, and the bytes.
     pub fn compress_block_unsorted(&mut self, numbers: &[u32]) -> (u8, &[u8])
         requires { length numbers.now ≡ block_len }
         ensures { IsBlock result.0 numbers.now result.1.now }
@@ -32,8 +32,8 @@ impl BlockEncoder {
         (width as u8, &self.output[..len])
     }
 
-    /// The width in bits, and the bytes, of 128 ascending documents by their strict deltas.
-    /// The offset is the document before them, or 0 where none stands before.
+    /// Encodes 128 ascending documents by their strict deltas; returns the width in bits, and the bytes.
+    /// `offset` is the document before them, or 0 where there is none.
     pub fn compress_block_sorted(&mut self, docs: &[u32], offset: u32) -> (u8, &[u8])
         requires count { length docs.now ≡ block_len }
         requires ascending { IsAscendingFrom (next_of offset) docs.now }
@@ -44,7 +44,7 @@ impl BlockEncoder {
     }
 }
 
-/// The strict deltas of 128 documents after an offset.
+/// Returns the strict deltas of 128 documents after `offset`.
 fn deltas_of(docs: &[u32], offset: u32) -> [u32; COMPRESSION_BLOCK_SIZE]
     requires count { length docs.now ≡ block_len }
     requires ascending { IsAscendingFrom (next_of offset) docs.now }

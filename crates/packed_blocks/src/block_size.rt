@@ -1,11 +1,11 @@
-//! How many numbers a block has, and how many bytes it takes.
+//! The size of a block, in numbers and in bytes.
 
 ghost use Rattle.std.specs.Prelude.{◌*◌, ◌≡◌};
 
-/// How many numbers stand in a block.
+/// How many numbers a block has.
 pub const COMPRESSION_BLOCK_SIZE: usize = 128;
 
-/// How many bytes a block takes at a width in bits.
+/// Returns how many bytes a block takes at the width `num_bits`.
 pub fn compressed_block_size(num_bits: u8) -> usize
     ensures { result ≡ 16 * num_bits }
 {

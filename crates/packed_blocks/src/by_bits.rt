@@ -6,7 +6,7 @@ ghost use Rattle.layouts.specs.PackedBlocks.{IsPacked};
 
 use crate::block_size::COMPRESSION_BLOCK_SIZE;
 
-/// The numbers of a block of this width in bits.
+/// Unpacks the block of width `num_bits` at the start of `bytes` into `out`.
 pub fn numbers_by_bits(bytes: &[u8], num_bits: u8, out: &mut [u32; COMPRESSION_BLOCK_SIZE])
     requires width { num_bits ≤ 32 }
     requires room { 16 * num_bits ≤ length bytes.now }
@@ -17,7 +17,7 @@ pub fn numbers_by_bits(bytes: &[u8], num_bits: u8, out: &mut [u32; COMPRESSION_B
     }
 }
 
-/// The number in the bits from a place on.
+/// Returns the number of `num_bits` bits from the bit `from` on.
 fn number_at(bytes: &[u8], from: usize, num_bits: u8) -> u32
     requires width { num_bits ≤ 32 }
     requires room { from + num_bits ≤ 8 * length bytes.now }
@@ -31,7 +31,7 @@ fn number_at(bytes: &[u8], from: usize, num_bits: u8) -> u32
     number
 }
 
-/// The bit at a place.
+/// Returns the bit at index `place`.
 fn bit_at(bytes: &[u8], place: usize) -> u32
     requires { place < 8 * length bytes.now }
     ensures { result ≡ number_l 256 bytes.now / 2 ^ place % 2 }

@@ -1,4 +1,4 @@
-//! Blocks from outside: read where the bytes are in the layout, and refused where they aren't.
+//! Blocks of bytes from outside: decoded where the bytes are in the layout, and refused where they aren't.
 
 ghost use Rattle.std.specs.Prelude.{[], ◌*◌, ◌+◌, ◌<◌, ◌^◌, ◌≡◌, ◌≤◌, IfErr, IfNone, IfOk, IfSome, List, None, OnErr, OnOk, length, slice_index, take, ℕ};
 ghost use Rattle.packed_blocks.specs.Decoded.{output_list};
@@ -14,7 +14,7 @@ use crate::offset::least_after;
 use definitions::Fault;
 
 impl BlockDecoder {
-    /// Reads a block of this width in bits where the bytes begin with one, and answers how many bytes it takes.
+    /// Decodes the block of width `num_bits` that `bytes` must begin with; returns how many bytes it takes.
     pub fn checked_block_unsorted(&mut self, bytes: &[u8], num_bits: u8) -> Result<usize, Fault>
         ensures ok { IfOk result (λ consumed. (consumed ≡ 16 * num_bits) × IsBlock num_bits (output_list self.new) (take (16 * num_bits) bytes.now)) }
         ensures err { IfErr result (λ fault. (fault ≡ faults.Damaged None) × ((numbers : List ℕ) → ¬ IsBlock num_bits numbers (take (16 * num_bits) bytes.now))) }
@@ -32,8 +32,8 @@ impl BlockDecoder {
         Ok(consumed)
     }
 
-    /// Reads a block of ascending documents below 2^32 where the bytes begin with one, and answers how many
-    /// bytes it takes. The offset is the document before the block, or 0 where none stands before.
+    /// Decodes the block of ascending documents below 2^32 that `bytes` must begin with; returns how many bytes it
+    /// takes. `offset` is the document before the block, or 0 where there is none.
     pub fn checked_block_sorted(
         &mut self,
         bytes: &[u8],
@@ -55,7 +55,7 @@ impl BlockDecoder {
     }
 }
 
-/// The documents that have these strict deltas after an offset, where all are below 2^32.
+/// Returns the documents with these strict deltas after `offset`, where all are below 2^32.
 fn documents_of(deltas: &[u32], offset: u32) -> Option<[u32; COMPRESSION_BLOCK_SIZE]>
     requires { length deltas.now ≡ block_len }
     ensures some { IfSome result (λ docs. (docs ≡ documents (next_of offset) deltas.now) × ((i : ℕ) → slice_index docs i < 2 ^ 32)) }

@@ -1,4 +1,4 @@
-//! The documents of a packed block of strict deltas, summed as the values are taken out.
+//! The documents of a packed block of strict deltas, summed as the values are unpacked.
 
 ghost use Rattle.std.specs.Prelude.{◌%◌, ◌*◌, ◌+◌, ◌/◌, ◌<◌, ◌^◌, ◌≡◌, ◌≤◌, length, slice_index, take, ℕ};
 ghost use Rattle.definitions.specs.Blocks.{block_len};
@@ -8,7 +8,7 @@ ghost use lib.Lanes.{number_l};
 use crate::bit_unpacker::{field_at, padded};
 use crate::block_size::COMPRESSION_BLOCK_SIZE;
 
-/// The documents whose strict deltas are the numbers of the block, each as far as 32 bits hold it.
+/// Unpacks the documents whose strict deltas are the numbers of the block, each modulo 2^32.
 pub(crate) fn documents(
     bytes: &[u8],
     width: u32,
@@ -29,7 +29,7 @@ pub(crate) fn documents(
     }
 }
 
-/// The same, where eight bytes or more follow the block.
+/// Like `documents`, but with at least eight bytes after the block.
 fn documents_wide(bytes: &[u8], width: u32, next: u32, out: &mut [u32; COMPRESSION_BLOCK_SIZE])
     requires width { width ≤ 32 }
     requires room { 16 * width + 8 ≤ length bytes.now }
@@ -73,7 +73,7 @@ fn documents_wide(bytes: &[u8], width: u32, next: u32, out: &mut [u32; COMPRESSI
     }
 }
 
-/// The same at a width that is known.
+/// Like `documents_wide`, but at the constant width `W`.
 fn documents_at<const W: usize>(bytes: &[u8], next: u32, out: &mut [u32; COMPRESSION_BLOCK_SIZE])
     requires width { W ≤ 32 }
     requires room { 16 * W + 8 ≤ length bytes.now }

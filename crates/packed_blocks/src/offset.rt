@@ -1,9 +1,9 @@
-//! Where documents go on after an offset: the document before, or 0 where none stands before.
+//! The least document after an offset, which is the document before, or 0 where there is none.
 
 ghost use Rattle.std.specs.Prelude.{◌%◌, ◌^◌, ◌≡◌, ◌≤◌};
 ghost use Rattle.layouts.specs.Deltas.{next_of};
 
-/// The least document after an offset.
+/// Returns the least document after `offset`.
 pub(crate) fn least_after(offset: u32) -> u64
     ensures least { result ≡ next_of offset }
     ensures few { result ≤ 2 ^ 32 }
@@ -11,7 +11,7 @@ pub(crate) fn least_after(offset: u32) -> u64
     if offset == 0 { 0 } else { offset as u64 + 1 }
 }
 
-/// The same, as far as 32 bits hold it.
+/// Like `least_after`, but modulo 2^32.
 pub(crate) fn wrapped_after(offset: u32) -> u32
     ensures { result ≡ next_of offset % 2 ^ 32 }
 {

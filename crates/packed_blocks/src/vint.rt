@@ -15,10 +15,10 @@ use common::{put_vint, take_vint};
 use definitions::Fault;
 use std::alloc::AllocError;
 
-/// Appends lists of numbers in bytes of seven bits.
+/// An encoder of lists of numbers in bytes of seven bits.
 pub trait VIntEncoder {
-    /// Appends ascending documents by their deltas. The offset is the document before the first; 0 says
-    /// that none stands before.
+    /// Appends ascending documents by their deltas. `offset` is the document before the first, or 0 where there is
+    /// none.
     fn compress_vint_sorted(
         &self,
         out: &mut Vec<u8>,
@@ -33,19 +33,19 @@ pub trait VIntEncoder {
         ensures { OnOk result (out.new.items ≡ out.old.items ++ numbers_bytes input.now) };
 }
 
-/// Reads lists of at most 128 numbers from bytes of seven bits. What is read stands first in the output,
-/// and the padding, where one is given, behind it. The answer is how many bytes were read.
+/// A decoder of lists of at most 128 numbers in bytes of seven bits. The decoded numbers come first in the output,
+/// then the padding, where one is given. A call returns how many bytes it read.
 ///
-/// The plain calls are for bytes that are known to be such a list. The others refuse `Damaged` where they
-/// aren't, and then hold no number.
+/// The plain calls are for bytes that are known to be such a list. The `try_` calls refuse other bytes as `Damaged`,
+/// and then hold no number.
 pub trait VIntDecoder {
-    // All places of the output.
+    // All numbers of the output.
     ghost places: { Self → List ℕ };
 
-    // How many of them were read last.
+    // How many of them were decoded last.
     ghost filled: { Self → ℕ };
 
-    /// Reads documents behind an offset; 0 says that none stands before.
+    /// Decodes `num_els` documents after `offset`, which is 0 where there is none before.
     fn uncompress_vint_sorted(
         &mut self,
         bytes: &[u8],
@@ -60,7 +60,7 @@ pub trait VIntDecoder {
         ensures filled { filled self.new ≡ num_els }
         ensures within { result ≤ length bytes.now };
 
-    /// Reads numbers as they are.
+    /// Decodes `num_els` numbers as they are.
     fn uncompress_vint_unsorted(&mut self, bytes: &[u8], num_els: usize, padding: u32) -> usize
         requires room { num_els ≤ block_len }
         requires layout { IsSome (take_numbers num_els bytes.now) }
@@ -69,13 +69,13 @@ pub trait VIntDecoder {
         ensures filled { filled self.new ≡ num_els }
         ensures within { result ≤ length bytes.now };
 
-    /// Reads all numbers up to the end of the bytes.
+    /// Decodes all numbers up to the end of `bytes`.
     fn uncompress_vint_unsorted_until_end(&mut self, bytes: &[u8])
         requires layout { IsSome (take_all_numbers block_len bytes.now) }
         ensures numbers { take_all_numbers block_len bytes.now ≡ Some (take (filled self.new) (places self.new)) }
         ensures room { filled self.new ≤ block_len };
 
-    /// Reads documents behind an offset from bytes that may be damaged.
+    /// Like `uncompress_vint_sorted`, but for bytes that may be damaged.
     fn try_uncompress_vint_sorted(
         &mut self,
         bytes: &[u8],
@@ -90,7 +90,7 @@ pub trait VIntDecoder {
         ensures err { IfErr result (λ fault. (fault ≡ faults.Damaged None) × (take_documents offset num_els bytes.now ≡ None)) }
         ensures none { OnErr result (filled self.new ≡ 0) };
 
-    /// Reads numbers as they are from bytes that may be damaged.
+    /// Like `uncompress_vint_unsorted`, but for bytes that may be damaged.
     fn try_uncompress_vint_unsorted(
         &mut self,
         bytes: &[u8],
@@ -104,7 +104,7 @@ pub trait VIntDecoder {
         ensures err { IfErr result (λ fault. (fault ≡ faults.Damaged None) × (take_numbers num_els bytes.now ≡ None)) }
         ensures none { OnErr result (filled self.new ≡ 0) };
 
-    /// Reads all numbers up to the end of bytes that may be damaged.
+    /// Like `uncompress_vint_unsorted_until_end`, but for bytes that may be damaged.
     fn try_uncompress_vint_unsorted_until_end(&mut self, bytes: &[u8]) -> Result<(), Fault>
         ensures ok { OnOk result (take_all_numbers block_len bytes.now
             ≡ Some (take (filled self.new) (places self.new))) }
@@ -200,7 +200,7 @@ impl VIntDecoder for BlockDecoder {
     }
 }
 
-/// Fills the places behind the first ones.
+/// Fills the output after its first `count` numbers with `padding`.
 fn pad(output: &mut [u32; COMPRESSION_BLOCK_SIZE], count: usize, padding: u32)
     requires { count ≤ block_len }
     ensures first { take count output.new ≡ take count output.old }
@@ -209,7 +209,7 @@ fn pad(output: &mut [u32; COMPRESSION_BLOCK_SIZE], count: usize, padding: u32)
     output[count..].fill(padding);
 }
 
-/// Makes the first deltas into documents, unless one isn't below 2^32.
+/// Turns the first `count` deltas into documents from `next` on; false where one isn't below 2^32.
 fn add_deltas(output: &mut [u32; COMPRESSION_BLOCK_SIZE], count: usize, next: u64) -> bool
     requires room { count ≤ block_len }
     requires few { next ≤ 2 ^ 32 }
@@ -229,7 +229,7 @@ fn add_deltas(output: &mut [u32; COMPRESSION_BLOCK_SIZE], count: usize, next: u6
     true
 }
 
-/// Makes the first deltas into documents, which are known to be below 2^32.
+/// Turns the first `count` deltas into documents from `next` on, which are known to be below 2^32.
 fn sum_deltas(output: &mut [u32; COMPRESSION_BLOCK_SIZE], count: usize, next: u64)
     requires room { count ≤ block_len }
     requires few { next ≤ 2 ^ 32 }
@@ -245,7 +245,7 @@ fn sum_deltas(output: &mut [u32; COMPRESSION_BLOCK_SIZE], count: usize, next: u6
     }
 }
 
-/// The number that stands first, and what follows it.
+/// Decodes the first number; returns it, and the bytes after it.
 fn first_number(bytes: &[u8]) -> (u32, &[u8])
     requires { IsSome (take_number bytes.now) }
     ensures { take_number bytes.now ≡ Some (result.0, result.1.now) }
@@ -261,7 +261,7 @@ fn first_number(bytes: &[u8]) -> (u32, &[u8])
     (value + (u32::from(rest[0] - 128) << shift), &rest[1..])
 }
 
-/// The number that stands first, where one below 2^32 does, and what follows it.
+/// Decodes the first number, which must be below 2^32; returns it, and the bytes after it.
 fn try_first_number(bytes: &[u8]) -> Result<(u32, &[u8]), Fault>
     ensures ok { IfOk result (λ p. take_number bytes.now ≡ Some (p.0, p.1.now)) }
     ensures err { IfErr result (λ fault. (fault ≡ faults.Damaged None) × (take_number bytes.now ≡ None)) }
@@ -273,7 +273,7 @@ fn try_first_number(bytes: &[u8]) -> Result<(u32, &[u8]), Fault>
     Ok((number as u32, rest))
 }
 
-/// Reads so many numbers, and answers how many bytes they are.
+/// Decodes `count` numbers; returns how many bytes they take.
 fn read_numbers(bytes: &[u8], count: usize, output: &mut [u32; COMPRESSION_BLOCK_SIZE]) -> usize
     requires room { count ≤ block_len }
     requires layout { IsSome (take_numbers count bytes.now) }
@@ -289,7 +289,7 @@ fn read_numbers(bytes: &[u8], count: usize, output: &mut [u32; COMPRESSION_BLOCK
     bytes.len() - rest.len()
 }
 
-/// Reads all numbers up to the end, and answers how many there are.
+/// Decodes all numbers up to the end; returns how many there are.
 fn read_all_numbers(bytes: &[u8], output: &mut [u32; COMPRESSION_BLOCK_SIZE]) -> usize
     requires { IsSome (take_all_numbers block_len bytes.now) }
     ensures numbers { take_all_numbers block_len bytes.now ≡ Some (take result output.new) }
@@ -306,7 +306,7 @@ fn read_all_numbers(bytes: &[u8], output: &mut [u32; COMPRESSION_BLOCK_SIZE]) ->
     count
 }
 
-/// Reads so many numbers, where they stand there, and answers how many bytes they are.
+/// Like `read_numbers`, but for bytes that may be damaged.
 fn try_read_numbers(
     bytes: &[u8],
     count: usize,
@@ -325,7 +325,7 @@ fn try_read_numbers(
     Ok(bytes.len() - rest.len())
 }
 
-/// Reads all numbers up to the end, where there are at most 128, and answers how many.
+/// Like `read_all_numbers`, but for bytes that may be damaged or have more than 128 numbers.
 fn try_read_all_numbers(
     bytes: &[u8],
     output: &mut [u32; COMPRESSION_BLOCK_SIZE],

@@ -1,4 +1,4 @@
-//! The weight of a phrase whose last term is known by its first bytes.
+//! The weight of a phrase whose last term is a prefix.
 
 ghost use Rattle.std.specs.Prelude.{[], ◌*◌, ◌≡◌, ◌≤ℤ◌, ◌≤◌, IfNone, IfOk, IfSome, List, length, map, pos};
 ghost use Rattle.docsets.specs.EntryLaws.{DontFall-prop};
@@ -26,8 +26,8 @@ use segment_reader::SegmentReader;
 use std::alloc::{AllocError, Global};
 use terms::Term;
 
-/// Documents where terms that begin with a prefix follow a phrase, by the sum of the whole terms' weights and the norms
-/// of their lengths. The terms and the norms are lent.
+/// The weight of a phrase prefix: it scores the documents where terms that begin with a prefix follow a phrase, by the
+/// sum of the whole terms' weights and the norms of lengths. The terms and the norms are borrowed.
 #[derive(Drop)]
 pub struct PhrasePrefixWeight<'q, 'a> {
     terms: &'q [(usize, Term)],
@@ -45,9 +45,9 @@ pub struct PhrasePrefixWeight<'q, 'a> {
 impl<'q, 'a> PhrasePrefixWeight<'q, 'a> {
     ghost use Rattle.phrase_weights.specs.PhrasePrefixWeights.{ScoresPrefixBy, limit_of, most_in, prefix_of, prefix_terms_of};
 
-    /// Two terms at least, in the order of their offsets, which are at most 2^30, the last of them the prefix; to how
-    /// many terms it expands at most; the sum of the whole terms' weights, which is at most `MAX_SCORE`, and 256 norms,
-    /// which don't fall.
+    /// Returns the weight of `terms`, at least two, in the order of their offsets, which are at most 2^30; the last of
+    /// them is the prefix, which expands to at most `max_expansions` terms. `weight`, the sum of the whole terms'
+    /// weights, is at most `MAX_SCORE`; the 256 `norms` don't fall.
     pub fn new(
         terms: &'q [(usize, Term)],
         max_expansions: u32,
@@ -76,9 +76,9 @@ impl<'q, 'a> PhrasePrefixWeight<'q, 'a> {
         }
     }
 
-    /// The documents of a segment where terms that begin with the prefix follow the whole terms, with their scores
-    /// under a boost; none where no document holds one of the whole terms. The greatest limit of expansions leaves no
-    /// term out: more terms than it are want of memory.
+    /// Returns the documents of the segment where terms that begin with the prefix follow the whole terms, with their
+    /// scores under `boost`; `None` if one of the whole terms is in no document. The greatest limit of expansions
+    /// leaves no term out: if there are more terms, the error is out of memory.
     pub fn phrase_prefix_scorer(
         &self,
         alloc: Global,

@@ -25,8 +25,8 @@ use std::alloc::{AllocError, Global};
 use term_scorer::Similarity;
 use terms::Term;
 
-/// Documents where a phrase stands, by the sum of its terms' weights and the norms of their lengths. The terms and the
-/// norms are lent.
+/// The weight of a phrase: it scores the documents where the phrase occurs, by the sum of its terms' weights and the
+/// norms of lengths. The terms and the norms are borrowed.
 #[derive(Drop)]
 pub struct PhraseWeight<'q, 'a> {
     terms: &'q [(usize, Term)],
@@ -44,8 +44,9 @@ pub struct PhraseWeight<'q, 'a> {
 impl<'q, 'a> PhraseWeight<'q, 'a> {
     ghost use Rattle.phrase_weights.specs.PhraseWeights.{ScoresBy, slop_of, terms_of, weight_in};
 
-    /// Two terms at least, in the order of their offsets, which are at most 2^30; the places that they may be off
-    /// together; the sum of their weights, which is at most `MAX_SCORE`, and 256 norms, which don't fall.
+    /// Returns the weight of `terms`, at least two, in the order of their offsets, which are at most 2^30. `slop` is
+    /// the number of positions that they may be off together; `weight`, the sum of their weights, is at most
+    /// `MAX_SCORE`; the 256 `norms` don't fall.
     pub fn new(
         terms: &'q [(usize, Term)],
         slop: u32,
@@ -72,8 +73,8 @@ impl<'q, 'a> PhraseWeight<'q, 'a> {
         }
     }
 
-    /// The documents of a segment where the phrase stands, with their scores under a boost; none where no document
-    /// holds one of its terms.
+    /// Returns the documents of the segment where the phrase occurs, with their scores under `boost`; `None` if one of
+    /// its terms is in no document.
     pub fn phrase_scorer(
         &self,
         alloc: Global,

@@ -1,11 +1,11 @@
-//! Where the bytes that begin with a prefix end.
+//! The end of the bytes that begin with a prefix.
 
 ghost use Rattle.std.specs.Prelude.{◌≡◌, IfOk, option_map};
 ghost use Rattle.definitions.specs.Prefixes.{prefix_end};
 
 use std::alloc::{AllocError, Global};
 
-/// The least bytes above all that begin with the prefix; none where nothing ends them.
+/// Returns the least bytes above all that begin with `prefix`; `None` if there are none.
 pub fn prefix_end(alloc: Global, prefix: &[u8]) -> Result<Option<Vec<u8>>, AllocError>
     ensures { IfOk result (λ end. option_map (λ bytes. bytes.items) end ≡ prefix_end prefix.now) }
 {

@@ -19,7 +19,7 @@ use segment_reader::{InvertedIndexReader, SegmentReader, TermDictionary, TermInf
 use std::alloc::{AllocError, Global};
 use terms::{Field, Term};
 
-/// The terms from a prefix to its end, by their value bytes.
+/// Returns the terms from `prefix` to its end, by their value bytes.
 fn range_of_prefix<'a>(
     alloc: Global,
     terms: &TermDictionary<'a>,
@@ -33,7 +33,7 @@ fn range_of_prefix<'a>(
     }
 }
 
-/// The postings of a term of a field, by its value bytes.
+/// Reads the postings of the term of `field` with the value bytes `key`.
 fn read_suffix<'a>(
     index: &'a InvertedIndexReader,
     field: Field,
@@ -53,7 +53,7 @@ fn read_suffix<'a>(
     )
 }
 
-/// Refuses terms that are left where all were asked for: no memory holds the postings of so many.
+/// Checks that no term is left in `range` if all were asked for: no memory holds the postings of that many.
 fn check_all_read(range: TermRange<'_>, max_expansions: u32) -> Result<(), AllocError>
     ensures { max_expansions ≡ 4294967295 → IfOk result (λ ok. range.entry.rest ≡ []) }
 {
@@ -64,7 +64,7 @@ fn check_all_read(range: TermRange<'_>, max_expansions: u32) -> Result<(), Alloc
     Ok(())
 }
 
-/// The postings of the first terms of a range of a field.
+/// Reads the postings of the first `max_expansions` terms of `range`, which are of `field`.
 fn read_range<'a>(
     alloc: Global,
     index: &'a InvertedIndexReader,
@@ -93,7 +93,7 @@ fn read_range<'a>(
     Ok(read)
 }
 
-/// The postings of the first terms, ascending, that begin with a prefix and are of its field.
+/// Reads the postings of the first `max_expansions` terms, ascending, that begin with `prefix` and are of its field.
 pub(crate) fn read_suffixes<'a>(
     alloc: Global,
     reader: &SegmentReader<'a>,

@@ -17,7 +17,7 @@ use segment_reader::SegmentReader;
 use std::alloc::{AllocError, Global};
 use terms::Term;
 
-/// The postings of a term; none where no document holds it.
+/// Reads the postings of `term`, with positions; `None` if no document holds it.
 pub(crate) fn read_term<'a>(reader: &SegmentReader<'a>, term: &Term) -> Option<SegmentPostings<'a>>
     ensures some { (schema : Schema) (analyze : Analyzer) (docs : List Document)
         → StandsFor schema analyze docs reader.now
@@ -32,7 +32,7 @@ pub(crate) fn read_term<'a>(reader: &SegmentReader<'a>, term: &Term) -> Option<S
     index.read_postings(term, IndexRecordOption::WithFreqsAndPositions)
 }
 
-/// The postings of terms, each with the offset of its term; none where no document holds one of them.
+/// Reads the postings of `terms`, each with the offset of its term; `None` if one of them is in no document.
 pub(crate) fn read_terms<'a>(
     alloc: Global,
     reader: &SegmentReader<'a>,

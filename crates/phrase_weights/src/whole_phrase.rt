@@ -29,7 +29,8 @@ pub type WholePhrase<'a> = PhraseKind<
     PhraseScorer<'a, PostingsWithOffset<SegmentPostings<'a>>>,
 >;
 
-/// The documents where whole terms stand, with what they earn before a prefix; none where one is in no document.
+/// Returns the documents where the whole `terms` occur, with their scores before a prefix; `None` if one is in no
+/// document.
 pub(crate) fn whole_phrase<'a>(
     alloc: Global,
     reader: &SegmentReader<'a>,

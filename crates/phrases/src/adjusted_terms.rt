@@ -1,4 +1,4 @@
-//! The terms of a phrase, each moved by its place in the phrase.
+//! The postings of a phrase's terms, shifted by their offsets in the phrase.
 
 ghost use Rattle.std.specs.Prelude.{◌-◌, ◌≡◌, ◌≤◌, IfOk, map};
 ghost use Rattle.docsets.specs.Entries.{most_positions};
@@ -10,7 +10,7 @@ use docsets::{DocSet, Postings};
 use intersections::Positioned;
 use std::alloc::{AllocError, Global};
 
-/// The greatest offset.
+/// Returns the greatest offset.
 fn greatest_offset<P: Postings>(term_postings: &Vec<(usize, P)>) -> usize
     ensures { result ≡ greatest_of (map (λ t. t.0) term_postings.now.items) }
 {
@@ -21,7 +21,7 @@ fn greatest_offset<P: Postings>(term_postings: &Vec<(usize, P)>) -> usize
     greatest
 }
 
-/// The postings of terms, each moved by the greatest offset less its own.
+/// Shifts the positions of each of `term_postings` by the greatest offset less its own.
 pub(crate) fn adjusted<P: Postings + Drop>(
     alloc: Global,
     term_postings: Vec<(usize, P)>,
@@ -42,7 +42,7 @@ pub(crate) fn adjusted<P: Postings + Drop>(
     Ok(docsets)
 }
 
-/// A number of positions that no document of any cursor has more of.
+/// Returns an upper bound of the number of positions of each document of `docsets`.
 pub(crate) fn most_of<S: Positioned>(docsets: &Vec<S>) -> usize
     ensures { greatest_of (map (λ s. most_positions (S.entries s)) docsets.now.items) ≤ result }
 {

@@ -1,4 +1,4 @@
-//! What takes documents in blocks, without scores.
+//! Sinks of documents in blocks, without scores.
 
 ghost use Rattle.std.specs.Prelude.{[], ◌≡◌, ◌≤◌, length, map};
 ghost use Rattle.phrases.specs.Blocks.{IsFedInBlocks};
@@ -6,26 +6,26 @@ ghost use Rattle.phrases.specs.Blocks.{IsFedInBlocks};
 use common::{DocId, TERMINATED};
 use docsets::{COLLECT_BLOCK_BUFFER_LEN, DocSet};
 
-/// Takes blocks of documents, without scores.
+/// A sink of documents in blocks, without scores.
 pub trait BlockSink {
     ghost use Rattle.std.specs.Prelude.{List, ℕ};
 
-    /// What it has come to. No value of it is made.
+    /// The state of a sink. No value of it is made.
     type State;
 
-    // What it has come to.
+    // The state of the sink.
     ghost state: { Self → Self.State };
 
-    // What it comes to with one more block.
+    // The state after one more block.
     ghost taken: { Self.State → List ℕ → Self.State };
 
-    /// Takes the documents of a block, one at least.
+    /// Takes a block of `docs`, at least one.
     fn collect_block(&mut self, docs: &[DocId])
         requires { 1 ≤ length docs.now }
         ensures { state self.new ≡ taken (state self.old) docs.now };
 }
 
-/// Gives a sink all documents of a cursor, in order, in blocks of 64 at most.
+/// Feeds all documents of `docset` to `sink`, in order, in blocks of at most 64.
 pub fn for_each_docset_buffered<D: DocSet, K: BlockSink>(docset: &mut D, sink: &mut K)
     ensures fed { IsFedInBlocks K.taken (K.state sink.old) (map (λ e. e.doc) (D.entries docset.old)) (K.state sink.new) }
     ensures done { D.entries docset.new ≡ [] }

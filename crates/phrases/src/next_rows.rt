@@ -11,7 +11,7 @@ use common::{DocId, TERMINATED};
 use docsets::Scorer;
 use intersections::Positioned;
 
-/// Puts places behind those that an output holds, which has the room.
+/// Appends `places` to `output`, which has the room.
 fn append_all(places: &[u32], output: &mut Vec<u32>)
     requires { length output.old.items + length places.now ≤ vec_capacity output.old }
     ensures items { output.new.items ≡ output.old.items ++ places.now }
@@ -22,7 +22,7 @@ fn append_all(places: &[u32], output: &mut Vec<u32>)
     }
 }
 
-/// Takes the document on which a phrase stands.
+/// Appends a row for `doc`, the current document of `phrase`.
 fn take_row<W: Scorer + Positioned>(
     phrase: &mut W,
     doc: DocId,
@@ -63,7 +63,8 @@ fn take_row<W: Scorer + Positioned>(
     });
 }
 
-/// Takes the next documents of a phrase in place of rows: at most so many, and none behind many places.
+/// Replaces `rows` with the next documents of `phrase`: at most `limit`, and no more once they have `MANY_PLACES`
+/// places.
 pub(crate) fn take_rows<W: Scorer + Positioned>(
     phrase: &mut W,
     limit: usize,
@@ -96,7 +97,7 @@ pub(crate) fn take_rows<W: Scorer + Positioned>(
     }
 }
 
-/// Leaves the rows that some suffix follows.
+/// Keeps the rows that some suffix follows.
 pub(crate) fn keep_followed(rows: &mut Vec<Row>)
     ensures items { rows.new.items ≡ filter (λ r. nat_lt 0 r.count) rows.old.items }
     ensures room { vec_capacity rows.new ≡ vec_capacity rows.old }

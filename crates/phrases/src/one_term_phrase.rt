@@ -1,4 +1,4 @@
-//! A term that is a phrase by itself.
+//! A phrase of one term.
 
 ghost use Rattle.std.specs.Prelude.{◌≡◌, ◌≤ℤ◌, ◌≤◌, IfOk, pos, vec_capacity};
 ghost use Rattle.docsets.specs.Entries.{most_positions};
@@ -12,8 +12,8 @@ use docsets::{DocSet, Postings, Scorer};
 use intersections::Positioned;
 use std::alloc::{AllocError, Global};
 
-/// The documents of one whole term before a prefix: its places are its positions, each once, and each score is the
-/// boost.
+/// The documents of one whole term before a prefix: the places of the phrase are the term's positions, each once, and
+/// each score is the boost.
 #[derive(Drop)]
 pub struct OneTermPhrase<P: Postings> {
     postings: P,
@@ -26,7 +26,7 @@ pub struct OneTermPhrase<P: Postings> {
 }
 
 impl<P: Postings + Drop> OneTermPhrase<P> {
-    /// The documents of one whole term, each with this score.
+    /// Returns the documents of `postings`, each with the score `boost`.
     pub fn new(alloc: Global, postings: P, boost: Score) -> Result<OneTermPhrase<P>, AllocError>
         requires positive { pos 0 ≤ℤ boost }
         requires small { natural boost ≤ max_score }

@@ -1,4 +1,4 @@
-//! The documents where a phrase stands, among those that have all its terms.
+//! The documents where a phrase occurs, among those that have all its terms.
 
 ghost use Rattle.std.specs.Prelude.{◌≡◌, ℕ};
 ghost use Rattle.docsets.specs.Entries.{IsRest, first};
@@ -11,7 +11,7 @@ use common::{DocId, TERMINATED};
 use docsets::DocSet;
 use intersections::{Intersection, Positioned};
 
-/// Goes on from the document on which the terms stand to the first where the phrase stands, and answers it.
+/// Moves `terms` to the first document where the phrase occurs, maybe the current one, and returns it.
 pub(crate) fn settle<S: Positioned>(terms: &mut Intersection<S>, finder: &mut PlaceFinder) -> DocId
     requires columns { HaveColumns (⟦<Intersection<S> as DocSet>⟧.entries terms.old) }
     requires room { HasRoom finder.old (longest_column (⟦<Intersection<S> as DocSet>⟧.entries terms.old)) }

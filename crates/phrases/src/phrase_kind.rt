@@ -6,7 +6,7 @@ use common::{DocId, Score};
 use docsets::{DocSet, Scorer, SeekDangerResult};
 use intersections::Positioned;
 
-/// What stands before a prefix: one whole term, or a phrase of several.
+/// The whole terms before a prefix: one term, or a phrase of several.
 #[derive(Drop)]
 pub enum PhraseKind<O, S> {
     SinglePrefix(O),

@@ -8,15 +8,16 @@ ghost use Rattle.definitions.specs.Scoring.{greatest_of};
 ghost use Rattle.phrases.specs.Places.{places_of};
 ghost use Rattle.phrases.specs.PrefixEntries.{continued};
 
-/// The places that the adjusted positions of terms reach, in the order of their offsets, are those of their phrase.
+/// States that the places which the adjusted positions of terms reach, in the order of their offsets, are those of
+/// their phrase.
 pub fn places_are_those_of_definitions()
     ensures { (positions : List ℕ → List ℕ) (terms : Terms) (slop : ℕ)
         → places_of slop (map (adjusted positions (greatest_of (map (λ t. t.0) terms))) (by_offset terms))
         ≡ phrase_places positions terms slop }
 {}
 
-/// How often terms follow the places of whole terms, in the order of their offsets, is how often they do by the
-/// definitions, which move places on by the offset of the terms that follow less the greatest of the others.
+/// States that terms follow the places of whole terms, in the order of their offsets, as often as by the definitions,
+/// which shift places by the offset of the terms that follow less the greatest of the others.
 pub fn suffixes_are_those_of_definitions()
     ensures offsets { (terms : Terms) → greatest_of (map (λ t. t.0) terms) ≡ last_offset terms }
     ensures counts { (positions : List ℕ → List ℕ) (suffixes : List (List ℕ)) (last : ℕ × List ℕ) (whole : Terms)

@@ -1,4 +1,4 @@
-//! The documents where a phrase stands that one of several terms follows.
+//! The documents where one of several terms follows a phrase.
 
 ghost use Rattle.std.specs.Prelude.{◌++◌, ◌<◌, ◌≡◌, ◌≤◌, IfOk, length, map};
 ghost use Rattle.docsets.specs.Entries.{Rising, first, first_count, most_positions};
@@ -16,8 +16,7 @@ use docsets::{DocSet, Postings, Scorer, move_to};
 use intersections::Positioned;
 use std::alloc::{AllocError, Global};
 
-/// The documents where a phrase stands at whose places some of the suffixes stand, moved on, with the scores of the
-/// phrase.
+/// The documents where some of the suffixes occur at the shifted places of a phrase, with the scores of the phrase.
 #[derive(Drop)]
 pub struct PhrasePrefixScorer<W: Scorer + Positioned, P: Postings> {
     phrase_scorer: W,
@@ -28,7 +27,7 @@ pub struct PhrasePrefixScorer<W: Scorer + Positioned, P: Postings> {
     ghost following: { IsFollowing window (length suffixes.items) (map P.entries suffixes.items) (W.entries phrase_scorer) } by { IsFollowing-prop window (length suffixes.items) (map P.entries suffixes.items) (W.entries phrase_scorer) },
 }
 
-/// A number of positions that no document of any of the cursors has more of.
+/// Returns an upper bound of the number of positions of each document of `suffixes`.
 fn most_of_suffixes<P: Postings>(suffixes: &Vec<P>) -> usize
     ensures { most_suffix_positions (map P.entries suffixes.now.items) ≤ result }
 {
@@ -40,8 +39,8 @@ fn most_of_suffixes<P: Postings>(suffixes: &Vec<P>) -> usize
 }
 
 impl<W: Scorer + Positioned + Drop, P: Postings + Drop> PhrasePrefixScorer<W, P> {
-    /// The documents of a phrase that some of the suffixes, fewer than 2^32, follow: the offset is how far they stand
-    /// behind the last term of the phrase. No document has 2^32 places of the phrase.
+    /// Returns the documents of `phrase_scorer` that some of `suffixes`, fewer than 2^32, follow, `suffix_offset`
+    /// positions after the last term of the phrase. No document has 2^32 places of the phrase.
     pub fn new(
         alloc: Global,
         phrase_scorer: W,
@@ -73,7 +72,8 @@ impl<W: Scorer + Positioned + Drop, P: Postings + Drop> PhrasePrefixScorer<W, P>
 }
 
 impl<W: Scorer + Positioned, P: Postings> PhrasePrefixScorer<W, P> {
-    /// How often the suffixes follow the phrase in the current document: at each of its places, each suffix that does.
+    /// Returns how often the suffixes follow the phrase in the current document: at each of its places, each suffix
+    /// that does.
     #[inline]
     pub fn phrase_count(&self) -> u64
         requires { first (⟦<PhrasePrefixScorer<W, P> as DocSet>⟧.entries self.now) < terminated }

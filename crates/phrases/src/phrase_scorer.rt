@@ -1,4 +1,4 @@
-//! The documents where a phrase stands, with the scores that follow from how often it does.
+//! The documents where a phrase occurs, with the scores that follow from how often it does.
 
 ghost use Rattle.std.specs.Prelude.{[], ◌<◌, ◌≡◌, ◌≤◌, IfOk, length, map};
 ghost use Rattle.std.specs.List.{AllByRecursion};
@@ -25,7 +25,7 @@ use intersections::{Intersection, Positioned};
 use std::alloc::{AllocError, Global};
 use term_scorer::Similarity;
 
-/// The documents where a phrase stands, each with its places, their number and the score that it earns.
+/// The documents where a phrase occurs, each with its places, their number and its score.
 #[derive(Drop)]
 pub struct PhraseScorer<'a, S: Positioned> {
     intersection_docset: Intersection<S>,
@@ -36,8 +36,8 @@ pub struct PhraseScorer<'a, S: Positioned> {
 }
 
 impl<'a, P: Postings + Drop> PhraseScorer<'a, PostingsWithOffset<P>> {
-    /// The documents where a phrase stands. Each of its terms, two at least, has its offset, which is at most 2^30;
-    /// they are in the order of their offsets. Each document has a length id. Without a weight each score is 1.
+    /// Returns the documents where the phrase of `term_postings` occurs. Each term, at least two, has its offset, at
+    /// most 2^30, in the order of the offsets. Each document has a length id. Without a weight each score is 1.
     pub fn new(
         alloc: Global,
         term_postings: Vec<(usize, P)>,
@@ -65,7 +65,7 @@ impl<'a, P: Postings + Drop> PhraseScorer<'a, PostingsWithOffset<P>> {
 }
 
 impl<'a, S: Positioned + Drop> PhraseScorer<'a, S> {
-    /// The same over cursors that tell positions which are adjusted already.
+    /// Like `new`, but over cursors whose positions are adjusted already.
     pub fn over(
         alloc: Global,
         docsets: Vec<S>,
@@ -94,7 +94,7 @@ impl<'a, S: Positioned + Drop> PhraseScorer<'a, S> {
 }
 
 impl<'a, S: Positioned> PhraseScorer<'a, S> {
-    /// How often the phrase stands in the current document.
+    /// Returns how often the phrase occurs in the current document.
     #[inline]
     pub fn phrase_count(&self) -> u32
         requires { first (⟦<PhraseScorer<'a, S> as DocSet>⟧.entries self.now) < terminated }

@@ -1,4 +1,4 @@
-//! The places of a phrase in one document, found in buffers whose room was made before.
+//! The places of a phrase in one document, found in buffers that are allocated before.
 
 ghost use Rattle.std.specs.Prelude.{[], ◌<◌, ◌≡◌, ◌≤◌, IfOk, length, ℕ};
 ghost use Rattle.docsets.specs.Entries.{first, first_positions};
@@ -15,10 +15,10 @@ use intersections::{Intersection, Positioned};
 use std::alloc::{AllocError, Global};
 use std::mem::swap;
 
-/// Below which position terms without a slop are marked. Most texts are shorter.
+/// The position below which terms are marked if there is no slop. Most texts are shorter.
 const MARKED: usize = 4096;
 
-/// A slop, the places that were found last, and room for columns, for their costs and for marks.
+/// A slop, the places found last, and buffers for columns, for their costs and for marks.
 #[derive(Drop)]
 pub(crate) struct PlaceFinder {
     pub(crate) slop: u32,
@@ -30,7 +30,7 @@ pub(crate) struct PlaceFinder {
 }
 
 impl PlaceFinder {
-    /// Has room for columns of so many positions.
+    /// Returns a finder with room for columns of `room` positions.
     pub(crate) fn new(alloc: Global, slop: u32, room: usize) -> Result<PlaceFinder, AllocError>
         ensures slop { IfOk result (λ finder. finder.slop ≡ slop) }
         ensures room { IfOk result (λ finder. HasRoom finder room) }
@@ -46,7 +46,7 @@ impl PlaceFinder {
         })
     }
 
-    /// Finds the places in the current document.
+    /// Finds the places of the phrase in the current document of `terms`.
     pub(crate) fn find<S: Positioned>(&mut self, terms: &mut Intersection<S>)
         requires on { first (⟦<Intersection<S> as DocSet>⟧.entries terms.old) < terminated }
         requires some { 0 < length (first_positions (⟦<Intersection<S> as DocSet>⟧.entries terms.old)) }
@@ -67,8 +67,7 @@ impl PlaceFinder {
         }
     }
 
-    /// Finds the places without slop: a term after the other keeps those where it stands, until none is left. What stands
-    /// twice is taken out in the end, as few are left then.
+    /// Finds the places without slop: each term keeps those where it occurs; repeats go last, when few are left.
     fn find_shared<S: Positioned>(&mut self, terms: &mut Intersection<S>)
         requires none { self.old.slop ≡ 0 }
         requires on { first (⟦<Intersection<S> as DocSet>⟧.entries terms.old) < terminated }
@@ -94,7 +93,7 @@ impl PlaceFinder {
         keep_distinct(&mut self.places);
     }
 
-    /// Finds the places within a slop: a term after the other gives each of its positions the least cost.
+    /// Finds the places within a slop: each term in turn gives each of its positions the least cost.
     fn find_near<S: Positioned>(&mut self, terms: &mut Intersection<S>)
         requires some_slop { 0 < self.old.slop }
         requires on { first (⟦<Intersection<S> as DocSet>⟧.entries terms.old) < terminated }

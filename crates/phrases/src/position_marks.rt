@@ -6,13 +6,13 @@ ghost use Rattle.phrases.specs.Places.{Ascends, has};
 use crate::shared_positions::{intersection, keep_among};
 use std::alloc::{AllocError, Global};
 
-/// Up to how many positions of two terms are merged: marks pay only where there are more.
+/// The most positions of two terms that are merged: marks pay only where there are more.
 const MERGED: usize = 16;
 
-/// How many positions are at most compared with each of a few others.
+/// The most positions that are each compared with each of a few others.
 const MOST_KEPT: usize = 8;
 
-/// How many others these are at most. The compiler writes out all comparisons.
+/// The most of these others. The compiler writes out all comparisons.
 const MOST_COMPARED: usize = 4;
 
 /// A mark for each position below a limit, none of which is set.
@@ -23,15 +23,15 @@ pub(crate) struct Marks {
 }
 
 impl Marks {
-    /// Marks of the positions below a limit.
+    /// Returns marks of the positions below `limit`, none of which is set.
     pub(crate) fn new(alloc: Global, limit: usize) -> Result<Marks, AllocError> {
         Ok(Marks {
             marks: vec![in alloc; false; limit]?,
         })
     }
 
-    /// Takes out of ascending positions those that aren't among others: each is compared with each where they are few; by
-    /// marks where they are many and all below the limit; else by a merge.
+    /// Removes from `left` the positions that aren't in `right`; both ascend. Each is compared with each if they are
+    /// few; marks are used if they are many and all below the limit; else they are merged.
     pub(crate) fn keep_shared(&mut self, left: &mut Vec<u32>, right: &[u32])
         requires left { Ascends 0 left.old.items }
         requires right { Ascends 0 right.now }
@@ -42,7 +42,7 @@ impl Marks {
     }
 }
 
-/// Whether all ascending positions are below a limit.
+/// Whether all of `positions`, which ascend, are below `limit`.
 fn are_below(positions: &[u32], limit: usize) -> bool
     requires { Ascends 0 positions.now }
     ensures { result ≡ true → (k : ℕ) → k < length positions.now → slice_index positions.now k < limit }
@@ -50,7 +50,7 @@ fn are_below(positions: &[u32], limit: usize) -> bool
     positions.is_empty() || (positions[positions.len() - 1] as usize) < limit
 }
 
-/// Marks positions.
+/// Marks `positions`.
 fn mark(positions: &[u32], marks: &mut [bool])
     requires below { (k : ℕ) → k < length positions.now → slice_index positions.now k < length marks.old }
     requires clear { (p : ℕ) → slice_index_or marks.old p false ≡ false }
@@ -61,7 +61,7 @@ fn mark(positions: &[u32], marks: &mut [bool])
     }
 }
 
-/// Takes the marks of positions away, where no other is marked.
+/// Clears the marks of `positions`, where no other is marked.
 fn clear(positions: &[u32], marks: &mut [bool])
     requires below { (k : ℕ) → k < length positions.now → slice_index positions.now k < length marks.old }
     requires marked { (p : ℕ) → slice_index_or marks.old p false ≡ has positions.now p }
@@ -72,7 +72,7 @@ fn clear(positions: &[u32], marks: &mut [bool])
     }
 }
 
-/// Takes out of positions those that aren't marked.
+/// Removes from `positions` those that aren't marked.
 fn keep_marked(positions: &mut Vec<u32>, marks: &[bool])
     requires below { (k : ℕ) → k < length positions.old.items → slice_index positions.old.items k < length marks.now }
     ensures items { positions.new.items ≡ filter (λ p. slice_index_or marks.now p false) positions.old.items }
@@ -89,7 +89,7 @@ fn keep_marked(positions: &mut Vec<u32>, marks: &[bool])
     positions.truncate(count);
 }
 
-/// Takes out of ascending positions those that aren't among others.
+/// Removes from `left` the positions that aren't in `right`; both ascend.
 fn keep_shared(left: &mut Vec<u32>, right: &[u32], marks: &mut [bool])
     requires left { Ascends 0 left.old.items }
     requires right { Ascends 0 right.now }

@@ -1,4 +1,4 @@
-//! The postings of a term of a phrase, moved by its place in the phrase.
+//! The postings of a phrase's term, shifted by its offset in the phrase.
 
 ghost use Rattle.std.specs.Prelude.{◌≡◌, ◌≤◌};
 ghost use Rattle.phrases.specs.PhraseEntries.{placed};
@@ -16,7 +16,7 @@ pub struct PostingsWithOffset<P: Postings> {
 }
 
 impl<P: Postings> PostingsWithOffset<P> {
-    /// The postings of a term, each position plus an offset, which is at most 2^30.
+    /// Returns `segment_postings` with each position plus `offset`, which is at most 2^30.
     pub fn new(segment_postings: P, offset: u32) -> PostingsWithOffset<P>
         requires { offset ≤ 1073741824 }
         ensures { ⟦<PostingsWithOffset<P> as DocSet>⟧.entries result ≡ placed offset (P.entries segment_postings) }

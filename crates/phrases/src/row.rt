@@ -2,7 +2,7 @@
 
 use common::DocId;
 
-/// A document of a phrase: its score, where its places begin among those of all rows, how many they are, and how often
+/// A document of a phrase: its score, where its places begin among those of all rows, their number, and how often
 /// suffixes follow it.
 #[derive(Clone, Copy)]
 pub(crate) struct Row {

@@ -8,10 +8,10 @@ use crate::row::Row;
 use crate::window::MOST_ROWS;
 use common::DocId;
 
-/// How many rows are looked at one by one.
+/// The number of rows that are looked at one by one.
 const NEAR: usize = 16;
 
-/// The document of a row.
+/// Returns the document of the row at index `place`.
 #[inline]
 pub(crate) fn doc_at(rows: &[Row], place: usize) -> DocId
     requires { place < length rows.now }
@@ -20,7 +20,7 @@ pub(crate) fn doc_at(rows: &[Row], place: usize) -> DocId
     rows[place].doc
 }
 
-/// The first place from one on and before another whose row isn't below a document, or the latter.
+/// Returns the index of the first row from `start` and before `end` whose document is >= `doc`, or `end`.
 #[inline]
 pub(crate) fn first_row(rows: &[Row], start: usize, end: usize, doc: DocId) -> usize
     requires order { start ≤ end }
@@ -38,7 +38,7 @@ pub(crate) fn first_row(rows: &[Row], start: usize, end: usize, doc: DocId) -> u
     end
 }
 
-/// By how many bits documents are shifted, so that about one row falls to each number.
+/// Returns the number of bits by which documents are shifted, so that about one row falls to each number.
 pub(crate) fn shift_of(rows: &[Row]) -> u32
     ensures { result < 32 }
 {
@@ -50,7 +50,7 @@ pub(crate) fn shift_of(rows: &[Row]) -> u32
     (64 - gap.leading_zeros()) % 32
 }
 
-/// Notes guesses for a search, for each shifted distance from the first row.
+/// Replaces `guesses` with those for a search, one for each shifted distance from the first row.
 pub(crate) fn note_guesses(rows: &[Row], shift: u32, guesses: &mut Vec<u32>)
     requires few { length rows.now ≤ 4096 }
     requires shift { shift < 32 }
@@ -70,7 +70,7 @@ pub(crate) fn note_guesses(rows: &[Row], shift: u32, guesses: &mut Vec<u32>)
     }
 }
 
-/// A place before which all rows are below a document.
+/// Returns an index before which all rows are below `doc`.
 #[inline]
 fn guess(rows: &[Row], guesses: &[u32], shift: u32, doc: DocId) -> usize
     requires some { 0 < length rows.now }
@@ -90,8 +90,7 @@ fn guess(rows: &[Row], guesses: &[u32], shift: u32, doc: DocId) -> usize
     place
 }
 
-/// A place from one on before which all rows are below a document; fewer than `NEAR` of those behind it are. Many are
-/// passed by halves, so that rows that stand close together beside a few far ones aren't looked at one by one.
+/// Returns an index >= `start` before which all rows are below `doc`; fewer than `NEAR` of those after it are.
 fn pass_rows(rows: &[Row], start: usize, doc: DocId) -> usize
     requires rises { Rises 0 (docs_of rows.now) }
     requires start { start ≤ length rows.now }
@@ -100,6 +99,7 @@ fn pass_rows(rows: &[Row], start: usize, doc: DocId) -> usize
     ensures passed { (k : ℕ) → k < result → slice_index (docs_of rows.now) k < doc }
 {
     let mut place = start;
+    // By halves, so that rows close together beside a few far ones aren't looked at one by one.
     let mut step = MOST_ROWS / 2;
     while step >= NEAR {
         if step <= rows.len() - place && doc_at(rows, place + step - 1) < doc {
@@ -110,7 +110,7 @@ fn pass_rows(rows: &[Row], start: usize, doc: DocId) -> usize
     place
 }
 
-/// The first place whose row isn't below a document, or how many rows there are.
+/// Returns the index of the first row whose document is >= `doc`, or the number of rows.
 #[inline]
 pub(crate) fn find_row(rows: &[Row], guesses: &[u32], shift: u32, doc: DocId) -> usize
     requires some { 0 < length rows.now }

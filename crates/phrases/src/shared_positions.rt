@@ -4,7 +4,7 @@ ghost use Rattle.std.specs.Prelude.{◌≡◌, ◌≤◌, filter, length, take, 
 ghost use Rattle.phrases.specs.Places.{Ascends, distinct, has};
 ghost use Rattle.phrases.specs.PrefixEntries.{continued};
 
-/// Puts positions, each once, in place of those that an output holds.
+/// Replaces the content of `output`, which has the room, with `positions`, each once.
 pub(crate) fn copy_distinct(positions: &[u32], output: &mut Vec<u32>)
     requires ascends { Ascends 0 positions.now }
     requires room { length positions.now ≤ vec_capacity output.old }
@@ -22,7 +22,7 @@ pub(crate) fn copy_distinct(positions: &[u32], output: &mut Vec<u32>)
     }
 }
 
-/// Puts ascending positions, each once, in front of the others, and answers how many these are.
+/// Moves ascending `positions`, each once, to the front, and returns their number.
 fn put_distinct_first(positions: &mut [u32]) -> usize
     ensures few { result ≤ length positions.new }
     ensures items { take result positions.new ≡ distinct 0 positions.old }
@@ -40,7 +40,7 @@ fn put_distinct_first(positions: &mut [u32]) -> usize
     count
 }
 
-/// Takes out of ascending positions those that stand there before. Most terms stand once in a document.
+/// Removes repeats from `positions`, which ascend. Most terms occur once in a document.
 pub(crate) fn keep_distinct(positions: &mut Vec<u32>)
     ensures items { positions.new.items ≡ distinct 0 positions.old.items }
     ensures room { vec_capacity positions.new ≡ vec_capacity positions.old }
@@ -51,7 +51,7 @@ pub(crate) fn keep_distinct(positions: &mut Vec<u32>)
     }
 }
 
-/// Whether a position is among others. It is compared with each, as no processor foresees with which it agrees.
+/// Whether `position` is in `positions`. Compares it with each, as no processor foresees with which it agrees.
 #[inline]
 fn has_position(positions: &[u32], position: u32) -> bool
     ensures { result ≡ has positions.now position }
@@ -63,7 +63,7 @@ fn has_position(positions: &[u32], position: u32) -> bool
     found
 }
 
-/// Puts positions that are among others in front of those that aren't, and answers how many these are.
+/// Moves the positions of `left` that are in `right` to the front, and returns their number.
 #[inline]
 fn put_shared_first(left: &mut [u32], right: &[u32]) -> usize
     ensures few { result ≤ length left.new }
@@ -80,7 +80,7 @@ fn put_shared_first(left: &mut [u32], right: &[u32]) -> usize
     count
 }
 
-/// Takes out of positions those that aren't among others. It compares each with each, which pays where they are few.
+/// Removes from `left` the positions that aren't in `right`. Compares each with each, which pays if they are few.
 #[inline]
 pub(crate) fn keep_among(left: &mut Vec<u32>, right: &[u32])
     ensures items { left.new.items ≡ filter (has right.now) left.old.items }
@@ -90,7 +90,7 @@ pub(crate) fn keep_among(left: &mut Vec<u32>, right: &[u32])
     left.truncate(count);
 }
 
-/// Takes out of ascending positions those that aren't among others.
+/// Removes from `left` the positions that aren't in `right`, by a merge; both ascend.
 pub(crate) fn intersection(left: &mut Vec<u32>, right: &[u32])
     requires left { Ascends 0 left.old.items }
     requires right { Ascends 0 right.now }
@@ -110,7 +110,7 @@ pub(crate) fn intersection(left: &mut Vec<u32>, right: &[u32])
     left.truncate(count);
 }
 
-/// At how many ascending places one of ascending positions stands, moved on by some places.
+/// Counts those of `places` that are in `positions` when shifted by `moved`; both ascend.
 pub(crate) fn count_continued(places: &[u32], moved: u32, positions: &[u32]) -> usize
     requires places { Ascends 0 places.now }
     requires positions { Ascends 0 positions.now }
@@ -129,7 +129,7 @@ pub(crate) fn count_continued(places: &[u32], moved: u32, positions: &[u32]) -> 
     count
 }
 
-/// Puts positions in place of those that an output holds.
+/// Replaces the content of `output`, which has the room, with `positions`.
 pub(crate) fn copy_all(positions: &[u32], output: &mut Vec<u32>)
     requires { length positions.now ≤ vec_capacity output.old }
     ensures items { output.new.items ≡ positions.now }

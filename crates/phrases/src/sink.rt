@@ -1,4 +1,4 @@
-//! What takes documents whose scores are above a threshold.
+//! Sinks of documents whose scores are above a threshold.
 
 ghost use Rattle.std.specs.Prelude.{[], ◌+◌, ◌∷◌, ◌≡◌, ◌≤ℤ◌, ◌≤◌, length, pos};
 ghost use Rattle.definitions.specs.Scoring.{natural};
@@ -8,30 +8,30 @@ ghost use Rattle.docsets.specs.ScoredEntries.{pairs_of};
 use common::{DocId, Score, TERMINATED};
 use docsets::{DocSet, Scorer};
 
-/// Takes documents whose scores are above its threshold, which may rise as it takes them.
+/// A sink of documents whose scores are above its threshold, which may rise as it takes them.
 pub trait Sink {
     ghost use Rattle.std.specs.Prelude.{ℕ, ℤ};
 
-    /// What it has come to. No value of it is made.
+    /// The state of a sink. No value of it is made.
     type State;
 
-    // What it has come to.
+    // The state of the sink.
     ghost state: { Self → Self.State };
 
     // Scores up to this one aren't taken.
     ghost limit: { Self.State → ℤ };
 
-    // What it comes to with one more document and its score.
+    // The state after one more document and its score.
     ghost taken: { Self.State → ℕ × ℕ → Self.State };
 
-    // How many documents it can take without wanting memory.
+    // How many documents it can take without an allocation.
     ghost room: { Self → ℕ };
 
-    /// The score that a document has to exceed.
+    /// Returns the score that a document has to exceed.
     fn threshold(&self) -> Score
         ensures { result ≡ limit (state self.now) };
 
-    /// Takes a document with its score, and answers the next threshold.
+    /// Takes `doc` with its `score`, and returns the next threshold.
     fn collect(&mut self, doc: DocId, score: Score) -> Score
         requires room { 1 ≤ room self.old }
         requires positive { pos 0 ≤ℤ score }
@@ -40,7 +40,7 @@ pub trait Sink {
         ensures room { room self.old ≤ room self.new + 1 };
 }
 
-/// Gives a sink a document, where its score is above the threshold, which is the sink's. Answers the next one.
+/// Feeds `doc` to `sink` if `score` is above `threshold`, which is the sink's. Returns the next threshold.
 #[inline]
 pub fn offer<K: Sink>(sink: &mut K, threshold: Score, doc: DocId, score: Score) -> Score
     requires threshold { threshold ≡ K.limit (K.state sink.old) }
@@ -56,8 +56,8 @@ pub fn offer<K: Sink>(sink: &mut K, threshold: Score, doc: DocId, score: Score) 
     threshold
 }
 
-/// Gives a sink each document of a scorer with its score, in order, where the score is above the sink's threshold as it
-/// comes.
+/// Feeds each document of `scorer` with its score to `sink`, in order, if the score is above the sink's threshold by
+/// then.
 pub fn for_each_pruning_scorer<S: Scorer, K: Sink>(scorer: &mut S, threshold: Score, sink: &mut K)
     requires threshold { threshold ≡ K.limit (K.state sink.old) }
     requires room { length (S.entries scorer.old) ≤ K.room sink.old }

@@ -1,13 +1,13 @@
-//! Positions of a term, each with the least cost of coming to it from those of the term before.
+//! Positions of a term, each with the least cost of reaching it from those of the term before.
 
 ghost use Rattle.std.specs.Prelude.{[], ◌+◌, ◌<◌, ◌≡◌, ◌≤◌, length, map, slice_index_or, vec_capacity, ℕ};
 ghost use Rattle.phrases.specs.Costs.{IsGradual, IsInOrder, IsTable, cheap, nearest, nearest_costs};
 ghost use Rattle.phrases.specs.Places.{Ascends};
 
-/// A position and what the terms before it cost.
+/// A position and the cost of the terms before it.
 pub(crate) type Cost = (u32, u64);
 
-/// How many of four neighbours in a table aren't behind a position.
+/// Counts those of the four neighbours from index `place` of `table` that aren't after `position`.
 #[inline]
 fn count_passed(table: &[Cost], place: usize, position: u32) -> usize
     requires within { place + 4 ≤ length table.now }
@@ -22,8 +22,7 @@ fn count_passed(table: &[Cost], place: usize, position: u32) -> usize
         + usize::from(table[place + 3].0 <= position)
 }
 
-/// The place of the first of a table that is behind a position, or its length, where none before a place is behind it.
-/// Four neighbours are counted at once, as no processor foresees which of them is the first.
+/// Returns the index of the first of `table` after `position`, or its length; four at once, to spare mispredictions.
 #[inline]
 fn first_behind(table: &[Cost], passed: usize, position: u32) -> usize
     requires within { passed ≤ length table.now }
@@ -47,7 +46,7 @@ fn first_behind(table: &[Cost], passed: usize, position: u32) -> usize
     place
 }
 
-/// The least cost of coming to a position from a table, from one place on behind it: that from one of two neighbours.
+/// Returns the least cost of reaching `position` from a neighbour in `table`; entries from `behind` on are after it.
 #[inline]
 fn cost_at(table: &[Cost], behind: usize, position: u32, most: u64) -> u64
     requires most { most ≤ 4294967296 }
@@ -68,7 +67,7 @@ fn cost_at(table: &[Cost], behind: usize, position: u32, most: u64) -> u64
     most.min(from_below.min(from_above))
 }
 
-/// Puts positions with the least cost of coming to each from a table in place of what an output holds.
+/// Replaces the content of `output` with `positions`, each with the least cost of reaching it from `table`.
 pub(crate) fn reach(table: &[Cost], positions: &[u32], most: u64, output: &mut Vec<Cost>)
     requires most { most ≤ 4294967296 }
     requires table { IsTable most 0 table.now }
@@ -87,7 +86,7 @@ pub(crate) fn reach(table: &[Cost], positions: &[u32], most: u64, output: &mut V
     }
 }
 
-/// Puts positions that cost nothing in place of what an output holds.
+/// Replaces the content of `output` with `positions`, which cost nothing.
 pub(crate) fn begin(positions: &[u32], output: &mut Vec<Cost>)
     requires room { length positions.now ≤ vec_capacity output.old }
     ensures items { output.new.items ≡ map (λ p. (p, 0)) positions.now }
@@ -99,7 +98,7 @@ pub(crate) fn begin(positions: &[u32], output: &mut Vec<Cost>)
     }
 }
 
-/// Puts the positions of a table in place of those that an output holds.
+/// Replaces the content of `output` with the positions of `table`.
 fn copy_positions(table: &[Cost], output: &mut Vec<u32>)
     requires room { length table.now ≤ vec_capacity output.old }
     ensures items { output.new.items ≡ map (λ l. l.0) table.now }
@@ -111,7 +110,7 @@ fn copy_positions(table: &[Cost], output: &mut Vec<u32>)
     }
 }
 
-/// Puts the positions of a table within the slop, each once, in place of those that an output holds.
+/// Replaces the content of `output` with the positions of `table` whose costs are within `slop`, each once.
 pub(crate) fn copy_cheap(table: &[Cost], slop: u64, output: &mut Vec<u32>)
     requires room { length table.now ≤ vec_capacity output.old }
     ensures items { output.new.items ≡ cheap slop 0 table.now }

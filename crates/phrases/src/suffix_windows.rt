@@ -15,7 +15,7 @@ use common::{DocId, TERMINATED};
 use docsets::{Postings, Scorer};
 use intersections::Positioned;
 
-/// Takes the next documents of a phrase in place of the rows of a window, and leaves those that suffixes follow.
+/// Replaces the rows of `window` with those of the next documents of `phrase` that suffixes follow.
 fn fill_window<W: Scorer + Positioned, P: Postings>(
     phrase: &mut W,
     suffixes: &mut Vec<P>,
@@ -59,7 +59,7 @@ fn fill_window<W: Scorer + Positioned, P: Postings>(
     window.limit = (window.limit * GROWTH).min(MOST_ROWS);
 }
 
-/// Fills a window until it stands on a row, where it doesn't and documents are left, and answers its document.
+/// Fills `window` until it has a current row or no document is left, and returns the current document.
 pub(crate) fn refill<W: Scorer + Positioned, P: Postings>(
     phrase: &mut W,
     suffixes: &mut Vec<P>,

@@ -15,10 +15,11 @@ use crate::shared_positions::count_continued;
 use common::DocId;
 use docsets::{DocSet, Postings};
 
-/// How far a target is that a suffix of one document reaches by steps. One of more documents has the less far to it.
+/// The distance to a target below which a suffix of one document moves by steps; for more documents it is divided by
+/// their number.
 const STEPS: u32 = 524288;
 
-/// Puts the positions in the current document in place of those that the output holds, which has the room.
+/// Replaces the content of `output`, which has the room, with the positions in the current document.
 pub(crate) fn read_positions<P: Postings>(postings: &mut P, output: &mut Vec<u32>)
     requires on { first (P.entries postings.old) < terminated }
     requires room { length (single (first_positions (P.entries postings.old))) ≤ vec_capacity output.old }
@@ -29,7 +30,7 @@ pub(crate) fn read_positions<P: Postings>(postings: &mut P, output: &mut Vec<u32
     let _ = postings.positions(output);
 }
 
-/// How often a suffix stands at the places of a document, moved on, where the suffix has the document.
+/// Counts those of `places` at which, shifted by `moved`, `suffix` occurs in `doc`; none if it hasn't `doc`.
 #[inline]
 fn count_suffix<P: Postings>(
     suffix: &mut P,
@@ -54,7 +55,7 @@ fn count_suffix<P: Postings>(
     count_continued(places, moved, positions) as u64
 }
 
-/// Moves a suffix on, no further than to the first document that isn't below a target: by steps where that is near.
+/// Moves `suffix` on, no further than to its first document >= `target`: by a step if the target is near.
 #[inline]
 fn step_to<P: Postings>(suffix: &mut P, doc: DocId, target: DocId, near: u32) -> DocId
     requires at { doc ≡ first (P.entries suffix.old) }
@@ -71,7 +72,7 @@ fn step_to<P: Postings>(suffix: &mut P, doc: DocId, target: DocId, near: u32) ->
     suffix.seek(target)
 }
 
-/// Adds to a row how often a suffix follows it, where the suffix has the document, and moves the suffix on.
+/// Adds to `row` how often `suffix` follows it, if `suffix` has its document, and moves `suffix` on.
 #[inline]
 fn visit_row<P: Postings>(
     suffix: &mut P,
@@ -107,7 +108,7 @@ fn visit_row<P: Postings>(
     suffix.advance()
 }
 
-/// Adds to each row how often a suffix follows it, and moves the suffix behind all rows.
+/// Adds to each row how often `suffix` follows it, and moves `suffix` past all rows.
 fn add_suffix<P: Postings>(
     suffix: &mut P,
     rows: &mut Vec<Row>,
@@ -148,7 +149,7 @@ fn add_suffix<P: Postings>(
     }
 }
 
-/// Adds to each row how often suffixes follow it.
+/// Adds to each row how often `suffixes` follow it.
 pub(crate) fn add_suffixes<P: Postings>(
     suffixes: &mut Vec<P>,
     rows: &mut Vec<Row>,

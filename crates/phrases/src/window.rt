@@ -1,4 +1,4 @@
-//! A window over a phrase: rows of its next documents, in buffers whose room was made before.
+//! A window over a phrase: rows of its next documents, in buffers that are allocated before.
 
 ghost use Rattle.std.specs.Prelude.{[], ◌<◌, ◌≡◌, ◌≤◌, IfOk, drop, length, ℕ};
 ghost use Rattle.docsets.specs.Entries.{Rising, first, first_count, first_score, from};
@@ -10,23 +10,23 @@ use crate::row_search::{doc_at, first_row};
 use common::{DocId, TERMINATED};
 use std::alloc::{AllocError, Global};
 
-/// How many documents of a phrase make a window at most.
+/// The most documents of a phrase in a window.
 pub(crate) const MOST_ROWS: usize = 4096;
 
-/// How many make the first window.
+/// The number of documents in the first window.
 const FIRST_ROWS: usize = 128;
 
-/// How many make the one after a seek.
+/// The number of documents in the window after a seek.
 const FEW_ROWS: usize = 16;
 
-/// How many times as many the next window has.
+/// The factor by which the next window is larger.
 pub(crate) const GROWTH: usize = 4;
 
-/// With how many places a window is full.
+/// The number of places with which a window is full.
 pub(crate) const MANY_PLACES: usize = 16384;
 
-/// Rows that suffixes follow, the one on which it stands, and how many documents it takes next; guesses for a search of
-/// rows, the places of all rows, and room for those of one row and for the positions of one suffix.
+/// Rows that suffixes follow, the index of the current one, and how many documents to take next; guesses for a search
+/// of rows, the places of all rows, and buffers for those of one row and for the positions of one suffix.
 #[derive(Drop)]
 pub(crate) struct Window {
     pub(crate) rows: Vec<Row>,
@@ -39,7 +39,8 @@ pub(crate) struct Window {
 }
 
 impl Window {
-    /// No rows, and room for so many places and positions of one document.
+    /// Returns a window without rows, with room for `most_places` places and `most_positions` positions of one
+    /// document.
     pub(crate) fn new(
         alloc: Global,
         most_places: usize,
@@ -62,7 +63,7 @@ impl Window {
         })
     }
 
-    /// The document on which it stands.
+    /// Returns the document of the current row.
     #[inline]
     pub(crate) fn doc(&self) -> DocId
         ensures { result ≡ first (left_in self.now) }
@@ -73,7 +74,7 @@ impl Window {
         TERMINATED
     }
 
-    /// The score of the row on which it stands.
+    /// Returns the score of the current row.
     #[inline]
     pub(crate) fn score(&self) -> u64
         requires { first (left_in self.now) < terminated }
@@ -82,7 +83,7 @@ impl Window {
         self.rows[self.row].score
     }
 
-    /// How often suffixes follow the row on which it stands.
+    /// Returns how often suffixes follow the current row.
     #[inline]
     pub(crate) fn count(&self) -> u64
         requires { first (left_in self.now) < terminated }
@@ -91,7 +92,7 @@ impl Window {
         self.rows[self.row].count
     }
 
-    /// Goes on to the next row.
+    /// Moves to the next row.
     #[inline]
     pub(crate) fn step(&mut self)
         ensures left { left_in self.new ≡ drop 1 (left_in self.old) }
@@ -102,7 +103,7 @@ impl Window {
         }
     }
 
-    /// Goes on to the first row that isn't below a target.
+    /// Moves to the first row whose document is >= `target`.
     pub(crate) fn seek(&mut self, target: DocId)
         requires within { self.old.row ≤ length self.old.rows.items }
         requires rises { Rising 0 (left_in self.old) }

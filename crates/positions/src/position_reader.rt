@@ -1,4 +1,4 @@
-//! Positions of a term, read from their bytes.
+//! Positions of a term, decoded from their bytes.
 
 ghost use Rattle.std.specs.Prelude.{◌*◌, ◌+◌, ◌<◌, ◌^◌, ◌≡◌, ◌≤◌, ◌++◌, ◌-◌, ◌↔◌, [], IfErr, IfOk, IsTrue, List, None, OnErr, OnOk, Some, drop, length, min, sum, take, vec_capacity, ℕ};
 ghost use Rattle.packed_blocks.specs.Decoded.{output_list};
@@ -17,7 +17,7 @@ use packed_blocks::{
 use std::alloc::AllocError;
 use std::marker::Model;
 
-/// The positions of a term, lent from their bytes. The block that was read last is kept, so that reads that
+/// The positions of a term, borrowed from their bytes. The block that was decoded last is kept, so that reads that
 /// ascend decode each block once. Seen as the numbers: for each document its first position, and then the
 /// differences.
 #[derive(Drop)]
@@ -42,7 +42,7 @@ impl<'a> Model for PositionReader<'a> {
 }
 
 impl<'a> PositionReader<'a> {
-    /// Reads the bytes of a term's positions, which are known to be in their layout; the first block is decoded.
+    /// Opens a term's positions in `bytes`, which are known to be in their layout; the first block is decoded.
     pub fn new(bytes: &'a [u8]) -> PositionReader<'a>
         requires { ∥ ((numbers : List ℕ) × ArePositions numbers bytes.now) ∥₁ }
         ensures { (numbers : List ℕ) → ArePositions numbers bytes.now → result ≡ numbers }
@@ -61,7 +61,7 @@ impl<'a> PositionReader<'a> {
         }
     }
 
-    /// Reads the bytes of a term's positions; other bytes are `Damaged`. Every block is checked.
+    /// Opens a term's positions in `bytes`; other bytes are `Damaged`. Every block is checked.
     pub fn open(bytes: &'a [u8]) -> Result<PositionReader<'a>, Fault>
         ensures ok { IfOk result (λ reader. ArePositions reader bytes.now) }
         ensures one { IfOk result (λ reader. (numbers : List ℕ) → ArePositions numbers bytes.now → numbers ≡ reader) }
@@ -80,7 +80,7 @@ impl<'a> PositionReader<'a> {
         })
     }
 
-    /// How many numbers there are. Passes the widths of all blocks that follow, and reads the rest.
+    /// Returns how many numbers there are. Passes the widths of all blocks that follow, and decodes the rest.
     pub fn num_positions(&self) -> u128
         ensures { result ≡ length self.now }
     {
@@ -91,7 +91,7 @@ impl<'a> PositionReader<'a> {
         blocks as u128 * COMPRESSION_BLOCK_SIZE as u128 + rest.output_array().len() as u128
     }
 
-    /// Reads as many numbers as the output has, from a place on.
+    /// Reads as many numbers as `output` has, from index `offset` on.
     pub fn read(&mut self, offset: u64, output: &mut [u32])
         requires { offset + length output.old ≤ length self.old }
         ensures read { output.new ≡ take (length output.old) (drop offset self.old) }
@@ -117,8 +117,7 @@ impl<'a> PositionReader<'a> {
         }
     }
 
-    /// Puts as many positions behind those that the output holds: the numbers from a place on are added up from an
-    /// offset on.
+    /// Appends `count` positions to `output`: the running sums of the numbers from index `begin` on, added to `offset`.
     pub fn append_places(
         &mut self,
         begin: u64,
@@ -160,7 +159,7 @@ impl<'a> PositionReader<'a> {
     }
 }
 
-/// The numbers from a place on, so many at most.
+/// Returns the numbers from index `place` on, `most` at most.
 #[inline]
 fn part_from(numbers: &[u32], place: usize, most: usize) -> &[u32]
     requires { place ≤ length numbers.now }
@@ -170,7 +169,7 @@ fn part_from(numbers: &[u32], place: usize, most: usize) -> &[u32]
     &numbers[place..place + count]
 }
 
-/// Adds numbers up from a position on, each sum behind those that the output holds, which has the room; answers the last.
+/// Appends the running sums of `numbers`, added to `before`, to `output`, which has the room; returns the last.
 #[inline]
 fn push_places(numbers: &[u32], before: u32, output: &mut Vec<u32>) -> u32
     requires fits { before + sum numbers.now ≤ 4294967295 }
@@ -187,7 +186,7 @@ fn push_places(numbers: &[u32], before: u32, output: &mut Vec<u32>) -> u32
     last
 }
 
-/// Reads fewer than 128 numbers below 2^31 up to the end.
+/// Decodes fewer than 128 numbers below 2^31 up to the end of `bytes`.
 fn checked_rest(bytes: &[u8], decoder: &mut BlockDecoder) -> Result<(), Fault>
     ensures ok { OnOk result (AreBlocks [] (output_list decoder.new) bytes.now × AreSmall (output_list decoder.new) × (take_all_numbers block_len bytes.now ≡ Some (output_list decoder.new))) }
     ensures err { IfErr result (λ fault. (fault ≡ faults.Damaged None) × ((numbers : List ℕ) → AreBlocks [] numbers bytes.now → AreSmall numbers → ⊥)) }
@@ -213,7 +212,7 @@ fn are_small(numbers: &[u32]) -> bool
     width_of(numbers) <= 31
 }
 
-/// Reads a block that is wanted, unless it is held.
+/// Decodes the block `wanted`, unless it is the one that is held.
 fn load(
     widths: &[u8],
     packed: &[u8],
@@ -239,7 +238,7 @@ fn load(
     decode(widths, packed, wanted, *at, decoder);
 }
 
-/// Where the block that follows others of these widths begins, from one place on.
+/// Returns the offset of `block`, counted on from the block `from` at the offset `at`.
 fn place_of(widths: &[u8], from: usize, at: usize, block: usize) -> usize
     requires order { from ≤ block }
     requires within { block ≤ length widths.now }
@@ -254,7 +253,7 @@ fn place_of(widths: &[u8], from: usize, at: usize, block: usize) -> usize
     place
 }
 
-/// Reads the numbers of a block, or of the rest behind the blocks, at its place.
+/// Decodes `block`, or the rest after the blocks, at the offset `at`.
 fn decode(widths: &[u8], packed: &[u8], block: usize, at: usize, decoder: &mut BlockDecoder)
     requires blocks { HasBlocks widths.now packed.now }
     requires within { block ≤ length widths.now }
@@ -270,8 +269,7 @@ fn decode(widths: &[u8], packed: &[u8], block: usize, at: usize, decoder: &mut B
     }
 }
 
-/// Whether the bytes have a block of each width, whose numbers are below 2^31; then the place behind them.
-/// The decoder holds one of the blocks.
+/// Checks a block of numbers below 2^31 for each width, where `decoder` holds the last; returns the offset after them.
 fn checked_blocks(widths: &[u8], packed: &[u8], decoder: &mut BlockDecoder) -> Result<usize, Fault>
     ensures ok { IfOk result (λ at. HasAll widths.now packed.now at) }
     ensures err { IfErr result (λ fault. (fault ≡ faults.Damaged None) × ((numbers : List ℕ) → AreBlocks widths.now numbers packed.now → AreSmall numbers → ⊥)) }
@@ -287,8 +285,7 @@ fn checked_blocks(widths: &[u8], packed: &[u8], decoder: &mut BlockDecoder) -> R
     Ok(at)
 }
 
-/// Copies numbers from a place on behind those that fill the output so far, as many as there are and as the
-/// output takes; answers how many fill it then.
+/// Copies numbers from index `place` on into `output` from `filled` on, as many as fit; returns how many fill it then.
 fn copy_from(numbers: &[u32], place: usize, output: &mut [u32], filled: usize) -> usize
     requires place { place ≤ length numbers.now }
     requires filled { filled ≤ length output.old }

@@ -1,4 +1,4 @@
-//! Positions of terms, written as bytes.
+//! Positions of terms, encoded as bytes.
 
 ghost use Rattle.std.specs.Prelude.{[], ◌++◌, ◌<◌, ◌≡◌, ◌^◌, List, OnErr, OnOk, length, slice_index, ℕ};
 ghost use Rattle.layouts.specs.Positions.{AreBlocks, ArePositions};
@@ -8,8 +8,8 @@ use packed_blocks::{BlockEncoder, COMPRESSION_BLOCK_SIZE, VIntEncoder};
 use std::alloc::{AllocError, Global};
 use std::marker::Model;
 
-/// The positions of terms, term by term. The numbers of a term wait until it is closed. A refused call changes
-/// nothing. Seen as the bytes of the closed terms, and the numbers that wait.
+/// The positions of terms, term by term. The numbers of a term are pending until it is closed. A refused call changes
+/// nothing. Seen as the bytes of the closed terms, and the pending numbers.
 #[derive(Drop)]
 pub struct PositionSerializer {
     out: Vec<u8>,
@@ -33,7 +33,7 @@ impl Model for PositionSerializer {
 }
 
 impl PositionSerializer {
-    /// Goes on behind the bytes that stand.
+    /// Returns a serializer that appends to `write`.
     pub fn new(alloc: Global, write: Vec<u8>) -> PositionSerializer
         ensures { result ≡ (write.items, []) }
     {
@@ -47,7 +47,7 @@ impl PositionSerializer {
         }
     }
 
-    /// How many bytes there are.
+    /// Returns how many bytes there are.
     pub fn written_bytes(&self) -> u64
         ensures { result ≡ length self.now.0 }
     {
@@ -63,7 +63,7 @@ impl PositionSerializer {
         self.waiting.extend_from_slice(positions_delta)
     }
 
-    /// Takes away what waits of a term; another begins.
+    /// Drops the pending numbers of a term; another begins.
     pub fn clear(&mut self)
         ensures { self.new ≡ (self.old.0, []) }
     {
@@ -92,7 +92,7 @@ impl PositionSerializer {
         Ok(())
     }
 
-    /// The bytes of the terms that were closed.
+    /// Returns the bytes of the terms that were closed.
     pub fn close(self) -> Vec<u8>
         ensures { result.items ≡ self.0 }
     {
@@ -100,7 +100,7 @@ impl PositionSerializer {
     }
 }
 
-/// The widths of the blocks of numbers, and the blocks and the rest.
+/// Encodes `numbers`: the widths of their blocks into `widths`, the blocks and the rest into `packed`.
 fn put_blocks(
     encoder: &mut BlockEncoder,
     numbers: &[u32],

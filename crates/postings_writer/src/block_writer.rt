@@ -1,4 +1,4 @@
-//! The blocks of a term, written as bytes.
+//! The blocks of a term, encoded.
 
 ghost use Rattle.std.specs.Prelude.{[], ◌++◌, ◌<◌, ◌≡◌, ◌^◌, ◌∷◌, IfErr, List, OnOk, if◌then◌else◌, length, nat_le, slice_index, sum, ℕ};
 ghost use Rattle.definitions.specs.Blocks.{block_len};
@@ -19,7 +19,7 @@ use skips::SkipSerializer;
 use std::alloc::{AllocError, Global};
 use std::marker::Model;
 
-/// Skip entries and blocks of the term that is written.
+/// Skip entries and blocks of the term that is being written.
 #[derive(Drop)]
 pub(crate) struct BlockWriter {
     encoder: BlockEncoder,
@@ -36,7 +36,7 @@ impl Model for BlockWriter {
 }
 
 impl BlockWriter {
-    /// No block yet.
+    /// Returns a writer without blocks.
     pub(crate) fn new(alloc: Global) -> BlockWriter
         ensures { result ≡ record { skips = []; blocks = [] } }
     {
@@ -47,7 +47,7 @@ impl BlockWriter {
         }
     }
 
-    /// Takes every block away.
+    /// Removes all blocks.
     pub(crate) fn clear(&mut self)
         ensures { self.new ≡ record { skips = []; blocks = [] } }
     {
@@ -55,7 +55,7 @@ impl BlockWriter {
         self.blocks.clear();
     }
 
-    /// Puts a full block, and its skip entry. The offset is the last document before it, or 0.
+    /// Appends a full block and its skip entry. `offset` is the last document before it, or 0.
     pub(crate) fn write_block(
         &mut self,
         option: IndexRecordOption,
@@ -80,7 +80,7 @@ impl BlockWriter {
         Ok(())
     }
 
-    /// The documents of a full block; begins its skip entry.
+    /// Appends the documents of a full block, and begins its skip entry.
     fn write_docs(&mut self, offset: u32, docs: &[u32]) -> Result<(), AllocError>
         requires count { length docs.now ≡ block_len }
         requires ascending { IsAscendingFrom (next_of offset) docs.now }
@@ -92,7 +92,7 @@ impl BlockWriter {
         Ok(())
     }
 
-    /// The counts of a full block, each less 1, where they are recorded.
+    /// Appends the counts of a full block, each less 1, if they are recorded.
     fn write_term_freqs(
         &mut self,
         option: IndexRecordOption,
@@ -110,7 +110,7 @@ impl BlockWriter {
         Ok(())
     }
 
-    /// The sum of the counts of a full block, where positions are recorded.
+    /// Appends the sum of the counts of a full block to its skip entry, if positions are recorded.
     fn write_total_term_freq(
         &mut self,
         option: IndexRecordOption,
@@ -125,7 +125,7 @@ impl BlockWriter {
         Ok(())
     }
 
-    /// Puts the documents behind the full blocks, fewer than 128.
+    /// Appends the documents after the full blocks, fewer than 128.
     pub(crate) fn write_rest(
         &mut self,
         option: IndexRecordOption,
@@ -145,8 +145,8 @@ impl BlockWriter {
         Ok(())
     }
 
-    /// Appends the skip entries, where there are full blocks, and the blocks. Past 32 bits of bytes they are
-    /// refused, and nothing is appended.
+    /// Appends the skip entries, if there are full blocks, and the blocks to `output`. For 2^32 bytes or more it is
+    /// `Limit`, and nothing is appended.
     pub(crate) fn append_to(&self, has_skips: bool, output: &mut Vec<u8>) -> Result<(), Fault>
         ensures ok { OnOk result (output.new.items ≡ output.old.items ++ term_bytes has_skips self.now) }
         ensures within { OnOk result (length (term_bytes has_skips self.now) < 2 ^ 32) }
@@ -161,7 +161,7 @@ impl BlockWriter {
         Ok(())
     }
 
-    /// The same, whatever their number.
+    /// Like `append_to`, but for any number of bytes.
     fn put(&self, has_skips: bool, output: &mut Vec<u8>) -> Result<(), AllocError>
         ensures { OnOk result (output.new.items ≡ output.old.items ++ term_bytes has_skips self.now) }
     {
@@ -173,7 +173,7 @@ impl BlockWriter {
     }
 }
 
-/// Appends a packed block: numbers have one alone.
+/// Appends a packed block, the only one of its numbers.
 fn put_packed(blocks: &mut Vec<u8>, packed: &[u8]) -> Result<(), AllocError>
     ensures { (w : ℕ) (numbers : List ℕ) → IsBlock w numbers packed.now → OnOk result (blocks.new.items ≡ blocks.old.items ++ packed_bytes numbers) }
 {

@@ -21,7 +21,7 @@ use std::collections::HashMap;
 use std::marker::Model;
 
 /// The terms of a field by their value bytes, each with its recorder. Value bytes of up to 15 bytes are kept as
-/// numbers, since most are so short.
+/// numbers, since most are that short.
 #[derive(Drop)]
 pub(crate) struct FieldPostings {
     short: HashMap<u128, Recorder>,
@@ -43,7 +43,7 @@ impl Model for FieldPostings {
         × AllByRecursion (λ key. max_short < length key.items) (keys_of f.long.entries) };
 }
 
-/// What is recorded of a term of the field, by its value bytes.
+/// Returns what is recorded of the term of the field with the value bytes `key`.
 fn option_of_key(entry: &FieldEntry, key: &[u8]) -> IndexRecordOption
     requires { is_indexed entry.now ≡ true }
     ensures { record_option_of result ≡ option_of_key entry.now key.now }
@@ -58,7 +58,7 @@ fn option_of_key(entry: &FieldEntry, key: &[u8]) -> IndexRecordOption
 }
 
 impl FieldPostings {
-    /// No term.
+    /// Returns a field without terms.
     pub(crate) fn new(alloc: Global) -> FieldPostings
         ensures { result ≡ [] }
     {
@@ -68,7 +68,7 @@ impl FieldPostings {
         }
     }
 
-    /// Records that the term of these value bytes stands in the document, at the position.
+    /// Records an occurrence of the term with the value bytes `key` in `doc`, at `position`.
     pub(crate) fn record(
         &mut self,
         alloc: Global,
@@ -90,7 +90,7 @@ impl FieldPostings {
         }
     }
 
-    /// The same of a term whose value bytes are more than a number holds.
+    /// Like `record`, but for value bytes that are longer than a number holds.
     fn record_long(
         &mut self,
         alloc: Global,
@@ -129,7 +129,7 @@ impl FieldPostings {
         Ok(())
     }
 
-    /// Puts a recorder at value bytes.
+    /// Sets the recorder of the value bytes `key`.
     fn insert(&mut self, alloc: Global, key: &[u8], recorder: Recorder) -> Result<(), AllocError>
         ensures { OnOk result ((q : List ℕ) → lookup (bytes_eq q) self.new ≡ update bytes_eq (λ p. lookup (bytes_eq p) self.old) key.now (Some recorder) q) }
     {
@@ -141,7 +141,7 @@ impl FieldPostings {
         Ok(())
     }
 
-    /// The terms with short value bytes, each as the bytes of a number, with its recorder, in any order.
+    /// Returns the terms with short value bytes, each as the bytes of a number, with its recorder, in any order.
     pub(crate) fn short_terms(
         &self,
         alloc: Global,
@@ -154,7 +154,7 @@ impl FieldPostings {
             .collect(alloc)
     }
 
-    /// The terms by their value bytes, each with its recorder, in any order. It is given those with short ones.
+    /// Returns the terms by their value bytes, with their recorders, in any order; `short` are those with short ones.
     fn all_terms<'a>(
         &'a self,
         alloc: Global,
@@ -177,7 +177,7 @@ impl FieldPostings {
         Ok(terms)
     }
 
-    /// The terms by their value bytes, ascending, each with its recorder. It is given those with short ones.
+    /// Returns the terms by their value bytes, ascending, each with its recorder; `short` are those with short ones.
     pub(crate) fn sorted_terms<'a>(
         &'a self,
         alloc: Global,

@@ -15,8 +15,8 @@ use positions::PositionSerializer;
 use std::alloc::AllocError;
 use std::marker::Model;
 
-/// Writes the terms of a field, one after another. What a refused call began of a term is of no use, and another term
-/// may begin; where it was to close the term, parts of that may stand behind the terms before.
+/// A writer of the terms of a field, one after another. What a refused call began of a term is of no use, and another
+/// term may begin; if it was `close_term`, parts of the term may be left after the terms before.
 #[derive(Drop)]
 pub struct FieldSerializer<'a> {
     pub(crate) terms: TermDictionaryBuilder,
@@ -42,7 +42,7 @@ impl<'a> Model for FieldSerializer<'a> {
 }
 
 impl<'a> FieldSerializer<'a> {
-    /// Begins a term by its value bytes. Of a term whose counts aren't recorded the documents alone are.
+    /// Begins the term with the value bytes `key`; only its documents are recorded unless `record_term_freq`.
     pub fn new_term(&mut self, key: &[u8], record_term_freq: bool) -> Result<(), AllocError>
         ensures ready { OnOk result (IsOpen self.new [] [] []) }
         ensures key { OnOk result (self.new.key ≡ key.now) }
@@ -61,7 +61,7 @@ impl<'a> FieldSerializer<'a> {
         Ok(())
     }
 
-    /// Begins a term by its value bytes, of which the documents alone are recorded.
+    /// Begins the term with the value bytes `key`, of which only the documents are recorded.
     pub fn new_term_without_freq(&mut self, key: &[u8]) -> Result<(), AllocError>
         ensures ready { OnOk result (IsOpen self.new [] [] []) }
         ensures key { OnOk result (self.new.key ≡ key.now) }
@@ -74,9 +74,9 @@ impl<'a> FieldSerializer<'a> {
         self.new_term(key, false)
     }
 
-    /// Adds a document to the term: how often the term stands in it and, where positions are recorded, its
-    /// first position and the differences. Where counts aren't recorded it is to be told 1: what is told is what
-    /// the field's sum of tokens counts, and a reader takes 1 for each such document.
+    /// Adds `doc` to the term: how often the term occurs in it, `term_freq`, and, if positions are recorded, its first
+    /// position and the differences. If counts aren't recorded `term_freq` has to be 1: it is what the field's sum of
+    /// tokens counts, and a reader takes 1 for each such document.
     pub fn write_doc(
         &mut self,
         doc: u32,
@@ -101,7 +101,7 @@ impl<'a> FieldSerializer<'a> {
         Ok(())
     }
 
-    /// The positions of a document, where they are recorded.
+    /// Appends the positions of a document, if they are recorded.
     fn write_positions(&mut self, position_deltas: &[u32]) -> Result<(), AllocError>
         requires { (i : ℕ) → slice_index position_deltas.now i < 2 ^ 31 }
         ensures ok { OnOk result (self.new ≡ record self.old { positions = (self.old.positions.0, self.old.positions.1 ++ (if has_positions self.old.writing.option then position_deltas.now else [])) }) }
@@ -115,8 +115,8 @@ impl<'a> FieldSerializer<'a> {
         Ok(())
     }
 
-    /// Closes the term: its postings and positions stand behind those of the terms before, and its tokens, the sum of
-    /// the counts that `write_doc` was told, count for the field.
+    /// Closes the term: its postings and positions follow those of the terms before, and its tokens, the sum of each
+    /// `term_freq` that `write_doc` was given, count for the field.
     pub fn close_term(&mut self) -> Result<(), Fault>
         ensures ok { (docs counts numbers : List ℕ) → IsOpen self.old docs counts numbers → OnOk result (IsClosed self.old self.new docs counts numbers) }
         ensures tokens { OnOk result ((self.new.num_tokens ≡ self.old.num_tokens + self.old.total_term_freq)
@@ -149,7 +149,7 @@ impl<'a> FieldSerializer<'a> {
         Ok(())
     }
 
-    /// Closes the positions of the term, where they are recorded.
+    /// Closes the positions of the term, if they are recorded.
     fn close_positions(&mut self) -> Result<(), AllocError>
         ensures ok { OnOk result ((bytes : List ℕ) × HasPositions (has_positions self.old.writing.option) self.old.positions.1 bytes × (self.new ≡ record self.old { positions = (self.old.positions.0 ++ bytes, if has_positions self.old.writing.option then [] else self.old.positions.1) })) }
         ensures refused { OnErr result (self.new ≡ self.old) }
@@ -161,7 +161,7 @@ impl<'a> FieldSerializer<'a> {
         Ok(())
     }
 
-    /// Closes the field: its terms stand behind those of the fields before.
+    /// Closes the field: its terms follow those of the fields before.
     pub fn close(self) -> Result<InvertedIndexSerializer, AllocError>
         ensures { IfOk result (λ sections. sections ≡ field_closed self.entry) }
     {

@@ -1,4 +1,4 @@
-//! Records the tokens of texts.
+//! The recording of the tokens of texts.
 
 ghost use Rattle.std.specs.Prelude.{[], ◌++◌, ◌+◌, ◌<◌, ◌^◌, ◌≡◌, ◌≤◌, ◌∷◌, IfErr, IfOk, List, OnOk, length, min, ℕ};
 ghost use Rattle.common.specs.Buffers.{token_of_ref};
@@ -15,11 +15,10 @@ use common::{MAX_TOKEN_LEN, TokenRef, TokenStream};
 use definitions::Fault;
 use schema::Schema;
 
-/// What every position, with its length and the gap behind it, is below.
+/// The exclusive upper bound of each position, with its length and the gap after it.
 const MAX_POSITION: u32 = 2147483648;
 
-/// The position of a token in a value that begins at a start, and where the token ends. With the gap behind it
-/// the end is below 2147483648.
+/// Returns the position of `token` in a value that begins at `start`, and its end, which `gap` follows.
 fn place_of(start: u32, gap: u32, token: TokenRef<'_>) -> Result<(u32, u32), Fault>
     ensures ok { IfOk result (λ p. (p.0 ≡ start + token.entry.position) × (p.1 ≡ start + token.entry.position + token.entry.position_length) × (p.1 + gap < 2 ^ 31)) }
     ensures err { IfErr result (λ fault. (fault ≡ faults.Limit) × (2 ^ 31 ≤ end_of gap start (token_of_ref token.entry))) }
@@ -33,7 +32,7 @@ fn place_of(start: u32, gap: u32, token: TokenRef<'_>) -> Result<(u32, u32), Fau
     Ok((start + position, end as u32))
 }
 
-/// The number, where it is below 2147483648.
+/// Returns `n`, if it is below 2147483648.
 fn below_limit(n: usize) -> Result<u32, Fault>
     ensures ok { IfOk result (λ m. (m ≡ n) × (n < 2 ^ 31)) }
     ensures err { IfErr result (λ fault. (fault ≡ faults.Limit) × (2 ^ 31 ≤ n)) }
@@ -47,17 +46,16 @@ fn below_limit(n: usize) -> Result<u32, Fault>
 /// How a text was recorded.
 #[derive(Clone, Copy, Debug)]
 pub struct IndexedText {
-    /// How many of its tokens were kept, or 4294967295 where they are more.
+    /// The number of its tokens that were kept, or 4294967295 if they are more.
     pub num_tokens: u32,
-    /// Where the next text begins, or 2147483648 where it would begin behind that.
+    /// The start of the next text, or 2147483648 if that is less.
     pub next_start: u32,
 }
 
 impl PostingsWriter {
-    /// Records the tokens of a text that begins at a start, each as the term of its own text behind the first bytes
-    /// that the buffer holds. Tokens over `MAX_TOKEN_LEN` bytes are dropped. A token that doesn't end below
-    /// 2147483648, with the gap behind it, is refused, so a start that was cut to 2147483648 refuses what the real
-    /// one does.
+    /// Records the tokens of a text that begins at `start`, each as the term of its own text after the first bytes in
+    /// `term_buffer`. Tokens over `MAX_TOKEN_LEN` bytes are dropped. A token whose end plus `gap` isn't below
+    /// 2147483648 is refused, so a start that was cut to 2147483648 refuses what the real one does.
     pub fn index_text<T: TokenStream>(
         &mut self,
         schema: &Schema,
@@ -89,7 +87,7 @@ impl PostingsWriter {
         })
     }
 
-    /// Records the tokens of a text that begins at a start, and answers where they end, and how many were kept.
+    /// Records the tokens of a text that begins at `start`; returns where they end, and how many were kept.
     fn index_tokens<T: TokenStream>(
         &mut self,
         schema: &Schema,
@@ -129,7 +127,7 @@ impl PostingsWriter {
         Ok((end, num_tokens))
     }
 
-    /// Records a token, unless it is dropped, and answers where it ends, or the start, and how many tokens that is.
+    /// Records a token, unless it is dropped; returns its end, or `start`, and how many tokens that is.
     fn index_token(
         &mut self,
         schema: &Schema,

@@ -33,7 +33,7 @@ impl Model for InvertedIndexSerializer {
 }
 
 impl InvertedIndexSerializer {
-    /// No field yet; the section of terms begins with its kind.
+    /// Returns a serializer without fields; the section of terms begins with its kind.
     pub fn open(alloc: Global) -> Result<InvertedIndexSerializer, AllocError>
         ensures { IfOk result (λ sections. sections ≡ record { terms = 0 ∷ []; postings = []; positions = [] }) }
     {
@@ -46,7 +46,7 @@ impl InvertedIndexSerializer {
         })
     }
 
-    /// Begins a field that records so much, and keeps these lengths, if any.
+    /// Begins `field`, which records `mode`; `fieldnorm_reader` has its lengths, if it keeps any.
     pub fn new_field<'a>(
         self,
         alloc: Global,
@@ -69,7 +69,7 @@ impl InvertedIndexSerializer {
         }
     }
 
-    /// The bytes of terms, postings and positions.
+    /// Returns the bytes of terms, postings and positions.
     pub fn close(self) -> (Vec<u8>, Vec<u8>, Vec<u8>)
         ensures terms { result.0.items ≡ self.terms }
         ensures postings { result.1.items ≡ self.postings }

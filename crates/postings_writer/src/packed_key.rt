@@ -1,13 +1,13 @@
-//! Short keys as numbers: a key of up to 15 bytes, with zeros behind it, and its length in the last of sixteen bytes.
+//! Short keys as numbers: a key of up to 15 bytes, with zeros after it, and its length in the last of sixteen bytes.
 //! Numbers are compared and hashed at once, where the bytes of a key would lie elsewhere.
 
 ghost use Rattle.std.specs.Prelude.{◌%◌, ◌*◌, ◌+◌, ◌-◌, ◌<◌, ◌^◌, ◌≡◌, ◌≤◌, drop, length, take};
 ghost use Rattle.postings_writer.specs.PackedKeys.{IsPacked, key_of, packed, worth};
 
-/// How many bytes a short key has at most.
+/// The greatest length of a short key, in bytes.
 pub(crate) const MAX_SHORT_LEN: usize = 15;
 
-/// Four bytes from a place on as a number, the first of them the highest.
+/// Reads four bytes from offset `at` on as a big-endian number.
 fn read_u32(bytes: &[u8], at: usize) -> u64
     requires { at + 4 ≤ length bytes.now }
     ensures { result ≡ worth 0 (take 4 (drop at bytes.now)) }
@@ -15,7 +15,7 @@ fn read_u32(bytes: &[u8], at: usize) -> u64
     u64::from(u32::from_be_bytes([bytes[at], bytes[at + 1], bytes[at + 2], bytes[at + 3]]))
 }
 
-/// Eight bytes from a place on as a number, the first of them the highest.
+/// Reads eight bytes from offset `at` on as a big-endian number.
 fn read_u64(bytes: &[u8], at: usize) -> u64
     requires { at + 8 ≤ length bytes.now }
     ensures { result ≡ worth 0 (take 8 (drop at bytes.now)) }
@@ -32,7 +32,7 @@ fn read_u64(bytes: &[u8], at: usize) -> u64
     ])
 }
 
-/// The lowest bytes of a number, so many, as the highest of eight with zeros behind them.
+/// Returns the `count` lowest bytes of `n` as the highest of eight, with zeros after them.
 fn lowest_first(n: u64, count: usize) -> u64
     requires { count < 8 }
     ensures { result ≡ (n % 256 ^ count) * 256 ^ (8 - count) }
@@ -40,7 +40,7 @@ fn lowest_first(n: u64, count: usize) -> u64
     (n << (8 * (7 - count))) << 8
 }
 
-/// Fewer than four bytes as a number, the first of them the highest.
+/// Reads fewer than four bytes as a big-endian number.
 fn read_few(bytes: &[u8]) -> u64
     requires { length bytes.now < 4 }
     ensures { result ≡ worth 0 bytes.now }
@@ -58,7 +58,7 @@ fn read_few(bytes: &[u8]) -> u64
     n
 }
 
-/// Fewer than eight bytes, with zeros behind them, as a number. What is read twice is left out of the second number.
+/// Reads fewer than eight bytes, with zeros after them; those read twice are left out of the second number.
 fn padded(bytes: &[u8]) -> u64
     requires { length bytes.now < 8 }
     ensures { result ≡ worth 0 bytes.now * 256 ^ (8 - length bytes.now) }
@@ -70,7 +70,7 @@ fn padded(bytes: &[u8]) -> u64
     (read_u32(bytes, 0) << 32) + (lowest_first(read_u32(bytes, len - 4), len - 4) >> 32)
 }
 
-/// A short key as a number.
+/// Encodes a short key as a number.
 #[inline]
 pub(crate) fn packed(key: &[u8]) -> u128
     requires { length key.now ≤ 15 }
@@ -85,7 +85,7 @@ pub(crate) fn packed(key: &[u8]) -> u128
     (u128::from(read_u64(key, 0)) << 64) + u128::from(rest) + len as u128
 }
 
-/// The key among the bytes of a number that is one; the last byte tells how long it is.
+/// Decodes the key in the bytes of its number; the last byte is the key's length.
 pub(crate) fn key_of(bytes: &[u8; 16]) -> &[u8]
     ensures { result.now ≡ key_of bytes.now }
 {

@@ -1,7 +1,7 @@
-//! What is recorded of a term with positions: its documents and places, as bytes.
+//! The recorder of a term with positions: its documents and positions, as bytes.
 //!
-//! Of each place two numbers of seven bits a byte are kept: how far its document is behind that of the place before
-//! it, and the position. Most take a byte each.
+//! Of each occurrence two numbers of seven bits a byte are kept: how far its document is after that of the occurrence
+//! before it, and the position. Most take a byte each.
 
 ghost use Rattle.std.specs.Prelude.{[], ◌++◌, ◌<◌, ◌^◌, ◌≡◌, ◌∷◌, IfErr, IsSomeAnd, List, OnErr, OnOk, Some, length, ℕ};
 ghost use Rattle.definitions.specs.NumberCodes.{take_vint, vint_bytes};
@@ -12,7 +12,7 @@ use definitions::Fault;
 use std::alloc::{AllocError, Global};
 use std::marker::Model;
 
-/// Appends two numbers. Where memory is wanting nothing is appended.
+/// Appends two numbers; nothing if out of memory.
 fn put_two(bytes: &mut Vec<u8>, first: u32, second: u32) -> Result<(), AllocError>
     ensures ok { OnOk result (bytes.new.items ≡ bytes.old.items ++ vint_bytes first ++ vint_bytes second) }
     ensures err { OnErr result (bytes.new.items ≡ bytes.old.items) }
@@ -26,7 +26,7 @@ fn put_two(bytes: &mut Vec<u8>, first: u32, second: u32) -> Result<(), AllocErro
     Ok(())
 }
 
-/// The same, whatever they take.
+/// Like `put_two`, but for numbers of any length.
 fn put_long(bytes: &mut Vec<u8>, first: u32, second: u32) -> Result<(), AllocError>
     ensures ok { OnOk result (bytes.new.items ≡ bytes.old.items ++ vint_bytes first ++ vint_bytes second) }
     ensures err { OnErr result (bytes.new.items ≡ bytes.old.items) }
@@ -39,7 +39,7 @@ fn put_long(bytes: &mut Vec<u8>, first: u32, second: u32) -> Result<(), AllocErr
     Ok(())
 }
 
-/// A number that stands first, and what follows it. Most are of one byte.
+/// Decodes the first number, mostly of one byte; returns it and the bytes after it.
 #[inline]
 fn take_number(bytes: &[u8]) -> (u32, &[u8])
     requires { IsSomeAnd (take_vint bytes.now) (λ p. p.0 < 2 ^ 32) }
@@ -60,7 +60,7 @@ fn take_number(bytes: &[u8]) -> (u32, &[u8])
 #[derive(Drop)]
 pub struct TfAndPositionRecorder {
     bytes: Vec<u8>,
-    // How many places there are.
+    // The number of occurrences.
     len: usize,
     // The last document, or 0.
     doc: u32,
@@ -78,7 +78,7 @@ impl Model for TfAndPositionRecorder {
 }
 
 impl TfAndPositionRecorder {
-    /// No document.
+    /// Returns a recorder without documents.
     pub fn new(alloc: Global) -> TfAndPositionRecorder
         ensures { result ≡ [] }
     {
@@ -89,7 +89,7 @@ impl TfAndPositionRecorder {
         }
     }
 
-    /// Records that the term stands in the document, which isn't below the last one, at the position. A count past
+    /// Records an occurrence of the term in `doc`, which isn't before the last one, at `position`. A count past
     /// 4294967295 is refused when the postings are written.
     pub fn record(&mut self, doc: u32, position: u32) -> Result<(), Fault>
         ensures ok { OnOk result (self.new ≡ self.old ++ (doc, position) ∷ []) }
@@ -101,14 +101,14 @@ impl TfAndPositionRecorder {
         Ok(())
     }
 
-    /// How many places it has.
+    /// Returns the number of occurrences.
     pub fn len(&self) -> usize
         ensures { result ≡ length self.now }
     {
         self.len
     }
 
-    /// Puts documents and positions, in the order in which they were recorded, in the place of what the output holds.
+    /// Replaces what `output` holds by documents and positions, in the order in which they were recorded.
     pub fn copy_places(&self, output: &mut Vec<(u32, u32)>) -> Result<(), AllocError>
         ensures { OnOk result (output.new.items ≡ self.now) }
     {

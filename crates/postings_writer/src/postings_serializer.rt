@@ -1,4 +1,4 @@
-//! The postings of terms, written as bytes.
+//! The postings of terms, encoded.
 
 ghost use Rattle.std.specs.Prelude.{[], ◌++◌, ◌+◌, ◌/◌, ◌<◌, ◌≡◌, ◌≤◌, ◌^◌, ◌∷◌, IfErr, IfSome, IsTrue, List, OnOk, false, if◌then◌else◌, length, nat_le, ℕ};
 ghost use Rattle.packed_blocks.specs.UnpackedBlocks.{listed};
@@ -18,8 +18,8 @@ use packed_blocks::COMPRESSION_BLOCK_SIZE;
 use std::alloc::Global;
 use std::marker::Model;
 
-/// Writes the postings of a field's terms, one term after another. Full blocks wait as bytes, and up to 127
-/// documents as numbers, until the term is closed.
+/// A writer of the postings of a field's terms, one term after another. Full blocks are pending as bytes, and up to
+/// 127 documents as numbers, until the term is closed.
 ///
 /// After a refused call what is written of the term is of no use; another term may begin.
 #[derive(Drop)]
@@ -31,7 +31,7 @@ pub struct PostingsSerializer<'a> {
     blocks: BlockWriter,
     // The last document of the full blocks, or 0.
     last_doc: u32,
-    // The least document that may come.
+    // The least document that may come next.
     next_doc: u32,
 }
 
@@ -47,7 +47,8 @@ impl<'a> Model for PostingsSerializer<'a> {
 }
 
 impl<'a> PostingsSerializer<'a> {
-    /// Writes terms of a field that records so much, and that keeps these lengths, if any.
+    /// Returns a serializer for terms of a field that records `mode`; `fieldnorm_reader` has its lengths, if it keeps
+    /// any.
     pub fn new(
         alloc: Global,
         mode: IndexRecordOption,
@@ -67,7 +68,7 @@ impl<'a> PostingsSerializer<'a> {
         }
     }
 
-    /// Begins a term. Of a term whose counts aren't recorded the documents alone are.
+    /// Begins a term; only its documents are recorded unless `record_term_freq`.
     pub fn new_term(&mut self, record_term_freq: bool)
         ensures begun { self.new ≡ begun self.old.mode (if record_term_freq then self.old.mode else basic) self.old.norms }
         ensures nothing { AreWritten self.new [] [] }
@@ -80,7 +81,7 @@ impl<'a> PostingsSerializer<'a> {
         self.clear();
     }
 
-    /// Takes every document away.
+    /// Removes all documents.
     fn clear(&mut self)
         ensures { self.new ≡ begun self.old.mode self.old.option self.old.norms }
     {
@@ -90,7 +91,7 @@ impl<'a> PostingsSerializer<'a> {
         self.next_doc = 0;
     }
 
-    /// The length id of a document, and 1 where the field keeps no lengths.
+    /// Returns the length id of `doc`, 1 if the field keeps no lengths.
     fn fieldnorm_id(&self, doc: u32) -> u8
         requires { IfSome self.now.norms (λ ids. doc < length ids) }
         ensures { result ≡ id_of (listed self.now.norms) doc }
@@ -108,7 +109,7 @@ impl<'a> PostingsSerializer<'a> {
         self.option.has_positions()
     }
 
-    /// The count that is recorded.
+    /// Returns the count that is recorded for `term_freq`.
     fn recorded_count(&self, term_freq: u32) -> u32
         requires { IsTrue (has_freq self.now.option) → 0 < term_freq }
         ensures count { result ≡ recorded_count self.now.option term_freq }
@@ -117,8 +118,8 @@ impl<'a> PostingsSerializer<'a> {
         if self.option.has_freq() { term_freq } else { 1 }
     }
 
-    /// Adds a document to the term, and how often the term stands in it; where no counts are recorded that is
-    /// left aside. A block of 128 documents is refused where the sum of its counts is past 32 bits.
+    /// Adds `doc` to the term, and `term_freq`, how often the term occurs in it, which is ignored if no counts are
+    /// recorded. `Limit` for a block of 128 documents if the sum of its counts is past 32 bits.
     pub fn write_doc(&mut self, doc: u32, term_freq: u32) -> Result<(), Fault>
         requires next { self.old.next ≤ doc }
         requires fits { doc < terminated }
@@ -145,8 +146,7 @@ impl<'a> PostingsSerializer<'a> {
         written
     }
 
-    /// Appends the postings of the term, of which so many documents were written. They are refused where they
-    /// take 2^32 bytes or more.
+    /// Appends the postings of the term, of `doc_freq` documents, to `output`; `Limit` if they take 2^32 bytes or more.
     pub fn close_term(&mut self, doc_freq: u32, output: &mut Vec<u8>) -> Result<(), Fault>
         ensures ok { (docs counts : List ℕ) → AreWritten self.old docs counts → length docs ≡ doc_freq → OnOk result (output.new.items ≡ output.old.items ++ postings_bytes self.old.option (listed self.old.norms) docs counts) }
         ensures within { (docs counts : List ℕ) → AreWritten self.old docs counts → length docs ≡ doc_freq → OnOk result (length (postings_bytes self.old.option (listed self.old.norms) docs counts) < 2 ^ 32) }

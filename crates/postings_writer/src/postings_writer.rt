@@ -1,4 +1,4 @@
-//! Records the terms of documents, field by field.
+//! The recording of the terms of documents, field by field.
 
 ghost use Rattle.std.specs.Prelude.{[], ◌++◌, ◌+◌, ◌<◌, ◌^◌, ◌≡◌, ◌≤◌, ◌∷◌, IfErr, IfOk, List, OnOk, length, replicate, ℕ};
 ghost use Rattle.definitions.specs.Postings.{terminated};
@@ -14,7 +14,7 @@ use std::alloc::{AllocError, Global};
 use std::marker::Model;
 use terms::{Field, HEADER_LEN};
 
-/// The number of a term's field.
+/// Returns the number of a term's field.
 fn field_of(term: &[u8]) -> u32
     requires { HEADER_LEN ≤ length term.now }
     ensures { result ≡ field_of term.now }
@@ -22,7 +22,7 @@ fn field_of(term: &[u8]) -> u32
     u32::from_be_bytes([term[0], term[1], term[2], term[3]])
 }
 
-/// A term's value bytes.
+/// Returns a term's value bytes.
 fn payload_of(term: &[u8]) -> &[u8]
     requires { HEADER_LEN ≤ length term.now }
     ensures { result.now ≡ payload_of term.now }
@@ -30,8 +30,8 @@ fn payload_of(term: &[u8]) -> &[u8]
     &term[HEADER_LEN..]
 }
 
-/// Records the terms of documents, document by document, and writes their postings. Each call is given the schema
-/// that the writer was made for. After a refused call what was recorded is of no use.
+/// A writer that records the terms of documents, document by document, and writes their postings. Each call is given
+/// the schema that the writer was made for. After a refused call what was recorded is of no use.
 #[derive(Drop)]
 pub struct PostingsWriter {
     pub(crate) alloc: Global,
@@ -53,7 +53,7 @@ impl Model for PostingsWriter {
 }
 
 impl PostingsWriter {
-    /// Nothing is recorded yet.
+    /// Returns a writer for the fields of `schema`, with nothing recorded.
     pub fn for_schema(alloc: Global, schema: &Schema) -> Result<PostingsWriter, AllocError>
         ensures value { IfOk result (λ writer. writer ≡ record { fields = replicate (length schema.now) []; num_docs = 0 }) }
         ensures nothing { IfOk result (λ writer. Stands schema.now writer []) }
@@ -70,8 +70,8 @@ impl PostingsWriter {
         })
     }
 
-    /// Records that the term stands in the document, at the position. The document isn't below the last one.
-    /// A count of the term in the document that would pass 4294967295 is refused.
+    /// Records an occurrence of `term` in `doc`, which isn't before the last one, at `position`. A count of the term in
+    /// the document that would pass 4294967295 is refused.
     pub fn subscribe(
         &mut self,
         schema: &Schema,
@@ -93,8 +93,8 @@ impl PostingsWriter {
         self.record(schema, doc, field_of(term), payload_of(term), position)
     }
 
-    /// The same of the term that a token's text is behind the first bytes that the buffer holds. Where these are no
-    /// more than stands before each value, the text is the value.
+    /// Like `subscribe`, but for the term of a token's `text` after the first bytes in `term_buffer`. If these are no
+    /// more than what precedes each value, the text is the value.
     pub(crate) fn subscribe_text(
         &mut self,
         schema: &Schema,
@@ -124,7 +124,7 @@ impl PostingsWriter {
         Ok(())
     }
 
-    /// The same of a term by its field's number and its value bytes.
+    /// Like `subscribe`, but for a term by the number of its field and its value bytes, `key`.
     fn record(
         &mut self,
         schema: &Schema,

@@ -1,4 +1,4 @@
-//! What is recorded of one term: the documents that it stands in, how often, and where.
+//! Recorders of one term: its documents, how often it occurs in each, and at which positions.
 
 ghost use Rattle.std.specs.Prelude.{[], ◌++◌, ◌+◌, ◌<◌, ◌^◌, ◌≡◌, ◌≤◌, ◌∷◌, IfErr, List, OnOk, length, map, slice_index_or as get_or, slice_set as set, suc, ℕ};
 ghost use Rattle.definitions.specs.Schema as definitions;
@@ -13,7 +13,7 @@ use options::IndexRecordOption;
 use std::alloc::{AllocError, Global};
 use std::marker::Model;
 
-/// Whether the last document is that one.
+/// Whether `doc` is the last of `docs`.
 fn ends_in(docs: &[u32], doc: u32) -> bool
     ensures { result ≡ ends_in doc docs.now }
 {
@@ -23,7 +23,7 @@ fn ends_in(docs: &[u32], doc: u32) -> bool
     }
 }
 
-/// Whether the last pair is of that document.
+/// Whether the last pair is of `doc`.
 fn stands_last(pairs: &[(u32, u32)], doc: u32) -> bool
     ensures { result ≡ ends_in doc (map (λ p. p.0) pairs.now) }
 {
@@ -33,7 +33,7 @@ fn stands_last(pairs: &[(u32, u32)], doc: u32) -> bool
     }
 }
 
-/// Raises the last count.
+/// Raises the last count by 1.
 fn raise_last(counts: &mut Vec<(u32, u32)>) -> Result<(), Fault>
     requires { 0 < length counts.old.items }
     ensures ok { OnOk result ((m : ℕ) → length counts.old.items ≡ suc m → counts.new.items ≡ set counts.old.items m ((get_or counts.old.items m (0, 0)).0, (get_or counts.old.items m (0, 0)).1 + 1)) }
@@ -60,7 +60,7 @@ impl Model for DocIdRecorder {
 }
 
 impl DocIdRecorder {
-    /// No document.
+    /// Returns a recorder without documents.
     pub fn new(alloc: Global) -> DocIdRecorder
         ensures { result ≡ [] }
     {
@@ -69,7 +69,7 @@ impl DocIdRecorder {
         }
     }
 
-    /// Records that the term stands in the document, which isn't below the last one.
+    /// Records that the term occurs in `doc`, which isn't before the last one.
     pub fn record(&mut self, doc: u32) -> Result<(), AllocError>
         ensures { (ps : List (ℕ × ℕ)) (position : ℕ) → self.old ≡ docs_of ps → OnOk result (self.new ≡ docs_of (ps ++ (doc, position) ∷ [])) }
     {
@@ -80,7 +80,7 @@ impl DocIdRecorder {
         Ok(())
     }
 
-    /// The documents.
+    /// Returns the documents.
     pub fn docs(&self) -> &[u32]
         ensures { result.now ≡ self.now }
     {
@@ -88,7 +88,7 @@ impl DocIdRecorder {
     }
 }
 
-/// The documents of a term, and how often it stands in each.
+/// The documents of a term, and how often it occurs in each.
 #[derive(Drop)]
 pub struct TermFrequencyRecorder {
     counts: Vec<(u32, u32)>,
@@ -103,7 +103,7 @@ impl Model for TermFrequencyRecorder {
 }
 
 impl TermFrequencyRecorder {
-    /// No document.
+    /// Returns a recorder without documents.
     pub fn new(alloc: Global) -> TermFrequencyRecorder
         ensures { result ≡ [] }
     {
@@ -112,8 +112,8 @@ impl TermFrequencyRecorder {
         }
     }
 
-    /// Records that the term stands in the document once more, which isn't below the last one. A count past
-    /// 4294967295 is refused.
+    /// Records one more occurrence of the term in `doc`, which isn't before the last one. A count past 4294967295 is
+    /// refused.
     pub fn record(&mut self, doc: u32) -> Result<(), Fault>
         ensures ok { (ps : List (ℕ × ℕ)) (position : ℕ) → self.old ≡ counts_of ps → OnOk result (self.new ≡ counts_of (ps ++ (doc, position) ∷ [])) }
         ensures err { (ps : List (ℕ × ℕ)) (position : ℕ) → self.old ≡ counts_of ps → IfErr result (λ fault. IsCountRefusal fault (ps ++ (doc, position) ∷ [])) }
@@ -126,7 +126,7 @@ impl TermFrequencyRecorder {
         Ok(())
     }
 
-    /// The documents, each with its count.
+    /// Returns the documents, each with its count.
     pub fn counts(&self) -> &[(u32, u32)]
         ensures { result.now ≡ self.now }
     {
@@ -134,7 +134,7 @@ impl TermFrequencyRecorder {
     }
 }
 
-/// What is recorded of one term.
+/// The recorder of one term.
 #[derive(Drop)]
 pub(crate) enum Recorder {
     /// Documents.
@@ -146,7 +146,7 @@ pub(crate) enum Recorder {
 }
 
 impl Recorder {
-    /// A recorder of so much, without a document.
+    /// Returns a recorder of what `option` says, without documents.
     pub fn new(alloc: Global, option: IndexRecordOption) -> Recorder
         ensures { result ≡ recorded_as (record_option_of option) [] }
     {
@@ -161,7 +161,7 @@ impl Recorder {
         }
     }
 
-    /// Records that the term stands in the document, which isn't below the last one, at the position.
+    /// Records an occurrence of the term in `doc`, which isn't before the last one, at `position`.
     pub fn record(&mut self, doc: u32, position: u32) -> Result<(), Fault>
         ensures ok { (option : definitions.IndexRecordOption) (ps : List (ℕ × ℕ)) → self.old ≡ recorded_as option ps → OnOk result (self.new ≡ recorded_as option (ps ++ (doc, position) ∷ [])) }
         ensures err { (option : definitions.IndexRecordOption) (ps : List (ℕ × ℕ)) → self.old ≡ recorded_as option ps → IfErr result (λ fault. IsCountRefusal fault (ps ++ (doc, position) ∷ [])) }

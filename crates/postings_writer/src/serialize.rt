@@ -1,4 +1,4 @@
-//! Writes the terms of all fields.
+//! The writing of the terms of all fields.
 
 ghost use Rattle.std.specs.Prelude.{[], ◌≡◌, ◌≤◌, ◌∷◌, IfErr, IfOk, List, Some, length, slice_get, true, ℕ};
 ghost use Rattle.std.specs.List.{AllByRecursion};
@@ -45,7 +45,7 @@ impl PostingsWriter {
         Ok(serializer)
     }
 
-    /// Writes a field behind those before.
+    /// Writes `field` after the fields before.
     fn serialize_field(
         &self,
         field: Field,

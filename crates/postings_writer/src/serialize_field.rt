@@ -1,4 +1,4 @@
-//! Writes the terms of a field.
+//! The writing of the terms of a field.
 
 ghost use Rattle.std.specs.Prelude.{[], ◌≡◌, ◌⊎◌, ◌∷◌, IfErr, IfOk, List, OnOk, bytes_eq, map, true, ℕ};
 ghost use Rattle.std.specs.List.{AllByRecursion};
@@ -27,7 +27,7 @@ use schema::FieldEntry;
 use std::alloc::Global;
 use terms::Type;
 
-/// What a field records of texts.
+/// Returns what a field records of texts.
 fn index_record_option(entry: &FieldEntry) -> IndexRecordOption
     requires { is_indexed entry.now ≡ true }
     ensures { record_option_of result ≡ entry.now.record_option }
@@ -38,7 +38,7 @@ fn index_record_option(entry: &FieldEntry) -> IndexRecordOption
         .unwrap_or(IndexRecordOption::Basic)
 }
 
-/// Writes terms of a field of a type, one after another.
+/// Writes `terms` of a field of type `kind`, one after another.
 fn serialize_terms<'a>(
     alloc: Global,
     kind: Type,
@@ -66,7 +66,7 @@ fn serialize_terms<'a>(
 }
 
 impl FieldPostings {
-    /// Writes the field behind those before: its terms in the order of their value bytes.
+    /// Writes the field after those before: its terms in the order of their value bytes.
     pub(crate) fn serialize<'a>(
         &self,
         alloc: Global,

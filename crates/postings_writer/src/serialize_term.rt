@@ -1,4 +1,4 @@
-//! Writes the postings of a term.
+//! The writing of the postings of a term.
 
 ghost use Rattle.std.specs.Prelude.{[], ◌++◌, ◌+◌, ◌-◌, ◌<◌, ◌^◌, ◌≡◌, ◌≤◌, ◌⊎◌, ◌∷◌, IfErr, IfOk, List, OnOk, drop, if◌then◌else◌, length, map, slice_index_or as get_or, take, ℕ};
 ghost use Rattle.packed_blocks.specs.UnpackedBlocks.{listed};
@@ -20,7 +20,7 @@ use crate::recorder::Recorder;
 use definitions::Fault;
 use std::alloc::AllocError;
 
-/// Where the places of the document that stands at a place end.
+/// Returns the index after the places of the document whose places begin at index `start`.
 fn run_end(places: &[(u32, u32)], start: usize) -> usize
     requires { start < length places.now }
     ensures within { (start < result) × (result ≤ length places.now) }
@@ -34,7 +34,7 @@ fn run_end(places: &[(u32, u32)], start: usize) -> usize
     end
 }
 
-/// The positions of these places, in their order.
+/// Replaces what `positions` holds by the positions of `places`, in their order.
 fn gather(places: &[(u32, u32)], positions: &mut Vec<u32>) -> Result<(), AllocError>
     ensures { OnOk result (positions.new.items ≡ map (λ p. p.1) places.now) }
 {
@@ -45,7 +45,7 @@ fn gather(places: &[(u32, u32)], positions: &mut Vec<u32>) -> Result<(), AllocEr
     Ok(())
 }
 
-/// Puts positions into ascending order.
+/// Sorts positions into ascending order.
 fn sort(positions: &mut Vec<u32>)
     ensures ascending { positions.new.items ≡ ascending positions.old.items }
     ensures rising { DontFall positions.new.items }
@@ -55,7 +55,7 @@ fn sort(positions: &mut Vec<u32>)
     }
 }
 
-/// Puts in the place of ascending positions the first of them and the differences.
+/// Replaces ascending positions by the first of them and the differences.
 fn to_differences(positions: &mut [u32])
     requires { DontFall positions.old }
     ensures { positions.new ≡ differences 0 positions.old }
@@ -68,7 +68,7 @@ fn to_differences(positions: &mut [u32])
     }
 }
 
-/// The same of all positions that a vector holds.
+/// Like `to_differences`, but for a vector.
 fn put_differences(positions: &mut Vec<u32>)
     requires { DontFall positions.old.items }
     ensures { positions.new.items ≡ differences 0 positions.old.items }
@@ -77,7 +77,7 @@ fn put_differences(positions: &mut Vec<u32>)
 }
 
 impl Recorder {
-    /// How much it holds.
+    /// Returns the number of documents, or of places if there are positions.
     fn len(&self) -> usize
         ensures { result ≡ length_of self.now }
     {
@@ -88,7 +88,7 @@ impl Recorder {
         }
     }
 
-    /// Puts its places, where it has positions, in the place of what a buffer holds.
+    /// Replaces what `places` holds by its own places, if it has positions.
     fn copy_places(&self, places: &mut Vec<(u32, u32)>) -> Result<(), AllocError>
         ensures { OnOk result (HoldsPlaces self.now places.new.items) }
     {
@@ -98,8 +98,7 @@ impl Recorder {
         }
     }
 
-    /// The document and the count of the posting that stands at a place, and the place of the next one. Its
-    /// first position and the differences are put into the buffer.
+    /// Returns document, count and next index of the posting at index `at`; `deltas` gets its positions as differences.
     fn posting_at(
         &self,
         places: &[(u32, u32)],
@@ -123,7 +122,7 @@ impl Recorder {
     }
 }
 
-/// The same of places.
+/// Like `Recorder::posting_at`, but for a term with positions.
 fn position_posting(
     places: &[(u32, u32)],
     at: usize,
@@ -143,7 +142,7 @@ fn position_posting(
     Ok((places[at].0, count, end))
 }
 
-/// Writes what a recorder stands for.
+/// Writes the postings that `recorder` holds.
 fn write_postings<'a>(
     recorder: &Recorder,
     places: &[(u32, u32)],
@@ -166,8 +165,8 @@ fn write_postings<'a>(
     Ok(())
 }
 
-/// Writes a term by its value bytes, with what a recorder stands for. Of a term that isn't a text's the documents
-/// alone are written.
+/// Writes the term with the value bytes `key`, with the postings that `recorder` holds; only their documents unless
+/// `is_text`.
 pub(crate) fn serialize_term<'a>(
     key: &[u8],
     is_text: bool,

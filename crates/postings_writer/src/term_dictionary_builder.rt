@@ -27,7 +27,7 @@ impl Model for TermDictionaryBuilder {
 }
 
 impl TermDictionaryBuilder {
-    /// Goes on behind the bytes that stand.
+    /// Returns a builder that appends to `output`.
     pub(crate) fn create(alloc: Global, output: Vec<u8>) -> TermDictionaryBuilder
         ensures { result ≡ record { closed = output.items; entries = []; num_terms = 0 } }
     {
@@ -38,8 +38,8 @@ impl TermDictionaryBuilder {
         }
     }
 
-    /// Adds a term to the field: how many documents it has, and how many bytes its postings and positions take.
-    /// A field has at most 4294967295 terms.
+    /// Adds the term with the value bytes `key` to the field: how many documents it has, and how many bytes its
+    /// postings and positions take. A field has at most 4294967295 terms.
     pub(crate) fn insert(
         &mut self,
         key: &[u8],
@@ -62,7 +62,7 @@ impl TermDictionaryBuilder {
         Ok(())
     }
 
-    /// Closes a field with its number of tokens.
+    /// Closes `field` with its number of tokens.
     pub(crate) fn close_field(&mut self, field: u32, num_tokens: u64) -> Result<(), AllocError>
         ensures { OnOk result (self.new ≡ record { closed = self.old.closed ++ u32_bytes field ++ u64_bytes num_tokens ++ vint_bytes self.old.num_terms ++ self.old.entries; entries = []; num_terms = 0 }) }
     {
@@ -75,7 +75,7 @@ impl TermDictionaryBuilder {
         Ok(())
     }
 
-    /// The bytes of the fields that are closed.
+    /// Returns the bytes of the fields that are closed.
     pub(crate) fn finish(self) -> Vec<u8>
         ensures { result.items ≡ self.closed }
     {

@@ -9,7 +9,7 @@ ghost use Rattle.postings_writer.specs.TermWriting.{joined, nothing_waits};
 use packed_blocks::COMPRESSION_BLOCK_SIZE;
 use std::marker::Model;
 
-/// At most 128 documents with their counts, and what their bound is made of.
+/// At most 128 documents with their counts, and what their bound is computed from.
 #[derive(Drop)]
 pub(crate) struct Block {
     docs: [u32; COMPRESSION_BLOCK_SIZE],
@@ -35,7 +35,7 @@ impl Model for Block {
 }
 
 impl Block {
-    /// No document yet.
+    /// Returns an empty block.
     pub(crate) fn new() -> Block
         ensures { result ≡ nothing_waits }
     {
@@ -49,7 +49,7 @@ impl Block {
         }
     }
 
-    /// Adds a document with its count and its length id.
+    /// Appends `doc` with its count and its length id.
     pub(crate) fn append_doc(&mut self, doc: u32, term_freq: u32, fieldnorm_id: u8)
         requires room { length self.old.docs < block_len }
         requires some { 0 < term_freq }
@@ -74,42 +74,42 @@ impl Block {
         self.len == COMPRESSION_BLOCK_SIZE
     }
 
-    /// The documents.
+    /// Returns the documents.
     pub(crate) fn docs(&self) -> &[u32]
         ensures { result.now ≡ self.now.docs }
     {
         &self.docs[..self.len]
     }
 
-    /// The counts, each less 1.
+    /// Returns the counts, each less 1.
     pub(crate) fn counts_less_1(&self) -> &[u32]
         ensures { result.now ≡ less_1 self.now.counts }
     {
         &self.counts_less_1[..self.len]
     }
 
-    /// The least length id of the documents.
+    /// Returns the least length id of the documents.
     pub(crate) fn least_id(&self) -> u8
         ensures { result ≡ self.now.least_id }
     {
         self.least_id
     }
 
-    /// The greatest count.
+    /// Returns the greatest count.
     pub(crate) fn greatest_count(&self) -> u32
         ensures { result ≡ greatest_of self.now.counts }
     {
         self.greatest_count
     }
 
-    /// The sum of the counts.
+    /// Returns the sum of the counts.
     pub(crate) fn count_sum(&self) -> u64
         ensures { result ≡ sum self.now.counts }
     {
         self.count_sum
     }
 
-    /// Takes every document away.
+    /// Removes all documents.
     pub(crate) fn clear(&mut self)
         ensures { self.new ≡ nothing_waits }
     {

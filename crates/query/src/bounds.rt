@@ -13,7 +13,7 @@ use query_trees::{AnyQuery, Occur};
 use settings::Statistics;
 use terms::Term;
 
-/// A number times a bound; `None` where it is above `MAX_SCORE`, as of a bound.
+/// Multiplies `factor` and `bound`; `None` if `bound` is, or the product is above `MAX_SCORE`.
 #[tactic(auto, using(crate::proofs::ScaledBounds::times_above, crate::proofs::ScaledBounds::times_found))]
 pub(crate) fn times(factor: u64, bound: Option<u64>) -> Option<u64>
     ensures { (n : ℕ) → bound ≡ in_range n → result ≡ in_range (factor * n) }
@@ -27,14 +27,14 @@ pub(crate) fn times(factor: u64, bound: Option<u64>) -> Option<u64>
     }
 }
 
-/// A factor; a negative one is read as 0.
+/// Converts a factor to a natural number; a negative one is 0.
 pub(crate) fn natural(factor: Score) -> u64
     ensures { result ≡ natural factor }
 {
     if factor < 0 { 0 } else { factor as u64 }
 }
 
-/// A number that no document's score is above, where nothing is boosted; `None` where it is above `MAX_SCORE`.
+/// Returns a bound of the scores of `query` without a boost; `None` if it is above `MAX_SCORE`.
 #[cycle(bound)]
 #[tactic(auto, using(crate::proofs::ScaledBounds::within_range))]
 pub(crate) fn bound<S: Statistics>(statistics: &S, query: &AnyQuery) -> Option<u64>
@@ -55,7 +55,7 @@ pub(crate) fn bound<S: Statistics>(statistics: &S, query: &AnyQuery) -> Option<u
     }
 }
 
-/// The sum of the bounds of clauses.
+/// Sums the bounds of `clauses`.
 #[cycle(bound)]
 #[tactic(auto, using(query_trees::proofs::Clauses::clause_depth))]
 fn clauses_bound<S: Statistics>(statistics: &S, clauses: &[(Occur, AnyQuery)]) -> Option<u64>
@@ -75,7 +75,7 @@ fn clauses_bound<S: Statistics>(statistics: &S, clauses: &[(Occur, AnyQuery)]) -
     Some(sum)
 }
 
-/// The bound of a clause, which is 0 where it gives no score.
+/// Returns the bound of a clause; 0 if it gives no score.
 #[cycle(bound)]
 fn clause_bound<S: Statistics>(statistics: &S, occur: Occur, query: &AnyQuery) -> Option<u64>
     ensures { result ≡ in_range (if is_counted (occur_of occur)
@@ -87,7 +87,7 @@ fn clause_bound<S: Statistics>(statistics: &S, occur: Occur, query: &AnyQuery) -
     }
 }
 
-/// The sum of the bounds of queries.
+/// Sums the bounds of `disjuncts`.
 #[cycle(bound)]
 #[tactic(auto, using(query_trees::proofs::Clauses::query_depth))]
 fn disjuncts_bound<S: Statistics>(statistics: &S, disjuncts: &[AnyQuery]) -> Option<u64>
@@ -107,7 +107,7 @@ fn disjuncts_bound<S: Statistics>(statistics: &S, disjuncts: &[AnyQuery]) -> Opt
     Some(sum)
 }
 
-/// The sum of the weights of terms, repeats counted.
+/// Sums the weights of `terms`, with repeats.
 #[tactic(auto, using(crate::proofs::ScaledBounds::within_range, crate::proofs::ScaledBounds::above_range))]
 fn weights<S: Statistics>(statistics: &S, terms: &[(usize, Term)]) -> Option<u64>
     ensures { result ≡ in_range (weight_sum (S.similarity statistics.now).weight terms.now) }
@@ -122,7 +122,7 @@ fn weights<S: Statistics>(statistics: &S, terms: &[(usize, Term)]) -> Option<u64
     Some(sum)
 }
 
-/// The sum of the weights of whole terms, and 1 for one of them.
+/// Sums the weights of the whole terms of a phrase prefix; 1 if there is one term.
 fn weights_of_whole<S: Statistics>(statistics: &S, terms: &[(usize, Term)]) -> Option<u64>
     ensures { result ≡ in_range (if nat_eq (length terms.now) 1
         then 1 else weight_sum (S.similarity statistics.now).weight terms.now) }
@@ -134,7 +134,7 @@ fn weights_of_whole<S: Statistics>(statistics: &S, terms: &[(usize, Term)]) -> O
     }
 }
 
-/// A number, where it isn't above `MAX_SCORE`.
+/// Returns `number` if it isn't above `MAX_SCORE`.
 #[tactic(auto, using(crate::proofs::ScaledBounds::within_range, crate::proofs::ScaledBounds::above_range))]
 fn within_scores(number: u128) -> Option<u64>
     ensures { result ≡ in_range number }

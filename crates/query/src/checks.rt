@@ -1,4 +1,4 @@
-//! Which queries are refused, and by what.
+//! Checks of queries: which of them are refused, and with which fault.
 
 ghost use Rattle.std.specs.Prelude.{◌*◌, ◌≡◌, ◌≤◌, ◌||◌, IfOk, None, Some, if◌then◌else◌, nat_lt};
 ghost use Rattle.std.specs.Result.{result_err};
@@ -15,11 +15,11 @@ use query_trees::{AnyQuery, Occur};
 use schema::Schema;
 use settings::Statistics;
 
-/// The most nodes on a path of a query.
+/// The greatest number of nodes on a path of a query.
 const MAX_DEPTH: usize = 64;
 
-/// Whether a query is one of the schema's, and its scores stay in range. Nodes are tested from the root on, where
-/// no path is too long. No memory is taken, and calls nest no deeper than 65 nodes, whatever the tree.
+/// Checks that `query` fits the schema, and that its scores stay in range. Nodes are checked from the root on, after
+/// the lengths of the paths. It allocates nothing, and calls nest no deeper than 65 nodes, whatever the tree.
 pub fn check_query<S: Statistics>(
     schema: &Schema,
     statistics: &S,
@@ -34,7 +34,7 @@ pub fn check_query<S: Statistics>(
     check_tree(schema, statistics, 1, query)
 }
 
-/// Whether a path has more nodes than that. No node further down is looked at.
+/// Whether a path has more than `nodes` nodes. Doesn't visit nodes further down.
 #[cycle(is_deeper)]
 #[tactic(auto, using(crate::proofs::Depths::some_depth, crate::proofs::Depths::less_deep))]
 fn is_deeper(query: &AnyQuery, nodes: usize) -> bool
@@ -56,7 +56,7 @@ fn is_deeper(query: &AnyQuery, nodes: usize) -> bool
     }
 }
 
-/// Whether a path in clauses has more nodes than that.
+/// Whether a path in `clauses` has more than `nodes` nodes.
 #[cycle(is_deeper)]
 #[tactic(auto, using(query_trees::proofs::Clauses::clause_depth))]
 fn any_clause_is_deeper(clauses: &[(Occur, AnyQuery)], nodes: usize) -> bool
@@ -70,7 +70,7 @@ fn any_clause_is_deeper(clauses: &[(Occur, AnyQuery)], nodes: usize) -> bool
     false
 }
 
-/// Whether a path in queries has more nodes than that.
+/// Whether a path in `queries` has more than `nodes` nodes.
 #[cycle(is_deeper)]
 #[tactic(auto, using(query_trees::proofs::Clauses::query_depth))]
 fn any_is_deeper(queries: &[AnyQuery], nodes: usize) -> bool
@@ -84,7 +84,7 @@ fn any_is_deeper(queries: &[AnyQuery], nodes: usize) -> bool
     false
 }
 
-/// Tests a node, and then what is below it, under the product of the boosts above.
+/// Checks a node, then the nodes below it; `boost` is the product of the boosts above.
 #[cycle(check_tree)]
 fn check_tree<S: Statistics>(
     schema: &Schema,
@@ -112,7 +112,7 @@ fn check_tree<S: Statistics>(
     }
 }
 
-/// Tests clauses, in order.
+/// Checks `clauses`, in order.
 #[cycle(check_tree)]
 #[tactic(auto, using(query_trees::proofs::Clauses::clause_depth))]
 fn check_clauses<S: Statistics>(
@@ -131,7 +131,7 @@ fn check_clauses<S: Statistics>(
     Ok(())
 }
 
-/// Tests queries, in order.
+/// Checks `disjuncts`, in order.
 #[cycle(check_tree)]
 #[tactic(auto, using(query_trees::proofs::Clauses::query_depth))]
 fn check_disjuncts<S: Statistics>(
@@ -150,7 +150,7 @@ fn check_disjuncts<S: Statistics>(
     Ok(())
 }
 
-/// Tests a node by itself, and tells the product of the boosts down to it.
+/// Checks a node by itself, and returns the product of the boosts down to it.
 fn check_node<S: Statistics>(
     schema: &Schema,
     statistics: &S,
@@ -170,7 +170,7 @@ fn check_node<S: Statistics>(
     }
 }
 
-/// The product of the boosts down to a node; `None` where a factor, the product or the node's bound is too large.
+/// Multiplies the boosts down to a node; `None` if a factor, the product or the node's bound is too large.
 fn scored_product<S: Statistics>(statistics: &S, boost: u64, query: &AnyQuery) -> Option<u64>
     requires { boost ≤ max_score }
     ensures { let q = query_of query.now
@@ -182,7 +182,7 @@ fn scored_product<S: Statistics>(statistics: &S, boost: u64, query: &AnyQuery) -
     Some(product)
 }
 
-/// The product of the boosts down to a node; `None` where it or a factor is too large.
+/// Multiplies the boosts down to a node; `None` if a factor or the product is too large.
 fn product(boost: u64, query: &AnyQuery) -> Option<u64>
     requires { boost ≤ max_score }
     ensures { let q = query_of query.now
@@ -202,7 +202,7 @@ fn product(boost: u64, query: &AnyQuery) -> Option<u64>
     }
 }
 
-/// The product of boosts and one more; `None` where it or that one is too large.
+/// Multiplies `boost` by `factor`; `None` if `factor` or the product is too large.
 fn product_with(boost: u64, factor: Score) -> Option<u64>
     requires { boost ≤ max_score }
     ensures { let product = boost * natural factor
@@ -215,7 +215,7 @@ fn product_with(boost: u64, factor: Score) -> Option<u64>
     times(boost, Some(factor as u64))
 }
 
-/// The product of boosts beside a constant; `None` where the constant is too large.
+/// Returns `boost`, which a constant score doesn't change; `None` if the constant is too large.
 fn beside(boost: u64, constant: Score) -> Option<u64>
     requires { boost ≤ max_score }
     ensures { result ≡ (if refusing.is_outside max_score constant || nat_lt max_score boost

@@ -1,4 +1,4 @@
-//! Clauses of queries, and how many of them have to match.
+//! Clauses of queries, and the minimum of them that must match.
 
 ghost use Rattle.std.specs.Prelude.{◌++◌, ◌≡◌, IfOk, OnOk, map};
 ghost use Rattle.query.specs.ReadQueries.{Gives, least_query};
@@ -11,7 +11,7 @@ use schema::number_in;
 use serde_json::Value as Json;
 use std::alloc::{AllocError, Global};
 
-/// The query for clauses, of which as many that may match have to as `min` says.
+/// Makes the query of `clauses`, of which at least `min` of the `Should` ones must match.
 pub(crate) fn read_minimum(json: &Json, clauses: Vec<(Occur, AnyQuery)>) -> Result<AnyQuery, Fault>
     ensures { Gives query_of result (least_query (view json.now) (clauses_of clauses.items)) }
 {
@@ -27,7 +27,7 @@ pub(crate) fn read_minimum(json: &Json, clauses: Vec<(Occur, AnyQuery)>) -> Resu
     }
 }
 
-/// Adds a clause for each query, all of which ask the same.
+/// Appends a clause for each of `queries`, all with `occur`.
 pub(crate) fn push_clauses(
     alloc: Global,
     clauses: &mut Vec<(Occur, AnyQuery)>,
@@ -40,7 +40,7 @@ pub(crate) fn push_clauses(
     clauses.append(&mut added)
 }
 
-/// A clause for each query, all of which ask the same.
+/// Makes a clause of each of `queries`, all with `occur`.
 fn with_occur(
     alloc: Global,
     occur: Occur,

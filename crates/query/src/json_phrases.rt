@@ -20,7 +20,7 @@ use settings::term_beside;
 use std::alloc::{AllocError, Global};
 use terms::Term;
 
-/// The query for terms beside each other. They stand in a row where nothing else is said.
+/// Reads a phrase query. By default its terms have consecutive offsets.
 pub(crate) fn read_phrase_query(
     alloc: Global,
     schema: &Schema,
@@ -40,7 +40,7 @@ pub(crate) fn read_phrase_query(
     Ok(AnyQuery::Phrase(PhraseQuery::new_with_offset_and_slop(terms, slop)?))
 }
 
-/// The query for terms beside each other of which the last is a prefix. It stands for each term that begins so.
+/// Reads a phrase prefix query: the last term is a prefix, which matches each term that begins with it.
 #[tactic(auto, using(crate::proofs::PhraseSteps::one_enough))]
 pub(crate) fn read_phrase_prefix_query(
     alloc: Global,
@@ -60,7 +60,7 @@ pub(crate) fn read_phrase_prefix_query(
     Ok(AnyQuery::PhrasePrefix(query))
 }
 
-/// The terms of a phrase, each with its offset, as they are given: two or more, all of one field.
+/// Reads the terms of a phrase with their offsets, in the order given: two or more, all of one field.
 #[tactic(auto, using(crate::proofs::PhraseSteps::by_steps))]
 fn terms_at(
     alloc: Global,
@@ -83,7 +83,7 @@ fn terms_at(
     }
 }
 
-/// The terms at `terms`, in order.
+/// Reads the terms at `terms`, in order.
 fn given_terms(alloc: Global, schema: &Schema, json: &Json) -> Result<Option<Vec<Term>>, AllocError>
     ensures { IfOk result (λ found. option_map (λ terms. terms.items) found ≡ given_terms schema.now (view json.now)) }
 {
@@ -93,7 +93,7 @@ fn given_terms(alloc: Global, schema: &Schema, json: &Json) -> Result<Option<Vec
     }
 }
 
-/// A term for each item, if each is one.
+/// Reads each of `items` as a term.
 fn read_each_term(
     alloc: Global,
     schema: &Schema,
@@ -111,7 +111,7 @@ fn read_each_term(
     Ok(Some(terms))
 }
 
-/// Terms with their offsets, if each has one.
+/// Pairs the terms with their offsets; `None` unless there is one offset for each term.
 fn with_offsets(
     alloc: Global,
     json: &Json,
@@ -128,7 +128,7 @@ fn with_offsets(
     Ok(Some(placed_at(alloc, &offsets, terms)?))
 }
 
-/// Terms with their offsets, as far as there are both.
+/// Pairs `offsets` and `terms`, up to the end of the shorter list.
 fn placed_at(
     alloc: Global,
     offsets: &[usize],
@@ -148,7 +148,7 @@ fn placed_at(
     Ok(placed)
 }
 
-/// The numbers at `offsets`, and else so many places, from 0 on.
+/// Reads the numbers at `offsets`; by default, `count` offsets from 0 on.
 fn offsets_at(alloc: Global, json: &Json, count: usize) -> Result<Option<Vec<usize>>, AllocError>
     ensures { IfOk result (λ found. option_map (λ offsets. offsets.items) found ≡ offsets_at count (view json.now)) }
 {
@@ -159,7 +159,7 @@ fn offsets_at(alloc: Global, json: &Json, count: usize) -> Result<Option<Vec<usi
     }
 }
 
-/// So many places, from 0 on.
+/// Returns `count` offsets, from 0 on.
 #[tactic(auto, using(crate::proofs::PhraseSteps::place_more))]
 fn places(alloc: Global, count: usize) -> Result<Vec<usize>, AllocError>
     ensures { IfOk result (λ places. places.items ≡ range_with_len 0 count) }
@@ -171,7 +171,7 @@ fn places(alloc: Global, count: usize) -> Result<Vec<usize>, AllocError>
     Ok(places)
 }
 
-/// An offset for each item, if each is one.
+/// Reads each of `items` as an offset.
 fn read_each_offset(alloc: Global, items: &[Json]) -> Result<Option<Vec<usize>>, AllocError>
     ensures { IfOk result (λ found. option_map (λ offsets. offsets.items) found ≡ keys.each (keys.number_below definitions.offset_limit) (items_view items.now)) }
 {
@@ -185,7 +185,7 @@ fn read_each_offset(alloc: Global, items: &[Json]) -> Result<Option<Vec<usize>>,
     Ok(Some(offsets))
 }
 
-/// The number at `slop`, and else 0.
+/// Reads the number at `slop`; by default 0.
 fn slop_at(json: &Json) -> Option<u32>
     ensures { result ≡ keys.at_or 0 (keys.number_below definitions.offset_limit) (codes "slop") (view json.now) }
 {
@@ -195,7 +195,7 @@ fn slop_at(json: &Json) -> Option<u32>
     }
 }
 
-/// A whole number from 0 to 2^32 - 1.
+/// Reads a whole number from 0 to 2^32 - 1.
 fn read_small(json: &Json) -> Option<u32>
     ensures { result ≡ keys.number_below definitions.offset_limit (view json.now) }
 {

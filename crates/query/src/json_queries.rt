@@ -24,7 +24,7 @@ use schema::{Schema, has_only, number_in};
 use serde_json::Value as Json;
 use std::alloc::Global;
 
-/// The query in a JSON object, whose key `q` names its form. Calls nest as deep as the object.
+/// Reads a query from a JSON object, whose key `q` names its form. Calls nest as deep as the object.
 #[cycle(read_query)]
 pub fn read_query(alloc: Global, schema: &Schema, json: &Json) -> Result<AnyQuery, Fault>
     ensures ok { IfOk result (λ query. definitions.query_in schema.now (view json.now) ≡ Some (query_of query)) }
@@ -37,7 +37,7 @@ pub fn read_query(alloc: Global, schema: &Schema, json: &Json) -> Result<AnyQuer
     }
 }
 
-/// The query of a form.
+/// Reads a query of the form `form`.
 #[cycle(read_query)]
 fn read_form(alloc: Global, schema: &Schema, form: Form, json: &Json) -> Result<AnyQuery, Fault>
     ensures { Gives query_of result (formed (form_of form) schema.now (view json.now)) }
@@ -55,7 +55,7 @@ fn read_form(alloc: Global, schema: &Schema, form: Form, json: &Json) -> Result<
     }
 }
 
-/// The query for every document.
+/// Reads a query for all documents.
 fn read_all_query(json: &Json) -> Result<AnyQuery, Fault>
     ensures { Gives query_of result (definitions.all_query (view json.now)) }
 {
@@ -65,7 +65,7 @@ fn read_all_query(json: &Json) -> Result<AnyQuery, Fault>
     Ok(AnyQuery::All(AllQuery))
 }
 
-/// The query for no document.
+/// Reads a query for no documents.
 fn read_empty_query(json: &Json) -> Result<AnyQuery, Fault>
     ensures { Gives query_of result (definitions.none_query (view json.now)) }
 {
@@ -75,7 +75,7 @@ fn read_empty_query(json: &Json) -> Result<AnyQuery, Fault>
     Ok(AnyQuery::Empty(EmptyQuery))
 }
 
-/// The query for clauses.
+/// Reads a boolean query.
 #[cycle(read_query)]
 fn read_boolean_query(alloc: Global, schema: &Schema, json: &Json) -> Result<AnyQuery, Fault>
     ensures { Gives query_of result (definitions.bool_query (definitions.many_at schema.now (view json.now)) (view json.now)) }
@@ -87,7 +87,7 @@ fn read_boolean_query(alloc: Global, schema: &Schema, json: &Json) -> Result<Any
     read_minimum(json, clauses)
 }
 
-/// The clauses of a query: those of `must`, of `should`, and of `must_not`.
+/// Reads the clauses of a query: those of `must`, of `should`, and of `must_not`.
 #[cycle(read_query)]
 fn read_clauses(
     alloc: Global,
@@ -106,7 +106,7 @@ fn read_clauses(
     Ok(clauses)
 }
 
-/// The query for the best of several queries. Nothing of the other scores counts where nothing else is said.
+/// Reads a query by the best score. By default the other scores don't count.
 #[cycle(read_query)]
 fn read_disjunction_max_query(
     alloc: Global,
@@ -128,7 +128,7 @@ fn read_disjunction_max_query(
     Ok(AnyQuery::DisjunctionMax(DisjunctionMaxQuery::with_tie_breaker(disjuncts, tie)))
 }
 
-/// The number at `tie`, and else 0.
+/// Reads the number at `tie`; by default 0.
 fn tie_at(json: &Json) -> Option<i64>
     ensures { result ≡ option_map pos (keys.at_or 0 keys.number_in (codes "tie") (view json.now)) }
 {
@@ -138,7 +138,7 @@ fn tie_at(json: &Json) -> Option<i64>
     }
 }
 
-/// The query for a query with a boost.
+/// Reads a query with a boost.
 #[cycle(read_query)]
 fn read_boost_query(alloc: Global, schema: &Schema, json: &Json) -> Result<AnyQuery, Fault>
     ensures { Gives query_of result (definitions.boost_query (definitions.one_at schema.now (view json.now)) (view json.now)) }
@@ -153,7 +153,7 @@ fn read_boost_query(alloc: Global, schema: &Schema, json: &Json) -> Result<AnyQu
     Ok(AnyQuery::Boost(BoostQuery::new(alloc, query, boost)?))
 }
 
-/// The query for a query with one score.
+/// Reads a query with a constant score.
 #[cycle(read_query)]
 fn read_const_score_query(alloc: Global, schema: &Schema, json: &Json) -> Result<AnyQuery, Fault>
     ensures { Gives query_of result (definitions.const_query (definitions.one_at schema.now (view json.now)) (view json.now)) }
@@ -168,14 +168,14 @@ fn read_const_score_query(alloc: Global, schema: &Schema, json: &Json) -> Result
     Ok(AnyQuery::ConstScore(ConstScoreQuery::new(alloc, query, score)?))
 }
 
-/// The number at a key.
+/// Reads the number at `key`.
 fn signed_at(json: &Json, key: &str) -> Option<i64>
     ensures { result ≡ option_map pos (keys.number_at key.now (view json.now)) }
 {
     read_signed(json.get(key)?)
 }
 
-/// A whole number from 0 to 2^63 - 1.
+/// Reads a whole number from 0 to 2^63 - 1.
 #[tactic(auto, using(crate::proofs::Numbers::number_fits))]
 fn read_signed(json: &Json) -> Option<i64>
     ensures { result ≡ option_map pos (keys.number_in (view json.now)) }
@@ -184,7 +184,7 @@ fn read_signed(json: &Json) -> Option<i64>
     Some(number as i64)
 }
 
-/// The query at a key.
+/// Reads the query at `key`.
 #[cycle(read_query)]
 fn read_query_at(alloc: Global, schema: &Schema, json: &Json, key: &str) -> Result<AnyQuery, Fault>
     ensures { Gives query_of result (definitions.one_at schema.now (view json.now) key.now) }
@@ -195,7 +195,7 @@ fn read_query_at(alloc: Global, schema: &Schema, json: &Json, key: &str) -> Resu
     }
 }
 
-/// The queries at a key; none where it is absent.
+/// Reads the queries at `key`; no queries if it is absent.
 #[cycle(read_query)]
 fn read_queries_at(
     alloc: Global,
@@ -211,7 +211,7 @@ fn read_queries_at(
     }
 }
 
-/// What stands at a key.
+/// Returns the value at `key`.
 #[tactic(auto, using(crate::proofs::QuerySteps::child_less))]
 fn child_at<'a>(json: &'a Json, key: &str) -> Option<&'a Json>
     ensures value { option_map (λ v. view v.now) result ≡ get key.now (view json.now) }
@@ -220,7 +220,7 @@ fn child_at<'a>(json: &'a Json, key: &str) -> Option<&'a Json>
     json.get(key)
 }
 
-/// The queries in an array.
+/// Reads the queries in an array.
 #[cycle(read_query)]
 fn read_queries(alloc: Global, schema: &Schema, json: &Json) -> Result<Vec<AnyQuery>, Fault>
     ensures { Gives (λ queries. queries_of queries.items) result (definitions.queries_in schema.now (view json.now)) }
@@ -231,7 +231,7 @@ fn read_queries(alloc: Global, schema: &Schema, json: &Json) -> Result<Vec<AnyQu
     }
 }
 
-/// A query for each item.
+/// Reads each of `items` as a query.
 #[cycle(read_query)]
 #[tactic(auto, using(crate::proofs::QuerySteps::item_depth))]
 fn read_items(alloc: Global, schema: &Schema, items: &[Json]) -> Result<Vec<AnyQuery>, Fault>

@@ -1,4 +1,4 @@
-//! The query for a term, read from JSON.
+//! Term queries read from JSON.
 
 ghost use Rattle.std.specs.Prelude.{◌≡◌, codes, option_map};
 ghost use Rattle.definitions.specs.Json as keys;
@@ -17,7 +17,7 @@ use serde_json::Value as Json;
 use settings::term_beside;
 use std::alloc::Global;
 
-/// The query for a term. Counts are read where nothing else is said.
+/// Reads a term query. By default frequencies are read.
 pub(crate) fn read_term_query(
     alloc: Global,
     schema: &Schema,
@@ -34,7 +34,7 @@ pub(crate) fn read_term_query(
     Ok(AnyQuery::Term(TermQuery::new(term, option)))
 }
 
-/// What a query says that is to be read of its term.
+/// Reads what a term query reads of its term.
 fn record_option_at(json: &Json) -> Option<IndexRecordOption>
     ensures { option_map record_option_of result ≡ keys.at_or with_freqs definitions.record_option_in (codes "record") (view json.now) }
 {
@@ -44,7 +44,7 @@ fn record_option_at(json: &Json) -> Option<IndexRecordOption>
     }
 }
 
-/// What is to be read, by its name.
+/// Returns the record option with the name `name`.
 fn record_option_named(name: &str) -> Option<IndexRecordOption>
     ensures { option_map record_option_of result ≡ keys.named definitions.record_options name.now }
 {

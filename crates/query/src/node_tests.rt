@@ -1,4 +1,4 @@
-//! The tests of a node that aren't about its score.
+//! Checks of a node that aren't about its score.
 
 ghost use Rattle.std.specs.Prelude.{[], ◌++◌, ◌∷◌, ◌≡◌, ◌||◌, int_lt, length, map, nat_lt, not, pos};
 ghost use Rattle.std.specs.List.{list_any};
@@ -20,13 +20,13 @@ use terms::Term;
 /// The greatest offset of a term in a phrase.
 const MAX_OFFSET: usize = 1 << 30;
 
-/// The limit of expansions that leaves none out.
+/// The limit of expansions that excludes none.
 const ALL_EXPANSIONS: u32 = 4294967295;
 
 /// The greatest tie breaker, in thousandths.
 const MAX_TIE_BREAKER: Score = 1000;
 
-/// Makes the tests of a node that aren't about its score.
+/// Checks what isn't about the score of a node.
 pub(crate) fn check_own(schema: &Schema, query: &AnyQuery) -> Result<(), Fault>
     ensures { result_err result ≡ refusing.first_fault (refusing.own_tests schema.now (query_of query.now)) }
 {
@@ -45,14 +45,14 @@ pub(crate) fn check_own(schema: &Schema, query: &AnyQuery) -> Result<(), Fault>
     }
 }
 
-/// Whether a number is negative, or above the greatest.
+/// Whether `number` is negative, or above `greatest`.
 pub(crate) fn is_outside(greatest: Score, number: Score) -> bool
     ensures { result ≡ (int_lt number (pos 0) || int_lt greatest number) }
 {
     number < 0 || number > greatest
 }
 
-/// Tests a term.
+/// Checks a term.
 fn check_term(schema: &Schema, term: &Term) -> Result<(), Fault>
     ensures { result_err result ≡ refusing.first_fault (refusing.term_tests schema.now (term.now ∷ [])) }
 {
@@ -68,7 +68,7 @@ fn check_term(schema: &Schema, term: &Term) -> Result<(), Fault>
     Ok(())
 }
 
-/// Tests the terms of a phrase, each test over all of them.
+/// Checks the terms of a phrase, each check over all of them.
 fn check_phrase(schema: &Schema, terms: &[(usize, Term)]) -> Result<(), Fault>
     ensures { result_err result ≡ refusing.first_fault
         (refusing.term_tests schema.now (map (λ t. t.1) terms.now) ++ refusing.phrase_tests schema.now terms.now) }
@@ -77,7 +77,7 @@ fn check_phrase(schema: &Schema, terms: &[(usize, Term)]) -> Result<(), Fault>
     check_places(schema, terms)
 }
 
-/// Tests the terms of a phrase prefix, and its limit of expansions.
+/// Checks the terms of a phrase prefix, and its limit of expansions.
 fn check_phrase_prefix(
     schema: &Schema,
     terms: &[(usize, Term)],
@@ -98,7 +98,7 @@ fn check_phrase_prefix(
     Ok(())
 }
 
-/// Tests a tie breaker.
+/// Checks a tie breaker.
 fn check_tie_breaker(tie_breaker: Score) -> Result<(), Fault>
     ensures { result_err result
         ≡ refusing.first_fault ((refusing.is_outside 1000 tie_breaker, faults.BadTieBreaker) ∷ []) }
@@ -109,7 +109,7 @@ fn check_tie_breaker(tie_breaker: Score) -> Result<(), Fault>
     Ok(())
 }
 
-/// The tests of a phrase's terms that those of any query have, each over all of them.
+/// Makes the checks of terms of any query, each over all terms of a phrase.
 fn check_terms(schema: &Schema, terms: &[(usize, Term)]) -> Result<(), Fault>
     ensures { result_err result ≡ refusing.first_fault (refusing.term_tests schema.now (map (λ t. t.1) terms.now)) }
 {
@@ -125,7 +125,7 @@ fn check_terms(schema: &Schema, terms: &[(usize, Term)]) -> Result<(), Fault>
     Ok(())
 }
 
-/// The further tests of a phrase's terms, each over all of them.
+/// Makes the further checks of the terms of a phrase, each over all of them.
 fn check_places(schema: &Schema, terms: &[(usize, Term)]) -> Result<(), Fault>
     ensures { result_err result ≡ refusing.first_fault (refusing.phrase_tests schema.now terms.now) }
 {
@@ -141,14 +141,14 @@ fn check_places(schema: &Schema, terms: &[(usize, Term)]) -> Result<(), Fault>
     Ok(())
 }
 
-/// Whether the schema lacks the field of a term.
+/// Whether the schema lacks the field of one of `terms`.
 fn any_is_unknown(schema: &Schema, terms: &[(usize, Term)]) -> bool
     ensures { result ≡ list_any (λ t. refusing.is_unknown schema.now t.1) terms.now }
 {
     terms.iter().any(|(_offset, term)| is_unknown(schema, term))
 }
 
-/// Whether the field of a term is not indexed.
+/// Whether the field of one of `terms` isn't indexed.
 fn any_is_not_indexed(schema: &Schema, terms: &[(usize, Term)]) -> bool
     ensures { result ≡ list_any (λ t. refusing.is_not_indexed schema.now t.1) terms.now }
 {
@@ -157,7 +157,7 @@ fn any_is_not_indexed(schema: &Schema, terms: &[(usize, Term)]) -> bool
         .any(|(_offset, term)| is_not_indexed(schema, term))
 }
 
-/// Whether a term is not of its field's type.
+/// Whether one of `terms` isn't of its field's type.
 fn any_is_mismatched(schema: &Schema, terms: &[(usize, Term)]) -> bool
     ensures { result ≡ list_any (λ t. refusing.is_mismatched schema.now t.1) terms.now }
 {
@@ -166,7 +166,7 @@ fn any_is_mismatched(schema: &Schema, terms: &[(usize, Term)]) -> bool
         .any(|(_offset, term)| is_mismatched(schema, term))
 }
 
-/// Whether the field of a term records no positions.
+/// Whether the field of one of `terms` records no positions.
 fn any_has_no_positions(schema: &Schema, terms: &[(usize, Term)]) -> bool
     ensures { result ≡ list_any (λ t. refusing.has_no_positions schema.now t.1) terms.now }
 {
@@ -175,14 +175,14 @@ fn any_has_no_positions(schema: &Schema, terms: &[(usize, Term)]) -> bool
         .any(|(_offset, term)| has_no_positions(schema, term))
 }
 
-/// Whether a term is not of a text.
+/// Whether one of `terms` isn't a text's.
 fn any_is_not_text(terms: &[(usize, Term)]) -> bool
     ensures { result ≡ list_any (λ t. not (is_text_term t.1)) terms.now }
 {
     terms.iter().any(|(_offset, term)| !is_text_term(term))
 }
 
-/// Whether an offset is above the greatest.
+/// Whether one of the offsets is above the greatest.
 fn any_is_far_off(terms: &[(usize, Term)]) -> bool
     ensures { result ≡ list_any (λ t. nat_lt refusing.max_offset t.0) terms.now }
 {

@@ -1,4 +1,4 @@
-//! The forms of queries, by their names.
+//! The forms of queries and their names.
 
 ghost use Rattle.std.specs.Prelude.{◌≡◌, option_map};
 ghost use Rattle.definitions.specs.Json.{named};
@@ -10,7 +10,7 @@ ghost use Rattle.serde_json.specs.View.{view};
 use schema::text_at;
 use serde_json::Value as Json;
 
-/// The forms of queries.
+/// A form of queries.
 #[derive(Clone, Copy)]
 pub(crate) enum Form {
     All,
@@ -24,7 +24,7 @@ pub(crate) enum Form {
     ConstScore,
 }
 
-/// The form that `q` names.
+/// Reads the form that `q` names.
 pub(crate) fn form_at(json: &Json) -> Option<Form>
     ensures { option_map form_of result ≡ form_at (view json.now) }
 {
@@ -34,7 +34,7 @@ pub(crate) fn form_at(json: &Json) -> Option<Form>
     }
 }
 
-/// A form, by its name.
+/// Returns the form with the name `name`.
 fn form_named(name: &str) -> Option<Form>
     ensures { option_map form_of result ≡ named definitions.forms name.now }
 {

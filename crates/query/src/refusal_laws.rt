@@ -1,4 +1,4 @@
-//! Laws of the order in which queries are refused.
+//! Laws of the order in which faults of queries are found.
 
 ghost use Rattle.std.specs.Prelude.{◌<◌, ◌≡◌, ◌≤◌, List, None, Some, false, true, ℕ};
 ghost use Rattle.std.specs.List.{AllByRecursion};
@@ -9,7 +9,7 @@ ghost use Rattle.definitions.specs.declared.fault.Fault.{Fault};
 ghost use Rattle.definitions.specs.declared.fault.Fault.TheVariants as faults;
 ghost use Rattle.query.specs.Orders.{first_refused, node_tests, nodes_of, order_of};
 
-/// A path that is too long is told of first, whatever else is refused in the query.
+/// States that a path that is too long is reported first, whatever else is wrong with the query.
 pub fn depths_are_tested_first()
     ensures deep { (schema : Schema) (weight : List ℕ → ℕ) (q : Query)
         → max_depth < depth q → refusal schema weight q ≡ Some faults.TooDeep }
@@ -17,15 +17,15 @@ pub fn depths_are_tested_first()
         → depth q ≤ max_depth → refusal schema weight q ≡ tree_fault schema weight 1 q }
 {}
 
-/// A query is refused by what the first of its nodes is refused by, where an outer node comes before an inner one, and a
-/// child with all below it before the next.
+/// States that a query is refused with the fault of its first node that has one; an outer node comes before an inner
+/// one, and a child with all nodes below it before the next child.
 pub fn a_query_is_refused_by_its_first_node()
     ensures { (schema : Schema) (weight : List ℕ → ℕ) (b : ℕ) (q : Query)
         → tree_fault schema weight b q ≡ first_refused schema weight (nodes_of b q) }
 {}
 
-/// A node is refused by the first fault, in the order of the refusals, of those whose test fails over its terms and
-/// numbers; where none fails it isn't refused.
+/// States that a node is refused with the first fault, in the order of the faults, whose test fails over its terms and
+/// numbers; if no test fails it isn't refused.
 pub fn a_node_is_refused_by_its_first_fault()
     ensures first { (schema : Schema) (weight : List ℕ → ℕ) (b : ℕ) (q : Query) (fault : Fault)
         → node_fault schema weight b q ≡ Some fault

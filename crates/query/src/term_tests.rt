@@ -1,4 +1,4 @@
-//! Tests of a term: its field, and what the codes in its bytes say.
+//! Checks of a term: its field, and the codes in its bytes.
 
 ghost use Rattle.std.specs.Prelude.{[], ◌&&◌, ◌==◌, ◌∷◌, ◌≡◌, bytes_eq, false, find, is_none, is_some, option_map, slice_get, take};
 ghost use Rattle.std.specs.List.{after_first};
@@ -11,14 +11,14 @@ ghost use Rattle.terms.specs.Kinds.{kind_of};
 use schema::{FieldEntry, Schema};
 use terms::{Term, Type};
 
-/// Whether the schema lacks the field of a term.
+/// Whether the schema lacks the field of `term`.
 pub(crate) fn is_unknown(schema: &Schema, term: &Term) -> bool
     ensures { result ≡ refusing.is_unknown schema.now term.now }
 {
     term.field().field_id() as usize >= schema.num_fields()
 }
 
-/// Whether the field of a term is not indexed.
+/// Whether the field of `term` isn't indexed.
 pub(crate) fn is_not_indexed(schema: &Schema, term: &Term) -> bool
     ensures { result ≡ refusing.is_not_indexed schema.now term.now }
 {
@@ -28,7 +28,7 @@ pub(crate) fn is_not_indexed(schema: &Schema, term: &Term) -> bool
     }
 }
 
-/// Whether a term is of another type than its field, or a JSON term without the code of a leaf behind its path.
+/// Whether `term` is of another type than its field, or a JSON term without the code of a value after its path.
 pub(crate) fn is_mismatched(schema: &Schema, term: &Term) -> bool
     ensures { result ≡ refusing.is_mismatched schema.now term.now }
 {
@@ -38,7 +38,7 @@ pub(crate) fn is_mismatched(schema: &Schema, term: &Term) -> bool
     }
 }
 
-/// Whether the field of a term records no positions.
+/// Whether the field of `term` records no positions.
 pub(crate) fn has_no_positions(schema: &Schema, term: &Term) -> bool
     ensures { result ≡ refusing.has_no_positions schema.now term.now }
 {
@@ -48,7 +48,7 @@ pub(crate) fn has_no_positions(schema: &Schema, term: &Term) -> bool
     }
 }
 
-/// Whether the term is of a text field, or of a text in a JSON field.
+/// Whether `term` is of a text field, or of a text in a JSON field.
 pub(crate) fn is_text_term(term: &Term) -> bool
     ensures { result ≡ is_text_term term.now }
 {
@@ -56,7 +56,7 @@ pub(crate) fn is_text_term(term: &Term) -> bool
         || has_type(term, Type::Json) && has_text_code(term.serialized_value_bytes())
 }
 
-/// The field of a term, where the schema has it.
+/// Returns the entry of the field of `term`, if the schema has it.
 fn entry_of<'a>(schema: &'a Schema, term: &Term) -> Option<&'a FieldEntry>
     ensures { option_map (λ entry. entry.now) result ≡ slice_get schema.now (field_of term.now) }
 {
@@ -66,7 +66,7 @@ fn entry_of<'a>(schema: &'a Schema, term: &Term) -> Option<&'a FieldEntry>
     Some(schema.get_field_entry(term.field()))
 }
 
-/// Whether positions are recorded of the field's terms.
+/// Whether positions of the field's terms are recorded.
 fn records_positions(entry: &FieldEntry) -> bool
     ensures { result ≡ has_positions entry.now.record_option }
 {
@@ -76,21 +76,21 @@ fn records_positions(entry: &FieldEntry) -> bool
     }
 }
 
-/// Whether the term is a JSON term without the code of a leaf behind its path.
+/// Whether `term` is a JSON term without the code of a value after its path.
 fn lacks_leaf(term: &Term) -> bool
     ensures { result ≡ (has_kind json_kind term.now && is_none (inner_kind term.now)) }
 {
     has_type(term, Type::Json) && !has_leaf_code(term.serialized_value_bytes())
 }
 
-/// Whether the term is of that type, by their codes.
+/// Whether the code of `term` is that of `value_type`.
 fn has_type(term: &Term, value_type: Type) -> bool
     ensures { result ≡ has_kind (kind_of value_type) term.now }
 {
     term.typ().to_code() == value_type.to_code()
 }
 
-/// Whether the byte behind the first U+0000 is the code of a leaf.
+/// Whether the byte after the first U+0000 is the code of a value in a JSON field.
 fn has_leaf_code(bytes: &[u8]) -> bool
     ensures { let code = take 1 (after_first (◌==◌ 0) bytes.now)
         in result ≡ is_some (find (λ kind. bytes_eq code (type_code kind)) leaf_kinds) }
@@ -101,7 +101,7 @@ fn has_leaf_code(bytes: &[u8]) -> bool
     }
 }
 
-/// Whether the byte behind the first U+0000 is the code of a text.
+/// Whether the byte after the first U+0000 is the code of a text.
 fn has_text_code(bytes: &[u8]) -> bool
     ensures { let code = take 1 (after_first (◌==◌ 0) bytes.now)
         in result ≡ option_map_or is_text (find (λ kind. bytes_eq code (type_code kind)) leaf_kinds) false }
@@ -112,7 +112,7 @@ fn has_text_code(bytes: &[u8]) -> bool
     }
 }
 
-/// What stands behind the first U+0000.
+/// Returns the bytes after the first U+0000.
 #[tactic(auto, using(crate::proofs::TermKinds::behind_first, crate::proofs::TermKinds::behind_other))]
 fn behind_path(bytes: &[u8]) -> &[u8]
     ensures { result.now ≡ after_first (◌==◌ 0) bytes.now }
@@ -127,14 +127,14 @@ fn behind_path(bytes: &[u8]) -> &[u8]
     rest
 }
 
-/// Whether leaves of some type have this code.
+/// Whether `code` is that of a type of values in JSON fields.
 fn is_leaf_code(code: u8) -> bool
     ensures { result ≡ is_some (find (λ kind. bytes_eq (code ∷ []) (type_code kind)) leaf_kinds) }
 {
     matches!(code, b's' | b'u' | b'i' | b'o' | b'd')
 }
 
-/// Whether the code is that of a text.
+/// Whether `code` is that of texts.
 fn is_text_code(code: u8) -> bool
     ensures { result
         ≡ option_map_or is_text (find (λ kind. bytes_eq (code ∷ []) (type_code kind)) leaf_kinds) false }

@@ -8,8 +8,8 @@ ghost use Rattle.definitions.specs.Query.{Query};
 ghost use Rattle.definitions.specs.Scanning.{scan_count};
 ghost use Rattle.definitions.specs.Schema.{Schema};
 
-/// How many living documents of each segment match, added up, is what a scan of the living documents of all segments
-/// counts.
+/// States that the counts of the living documents of each segment that match, added up, are what a scan of the living
+/// documents of all segments counts.
 #[tactic(auto, using(crate::proofs::SegmentCounts::counts_add_up))]
 pub fn counts_of_segments_add_up()
     ensures { (schema : Schema) (analyze : Analyzer) (q : Query) (segments : List Segment)

@@ -1,4 +1,4 @@
-//! How many living documents of a segment match.
+//! Counts of the living documents of a segment that match.
 
 ghost use Rattle.std.specs.Prelude.{◌≡◌, IfOk, None};
 ghost use Rattle.definitions.specs.Alive.{Segment};
@@ -16,8 +16,8 @@ use segment_reader::SegmentReader;
 use std::alloc::{AllocError, Global};
 use tree_scorers::{SegmentScorers, scorer_of};
 
-/// How many living documents of a segment match a query. All documents are counted without a scorer, and so are those
-/// that hold a term.
+/// Counts the living documents of the segment that match `query`. All documents, and those that hold a term, are
+/// counted without a scorer.
 pub fn count<F: SegmentScorers>(
     alloc: Global,
     forms: &F,
@@ -44,7 +44,7 @@ pub fn count<F: SegmentScorers>(
     }
 }
 
-/// How many living documents of a segment match a query, by its scorer.
+/// Counts the living documents of the segment that match `query`, by its scorer.
 fn count_by_scorer<F: SegmentScorers>(
     alloc: Global,
     forms: &F,

@@ -19,7 +19,7 @@ use std::alloc::Global;
 use term_scorer::Explanation;
 use tree_scorers::{SegmentScorers, scorer_of};
 
-/// The score of a document of a segment that matches a query; `InvalidArgument` where the document doesn't match it.
+/// Explains the score of `doc` for `query`; `InvalidArgument` if `doc` doesn't match it.
 pub fn explain<F: SegmentScorers>(
     alloc: Global,
     forms: &F,
@@ -44,7 +44,7 @@ pub fn explain<F: SegmentScorers>(
     scorer_answers::explain(alloc, scorer, doc, description(query))
 }
 
-/// What kind of query it is.
+/// Returns the description of the kind of `query`.
 fn description(query: &AnyQuery) -> &'static str {
     match query {
         AnyQuery::All(_) => "every document",

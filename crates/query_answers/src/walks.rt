@@ -1,4 +1,4 @@
-//! What a query gives a list or a sink.
+//! Walks of the documents of a query, into a list or a sink.
 
 ghost use Rattle.std.specs.Prelude.{◌+◌, ◌≡◌, ◌≤◌, IfOk, List, None, OnErr, OnOk};
 ghost use Rattle.definitions.specs.Analyzers.{Analyzer};
@@ -20,7 +20,7 @@ use query_trees::AnyQuery;
 use std::alloc::{AllocError, Global};
 use tree_scorers::{SegmentScorers, scorer_of};
 
-/// The documents of a segment that match a query, in order, each with its score.
+/// Lists the documents of a segment that match `query`, in order, each with its score.
 pub fn for_each<F: SegmentScorers>(
     alloc: Global,
     forms: &F,
@@ -37,8 +37,8 @@ pub fn for_each<F: SegmentScorers>(
     scorer_answers::for_each(alloc, &mut scorer)
 }
 
-/// Gives a sink the documents of a segment that match a query, in order, in blocks of 64 at most. Where memory is
-/// wanting it is given none.
+/// Feeds the documents of a segment that match `query` to `sink`, in order, in blocks of at most 64; none if out of
+/// memory.
 pub fn for_each_no_score<F: SegmentScorers, K: BlockSink>(
     alloc: Global,
     forms: &F,
@@ -58,8 +58,8 @@ pub fn for_each_no_score<F: SegmentScorers, K: BlockSink>(
     Ok(())
 }
 
-/// Gives a sink the documents of a segment that match a query, in order, each with its score, where the score is above
-/// the sink's threshold as it comes. Where memory is wanting it is given none.
+/// Feeds each document of a segment that matches `query` with its score to `sink`, in order, if the score is above the
+/// sink's threshold by then; none if out of memory.
 pub fn for_each_pruning<F: SegmentScorers, K: Sink>(
     alloc: Global,
     forms: &F,

@@ -6,7 +6,7 @@ use crate::query::{Query, QueryClone};
 use std::alloc::{AllocError, Global};
 use terms::Term;
 
-/// Every document.
+/// A query that every document matches.
 #[derive(Clone, Copy, Debug)]
 pub struct AllQuery;
 

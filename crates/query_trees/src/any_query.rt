@@ -27,17 +27,17 @@ pub enum AnyQuery {
     Empty(EmptyQuery),
     /// Documents that hold a term.
     Term(TermQuery),
-    /// Documents where terms stand beside each other.
+    /// Documents that hold terms at given distances.
     Phrase(PhraseQuery),
-    /// Documents where terms stand beside each other, the last of which is known by its first bytes.
+    /// Documents that hold terms at given distances, the last of which is a prefix.
     PhrasePrefix(PhrasePrefixQuery),
     /// Documents that match clauses.
     Boolean(BooleanQuery),
-    /// Documents that match one of several queries, by the best score.
+    /// Documents that match one of several queries; the score is the best one.
     DisjunctionMax(DisjunctionMaxQuery),
-    /// Documents that match a query, by its score times a factor.
+    /// Documents that match a query; the score is multiplied by a factor.
     Boost(BoostQuery),
-    /// Documents that match a query, by one score.
+    /// Documents that match a query; the score is constant.
     ConstScore(ConstScoreQuery),
 }
 

@@ -1,4 +1,4 @@
-//! The query for clauses.
+//! Boolean queries, which consist of clauses.
 
 ghost use Rattle.std.specs.Prelude.{◌≡◌, IfOk, map};
 ghost use Rattle.definitions.specs.Query as definitions;
@@ -17,7 +17,7 @@ use std::alloc::{AllocError, Global};
 use std::marker::Model;
 use terms::Term;
 
-/// Documents that match clauses.
+/// A query of clauses, with a minimum of the `Should` ones that must match.
 #[cycle(queries)]
 #[derive(Debug, Drop)]
 pub struct BooleanQuery {
@@ -49,8 +49,7 @@ impl Model for BooleanQuery {
 }
 
 impl BooleanQuery {
-    /// The query for these clauses. Where there is one, and documents may match each, they have to match one at
-    /// least.
+    /// Makes the query of the clauses `subqueries`. If there are any, and all are `Should`, at least one must match.
     pub fn new(subqueries: Vec<(Occur, AnyQuery)>) -> BooleanQuery
         ensures { let clauses = clauses_of subqueries.items
             in result ≡ (clauses, definitions.default_minimum clauses) }
@@ -59,7 +58,8 @@ impl BooleanQuery {
         BooleanQuery::with_minimum_required_clauses(subqueries, minimum_number_should_match)
     }
 
-    /// The query for these clauses, of which so many that may match have to.
+    /// Makes the query of the clauses `subqueries`, of which at least `minimum_number_should_match` of the `Should`
+    /// ones must match.
     pub fn with_minimum_required_clauses(
         subqueries: Vec<(Occur, AnyQuery)>,
         minimum_number_should_match: usize,
@@ -72,21 +72,21 @@ impl BooleanQuery {
         }
     }
 
-    /// How many of the clauses that may match have to.
+    /// Returns the number of the `Should` clauses that must match.
     pub fn get_minimum_number_should_match(&self) -> usize
         ensures { result ≡ self.now.1 }
     {
         self.minimum_number_should_match
     }
 
-    /// Has so many of the clauses that may match have to, in place of those so far.
+    /// Sets the number of the `Should` clauses that must match.
     pub fn set_minimum_number_should_match(&mut self, minimum_number_should_match: usize)
         ensures { self.new ≡ (self.old.0, minimum_number_should_match) }
     {
         self.minimum_number_should_match = minimum_number_should_match;
     }
 
-    /// The clauses, in order.
+    /// Returns the clauses, in order.
     pub fn clauses(&self) -> &[(Occur, AnyQuery)]
         ensures { clauses_of result.now ≡ self.now.0 }
     {
@@ -95,7 +95,7 @@ impl BooleanQuery {
 }
 
 impl BooleanQuery {
-    /// Documents that match each of the queries.
+    /// Makes the query for documents that match each of `queries`.
     #[tactic(auto, using(crate::proofs::Clauses::each_of, crate::proofs::Clauses::no_minimum))]
     pub fn intersection(alloc: Global, queries: Vec<AnyQuery>) -> Result<BooleanQuery, AllocError>
         ensures { IfOk result (λ query. query ≡ (each_asks definitions.must (queries_of queries.items), 0)) }
@@ -104,7 +104,7 @@ impl BooleanQuery {
         Ok(BooleanQuery::new(subqueries))
     }
 
-    /// Documents that match one of the queries at least.
+    /// Makes the query for documents that match at least one of `queries`.
     #[tactic(auto, using(crate::proofs::Clauses::each_of))]
     pub fn union(alloc: Global, queries: Vec<AnyQuery>) -> Result<BooleanQuery, AllocError>
         ensures { let clauses = each_asks definitions.should (queries_of queries.items)
@@ -114,7 +114,7 @@ impl BooleanQuery {
         Ok(BooleanQuery::new(subqueries))
     }
 
-    /// Documents that match so many of the queries at least.
+    /// Makes the query for documents that match at least `minimum_required_clauses` of `queries`.
     #[tactic(auto, using(crate::proofs::Clauses::each_of))]
     pub fn union_with_minimum_required_clauses(
         alloc: Global,
@@ -128,7 +128,7 @@ impl BooleanQuery {
         Ok(BooleanQuery::with_minimum_required_clauses(subqueries, minimum_required_clauses))
     }
 
-    /// Documents that hold one of the terms at least. Scores read how often a document holds each.
+    /// Makes the query for documents that hold at least one of `terms`. Scores depend on the frequencies of the terms.
     #[tactic(auto, using(crate::proofs::Clauses::terms_of))]
     pub fn new_multiterms_query(alloc: Global, terms: Vec<Term>) -> Result<BooleanQuery, AllocError>
         ensures { let clauses = each_asks definitions.should (for_each_term terms.items)
@@ -148,7 +148,7 @@ impl From<Vec<(Occur, AnyQuery)>> for BooleanQuery {
     }
 }
 
-/// A clause for each query, all of which ask the same.
+/// Makes a clause of each of `queries`, all with `occur`.
 fn with_occur(
     alloc: Global,
     occur: Occur,
@@ -162,7 +162,7 @@ fn with_occur(
         .collect(alloc)
 }
 
-/// The queries for terms, whose counts are read.
+/// Makes the query of each of `terms`, with frequencies.
 fn term_queries(alloc: Global, terms: Vec<Term>) -> Result<Vec<AnyQuery>, AllocError>
     ensures { IfOk result (λ queries. queries.items ≡ map (λ term. forms.Term (term, with_freqs)) terms.items) }
 {
@@ -172,7 +172,7 @@ fn term_queries(alloc: Global, terms: Vec<Term>) -> Result<Vec<AnyQuery>, AllocE
         .collect(alloc)
 }
 
-/// How many clauses that may match have to, where nothing is said.
+/// Returns the default for the number of `Should` clauses that must match.
 fn default_minimum(clauses: &[(Occur, AnyQuery)]) -> usize
     ensures { result ≡ definitions.default_minimum (clauses_of clauses.now) }
 {
@@ -183,7 +183,7 @@ fn default_minimum(clauses: &[(Occur, AnyQuery)]) -> usize
     }
 }
 
-/// Whether documents may match each clause.
+/// Whether all clauses are `Should`.
 fn all_should(clauses: &[(Occur, AnyQuery)]) -> bool
     ensures { result ≡ definitions.all_should (clauses_of clauses.now) }
 {

@@ -1,4 +1,4 @@
-//! The query for a query with a boost.
+//! Queries with a boost.
 
 ghost use Rattle.std.specs.Prelude.{◌≡◌, IfOk};
 ghost use Rattle.definitions.specs.Query as definitions;
@@ -12,7 +12,7 @@ use std::alloc::{AllocError, Global};
 use std::marker::Model;
 use terms::Term;
 
-/// Documents that match a query, by its score times a boost.
+/// A query whose scores are those of another, multiplied by a boost.
 #[cycle(queries)]
 #[derive(Debug, Drop)]
 pub struct BoostQuery {
@@ -43,7 +43,7 @@ impl Model for BoostQuery {
 }
 
 impl BoostQuery {
-    /// The query with this boost. `check_query` refuses one that is negative, or above `MAX_SCORE`.
+    /// Boosts `query`. `check_query` refuses a boost that is negative, or above `MAX_SCORE`.
     pub fn new(alloc: Global, query: AnyQuery, boost: i64) -> Result<BoostQuery, AllocError>
         ensures { IfOk result (λ made. made ≡ (query_of query, boost)) }
     {
@@ -51,14 +51,14 @@ impl BoostQuery {
         Ok(BoostQuery { query, boost })
     }
 
-    /// The query whose scores are multiplied.
+    /// Returns the query that is boosted.
     pub fn query(&self) -> &AnyQuery
         ensures { query_of result.now ≡ self.now.0 }
     {
         &self.query
     }
 
-    /// What its scores are multiplied by.
+    /// Returns the factor of its scores.
     pub fn boost(&self) -> i64
         ensures { result ≡ self.now.1 }
     {

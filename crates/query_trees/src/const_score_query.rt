@@ -1,4 +1,4 @@
-//! The query for a query with one score.
+//! Queries with a constant score.
 
 ghost use Rattle.std.specs.Prelude.{◌≡◌, IfOk};
 ghost use Rattle.definitions.specs.Query as definitions;
@@ -12,7 +12,7 @@ use std::alloc::{AllocError, Global};
 use std::marker::Model;
 use terms::Term;
 
-/// Documents that match a query, all by one score.
+/// A query for the documents of another, all with one score.
 #[cycle(queries)]
 #[derive(Debug, Drop)]
 pub struct ConstScoreQuery {
@@ -43,7 +43,8 @@ impl Model for ConstScoreQuery {
 }
 
 impl ConstScoreQuery {
-    /// The query with this score. `check_query` refuses one that is negative, or above `MAX_SCORE`.
+    /// Gives the documents of `query` the score `score`. `check_query` refuses one that is negative, or above
+    /// `MAX_SCORE`.
     pub fn new(alloc: Global, query: AnyQuery, score: i64) -> Result<ConstScoreQuery, AllocError>
         ensures { IfOk result (λ made. made ≡ (query_of query, score)) }
     {
@@ -51,14 +52,14 @@ impl ConstScoreQuery {
         Ok(ConstScoreQuery { query, score })
     }
 
-    /// The query whose documents they are.
+    /// Returns the query that the documents match.
     pub fn query(&self) -> &AnyQuery
         ensures { query_of result.now ≡ self.now.0 }
     {
         &self.query
     }
 
-    /// The score of each document.
+    /// Returns the score of each document.
     pub fn score(&self) -> i64
         ensures { result ≡ self.now.1 }
     {

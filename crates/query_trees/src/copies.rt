@@ -10,7 +10,7 @@ use crate::disjunction_max_query::DisjunctionMaxQuery;
 use crate::occur::Occur;
 use std::alloc::{AllocError, Global};
 
-/// A copy of a query.
+/// Copies a query.
 #[cycle(copied_query)]
 pub(crate) fn copied_query(alloc: Global, query: &AnyQuery) -> Result<AnyQuery, AllocError>
     ensures { IfOk result (λ copy. copy ≡ query.now) }
@@ -28,7 +28,7 @@ pub(crate) fn copied_query(alloc: Global, query: &AnyQuery) -> Result<AnyQuery, 
     })
 }
 
-/// A copy of the query for clauses.
+/// Copies a boolean query.
 #[cycle(copied_query)]
 pub(crate) fn copied_boolean(
     alloc: Global,
@@ -43,7 +43,7 @@ pub(crate) fn copied_boolean(
     ))
 }
 
-/// A copy of the query for several queries.
+/// Copies a query by the best score.
 #[cycle(copied_query)]
 pub(crate) fn copied_max(
     alloc: Global,
@@ -55,7 +55,7 @@ pub(crate) fn copied_max(
     Ok(DisjunctionMaxQuery::with_tie_breaker(disjuncts, query.tie_breaker()))
 }
 
-/// A copy of a boost.
+/// Copies a query with a boost.
 #[cycle(copied_query)]
 pub(crate) fn copied_boost(alloc: Global, query: &BoostQuery) -> Result<BoostQuery, AllocError>
     ensures { IfOk result (λ copy. copy ≡ query.now) }
@@ -64,7 +64,7 @@ pub(crate) fn copied_boost(alloc: Global, query: &BoostQuery) -> Result<BoostQue
     BoostQuery::new(alloc, inner, query.boost())
 }
 
-/// A copy of the query for one score.
+/// Copies a query with a constant score.
 #[cycle(copied_query)]
 pub(crate) fn copied_const_score(
     alloc: Global,
@@ -76,7 +76,7 @@ pub(crate) fn copied_const_score(
     ConstScoreQuery::new(alloc, inner, query.score())
 }
 
-/// Copies of clauses, in order.
+/// Copies clauses, in order.
 #[cycle(copied_query)]
 #[tactic(auto, using(crate::proofs::Clauses::clause_depth))]
 fn copied_clauses(
@@ -92,7 +92,7 @@ fn copied_clauses(
     Ok(copies)
 }
 
-/// Copies of queries, in order.
+/// Copies queries, in order.
 #[cycle(copied_query)]
 #[tactic(auto, using(crate::proofs::Clauses::query_depth))]
 fn copied_queries(alloc: Global, queries: &[AnyQuery]) -> Result<Vec<AnyQuery>, AllocError>

@@ -1,4 +1,4 @@
-//! The query for several queries, by their best score.
+//! Queries for the documents of several queries, by their best score.
 
 ghost use Rattle.std.specs.Prelude.{◌≡◌, pos};
 ghost use Rattle.definitions.specs.Query as definitions;
@@ -12,8 +12,8 @@ use std::alloc::{AllocError, Global};
 use std::marker::Model;
 use terms::Term;
 
-/// Documents that match one of several queries at least, by the greatest of their scores, and so many thousandths
-/// of the others.
+/// A query for documents that match at least one of several queries; the score is the greatest of theirs, and
+/// `tie_breaker` thousandths of the others.
 #[cycle(queries)]
 #[derive(Debug, Drop)]
 pub struct DisjunctionMaxQuery {
@@ -44,14 +44,14 @@ impl Model for DisjunctionMaxQuery {
 }
 
 impl DisjunctionMaxQuery {
-    /// The query for these queries, of whose scores the greatest counts alone.
+    /// Makes the query for `disjuncts` where only the greatest score counts.
     pub fn new(disjuncts: Vec<AnyQuery>) -> DisjunctionMaxQuery
         ensures { result ≡ (queries_of disjuncts.items, pos 0) }
     {
         DisjunctionMaxQuery::with_tie_breaker(disjuncts, 0)
     }
 
-    /// The query for these queries, with a tie breaker in thousandths.
+    /// Makes the query for `disjuncts` with a tie breaker in thousandths.
     pub fn with_tie_breaker(disjuncts: Vec<AnyQuery>, tie_breaker: i64) -> DisjunctionMaxQuery
         ensures { result ≡ (queries_of disjuncts.items, tie_breaker) }
     {
@@ -61,14 +61,14 @@ impl DisjunctionMaxQuery {
         }
     }
 
-    /// The queries, in order.
+    /// Returns the queries, in order.
     pub fn disjuncts(&self) -> &[AnyQuery]
         ensures { queries_of result.now ≡ self.now.0 }
     {
         &self.disjuncts
     }
 
-    /// How many thousandths of the other scores count.
+    /// Returns the thousandths of the other scores that count.
     pub fn tie_breaker(&self) -> i64
         ensures { result ≡ self.now.1 }
     {

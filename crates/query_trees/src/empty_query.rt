@@ -6,7 +6,7 @@ use crate::query::{Query, QueryClone};
 use std::alloc::{AllocError, Global};
 use terms::Term;
 
-/// No document.
+/// A query that no document matches.
 #[derive(Clone, Copy, Debug)]
 pub struct EmptyQuery;
 

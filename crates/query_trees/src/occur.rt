@@ -1,4 +1,4 @@
-//! What a clause asks of its query.
+//! The kinds of clauses.
 
 /// What a clause asks of documents.
 #[derive(Clone, Copy, Debug, PartialEq, Eq, Hash)]

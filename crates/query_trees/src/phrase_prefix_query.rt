@@ -1,4 +1,4 @@
-//! The query for terms that stand beside each other, the last of which is known by its first bytes.
+//! Queries for phrases whose last term is a prefix.
 
 ghost use Rattle.definitions.specs.Query as definitions;
 ghost use Rattle.std.specs.Prelude.{◌≡◌, IfOk, map, true};
@@ -15,11 +15,11 @@ use std::fmt;
 use std::marker::Model;
 use terms::{Field, Term};
 
-/// To how many terms a prefix expands, where nothing is said.
+/// The default for the most terms of a prefix.
 const DEFAULT_MAX_EXPANSIONS: u32 = 50;
 
-/// Documents where terms of one field stand at the distances of their offsets. The last of these stands for each
-/// term that begins with it.
+/// A query for documents that hold terms of one field at the distances of their offsets. The last one is a prefix: it
+/// matches each term that begins with it.
 #[derive(Drop)]
 pub struct PhrasePrefixQuery {
     terms: Vec<(usize, Term)>,
@@ -39,7 +39,7 @@ impl Model for PhrasePrefixQuery {
 }
 
 impl PhrasePrefixQuery {
-    /// The query for these terms, one after another. The last one is the prefix.
+    /// Makes the query for `terms` at consecutive offsets. The last one is the prefix.
     pub fn new(alloc: Global, terms: Vec<Term>) -> Result<PhrasePrefixQuery, AllocError>
         requires { are_phrase_terms 1 (enumerate_from 0 terms.items) ≡ true }
         ensures { IfOk result (λ query. query ≡ (enumerate_from 0 terms.items, 50)) }
@@ -51,7 +51,7 @@ impl PhrasePrefixQuery {
         })
     }
 
-    /// The query for terms at offsets. The last one of those with the greatest offset is the prefix.
+    /// Makes the query for terms at offsets. The last one of those with the greatest offset is the prefix.
     pub fn new_with_offset(terms: Vec<(usize, Term)>) -> Result<PhrasePrefixQuery, AllocError>
         requires { are_phrase_terms 1 terms.items ≡ true }
         ensures { IfOk result (λ query. query ≡ (by_offset terms.items, 50)) }
@@ -64,29 +64,28 @@ impl PhrasePrefixQuery {
         })
     }
 
-    /// Has the prefix expand to so many terms at most, in place of those so far. `check_query` refuses fewer than
-    /// 4294967295.
+    /// Sets the most terms that the prefix expands to. `check_query` refuses fewer than 4294967295.
     pub fn set_max_expansions(&mut self, value: u32)
         ensures { self.new ≡ (self.old.0, value) }
     {
         self.max_expansions = value;
     }
 
-    /// The field of the terms.
+    /// Returns the field of the terms.
     pub fn field(&self) -> Field
         ensures { result ≡ phrase_field self.now.0 }
     {
         self.terms[0].1.field()
     }
 
-    /// The terms in the order of their offsets, without the prefix.
+    /// Copies the terms in the order of their offsets, without the prefix.
     pub fn phrase_terms(&self, alloc: Global) -> Result<Vec<Term>, AllocError>
         ensures { IfOk result (λ terms. terms.items ≡ map (λ t. t.1) (whole_terms self.now.0)) }
     {
         copied_terms(alloc, self.whole_terms())
     }
 
-    /// The terms with their offsets. The last one is the prefix.
+    /// Returns the terms with their offsets. The last one is the prefix.
     pub fn terms(&self) -> &[(usize, Term)]
         ensures value { result.now ≡ self.now.0 }
         ensures phrase { ArePhraseTerms 1 self.now.0 }
@@ -95,21 +94,21 @@ impl PhrasePrefixQuery {
         &self.terms
     }
 
-    /// The terms with their offsets, without the prefix.
+    /// Returns the terms with their offsets, without the prefix.
     pub fn whole_terms(&self) -> &[(usize, Term)]
         ensures { result.now ≡ whole_terms self.now.0 }
     {
         &self.terms[..self.terms.len() - 1]
     }
 
-    /// To how many terms the prefix expands at most.
+    /// Returns the most terms that the prefix expands to.
     pub fn max_expansions(&self) -> u32
         ensures { result ≡ self.now.1 }
     {
         self.max_expansions
     }
 
-    /// A copy of the query.
+    /// Copies the query.
     pub(crate) fn copied(&self, alloc: Global) -> Result<PhrasePrefixQuery, AllocError>
         ensures { IfOk result (λ copy. copy ≡ self.now) }
     {

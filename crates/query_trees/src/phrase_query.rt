@@ -1,4 +1,4 @@
-//! The query for terms that stand beside each other.
+//! Queries for phrases.
 
 ghost use Rattle.definitions.specs.Query as definitions;
 ghost use Rattle.std.specs.Prelude.{◌≡◌, IfOk, map, true};
@@ -15,7 +15,7 @@ use std::fmt;
 use std::marker::Model;
 use terms::{Field, Term};
 
-/// Documents where terms of one field stand at the distances of their offsets.
+/// A query for documents that hold terms of one field at the distances of their offsets.
 #[derive(Drop)]
 pub struct PhraseQuery {
     phrase_terms: Vec<(usize, Term)>,
@@ -35,7 +35,7 @@ impl Model for PhraseQuery {
 }
 
 impl PhraseQuery {
-    /// The phrase of these terms, one after another.
+    /// Makes the phrase of `terms` at consecutive offsets.
     pub fn new(alloc: Global, terms: Vec<Term>) -> Result<PhraseQuery, AllocError>
         requires { are_phrase_terms 2 (enumerate_from 0 terms.items) ≡ true }
         ensures { IfOk result (λ query. query ≡ (enumerate_from 0 terms.items, 0)) }
@@ -47,7 +47,7 @@ impl PhraseQuery {
         })
     }
 
-    /// The phrase of terms at offsets.
+    /// Makes the phrase of terms at offsets.
     pub fn new_with_offset(terms: Vec<(usize, Term)>) -> Result<PhraseQuery, AllocError>
         requires { are_phrase_terms 2 terms.items ≡ true }
         ensures { IfOk result (λ query. query ≡ (by_offset terms.items, 0)) }
@@ -55,7 +55,7 @@ impl PhraseQuery {
         PhraseQuery::new_with_offset_and_slop(terms, 0)
     }
 
-    /// The phrase of terms at offsets, which may be so many places off together.
+    /// Makes the phrase of terms at offsets, which may be `slop` positions off in total.
     pub fn new_with_offset_and_slop(
         terms: Vec<(usize, Term)>,
         slop: u32,
@@ -68,28 +68,28 @@ impl PhraseQuery {
         Ok(PhraseQuery { phrase_terms, slop })
     }
 
-    /// Has the terms be so many places off together, in place of none.
+    /// Sets the slop: how many positions off the terms may be in total. A new phrase has 0.
     pub fn set_slop(&mut self, value: u32)
         ensures { self.new ≡ (self.old.0, value) }
     {
         self.slop = value;
     }
 
-    /// The field of the terms.
+    /// Returns the field of the terms.
     pub fn field(&self) -> Field
         ensures { result ≡ phrase_field self.now.0 }
     {
         self.phrase_terms[0].1.field()
     }
 
-    /// The terms in the order of their offsets.
+    /// Copies the terms, in the order of their offsets.
     pub fn phrase_terms(&self, alloc: Global) -> Result<Vec<Term>, AllocError>
         ensures { IfOk result (λ terms. terms.items ≡ map (λ t. t.1) self.now.0) }
     {
         copied_terms(alloc, &self.phrase_terms)
     }
 
-    /// The terms with their offsets.
+    /// Returns the terms with their offsets.
     pub fn terms(&self) -> &[(usize, Term)]
         ensures value { result.now ≡ self.now.0 }
         ensures phrase { ArePhraseTerms 2 self.now.0 }
@@ -98,14 +98,14 @@ impl PhraseQuery {
         &self.phrase_terms
     }
 
-    /// How many places off the terms may be together.
+    /// Returns how many positions off the terms may be in total.
     pub fn slop(&self) -> u32
         ensures { result ≡ self.now.1 }
     {
         self.slop
     }
 
-    /// A copy of the query.
+    /// Copies the query.
     pub(crate) fn copied(&self, alloc: Global) -> Result<PhraseQuery, AllocError>
         ensures { IfOk result (λ copy. copy ≡ self.now) }
     {

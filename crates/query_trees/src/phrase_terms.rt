@@ -11,21 +11,21 @@ use std::alloc::{AllocError, Global};
 use std::fmt;
 use terms::{Field, Term};
 
-/// Whether these are so many terms at least, all of one field, as phrases ask.
+/// Whether `terms` are `least` or more, all of one field, as phrases require.
 pub fn are_phrase_terms(least: usize, terms: &[(usize, Term)]) -> bool
     ensures { result ≡ are_phrase_terms least terms.now }
 {
     terms.len() >= least && are_of_field(field_of_first(terms), terms)
 }
 
-/// Whether terms are of a field.
+/// Whether all `terms` are of `field`.
 fn are_of_field(field: Field, terms: &[(usize, Term)]) -> bool
     ensures { result ≡ list_all (λ t. field_of t.1 == field) terms.now }
 {
     terms.iter().all(|(_offset, term)| term.field().field_id() == field.field_id())
 }
 
-/// The field of the first term, and else the first field.
+/// Returns the field of the first term; field 0 if there are no terms.
 fn field_of_first(terms: &[(usize, Term)]) -> Field
     ensures { result ≡ phrase_field terms.now }
 {
@@ -35,7 +35,7 @@ fn field_of_first(terms: &[(usize, Term)]) -> Field
     }
 }
 
-/// Terms one after another, from offset 0 on.
+/// Gives `terms` consecutive offsets, from 0 on.
 pub(crate) fn in_a_row(alloc: Global, terms: Vec<Term>) -> Result<Vec<(usize, Term)>, AllocError>
     ensures { IfOk result (λ placed. placed.items ≡ enumerate_from 0 terms.items) }
 {
@@ -48,7 +48,7 @@ pub(crate) fn in_a_row(alloc: Global, terms: Vec<Term>) -> Result<Vec<(usize, Te
     Ok(placed)
 }
 
-/// Sorts terms by their offsets; those of one offset stay in their order.
+/// Sorts `terms` by their offsets; those of one offset stay in their order.
 pub(crate) fn sort_by_offset(terms: &mut Vec<(usize, Term)>) -> Result<(), AllocError>
     ensures { OnOk result (terms.new.items ≡ by_offset terms.old.items) }
 {
@@ -56,7 +56,7 @@ pub(crate) fn sort_by_offset(terms: &mut Vec<(usize, Term)>) -> Result<(), Alloc
     Ok(())
 }
 
-/// Copies of terms, without their offsets.
+/// Copies terms, without their offsets.
 pub(crate) fn copied_terms(alloc: Global, terms: &[(usize, Term)]) -> Result<Vec<Term>, AllocError>
     ensures { IfOk result (λ copies. copies.items ≡ map (λ t. t.1) terms.now) }
 {
@@ -67,7 +67,7 @@ pub(crate) fn copied_terms(alloc: Global, terms: &[(usize, Term)]) -> Result<Vec
     Ok(copies)
 }
 
-/// Copies of terms, with their offsets.
+/// Copies terms, with their offsets.
 pub(crate) fn copied_places(
     alloc: Global,
     terms: &[(usize, Term)],
@@ -81,7 +81,7 @@ pub(crate) fn copied_places(
     Ok(copies)
 }
 
-/// A copy of a term.
+/// Copies a term.
 pub(crate) fn copied(alloc: Global, term: &Term) -> Result<Term, AllocError>
     ensures { IfOk result (λ copy. copy ≡ term.now) }
 {

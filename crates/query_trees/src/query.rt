@@ -1,4 +1,4 @@
-//! What every query tells.
+//! The traits of queries.
 
 ghost use Rattle.std.specs.Prelude.{◌≡◌, IfOk, map};
 ghost use Rattle.definitions.specs.Query as definitions;
@@ -10,18 +10,18 @@ use terms::Term;
 
 /// Queries that can be copied.
 pub trait QueryClone: Sized {
-    /// A copy of the query. Calls nest as deep as the tree.
+    /// Copies the query. Calls nest as deep as the tree.
     fn try_clone(&self, alloc: Global) -> Result<Self, AllocError>
         ensures { IfOk result (λ copy. copy ≡ self.now) };
 }
 
 /// A query of one form, or of any.
 pub trait Query: QueryClone {
-    // The query as the definitions have it.
+    // The query of the definitions.
     ghost tree: { Self → definitions.Query };
 
-    /// The terms that the query reads, of all nodes in order, each with whether its positions are needed. The prefix
-    /// of a phrase prefix is none of them. Calls nest as deep as the tree.
+    /// Lists the terms that the query reads, of all nodes in order, each with whether its positions are needed. The
+    /// prefix of a phrase prefix isn't among them. Calls nest as deep as the tree.
     fn query_terms(&self, alloc: Global) -> Result<Vec<(&Term, bool)>, AllocError>
         ensures { IfOk result (λ terms. map needed terms.items ≡ query_terms (tree self.now)) };
 }

@@ -10,7 +10,7 @@ use crate::occur::Occur;
 use std::alloc::AllocError;
 use terms::Term;
 
-/// Appends the terms that a query reads.
+/// Appends the terms that `query` reads.
 #[cycle(push_query_terms)]
 pub(crate) fn push_query_terms<'a>(
     found: &mut Vec<(&'a Term, bool)>,
@@ -31,7 +31,7 @@ pub(crate) fn push_query_terms<'a>(
     }
 }
 
-/// Appends the terms that clauses read.
+/// Appends the terms that `clauses` read.
 #[cycle(push_query_terms)]
 #[tactic(auto, using(crate::proofs::Clauses::clause_depth))]
 pub(crate) fn push_clauses_terms<'a>(
@@ -47,7 +47,7 @@ pub(crate) fn push_clauses_terms<'a>(
     Ok(())
 }
 
-/// Appends the terms that queries in order read.
+/// Appends the terms that `disjuncts` read, in order.
 #[cycle(push_query_terms)]
 #[tactic(auto, using(crate::proofs::Clauses::query_depth))]
 pub(crate) fn push_disjuncts_terms<'a>(
@@ -63,7 +63,7 @@ pub(crate) fn push_disjuncts_terms<'a>(
     Ok(())
 }
 
-/// Appends a term whose positions aren't needed.
+/// Appends `term`, whose positions aren't needed.
 pub(crate) fn push_term<'a>(
     found: &mut Vec<(&'a Term, bool)>,
     term: &'a Term,
@@ -74,7 +74,7 @@ pub(crate) fn push_term<'a>(
     Ok(())
 }
 
-/// Appends terms whose positions are needed.
+/// Appends `terms`, whose positions are needed.
 pub(crate) fn push_with_positions<'a>(
     found: &mut Vec<(&'a Term, bool)>,
     terms: &'a [(usize, Term)],

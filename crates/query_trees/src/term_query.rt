@@ -1,4 +1,4 @@
-//! The query for a term.
+//! Queries for a term.
 
 ghost use Rattle.definitions.specs.Query as definitions;
 ghost use Rattle.std.specs.Prelude.{◌≡◌, IfOk};
@@ -13,7 +13,7 @@ use std::fmt;
 use std::marker::Model;
 use terms::Term;
 
-/// Documents that hold a term.
+/// A query for documents that hold a term.
 #[derive(Drop)]
 pub struct TermQuery {
     term: Term,
@@ -31,7 +31,7 @@ impl Model for TermQuery {
 }
 
 impl TermQuery {
-    /// The query for the term. A score reads how often a document holds it where `index_record_option` has counts.
+    /// Makes the query for `term`. Scores depend on its frequencies if `index_record_option` has them.
     pub fn new(term: Term, index_record_option: IndexRecordOption) -> TermQuery
         ensures { result ≡ (term, record_option_of index_record_option) }
     {
@@ -41,21 +41,21 @@ impl TermQuery {
         }
     }
 
-    /// The term that is searched for.
+    /// Returns the term.
     pub fn term(&self) -> &Term
         ensures { result.now ≡ self.now.0 }
     {
         &self.term
     }
 
-    /// What is read of its postings.
+    /// Returns what is read of the term's postings.
     pub fn index_record_option(&self) -> IndexRecordOption
         ensures { record_option_of result ≡ self.now.1 }
     {
         self.index_record_option
     }
 
-    /// A copy of the query.
+    /// Copies the query.
     pub(crate) fn copied(&self, alloc: Global) -> Result<TermQuery, AllocError>
         ensures { IfOk result (λ copy. copy ≡ self.now) }
     {

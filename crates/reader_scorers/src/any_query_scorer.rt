@@ -4,8 +4,8 @@ use any_scorer::Leaf;
 use common::{AliveBitSet, DocId, Score};
 use docsets::{ConstScorer, DocSet, ListScorer, Scorer, SeekDangerResult};
 
-/// The scorer of a query of any kind: of one that holds no other, with its scores or with one score, or a list of what
-/// one has that holds several. What remains is what remains of the one that it has.
+/// A scorer of a query of any kind: of one that holds no other, with its scores or with one score, or a list of the
+/// documents of one that holds several.
 #[derive(Drop)]
 pub enum AnyScorer<A: Scorer, T: Scorer, P: Scorer, X: Scorer> {
     /// Of a query that holds no other, or a list.

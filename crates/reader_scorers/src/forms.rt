@@ -10,7 +10,7 @@ use common::Score;
 use docsets::{ConstScorer, DocSet, ListScorer, Scorer};
 use std::alloc::{AllocError, Global};
 
-/// A scorer with one score for each of its documents.
+/// Returns the documents of `scorer`, each with `score`.
 fn constant<S: Scorer>(scorer: S, score: u64) -> ConstScorer<S>
     requires { score ≤ max_score }
     ensures { ⟦<ConstScorer<S> as DocSet>⟧.entries result ≡ rescored_by (λ e. score) (S.entries scorer) }
@@ -18,7 +18,7 @@ fn constant<S: Scorer>(scorer: S, score: u64) -> ConstScorer<S>
     ConstScorer::new(scorer, score as Score)
 }
 
-/// The list of the documents of a scorer, each with this score.
+/// Lists the documents of `scorer`, each with `score`.
 fn constant_list<S: Scorer + Drop>(
     alloc: Global,
     scorer: S,
@@ -31,7 +31,8 @@ fn constant_list<S: Scorer + Drop>(
     listed(alloc, constant(scorer, score))
 }
 
-/// The same documents, each with this score. Those that have one score already are walked whole.
+/// Returns the documents of `scorer`, each with `score`. A scorer that has one score already is walked whole into a
+/// list.
 pub(crate) fn with_score<A: Scorer + Drop, T: Scorer + Drop, P: Scorer + Drop, X: Scorer + Drop>(
     alloc: Global,
     scorer: AnyScorer<A, T, P, X>,
@@ -51,7 +52,7 @@ pub(crate) fn with_score<A: Scorer + Drop, T: Scorer + Drop, P: Scorer + Drop, X
     Ok(of_list(list))
 }
 
-/// The same documents as a leaf has, each with this score. A list is made anew.
+/// Returns the documents of `leaf`, each with `score`. A list is made anew.
 fn leaf_with_score<A: Scorer + Drop, T: Scorer + Drop, P: Scorer + Drop, X: Scorer + Drop>(
     alloc: Global,
     leaf: Leaf<A, T, P, X, ListScorer>,
@@ -73,7 +74,7 @@ fn leaf_with_score<A: Scorer + Drop, T: Scorer + Drop, P: Scorer + Drop, X: Scor
     }
 }
 
-/// Every document.
+/// Returns the scorer of every document.
 pub(crate) fn of_all<A: Scorer + Drop, T: Scorer + Drop, P: Scorer + Drop, X: Scorer + Drop>(
     all: A,
 ) -> AnyScorer<A, T, P, X>
@@ -82,7 +83,7 @@ pub(crate) fn of_all<A: Scorer + Drop, T: Scorer + Drop, P: Scorer + Drop, X: Sc
     AnyScorer::Leaf(Leaf::All(all))
 }
 
-/// The documents of a list.
+/// Returns the scorer of the documents of `list`.
 pub(crate) fn of_list<A: Scorer + Drop, T: Scorer + Drop, P: Scorer + Drop, X: Scorer + Drop>(
     list: ListScorer,
 ) -> AnyScorer<A, T, P, X>
@@ -91,7 +92,7 @@ pub(crate) fn of_list<A: Scorer + Drop, T: Scorer + Drop, P: Scorer + Drop, X: S
     AnyScorer::Leaf(Leaf::List(list))
 }
 
-/// No document.
+/// Returns the scorer of no document.
 pub(crate) fn of_none<A: Scorer + Drop, T: Scorer + Drop, P: Scorer + Drop, X: Scorer + Drop>(
     alloc: Global,
 ) -> AnyScorer<A, T, P, X>
@@ -100,7 +101,7 @@ pub(crate) fn of_none<A: Scorer + Drop, T: Scorer + Drop, P: Scorer + Drop, X: S
     of_list(ListScorer::new(Vec::new(alloc)))
 }
 
-/// The documents of a term, if there are any.
+/// Returns the scorer of a term, of no document if `found` is `None`.
 pub(crate) fn of_term<A: Scorer + Drop, T: Scorer + Drop, P: Scorer + Drop, X: Scorer + Drop>(
     alloc: Global,
     found: Option<T>,
@@ -114,7 +115,7 @@ pub(crate) fn of_term<A: Scorer + Drop, T: Scorer + Drop, P: Scorer + Drop, X: S
     }
 }
 
-/// The documents of a phrase, if there are any.
+/// Returns the scorer of a phrase, of no document if `found` is `None`.
 pub(crate) fn of_phrase<A: Scorer + Drop, T: Scorer + Drop, P: Scorer + Drop, X: Scorer + Drop>(
     alloc: Global,
     found: Option<P>,
@@ -128,7 +129,7 @@ pub(crate) fn of_phrase<A: Scorer + Drop, T: Scorer + Drop, P: Scorer + Drop, X:
     }
 }
 
-/// The documents of a phrase prefix, if there are any.
+/// Returns the scorer of a phrase prefix, of no document if `found` is `None`.
 pub(crate) fn of_phrase_prefix<
     A: Scorer + Drop,
     T: Scorer + Drop,

@@ -1,4 +1,4 @@
-//! What makes the scorers of queries that hold no other in a segment.
+//! Makers of the scorers of queries that hold no other in a segment.
 
 ghost use Rattle.std.specs.Prelude.{[], ◌≤◌, IfNone, IfOk, IfSome};
 ghost use Rattle.definitions.specs.Query as definitions;
@@ -11,7 +11,7 @@ use query_trees::{PhrasePrefixQuery, PhraseQuery, TermQuery};
 use segment_reader::SegmentReader;
 use std::alloc::{AllocError, Global};
 
-/// What makes the scorers of terms, phrases and phrase prefixes in a segment, by weights of terms and norms of lengths.
+/// A maker of the scorers of terms, phrases and phrase prefixes in a segment, by weights of terms and norms of lengths.
 pub trait LeafWeights<'a> {
     /// The scorer of a term.
     type Term: Scorer + Drop;
@@ -25,7 +25,7 @@ pub trait LeafWeights<'a> {
     // The weight of each term, and a norm for each length id.
     ghost similarity: { Self → Similarity };
 
-    /// The documents that hold a term; none where no document holds it.
+    /// Returns a scorer of the documents that hold a term; `None` if no document holds it.
     fn term_scorer(
         &self,
         reader: &SegmentReader<'a>,
@@ -40,7 +40,7 @@ pub trait LeafWeights<'a> {
         ensures none { IfNone result
             (Scores (similarity self.now) boost (definitions.term query.now.0 query.now.1) reader.now []) };
 
-    /// The documents where a phrase stands; none where no document holds one of its terms.
+    /// Returns a scorer of the documents where a phrase occurs; `None` if one of its terms is in no document.
     fn phrase_scorer(
         &self,
         alloc: Global,
@@ -56,8 +56,8 @@ pub trait LeafWeights<'a> {
         ensures none { IfOk result (λ found. IfNone found
             (Scores (similarity self.now) boost (definitions.phrase query.now.0 query.now.1) reader.now [])) };
 
-    /// The documents where terms that begin with a prefix follow whole terms; none where no document holds one of
-    /// these.
+    /// Returns a scorer of the documents where terms that begin with a prefix follow whole terms; `None` if one of
+    /// these is in no document.
     fn phrase_prefix_scorer(
         &self,
         alloc: Global,

@@ -1,4 +1,4 @@
-//! What makes the scorers of any query in a segment.
+//! The maker of the scorers of any query in a segment.
 
 ghost use Rattle.std.specs.Prelude.{◌+◌, ◌≡◌, ◌≤ℤ◌, ◌≤◌, IfOk, map, pos, ℕ};
 ghost use Rattle.definitions.specs.Query as definitions;
@@ -27,7 +27,7 @@ pub type ScorerBy<'a, W> = AnyScorer<
     <W as LeafWeights<'a>>::PhrasePrefix,
 >;
 
-/// A segment, and what makes the scorers of queries that hold no other in it.
+/// A segment, and the maker of the scorers of queries that hold no other in it.
 #[derive(Drop)]
 pub struct ReaderScorers<'r, 'a, W: LeafWeights<'a>> {
     reader: &'r SegmentReader<'a>,
@@ -37,7 +37,7 @@ pub struct ReaderScorers<'r, 'a, W: LeafWeights<'a>> {
 impl<'r, 'a, W: LeafWeights<'a>> ReaderScorers<'r, 'a, W> {
     ghost use Rattle.reader_scorers.specs.Scored.{segment_scored, weights_of};
 
-    /// A segment with weights.
+    /// Returns the maker of the scorers in `reader`, by `weights`.
     pub fn new(reader: &'r SegmentReader<'a>, weights: &'r W) -> ReaderScorers<'r, 'a, W>
         ensures segment { segment_scored result ≡ reader.now }
         ensures weights { weights_of result ≡ weights.now }
@@ -113,7 +113,7 @@ impl<'r, 'a, W: LeafWeights<'a>> SegmentScorers for ReaderScorers<'r, 'a, W> {
     {
         let minimum = minimum_number_should_match;
         if are_terms(&musts) && are_terms(&shoulds) && are_terms(&must_nots) {
-            // Then each move and each score is that of a term, without a look at which form the scorer has.
+            // Then each move and each score is that of a term, without a match on the form of the scorer.
             let list = clauses_scorer(
                 alloc,
                 into_terms(alloc, musts)?,

@@ -9,7 +9,7 @@ use docsets::{DocSet, Scorer};
 use std::alloc::{AllocError, Global};
 use std::collections::VecDeque;
 
-/// Whether each scorer is that of a term, with its own scores.
+/// Whether each of `scorers` is that of a term, with its own scores.
 pub(crate) fn are_terms<A: Scorer, T: Scorer, P: Scorer, X: Scorer>(
     scorers: &Vec<AnyScorer<A, T, P, X>>,
 ) -> bool
@@ -23,14 +23,14 @@ pub(crate) fn are_terms<A: Scorer, T: Scorer, P: Scorer, X: Scorer>(
     true
 }
 
-/// Whether the scorer is that of a term, with its own scores.
+/// Whether `scorer` is that of a term, with its own scores.
 fn is_term<A: Scorer, T: Scorer, P: Scorer, X: Scorer>(scorer: &AnyScorer<A, T, P, X>) -> bool
     ensures { result ≡ true → IsTerm scorer.now }
 {
     matches!(scorer, AnyScorer::Leaf(Leaf::Term(_)))
 }
 
-/// The scorers of the terms.
+/// Returns the scorers of the terms in `scorers`, in order.
 pub(crate) fn into_terms<A: Scorer + Drop, T: Scorer + Drop, P: Scorer + Drop, X: Scorer + Drop>(
     alloc: Global,
     scorers: Vec<AnyScorer<A, T, P, X>>,
@@ -47,7 +47,7 @@ pub(crate) fn into_terms<A: Scorer + Drop, T: Scorer + Drop, P: Scorer + Drop, X
     Ok(terms)
 }
 
-/// The scorer of the term.
+/// Returns the scorer of the term in `scorer`.
 fn term_of<A: Scorer + Drop, T: Scorer + Drop, P: Scorer + Drop, X: Scorer + Drop>(
     scorer: AnyScorer<A, T, P, X>,
 ) -> T

@@ -1,4 +1,4 @@
-//! A field's name, type and options.
+//! Field entries: a field's name, type and options.
 
 ghost use Rattle.std.specs.Prelude.{[], if◌then◌else◌, option_map, string_bytes, ◌↔◌, ◌≡◌, IsTrue, None, Some};
 ghost use Rattle.definitions.specs.Schema.{bytes_kind, date_kind, has_lengths, ip_addr_kind, is_indexed, is_text, json_kind, keeps_length};
@@ -32,12 +32,12 @@ pub enum FieldType {
     Bytes(BytesOptions),
     /// JSON objects.
     JsonObject(JsonObjectOptions),
-    /// Addresses of 128 bits, IPv4 mapped into IPv6.
+    /// IP addresses of 128 bits, IPv4 mapped into IPv6.
     IpAddr(IpAddrOptions),
 }
 
 impl FieldType {
-    /// The type without its options.
+    /// Returns the type without its options.
     pub fn value_type(&self) -> Type
         ensures { kind_of result ≡ (entry_of [] self.now).kind }
     {
@@ -54,35 +54,35 @@ impl FieldType {
         }
     }
 
-    /// Whether it is a text type.
+    /// Whether this is the type of texts.
     pub fn is_str(&self) -> bool
         ensures { result ≡ is_text (entry_of [] self.now).kind }
     {
         matches!(self, FieldType::Str(_))
     }
 
-    /// Whether it is the type of JSON objects.
+    /// Whether this is the type of JSON objects.
     pub fn is_json(&self) -> bool
         ensures { IsTrue result ↔ ((entry_of [] self.now).kind ≡ json_kind) }
     {
         matches!(self, FieldType::JsonObject(_))
     }
 
-    /// Whether it is the type of bytes.
+    /// Whether this is the type of bytes.
     pub fn is_bytes(&self) -> bool
         ensures { IsTrue result ↔ ((entry_of [] self.now).kind ≡ bytes_kind) }
     {
         matches!(self, FieldType::Bytes(_))
     }
 
-    /// Whether it is the type of dates.
+    /// Whether this is the type of dates.
     pub fn is_date(&self) -> bool
         ensures { IsTrue result ↔ ((entry_of [] self.now).kind ≡ date_kind) }
     {
         matches!(self, FieldType::Date(_))
     }
 
-    /// Whether it is the type of addresses.
+    /// Whether this is the type of IP addresses.
     pub fn is_ip_addr(&self) -> bool
         ensures { IsTrue result ↔ ((entry_of [] self.now).kind ≡ ip_addr_kind) }
     {
@@ -123,7 +123,7 @@ impl FieldType {
         }
     }
 
-    /// What is recorded of the field's terms; of a JSON field, of those of texts. `None` where it isn't indexed.
+    /// Returns what is recorded of the field's terms; for a JSON field, of those of texts. `None` if it isn't indexed.
     pub fn get_index_record_option(&self) -> Option<IndexRecordOption>
         ensures { let e = entry_of [] self.now in option_map record_option_of result ≡ (if is_indexed e then Some e.record_option else None) }
     {
@@ -158,35 +158,35 @@ impl Model for FieldEntry {
 }
 
 impl FieldEntry {
-    /// An entry of that name; whether a schema takes it is the builder's test.
+    /// Makes the entry of a field; whether a schema may have it is checked by the builder.
     pub(crate) fn new(name: String, field_type: FieldType) -> FieldEntry
         ensures { result ≡ entry_of (string_bytes name) field_type }
     {
         FieldEntry { name, field_type }
     }
 
-    /// The field's name.
+    /// Returns the field's name.
     pub fn name(&self) -> &str
         ensures { result.now ≡ self.now.name }
     {
         self.name.as_str()
     }
 
-    /// The field's type, with its options.
+    /// Returns the field's type, with its options.
     pub fn field_type(&self) -> &FieldType
         ensures { entry_of self.now.name result.now ≡ self.now }
     {
         &self.field_type
     }
 
-    /// The type of the field's values.
+    /// Returns the type of the field's values.
     pub fn value_type(&self) -> Type
         ensures { kind_of result ≡ self.now.kind }
     {
         self.field_type.value_type()
     }
 
-    /// The name of the tokenizer of the field's texts, and no text where they aren't indexed or there are none.
+    /// Returns the name of the tokenizer of the field's texts; empty if it has no texts, or they aren't indexed.
     pub fn tokenizer(&self) -> &str
         ensures { result.now ≡ self.now.tokenizer }
     {
@@ -215,7 +215,7 @@ impl FieldEntry {
         self.field_type.has_fieldnorms()
     }
 
-    /// Whether the field's values come back with their documents.
+    /// Whether the field's values are stored with their documents.
     pub fn is_stored(&self) -> bool
         ensures { result ≡ self.now.stored }
     {
@@ -231,7 +231,7 @@ impl FieldEntry {
         }
     }
 
-    /// What `set_fast` set in the field's options. Facets have no such option.
+    /// Returns what `set_fast` set in the field's options. Facets have no such option.
     pub fn is_fast(&self) -> bool
         ensures { result ≡ self.now.fast }
     {

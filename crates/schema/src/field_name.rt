@@ -3,7 +3,7 @@
 ghost use Rattle.std.specs.Prelude.{◌≡◌};
 ghost use Rattle.definitions.specs.Schema.{is_valid_field_name};
 
-/// Whether a field may have this name: it isn't empty and doesn't begin with `-`.
+/// Whether a field may have the name `field_name`: it isn't empty and doesn't begin with `-`.
 pub fn is_valid_field_name(field_name: &str) -> bool
     ensures { result ≡ is_valid_field_name field_name.now }
 {

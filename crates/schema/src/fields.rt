@@ -1,4 +1,4 @@
-//! The fields of a schema, one after another.
+//! An iterator over the fields of a schema.
 
 ghost use Rattle.std.specs.Prelude.{length, ◌+◌, ◌≡◌, ◌≤◌};
 ghost use Rattle.std.specs.Iterator.{YieldsFirstBy, item_count};
@@ -9,7 +9,7 @@ use crate::field_entry::FieldEntry;
 use std::marker::Model;
 use terms::Field;
 
-/// The fields of a schema with their entries, seen as the list of those that are left.
+/// An iterator over the fields of a schema with their entries. Its model is the list of those that are left.
 #[derive(Drop)]
 pub struct Fields<'a> {
     entries: &'a [FieldEntry],

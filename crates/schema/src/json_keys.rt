@@ -1,4 +1,4 @@
-//! What stands at the keys of JSON objects.
+//! Values at the keys of JSON objects.
 ghost use Rattle.std.specs.Prelude.{◌++◌, ◌≡◌, bytes_eq, map, option_map};
 ghost use Rattle.std.specs.List.{list_any};
 ghost use Rattle.definitions.specs.Json as definitions;
@@ -7,14 +7,14 @@ ghost use Rattle.serde_json.specs.View.{members_view, view};
 
 use serde_json::{Map, Value};
 
-/// Whether the value is an object with no key but these.
+/// Whether `value` is an object without keys other than `keys`.
 pub fn has_only(value: &Value, keys: &[&str]) -> bool
     ensures { result ≡ definitions.has_only (map (λ k. k.now) keys.now) (view value.now) }
 {
     has_only_beside(value, keys, &[])
 }
 
-/// Whether the value is an object with no key but these and further ones.
+/// Whether `value` is an object without keys other than `keys` and `further`.
 pub fn has_only_beside(value: &Value, keys: &[&str], further: &[&str]) -> bool
     ensures { result ≡ definitions.has_only (map (λ k. k.now) keys.now ++ map (λ k. k.now) further.now) (view value.now) }
 {
@@ -24,14 +24,14 @@ pub fn has_only_beside(value: &Value, keys: &[&str], further: &[&str]) -> bool
     }
 }
 
-/// The text at a key.
+/// Returns the text at `key`.
 pub fn text_at<'a>(value: &'a Value, key: &str) -> Option<&'a str>
     ensures { option_map (λ s. s.now) result ≡ definitions.text_at key.now (view value.now) }
 {
     value.get(key).and_then(Value::as_str)
 }
 
-/// The object at a key.
+/// Returns the object at `key`.
 pub fn object_at<'a>(value: &'a Value, key: &str) -> Option<&'a Value>
     ensures { option_map (λ o. view o.now) result ≡ object_at key.now (view value.now) }
 {
@@ -43,7 +43,7 @@ pub fn object_at<'a>(value: &'a Value, key: &str) -> Option<&'a Value>
     }
 }
 
-/// The option at a key, true or false; where it is absent, this.
+/// Returns the bool at `key`; `absent` if the key is absent.
 pub fn flag_or(options: &Value, key: &str, absent: bool) -> Option<bool>
     ensures { result ≡ flag_or absent key.now (view options.now) }
 {
@@ -53,14 +53,14 @@ pub fn flag_or(options: &Value, key: &str, absent: bool) -> Option<bool>
     }
 }
 
-/// The number at a key, a whole one from 0 to 2^63 - 1.
+/// Returns the whole number from 0 to 2^63 - 1 at `key`.
 pub fn number_at(value: &Value, key: &str) -> Option<u64>
     ensures { result ≡ definitions.number_at key.now (view value.now) }
 {
     number_in(value.get(key)?)
 }
 
-/// A whole number from 0 to 2^63 - 1.
+/// Returns the number if it is a whole one from 0 to 2^63 - 1.
 pub fn number_in(value: &Value) -> Option<u64>
     ensures { result ≡ definitions.number_in (view value.now) }
 {
@@ -68,7 +68,7 @@ pub fn number_in(value: &Value) -> Option<u64>
     if number < 1 << 63 { Some(number) } else { None }
 }
 
-/// Whether each key is one of these.
+/// Whether each key of `members` is one of `keys` and `further`.
 fn members_have_only(members: &Map<String, Value>, keys: &[&str], further: &[&str]) -> bool
     ensures { result ≡ definitions.members_have_only (map (λ k. k.now) keys.now ++ map (λ k. k.now) further.now) (members_view members.now.entries) }
 {
@@ -80,7 +80,7 @@ fn members_have_only(members: &Map<String, Value>, keys: &[&str], further: &[&st
     true
 }
 
-/// Whether the key is one of these.
+/// Whether `key` is one of `keys`.
 fn is_one_of(key: &str, keys: &[&str]) -> bool
     ensures { result ≡ list_any (bytes_eq key.now) (map (λ k. k.now) keys.now) }
 {

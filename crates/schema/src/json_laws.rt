@@ -1,4 +1,4 @@
-//! Schemas as JSON: that they are read back, and worked examples.
+//! Laws and worked examples of schemas as JSON.
 #![tactic(auto, unfolding(definitions::proofs::OnLiterals::definitions_on_literals))]
 
 ghost use Rattle.std.specs.Prelude.{[], ◌∷◌, ◌≡◌, Err, List, None, Ok, Some, codes, false, length, map, option_map, true, ℕ};
@@ -8,12 +8,12 @@ ghost use Rattle.definitions.specs.declared.fault.Fault.TheVariants as faults;
 ghost use Rattle.serde_json.specs.Read.{read};
 ghost use Rattle.serde_json.specs.Written.{compact_text};
 
-/// A schema is read back from what is written of it.
+/// States that a schema that is written is read back.
 pub fn written_schemas_are_read_back()
     ensures { (s : Schema) → IsSchema s → schema_in (schema_data s) ≡ Ok s }
 {}
 
-/// Every option of each field is written.
+/// States, by examples, that every option of each field is written.
 pub fn schemas_are_written()
     ensures nothing { compact_text (schema_data []) ≡ codes "[]" }
     ensures text { compact_text (schema_data (record (entry_named (codes "t") text_kind) { stored = true; indexed = true; fieldnorms = true; coerce = true; record_option = with_freqs_and_positions; tokenizer = codes "default" } ∷ [])) ≡ codes "[{\"name\":\"t\",\"options\":{\"coerce\":true,\"fast\":false,\"indexing\":{\"fieldnorms\":true,\"record\":\"position\",\"tokenizer\":\"default\"},\"stored\":true},\"type\":\"text\"}]" }
@@ -24,7 +24,7 @@ pub fn schemas_are_written()
     ensures json { compact_text (schema_data (record (entry_named (codes "j") json_kind) { indexed = true; record_option = with_freqs; tokenizer = codes "raw"; expand_dots = true } ∷ [])) ≡ codes "[{\"name\":\"j\",\"options\":{\"expand_dots\":true,\"fast\":false,\"indexing\":{\"fieldnorms\":false,\"record\":\"freq\",\"tokenizer\":\"raw\"},\"stored\":false},\"type\":\"json_object\"}]" }
 {}
 
-/// Options come in any order, and where they are absent they have their defaults.
+/// States, by examples, that options come in any order, and have defaults if they are absent.
 pub fn options_have_defaults()
     ensures nothing { option_map schema_in (read (codes "[]")) ≡ Some (Ok []) }
     ensures text { option_map schema_in (read (codes "[{\"options\":{},\"type\":\"text\",\"name\":\"t\"}]")) ≡ Some (Ok (entry_named (codes "t") text_kind ∷ [])) }
@@ -38,7 +38,7 @@ pub fn options_have_defaults()
     ensures lengths_are_set { option_map schema_in (read (codes "[{\"name\":\"n\",\"type\":\"u64\",\"options\":{\"fieldnorms\":false,\"indexed\":true}}]")) ≡ Some (Ok (record (entry_named (codes "n") u64_kind) { indexed = true } ∷ [])) }
 {}
 
-/// Options that a type lacks are ignored, whatever they say.
+/// States, by examples, that options that a type lacks are ignored, whatever their values.
 pub fn unknown_options_are_ignored()
     ensures text { option_map schema_in (read (codes "[{\"name\":\"t\",\"type\":\"text\",\"options\":{\"gap\":[1],\"indexed\":\"yes\",\"expand_dots\":5}}]")) ≡ Some (Ok (entry_named (codes "t") text_kind ∷ [])) }
     ensures number { option_map schema_in (read (codes "[{\"name\":\"n\",\"type\":\"u64\",\"options\":{\"indexing\":7,\"expand_dots\":{}}}]")) ≡ Some (Ok (entry_named (codes "n") u64_kind ∷ [])) }
@@ -47,7 +47,7 @@ pub fn unknown_options_are_ignored()
     ensures indexing { option_map schema_in (read (codes "[{\"name\":\"t\",\"type\":\"text\",\"options\":{\"indexing\":{\"gap\":\"x\"}}}]")) ≡ Some (Ok (record (entry_named (codes "t") text_kind) { indexed = true; fieldnorms = true; tokenizer = codes "default" } ∷ [])) }
 {}
 
-/// What no schema is.
+/// States, by examples, that JSON of other forms isn't a schema.
 pub fn other_forms_are_refused()
     ensures no_list { option_map schema_in (read (codes "{}")) ≡ Some (Err faults.BadSchema) }
     ensures no_object { option_map schema_in (read (codes "[\"t\"]")) ≡ Some (Err faults.BadSchema) }
@@ -64,14 +64,14 @@ pub fn other_forms_are_refused()
     ensures no_name { option_map schema_in (read (codes "[{\"name\":7,\"type\":\"text\",\"options\":{}}]")) ≡ Some (Err faults.BadSchema) }
 {}
 
-/// Names that no schema has.
+/// States, by examples, that no schema has an empty name, one that begins with `-`, or one name twice.
 pub fn other_names_are_refused()
     ensures empty { option_map schema_in (read (codes "[{\"name\":\"\",\"type\":\"text\",\"options\":{}}]")) ≡ Some (Err faults.BadSchema) }
     ensures dash { option_map schema_in (read (codes "[{\"name\":\"-t\",\"type\":\"text\",\"options\":{}}]")) ≡ Some (Err faults.BadSchema) }
     ensures twice { option_map schema_in (read (codes "[{\"name\":\"t\",\"type\":\"text\",\"options\":{}},{\"name\":\"t\",\"type\":\"u64\",\"options\":{}}]")) ≡ Some (Err faults.BadSchema) }
 {}
 
-/// A field is refused by its form, then by its name, and then where no more fields may stand.
+/// States that a field is refused first for its form, then for its name, then for the number of fields.
 pub fn fields_are_refused_in_order()
     ensures form { (s : Schema) → with_entry s None ≡ Err faults.BadSchema }
     ensures twice { (s : Schema) (e : Entry) (i : ℕ) → field_named s e.name ≡ Some i → with_entry s (Some e) ≡ Err faults.BadSchema }

@@ -6,7 +6,7 @@ ghost use Rattle.definitions.specs.KeptLengths.{length_fields};
 use crate::schema::Schema;
 use std::alloc::{AllocError, Global};
 
-/// The numbers of the fields that keep lengths.
+/// Lists the numbers of the fields of `schema` that keep lengths.
 pub fn length_fields(alloc: Global, schema: &Schema) -> Result<Vec<u32>, AllocError>
     ensures { IfOk result (λ fields. fields.items ≡ length_fields schema.now) }
 {

@@ -25,8 +25,8 @@ use std::alloc::Global;
 use terms::Type;
 
 impl Schema {
-    /// The schema in JSON. Options that a field's type lacks are ignored. Any other form, and a name that is
-    /// bad or comes twice, is `BadSchema`; past 4294967295 fields the answer is `TooManyFields`.
+    /// Reads a schema from JSON. Options that a field's type lacks are ignored. Any other form, and a name that is bad
+    /// or comes twice, is `BadSchema`; more than 4294967295 fields are `TooManyFields`.
     pub fn from_json_value(alloc: Global, value: &Value) -> Result<Schema, Fault>
         ensures ok { IfOk result (λ schema. definitions.schema_in (view value.now) ≡ Ok schema) }
         ensures err { IfErr result (λ fault. fault ≢ faults.OutOfMemory → definitions.schema_in (view value.now) ≡ Err fault) }
@@ -38,7 +38,7 @@ impl Schema {
     }
 }
 
-/// The schema of the fields in a list.
+/// Reads the schema of the fields in a list.
 fn read_entries(alloc: Global, entries: &[Value]) -> Result<Schema, Fault>
     ensures ok { IfOk result (λ schema. definitions.with_entries_in [] (items_view entries.now) ≡ Ok schema) }
     ensures err { IfErr result (λ fault. fault ≢ faults.OutOfMemory → definitions.with_entries_in [] (items_view entries.now) ≡ Err fault) }
@@ -50,7 +50,7 @@ fn read_entries(alloc: Global, entries: &[Value]) -> Result<Schema, Fault>
     Ok(schema)
 }
 
-/// Adds the field in a value.
+/// Reads a field and adds it.
 fn add_entry(alloc: Global, schema: &mut Schema, value: &Value) -> Result<(), Fault>
     ensures ok { OnOk result (definitions.with_entry schema.old (definitions.entry_in (view value.now)) ≡ Ok schema.new) }
     ensures err { IfErr result (λ fault. fault ≢ faults.OutOfMemory → definitions.with_entry schema.old (definitions.entry_in (view value.now)) ≡ Err fault) }
@@ -62,7 +62,7 @@ fn add_entry(alloc: Global, schema: &mut Schema, value: &Value) -> Result<(), Fa
     }
 }
 
-/// A name that is bad, or comes twice, is no schema's.
+/// Converts an error of adding: a name that is bad, or comes twice, is `BadSchema`.
 fn fault_read(fault: Fault) -> Fault
     ensures { result ≡ definitions.fault_read fault }
 {
@@ -72,7 +72,7 @@ fn fault_read(fault: Fault) -> Fault
     }
 }
 
-/// A field's name, and its type with its options.
+/// Reads a field's name, and its type with its options.
 fn read_entry<'a>(alloc: Global, value: &'a Value) -> Result<(&'a str, FieldType), Fault>
     ensures ok { IfOk result (λ p. definitions.entry_in (view value.now) ≡ Some (entry_of p.0.now p.1)) }
     ensures err { IfErr result (λ fault. fault ≢ faults.OutOfMemory → (fault ≡ faults.BadSchema) × (definitions.entry_in (view value.now) ≡ None)) }
@@ -87,7 +87,7 @@ fn read_entry<'a>(alloc: Global, value: &'a Value) -> Result<(&'a str, FieldType
     Ok((name, field_type))
 }
 
-/// The type of that name, with its options.
+/// Reads the options of the type with the name `type_name`.
 fn read_field_type(alloc: Global, type_name: &str, options: &Value) -> Result<FieldType, Fault>
     ensures ok { IfOk result (λ t. (name : List ℕ) → definitions.typed_entry_in name type_name.now (view options.now) ≡ Some (entry_of name t)) }
     ensures err { IfErr result (λ fault. fault ≢ faults.OutOfMemory → (fault ≡ faults.BadSchema) × ((name : List ℕ) → definitions.typed_entry_in name type_name.now (view options.now) ≡ None)) }
@@ -96,7 +96,7 @@ fn read_field_type(alloc: Global, type_name: &str, options: &Value) -> Result<Fi
     read_options(alloc, value_type, options)
 }
 
-/// The type of that name.
+/// Returns the type with the name `name`.
 fn read_type(name: &str) -> Option<Type>
     ensures { option_map kind_of result ≡ definitions.kind_named name.now }
 {
@@ -114,7 +114,7 @@ fn read_type(name: &str) -> Option<Type>
     }
 }
 
-/// A type with the options in an object.
+/// Reads the options of a type.
 fn read_options(alloc: Global, value_type: Type, options: &Value) -> Result<FieldType, Fault>
     ensures ok { IfOk result (λ t. (name : List ℕ) → definitions.options_in (definitions.entry_named name (kind_of value_type)) (view options.now) ≡ Some (entry_of name t)) }
     ensures err { IfErr result (λ fault. fault ≢ faults.OutOfMemory → (fault ≡ faults.BadSchema) × ((name : List ℕ) → definitions.options_in (definitions.entry_named name (kind_of value_type)) (view options.now) ≡ None)) }
@@ -129,7 +129,7 @@ fn read_options(alloc: Global, value_type: Type, options: &Value) -> Result<Fiel
     }
 }
 
-/// A type without an indexing, with the options in an object.
+/// Reads the options of a type without a text indexing.
 #[tactic(auto, using(crate::proofs::ReadKinds::u64_read, crate::proofs::ReadKinds::i64_read, crate::proofs::ReadKinds::bool_read, crate::proofs::ReadKinds::date_read, crate::proofs::ReadKinds::bytes_read, crate::proofs::ReadKinds::ip_addr_read))]
 fn read_value_type(value_type: Type, options: &Value) -> Option<FieldType>
     requires { has_tokens (kind_of value_type) ≡ false }
@@ -147,7 +147,7 @@ fn read_value_type(value_type: Type, options: &Value) -> Option<FieldType>
     }
 }
 
-/// The options of a text field.
+/// Reads the options of a text field.
 fn read_text_options(alloc: Global, options: &Value) -> Result<TextOptions, Fault>
     ensures ok { IfOk result (λ o. (name : List ℕ) → definitions.options_in (definitions.entry_named name text_kind) (view options.now) ≡ Some (text_entry name o)) }
     ensures err { IfErr result (λ fault. fault ≢ faults.OutOfMemory → (fault ≡ faults.BadSchema) × ((name : List ℕ) → definitions.options_in (definitions.entry_named name text_kind) (view options.now) ≡ None)) }
@@ -162,7 +162,7 @@ fn read_text_options(alloc: Global, options: &Value) -> Result<TextOptions, Faul
     }
 }
 
-/// The options of a text field beside its indexing.
+/// Reads the options of a text field, without its indexing.
 fn read_text_flags(options: &Value) -> Option<TextOptions>
     ensures { result ≡ text_flags_in (view options.now) }
 {
@@ -182,7 +182,7 @@ fn read_text_flags(options: &Value) -> Option<TextOptions>
     Some(text)
 }
 
-/// The options of a JSON field.
+/// Reads the options of a JSON field.
 fn read_json_options(alloc: Global, options: &Value) -> Result<JsonObjectOptions, Fault>
     ensures ok { IfOk result (λ o. (name : List ℕ) → definitions.options_in (definitions.entry_named name json_kind) (view options.now) ≡ Some (json_entry name o)) }
     ensures err { IfErr result (λ fault. fault ≢ faults.OutOfMemory → (fault ≡ faults.BadSchema) × ((name : List ℕ) → definitions.options_in (definitions.entry_named name json_kind) (view options.now) ≡ None)) }
@@ -197,7 +197,7 @@ fn read_json_options(alloc: Global, options: &Value) -> Result<JsonObjectOptions
     }
 }
 
-/// The options of a JSON field beside its indexing.
+/// Reads the options of a JSON field, without its indexing.
 fn read_json_flags(options: &Value) -> Option<JsonObjectOptions>
     ensures { result ≡ json_flags_in (view options.now) }
 {
@@ -217,7 +217,7 @@ fn read_json_flags(options: &Value) -> Option<JsonObjectOptions>
     Some(json)
 }
 
-/// How a text field is indexed; null says that it isn't.
+/// Reads how a text field is indexed; for null it isn't.
 fn read_indexing(alloc: Global, value: &Value) -> Result<Option<TextFieldIndexing>, Fault>
     ensures ok { IfOk result (λ indexing. (e : Entry) → definitions.indexing_in e (view value.now) ≡ Some (indexed_by e indexing)) }
     ensures err { IfErr result (λ fault. fault ≢ faults.OutOfMemory → (fault ≡ faults.BadSchema) × ((e : Entry) → definitions.indexing_in e (view value.now) ≡ None)) }
@@ -231,7 +231,7 @@ fn read_indexing(alloc: Global, value: &Value) -> Result<Option<TextFieldIndexin
     Ok(Some(read_set_indexing(alloc, value)?))
 }
 
-/// The indexing in an object.
+/// Reads the indexing in an object.
 fn read_set_indexing(alloc: Global, value: &Value) -> Result<TextFieldIndexing, Fault>
     requires { is_some (as_object (view value.now)) ≡ true }
     ensures ok { IfOk result (λ indexing. (e : Entry) → definitions.with_indexing_in e (view value.now) ≡ Some (indexed_by e (Some indexing))) }
@@ -253,7 +253,7 @@ fn read_set_indexing(alloc: Global, value: &Value) -> Result<TextFieldIndexing, 
     Ok(indexing)
 }
 
-/// What is recorded, from its name.
+/// Reads the name of what is recorded.
 fn read_record_option(value: &Value) -> Option<IndexRecordOption>
     ensures { option_map record_option_of result ≡ record_option_in (view value.now) }
 {
@@ -265,7 +265,7 @@ fn read_record_option(value: &Value) -> Option<IndexRecordOption>
     }
 }
 
-/// The options of a number or bool field.
+/// Reads the options of a number or bool field.
 fn read_numeric_options(options: &Value) -> Option<NumericOptions>
     ensures { result ≡ numeric_options_in (view options.now) }
 {
@@ -290,7 +290,7 @@ fn read_numeric_options(options: &Value) -> Option<NumericOptions>
     Some(read)
 }
 
-/// The options of a date field.
+/// Reads the options of a date field.
 fn read_date_options(options: &Value) -> Option<DateOptions>
     ensures { result ≡ value_options_in (view options.now) }
 {
@@ -311,7 +311,7 @@ fn read_date_options(options: &Value) -> Option<DateOptions>
     Some(read)
 }
 
-/// The options of a bytes field.
+/// Reads the options of a bytes field.
 fn read_bytes_options(options: &Value) -> Option<BytesOptions>
     ensures { result ≡ value_options_in (view options.now) }
 {
@@ -332,7 +332,7 @@ fn read_bytes_options(options: &Value) -> Option<BytesOptions>
     Some(read)
 }
 
-/// The options of an address field.
+/// Reads the options of an IP address field.
 fn read_ip_addr_options(options: &Value) -> Option<IpAddrOptions>
     ensures { result ≡ value_options_in (view options.now) }
 {
@@ -353,7 +353,7 @@ fn read_ip_addr_options(options: &Value) -> Option<IpAddrOptions>
     Some(read)
 }
 
-/// The options of a facet field.
+/// Reads the options of a facet field.
 fn read_facet_options(options: &Value) -> Option<FacetOptions>
     ensures { (name : List ℕ) → definitions.options_in (definitions.entry_named name facet_kind) (view options.now) ≡ option_map (facet_entry name) result }
 {
@@ -364,7 +364,7 @@ fn read_facet_options(options: &Value) -> Option<FacetOptions>
     }
 }
 
-/// What is said of a field whose values are found whole. Lengths are kept where nothing else is said and it is indexed.
+/// The options of fields that are found by whole values. By default, lengths are kept if the field is indexed.
 #[derive(Clone, Copy)]
 struct ValueFlags {
     stored: bool,
@@ -373,7 +373,7 @@ struct ValueFlags {
     fast: bool,
 }
 
-/// What an object says of such a field.
+/// Reads the options of a field that is found by whole values.
 fn read_value_flags(options: &Value) -> Option<ValueFlags>
     ensures { option_map (λ f. record { stored = f.stored; indexed = f.indexed; fieldnorms = f.fieldnorms; fast = f.fast }) result ≡ value_options_in (view options.now) }
 {

@@ -1,4 +1,4 @@
-//! Schemas: fields, each at its number and with a name of its own.
+//! Schemas: fields, each with a number and a name of its own.
 
 ghost use Rattle.std.specs.Prelude.{[], drop, false, filter_map, if◌then◌else◌, is_ok, length, ok_or, option_map, slice_get, take, unwrap_or, ◌+◌, ◌++◌, ◌<◌, ◌↔◌, ◌≡◌, ◌≢◌, ◌≤◌, ◌∷◌, IfErr, IfOk, IsTrue, OnErr, ℕ};
 ghost use Rattle.std.specs.List.{AllByRecursion, enumerate_from, last_or};
@@ -22,10 +22,10 @@ use std::collections::HashMap;
 use std::marker::Model;
 use terms::Field;
 
-/// The most fields that a schema has.
+/// The most fields of a schema.
 const MAX_FIELDS: usize = 4294967295;
 
-/// The fields of an index. Each has a number, from 0 on, and a name of its own.
+/// A schema: the fields of an index. Each has a number, from 0 on, and a name of its own.
 #[derive(Drop)]
 pub struct Schema {
     fields: Vec<FieldEntry>,
@@ -43,7 +43,7 @@ impl Model for Schema {
     ghost invariant = { λ s. Numbers s.numbers s.fields.items };
 }
 
-/// Makes a schema, field by field.
+/// A builder of a schema, field by field.
 #[derive(Drop)]
 pub struct SchemaBuilder {
     alloc: Global,
@@ -59,7 +59,7 @@ impl Model for SchemaBuilder {
 }
 
 impl SchemaBuilder {
-    /// A builder without fields.
+    /// Makes a builder without fields.
     pub fn new(alloc: Global) -> SchemaBuilder
         ensures { result ≡ [] }
     {
@@ -72,8 +72,8 @@ impl SchemaBuilder {
         }
     }
 
-    /// Adds a text field. A name that stands already is `DuplicateName`, one that is empty or begins with
-    /// `-` is `BadName`, and past 4294967295 fields the answer is `TooManyFields`.
+    /// Adds a text field. A name that another field has is `DuplicateName`, one that is empty or begins with `-` is
+    /// `BadName`, and more than 4294967295 fields are `TooManyFields`.
     pub fn add_text_field<T: Into<TextOptions>>(
         &mut self,
         name: &str,
@@ -87,7 +87,7 @@ impl SchemaBuilder {
             .add(self.alloc, name, FieldType::Str(options.into()))
     }
 
-    /// Adds a field of numbers from 0 below 2^64; refused as `add_text_field` is.
+    /// Adds a field of numbers from 0 below 2^64; the errors are those of `add_text_field`.
     pub fn add_u64_field<T: Into<NumericOptions>>(
         &mut self,
         name: &str,
@@ -101,7 +101,7 @@ impl SchemaBuilder {
             .add(self.alloc, name, FieldType::U64(options.into()))
     }
 
-    /// Adds a field of signed numbers of 64 bits; refused as `add_text_field` is.
+    /// Adds a field of signed numbers of 64 bits; the errors are those of `add_text_field`.
     pub fn add_i64_field<T: Into<NumericOptions>>(
         &mut self,
         name: &str,
@@ -115,7 +115,7 @@ impl SchemaBuilder {
             .add(self.alloc, name, FieldType::I64(options.into()))
     }
 
-    /// Adds a field of bools; refused as `add_text_field` is.
+    /// Adds a field of bools; the errors are those of `add_text_field`.
     pub fn add_bool_field<T: Into<NumericOptions>>(
         &mut self,
         name: &str,
@@ -129,7 +129,7 @@ impl SchemaBuilder {
             .add(self.alloc, name, FieldType::Bool(options.into()))
     }
 
-    /// Adds a field of dates; refused as `add_text_field` is.
+    /// Adds a field of dates; the errors are those of `add_text_field`.
     pub fn add_date_field<T: Into<DateOptions>>(
         &mut self,
         name: &str,
@@ -143,7 +143,7 @@ impl SchemaBuilder {
             .add(self.alloc, name, FieldType::Date(options.into()))
     }
 
-    /// Adds a field of facets, which is always indexed; refused as `add_text_field` is.
+    /// Adds a field of facets, which is always indexed; the errors are those of `add_text_field`.
     pub fn add_facet_field<T: Into<FacetOptions>>(
         &mut self,
         name: &str,
@@ -157,7 +157,7 @@ impl SchemaBuilder {
             .add(self.alloc, name, FieldType::Facet(options.into()))
     }
 
-    /// Adds a field of bytes; refused as `add_text_field` is.
+    /// Adds a field of bytes; the errors are those of `add_text_field`.
     pub fn add_bytes_field<T: Into<BytesOptions>>(
         &mut self,
         name: &str,
@@ -171,7 +171,7 @@ impl SchemaBuilder {
             .add(self.alloc, name, FieldType::Bytes(options.into()))
     }
 
-    /// Adds a field of JSON objects; refused as `add_text_field` is.
+    /// Adds a field of JSON objects; the errors are those of `add_text_field`.
     pub fn add_json_field<T: Into<JsonObjectOptions>>(
         &mut self,
         name: &str,
@@ -185,7 +185,7 @@ impl SchemaBuilder {
             .add(self.alloc, name, FieldType::JsonObject(options.into()))
     }
 
-    /// Adds a field of addresses; refused as `add_text_field` is.
+    /// Adds a field of IP addresses; the errors are those of `add_text_field`.
     pub fn add_ip_addr_field<T: Into<IpAddrOptions>>(
         &mut self,
         name: &str,
@@ -199,7 +199,7 @@ impl SchemaBuilder {
             .add(self.alloc, name, FieldType::IpAddr(options.into()))
     }
 
-    /// The schema of the fields that were added.
+    /// Returns the schema of the fields that were added.
     pub fn build(self) -> Schema
         ensures { result ≡ self }
     {
@@ -208,14 +208,14 @@ impl SchemaBuilder {
 }
 
 impl Schema {
-    /// A builder without fields.
+    /// Makes a builder without fields.
     pub fn builder(alloc: Global) -> SchemaBuilder
         ensures { result ≡ [] }
     {
         SchemaBuilder::new(alloc)
     }
 
-    /// The number of fields.
+    /// Returns the number of fields.
     pub fn num_fields(&self) -> usize
         ensures value { result ≡ length self.now }
         ensures few { length self.now ≤ max_fields }
@@ -225,7 +225,7 @@ impl Schema {
         self.fields.len()
     }
 
-    /// The field of that name; `FieldNotFound` where there is none.
+    /// Returns the field with the name `name`; `FieldNotFound` if there is none.
     pub fn get_field(&self, name: &str) -> Result<Field, Fault>
         ensures value { result ≡ ok_or (field_named self.now name.now) faults.FieldNotFound }
         ensures exact { (i : ℕ) → (result ≡ Ok i) ↔ (option_map (λ e. e.name) (slice_get self.now i) ≡ Some name.now) }
@@ -233,8 +233,8 @@ impl Schema {
         self.numbers.get(name).copied().ok_or(Fault::FieldNotFound)
     }
 
-    /// The field that begins the path, and the rest of the path. The whole path is a name first, then the
-    /// longest part before a dot that no backslash takes.
+    /// Splits `path` into a field's name and the rest; returns the field and the rest. The whole path is tried first as
+    /// a name, then the longest part before a dot that no backslash escapes.
     pub fn find_field<'a>(&self, path: &'a str) -> Option<(Field, &'a str)>
         ensures { option_map (λ p. (p.0, p.1.now)) result ≡ find_field self.now path.now }
     {
@@ -244,14 +244,14 @@ impl Schema {
         self.find_before_dot(path)
     }
 
-    /// The fields, each with its entry, in the order of their numbers.
+    /// Returns an iterator over the fields, each with its entry, in the order of their numbers.
     pub fn fields(&self) -> Fields<'_>
         ensures { result ≡ enumerate_from 0 self.now }
     {
         Fields::new(self.fields.as_slice())
     }
 
-    /// The fields' entries, in the order of their numbers.
+    /// Returns the entries of the fields, in the order of their numbers.
     pub(crate) fn entries(&self) -> &[FieldEntry]
         ensures value { result.now ≡ self.now }
         ensures read_back { schema_in (schema_data self.now) ≡ Ok self.now }
@@ -259,7 +259,7 @@ impl Schema {
         self.fields.as_slice()
     }
 
-    /// A field's name, type and options.
+    /// Returns the entry of `field`: its name, type and options.
     pub fn get_field_entry(&self, field: Field) -> &FieldEntry
         requires { field < length self.now }
         ensures { slice_get self.now field ≡ Some result.now }
@@ -267,7 +267,7 @@ impl Schema {
         &self.fields[field.field_id() as usize]
     }
 
-    /// A field's name.
+    /// Returns the name of `field`.
     pub fn get_field_name(&self, field: Field) -> &str
         requires { field < length self.now }
         ensures { option_map (λ e. e.name) (slice_get self.now field) ≡ Some result.now }
@@ -275,14 +275,14 @@ impl Schema {
         self.get_field_entry(field).name()
     }
 
-    /// The field of that name, if there is one.
+    /// Returns the field with the name `name`, if there is one.
     fn number_of(&self, name: &str) -> Option<Field>
         ensures { result ≡ field_named self.now name.now }
     {
         self.get_field(name).ok()
     }
 
-    /// The field named before the last dot that has one before it, and what follows that dot.
+    /// Splits `path` at the last unescaped dot that comes after a field's name; returns the field and the rest.
     fn find_before_dot<'a>(&self, path: &'a str) -> Option<(Field, &'a str)>
         ensures { option_map (λ p. (p.0, p.1.now)) result ≡ last_or None (filter_map (field_at_split self.now) (splits_from false path.now)) }
     {
@@ -299,7 +299,7 @@ impl Schema {
         found
     }
 
-    /// The field named before that dot, and what follows the dot.
+    /// Returns the field with the name before `dot`, and what follows the dot.
     fn field_before<'a>(&self, path: &'a str, dot: usize) -> Option<(Field, &'a str)>
         requires { slice_get path.now dot ≡ Some 46 }
         ensures { option_map (λ p. (p.0, p.1.now)) result ≡ field_at_split self.now (take dot path.now, drop (dot + 1) path.now) }
@@ -308,7 +308,7 @@ impl Schema {
         Some((field, &path[dot + 1..]))
     }
 
-    /// Whether a field of that name may be added.
+    /// Checks whether a field with the name `name` may be added.
     fn check(&self, name: &str) -> Result<(), Fault>
         ensures { (e : Entry) → e.name ≡ name.now → with_field self.now e ≡ (if is_ok result then Ok (self.now ++ e ∷ []) else Err (unwrap_or (result_err result) faults.BadName)) }
     {
@@ -324,7 +324,7 @@ impl Schema {
         Ok(())
     }
 
-    /// Adds a field. What can fail comes before what changes.
+    /// Adds a field. What can fail comes before any change.
     pub(crate) fn add(
         &mut self,
         alloc: Global,

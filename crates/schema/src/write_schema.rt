@@ -17,7 +17,7 @@ use serde_json::{Value, json};
 use std::alloc::{AllocError, Global};
 
 impl Schema {
-    /// The schema as JSON, with every option of each field.
+    /// Writes the schema as JSON, with every option of each field.
     pub fn to_json_value(&self, alloc: Global) -> Result<Value, AllocError>
         ensures value { IfOk result (λ value. view value ≡ schema_data self.now) }
         ensures read_back { IfOk result (λ value. schema_in (view value) ≡ Ok self.now) }
@@ -27,7 +27,7 @@ impl Schema {
     }
 }
 
-/// The fields, one after another.
+/// Writes the fields, in order.
 fn entries_value(alloc: Global, entries: &[FieldEntry]) -> Result<Vec<Value>, AllocError>
     ensures { IfOk result (λ values. items_view values.items ≡ items_of (map entry_data entries.now)) }
 {
@@ -38,7 +38,7 @@ fn entries_value(alloc: Global, entries: &[FieldEntry]) -> Result<Vec<Value>, Al
     Ok(values)
 }
 
-/// A field.
+/// Writes a field.
 fn entry_value(alloc: Global, entry: &FieldEntry) -> Result<Value, AllocError>
     ensures { IfOk result (λ value. view value ≡ entry_data entry.now) }
 {
@@ -47,7 +47,7 @@ fn entry_value(alloc: Global, entry: &FieldEntry) -> Result<Value, AllocError>
     json!(in alloc; {"name": entry.name(), "type": type_name, "options": options})
 }
 
-/// The options of a field.
+/// Writes the options of a field.
 fn options_value(alloc: Global, field_type: &FieldType) -> Result<Value, AllocError>
     ensures { IfOk result (λ value. view value ≡ options_data (entry_of [] field_type.now)) }
 {
@@ -63,7 +63,7 @@ fn options_value(alloc: Global, field_type: &FieldType) -> Result<Value, AllocEr
     }
 }
 
-/// The options of a text field.
+/// Writes the options of a text field.
 fn text_value(alloc: Global, options: &TextOptions) -> Result<Value, AllocError>
     ensures { IfOk result (λ value. view value ≡ options_data (text_entry [] options.now)) }
 {
@@ -79,7 +79,7 @@ fn text_value(alloc: Global, options: &TextOptions) -> Result<Value, AllocError>
     })
 }
 
-/// The options of a JSON field.
+/// Writes the options of a JSON field.
 fn json_value(alloc: Global, options: &JsonObjectOptions) -> Result<Value, AllocError>
     ensures { IfOk result (λ value. view value ≡ options_data (json_entry [] options.now)) }
 {
@@ -95,7 +95,7 @@ fn json_value(alloc: Global, options: &JsonObjectOptions) -> Result<Value, Alloc
     })
 }
 
-/// An indexing.
+/// Writes an indexing.
 fn indexing_value(alloc: Global, indexing: &TextFieldIndexing) -> Result<Value, AllocError>
     ensures { IfOk result (λ value. view value ≡ indexing_data (with_indexing (entry_named [] text_kind) (Some indexing.now))) }
 {
@@ -106,7 +106,7 @@ fn indexing_value(alloc: Global, indexing: &TextFieldIndexing) -> Result<Value, 
     })
 }
 
-/// What is recorded, by its name.
+/// Returns the name of what is recorded.
 fn record_option_name(option: IndexRecordOption) -> &'static str
     ensures { result.now ≡ record_option_name (record_option_of option) }
 {
@@ -117,7 +117,7 @@ fn record_option_name(option: IndexRecordOption) -> &'static str
     }
 }
 
-/// The options of a number or bool field. Whether lengths are kept is written also where it isn't indexed.
+/// Writes the options of a number or bool field; whether lengths are kept is written even if it isn't indexed.
 fn numeric_value(alloc: Global, options: NumericOptions) -> Result<Value, AllocError>
     ensures { IfOk result (λ value. view value ≡ options_data (numeric_entry u64_kind [] options)) }
 {
@@ -130,7 +130,7 @@ fn numeric_value(alloc: Global, options: NumericOptions) -> Result<Value, AllocE
     })
 }
 
-/// The options of a date field.
+/// Writes the options of a date field.
 fn date_value(alloc: Global, options: DateOptions) -> Result<Value, AllocError>
     ensures { IfOk result (λ value. view value ≡ options_data (value_entry date_kind [] options)) }
 {
@@ -142,7 +142,7 @@ fn date_value(alloc: Global, options: DateOptions) -> Result<Value, AllocError>
     })
 }
 
-/// The options of a bytes field.
+/// Writes the options of a bytes field.
 fn bytes_value(alloc: Global, options: BytesOptions) -> Result<Value, AllocError>
     ensures { IfOk result (λ value. view value ≡ options_data (value_entry bytes_kind [] options)) }
 {
@@ -154,7 +154,7 @@ fn bytes_value(alloc: Global, options: BytesOptions) -> Result<Value, AllocError
     })
 }
 
-/// The options of an address field.
+/// Writes the options of an IP address field.
 fn ip_addr_value(alloc: Global, options: IpAddrOptions) -> Result<Value, AllocError>
     ensures { IfOk result (λ value. view value ≡ options_data (value_entry ip_addr_kind [] options)) }
 {
@@ -166,7 +166,7 @@ fn ip_addr_value(alloc: Global, options: IpAddrOptions) -> Result<Value, AllocEr
     })
 }
 
-/// The options of a facet field.
+/// Writes the options of a facet field.
 fn facet_value(alloc: Global, options: FacetOptions) -> Result<Value, AllocError>
     ensures { IfOk result (λ value. view value ≡ options_data (facet_entry [] options)) }
 {

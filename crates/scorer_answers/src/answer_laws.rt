@@ -9,7 +9,8 @@ ghost use Rattle.scorer_answers.specs.Matching.{Matches};
 ghost use Rattle.segment_reader.specs.SegmentReaders.{max_doc_of};
 ghost use Rattle.segment_reader.specs.declared.segment_reader.SegmentReader.{SegmentReader};
 
-/// A scorer that has what its query answers has the documents that match it, and no more of them than its segment has.
+/// States that a scorer that has what its query answers has the documents that match it, and no more of them than its
+/// segment has.
 pub fn a_scorer_that_answers_matches()
     ensures matches { (sim : scoring.Similarity) (b : ℕ) (q : Query) (r : SegmentReader) (es : List Entry)
         → Scores sim b q r es → Matches sim.weight b q r es }

@@ -1,4 +1,4 @@
-//! How many living documents match.
+//! Counts of the living documents that match.
 
 ghost use Rattle.std.specs.Prelude.{[], ◌≡◌, ◌≤◌, IfNone, IfSome, List, None, Some, length, ℕ};
 ghost use Rattle.docsets.specs.Entries.{from};
@@ -19,7 +19,7 @@ use options::IndexRecordOption;
 use segment_reader::SegmentReader;
 use terms::Term;
 
-/// Which documents of a segment are alive, where some aren't.
+/// Returns the alive flags of the segment, if it has dead documents.
 fn alive_bitset<'a>(reader: &SegmentReader<'a>) -> Option<&'a AliveBitSet>
     ensures some { IfSome result (λ alive. alive_in reader.now ≡ Some alive.now) }
     ensures each { IfSome result (λ alive. length alive.now ≡ max_doc_of reader.now) }
@@ -31,7 +31,7 @@ fn alive_bitset<'a>(reader: &SegmentReader<'a>) -> Option<&'a AliveBitSet>
     None
 }
 
-/// How many of the documents that remain are alive. The cursor then stands on `TERMINATED`.
+/// Counts the remaining documents that are alive. The cursor is then exhausted.
 pub fn count<D: DocSet>(docset: &mut D, reader: &SegmentReader<'_>) -> u32
     requires within { from (max_doc_of reader.now) (D.entries docset.old) ≡ [] }
     ensures count { (schema : Schema) (analyze : Analyzer) (weight : List ℕ → ℕ) (b : ℕ) (q : Query) (rows : Segment)
@@ -47,7 +47,7 @@ pub fn count<D: DocSet>(docset: &mut D, reader: &SegmentReader<'_>) -> u32
     }
 }
 
-/// How many documents are alive: each matches the query of all documents.
+/// Counts the documents that are alive: each matches the query of all documents.
 pub fn count_all(reader: &SegmentReader<'_>) -> u32
     ensures { (schema : Schema) (analyze : Analyzer) (rows : Segment)
         → HasRows schema analyze rows reader.now
@@ -56,7 +56,8 @@ pub fn count_all(reader: &SegmentReader<'_>) -> u32
     reader.num_docs()
 }
 
-/// How many living documents hold a term. Where all are alive that is read beside the term, and nothing is decoded.
+/// Counts the living documents that hold `term`. If all are alive, their number is read beside the term, and nothing is
+/// decoded.
 pub fn count_term(term: &Term, reader: &SegmentReader<'_>) -> u32
     ensures { (schema : Schema) (analyze : Analyzer) (option : Asked) (rows : Segment)
         → HasRows schema analyze rows reader.now

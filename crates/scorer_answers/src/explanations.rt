@@ -22,7 +22,7 @@ use docsets::{DocSet, Scorer, SeekDangerResult};
 use std::alloc::Global;
 use term_scorer::Explanation;
 
-/// Has a cursor stand on a document that matches; `InvalidArgument` where the document doesn't.
+/// Moves `docset` to `doc`; `InvalidArgument` if `doc` doesn't match.
 pub fn seek_match<D: DocSet>(docset: &mut D, doc: DocId) -> Result<(), Fault>
     ensures ok { (schema : Schema) (analyze : Analyzer) (sim : scoring.Similarity) (b : ℕ) (q : Query)
         (docs : List Document) (r : SegmentReader)
@@ -50,7 +50,7 @@ pub fn seek_match<D: DocSet>(docset: &mut D, doc: DocId) -> Result<(), Fault>
     }
 }
 
-/// The score of a document that matches, with what it is; `InvalidArgument` where the document doesn't.
+/// Explains the score of `doc`, with `description`; `InvalidArgument` if `doc` doesn't match.
 pub fn explain<S: Scorer + Drop>(
     alloc: Global,
     scorer: S,

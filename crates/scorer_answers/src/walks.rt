@@ -1,4 +1,4 @@
-//! What a scorer gives a list or a sink.
+//! Walks of a scorer, into a list or a sink.
 
 ghost use Rattle.std.specs.Prelude.{[], ◌+◌, ◌≡◌, ◌≤◌, IfOk, List, None, length, map, ℕ};
 ghost use Rattle.definitions.specs.Analyzers.{Analyzer};
@@ -22,7 +22,7 @@ use docsets::{DocSet, Scorer};
 use phrases::{BlockSink, Sink, for_each_docset_buffered, for_each_pruning_scorer};
 use std::alloc::{AllocError, Global};
 
-/// The documents that match, in order, each with its score.
+/// Lists the documents that match, in order, each with its score.
 pub fn for_each<S: Scorer>(alloc: Global, scorer: &mut S) -> Result<Vec<(DocId, Score)>, AllocError>
     ensures pairs { (schema : Schema) (analyze : Analyzer) (sim : scoring.Similarity) (b : ℕ) (q : Query)
         (docs : List Document) (r : SegmentReader)
@@ -35,7 +35,7 @@ pub fn for_each<S: Scorer>(alloc: Global, scorer: &mut S) -> Result<Vec<(DocId, 
     for_each_scorer(alloc, scorer)
 }
 
-/// Gives a sink the documents that match, in order, in blocks of 64 at most.
+/// Feeds the documents that match to `sink`, in order, in blocks of at most 64.
 pub fn for_each_no_score<D: DocSet, K: BlockSink>(docset: &mut D, sink: &mut K)
     ensures fed { (schema : Schema) (analyze : Analyzer) (weight : List ℕ → ℕ) (b : ℕ) (q : Query)
         (docs : List Document) (r : SegmentReader)
@@ -48,8 +48,8 @@ pub fn for_each_no_score<D: DocSet, K: BlockSink>(docset: &mut D, sink: &mut K)
     for_each_docset_buffered(docset, sink)
 }
 
-/// Gives a sink the documents that match, in order, each with its score, where the score is above the sink's threshold
-/// as it comes.
+/// Feeds each document that matches with its score to `sink`, in order, if the score is above the sink's threshold by
+/// then.
 pub fn for_each_pruning<S: Scorer, K: Sink>(scorer: &mut S, threshold: Score, sink: &mut K)
     requires threshold { threshold ≡ K.limit (K.state sink.old) }
     requires room { length (S.entries scorer.old) ≤ K.room sink.old }

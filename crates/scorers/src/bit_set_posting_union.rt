@@ -11,7 +11,7 @@ use common::{DocId, TERMINATED};
 use docsets::{BitSetDocSet, DocSet, Postings};
 use std::alloc::{AllocError, Global};
 
-/// The documents of several cursors over postings, which a set has too. They are counted in the set alone.
+/// The union of several cursors over postings, whose documents are in a bit set too. They are counted in the set alone.
 #[derive(Drop)]
 pub struct BitSetPostingUnion<S: DocSet> {
     union: SimpleUnion<S>,
@@ -20,8 +20,8 @@ pub struct BitSetPostingUnion<S: DocSet> {
 }
 
 impl<S: Postings + Drop> BitSetPostingUnion<S> {
-    /// The union of cursors, whose documents the set has. It takes memory for all positions that they have in one
-    /// document.
+    /// Returns the union of `docsets`, whose documents are in `bitset`. Allocates room for all positions that they have
+    /// in one document.
     pub fn build(
         alloc: Global,
         docsets: Vec<S>,

@@ -34,7 +34,7 @@ pub struct BufferedUnionScorer<S: Scorer, C: ScoreCombiner> {
     ghost bucketed: { doc < terminated → bucket ≡ (doc - start) / 64 } by { IsPlaced-prop doc start bucket },
 }
 
-/// Fills the window from the least document on, and answers that; the end where there is none.
+/// Fills the window from the least document on, and returns that; `TERMINATED` if there is none.
 fn refill<S: Scorer, C: ScoreCombiner>(
     docsets: &mut Vec<S>,
     fresh: C,
@@ -62,8 +62,8 @@ fn refill<S: Scorer, C: ScoreCombiner>(
     next
 }
 
-/// Goes on to the first document that isn't below a number, which is where the first flag is, and answers where the
-/// window then starts, the document, and the word of its flag.
+/// Moves to the first document >= `low`: that of the window's first flag, `found`, or else the first after the window.
+/// Returns where the window then starts, the document, and the word of its flag.
 #[inline]
 pub(crate) fn settle<S: Scorer, C: ScoreCombiner>(
     docsets: &mut Vec<S>,
@@ -96,8 +96,7 @@ pub(crate) fn settle<S: Scorer, C: ScoreCombiner>(
     (next, next, 0)
 }
 
-/// Goes on to the first document that isn't below a target, which may be past the window; the window has no
-/// document below the first number.
+/// Moves to the first document >= `target`, maybe past the window, which has none below `first`.
 fn settle_at<S: Scorer, C: ScoreCombiner>(
     docsets: &mut Vec<S>,
     fresh: C,
@@ -129,7 +128,8 @@ fn settle_at<S: Scorer, C: ScoreCombiner>(
 }
 
 impl<S: Scorer + Drop, C: ScoreCombiner> BufferedUnionScorer<S, C> {
-    /// The union of scorers. What the combiner has taken is forgotten; the number of documents is a hint.
+    /// Returns the union of `docsets`. What `combiner` has taken is forgotten; `num_docs`, the number of documents, is
+    /// a hint.
     pub fn build(
         alloc: Global,
         docsets: Vec<S>,
@@ -160,7 +160,7 @@ impl<S: Scorer + Drop, C: ScoreCombiner> BufferedUnionScorer<S, C> {
 }
 
 impl<S: Scorer + Drop, C: ScoreCombiner> BufferedUnionScorer<S, C> {
-    /// The documents that remain, each with its score, as a list.
+    /// Converts the remaining documents, each with its score, to a list.
     pub fn into_list(self, alloc: Global) -> Result<ListScorer, AllocError>
         ensures { IfOk result (λ list. pairs_of (⟦<ListScorer as DocSet>⟧.entries list)
             ≡ pairs_of (⟦<BufferedUnionScorer<S, C> as DocSet>⟧.entries self)) }

@@ -1,4 +1,4 @@
-//! The documents that so many of the scorers have.
+//! The documents that at least a minimum of the scorers have.
 
 ghost use Rattle.std.specs.Prelude.{◌≡◌, ◌≤◌, List, map, sum, ℕ};
 ghost use Rattle.docsets.specs.Entries.{Entry, first, from};
@@ -11,7 +11,7 @@ use crate::two_least::past_alone;
 use common::{DocId, Score, TERMINATED};
 use docsets::{DocSet, ScoreCombiner, Scorer, combine_at, lead};
 
-/// The documents that at least so many scorers have, with what a combiner makes of their scores.
+/// The documents that at least `minimum` scorers have, with what a combiner makes of their scores.
 #[derive(Drop)]
 pub struct Disjunction<S: Scorer, C: ScoreCombiner> {
     docsets: Vec<S>,
@@ -21,7 +21,7 @@ pub struct Disjunction<S: Scorer, C: ScoreCombiner> {
     ghost chosen: { IsChosen C.answer C.total minimum combiner (map S.entries docsets.items) doc } by { IsChosen-prop C.answer C.total minimum combiner (map S.entries docsets.items) doc },
 }
 
-/// Goes on to the first document that isn't below a target and that so many cursors have, and answers it.
+/// Moves to the first document >= `target` that at least `minimum` of `docsets` have, and returns it.
 fn choose<S: DocSet>(docsets: &mut Vec<S>, minimum: usize, target: DocId) -> DocId
     requires several { 2 ≤ minimum }
     requires small { target ≤ terminated }
@@ -48,7 +48,7 @@ fn choose<S: DocSet>(docsets: &mut Vec<S>, minimum: usize, target: DocId) -> Doc
 }
 
 impl<S: Scorer, C: ScoreCombiner> Disjunction<S, C> {
-    /// The documents that at least so many scorers have. What the combiner has taken is forgotten.
+    /// Returns the documents that at least `minimum` of `docsets` have. What `combiner` has taken is forgotten.
     pub fn new(docsets: Vec<S>, combiner: C, minimum: usize) -> Disjunction<S, C>
         requires several { 2 ≤ minimum }
         requires fits { greatest_sum (map S.entries docsets.items) ≤ max_score }

@@ -5,7 +5,7 @@ ghost use Rattle.docsets.specs.Distinct.{Ascends, distinct, holds};
 
 use std::alloc::AllocError;
 
-/// Sorts numbers, and drops repeats.
+/// Sorts `numbers`, and drops repeats.
 pub(crate) fn sort_once(numbers: &mut Vec<u32>)
     ensures items { numbers.new.items ≡ distinct numbers.old.items }
     ensures capacity { vec_capacity numbers.new ≡ vec_capacity numbers.old }
@@ -14,7 +14,7 @@ pub(crate) fn sort_once(numbers: &mut Vec<u32>)
     numbers.dedup();
 }
 
-/// How many numbers there are, each counted once.
+/// Counts `numbers`, each once.
 fn count_once(numbers: &[u32]) -> usize
     ensures { result ≡ length (distinct numbers.now) }
 {
@@ -27,7 +27,7 @@ fn count_once(numbers: &[u32]) -> usize
     count
 }
 
-/// Leaves out the numbers that a list holds.
+/// Removes from `numbers` those that `held` has.
 fn leave_out(numbers: &mut Vec<u32>, held: &[u32])
     ensures items { numbers.new.items ≡ filter (λ n. not (holds held.now n)) numbers.old.items }
     ensures capacity { vec_capacity numbers.new ≡ vec_capacity numbers.old }
@@ -35,7 +35,7 @@ fn leave_out(numbers: &mut Vec<u32>, held: &[u32])
     numbers.retain(|n| !held.contains(n));
 }
 
-/// Makes room in an output for more numbers. Where it hasn't room for all, those that it holds are left out of them.
+/// Makes room in `output` for `numbers`. If it lacks room for all, those that it has are removed from `numbers`.
 fn make_room(output: &mut Vec<u32>, numbers: &mut Vec<u32>) -> Result<(), AllocError>
     requires { Ascends 0 numbers.old.items }
     ensures fits { OnOk result (length output.new.items + length numbers.new.items ≤ vec_capacity output.new) }
@@ -59,8 +59,7 @@ fn make_room(output: &mut Vec<u32>, numbers: &mut Vec<u32>) -> Result<(), AllocE
     Ok(())
 }
 
-/// Puts numbers into an output, which is sorted, and has repeats dropped. Memory is wanted only where it hasn't the
-/// room.
+/// Adds `numbers` to `output`, which is sorted, and has repeats dropped. Allocates only if `output` lacks the room.
 pub(crate) fn join(output: &mut Vec<u32>, numbers: &mut Vec<u32>) -> Result<(), AllocError>
     ensures ok { OnOk result (output.new.items ≡ distinct (output.old.items ++ numbers.old.items)) }
     ensures err { OnErr result (output.new.items ≡ output.old.items) }

@@ -1,4 +1,4 @@
-//! What scorers promise, in the words of the definitions.
+//! Laws of scorers, in the words of the definitions.
 #![tactic(auto)]
 
 ghost use Rattle.std.specs.Prelude.{◌≡◌, List, ℕ};
@@ -10,7 +10,7 @@ ghost use Rattle.definitions.specs.Terms.{field_of};
 ghost use Rattle.definitions.specs.Values.{Document};
 ghost use Rattle.term_scorer.specs.TermScores.{score_by};
 
-/// What the count and the length id of a document earn is its score by the definitions.
+/// States that the score of a document's count and length id is its score by the definitions.
 pub fn term_scores_are_those_of_definitions()
     ensures { (schema : Schema) (analyze : Analyzer) (sim : Similarity) (doc : Document)
         (t : List ℕ) (option : IndexRecordOption) (b : ℕ)

@@ -1,4 +1,4 @@
-//! A scorer with its document at hand, ordered by that, reversed.
+//! A scorer that keeps its current document, and is ordered by it, reversed.
 
 ghost use Rattle.std.proofs.Common.{rules};
 ghost use Rattle.std.specs.Cmp.Rules.{comparing};
@@ -10,7 +10,7 @@ use common::{DocId, Score};
 use docsets::{DocSet, Scorer};
 use std::cmp::Ordering;
 
-/// A scorer with its document at hand. Of two, the one whose document is less is the greater.
+/// A scorer that keeps its current document. Of two, the one whose document is less is the greater.
 #[derive(Drop)]
 pub struct ScorerWrapper<S: Scorer> {
     scorer: S,
@@ -19,7 +19,7 @@ pub struct ScorerWrapper<S: Scorer> {
 }
 
 impl<S: Scorer> ScorerWrapper<S> {
-    /// The same documents and scores.
+    /// Returns `scorer`, with its documents and scores unchanged.
     pub fn new(scorer: S) -> ScorerWrapper<S>
         ensures { ⟦<ScorerWrapper<S> as DocSet>⟧.entries result ≡ S.entries scorer }
     {

@@ -14,8 +14,8 @@ use docsets::{
 };
 use std::alloc::{AllocError, Global};
 
-/// The documents of several cursors, each once, with their scores added up. It is the one to choose where most
-/// documents are passed by seeks.
+/// The documents of several cursors, each once, with their scores added up. It is the union to choose if seeks pass
+/// most documents.
 #[derive(Drop)]
 pub struct SimpleUnion<S: DocSet> {
     docsets: Vec<S>,
@@ -26,7 +26,7 @@ pub struct SimpleUnion<S: DocSet> {
 }
 
 impl<S: Postings + Drop> SimpleUnion<S> {
-    /// The union of cursors over postings. It takes memory for all positions that they have in one document.
+    /// Returns the union of `docsets`. Allocates room for all positions that they have in one document.
     pub fn build(alloc: Global, docsets: Vec<S>) -> Result<SimpleUnion<S>, AllocError>
         requires scores { greatest_sum (map S.entries docsets.items) ≤ max_score }
         requires counts { (d : ℕ) → sum (counts_in (entries_at d (map S.entries docsets.items))) ≤ 4294967295 }
@@ -46,7 +46,7 @@ impl<S: Postings + Drop> SimpleUnion<S> {
 }
 
 impl<S: DocSet> SimpleUnion<S> {
-    /// The union of cursors, which tells no count and no position.
+    /// Returns the union of `docsets`, without counts and positions.
     pub fn without_positions(docsets: Vec<S>) -> SimpleUnion<S>
         requires { greatest_sum (map S.entries docsets.items) ≤ max_score }
         ensures { ⟦<SimpleUnion<S> as DocSet>⟧.entries result

@@ -9,8 +9,8 @@ ghost use Rattle.scorers.specs.TwoLeast.{AreTwoLeast};
 use common::{DocId, TERMINATED};
 use docsets::{DocSet, Leader};
 
-/// The least document on which cursors stand, the least document of the others, which may be the same, and the place of
-/// the first that stands on the least.
+/// The least current document of several cursors, the least of the others, which may be equal, and the index of the
+/// first cursor on the least.
 #[derive(Clone, Copy, Debug)]
 pub(crate) struct TwoLeast {
     pub(crate) doc: DocId,
@@ -19,7 +19,7 @@ pub(crate) struct TwoLeast {
 }
 
 impl TwoLeast {
-    /// Those of no cursor.
+    /// Returns the value for no cursor.
     #[inline]
     fn none() -> TwoLeast
         ensures doc { result.doc ≡ terminated }
@@ -33,8 +33,7 @@ impl TwoLeast {
         }
     }
 
-    /// Those beside one more cursor, at a place, which stands on a document. No branch depends on the documents, since
-    /// many would be mispredicted.
+    /// Adds the cursor at index `place`, on `doc`, without a branch on the documents: many would be mispredicted.
     #[inline]
     fn beside(self, place: usize, doc: DocId) -> TwoLeast
         ensures least { result.doc ≡ min self.doc doc }
@@ -50,7 +49,7 @@ impl TwoLeast {
     }
 }
 
-/// The two least documents on which cursors stand.
+/// Returns the two least current documents of `docsets`.
 fn two_least<D: DocSet>(docsets: &Vec<D>) -> TwoLeast
     ensures { AreTwoLeast (map D.entries docsets.now.items) result }
 {
@@ -61,7 +60,7 @@ fn two_least<D: DocSet>(docsets: &Vec<D>) -> TwoLeast
     two
 }
 
-/// Moves a cursor to the first document that isn't below a target, which is past its own. The next is tried first.
+/// Moves `docset` to its first document >= `target`, which is past the current one. Tries the next one first.
 #[inline]
 fn advance_to<D: DocSet>(docset: &mut D, target: DocId)
     requires ahead { first (D.entries docset.old) < target }
@@ -73,7 +72,7 @@ fn advance_to<D: DocSet>(docset: &mut D, target: DocId)
     }
 }
 
-/// How many cursors stand on the least document.
+/// Counts the cursors on the least document.
 fn count_least<D: DocSet>(docsets: &Vec<D>, two: TwoLeast) -> usize
     requires { AreTwoLeast (map D.entries docsets.now.items) two }
     ensures { two.doc < terminated → result ≡ length (entries_at two.doc (map D.entries docsets.now.items)) }
@@ -85,8 +84,8 @@ fn count_least<D: DocSet>(docsets: &Vec<D>, two: TwoLeast) -> usize
     count
 }
 
-/// Moves past all documents that one cursor alone has, and answers the first that several have, and how many have it, or
-/// another number if both are at least the minimum. They are counted where two of them aren't enough.
+/// Moves past all documents that one cursor alone has. Returns the first that several have, and how many have it, or
+/// another number if both are at least `minimum`. They are counted only if two of them aren't enough.
 pub(crate) fn past_alone<D: DocSet>(docsets: &mut Vec<D>, minimum: usize) -> Leader
     requires { 2 ≤ minimum }
     ensures moved { map D.entries docsets.new.items ≡ map (from result.doc) (map D.entries docsets.old.items) }

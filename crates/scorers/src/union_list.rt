@@ -11,9 +11,9 @@ use common::{DocId, Score, TERMINATED};
 use docsets::{ScoreCombiner, Scorer};
 use std::alloc::{AllocError, Global};
 
-/// Takes the documents that remain in a window and in cursors behind it, each with its score: from where the window
-/// starts, the document on which it stands, and the word of its flag. What a step needs is kept at hand, where a cursor
-/// that lends itself would write it down for each document.
+/// Lists the documents that remain in a window and in the cursors after it, each with its score. `start` is where the
+/// window starts, `doc` the current document, `bucket` the word of its flag. What a step needs is kept in local
+/// variables, where a borrowed cursor would store it for each document.
 pub(crate) fn list_rest<S: Scorer, C: ScoreCombiner>(
     alloc: Global,
     docsets: &mut Vec<S>,

@@ -1,4 +1,4 @@
-//! What several cursors over postings tell of a document together.
+//! Counts and positions of several cursors over postings together, in one document.
 
 ghost use Rattle.std.specs.Prelude.{◌++◌, ◌+◌, ◌<◌, ◌≡◌, ◌≤◌, IfOk, OnErr, OnOk, is_some, length, map, sum, vec_capacity};
 ghost use Rattle.docsets.specs.Entries.{first, highest};
@@ -13,7 +13,7 @@ use common::DocId;
 use docsets::Postings;
 use std::alloc::{AllocError, Global};
 
-/// Room for the positions of one cursor, and for those of several together.
+/// Buffers for the positions of one cursor, and for those of several together.
 #[derive(Drop)]
 pub(crate) struct PositionRoom {
     one: Vec<u32>,
@@ -21,7 +21,7 @@ pub(crate) struct PositionRoom {
 }
 
 impl PositionRoom {
-    /// Room for so many positions.
+    /// Allocates room for `most` positions in each.
     pub(crate) fn new(alloc: Global, most: usize) -> Result<PositionRoom, AllocError>
         ensures { IfOk result (λ room. (vec_capacity room.one ≡ most) × (vec_capacity room.all ≡ most)) }
     {
@@ -30,7 +30,7 @@ impl PositionRoom {
         Ok(PositionRoom { one, all })
     }
 
-    /// For how many there is room.
+    /// Returns the number of positions for which there is room.
     pub(crate) fn most(&self) -> usize
         ensures { result ≡ vec_capacity self.now.all }
     {
@@ -38,7 +38,7 @@ impl PositionRoom {
     }
 }
 
-/// How often the term of a cursor stands in a document.
+/// Returns how often the term of `docset` occurs in `doc`.
 #[inline]
 fn freq_on<P: Postings>(docset: &P, doc: DocId) -> u32
     requires leads { doc ≤ first (P.entries docset.now) }
@@ -51,7 +51,7 @@ fn freq_on<P: Postings>(docset: &P, doc: DocId) -> u32
     0
 }
 
-/// How often the terms of several cursors stand in a document, added up.
+/// Returns how often the terms of `docsets` occur in `doc`, added up.
 pub(crate) fn freq_at<P: Postings>(docsets: &Vec<P>, doc: DocId) -> u32
     requires leads { doc ≤ least (map P.entries docsets.now.items) }
     requires on { doc < terminated }
@@ -65,7 +65,7 @@ pub(crate) fn freq_at<P: Postings>(docsets: &Vec<P>, doc: DocId) -> u32
     freq
 }
 
-/// Puts the positions of one cursor in a document, each plus an offset, behind those of others. There is room.
+/// Appends the positions of `docset` in `doc`, each plus `offset`, to `all`. There is room.
 fn take_positions<P: Postings>(
     docset: &mut P,
     doc: DocId,
@@ -92,7 +92,7 @@ fn take_positions<P: Postings>(
     let _ = all.extend_from_slice(one);
 }
 
-/// Gathers the positions of several cursors in a document, each plus an offset. There is room.
+/// Gathers the positions of `docsets` in `doc`, each plus `offset`, in `all`. There is room.
 pub(crate) fn gather_positions<P: Postings>(
     docsets: &mut Vec<P>,
     doc: DocId,
@@ -117,8 +117,8 @@ pub(crate) fn gather_positions<P: Postings>(
     }
 }
 
-/// Puts the positions of several cursors in a document, each plus an offset, into an output, ascending and each once;
-/// where there is no room for positions, none.
+/// Adds the positions of `docsets` in `doc`, each plus `offset`, to `output`, ascending and each once; none if `room`
+/// is `None`.
 pub(crate) fn append_united<P: Postings>(
     docsets: &mut Vec<P>,
     doc: DocId,
@@ -150,7 +150,7 @@ pub(crate) fn append_united<P: Postings>(
     Ok(())
 }
 
-/// A number of positions that several cursors together have no more of in a document.
+/// Returns an upper bound of the number of positions that `docsets` together have in a document.
 pub(crate) fn most_together<P: Postings>(docsets: &Vec<P>) -> Result<usize, AllocError>
     ensures { IfOk result (λ most. most_sum (map P.entries docsets.now.items) ≤ most) }
 {

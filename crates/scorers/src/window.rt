@@ -12,10 +12,10 @@ use common::DocId;
 use docsets::{ScoreCombiner, Scorer};
 use std::alloc::{AllocError, Global};
 
-/// How many documents a window has.
+/// The number of documents of a window.
 pub(crate) const HORIZON: u32 = 4096;
 
-/// Slots that hold nothing, one for each document of a window.
+/// Returns empty slots, one for each document of a window.
 pub(crate) fn fresh_slots<C: ScoreCombiner>(alloc: Global, fresh: C) -> Result<Vec<C>, AllocError>
     ensures len { IfOk result (λ slots. length slots.items ≡ 4096) }
     ensures fresh { IfOk result (λ slots. (k : ℕ) → slice_index_or slots.items k fresh ≡ fresh) }
@@ -27,8 +27,7 @@ pub(crate) fn fresh_slots<C: ScoreCombiner>(alloc: Global, fresh: C) -> Result<V
     Ok(slots)
 }
 
-/// Clears the documents of a word that are below a limit, which is past its first. One slot is cleared where there are
-/// none, since that costs less than a branch on it.
+/// Clears the documents below `limit` of word `at`; one slot if there are none, which costs less than a branch.
 #[inline]
 fn clear_word<C: ScoreCombiner>(
     present: &mut WindowBits,
@@ -56,7 +55,7 @@ fn clear_word<C: ScoreCombiner>(
     }
 }
 
-/// Clears all documents of the window that are below a limit. There are none below the first number.
+/// Clears all documents of the window below `limit`. There are none below `first`.
 pub(crate) fn clear_below<C: ScoreCombiner>(
     present: &mut WindowBits,
     slots: &mut Vec<C>,
@@ -75,7 +74,7 @@ pub(crate) fn clear_below<C: ScoreCombiner>(
     }
 }
 
-/// Moves the documents of one cursor below a horizon into the window.
+/// Moves the documents of `scorer` below `horizon` into the window.
 pub(crate) fn collect<S: Scorer, C: ScoreCombiner>(
     scorer: &mut S,
     start: DocId,
@@ -106,7 +105,7 @@ pub(crate) fn collect<S: Scorer, C: ScoreCombiner>(
     }
 }
 
-/// Moves the documents of all cursors below a horizon into the window.
+/// Moves the documents of all of `docsets` below `horizon` into the window.
 pub(crate) fn collect_all<S: Scorer, C: ScoreCombiner>(
     docsets: &mut Vec<S>,
     start: DocId,

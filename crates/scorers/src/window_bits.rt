@@ -7,7 +7,7 @@ ghost use Rattle.scorers.specs.Windows.{IsLowest, IsTaken};
 use std::alloc::{AllocError, Global};
 use std::marker::Model;
 
-/// A set of the numbers below 4096. No count of them is kept.
+/// A set of numbers below 4096. Their count isn't kept.
 #[derive(Drop)]
 pub(crate) struct WindowBits {
     words: Vec<u64>,
@@ -25,7 +25,7 @@ impl Model for WindowBits {
 }
 
 impl WindowBits {
-    /// A set of none of them.
+    /// Returns an empty set.
     pub(crate) fn new(alloc: Global) -> Result<WindowBits, AllocError>
         ensures { IfOk result (λ set. set ≡ replicate 4096 false) }
     {
@@ -34,7 +34,7 @@ impl WindowBits {
         })
     }
 
-    /// Puts a number in.
+    /// Inserts `el`.
     #[inline]
     pub(crate) fn insert(&mut self, el: u32)
         requires { el < 4096 }
@@ -45,7 +45,7 @@ impl WindowBits {
         self.words[at] = word | 1 << (el % 64);
     }
 
-    /// Takes the least number of a word out, and answers the next that is in, of this word or a later one.
+    /// Removes the least number of word `at`, and returns the next in the set, of this word or a later one.
     #[inline]
     pub(crate) fn next_after(&mut self, at: u32) -> Option<u32>
         requires { at < 64 }
@@ -62,7 +62,8 @@ impl WindowBits {
         self.first_from(64 * at + 64)
     }
 
-    /// Takes the numbers of a word that are below a limit out, and answers their bits. The limit is past its first.
+    /// Removes the numbers of word `at` that are below `limit`, and returns their bits. `limit` is past the word's
+    /// first number.
     #[inline]
     pub(crate) fn take_below(&mut self, at: u32, limit: u32) -> u64
         requires at { at < 64 }
@@ -75,7 +76,7 @@ impl WindowBits {
         word & mask
     }
 
-    /// The least number that is in, of the word of this one or a later word.
+    /// Returns the least number in the set, of the word of `el` or a later one.
     #[inline]
     pub(crate) fn first_from(&self, el: u32) -> Option<u32>
         ensures first { IsFirst (λ i. slice_index_or self.now i false) (64 * (el / 64)) result }

@@ -15,8 +15,8 @@ use common::{DocId, take_bytes};
 use packed_blocks::{BlockDecoder, COMPRESSION_BLOCK_SIZE};
 use skips::{Recorded, SkipReader};
 
-/// The postings of a term, 128 documents at a time, lent from their bytes: the cursor holds a block, and its
-/// moves decode the block into which they come.
+/// A cursor over the postings of a term, a block of 128 documents at a time, borrowed from their bytes. It holds the
+/// current block; a move decodes the block that it reaches.
 #[derive(Drop)]
 pub struct BlockSegmentPostings<'a> {
     bytes: &'a [u8],
@@ -30,7 +30,7 @@ pub struct BlockSegmentPostings<'a> {
     counts: [u32; COMPRESSION_BLOCK_SIZE],
     len: usize,
     decoded: u64,
-    // a place of the block, and the sum of its counts before that
+    // An index in the block, and the sum of the counts before it.
     summed_len: usize,
     summed: u64,
     ghost stands: { StandsIn reads_counts reads_positions before skips bytes.now } by { StandsIn-prop reads_counts reads_positions before skips bytes.now },
@@ -43,7 +43,7 @@ pub struct BlockSegmentPostings<'a> {
 impl<'a> BlockSegmentPostings<'a> {
     ghost use Rattle.segment_postings.specs.Cursors.{blocks_decoded, counts_are_read, counts_left, doc_freq_of, docs_left, positions_are_read, positions_passed, skips_left};
 
-    /// No document.
+    /// Returns an exhausted cursor.
     pub fn empty() -> BlockSegmentPostings<'a>
         ensures docs { docs_left result ≡ [] }
         ensures counts { counts_left result ≡ [] }
@@ -58,8 +58,8 @@ impl<'a> BlockSegmentPostings<'a> {
         BlockSegmentPostings::begin(SkipReader::new(&[], 0, recorded), &[], 0, false, false)
     }
 
-    /// Stands at the first block of a term's postings, which are known to be in their layout. Where counts
-    /// aren't read each is 1; positions are read only beside counts.
+    /// Returns a cursor at the first block of a term's postings, `bytes`, which are known to be in their layout. If
+    /// counts aren't read each is 1; positions are read only beside counts.
     pub fn new(
         bytes: &'a [u8],
         doc_freq: u32,
@@ -83,7 +83,7 @@ impl<'a> BlockSegmentPostings<'a> {
         BlockSegmentPostings::begin(skips, blocks, doc_freq, reads_counts, reads_positions)
     }
 
-    /// Stands at the block at which the entries stand, which is decoded; the bytes are those of the blocks.
+    /// Returns a cursor at the block that `skips` is at, which is decoded; `bytes` are those of the blocks.
     pub(crate) fn begin(
         skips: SkipReader<'a>,
         bytes: &'a [u8],
@@ -131,7 +131,7 @@ impl<'a> BlockSegmentPostings<'a> {
         }
     }
 
-    /// How many documents have the term.
+    /// Returns the number of documents that have the term.
     #[inline]
     pub fn doc_freq(&self) -> u32
         ensures { result ≡ doc_freq_of self.now }
@@ -139,7 +139,7 @@ impl<'a> BlockSegmentPostings<'a> {
         self.doc_freq
     }
 
-    /// The documents of the block; none behind the last.
+    /// Returns the documents of the current block; none after the last block.
     #[inline]
     pub fn docs(&self) -> &[DocId]
         ensures { result.now ≡ take block_len (docs_left self.now) }
@@ -147,7 +147,7 @@ impl<'a> BlockSegmentPostings<'a> {
         &self.docs[..self.len]
     }
 
-    /// The document at a place of the block; behind its documents `TERMINATED`.
+    /// Returns the document at index `place` of the current block; `TERMINATED` after its documents.
     #[inline]
     pub fn doc(&self, place: usize) -> DocId
         requires { place < block_len }
@@ -156,7 +156,7 @@ impl<'a> BlockSegmentPostings<'a> {
         self.docs[place]
     }
 
-    /// How often the term stands in each document of the block; 1 where counts aren't read.
+    /// Returns how often the term occurs in each document of the current block; 1 if counts aren't read.
     #[inline]
     pub fn freqs(&self) -> &[u32]
         ensures { result.now ≡ take block_len (counts_left self.now) }
@@ -164,7 +164,7 @@ impl<'a> BlockSegmentPostings<'a> {
         &self.counts[..self.len]
     }
 
-    /// The count at a place of the block.
+    /// Returns the count at index `place` of the current block.
     #[inline]
     pub fn freq(&self, place: usize) -> u32
         requires block { place < block_len }
@@ -174,7 +174,7 @@ impl<'a> BlockSegmentPostings<'a> {
         self.counts[place]
     }
 
-    /// How many documents the block has.
+    /// Returns the number of documents of the current block.
     #[inline]
     pub fn block_len(&self) -> usize
         ensures { result ≡ min block_len (length (docs_left self.now)) }
@@ -182,8 +182,8 @@ impl<'a> BlockSegmentPostings<'a> {
         self.docs().len()
     }
 
-    /// How many positions stand before those of a document of the block, in all blocks. Adds up from the place
-    /// of the call before, where that isn't behind: documents are asked for in order.
+    /// Returns the number of positions before those of the document at index `place`, in all blocks. Adds up from the
+    /// index of the call before, unless that is after `place`: documents are asked for in order.
     pub(crate) fn positions_before(&mut self, place: usize) -> u64
         requires { place ≤ min block_len (length (docs_left self.old)) }
         ensures value { result ≡ self.old.skips.position_offset + sum (take place (counts_left self.old)) }
@@ -205,7 +205,7 @@ impl<'a> BlockSegmentPostings<'a> {
         self.skips.position_offset() + self.summed
     }
 
-    /// A number that no count from the block on is above, where there are a given number of positions in all.
+    /// Returns an upper bound of the counts from the current block on, if there are `num_positions` positions in all.
     pub(crate) fn greatest_count(&self, num_positions: u128) -> u32
         ensures above { (counts : List ℕ) → TellCounts num_positions self.now.skips counts
             → (i : ℕ) → slice_index counts i ≤ result }
@@ -214,7 +214,7 @@ impl<'a> BlockSegmentPostings<'a> {
         greatest_count(self.skips.copied(), num_positions)
     }
 
-    /// How many blocks with documents were decoded, the first among them.
+    /// Returns the number of blocks with documents that were decoded, including the first.
     #[inline]
     pub fn decoded_blocks(&self) -> u64
         ensures { result ≡ blocks_decoded self.now }
@@ -222,7 +222,7 @@ impl<'a> BlockSegmentPostings<'a> {
         self.decoded
     }
 
-    /// Goes on to the next block.
+    /// Moves to the next block.
     pub fn advance(&mut self)
         ensures docs { docs_left self.new ≡ drop block_len (docs_left self.old) }
         ensures counts { counts_left self.new ≡ drop block_len (counts_left self.old) }
@@ -248,8 +248,8 @@ impl<'a> BlockSegmentPostings<'a> {
         self.summed = 0;
     }
 
-    /// Goes on to the first block that may hold a document, which may be the one that is held, and answers the
-    /// place in it of the first document that isn't below.
+    /// Moves to the first block that may contain `target` (maybe the current one); returns the index in it of the first
+    /// document >= `target`.
     pub fn seek(&mut self, target: DocId) -> usize
         requires { target ≤ terminated }
         ensures docs { docs_left self.new ≡ drop (block_len * (below target (docs_left self.old) / block_len)) (docs_left self.old) }
@@ -282,7 +282,7 @@ impl<'a> BlockSegmentPostings<'a> {
     }
 }
 
-/// Counts one more block that was decoded, and has a number of documents, unless that is 0.
+/// Counts one more decoded block of `len` documents, unless `len` is 0.
 fn count_block(decoded: &mut u64, len: usize)
     requires { decoded.old ≤ 4294967296 }
     ensures { decoded.new ≡ decoded.old + min 1 len }
@@ -290,8 +290,7 @@ fn count_block(decoded: &mut u64, len: usize)
     *decoded += len.min(1) as u64;
 }
 
-/// Passes blocks that end before a document; answers the last document of the block before the one at which
-/// the entries then stand, or what is given.
+/// Passes blocks that end before `target`; returns the last document before the block reached, or `before`.
 fn pass_blocks(skips: &mut SkipReader, before: u32, target: DocId) -> u32
     requires { target ≤ terminated }
     ensures { (reads sums : Bool) (bytes : List ℕ) → StandsIn reads sums before skips.old bytes → HasPassed reads sums target before skips.old result skips.new bytes }
@@ -306,7 +305,7 @@ fn pass_blocks(skips: &mut SkipReader, before: u32, target: DocId) -> u32
     before
 }
 
-/// The place of the first document of a block that isn't below another.
+/// Returns the index of the first document of a block that is >= `target`.
 fn first_from(docs: &[u32; COMPRESSION_BLOCK_SIZE], target: DocId) -> usize
     requires within { below target docs.now < block_len }
     requires order { (place : ℕ) → place < block_len → slice_index docs.now place < target
@@ -325,7 +324,7 @@ fn first_from(docs: &[u32; COMPRESSION_BLOCK_SIZE], target: DocId) -> usize
     place
 }
 
-/// The skip entries of a given number of documents and the blocks behind them, where they are known to stand there.
+/// Splits the postings of `doc_freq` documents into skip entries, known to be there, and the blocks after them.
 fn split_entries(bytes: &[u8], doc_freq: u32) -> (&[u8], &[u8])
     requires { block_len ≤ doc_freq → IsSome (take_bytes bytes.now) }
     ensures few { doc_freq < block_len → (result.0.now ≡ []) × (result.1.now ≡ bytes.now) }
@@ -340,7 +339,7 @@ fn split_entries(bytes: &[u8], doc_freq: u32) -> (&[u8], &[u8])
     }
 }
 
-/// The sum of a block's counts.
+/// Returns the sum of a block's counts.
 fn sum_of(counts: &[u32]) -> u64
     requires { length counts.now ≤ block_len }
     ensures value { result ≡ sum counts.now }

@@ -1,4 +1,4 @@
-//! What the numbers of a block have in common.
+//! Bounds and sums of the numbers of a block.
 
 ghost use Rattle.std.specs.Prelude.{IfNone, IfSome, IsTrue, ◌+◌, ◌*◌, ◌<◌, ◌^◌, ◌≡◌, ◌≤◌, ◌↔◌, length, map, sum};
 ghost use Rattle.std.specs.List.{AllByRecursion};
@@ -10,7 +10,7 @@ ghost use Rattle.layouts.specs.TermPostings.{id_of};
 
 use fieldnorms::FieldNormReader;
 
-/// Whether each document is below a number.
+/// Whether each of `docs` is below `num_docs`.
 pub(crate) fn are_below(docs: &[u32], num_docs: u32) -> bool
     ensures { IsTrue result ↔ AllByRecursion (λ doc. doc < num_docs) docs.now }
 {
@@ -22,7 +22,7 @@ pub(crate) fn are_below(docs: &[u32], num_docs: u32) -> bool
     true
 }
 
-/// The least length id of documents; each is 1 where the field keeps no lengths.
+/// Returns the least length id of `docs`; each is 1 if the field keeps no lengths.
 pub(crate) fn least_id(docs: &[u32], fieldnorm_reader: &Option<FieldNormReader>) -> u8
     requires some { 0 < length docs.now }
     requires kept { IfSome fieldnorm_reader.now (λ ids. AllByRecursion (λ doc. doc < length ids) docs.now) }
@@ -34,7 +34,7 @@ pub(crate) fn least_id(docs: &[u32], fieldnorm_reader: &Option<FieldNormReader>)
     least_kept_id(docs, reader)
 }
 
-/// The least length id of documents.
+/// Returns the least length id of `docs`, in a field that keeps lengths.
 fn least_kept_id(docs: &[u32], reader: &FieldNormReader) -> u8
     requires some { 0 < length docs.now }
     requires kept { AllByRecursion (λ doc. doc < length reader.now) docs.now }
@@ -47,7 +47,7 @@ fn least_kept_id(docs: &[u32], reader: &FieldNormReader) -> u8
     least
 }
 
-/// The sum of counts that stand less 1, where each is below 2^32.
+/// Returns the sum of counts that are stored less 1, if each is below 2^32.
 pub(crate) fn count_sum(counts_less_1: &[u32]) -> Option<u64>
     requires { length counts_less_1.now ≤ block_len }
     ensures some { IfSome result (λ total. AllByRecursion (λ n. n < 2 ^ 32) (more_1 counts_less_1.now) × (total ≡ sum (more_1 counts_less_1.now)) × (total ≤ 4294967295 * length counts_less_1.now)) }
@@ -63,7 +63,7 @@ pub(crate) fn count_sum(counts_less_1: &[u32]) -> Option<u64>
     Some(total)
 }
 
-/// The greatest of counts that stand less 1.
+/// Returns the greatest of counts that are stored less 1.
 pub(crate) fn greatest_count(counts_less_1: &[u32]) -> u64
     ensures { result ≡ greatest_of (more_1 counts_less_1.now) }
 {

@@ -1,4 +1,4 @@
-//! Blocks of documents and counts, taken out of a term's bytes.
+//! The decoding of blocks of documents and counts.
 
 ghost use Rattle.std.specs.Prelude.{[], ◌*◌, ◌++◌, ◌+◌, ◌-◌, ◌<◌, ◌^◌, ◌≡◌, ◌≤◌, Bool, IsSome, Some, drop, length, map, min, replicate, true, slice_index, take, ℕ};
 ghost use Rattle.definitions.specs.Blocks.{block_len};
@@ -11,7 +11,7 @@ use common::TERMINATED;
 use packed_blocks::{BlockDecoder, COMPRESSION_BLOCK_SIZE, VIntDecoder};
 use skips::{BlockInfo, SkipReader};
 
-/// Decodes the block at which the skip entries stand, and answers how many documents it has.
+/// Decodes the block that `skips` is at, and returns the number of its documents.
 pub(crate) fn decode_block(
     bytes: &[u8],
     skips: &SkipReader,
@@ -50,7 +50,7 @@ pub(crate) fn decode_block(
     }
 }
 
-/// The documents of a full block; answers how many bytes they take.
+/// Decodes the documents of a full block, and returns how many bytes they take.
 fn decode_docs(
     bytes: &[u8],
     before: u32,
@@ -69,7 +69,7 @@ fn decode_docs(
     consumed
 }
 
-/// The counts of a full block; each is 1 where counts aren't read.
+/// Decodes the counts of a full block; each is 1 if counts aren't read.
 fn decode_counts(
     bytes: &[u8],
     width: u8,
@@ -90,7 +90,7 @@ fn decode_counts(
     add_1(decoder.output_array(), counts);
 }
 
-/// The documents of the rest, and `TERMINATED` behind them; answers how many bytes they take.
+/// Decodes the documents of the rest, with `TERMINATED` after them, and returns how many bytes they take.
 fn decode_rest_docs(
     bytes: &[u8],
     before: u32,
@@ -111,7 +111,7 @@ fn decode_rest_docs(
     consumed
 }
 
-/// The counts of the rest; each is 1 where counts aren't read.
+/// Decodes the counts of the rest; each is 1 if counts aren't read.
 fn decode_rest_counts(
     bytes: &[u8],
     num_docs: usize,
@@ -132,14 +132,14 @@ fn decode_rest_counts(
     add_1(decoder.output_array(), counts);
 }
 
-/// The same number at each place.
+/// Sets each of `places` to `number`.
 fn fill(places: &mut [u32; COMPRESSION_BLOCK_SIZE], number: u32)
     ensures { places.new ≡ replicate block_len number }
 {
     places.fill(number);
 }
 
-/// Puts numbers into the first places, each plus 1.
+/// Writes `numbers`, each plus 1, to the start of `counts`.
 fn add_1(numbers: &[u32], counts: &mut [u32; COMPRESSION_BLOCK_SIZE])
     requires few { length numbers.now ≤ block_len }
     requires fit { (i : ℕ) → slice_index (more_1 numbers.now) i < 2 ^ 32 }

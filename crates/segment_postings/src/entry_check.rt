@@ -1,4 +1,4 @@
-//! What is told of a full block.
+//! The skip entry of a full block.
 
 ghost use Rattle.std.specs.Prelude.{◌<◌, length};
 ghost use Rattle.segment_postings.specs.Blocks.{IsFirst, entry_of};
@@ -16,7 +16,7 @@ pub(crate) struct Entry {
     pub(crate) greatest_count: u8,
 }
 
-/// The entry of the full block at which the skip entries stand.
+/// Returns the entry of the full block that `skips` is at.
 pub(crate) fn first_entry(skips: &SkipReader) -> Entry
     requires { 0 < length skips.now.left }
     ensures { IsFirst (entry_of result) skips.now.left }

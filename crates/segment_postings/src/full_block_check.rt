@@ -1,4 +1,4 @@
-//! One full block, checked.
+//! The check of one full block.
 
 ghost use Rattle.std.specs.Prelude.{IfErr, IfOk, IfSome, List, None, ℕ, ◌*◌, ◌≡◌, ◌≤◌, false, if◌then◌else◌, length, sum};
 ghost use Rattle.packed_blocks.specs.UnpackedBlocks.{listed};
@@ -15,8 +15,8 @@ use fieldnorms::FieldNormReader;
 use options::IndexRecordOption;
 use packed_blocks::{BlockDecoder, COMPRESSION_BLOCK_SIZE, compressed_block_size};
 
-/// The sum of the counts of the full block with which the bytes begin, where they begin with one of which the
-/// entry tells. The document before it is given, or 0 where none stands before.
+/// Checks that `bytes` begin with a full block as `entry` describes it, and returns the sum of its counts. `before` is
+/// the document before the block, or 0 if there is none.
 pub(crate) fn checked_block(
     bytes: &[u8],
     before: u32,
@@ -67,7 +67,7 @@ fn check_docs(
     Ok(())
 }
 
-/// The sum of the counts of a full block.
+/// Checks the counts of a full block, and returns their sum.
 fn checked_counts(bytes: &[u8], entry: Entry, option: IndexRecordOption) -> Result<u64, Fault>
     requires { length bytes.now ≡ 16 * entry.count_width }
     ensures ok { IfOk result (λ total. ((counts : List ℕ) × IsCountBlock (record_option_of option) (entry_of entry) counts bytes.now × (total ≡ sum counts)) × (total ≤ 549755813760)) }
@@ -91,14 +91,14 @@ fn checked_counts(bytes: &[u8], entry: Entry, option: IndexRecordOption) -> Resu
     Ok(total)
 }
 
-/// What an entry tells of the sum of a block's counts: 0 where no positions are recorded.
+/// Returns the sum of a block's counts as its entry has it: 0 if no positions are recorded.
 fn told_sum(option: IndexRecordOption, total: u64) -> u64
     ensures { result ≡ (if has_positions (record_option_of option) then total else 0) }
 {
     if option.has_positions() { total } else { 0 }
 }
 
-/// The sum of the counts of a full block where none is recorded: each is 1.
+/// Checks a full block whose counts aren't recorded, each then 1, and returns their sum.
 fn unrecorded_counts(bytes: &[u8], entry: Entry, option: IndexRecordOption) -> Result<u64, Fault>
     requires long { length bytes.now ≡ 16 * entry.count_width }
     requires unrecorded { has_freq (record_option_of option) ≡ false }

@@ -1,4 +1,4 @@
-//! All blocks of a term, checked one after another.
+//! The check of all blocks of a term.
 
 ghost use Rattle.std.specs.Prelude.{IfErr, IfOk, IfSome, None, ℕ, ◌*◌, ◌+◌, ◌/◌, ◌%◌, ◌<◌, ◌≡◌, ◌≤◌, drop, length};
 ghost use Rattle.packed_blocks.specs.UnpackedBlocks.{listed};
@@ -17,7 +17,8 @@ use options::IndexRecordOption;
 use packed_blocks::{COMPRESSION_BLOCK_SIZE, compressed_block_size};
 use skips::SkipReader;
 
-/// The sum of the counts of `doc_freq` documents, where the bytes are their blocks, of which the skip entries tell.
+/// Checks that `bytes` are the blocks of `doc_freq` documents as `skips` describes them, and returns the sum of their
+/// counts.
 pub(crate) fn checked_blocks(
     bytes: &[u8],
     skips: &mut SkipReader,
@@ -51,7 +52,7 @@ pub(crate) fn checked_blocks(
     Ok(total + last)
 }
 
-/// What follows a full block with which the bytes begin.
+/// Returns the bytes after the full block with which `bytes` begin.
 fn behind_block(bytes: &[u8], entry: Entry) -> &[u8]
     requires { block_size (entry_of entry) ≤ length bytes.now }
     ensures { result.now ≡ drop (block_size (entry_of entry)) bytes.now }

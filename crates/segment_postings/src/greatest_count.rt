@@ -1,12 +1,12 @@
-//! The greatest count of a term, told without its blocks.
+//! A bound of a term's counts, without its blocks.
 
 ghost use Rattle.std.specs.Prelude.{◌≡◌, ◌≤◌, List, max, nat_eq, if◌then◌else◌, slice_index, ℕ};
 ghost use Rattle.segment_postings.specs.CountBounds.{TellCounts};
 
 use skips::{BlockInfo, SkipReader};
 
-/// A number that no count from the entries' block on is above: of full blocks the greatest counts that the
-/// entries tell or, where they tell none, the sums of their counts, and of the rest how many positions are left.
+/// Returns an upper bound of the counts from the block of `skips` on: for full blocks the greatest counts in their
+/// entries or, if an entry has none, the sums of their counts; for the rest the number of positions that are left.
 pub(crate) fn greatest_count(skips: SkipReader<'_>, num_positions: u128) -> u32
     ensures above { (counts : List ℕ) → TellCounts num_positions skips.entry counts
         → (i : ℕ) → slice_index counts i ≤ result }
@@ -27,7 +27,7 @@ pub(crate) fn greatest_count(skips: SkipReader<'_>, num_positions: u128) -> u32
     greatest.max(left.min(4294967295) as u32)
 }
 
-/// The greatest count of a full block or, where its entry tells none, the sum of the counts.
+/// Returns the greatest count of a full block or, if its entry has none, the sum of the counts.
 fn block_bound(count_sum: u32, greatest_count: u8) -> u32
     ensures { result ≡ (if nat_eq greatest_count 255 then count_sum else greatest_count) }
 {

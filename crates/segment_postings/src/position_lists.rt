@@ -1,4 +1,4 @@
-//! Positions of a document, taken out of those of a term.
+//! The positions of a document among those of a term.
 
 ghost use Rattle.std.specs.Prelude.{◌++◌, ◌+◌, ◌<◌, ◌≡◌, ◌≤◌, IsSome, OnErr, OnOk, drop, length, map, take, vec_capacity};
 ghost use Rattle.docsets.specs.Entries.{highest};
@@ -8,8 +8,8 @@ ghost use Rattle.segment_postings.specs.TermEntries.{numbers_of};
 use positions::PositionReader;
 use std::alloc::AllocError;
 
-/// Puts a given number of numbers from a place on behind those that the output holds; none where none are read. They
-/// are positions by their differences.
+/// Appends `count` numbers from index `begin` on to `output`, which are positions by their differences; nothing if none
+/// are read.
 pub(crate) fn append_numbers(
     positions: &mut Option<PositionReader>,
     begin: u64,
@@ -33,8 +33,7 @@ pub(crate) fn append_numbers(
     Ok(())
 }
 
-/// Puts a given number of positions from a place on, each plus an offset, behind those that the output holds; none
-/// where none are read.
+/// Appends `count` positions from index `begin` on, each plus `offset`, to `output`; nothing if none are read.
 pub(crate) fn append_positions(
     positions: &mut Option<PositionReader>,
     begin: u64,

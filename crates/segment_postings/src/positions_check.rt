@@ -1,4 +1,4 @@
-//! The positions of a term, checked.
+//! The check of a term's positions.
 
 ghost use Rattle.std.specs.Prelude.{IfErr, IfNone, IfOk, IfSome, IsTrue, List, None, OnOk, ℕ, ◌+◌, ◌<◌, ◌^◌, ◌≡◌, ◌≤◌, ◌↔◌, drop, length, sum, take, true};
 ghost use Rattle.segment_postings.specs.Placed.{AreBounded, HasNumbers};
@@ -13,7 +13,7 @@ use packed_blocks::COMPRESSION_BLOCK_SIZE;
 use positions::PositionReader;
 use skips::Recorded;
 
-/// Checks the positions of a term whose postings are known, with the sum of its counts.
+/// Checks the positions of a term whose postings are known; `total` is the sum of its counts.
 pub(crate) fn check_positions(
     postings: &[u8],
     positions: &[u8],
@@ -39,7 +39,7 @@ pub(crate) fn check_positions(
     Ok(())
 }
 
-/// Whether each document's positions are below 2^31, where there are as many as the counts say.
+/// Whether each document's positions are below 2^31, if there are as many as the counts say.
 fn are_bounded(blocks: &mut BlockSegmentPostings, reader: &mut PositionReader) -> bool
     requires same { length (counts_left blocks.old) ≡ length (docs_left blocks.old) }
     requires many { sum (counts_left blocks.old) ≡ length reader.old }
@@ -58,8 +58,7 @@ fn are_bounded(blocks: &mut BlockSegmentPostings, reader: &mut PositionReader) -
     true
 }
 
-/// Where the positions of a block's documents end that begin at a place, where each document's are below 2^31.
-/// Mostly the numbers of the whole block have a sum below that, which one walk over them tells.
+/// Returns the end of a block's positions from index `place` on, if all are below 2^31; mostly one sum shows it.
 fn block_end(
     counts: &[u32],
     reader: &mut PositionReader,
@@ -80,7 +79,7 @@ fn block_end(
     bounded_end(counts, reader, place, room)
 }
 
-/// The same, by a sum for each document.
+/// Like `block_end`, but by a sum for each document.
 fn bounded_end(
     counts: &[u32],
     reader: &mut PositionReader,
@@ -103,7 +102,7 @@ fn bounded_end(
     Some(end)
 }
 
-/// Whether the sum of `count` numbers from a place on is below 2^31.
+/// Whether the sum of `count` numbers from index `place` on is below 2^31.
 fn is_bounded(
     reader: &mut PositionReader,
     place: u64,
@@ -128,7 +127,7 @@ fn is_bounded(
     true
 }
 
-/// The sum of `len` numbers from a place on.
+/// Returns the sum of `len` numbers from index `place` on.
 fn sum_at(
     reader: &mut PositionReader,
     place: u64,
@@ -145,7 +144,7 @@ fn sum_at(
     sum_of(&room[..len])
 }
 
-/// The sum of at most 128 numbers.
+/// Returns the sum of at most 128 numbers.
 fn sum_of(numbers: &[u32]) -> u64
     requires { length numbers.now ≤ block_len }
     ensures value { result ≡ sum numbers.now }

@@ -1,4 +1,4 @@
-//! The postings of a term, checked.
+//! The check of a term's postings.
 
 ghost use Rattle.std.specs.Prelude.{IfErr, IfOk, IfSome, None, Some, ℕ, [], ◌<◌, ◌≡◌, ◌≤◌, length};
 ghost use Rattle.packed_blocks.specs.UnpackedBlocks.{listed};
@@ -18,7 +18,7 @@ use options::IndexRecordOption;
 use packed_blocks::COMPRESSION_BLOCK_SIZE;
 use skips::{Recorded, SkipReader};
 
-/// What is recorded of a term beside its documents, under the option of its field.
+/// Returns what is recorded of a term beside its documents, under the `option` of its field.
 pub fn recorded_of(option: IndexRecordOption) -> Recorded
     ensures counts { result.counts ≡ has_freq (record_option_of option) }
     ensures positions { result.positions ≡ has_positions (record_option_of option) }
@@ -29,7 +29,7 @@ pub fn recorded_of(option: IndexRecordOption) -> Recorded
     }
 }
 
-/// The sum of the counts of a given number of documents, where the bytes are their postings.
+/// Checks that `bytes` are the postings of `doc_freq` documents, and returns the sum of their counts.
 pub(crate) fn checked_postings(
     bytes: &[u8],
     doc_freq: u32,
@@ -55,7 +55,7 @@ pub(crate) fn checked_postings(
     Ok(total)
 }
 
-/// The skip entries of a given number of documents, and the blocks behind them.
+/// Splits the postings of `doc_freq` documents into skip entries and the blocks after them.
 fn split_entries(bytes: &[u8], doc_freq: u32) -> Result<(&[u8], &[u8]), Fault>
     ensures few { IfOk result (λ p. doc_freq < block_len → (p.0.now ≡ []) × (p.1.now ≡ bytes.now)) }
     ensures many { IfOk result (λ p. block_len ≤ doc_freq → take_bytes bytes.now ≡ Some (p.0.now, p.1.now)) }

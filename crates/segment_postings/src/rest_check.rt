@@ -1,4 +1,4 @@
-//! The documents behind the full blocks, checked.
+//! The check of the documents after the full blocks.
 
 ghost use Rattle.std.specs.Prelude.{IfErr, IfOk, List, None, ℕ, ◌<◌, ◌≡◌, ◌≤◌, [], false, length};
 ghost use Rattle.segment_postings.specs.Blocks.{HasBlocks, HasRestCounts};
@@ -14,8 +14,8 @@ use definitions::Fault;
 use options::IndexRecordOption;
 use packed_blocks::{BlockDecoder, VIntDecoder};
 
-/// The sum of the counts of fewer than 128 documents, where the bytes are theirs. The document before them is
-/// given, or 0 where none stands before.
+/// Checks that `bytes` are `doc_count` documents, fewer than 128, and returns the sum of their counts. `before` is the
+/// document before them, or 0 if there is none.
 pub(crate) fn checked_rest(
     bytes: &[u8],
     before: u32,
@@ -36,7 +36,7 @@ pub(crate) fn checked_rest(
     Ok(total)
 }
 
-/// The sum of a given number of counts up to the end of the bytes.
+/// Checks `doc_count` counts up to the end of `bytes`, and returns their sum.
 fn rest_counts(bytes: &[u8], doc_count: usize, option: IndexRecordOption) -> Result<u64, Fault>
     requires { doc_count < block_len }
     ensures ok { IfOk result (λ total. HasRestCounts (record_option_of option) doc_count bytes.now total × (total ≤ 549755813760)) }
@@ -56,7 +56,7 @@ fn rest_counts(bytes: &[u8], doc_count: usize, option: IndexRecordOption) -> Res
     Ok(total)
 }
 
-/// The sum of a given number of counts where none is recorded: each is 1.
+/// Checks `doc_count` counts that aren't recorded, each then 1, and returns their sum.
 fn unrecorded_rest(bytes: &[u8], doc_count: usize, option: IndexRecordOption) -> Result<u64, Fault>
     requires few { doc_count < block_len }
     requires unrecorded { has_freq (record_option_of option) ≡ false }

@@ -19,7 +19,7 @@ use positions::PositionReader;
 use skips::Recorded;
 use std::alloc::AllocError;
 
-/// A cursor over the documents that have a term, lent from their bytes.
+/// A cursor over the documents that have a term, borrowed from their bytes.
 #[derive(Drop)]
 pub struct SegmentPostings<'a> {
     blocks: BlockSegmentPostings<'a>,
@@ -34,7 +34,7 @@ pub struct SegmentPostings<'a> {
 impl<'a> SegmentPostings<'a> {
     ghost use Rattle.segment_postings.specs.Cursors.{cursor_blocks, cursor_blocks_decoded, cursor_doc_freq, cursor_place, cursor_positions, docs_left, entries_left, skips_left};
 
-    /// No document.
+    /// Returns an exhausted cursor.
     pub fn empty() -> SegmentPostings<'a>
         ensures entries { entries_left result ≡ [] }
         ensures decoded { cursor_blocks_decoded result ≡ 0 }
@@ -50,8 +50,8 @@ impl<'a> SegmentPostings<'a> {
         }
     }
 
-    /// Stands on the first document of a term's postings, which are known to be in their layout. Where counts
-    /// aren't read each is 1.
+    /// Returns a cursor on the first document of a term's postings, `bytes`, which are known to be in their layout. If
+    /// counts aren't read each is 1.
     pub fn new(
         bytes: &'a [u8],
         doc_freq: u32,
@@ -80,7 +80,7 @@ impl<'a> SegmentPostings<'a> {
         }
     }
 
-    /// The same with counts and positions, which are known to be those of the term's documents.
+    /// Like `new`, but with counts and with `positions`, which are known to be those of the term's documents.
     pub fn with_positions(
         bytes: &'a [u8],
         doc_freq: u32,
@@ -109,7 +109,7 @@ impl<'a> SegmentPostings<'a> {
         }
     }
 
-    /// How many blocks with documents were decoded, the first among them.
+    /// Returns the number of blocks with documents that were decoded, including the first.
     #[inline]
     pub fn decoded_blocks(&self) -> u64
         ensures { result ≡ cursor_blocks_decoded self.now }
@@ -117,7 +117,7 @@ impl<'a> SegmentPostings<'a> {
         self.blocks.decoded_blocks()
     }
 
-    /// How many documents have the term.
+    /// Returns the number of documents that have the term.
     #[inline]
     pub fn doc_freq(&self) -> u32
         ensures { result ≡ cursor_doc_freq self.now }
@@ -125,8 +125,8 @@ impl<'a> SegmentPostings<'a> {
         self.blocks.doc_freq()
     }
 
-    /// Puts the first position in the current document, and then the differences, in place of what the output holds: as
-    /// they are written, so that a merge hands them on. None where no positions are read.
+    /// Replaces what `output` holds by the first position in the current document and then the differences, as they are
+    /// written, so that a merge passes them on; by none if no positions are read.
     pub fn position_deltas(&mut self, output: &mut Vec<u32>) -> Result<(), AllocError>
         requires on { first (entries_left self.old) < terminated }
         ensures same { entries_left self.new ≡ entries_left self.old }
@@ -233,7 +233,7 @@ impl<'a> Postings for SegmentPostings<'a> {
         Ok(())
     }
 
-    /// Looks at each skip entry that is left, and counts the positions.
+    /// Returns an upper bound, from each skip entry that is left and the number of positions.
     fn most_positions(&self) -> usize
         ensures most { most_positions (entries_left self.now) ≤ result }
         ensures few { result ≤ cursor_positions self.now }

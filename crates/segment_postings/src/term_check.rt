@@ -1,4 +1,4 @@
-//! A term, checked: its postings, and its positions where they are recorded.
+//! The check of a term: its postings, and its positions if they are recorded.
 
 ghost use Rattle.std.specs.Prelude.{IfErr, IfOk, IfSome, List, None, ℕ, ◌≡◌, ◌≤◌, length, sum_by};
 ghost use Rattle.packed_blocks.specs.UnpackedBlocks.{listed};
@@ -14,10 +14,10 @@ use definitions::Fault;
 use fieldnorms::FieldNormReader;
 use options::IndexRecordOption;
 
-/// Checks the postings and positions of a term that `doc_freq` documents of a segment have, and answers the sum
-/// of its counts; each document counts 1 where no counts are recorded. Other bytes are `Damaged`.
+/// Checks the postings and positions of a term that `doc_freq` documents of a segment have, and returns the sum of its
+/// counts; each document counts 1 if no counts are recorded. `Damaged` for other bytes.
 ///
-/// Nothing is copied but a block at a time, and no memory is asked for.
+/// Copies no more than a block at a time, and allocates nothing.
 pub fn check_term(
     postings: &[u8],
     positions: &[u8],

@@ -1,4 +1,4 @@
-//! The terms of fields, each checked in its layout.
+//! Checks of the terms of fields.
 
 ghost use Rattle.std.specs.Prelude.{IfErr, IfOk, IfSome, List, None, OnOk, ◌≡◌, ◌≤◌, length, sum_by};
 ghost use Rattle.std.specs.List.{AllByRecursion};
@@ -18,7 +18,7 @@ use definitions::Fault;
 use fieldnorms::{FieldNormReader, FieldNormReaders};
 use segment_postings::check_term;
 
-/// Checks the term that begins at a place, and answers how many tokens it has.
+/// Checks the term that begins at `start`, and returns its number of tokens.
 fn check_term_at(
     sections: SectionBytes<'_>,
     kind: FieldKind,
@@ -72,7 +72,7 @@ pub(crate) fn check_field(
     Ok(())
 }
 
-/// Checks the terms of fields whose lengths are given.
+/// Checks the terms of fields whose lengths are `fieldnorm_readers`.
 pub(crate) fn check_fields(
     sections: SectionBytes<'_>,
     indexes: &[FieldIndex],

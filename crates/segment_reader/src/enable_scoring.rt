@@ -8,18 +8,18 @@ use schema::Schema;
 /// Whether scores are asked for. Without them only matches are promised.
 #[derive_where(Clone, Copy)]
 pub enum EnableScoring<'a, T> {
-    /// They are.
+    /// Scores are asked for.
     Enabled {
         /// The segments that are searched.
         searcher: &'a Searcher<'a, T>,
         /// What the scores come from.
         statistics_provider: &'a T,
     },
-    /// They aren't.
+    /// Only matches are asked for.
     Disabled {
         /// The schema of what is searched.
         schema: &'a Schema,
-        /// The segments, where they are known.
+        /// The segments, if they are known.
         searcher_opt: Option<&'a Searcher<'a, T>>,
     },
 }
@@ -28,7 +28,7 @@ impl<'a, T> EnableScoring<'a, T> {
     ghost use Rattle.segment_reader.specs.Scorings.{schema_asked, searcher_asked, statistics_asked};
     ghost use Rattle.segment_reader.specs.Searchers.{schema_of, statistics_of};
 
-    /// With scores, from the statistics of the searcher.
+    /// Asks for scores, from the statistics of `searcher`.
     pub fn enabled_from_searcher(searcher: &'a Searcher<'a, T>) -> EnableScoring<'a, T>
         ensures searcher { searcher_asked result ≡ Some searcher.now }
         ensures statistics { statistics_asked result ≡ Some (statistics_of searcher.now) }
@@ -39,7 +39,7 @@ impl<'a, T> EnableScoring<'a, T> {
         }
     }
 
-    /// With scores, from statistics of their own.
+    /// Asks for scores, from `statistics_provider` in place of the searcher's statistics.
     pub fn enabled_from_statistics_provider(
         statistics_provider: &'a T,
         searcher: &'a Searcher<'a, T>,
@@ -53,7 +53,7 @@ impl<'a, T> EnableScoring<'a, T> {
         }
     }
 
-    /// Without scores, over a searcher.
+    /// Asks for matches without scores, over `searcher`.
     pub fn disabled_from_searcher(searcher: &'a Searcher<'a, T>) -> EnableScoring<'a, T>
         ensures searcher { searcher_asked result ≡ Some searcher.now }
         ensures statistics { statistics_asked result ≡ None }
@@ -65,7 +65,7 @@ impl<'a, T> EnableScoring<'a, T> {
         }
     }
 
-    /// Without scores, over whatever has this schema.
+    /// Asks for matches without scores, over whatever has `schema`.
     pub fn disabled_from_schema(schema: &'a Schema) -> EnableScoring<'a, T>
         ensures searcher { searcher_asked result ≡ None }
         ensures statistics { statistics_asked result ≡ None }
@@ -77,7 +77,7 @@ impl<'a, T> EnableScoring<'a, T> {
         }
     }
 
-    /// The segments, where they are known.
+    /// Returns the segments, if they are known.
     pub fn searcher(&self) -> Option<&'a Searcher<'a, T>>
         ensures { option_map (λ searcher. searcher.now) result ≡ searcher_asked self.now }
     {
@@ -87,7 +87,7 @@ impl<'a, T> EnableScoring<'a, T> {
         }
     }
 
-    /// The schema.
+    /// Returns the schema.
     pub fn schema(&self) -> &'a Schema
         ensures { result.now ≡ schema_asked self.now }
     {

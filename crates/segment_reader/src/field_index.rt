@@ -3,7 +3,7 @@
 use crate::field_kind::FieldKind;
 use crate::term_starts::TermStart;
 
-/// A field, how many tokens it has, and where its terms begin, in their order, with the first bytes of each.
+/// A field, its number of tokens, and where its terms begin, in their order, with the first bytes of each.
 #[derive(Drop)]
 pub(crate) struct FieldIndex {
     pub(crate) kind: FieldKind,

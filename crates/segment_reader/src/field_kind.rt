@@ -1,4 +1,4 @@
-//! What indexed fields hold, and what is recorded of their terms.
+//! The types of indexed fields, and what is recorded of their terms.
 
 ghost use Rattle.std.specs.Prelude.{◌≡◌, ◌≤◌, IfOk, OnOk, length, map};
 ghost use Rattle.definitions.specs.Schema.{max_fields};
@@ -19,7 +19,7 @@ pub(crate) struct FieldKind {
 }
 
 impl FieldKind {
-    /// What is recorded of a term of the field, by its value bytes.
+    /// Returns what is recorded of the term of the field with the value bytes `key`.
     pub(crate) fn option_of(&self, key: &[u8]) -> IndexRecordOption
         ensures { record_option_of result ≡ option_in self.now key.now }
     {
@@ -31,7 +31,7 @@ impl FieldKind {
     }
 }
 
-/// The indexed fields of a schema, in order.
+/// Returns the indexed fields of `schema`, in order.
 pub(crate) fn field_kinds(alloc: Global, schema: &Schema) -> Result<Vec<FieldKind>, AllocError>
     ensures kinds { IfOk result (λ kinds. map shown kinds.items ≡ kinds_of schema.now) }
     ensures few { OnOk result (length schema.now ≤ max_fields) }

@@ -12,7 +12,7 @@ use crate::segment_reader::SegmentReader;
 use fieldnorms::FieldNormReader;
 use terms::Field;
 
-/// The length ids of a field; that of length 1 for each document where the field keeps none.
+/// Returns the length ids of `field`; if the field keeps none, that of length 1 for each document.
 pub fn lengths_of_field<'a>(reader: &SegmentReader<'a>, field: Field) -> FieldNormReader<'a>
     ensures each { length result ≡ max_doc_of reader.now }
     ensures ids { (schema : Schema) (analyze : Analyzer) (docs : List Document)

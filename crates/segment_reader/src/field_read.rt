@@ -11,7 +11,7 @@ use common::{take_u32, take_u64, take_vint};
 use definitions::Fault;
 use std::alloc::Global;
 
-/// How many tokens and how many terms a field has, and where its terms begin.
+/// The number of tokens and of terms of a field, and the offset of its first term.
 #[derive(Clone, Copy)]
 struct Header {
     num_tokens: u64,
@@ -19,7 +19,7 @@ struct Header {
     first: usize,
 }
 
-/// The header of a field at a place of the section of terms.
+/// Decodes the header of `field` at offset `place` of the section of terms.
 fn take_header(section: &[u8], place: usize, field: u32) -> Result<Header, Fault>
     requires { place ≤ length section.now }
     ensures ok { IfOk result (λ h. IsHeader section.now place field h.num_tokens h.num_terms h.first) }
@@ -38,7 +38,7 @@ fn take_header(section: &[u8], place: usize, field: u32) -> Result<Header, Fault
     })
 }
 
-/// A field at a place: how many tokens it has, where each of its terms begins, and where it ends.
+/// Decodes `field` at `place`: its number of tokens, where each of its terms begins, and where the field ends.
 pub(crate) fn take_field(
     alloc: Global,
     section: &[u8],

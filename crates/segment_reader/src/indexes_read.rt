@@ -18,7 +18,7 @@ use fieldnorms::FieldNormReaders;
 use schema::Schema;
 use std::alloc::{AllocError, Global};
 
-/// What is kept of each field of sections that are known to be in their layout.
+/// Returns what is kept of each field of sections that are known to be in their layout.
 pub(crate) fn known_indexes(
     alloc: Global,
     schema: &Schema,
@@ -43,15 +43,15 @@ pub(crate) fn known_indexes(
     }
 }
 
-/// What a refusal is that can be for want of memory alone.
+/// Converts an error that can only be out of memory.
 fn want_of_memory(_fault: &Fault) -> AllocError
     requires { (_fault.now ≢ faults.OutOfMemory) → ⊥ }
 {
     AllocError
 }
 
-/// Checks the sections of a segment of so many documents, whose lengths are given, and answers what is kept of
-/// each field.
+/// Checks the sections of a segment of `num_docs` documents with the lengths `fieldnorm_readers`, and returns what is
+/// kept of each field.
 pub(crate) fn read_indexes(
     alloc: Global,
     schema: &Schema,

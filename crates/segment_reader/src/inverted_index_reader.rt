@@ -60,7 +60,7 @@ impl Model for InvertedIndexReader {
 }
 
 impl InvertedIndexReader {
-    /// An index without fields.
+    /// Returns an index without fields.
     pub fn empty(alloc: Global) -> InvertedIndexReader
         ensures value { result ≡ record { sections = record { terms = 0 ∷ []; postings = []; positions = [] }; indexes = [] } }
         ensures ok { IsReader [] 0 [] [] result }
@@ -73,8 +73,9 @@ impl InvertedIndexReader {
         }
     }
 
-    /// The sections of terms, postings and positions of a segment, which are known to be in their layout, since they
-    /// were just written, or checked before. The section of terms is walked once; the others aren't looked at.
+    /// Returns the index of a segment's sections of terms, postings and positions, which are known to be in their
+    /// layout, since they were just written, or checked before. The section of terms is walked once; the others aren't
+    /// looked at.
     pub fn new(
         alloc: Global,
         schema: &Schema,
@@ -104,8 +105,8 @@ impl InvertedIndexReader {
         })
     }
 
-    /// Reads the sections of terms, postings and positions of a segment of so many documents, whose lengths are
-    /// given. All of them are checked whole; sections that aren't in the layout are `Damaged`.
+    /// Opens the sections of terms, postings and positions of a segment of `num_docs` documents with the lengths
+    /// `fieldnorm_readers`. All of them are checked whole; `Damaged` if they aren't in the layout.
     pub fn open(
         alloc: Global,
         schema: &Schema,
@@ -139,7 +140,7 @@ impl InvertedIndexReader {
         })
     }
 
-    /// What is kept of a field, if it is indexed.
+    /// Returns what is kept of `field`, if it is indexed.
     fn index_of(&self, field: Field) -> Option<&FieldIndex>
         ensures index { option_map (λ i. i.now) result ≡ index_in field self.now.indexes }
         ensures known { ∥ Contents self.now ∥₁ }
@@ -147,7 +148,7 @@ impl InvertedIndexReader {
         index_of(&self.indexes, field.field_id())
     }
 
-    /// The terms of a field; none where it isn't indexed.
+    /// Returns the terms of `field`; none if it isn't indexed.
     pub fn terms(&self, field: Field) -> TermDictionary<'_>
         ensures own { result ≡ dictionary_in self.now field }
         ensures ok { (contents : Contents self.now) → result ≡ dictionary_of 0 0 field contents.fields }
@@ -160,8 +161,8 @@ impl InvertedIndexReader {
         }
     }
 
-    /// The terms of a field from a start on that stand before an end, if there is one, by their value bytes. Where
-    /// each key stands whole in its section, as it does today, no memory is taken.
+    /// Returns the terms of `field` from `start` on that are before `end`, if there is one, by their value bytes. While
+    /// each key is whole in its section, as it is today, nothing is allocated.
     pub fn range(
         &self,
         alloc: Global,
@@ -178,7 +179,7 @@ impl InvertedIndexReader {
         self.terms(field).range(alloc, start, end)
     }
 
-    /// Whether a field is indexed, and its values are of that type.
+    /// Whether `field` is indexed, and its values are of type `value_type`.
     fn has_type(&self, field: Field, value_type: Type) -> bool
         ensures { IsTrue result ↔ HasKind self.now field (kind_of value_type) }
     {
@@ -188,7 +189,7 @@ impl InvertedIndexReader {
         }
     }
 
-    /// Where the postings of a term stand; none where no document has it.
+    /// Returns where the postings of `term` are; none if no document has it.
     pub fn get_term_info(&self, term: &Term) -> Option<TermInfo>
         ensures own { IfSome result (λ info. info_in (payload_of term.now) (dictionary_in self.now (field_of term.now)) ≡ Some info) }
         ensures same { (contents : Contents self.now) → IfSome result (λ info. term_held contents.schema contents.fields term.now ≡ term_in contents.fields (field_of term.now) (payload_of term.now)) }
@@ -202,7 +203,7 @@ impl InvertedIndexReader {
         self.terms(term.field()).get(term.serialized_value_bytes())
     }
 
-    /// How many documents have a term.
+    /// Returns the number of documents that have `term`.
     pub fn doc_freq(&self, term: &Term) -> u32
         ensures { (contents : Contents self.now) → result ≡ length (postings_held contents.schema contents.fields term.now) }
     {
@@ -212,7 +213,7 @@ impl InvertedIndexReader {
         }
     }
 
-    /// How many tokens a field has; 0 where it isn't indexed.
+    /// Returns the number of tokens of `field`; 0 if it isn't indexed.
     pub fn total_num_tokens(&self, field: Field) -> u64
         ensures { (contents : Contents self.now) → result ≡ tokens_held contents.fields field }
     {
@@ -222,7 +223,7 @@ impl InvertedIndexReader {
         }
     }
 
-    /// What is recorded of a term of a field, by its value bytes.
+    /// Returns what is recorded of the term of `field` with these value bytes.
     fn option_of(&self, field: Field, value_bytes: &[u8]) -> IndexRecordOption
         ensures option { (i : FieldIndex) → index_in field self.now.indexes ≡ Some i → record_option_of result ≡ option_in i.kind value_bytes.now }
         ensures known { ∥ Contents self.now ∥₁ }
@@ -233,7 +234,7 @@ impl InvertedIndexReader {
         }
     }
 
-    /// The bytes of the postings and of the positions that an info of this reader tells of.
+    /// Returns the bytes of the postings and of the positions that `term_info`, one of this reader, locates.
     fn bytes_of(&self, term_info: &TermInfo) -> (&[u8], &[u8])
         requires { IsInfo self.now term_info.now }
         ensures postings { result.0.now ≡ slice_range self.now.sections.postings term_info.now.postings_range.start term_info.now.postings_range.end }
@@ -247,8 +248,8 @@ impl InvertedIndexReader {
         )
     }
 
-    /// The postings of the term of a field with these value bytes, whose info is known, with as much as is
-    /// asked for. Its first block is decoded.
+    /// Returns the postings of the term of `field` with these value bytes, whose info is known, with as much as
+    /// `option` asks for. The first block is decoded.
     pub fn read_postings_from_terminfo(
         &self,
         field: Field,
@@ -278,7 +279,7 @@ impl InvertedIndexReader {
         open_term(postings, positions, term_info.doc_freq, recorded, option)
     }
 
-    /// The postings of a term, with as much as is asked for; none where no document has it.
+    /// Returns the postings of `term`, with as much as `option` asks for; none if no document has it.
     pub fn read_postings(
         &self,
         term: &Term,
@@ -311,7 +312,7 @@ impl InvertedIndexReader {
         Some(self.read_postings_from_terminfo(term.field(), value_bytes, &term_info, option))
     }
 
-    /// The same block by block, without positions.
+    /// Like `read_postings_from_terminfo`, but block by block, and without positions.
     fn open_blocks(
         &self,
         field: Field,
@@ -338,7 +339,7 @@ impl InvertedIndexReader {
         open_term_blocks(postings, term_info.doc_freq, recorded, option)
     }
 
-    /// The postings of a term block by block, without positions; none where no document has it.
+    /// Returns the postings of `term` block by block, without positions; none if no document has it.
     pub fn read_block_postings(
         &self,
         term: &Term,

@@ -1,11 +1,11 @@
-//! The first bytes of keys as numbers, in which a look-up finds its place before it reads a key.
+//! The first bytes of keys as numbers, by which a look-up finds its index before it reads a key.
 
 use crate::term_entry::key_at;
 use crate::term_starts::TermStart;
 use std::alloc::{AllocError, Global};
 
-/// The first eight bytes of a key, the first the highest; bytes that it lacks are 0. So keys whose prefixes differ are
-/// in the order of these.
+/// Returns the first eight bytes of `key` as a big-endian number; bytes that it lacks are 0. So keys whose prefixes
+/// differ are in the order of these.
 pub(crate) fn prefix_of(key: &[u8]) -> u64 {
     if let Some((first, _)) = key.split_first_chunk::<8>() {
         return u64::from_be_bytes(*first);
@@ -17,7 +17,7 @@ pub(crate) fn prefix_of(key: &[u8]) -> u64 {
     prefix
 }
 
-/// The prefixes of the terms that begin at these places of the section of terms.
+/// Returns the prefixes of the terms that begin at `starts` in the section of terms.
 pub(crate) fn prefixes_of(
     alloc: Global,
     section: &[u8],

@@ -11,21 +11,21 @@ use options::IndexRecordOption;
 use positions::PositionReader;
 use segment_postings::{BlockSegmentPostings, SegmentPostings, recorded_of};
 
-/// Whether counts are read: where they are recorded, and asked for.
+/// Whether counts are read: if they are recorded, and asked for.
 fn reads_counts(option: IndexRecordOption, asked: IndexRecordOption) -> bool
     ensures { result ≡ (has_freq (record_option_of option) && has_freq (record_option_of asked)) }
 {
     option.has_freq() && asked.has_freq()
 }
 
-/// Whether positions are read: where they are recorded, and asked for.
+/// Whether positions are read: if they are recorded, and asked for.
 fn reads_positions(option: IndexRecordOption, asked: IndexRecordOption) -> bool
     ensures { result ≡ (has_positions (record_option_of option) && has_positions (record_option_of asked)) }
 {
     option.has_positions() && asked.has_positions()
 }
 
-/// The postings of a term, which are known to be in their layout, with as much as is asked for.
+/// Opens the postings of a term, which are known to be in their layout, with as much as is asked for.
 pub(crate) fn open_term<'a>(
     postings: &'a [u8],
     positions: &'a [u8],
@@ -52,7 +52,7 @@ pub(crate) fn open_term<'a>(
     SegmentPostings::new(postings, doc_freq, recorded, reads_counts(option, asked))
 }
 
-/// The same block by block, without positions.
+/// Like `open_term`, but block by block, and without positions.
 pub(crate) fn open_term_blocks<'a>(
     postings: &'a [u8],
     doc_freq: u32,

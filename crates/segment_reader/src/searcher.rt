@@ -6,7 +6,7 @@ use crate::SegmentReader;
 use schema::Schema;
 
 /// A schema, the statistics that scores come from, and the segments that are searched, in order. The first two are
-/// lent.
+/// borrowed.
 #[derive(Drop)]
 pub struct Searcher<'a, T> {
     schema: &'a Schema,
@@ -17,7 +17,7 @@ pub struct Searcher<'a, T> {
 impl<'a, T> Searcher<'a, T> {
     ghost use Rattle.segment_reader.specs.Searchers.{readers_in, schema_of, statistics_of};
 
-    /// Segments under a schema, with statistics of their terms.
+    /// Returns a searcher of segments under `schema`, with statistics of their terms.
     pub fn new(
         schema: &'a Schema,
         statistics: &'a T,
@@ -34,21 +34,21 @@ impl<'a, T> Searcher<'a, T> {
         }
     }
 
-    /// The schema.
+    /// Returns the schema.
     pub fn schema(&self) -> &'a Schema
         ensures { result.now ≡ schema_of self.now }
     {
         self.schema
     }
 
-    /// What scores come from.
+    /// Returns the statistics that scores come from.
     pub fn statistics(&self) -> &'a T
         ensures { result.now ≡ statistics_of self.now }
     {
         self.statistics
     }
 
-    /// One of the segments, by its place.
+    /// Returns the segment of index `segment_ord`.
     pub fn segment_reader(&self, segment_ord: u32) -> &SegmentReader<'a>
         requires { segment_ord < length (readers_in self.now) }
         ensures { slice_get (readers_in self.now) segment_ord ≡ Some result.now }
@@ -56,7 +56,7 @@ impl<'a, T> Searcher<'a, T> {
         &self.segment_readers[segment_ord as usize]
     }
 
-    /// All segments, in order.
+    /// Returns all segments, in order.
     pub fn segment_readers(&self) -> &[SegmentReader<'a>]
         ensures { result.now ≡ readers_in self.now }
     {

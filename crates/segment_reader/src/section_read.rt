@@ -1,4 +1,4 @@
-//! The section of terms, read whole.
+//! The fields of the section of terms.
 
 ghost use Rattle.std.specs.Prelude.{◌↔◌, ◌≡◌, ◌≢◌, IfErr, IfOk, IsTrue, List, None, length, map};
 ghost use Rattle.definitions.specs.declared.fault.Fault.TheVariants as faults;
@@ -15,7 +15,7 @@ use crate::terms_read::SectionLengths;
 use definitions::Fault;
 use std::alloc::Global;
 
-/// The fields of a section of terms, which has these and no others.
+/// Decodes the fields `kinds` of a section of terms, which has these and no others.
 pub(crate) fn take_fields(
     alloc: Global,
     section: &[u8],
@@ -52,7 +52,7 @@ pub(crate) fn take_fields(
     Ok(told)
 }
 
-/// Whether a place is the end of all three sections.
+/// Whether `place` is the end of all three sections.
 fn is_end(section: &[u8], place: TermStart, lengths: SectionLengths) -> bool
     ensures { IsTrue result ↔ (place ≡ record { entry = length section.now; postings = lengths.postings; positions = lengths.positions }) }
 {

@@ -9,7 +9,7 @@ use crate::InvertedIndexReader;
 use common::{AliveBitSet, DocId};
 use fieldnorms::FieldNormReaders;
 
-/// The terms of a segment, the lengths of its fields, and which of its documents are alive. All of them are lent.
+/// The terms of a segment, the lengths of its fields, and which of its documents are alive, all borrowed.
 #[derive(Drop)]
 pub struct SegmentReader<'a> {
     max_doc: DocId,
@@ -24,7 +24,8 @@ pub struct SegmentReader<'a> {
 impl<'a> SegmentReader<'a> {
     ghost use Rattle.segment_reader.specs.SegmentReaders.{alive_in, index_of, lengths_of, max_doc_of, num_alive};
 
-    /// A segment of so many documents with their terms and their lengths, all of which are alive where no set tells otherwise.
+    /// Returns a segment of `max_doc` documents with their terms and lengths; all of them are alive unless
+    /// `alive_bitset` says otherwise.
     pub fn new(
         max_doc: DocId,
         inverted_index: &'a InvertedIndexReader,
@@ -46,7 +47,7 @@ impl<'a> SegmentReader<'a> {
         }
     }
 
-    /// How many documents there are, dead or alive.
+    /// Returns the number of documents, dead or alive.
     #[inline]
     pub fn max_doc(&self) -> DocId
         ensures value { result ≡ max_doc_of self.now }
@@ -55,7 +56,7 @@ impl<'a> SegmentReader<'a> {
         self.max_doc
     }
 
-    /// How many documents are alive.
+    /// Returns the number of living documents.
     pub fn num_docs(&self) -> u32
         ensures { result ≡ num_alive self.now }
     {
@@ -65,28 +66,28 @@ impl<'a> SegmentReader<'a> {
         }
     }
 
-    /// Whether a document is dead.
+    /// Whether any document is dead.
     pub fn has_deletes(&self) -> bool
         ensures { result ≡ nat_lt (num_alive self.now) (max_doc_of self.now) }
     {
         self.num_docs() < self.max_doc
     }
 
-    /// Which documents are alive; none where no set was given, and all are.
+    /// Returns the set of living documents; none if no set was given, so that all are alive.
     pub fn alive_bitset(&self) -> Option<&'a AliveBitSet>
         ensures { option_map (λ flags. flags.now) result ≡ alive_in self.now }
     {
         self.alive_bitset
     }
 
-    /// The terms of all fields.
+    /// Returns the terms of all fields.
     pub fn inverted_index(&self) -> &'a InvertedIndexReader
         ensures { result.now ≡ index_of self.now }
     {
         self.inverted_index
     }
 
-    /// The length ids of all fields that keep lengths.
+    /// Returns the length ids of all fields that keep lengths.
     pub fn fieldnorms_readers(&self) -> FieldNormReaders<'a>
         ensures { result ≡ lengths_of self.now }
     {

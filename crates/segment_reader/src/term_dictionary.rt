@@ -14,8 +14,8 @@ use crate::term_starts::TermStart;
 use std::alloc::{AllocError, Global};
 use std::marker::Model;
 
-/// The terms of a field by their value bytes, in ascending order, lent from the section of terms. Where a key stands is
-/// looked up among the terms' first bytes, and then checked: no answer rests on these.
+/// The terms of a field by their value bytes, in ascending order, borrowed from the section of terms. The index of a
+/// key is looked up among the terms' first bytes, and then checked: no answer rests on these.
 #[derive(Drop)]
 pub struct TermDictionary<'a> {
     section: &'a [u8],
@@ -35,7 +35,8 @@ impl<'a> Model for TermDictionary<'a> {
 }
 
 impl<'a> TermDictionary<'a> {
-    /// The terms that begin at these places of the section of terms, with the prefixes of their keys.
+    /// Returns the dictionary of the terms that begin at `starts` in the section of terms, with the prefixes of their
+    /// keys.
     pub(crate) fn new(
         section: &'a [u8],
         starts: &'a [TermStart],
@@ -51,14 +52,14 @@ impl<'a> TermDictionary<'a> {
         }
     }
 
-    /// How many terms there are.
+    /// Returns the number of terms.
     pub fn num_terms(&self) -> usize
         ensures { result ≡ length self.now }
     {
         self.starts.len()
     }
 
-    /// Where the postings of a term stand, by its value bytes; none where the field doesn't have it.
+    /// Returns where the postings of the term with the value bytes `key` are; none if the field doesn't have it.
     pub fn get(&self, key: &[u8]) -> Option<TermInfo>
         ensures { result ≡ option_map (λ t. t.1) (find (λ t. bytes_eq t.0 key.now) self.now) }
     {
@@ -70,7 +71,7 @@ impl<'a> TermDictionary<'a> {
         Some(info_of(start, &entry))
     }
 
-    /// The number of the first term that isn't below these value bytes.
+    /// Returns the index of the first term whose value bytes aren't below `key`.
     pub(crate) fn first_from(&self, key: &[u8]) -> usize
         ensures { result ≡ prefix_len (λ t. is_below key.now t.0) self.now }
     {
@@ -82,7 +83,7 @@ impl<'a> TermDictionary<'a> {
             .partition_point(|start| is_below(self.section, start.entry, key))
     }
 
-    /// Where prefixes say that these value bytes stand, or would stand; keys are read only among equal prefixes.
+    /// Returns the index of `key`, or where it would be, by prefixes; reads keys only among equal prefixes.
     fn place_by_prefix(&self, key: &[u8]) -> usize {
         let prefix = prefix_of(key);
         let first = self.prefixes.partition_point(|other| *other < prefix);
@@ -93,7 +94,7 @@ impl<'a> TermDictionary<'a> {
         first + equal.partition_point(|start| is_below(self.section, start.entry, key))
     }
 
-    /// Whether the term of a number isn't below these value bytes, or there is none of it, and the one before is.
+    /// Whether the term at index `place` isn't below `key`, or there is none, and the one before it is.
     fn is_first_from(&self, place: usize, key: &[u8]) -> bool
         ensures { IsTrue result → place ≡ prefix_len (λ t. is_below key.now t.0) self.now }
     {
@@ -103,7 +104,7 @@ impl<'a> TermDictionary<'a> {
                 || !is_below(self.section, self.starts[place].entry, key))
     }
 
-    /// The number of the first term that doesn't stand before an end, if there is one.
+    /// Returns the index of the first term that isn't before `end`, if there is one.
     fn end_from(&self, end: Option<&[u8]>) -> usize
         ensures { result ≡ prefix_len (λ t. is_before (option_map (λ key. key.now) end.entry) t.0) self.now }
     {
@@ -113,8 +114,8 @@ impl<'a> TermDictionary<'a> {
         }
     }
 
-    /// The terms from a start on that stand before an end, if there is one. Where each key stands whole in its
-    /// section, as it does today, no memory is taken.
+    /// Returns the terms from `start` on that are before `end`, if there is one. While each key is whole in its
+    /// section, as it is today, nothing is allocated.
     pub fn range(
         &self,
         _alloc: Global,
@@ -129,7 +130,7 @@ impl<'a> TermDictionary<'a> {
     }
 }
 
-/// The places from one number on, before another.
+/// Returns the starts from index `first` on, before index `last`.
 fn part(starts: &[TermStart], first: usize, last: usize) -> &[TermStart]
     requires { (first ≤ last) × (last ≤ length starts.now) }
     ensures { result.now ≡ take (last - first) (drop first starts.now) }
@@ -137,14 +138,14 @@ fn part(starts: &[TermStart], first: usize, last: usize) -> &[TermStart]
     &starts[first..last]
 }
 
-/// Whether the term that begins at a place of the section of terms stands before one with these value bytes.
+/// Whether the term that begins at offset `start` of the section of terms is before one with the value bytes `key`.
 fn is_below(section: &[u8], start: usize, key: &[u8]) -> bool
     ensures { result ≡ is_below key.now (key_at section.now start) }
 {
     key_at(section, start) < key
 }
 
-/// Where the postings of a term stand.
+/// Returns where the postings of a term are, by its start and its entry.
 pub(crate) fn info_of(start: &TermStart, entry: &TermEntry<'_>) -> TermInfo
     requires { InfoFits (info_from start.now.postings start.now.positions (entry_of entry.now).1) }
     ensures { result ≡ info_from start.now.postings start.now.positions (entry_of entry.now).1 }

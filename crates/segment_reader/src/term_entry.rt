@@ -1,4 +1,4 @@
-//! Entries of terms, taken out of their section.
+//! Entries of the section of terms.
 
 ghost use Rattle.std.specs.Prelude.{◌≡◌, IfErr, IfOk, None, Some, drop};
 ghost use Rattle.segment_reader.specs.TakenTerms.{entry_at, entry_of, key_at, take_entry};
@@ -16,7 +16,7 @@ pub(crate) struct TermEntry<'a> {
     pub(crate) positions_len: u64,
 }
 
-/// The entry that stands first, and what follows it.
+/// Decodes the entry at the start of `bytes`, and returns it and the bytes after it.
 pub(crate) fn take_entry(bytes: &[u8]) -> Result<(TermEntry<'_>, &[u8]), Fault>
     ensures ok { IfOk result (λ p. take_entry bytes.now ≡ Some (entry_of p.0, p.1.now)) }
     ensures err { IfErr result (λ fault. (fault ≡ faults.Damaged None) × (take_entry bytes.now ≡ None)) }
@@ -34,14 +34,14 @@ pub(crate) fn take_entry(bytes: &[u8]) -> Result<(TermEntry<'_>, &[u8]), Fault>
     Ok((entry, rest))
 }
 
-/// What stands from a place on; nothing behind the end.
+/// Returns the bytes from offset `start` on; none after the end.
 fn from(bytes: &[u8], start: usize) -> &[u8]
     ensures { result.now ≡ drop start bytes.now }
 {
     bytes.get(start..).unwrap_or(&[])
 }
 
-/// The value bytes of the term that begins at a place; none where no term does.
+/// Returns the value bytes of the term that begins at offset `start`; none if no term does.
 pub(crate) fn key_at(bytes: &[u8], start: usize) -> &[u8]
     ensures { result.now ≡ key_at bytes.now start }
 {
@@ -51,7 +51,8 @@ pub(crate) fn key_at(bytes: &[u8], start: usize) -> &[u8]
     }
 }
 
-/// The entry that begins at a place; where none does, one without documents, with the value bytes that stand there.
+/// Returns the entry that begins at offset `start`; if none does, one without documents, with the value bytes found
+/// there.
 pub(crate) fn entry_at(bytes: &[u8], start: usize) -> TermEntry<'_>
     ensures { entry_of result ≡ entry_at bytes.now start }
 {

@@ -1,8 +1,8 @@
-//! Where the postings of a term stand.
+//! The info of a term.
 
 use std::ops::Range;
 
-/// How many documents have a term, and where its postings and positions stand in their sections.
+/// The number of documents that have a term, and the ranges of its postings and positions in their sections.
 #[derive(Clone, Debug, Drop, PartialEq, Eq)]
 pub struct TermInfo {
     pub doc_freq: u32,

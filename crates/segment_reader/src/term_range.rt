@@ -1,4 +1,4 @@
-//! Terms of a field, one after another.
+//! A cursor over terms of a field.
 
 ghost use Rattle.std.specs.Prelude.{◌↔◌, ◌<◌, ◌≡◌, IsSome, IsTrue, Some, length, option_map};
 ghost use Rattle.segment_reader.specs.Dictionaries.{AllFit, advanced, ahead, terms_at};
@@ -9,8 +9,8 @@ use crate::term_info::TermInfo;
 use crate::term_starts::TermStart;
 use std::marker::Model;
 
-/// Terms by their value bytes, in ascending order, each with where its postings stand. It begins before the first
-/// of them, and `advance` moves it onto the next.
+/// Terms by their value bytes, in ascending order, each with where its postings are. The range begins before the first
+/// of them, and `advance` moves it to the next.
 #[derive(Drop)]
 pub struct TermRange<'a> {
     section: &'a [u8],
@@ -30,7 +30,7 @@ impl<'a> Model for TermRange<'a> {
 }
 
 impl<'a> TermRange<'a> {
-    /// The terms that begin at these places of the section of terms.
+    /// Returns a range of the terms that begin at `starts` in the section of terms.
     pub(crate) fn new(section: &'a [u8], starts: &'a [TermStart]) -> TermRange<'a>
         requires { ∥ AllFit (terms_at section.now starts.now) ∥₁ }
         ensures { result ≡ ahead (terms_at section.now starts.now) }
@@ -42,7 +42,7 @@ impl<'a> TermRange<'a> {
         }
     }
 
-    /// Goes on to the next term, and answers whether there is one. Behind the last it stands on none.
+    /// Moves to the next term, and returns whether there is one; after the last there is no current term.
     pub fn advance(&mut self) -> bool
         ensures next { self.new ≡ advanced self.old }
         ensures moved { IsTrue result ↔ IsSome self.new.here }
@@ -58,7 +58,7 @@ impl<'a> TermRange<'a> {
         true
     }
 
-    /// The value bytes of the term on which it stands.
+    /// Returns the value bytes of the current term.
     pub fn key(&self) -> &[u8]
         requires { IsSome self.now.here }
         ensures { option_map (λ t. t.0) self.now.here ≡ Some result.now }
@@ -69,7 +69,7 @@ impl<'a> TermRange<'a> {
         }
     }
 
-    /// Where the postings of the term stand on which it stands.
+    /// Returns where the postings of the current term are.
     pub fn value(&self) -> &TermInfo
         requires { IsSome self.now.here }
         ensures { option_map (λ t. t.1) self.now.here ≡ Some result.now }

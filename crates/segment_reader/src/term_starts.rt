@@ -1,6 +1,6 @@
-//! Where a term begins.
+//! The start of a term.
 
-/// Where a term's entry begins in the section of terms, and its postings and positions in theirs.
+/// The offsets of a term's entry in the section of terms, and of its postings and positions in theirs.
 #[derive(Clone, Copy)]
 pub(crate) struct TermStart {
     pub(crate) entry: usize,

@@ -10,15 +10,14 @@ use crate::term_starts::TermStart;
 use definitions::Fault;
 use std::alloc::Global;
 
-/// How many bytes the sections of postings and of positions have.
+/// The lengths of the sections of postings and of positions, in bytes.
 #[derive(Clone, Copy)]
 pub(crate) struct SectionLengths {
     pub(crate) postings: usize,
     pub(crate) positions: usize,
 }
 
-/// The term that begins at a place, and where the one behind it does. It must stand above the term before,
-/// and its postings and positions within their sections.
+/// Decodes the term at `place`, above the one before and within the sections, and returns it and its end.
 fn take_term<'a>(
     section: &'a [u8],
     place: TermStart,
@@ -37,7 +36,7 @@ fn take_term<'a>(
     Ok((entry, behind))
 }
 
-/// Whether a key stands above the one before, if there is one.
+/// Whether `key` is above the one before, if there is one.
 fn is_above(before: Option<&[u8]>, key: &[u8]) -> bool
     ensures { result ≡ is_above (option_map (λ k. k.now) before.entry) key.now }
 {
@@ -47,7 +46,7 @@ fn is_above(before: Option<&[u8]>, key: &[u8]) -> bool
     }
 }
 
-/// Where the postings and positions of a term end, which has some documents; the entry behind it is given.
+/// Returns the end of a term at `place`, which must have documents; `entry_end` is the end of its entry.
 fn place_behind(
     entry_end: usize,
     place: TermStart,
@@ -69,7 +68,7 @@ fn place_behind(
     })
 }
 
-/// Where so many bytes from a place on end, within so many.
+/// Returns the end of `len` bytes from offset `start` on, at most `limit`.
 fn end_within(start: usize, len: u64, limit: usize) -> Result<usize, Fault>
     ensures ok { IfOk result (λ end. (end ≡ start + len) × (end ≤ limit)) }
     ensures err { IfErr result (λ fault. (fault ≡ faults.Damaged None) × (limit < start + len)) }
@@ -80,7 +79,7 @@ fn end_within(start: usize, len: u64, limit: usize) -> Result<usize, Fault>
     }
 }
 
-/// So many terms from a place on: where each begins, and where the last one ends.
+/// Decodes `num_terms` terms from `place` on: where each begins, and where the last one ends.
 pub(crate) fn take_terms(
     alloc: Global,
     section: &[u8],

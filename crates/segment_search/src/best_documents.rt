@@ -23,8 +23,8 @@ use std::alloc::{AllocError, Global};
 use top_docs::top_docs;
 use weights::IndexWeights;
 
-/// The best living documents of the first segments that match a query, so many at most, each with its score: by score,
-/// and then by segment and number.
+/// Returns the best `limit` living documents of the first segments that match `query`, each with its score: by score,
+/// and then by segment and document id.
 pub(crate) fn best_documents<'a, S: Statistics>(
     alloc: Global,
     segments: &'a [Segment],

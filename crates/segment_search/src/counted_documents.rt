@@ -1,4 +1,4 @@
-//! How many documents of segments match a query.
+//! Counts of the documents of segments that match a query.
 
 ghost use Rattle.std.specs.Prelude.{◌<◌, ◌^◌, ◌≡◌, IfOk, List, None, length};
 ghost use Rattle.std.specs.List.{AllByRecursion, AllZip};
@@ -24,7 +24,7 @@ use settings::Statistics;
 use std::alloc::{AllocError, Global};
 use weights::IndexWeights;
 
-/// How many living documents of the first segments match a query.
+/// Counts the living documents of the first segments that match `query`.
 pub(crate) fn counted_documents<'a, S: Statistics>(
     alloc: Global,
     segments: &'a [Segment],
@@ -47,7 +47,7 @@ pub(crate) fn counted_documents<'a, S: Statistics>(
     counted_each(alloc, &readers, &weights, query)
 }
 
-/// How many living documents of each segment match a query, added up.
+/// Counts the living documents of each of `readers` that match `query`, added up.
 fn counted_each<'a, W: LeafWeights<'a>>(
     alloc: Global,
     readers: &[SegmentReader<'a>],

@@ -1,4 +1,4 @@
-//! Documents that were found.
+//! Documents that were found, with what is stored of them.
 
 ghost use Rattle.std.specs.Prelude.{◌≡◌, IfErr, IfOk, List, length, map};
 ghost use Rattle.std.specs.List.{AllByRecursion, AllZip};
@@ -26,7 +26,8 @@ pub struct Hit {
     pub doc: NamedDocument,
 }
 
-/// The hits of documents with their scores. The caches of the segments' stores keep the blocks that are read.
+/// Reads the hits of the documents `best`, each with its score. The caches of the segments' stores keep the blocks that
+/// are read.
 pub(crate) fn read_hits(
     alloc: Global,
     schema: &Schema,
@@ -50,7 +51,7 @@ pub(crate) fn read_hits(
     Ok(hits)
 }
 
-/// The hit of a document with its score. The cache of its segment's store keeps the block that is read.
+/// Reads the hit at `address`, with `score`. The cache of its segment's store keeps the block that is read.
 fn read_hit(
     alloc: Global,
     schema: &Schema,

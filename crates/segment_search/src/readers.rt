@@ -14,7 +14,7 @@ use segment::Segment;
 use segment_reader::SegmentReader;
 use std::alloc::{AllocError, Global};
 
-/// The first segments, each with which of its documents are alive.
+/// Returns a reader of each of the first segments, with its alive flags.
 pub(crate) fn readers_of<'a>(
     alloc: Global,
     segments: &'a [Segment],

@@ -26,9 +26,9 @@ use segment::Segment;
 use settings::Statistics;
 use std::alloc::Global;
 
-/// The best living documents of the first segments that match a query, so many at most: by score, and then by segment
-/// and number. There is a set of those that are alive for each of these segments. The caches of their stores keep the
-/// blocks that are read.
+/// Returns the best `limit` living documents of the first segments that match `query`: by score, and then by segment
+/// and document id. Each of these segments has its set in `alive`. The caches of their stores keep the blocks that are
+/// read.
 pub fn search<S: Statistics>(
     alloc: Global,
     schema: &Schema,
@@ -59,8 +59,7 @@ pub fn search<S: Statistics>(
     read_hits(alloc, schema, segments, &best)
 }
 
-/// How many living documents of the first segments match a query. There is a set of those that are alive for each of
-/// these segments.
+/// Counts the living documents of the first segments that match `query`. Each of these segments has its set in `alive`.
 pub fn count<S: Statistics>(
     alloc: Global,
     schema: &Schema,

@@ -16,11 +16,11 @@ pub(crate) enum Keeping {
     Whole,
     /// None of them: it is longer than a line may be.
     TooLong,
-    /// None of them: a request for memory was refused.
+    /// None of them: out of memory.
     NoMemory,
 }
 
-/// The bytes of one line. Its memory serves the next line too.
+/// The bytes of one line. Their memory is used for the next line too.
 #[derive(Drop)]
 pub(crate) struct LineBuffer {
     pub(crate) bytes: Vec<u8>,
@@ -44,7 +44,7 @@ impl LineBuffer {
         }
     }
 
-    /// Begins a line. The memory of the last one stays.
+    /// Begins a line. The memory of the last one is kept.
     pub(crate) fn clear(&mut self)
         ensures { Holds self.new [] }
     {
@@ -52,7 +52,7 @@ impl LineBuffer {
         self.keeping = Keeping::Whole;
     }
 
-    /// Adds bytes that follow those seen so far.
+    /// Appends `part` to the bytes seen so far.
     pub(crate) fn add(&mut self, part: &[u8])
         ensures { Adds self.old self.new part.now }
     {
@@ -75,7 +75,7 @@ impl LineBuffer {
         self.keeping == Keeping::Whole && self.bytes.is_empty()
     }
 
-    /// The line's text, or the refusal that answers it.
+    /// Returns the line's text, or the refusal that answers it.
     pub(crate) fn text(&self) -> Result<&str, Fault>
         ensures ok { (seen : List ℕ) → Holds self.now seen
             → IfOk result (λ text. (text.now ≡ seen) × (line_refusal seen ≡ None)) }

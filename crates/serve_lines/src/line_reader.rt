@@ -1,4 +1,4 @@
-//! How a line is read, one look at the reader's buffer at a time.
+//! The reading of a line, one look at the reader's buffer at a time.
 
 ghost use Rattle.std.specs.Prelude.{◌≡◌, ◌<◌, OnOk, OnErr, IfErr, IfOk};
 ghost use Rattle.std.specs.Io.KnownBytes.{Keeps};
@@ -50,7 +50,7 @@ fn take_chunk<R: BufRead>(reader: &mut R, line: &mut LineBuffer) -> io::Result<C
     }
 }
 
-// Looks at the reader. A read that a signal interrupts takes an empty part.
+// Like `take_chunk`, but a read that a signal interrupts takes an empty part.
 fn look<R: BufRead>(reader: &mut R, line: &mut LineBuffer) -> Result<Chunk, RunFault>
     ensures ok { IfOk result (λ chunk.
         MovesChunk chunk (R.remaining reader.old) (R.remaining reader.new) line.old line.new) }
@@ -63,7 +63,7 @@ fn look<R: BufRead>(reader: &mut R, line: &mut LineBuffer) -> Result<Chunk, RunF
     }
 }
 
-/// Flushes what was written.
+/// Flushes `writer`.
 pub(crate) fn flush<W: Write>(writer: &mut W) -> Result<(), RunFault>
     ensures writer { OnOk result (Keeps (W.contents writer.old) (W.contents writer.new)) }
     ensures fault { IfErr result (λ fault. fault ≡ run_faults.WriteFault) }
@@ -74,7 +74,7 @@ pub(crate) fn flush<W: Write>(writer: &mut W) -> Result<(), RunFault>
     Ok(())
 }
 
-// Takes the next chunk. What was written before is flushed first if the reader may wait.
+// Takes the next chunk. Flushes `writer` first if the reader may wait.
 fn next_chunk<R: BufRead, W: Write>(
     reader: &mut R,
     writer: &mut W,
@@ -90,8 +90,8 @@ fn next_chunk<R: BufRead, W: Write>(
     look(reader, line)
 }
 
-/// Reads the next line, and answers whether there was one. Each look at the reader is one of the
-/// `turns`; where none is left the answer is `ReadFault`.
+/// Reads the next line into `line`, and returns whether there was one. Each look at the reader is one of the `turns`;
+/// `ReadFault` if none is left.
 pub(crate) fn read_line<R: BufRead, W: Write>(
     reader: &mut R,
     writer: &mut W,

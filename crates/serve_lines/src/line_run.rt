@@ -17,8 +17,8 @@ use std::io::{BufRead, Write};
 /// The most looks at its reader that a run takes.
 const MOST_TURNS: u64 = 1 << 48;
 
-/// Answers each line of the input in turn, until the input ends. Before a read that may wait, what
-/// was written is flushed. Of a line no more is kept than a line may have.
+/// Answers each line of the input in turn, until the input ends. Flushes `writer` before a read that may wait. Of a
+/// line no more is kept than a line may have.
 pub fn run<R: BufRead, W: Write, S: Service>(
     alloc: Global,
     reader: &mut R,
@@ -46,7 +46,7 @@ fn most_turns() -> u64
     MOST_TURNS
 }
 
-/// The same with another number of looks at the reader; where they don't suffice it ends with `ReadFault`.
+/// Like `run`, but with at most `most_turns` looks at the reader; `ReadFault` if they don't suffice.
 pub fn run_within<R: BufRead, W: Write, S: Service>(
     alloc: Global,
     reader: &mut R,
@@ -69,7 +69,7 @@ pub fn run_within<R: BufRead, W: Write, S: Service>(
     Ok(())
 }
 
-// Reads the next line and answers it; where there is none the answer is false.
+// Reads the next line and answers it; returns false if there is none.
 fn serve_line<R: BufRead, W: Write, S: Service>(
     reader: &mut R,
     writer: &mut W,
@@ -90,7 +90,7 @@ fn serve_line<R: BufRead, W: Write, S: Service>(
     Ok(true)
 }
 
-// Writes the answer to a line that was read.
+// Writes the answer to `line`.
 fn answer_line<W: Write, S: Service>(
     writer: &mut W,
     service: &mut S,
@@ -111,7 +111,7 @@ fn answer_line<W: Write, S: Service>(
     }
 }
 
-// Writes a reply and its newline.
+// Writes `reply` and its newline.
 fn tell<W: Write>(writer: &mut W, reply: &str) -> Result<(), RunFault>
     ensures written { OnOk result
         (Appends (W.contents writer.old) (W.contents writer.new) (output_line reply.now)) }

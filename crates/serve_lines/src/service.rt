@@ -1,4 +1,4 @@
-//! What answers the lines.
+//! Services that answer the lines.
 
 ghost use Rattle.std.specs.Prelude.{◌≡◌, ◌≢◌, Bool, ℕ, List, IsTrue, IfOk, IfErr, OnOk};
 ghost use Rattle.std.specs.Cow.{cow_str_bytes};
@@ -8,7 +8,7 @@ ghost use Rattle.definitions.specs.declared.fault.Fault.TheVariants as faults;
 use definitions::Fault;
 use std::borrow::CowStr;
 
-/// What answers the lines of a run, one after the other.
+/// A service that answers the lines of a run, one after the other.
 pub trait Service {
     // What the replies depend on.
     ghost State: { Type 0 };
@@ -28,7 +28,7 @@ pub trait Service {
     // Whether the service stands for what such a fault leaves. No call changes this.
     ghost lasts: { Self → Bool };
 
-    /// Answers one line. After `Device` the service need not stand for any state.
+    /// Returns the reply to `line`. After `Device` the service need not stand for any state.
     fn reply(&mut self, line: &str) -> Result<CowStr<'static>, Fault>
         ensures text { (s : State) → stands self.old s
             → IfOk result (λ text. cow_str_bytes text ≡ answer s line.now) }

@@ -15,8 +15,7 @@ use std::alloc::{AllocError, Global};
 use terms::{DateTime, FastValue, Field, Term, has_zero};
 use values_json::read_date;
 
-/// The term of a JSON field: its name, the path of a value and the value, beside these further keys. With
-/// `expand_dots` each key is parted at its dots.
+/// Reads a term of a JSON field: an object with a path, a value and maybe `keys`. `expand_dots` splits keys at dots.
 pub(crate) fn path_term(
     alloc: Global,
     field: Field,
@@ -42,7 +41,7 @@ pub(crate) fn path_term(
     leaf_term(start, value)
 }
 
-/// The keys of a path, if there are some.
+/// Reads the keys of a path; there must be at least one.
 fn read_path<'a>(alloc: Global, json: &'a Json) -> Result<Option<Vec<&'a str>>, AllocError>
     ensures { IfOk result (λ found. option_map (λ path. map (λ k. k.now) path.items) found ≡ definitions.path_in (view json.now)) }
 {
@@ -58,7 +57,7 @@ fn read_path<'a>(alloc: Global, json: &'a Json) -> Result<Option<Vec<&'a str>>, 
     Ok(Some(path))
 }
 
-/// A key for each element, if each is one.
+/// Reads each of `items` as a key.
 fn read_each_key<'a>(alloc: Global, items: &'a [Json]) -> Result<Option<Vec<&'a str>>, AllocError>
     ensures { IfOk result (λ found. option_map (λ path. map (λ k. k.now) path.items) found ≡ each definitions.key_in (items_view items.now)) }
 {
@@ -72,7 +71,7 @@ fn read_each_key<'a>(alloc: Global, items: &'a [Json]) -> Result<Option<Vec<&'a 
     Ok(Some(path))
 }
 
-/// A text without U+0000, if it is one.
+/// Reads a key: a text without U+0000.
 fn read_key(json: &Json) -> Option<&str>
     ensures { option_map (λ k. k.now) result ≡ definitions.key_in (view json.now) }
 {
@@ -80,7 +79,7 @@ fn read_key(json: &Json) -> Option<&str>
     if has_zero(key) { None } else { Some(key) }
 }
 
-/// The term that begins so and ends in a value: a text, a whole number, a bool or a date.
+/// Appends a value to the term `start`: a text, a whole number, a bool or a date.
 fn leaf_term(start: Term, value: &Json) -> Result<Option<Term>, AllocError>
     ensures { IfOk result (λ found. found ≡ leaf_term start (view value.now)) }
 {
@@ -93,7 +92,7 @@ fn leaf_term(start: Term, value: &Json) -> Result<Option<Term>, AllocError>
     }
 }
 
-/// The term that begins so and ends in a text.
+/// Appends a text to the term `start`.
 fn text_leaf(start: Term, text: &str) -> Result<Option<Term>, AllocError>
     ensures { IfOk result (λ found. found ≡ leaf_term start (json_string text.now)) }
 {
@@ -102,7 +101,7 @@ fn text_leaf(start: Term, text: &str) -> Result<Option<Term>, AllocError>
     Ok(Some(term))
 }
 
-/// The term that begins so and ends in a whole number: in an i64 where it fits, and else in a u64.
+/// Appends a whole number to the term `start`: as an i64 if it fits, otherwise as a u64.
 fn number_leaf(start: Term, number: &Number) -> Result<Option<Term>, AllocError>
     ensures { IfOk result (λ found. found ≡ leaf_term start (json_number (number_view number.now))) }
 {
@@ -115,7 +114,7 @@ fn number_leaf(start: Term, number: &Number) -> Result<Option<Term>, AllocError>
     }
 }
 
-/// The term that begins so and ends in the date of an object.
+/// Appends the date in an object to the term `start`.
 fn date_leaf(start: Term, value: &Json) -> Result<Option<Term>, AllocError>
     ensures { IfOk result (λ found. found ≡ date_term start (view value.now)) }
 {
@@ -125,7 +124,7 @@ fn date_leaf(start: Term, value: &Json) -> Result<Option<Term>, AllocError>
     }
 }
 
-/// The date in an object that has its text and no other key.
+/// Reads the date in an object that has its text at `date` and no other key.
 fn date_in(value: &Json) -> Option<DateTime>
     ensures { option_map date result ≡ definitions.date_leaf (view value.now) }
 {
@@ -135,7 +134,7 @@ fn date_in(value: &Json) -> Option<DateTime>
     read_date(text_at(value, "date")?).ok()
 }
 
-/// The term that begins so and ends in a value of eight bytes.
+/// Appends a value of eight bytes to the term `start`.
 fn fast_leaf<T: FastValue>(start: Term, value: T) -> Result<Term, AllocError>
     ensures { IfOk result (λ term. option_map (λ payload. start ++ (type_code T.kind ++ payload)) (value_bytes T.kind (T.value value)) ≡ Some term) }
 {

@@ -1,4 +1,4 @@
-//! Settings read from JSON, and written as it.
+//! Settings read from JSON and written as JSON.
 
 ghost use Rattle.std.specs.Prelude.{[], true, ◌≡◌, ◌≢◌, IfErr, IfOk, None, OnOk, Some, codes, option_map};
 ghost use Rattle.definitions.specs.Json as keys;
@@ -18,7 +18,7 @@ use std::alloc::{AllocError, Global};
 use terms::Term;
 
 impl Settings {
-    /// The settings in a JSON object. A key that is absent has its default.
+    /// Reads settings from a JSON object. An absent key has its default.
     pub fn from_json_value(alloc: Global, schema: &Schema, json: &Json) -> Result<Settings, Fault>
         ensures ok { IfOk result (λ settings. definitions.settings_in schema.now (view json.now) ≡ Some settings) }
         ensures err { IfErr result (λ fault. fault ≢ faults.OutOfMemory → (fault ≡ faults.BadSettings) × (definitions.settings_in schema.now (view json.now) ≡ None)) }
@@ -43,8 +43,7 @@ impl Settings {
         )
     }
 
-    /// The settings as a JSON object with every key. They read back where each weighted term is one that
-    /// a term's JSON gives.
+    /// Writes the settings as a JSON object with every key. They can be read back if each weighted term can be.
     #[tactic(auto, using(definitions::proofs::SettingsReadBack::settings_back))]
     pub fn to_json_value(&self, alloc: Global, schema: &Schema) -> Result<Json, AllocError>
         ensures value { IfOk result (λ json. view json ≡ definitions.settings_data schema.now self.now) }
@@ -53,7 +52,7 @@ impl Settings {
         self.keys_to_json(alloc, schema)
     }
 
-    /// Whether each weighted term is one that a term's JSON gives.
+    /// Whether each weighted term can be read back from its JSON.
     pub fn names_weights(&self, alloc: Global, schema: &Schema) -> Result<bool, AllocError>
         ensures { IfOk result (λ named. named ≡ definitions.weighs_named schema.now self.now) }
     {
@@ -65,7 +64,7 @@ impl Settings {
         Ok(true)
     }
 
-    /// The settings in range as a JSON object.
+    /// Writes the settings as a JSON object.
     fn keys_to_json(&self, alloc: Global, schema: &Schema) -> Result<Json, AllocError>
         ensures value { IfOk result (λ json. view json ≡ definitions.settings_data schema.now self.now) }
         ensures valid { OnOk result (is_settings self.now ≡ true) }
@@ -83,7 +82,7 @@ impl Settings {
     }
 }
 
-/// Whether the term is read from what is written of it.
+/// Whether `term` is read back from its JSON.
 fn reads_back(alloc: Global, schema: &Schema, term: &Term) -> Result<bool, AllocError>
     ensures { IfOk result (λ back. back ≡ reads_back schema.now term.now) }
 {
@@ -94,7 +93,7 @@ fn reads_back(alloc: Global, schema: &Schema, term: &Term) -> Result<bool, Alloc
     }
 }
 
-/// Whether the value is an object with no key but those of settings.
+/// Whether `json` is an object without keys other than those of settings.
 fn has_only_settings(json: &Json) -> bool
     ensures { result ≡ keys.has_only definitions.settings_keys (view json.now) }
 {
@@ -111,7 +110,7 @@ fn has_only_settings(json: &Json) -> bool
     )
 }
 
-/// The whole number at a key, or this one where the key is absent.
+/// Reads the whole number at `key`; `absent` if the key is absent.
 fn whole_or(json: &Json, key: &str, absent: u64) -> Option<u64>
     ensures { result ≡ keys.at_or absent definitions.whole_in key.now (view json.now) }
 {
@@ -121,7 +120,7 @@ fn whole_or(json: &Json, key: &str, absent: u64) -> Option<u64>
     }
 }
 
-/// The weights that an object says, if they are some; none where it says nothing of them.
+/// Reads the weights of settings; no weights if the key is absent.
 fn weights_or_none(
     alloc: Global,
     schema: &Schema,
@@ -135,7 +134,7 @@ fn weights_or_none(
     }
 }
 
-/// The weights in an array, if they are some.
+/// Reads weights from an array.
 fn read_weights(
     alloc: Global,
     schema: &Schema,
@@ -149,7 +148,7 @@ fn read_weights(
     }
 }
 
-/// A weight for each element, if each is one.
+/// Reads each of `items` as a weight.
 fn read_each_weight(
     alloc: Global,
     schema: &Schema,
@@ -167,7 +166,7 @@ fn read_each_weight(
     Ok(Some(weights))
 }
 
-/// A term and its weight, if it is one.
+/// Reads a term and its weight.
 fn read_weight(
     alloc: Global,
     schema: &Schema,
@@ -190,7 +189,7 @@ fn read_weight(
     Ok(Some((term, weight)))
 }
 
-/// The norms that an object says, if they are some; every norm is 1 where it says nothing of them.
+/// Reads the norms of settings; all 1 if the key is absent.
 fn norms_or_ones(alloc: Global, json: &Json) -> Result<Option<Vec<u32>>, AllocError>
     ensures { IfOk result (λ found. option_map (λ norms. norms.items) found ≡ keys.at_or default_settings.norms (keys.list_of definitions.norm_in) (codes "norms") (view json.now)) }
 {
@@ -200,7 +199,7 @@ fn norms_or_ones(alloc: Global, json: &Json) -> Result<Option<Vec<u32>>, AllocEr
     }
 }
 
-/// The norms in an array, if they are some.
+/// Reads norms from an array.
 fn read_norms(alloc: Global, json: &Json) -> Result<Option<Vec<u32>>, AllocError>
     ensures { IfOk result (λ found. option_map (λ norms. norms.items) found ≡ keys.list_of definitions.norm_in (view json.now)) }
 {
@@ -210,7 +209,7 @@ fn read_norms(alloc: Global, json: &Json) -> Result<Option<Vec<u32>>, AllocError
     }
 }
 
-/// A norm for each element, if each is one.
+/// Reads each of `items` as a norm.
 fn read_each_norm(alloc: Global, items: &[Json]) -> Result<Option<Vec<u32>>, AllocError>
     ensures { IfOk result (λ found. option_map (λ norms. norms.items) found ≡ keys.each definitions.norm_in (items_view items.now)) }
 {
@@ -224,14 +223,14 @@ fn read_each_norm(alloc: Global, items: &[Json]) -> Result<Option<Vec<u32>>, All
     Ok(Some(norms))
 }
 
-/// A number of 32 bits, if it is one.
+/// Reads a norm: a whole number of 32 bits.
 fn read_norm(json: &Json) -> Option<u32>
     ensures { result ≡ definitions.norm_in (view json.now) }
 {
     u32::try_from(json.as_u64()?).ok()
 }
 
-/// Terms with their weights as a JSON array.
+/// Writes terms with their weights as a JSON array.
 fn weights_to_json(
     alloc: Global,
     schema: &Schema,
@@ -247,7 +246,7 @@ fn weights_to_json(
     Ok(Json::Array(items))
 }
 
-/// Numbers as a JSON array.
+/// Writes norms as a JSON array.
 fn norms_to_json(alloc: Global, norms: &[u32]) -> Result<Json, AllocError>
     ensures { IfOk result (λ json. view json ≡ definitions.array_of number_data norms.now) }
 {

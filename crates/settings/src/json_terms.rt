@@ -19,8 +19,8 @@ use std::net::Ipv6Addr;
 use terms::{Field, Term, Type};
 use values_json::{read_address, read_bytes, read_date, read_facet};
 
-/// The term in a JSON object: the name of a field, and a value. A text is the token itself. In a JSON field
-/// there is a path of keys, too, and a date has a key of its own.
+/// Reads a term from a JSON object: the name of a field, and a value. A text is the token itself. For a JSON field
+/// there is a path of keys, too, and a date is at a key of its own.
 pub fn read_term(alloc: Global, schema: &Schema, json: &Json) -> Result<Term, Fault>
     ensures ok { IfOk result (λ term. definitions.term_in schema.now (view json.now) ≡ Some term) }
     ensures err { IfErr result (λ fault. fault ≢ faults.OutOfMemory → (fault ≡ faults.BadTerm) × (definitions.term_in schema.now (view json.now) ≡ None)) }
@@ -28,7 +28,7 @@ pub fn read_term(alloc: Global, schema: &Schema, json: &Json) -> Result<Term, Fa
     term_beside(alloc, schema, json, &[])?.ok_or(Fault::BadTerm)
 }
 
-/// The term in an object that may have these further keys, if there is one.
+/// Like `read_term`, but the object may also have `keys`; `None` if it isn't a term.
 pub fn term_beside(
     alloc: Global,
     schema: &Schema,
@@ -50,7 +50,7 @@ pub fn term_beside(
     }
 }
 
-/// The term of a field of another type than JSON objects.
+/// Reads a term of a field that isn't of JSON objects.
 fn plain_term(
     alloc: Global,
     field: Field,
@@ -66,7 +66,7 @@ fn plain_term(
     }
 }
 
-/// The value in an object that has a field's name, a value and no other key but these.
+/// Returns the value of an object with the keys `field`, `value` and maybe `keys`, but no others.
 fn value_beside<'a>(json: &'a Json, keys: &[&str]) -> Option<&'a Json>
     ensures { option_map (λ v. view v.now) result ≡ only_if (has_only (codes "field" ∷ codes "value" ∷ map (λ k. k.now) keys.now) (view json.now)) (get (codes "value") (view json.now)) }
 {
@@ -76,7 +76,7 @@ fn value_beside<'a>(json: &'a Json, keys: &[&str]) -> Option<&'a Json>
     json.get("value")
 }
 
-/// The term of a value in a field of that type.
+/// Reads the term of a value in a field of the type `kind`.
 fn value_term(
     alloc: Global,
     field: Field,
@@ -98,7 +98,7 @@ fn value_term(
     }
 }
 
-/// The term of a text as the token of a text field.
+/// Reads the term of a text, which is the token.
 fn text_term(alloc: Global, field: Field, value: &Json) -> Result<Option<Term>, AllocError>
     ensures { IfOk result (λ found. found ≡ value_term field text_kind (view value.now)) }
 {
@@ -108,7 +108,7 @@ fn text_term(alloc: Global, field: Field, value: &Json) -> Result<Option<Term>, 
     Ok(Some(Term::from_field_text(alloc, field, text)?))
 }
 
-/// The term of a number from 0 below 2^64.
+/// Reads the term of a number from 0 below 2^64.
 fn u64_term(alloc: Global, field: Field, value: &Json) -> Result<Option<Term>, AllocError>
     ensures { IfOk result (λ found. found ≡ value_term field u64_kind (view value.now)) }
 {
@@ -118,7 +118,7 @@ fn u64_term(alloc: Global, field: Field, value: &Json) -> Result<Option<Term>, A
     Ok(Some(Term::from_field_u64(alloc, field, value)?))
 }
 
-/// The term of a signed number of 64 bits.
+/// Reads the term of a signed number of 64 bits.
 fn i64_term(alloc: Global, field: Field, value: &Json) -> Result<Option<Term>, AllocError>
     ensures { IfOk result (λ found. found ≡ value_term field i64_kind (view value.now)) }
 {
@@ -128,7 +128,7 @@ fn i64_term(alloc: Global, field: Field, value: &Json) -> Result<Option<Term>, A
     Ok(Some(Term::from_field_i64(alloc, field, value)?))
 }
 
-/// The term of true or false.
+/// Reads the term of a bool.
 fn bool_term(alloc: Global, field: Field, value: &Json) -> Result<Option<Term>, AllocError>
     ensures { IfOk result (λ found. found ≡ value_term field bool_kind (view value.now)) }
 {
@@ -138,7 +138,7 @@ fn bool_term(alloc: Global, field: Field, value: &Json) -> Result<Option<Term>, 
     Ok(Some(Term::from_field_bool(alloc, field, value)?))
 }
 
-/// The term of a date's text, cut to its second. A number is no date here.
+/// Reads the term of a date's text, cut to its second. A number isn't a date here.
 fn date_term(alloc: Global, field: Field, value: &Json) -> Result<Option<Term>, AllocError>
     ensures { IfOk result (λ found. found ≡ value_term field date_kind (view value.now)) }
 {
@@ -151,7 +151,7 @@ fn date_term(alloc: Global, field: Field, value: &Json) -> Result<Option<Term>, 
     }
 }
 
-/// The term of a facet's path.
+/// Reads the term of a facet's path.
 fn facet_term(alloc: Global, field: Field, value: &Json) -> Result<Option<Term>, AllocError>
     ensures { IfOk result (λ found. found ≡ value_term field facet_kind (view value.now)) }
 {
@@ -165,7 +165,7 @@ fn facet_term(alloc: Global, field: Field, value: &Json) -> Result<Option<Term>,
     }
 }
 
-/// The term of the bytes of a text in base64.
+/// Reads the term of the bytes of a text in base64.
 fn bytes_term(alloc: Global, field: Field, value: &Json) -> Result<Option<Term>, AllocError>
     ensures { IfOk result (λ found. found ≡ value_term field bytes_kind (view value.now)) }
 {
@@ -179,7 +179,7 @@ fn bytes_term(alloc: Global, field: Field, value: &Json) -> Result<Option<Term>,
     }
 }
 
-/// The term of an address's text.
+/// Reads the term of an IP address's text.
 fn ip_addr_term(alloc: Global, field: Field, value: &Json) -> Result<Option<Term>, AllocError>
     ensures { IfOk result (λ found. found ≡ value_term field ip_addr_kind (view value.now)) }
 {

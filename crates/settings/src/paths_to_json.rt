@@ -20,7 +20,7 @@ use std::alloc::{AllocError, Global};
 use terms::Type;
 use values_json::{Leaf, leaf_to_json};
 
-/// The term of a JSON field, from its bytes: the path, U+0000 and a leaf.
+/// Writes a term of a JSON field from its value bytes: the path, U+0000 and a value.
 pub(crate) fn path_term_to_json(alloc: Global, name: &str, bytes: &[u8]) -> Result<Json, AllocError>
     ensures { IfOk result (λ json. view json ≡ object_of ((codes "field", string name.now) ∷ value_members json_kind bytes.now)) }
 {
@@ -30,7 +30,7 @@ pub(crate) fn path_term_to_json(alloc: Global, name: &str, bytes: &[u8]) -> Resu
     json!(in alloc; {"field": name, "path": path, "value": value})
 }
 
-/// What stands before the first U+0000, and what behind it.
+/// Splits `bytes` at the first U+0000.
 fn split_path(bytes: &[u8]) -> (&[u8], &[u8])
     ensures { (result.0.now ≡ before_first (◌==◌ 0) bytes.now) × (result.1.now ≡ after_first (◌==◌ 0) bytes.now) }
 {
@@ -40,14 +40,14 @@ fn split_path(bytes: &[u8]) -> (&[u8], &[u8])
     }
 }
 
-/// Where the first U+0000 stands.
+/// Returns the index of the first U+0000.
 fn path_end(bytes: &[u8]) -> Option<usize>
     ensures { result ≡ position (◌==◌ 0) bytes.now }
 {
     bytes.iter().position(|byte| *byte == 0)
 }
 
-/// The keys of a path, between which stands U+0001; null where the bytes are no text.
+/// Writes the keys of a path, which U+0001 separates; null if the bytes aren't a text.
 fn path_to_json(alloc: Global, path: &[u8]) -> Result<Json, AllocError>
     ensures { IfOk result (λ json. view json ≡ path_data path.now) }
 {
@@ -57,7 +57,7 @@ fn path_to_json(alloc: Global, path: &[u8]) -> Result<Json, AllocError>
     }
 }
 
-/// Keys as a JSON array.
+/// Writes keys as a JSON array.
 fn keys_to_json(alloc: Global, keys: &[&str]) -> Result<Json, AllocError>
     ensures { IfOk result (λ json. view json ≡ array (items_of (map (λ k. string k.now) keys.now))) }
 {
@@ -68,7 +68,7 @@ fn keys_to_json(alloc: Global, keys: &[&str]) -> Result<Json, AllocError>
     Ok(Json::Array(items))
 }
 
-/// The value at the end of a path, from its bytes; null where they are none's.
+/// Writes the value at the end of a path from its bytes; null if they aren't a value's.
 fn path_leaf_to_json(alloc: Global, bytes: &[u8]) -> Result<Json, AllocError>
     ensures { IfOk result (λ json. view json ≡ leaf_data (leaf_of_bytes bytes.now)) }
 {
@@ -78,7 +78,7 @@ fn path_leaf_to_json(alloc: Global, bytes: &[u8]) -> Result<Json, AllocError>
     }
 }
 
-/// A value as JSON, where a date is told from a text by a key of its own.
+/// Writes a value; a date gets a key of its own, which distinguishes it from a text.
 fn dated_to_json(alloc: Global, leaf: &Leaf) -> Result<Json, AllocError>
     ensures { IfOk result (λ json. view json ≡ leaf_data (value_of leaf.now)) }
 {
@@ -89,8 +89,7 @@ fn dated_to_json(alloc: Global, leaf: &Leaf) -> Result<Json, AllocError>
     }
 }
 
-/// The value at the end of a path, from its bytes, of which the first is the code of its type; none where no
-/// value has these bytes.
+/// Decodes a value at the end of a path: the code of its type, then its bytes.
 fn path_leaf(alloc: Global, bytes: &[u8]) -> Result<Option<Leaf>, AllocError>
     ensures { IfOk result (λ found. option_map_or value_of found null ≡ leaf_of_bytes bytes.now) }
 {
@@ -103,7 +102,7 @@ fn path_leaf(alloc: Global, bytes: &[u8]) -> Result<Option<Leaf>, AllocError>
     }
 }
 
-/// The type of that code, if values of it stand at the end of a path.
+/// Returns the type with the code `code`, if values at the end of a path may have it.
 #[tactic(auto, using(crate::proofs::ValueTerms::leaf_code))]
 fn leaf_type(code: u8) -> Option<Type>
     ensures { option_map kind_of result ≡ find (λ kind. bytes_eq (code ∷ []) (type_code kind)) leaf_kinds }
@@ -112,7 +111,7 @@ fn leaf_type(code: u8) -> Option<Type>
     if is_leaf_type(kind) { Some(kind) } else { None }
 }
 
-/// Whether values of that type stand at the end of a path.
+/// Whether values at the end of a path may have the type `kind`.
 fn is_leaf_type(kind: Type) -> bool
     ensures { result ≡ is_leaf_kind (kind_of kind) }
 {

@@ -14,16 +14,16 @@ use std::collections::HashMap;
 use std::marker::Model;
 use terms::Term;
 
-/// The most documents that a segment takes.
+/// The most documents of a segment.
 const MAX_DOCS_PER_SEGMENT: u64 = 2147483647;
 
-/// The greatest weight of a term, as no score is above it.
+/// The greatest weight of a term: no score is above it.
 const MAX_SCORE: u64 = 1_000_000_000_000_000;
 
-/// One norm for each length id.
+/// The number of norms: one for each length id.
 const NORMS: usize = 256;
 
-/// Settings of an index. They are in range, and stay what they were made.
+/// Settings of an index, which are in range. They don't change after they are made.
 #[derive(Drop)]
 pub struct Settings {
     docs_per_segment: u32,
@@ -47,7 +47,7 @@ impl Model for Settings {
 }
 
 impl Settings {
-    /// Settings of these parts; `BadSettings` where they aren't in range. No weight is negative, by its type.
+    /// Makes settings; `BadSettings` if they aren't in range. No weight is negative, by its type.
     pub fn new(
         alloc: Global,
         docs_per_segment: u64,
@@ -78,7 +78,7 @@ impl Settings {
         })
     }
 
-    /// The settings where none are given: no term has a weight of its own, and every norm is 1.
+    /// Makes the default settings: no term has a weight of its own, and every norm is 1.
     pub fn default(alloc: Global) -> Result<Settings, AllocError>
         ensures { IfOk result (λ settings. settings ≡ definitions.default_settings) }
     {
@@ -93,7 +93,7 @@ impl Settings {
         })
     }
 
-    /// How many documents a segment takes.
+    /// Returns the number of documents of a segment.
     pub fn docs_per_segment(&self) -> u32
         ensures value { result ≡ self.now.docs_per_segment }
         ensures valid { definitions.is_settings self.now ≡ true }
@@ -102,21 +102,21 @@ impl Settings {
         self.docs_per_segment
     }
 
-    /// The size past which a block of stored documents is closed.
+    /// Returns the size past which a block of stored documents is closed.
     pub fn block_size(&self) -> u32
         ensures { result ≡ self.now.block_size }
     {
         self.block_size
     }
 
-    /// How many blocks of stored documents are kept at hand.
+    /// Returns the number of blocks of stored documents that are cached.
     pub fn cache_blocks(&self) -> u64
         ensures { result ≡ self.now.cache_blocks }
     {
         self.cache_blocks
     }
 
-    /// The weight of a term that has none of its own.
+    /// Returns the weight of terms without a weight of their own.
     pub fn default_weight(&self) -> u64
         ensures value { result ≡ self.now.default_weight }
         ensures within { result ≤ max_score }
@@ -124,14 +124,14 @@ impl Settings {
         self.default_weight
     }
 
-    /// The weights of terms, in the order in which they were given.
+    /// Returns the weights of terms, in the order in which they were given.
     pub fn weights(&self) -> &[(Term, u64)]
         ensures { result.now ≡ self.now.weights }
     {
         &self.weights
     }
 
-    /// A norm for each length id.
+    /// Returns the norm of each length id.
     pub fn norms(&self) -> &[u32]
         ensures value { result.now ≡ self.now.norms }
         ensures similarity { IsSimilarity (definitions.similarity_of self.now) }
@@ -139,7 +139,7 @@ impl Settings {
         &self.norms
     }
 
-    /// The term's own weight, and else the default.
+    /// Returns the term's own weight, or the default weight if it has none.
     pub fn weight_of(&self, term: &Term) -> u64
         ensures value { result ≡ definitions.weight_of self.now term.now }
         ensures within { result ≤ max_score }
@@ -150,7 +150,7 @@ impl Settings {
             .unwrap_or(self.default_weight)
     }
 
-    /// The norm of a length id.
+    /// Returns the norm of `length_id`.
     pub fn norm(&self, length_id: u8) -> u32
         ensures { result ≡ slice_index self.now.norms length_id }
     {
@@ -158,21 +158,21 @@ impl Settings {
     }
 }
 
-/// Whether these are sizes of a segment and of a block.
+/// Whether the sizes of a segment and of a block are in range.
 fn are_sizes(docs_per_segment: u64, block_size: u64) -> bool
     ensures { result ≡ (definitions.fits_segment docs_per_segment && nat_lt block_size (2 ^ 32)) }
 {
     0 < docs_per_segment && docs_per_segment <= MAX_DOCS_PER_SEGMENT && block_size < 1 << 32
 }
 
-/// Whether there is a norm for each length id, and none falls.
+/// Whether there is a norm for each length id, and the norms are sorted.
 fn are_norms(norms: &[u32]) -> bool
     ensures { result ≡ definitions.are_norms norms.now }
 {
     norms.len() == NORMS && norms.is_sorted()
 }
 
-/// Notes a term's weight, where it is none yet and no weight above the greatest score.
+/// Adds a term's weight; `BadSettings` if the term has one, or the weight is above the greatest score.
 fn note_weight(
     alloc: Global,
     weight_by_term: &mut HashMap<Vec<u8>, u64>,
@@ -194,7 +194,7 @@ fn note_weight(
     Ok(())
 }
 
-/// The weight of each term, where none is above the greatest score and no term is weighted twice.
+/// Maps each term to its weight; `BadSettings` for a weight above the greatest score, or two of one term.
 fn weights_by_term(alloc: Global, weights: &[(Term, u64)]) -> Result<HashMap<Vec<u8>, u64>, Fault>
     ensures ok { IfOk result (λ map. WeighsTerms map weights.now × (list_all (λ w. nat_le w.1 max_score) weights.now ≡ true) × (definitions.weighs_once weights.now ≡ true)) }
     ensures err { IfErr result (λ fault. fault ≢ faults.OutOfMemory → (fault ≡ faults.BadSettings) × ((list_all (λ w. nat_le w.1 max_score) weights.now && definitions.weighs_once weights.now) ≡ false)) }

@@ -1,4 +1,4 @@
-//! Values of terms, from their bytes.
+//! Values of terms, decoded from their bytes.
 
 ghost use Rattle.std.specs.Prelude.{◌<◌, ◌==◌, ◌≡◌, IfOk, Some, length, map, nat_lt, option_map, string_bytes};
 ghost use Rattle.std.specs.Int.{byte_len, from_be_bytes, w128, w64};
@@ -15,7 +15,7 @@ use std::alloc::{AllocError, Global};
 use terms::{DateTime, Facet, SIGN_BIT, Type};
 use values_json::Leaf;
 
-/// The value that has these bytes in a field of that type, if one has.
+/// Decodes a value of a field of the type `kind`, if `bytes` are one.
 pub(crate) fn leaf_of_bytes(
     alloc: Global,
     kind: Type,
@@ -36,7 +36,7 @@ pub(crate) fn leaf_of_bytes(
     }
 }
 
-/// The text of these bytes, if they are one.
+/// Decodes a text, if `bytes` are one.
 fn text_of_bytes(alloc: Global, bytes: &[u8]) -> Result<Option<String>, AllocError>
     ensures { IfOk result (λ found. option_map (λ text. string_bytes text) found ≡ only_if (is_utf8 bytes.now) (Some bytes.now)) }
 {
@@ -46,7 +46,7 @@ fn text_of_bytes(alloc: Global, bytes: &[u8]) -> Result<Option<String>, AllocErr
     }
 }
 
-/// The facet whose steps a text parts by U+0000, if the bytes are a text.
+/// Decodes a facet from a text with its steps separated by U+0000, if `bytes` are a text.
 fn facet_of_bytes(alloc: Global, bytes: &[u8]) -> Result<Option<Facet>, AllocError>
     ensures { IfOk result (λ found. found ≡ only_if (is_utf8 bytes.now) (Some (slice_split (◌==◌ 0) bytes.now))) }
 {
@@ -56,7 +56,7 @@ fn facet_of_bytes(alloc: Global, bytes: &[u8]) -> Result<Option<Facet>, AllocErr
     }
 }
 
-/// The parts of a text between the places where an ASCII character stands.
+/// Splits `text` at an ASCII character.
 pub(crate) fn parts<'a>(
     alloc: Global,
     text: &'a str,
@@ -68,7 +68,7 @@ pub(crate) fn parts<'a>(
     text.split(separator).collect(alloc)
 }
 
-/// The number of eight bytes, if there are eight.
+/// Decodes a number, if there are eight bytes.
 fn u64_of_bytes(bytes: &[u8]) -> Option<u64>
     ensures { result ≡ only_if (length bytes.now == byte_len w64) (Some (from_be_bytes w64 bytes.now)) }
 {
@@ -76,7 +76,7 @@ fn u64_of_bytes(bytes: &[u8]) -> Option<u64>
     Some(u64::from_be_bytes(bytes))
 }
 
-/// The signed number of eight bytes, if there are eight.
+/// Decodes a signed number, if there are eight bytes.
 fn i64_of_bytes(bytes: &[u8]) -> Option<i64>
     ensures { result ≡ only_if (length bytes.now == byte_len w64) (Some (signed_number bytes.now)) }
 {
@@ -84,7 +84,7 @@ fn i64_of_bytes(bytes: &[u8]) -> Option<i64>
     Some(number.wrapping_sub(SIGN_BIT).cast_signed())
 }
 
-/// Whether the number of eight bytes is above 0, if there are eight.
+/// Decodes a bool, if there are eight bytes: whether their number is above 0.
 fn bool_of_bytes(bytes: &[u8]) -> Option<bool>
     ensures { result ≡ only_if (length bytes.now == byte_len w64) (Some (nat_lt 0 (from_be_bytes w64 bytes.now))) }
 {
@@ -92,7 +92,7 @@ fn bool_of_bytes(bytes: &[u8]) -> Option<bool>
     Some(number > 0)
 }
 
-/// The date of eight bytes, if there are eight.
+/// Decodes a date, if there are eight bytes.
 fn date_of_bytes(bytes: &[u8]) -> Option<DateTime>
     ensures { result ≡ only_if (length bytes.now == byte_len w64) (Some (signed_number bytes.now)) }
 {
@@ -100,7 +100,7 @@ fn date_of_bytes(bytes: &[u8]) -> Option<DateTime>
     Some(DateTime::from_timestamp_nanos(nanos))
 }
 
-/// The number of sixteen bytes, if there are sixteen.
+/// Decodes a number of 128 bits, if there are sixteen bytes.
 fn u128_of_bytes(bytes: &[u8]) -> Option<u128>
     ensures { result ≡ only_if (length bytes.now == byte_len w128) (Some (from_be_bytes w128 bytes.now)) }
 {

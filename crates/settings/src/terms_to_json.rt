@@ -16,7 +16,7 @@ use std::alloc::{AllocError, Global};
 use terms::{Term, Type};
 use values_json::leaf_to_json;
 
-/// The term as a JSON object, and null where the schema has no such field.
+/// Writes `term` as a JSON object; null if the schema doesn't have its field.
 pub fn term_to_json(alloc: Global, schema: &Schema, term: &Term) -> Result<Json, AllocError>
     ensures { IfOk result (λ json. view json ≡ term_data schema.now term.now) }
 {
@@ -32,7 +32,7 @@ pub fn term_to_json(alloc: Global, schema: &Schema, term: &Term) -> Result<Json,
     }
 }
 
-/// The term of a field of another type than JSON objects.
+/// Writes a term of a field that isn't of JSON objects.
 fn plain_term_to_json(
     alloc: Global,
     name: &str,
@@ -45,7 +45,7 @@ fn plain_term_to_json(
     json!(in alloc; {"field": name, "value": value})
 }
 
-/// The value that has these bytes in a field of that type, and null where none has.
+/// Writes the value of a field of the type `kind` from its bytes; null if they aren't a value's.
 fn value_to_json(alloc: Global, kind: Type, bytes: &[u8]) -> Result<Json, AllocError>
     ensures { IfOk result (λ json. view json ≡ printed (value_of_bytes (kind_of kind) bytes.now)) }
 {

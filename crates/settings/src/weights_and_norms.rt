@@ -1,4 +1,4 @@
-//! What scores follow from, beside documents and queries.
+//! What scores depend on, beside documents and queries.
 
 ghost use Rattle.std.specs.Prelude.{◌≡◌, ◌≤◌};
 ghost use Rattle.definitions.specs.Settings.{similarity_of};
@@ -7,17 +7,17 @@ ghost use Rattle.definitions.specs.Scoring.{IsSimilarity, Similarity, max_score}
 use crate::Settings;
 use terms::Term;
 
-/// Weights of terms, and norms of lengths. They stay what they are.
+/// The weights of terms and the norms of lengths. They don't change.
 pub trait Statistics {
     // The weight of each term, and a norm for each length id.
     ghost similarity: { Self → Similarity };
 
-    /// The weight of a term.
+    /// Returns the weight of `term`.
     fn weight_of(&self, term: &Term) -> u64
         ensures value { result ≡ (similarity self.now).weight term.now }
         ensures within { result ≤ max_score };
 
-    /// A norm for each length id, 256 of them.
+    /// Returns the norms of the 256 length ids.
     fn norms(&self) -> &[u32]
         ensures value { result.now ≡ (similarity self.now).norms }
         ensures similarity { IsSimilarity (similarity self.now) };

@@ -1,4 +1,4 @@
-//! Skip entries, read from their bytes.
+//! Skip entries, decoded from their bytes.
 
 ghost use Rattle.std.specs.Prelude.{◌%◌, ◌+◌, ◌/◌, ◌≡◌, ◌<◌, ◌≤◌, ◌^◌, IfErr, IfOk, IsSome, List, None, Some, length, nat_lt, ℕ};
 ghost use Rattle.skips.specs.SkipBlocks.{Skips, are_skips, begun, blocks_before, ended, entry_of, info_of, last_doc, passed, take_byte, take_entry, take_where};
@@ -16,9 +16,9 @@ use std::marker::Model;
 /// What a term's postings record beside the documents.
 #[derive(Clone, Copy)]
 pub struct Recorded {
-    /// How often the term stands in each document.
+    /// How often the term occurs in each document.
     pub counts: bool,
-    /// Where it stands.
+    /// At which positions it occurs.
     pub positions: bool,
 }
 
@@ -39,7 +39,7 @@ pub enum BlockInfo {
     },
 }
 
-/// An entry as it stands.
+/// A skip entry as it is encoded.
 #[derive(Clone, Copy)]
 struct Entry {
     last_doc: u32,
@@ -50,8 +50,8 @@ struct Entry {
     greatest_count: u8,
 }
 
-/// The skip entries of a term's full blocks, lent from their bytes: the reader stands at a block, and behind
-/// all of them in the rest.
+/// The skip entries of a term's full blocks, borrowed from their bytes: the reader is at one of these blocks, and
+/// after all of them at the rest.
 #[derive(Drop)]
 pub struct SkipReader<'a> {
     bytes: &'a [u8],
@@ -73,7 +73,7 @@ impl<'a> Model for SkipReader<'a> {
 }
 
 impl<'a> SkipReader<'a> {
-    /// Stands at the first block of entries that are known to be in their layout.
+    /// Opens skip entries that are known to be in their layout, at the first block.
     pub fn new(bytes: &'a [u8], doc_freq: u32, recorded: Recorded) -> SkipReader<'a>
         requires { ∥ ((entries : List SkipEntry) × AreSkips recorded.counts recorded.positions (doc_freq / block_len) bytes.now entries) ∥₁ }
         ensures { (entries : List SkipEntry) → AreSkips recorded.counts recorded.positions (doc_freq / block_len) bytes.now entries → result ≡ begun recorded.counts recorded.positions doc_freq entries }
@@ -88,7 +88,7 @@ impl<'a> SkipReader<'a> {
         }
     }
 
-    /// Stands at the first block where the bytes are the entries of so many documents; other bytes are `Damaged`.
+    /// Opens the skip entries of `doc_freq` documents, at the first block; other bytes are `Damaged`.
     pub fn open(bytes: &'a [u8], doc_freq: u32, recorded: Recorded) -> Result<SkipReader<'a>, Fault>
         ensures ok { IfOk result (λ reader. AreSkips recorded.counts recorded.positions (doc_freq / block_len) bytes.now reader.left × (reader ≡ begun recorded.counts recorded.positions doc_freq reader.left)) }
         ensures one { IfOk result (λ reader. (entries : List SkipEntry) → AreSkips recorded.counts recorded.positions (doc_freq / block_len) bytes.now entries → entries ≡ reader.left) }
@@ -100,7 +100,7 @@ impl<'a> SkipReader<'a> {
         Ok(SkipReader::new(bytes, doc_freq, recorded))
     }
 
-    /// Another reader at the same block, which may go ahead of this one.
+    /// Returns another reader at the same block, which may go ahead of this one.
     pub fn copied(&self) -> SkipReader<'a>
         ensures { result ≡ self.now }
     {
@@ -114,7 +114,7 @@ impl<'a> SkipReader<'a> {
         }
     }
 
-    /// Stands at the first block of another term with the same recorded.
+    /// Moves to the first block of another term, whose postings record as much.
     pub fn reset(&mut self, bytes: &'a [u8], doc_freq: u32)
         requires { ∥ ((entries : List SkipEntry) × AreSkips self.old.counts self.old.positions (doc_freq / block_len) bytes.now entries) ∥₁ }
         ensures { (entries : List SkipEntry) → AreSkips self.old.counts self.old.positions (doc_freq / block_len) bytes.now entries → self.new ≡ begun self.old.counts self.old.positions doc_freq entries }
@@ -122,7 +122,7 @@ impl<'a> SkipReader<'a> {
         *self = SkipReader::new(bytes, doc_freq, self.recorded);
     }
 
-    /// How many positions stand before the block.
+    /// Returns how many positions there are before the block.
     pub fn position_offset(&self) -> u64
         ensures offset { result ≡ self.now.position_offset }
         ensures few { result < 2 ^ 62 }
@@ -130,14 +130,14 @@ impl<'a> SkipReader<'a> {
         self.position_offset
     }
 
-    /// How many bytes of documents and counts stand before the block.
+    /// Returns how many bytes of documents and counts there are before the block.
     pub fn byte_offset(&self) -> usize
         ensures { result ≡ self.now.byte_offset }
     {
         self.byte_offset
     }
 
-    /// What the block has. Its bound is told as it is stored.
+    /// Returns what the block has, with its bound as it is stored.
     pub fn block_info(&self) -> BlockInfo
         ensures { result ≡ info_of self.now.left self.now.rest }
     {
@@ -156,7 +156,7 @@ impl<'a> SkipReader<'a> {
         }
     }
 
-    /// The last document of the block; `TERMINATED` in the rest.
+    /// Returns the last document of the block, or `TERMINATED` in the rest.
     pub fn last_doc_in_block(&self) -> u32
         ensures { result ≡ last_doc self.now.left }
     {
@@ -167,7 +167,7 @@ impl<'a> SkipReader<'a> {
         entry.last_doc
     }
 
-    /// Goes on to the first block that may hold a document, or into the rest; whether that is another block.
+    /// Moves to the first block that may contain `target`, or to the rest; returns whether that is another block.
     pub fn seek(&mut self, target: u32) -> bool
         requires { target ≤ terminated }
         ensures passed { self.new ≡ passed (blocks_before target self.old) self.old }
@@ -181,7 +181,7 @@ impl<'a> SkipReader<'a> {
         moved
     }
 
-    /// Goes on to the next block, or into the rest; behind the rest nothing is left.
+    /// Moves to the next block, or to the rest; after the rest nothing is left.
     pub fn advance(&mut self)
         ensures block { 0 < length self.old.left → self.new ≡ passed 1 self.old }
         ensures rest { length self.old.left ≡ 0 → self.new ≡ ended self.old }
@@ -199,7 +199,7 @@ impl<'a> SkipReader<'a> {
     }
 }
 
-/// A byte, and what follows it.
+/// Decodes a byte; returns it, and the bytes after it.
 fn take_u8(bytes: &[u8]) -> Result<(u8, &[u8]), Fault>
     ensures ok { IfOk result (λ p. take_byte bytes.now ≡ Some (p.0, p.1.now)) }
     ensures err { IfErr result (λ fault. (fault ≡ faults.Damaged None) × (take_byte bytes.now ≡ None)) }
@@ -210,7 +210,7 @@ fn take_u8(bytes: &[u8]) -> Result<(u8, &[u8]), Fault>
     }
 }
 
-/// A byte where it is recorded, else 0.
+/// Decodes a byte where it is `recorded`, else 0.
 fn take_u8_where(recorded: bool, bytes: &[u8]) -> Result<(u8, &[u8]), Fault>
     ensures ok { IfOk result (λ p. take_where recorded take_byte bytes.now ≡ Some (p.0, p.1.now)) }
     ensures err { IfErr result (λ fault. (fault ≡ faults.Damaged None) × (take_where recorded take_byte bytes.now ≡ None)) }
@@ -221,7 +221,7 @@ fn take_u8_where(recorded: bool, bytes: &[u8]) -> Result<(u8, &[u8]), Fault>
     take_u8(bytes)
 }
 
-/// Four bytes where they are recorded, else 0.
+/// Decodes four bytes where they are `recorded`, else 0.
 fn take_u32_where(recorded: bool, bytes: &[u8]) -> Result<(u32, &[u8]), Fault>
     ensures ok { IfOk result (λ p. take_where recorded take_u32 bytes.now ≡ Some (p.0, p.1.now)) }
     ensures err { IfErr result (λ fault. (fault ≡ faults.Damaged None) × (take_where recorded take_u32 bytes.now ≡ None)) }
@@ -232,7 +232,7 @@ fn take_u32_where(recorded: bool, bytes: &[u8]) -> Result<(u32, &[u8]), Fault>
     take_u32(bytes)
 }
 
-/// The entry that stands first, and what follows it.
+/// Decodes the first entry; returns it, and the bytes after it.
 fn take_entry(recorded: Recorded, bytes: &[u8]) -> Result<(Entry, &[u8]), Fault>
     ensures ok { IfOk result (λ p. take_entry recorded.counts recorded.positions bytes.now ≡ Some (entry_of p.0, p.1.now)) }
     ensures err { IfErr result (λ fault. (fault ≡ faults.Damaged None) × (take_entry recorded.counts recorded.positions bytes.now ≡ None)) }
@@ -254,7 +254,7 @@ fn take_entry(recorded: Recorded, bytes: &[u8]) -> Result<(Entry, &[u8]), Fault>
     Ok((entry, rest))
 }
 
-/// Whether an entry is in its ranges, and of 128 documents from a least one on.
+/// Whether `entry` is in its ranges, and of 128 documents from `least` on.
 fn is_entry(recorded: Recorded, least: u64, entry: Entry) -> bool
     requires { least ≤ 2 ^ 32 }
     ensures { result ≡ is_entry recorded.counts recorded.positions least (entry_of entry) }
@@ -268,7 +268,7 @@ fn is_entry(recorded: Recorded, least: u64, entry: Entry) -> bool
         && (recorded.positions || entry.count_sum == 0)
 }
 
-/// Whether the bytes are so many entries, each in its ranges.
+/// Whether the bytes are `blocks` entries, each in its ranges.
 fn are_skips(recorded: Recorded, bytes: &[u8], blocks: u32) -> bool
     ensures { result ≡ are_skips recorded.counts recorded.positions blocks 0 bytes.now }
 {
@@ -287,7 +287,7 @@ fn are_skips(recorded: Recorded, bytes: &[u8], blocks: u32) -> bool
     rest.is_empty()
 }
 
-/// The entry that is known to stand first, and what follows it.
+/// Like `take_entry`, but for bytes that are known to begin with an entry.
 fn first_entry(recorded: Recorded, bytes: &[u8]) -> (Entry, &[u8])
     requires { IsSome (take_entry recorded.counts recorded.positions bytes.now) }
     ensures { take_entry recorded.counts recorded.positions bytes.now ≡ Some (entry_of result.0, result.1.now) }

@@ -1,4 +1,4 @@
-//! Skip entries, written as bytes.
+//! Skip entries, encoded as bytes.
 
 ghost use Rattle.std.specs.Prelude.{[], ◌++◌, ◌∷◌, ◌≡◌, OnOk};
 ghost use Rattle.definitions.specs.NumberCodes.{u32_bytes};
@@ -24,7 +24,7 @@ impl Model for SkipSerializer {
 }
 
 impl SkipSerializer {
-    /// No entry yet.
+    /// Returns a serializer without entries.
     pub fn new(alloc: Global) -> SkipSerializer
         ensures { result ≡ [] }
     {
@@ -42,7 +42,7 @@ impl SkipSerializer {
         Ok(())
     }
 
-    /// The width of the block's counts, where they are recorded.
+    /// Appends the width of the block's counts, where they are recorded.
     pub fn write_term_freq(&mut self, tf_num_bits: u8) -> Result<(), AllocError>
         ensures { OnOk result (self.new ≡ self.old ++ tf_num_bits ∷ []) }
     {
@@ -50,7 +50,7 @@ impl SkipSerializer {
         Ok(())
     }
 
-    /// The sum of the block's counts, where positions are recorded.
+    /// Appends the sum of the block's counts, where positions are recorded.
     pub fn write_total_term_freq(&mut self, tf_sum: u32) -> Result<(), AllocError>
         ensures { OnOk result (self.new ≡ self.old ++ u32_bytes tf_sum) }
     {
@@ -70,14 +70,14 @@ impl SkipSerializer {
         Ok(())
     }
 
-    /// The entries so far.
+    /// Returns the bytes of the entries so far.
     pub fn data(&self) -> &[u8]
         ensures { result.now ≡ self.now }
     {
         &self.buffer
     }
 
-    /// Takes every entry away.
+    /// Removes every entry.
     pub fn clear(&mut self)
         ensures { self.new ≡ [] }
     {

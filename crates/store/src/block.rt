@@ -12,7 +12,7 @@ use definitions::Fault;
 use layouts::Checkpoint;
 use std::ops::Range;
 
-/// The number of 32 bits at a place.
+/// Returns the number of 32 bits at the offset `at`.
 pub(crate) fn u32_at(bytes: &[u8], at: usize) -> u32
     requires { at + 4 ≤ length bytes.now }
     ensures { result ≡ number_at bytes.now at }
@@ -20,7 +20,7 @@ pub(crate) fn u32_at(bytes: &[u8], at: usize) -> u32
     u32::from_le_bytes([bytes[at], bytes[at + 1], bytes[at + 2], bytes[at + 3]])
 }
 
-/// Whether the numbers are the starts of documents with a given number of bytes.
+/// Whether the numbers are the starts of documents of `end` bytes in all.
 fn are_starts(starts: &[u8], end: usize) -> bool
     ensures { result ≡ are_starts end (numbers starts.now) }
 {
@@ -30,7 +30,7 @@ fn are_starts(starts: &[u8], end: usize) -> bool
     }
 }
 
-/// Whether the numbers don't fall, and none is past the end.
+/// Whether the numbers don't fall, and none is past `end`.
 fn ascend(starts: &[u8], end: usize) -> bool
     ensures { result ≡ ascend end 0 (numbers starts.now) }
 {
@@ -47,7 +47,7 @@ fn ascend(starts: &[u8], end: usize) -> bool
     at <= end
 }
 
-/// Whether the bytes are a block of a given number of documents.
+/// Whether the bytes are a block of `count` documents.
 pub(crate) fn is_block(bytes: &[u8], count: u32) -> bool
     ensures { IsTrue result ↔ IsBlockOf count bytes.now }
 {
@@ -60,7 +60,7 @@ pub(crate) fn is_block(bytes: &[u8], count: u32) -> bool
     u32_at(last, 0) == count && are_starts(starts, docs.len())
 }
 
-/// The block at a checkpoint, which is checked.
+/// Opens the block at the checkpoint `reach`, and checks it.
 pub(crate) fn open_block(whole: &Bytes, reach: &Checkpoint) -> Result<Bytes, Fault>
     requires within { (reach.now.byte_range.start ≤ reach.now.byte_range.end) × (reach.now.byte_range.end ≤ length whole.now) }
     requires docs { reach.now.doc_range.start ≤ reach.now.doc_range.end }
@@ -75,7 +75,7 @@ pub(crate) fn open_block(whole: &Bytes, reach: &Checkpoint) -> Result<Bytes, Fau
     Ok(block)
 }
 
-/// Where a document's bytes stand in its block.
+/// Returns the range of the bytes of the document at index `at` of its block.
 pub(crate) fn slot_range(block: &[u8], count: u32, at: u32) -> Range<usize>
     requires block { IsBlockOf count block.now }
     requires at { at < count }

@@ -17,7 +17,7 @@ use lru::LruCache;
 use std::alloc::{AllocError, Global};
 use std::num::NonZeroUsize;
 
-/// The kept blocks by their places, where any may be kept, and how many look-ups found theirs and how
+/// The kept blocks by their indices, where any may be kept, and how many look-ups found theirs and how
 /// many didn't.
 #[derive(Drop)]
 pub(crate) struct BlockCache {
@@ -26,7 +26,7 @@ pub(crate) struct BlockCache {
     misses: usize,
 }
 
-/// The block at a place, which becomes the last that was looked up.
+/// Returns the block at index `at`, which becomes the last that was looked up.
 fn look_up(cache: &mut LruCache<usize, Bytes>, at: usize) -> Result<Option<Bytes>, AllocError>
     ensures value { IfOk result (λ found. found ≡ lookup (nat_eq at) cache.old.entries) }
     ensures err { OnErr result (IsSome (lookup (nat_eq at) cache.old.entries)) }
@@ -39,7 +39,7 @@ fn look_up(cache: &mut LruCache<usize, Bytes>, at: usize) -> Result<Option<Bytes
 }
 
 impl BlockCache {
-    /// Without blocks, with room for a given number.
+    /// Returns a cache without blocks, with room for `capacity`.
     pub(crate) fn new(alloc: Global, capacity: usize) -> Result<BlockCache, AllocError>
         ensures kept { IfOk result (λ cache. kept_of cache ≡ none_kept capacity) }
         ensures entries { IfOk result (λ cache. entries_of cache ≡ []) }
@@ -56,7 +56,7 @@ impl BlockCache {
         })
     }
 
-    /// The block at a place, where it is kept. The look-up is counted.
+    /// Returns the block at index `at`, where it is kept. The look-up is counted.
     pub(crate) fn find(&mut self, at: usize) -> Result<Option<Bytes>, AllocError>
         ensures value { IfOk result (λ found. found ≡ lookup (nat_eq at) (entries_of self.old)) }
         ensures entries { (e : ℕ × List ℕ) → Contains (entries_of self.new) e → Contains (entries_of self.old) e }
@@ -84,7 +84,7 @@ impl BlockCache {
         }
     }
 
-    /// Keeps a block that was opened. A failed call changes nothing.
+    /// Keeps the `block` that was opened at index `at`. A failed call changes nothing.
     pub(crate) fn keep(&mut self, at: usize, block: Bytes) -> Result<(), AllocError>
         requires absent { lookup (nat_eq at) (entries_of self.old) ≡ None }
         requires room { HasRoom self.old }
@@ -99,7 +99,7 @@ impl BlockCache {
         Ok(())
     }
 
-    /// The block at a place, kept or else checked and then kept.
+    /// Returns the block at index `at`, kept or else checked and then kept.
     pub(crate) fn open(
         &mut self,
         whole: &Bytes,
@@ -126,7 +126,7 @@ impl BlockCache {
         Ok(block)
     }
 
-    /// How many blocks there are, and the counts of look-ups.
+    /// Returns how many blocks there are, and the counts of look-ups.
     pub(crate) fn stats(&self) -> CacheStats
         ensures { result ≡ stats_of (kept_of self.now) }
     {

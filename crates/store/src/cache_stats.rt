@@ -6,7 +6,7 @@ ghost use Rattle.store.specs.Caches.{no_stats, summed};
 use std::iter::Sum;
 use std::ops::AddAssign;
 
-/// What a cache of opened blocks holds, and how often it was asked. Sums end at the greatest number.
+/// What a cache of opened blocks holds, and how many look-ups there were. Sums saturate.
 #[derive(Clone, Copy, Debug, PartialEq, Eq)]
 pub struct CacheStats {
     /// How many blocks it holds.

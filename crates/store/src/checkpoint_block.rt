@@ -13,7 +13,7 @@ use std::alloc::{AllocError, Global};
 use std::marker::Model;
 use std::ops::Range;
 
-/// Checkpoints that stand in one group, seen as their list.
+/// The checkpoints of one group, seen as their list.
 #[derive(Drop)]
 pub struct CheckpointBlock {
     checkpoints: Vec<Checkpoint>,
@@ -29,7 +29,7 @@ impl Model for CheckpointBlock {
 }
 
 impl CheckpointBlock {
-    /// A group without checkpoints.
+    /// Returns a group without checkpoints.
     pub fn new(alloc: Global) -> CheckpointBlock
         ensures { result ≡ [] }
     {
@@ -38,7 +38,7 @@ impl CheckpointBlock {
         }
     }
 
-    /// From the first checkpoint's first document to the last one's end.
+    /// Returns the documents from the first checkpoint's first one to the last one's end.
     pub fn doc_interval(&self) -> Option<Range<u32>>
         ensures some { IfSome result (λ docs. (c : Reach) × (whole_of self.now ≡ c ∷ []) × (docs ≡ c.doc_range)) }
         ensures variant { is_some result ≡ nat_lt 0 (length self.now) }
@@ -49,7 +49,7 @@ impl CheckpointBlock {
         Some(whole_of(&self.checkpoints).doc_range)
     }
 
-    /// Adds a checkpoint at the end.
+    /// Appends a checkpoint.
     pub fn push(&mut self, checkpoint: Checkpoint) -> Result<(), AllocError>
         ensures ok { OnOk result (self.new ≡ self.old ++ checkpoint ∷ []) }
         ensures err { OnErr result (self.new ≡ self.old) }
@@ -58,14 +58,14 @@ impl CheckpointBlock {
         Ok(())
     }
 
-    /// How many checkpoints there are.
+    /// Returns how many checkpoints there are.
     pub fn len(&self) -> usize
         ensures { result ≡ length self.now }
     {
         self.checkpoints.len()
     }
 
-    /// The checkpoint at a place.
+    /// Returns the checkpoint at index `at`.
     pub fn get(&self, at: usize) -> &Checkpoint
         requires { at < length self.now }
         ensures { Some result.now ≡ slice_get self.now at }
@@ -73,21 +73,21 @@ impl CheckpointBlock {
         &self.checkpoints[at]
     }
 
-    /// Takes every checkpoint away.
+    /// Removes every checkpoint.
     pub fn clear(&mut self)
         ensures { self.new ≡ [] }
     {
         self.checkpoints.clear();
     }
 
-    /// Appends the group.
+    /// Appends the group to `out`.
     pub fn serialize(&self, out: &mut Vec<u8>) -> Result<(), AllocError>
         ensures { OnOk result (out.new.items ≡ out.old.items ++ group_bytes self.now) }
     {
         put_group(out, &self.checkpoints)
     }
 
-    /// Reads a group in place of the checkpoints, and answers what follows it. A failed call leaves none.
+    /// Decodes a group that replaces the checkpoints; returns the bytes after it. A failed call leaves no checkpoints.
     pub fn deserialize<'a>(&mut self, bytes: &'a [u8]) -> Result<&'a [u8], Fault>
         ensures ok { IfOk result (λ rest. IsGroup self.new × (bytes.now ≡ group_bytes self.new ++ rest.now)) }
         ensures err { IfErr result (λ fault. IsDamage fault ((cs : List Reach) (rest : List ℕ) → IsGroup cs → bytes.now ≡ group_bytes cs ++ rest → ⊥)) }

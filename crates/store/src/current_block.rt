@@ -1,4 +1,4 @@
-//! The block in which an iteration stands.
+//! The current block of an iteration.
 
 ghost use Rattle.std.specs.Prelude.{◌<◌, ◌≡◌, ◌≤◌, ◌⊎◌, Contains, Err, IfErr, IfOk, List, Ok, OnErr, OnOk, Some, length, nat_eq, ℕ};
 ghost use Rattle.definitions.specs.declared.fault.Fault.TheVariants as faults;
@@ -14,7 +14,7 @@ use bytes::Bytes;
 use definitions::Fault;
 use layouts::Checkpoint;
 
-/// The place of a block, and its bytes where it could be opened.
+/// The index of a block, and its bytes where it could be opened.
 #[derive(Drop)]
 pub(crate) struct CurrentBlock {
     pub(crate) at: usize,
@@ -22,7 +22,7 @@ pub(crate) struct CurrentBlock {
 }
 
 impl CurrentBlock {
-    /// The bytes, shared once more.
+    /// Shares the bytes, or returns the fault of the block.
     fn share(&self) -> Result<Bytes, Fault>
         ensures ok { IfOk result (λ bytes. self.now.block ≡ Ok bytes) }
         ensures err { IfErr result (λ fault. (fault ≡ faults.OutOfMemory) ⊎ (self.now.block ≡ Err fault)) }
@@ -34,8 +34,7 @@ impl CurrentBlock {
     }
 }
 
-/// The block at a place, which is opened where the iteration doesn't stand in it, and in which it then
-/// stands.
+/// Returns the block at index `at`, which is opened unless it is the current one, and which is the current one then.
 pub(crate) fn open_current(
     whole: &Bytes,
     cache: &mut BlockCache,

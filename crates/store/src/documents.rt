@@ -1,4 +1,4 @@
-//! Documents in a store: put by their stored pairs, and read from their slots.
+//! Documents in a store: encoded by their stored pairs, and decoded from their slots.
 
 ghost use Rattle.std.specs.Prelude.{[], ◌<◌, ◌≡◌, ◌≤◌, ◌⊎◌, IfErr, IfOk, List, OnErr, OnOk, Some, false, length, true, slice_index_or, ℕ};
 ghost use Rattle.definitions.specs.Stored.{stored_pairs};
@@ -19,7 +19,7 @@ use schema::Schema;
 use std::alloc::Global;
 
 impl StoreWriter {
-    /// Adds the pairs of stored fields of a document. A refused call changes nothing.
+    /// Adds the pairs of stored fields of `doc`. A refused call changes nothing.
     pub fn store(&mut self, alloc: Global, doc: &CompactDoc, schema: &Schema) -> Result<(), Fault>
         ensures ok { OnOk result (self.new ≡ stored self.old (document_bytes (stored_pairs schema.now doc.now))) }
         ensures within { OnOk result (passes_limit self.old (length (document_bytes (stored_pairs schema.now doc.now))) ≡ false) }
@@ -32,8 +32,8 @@ impl StoreWriter {
 }
 
 impl StoreReader {
-    /// A document by its number. An id past the end is `InvalidArgument`; a damaged block, and a slot that is no
-    /// document, are `Damaged`.
+    /// Returns the document with the id `doc`. An id past the end is `InvalidArgument`; a damaged block, and a slot
+    /// that is no document, are `Damaged`.
     pub fn get(&mut self, alloc: Global, doc: u32) -> Result<CompactDoc, Fault>
         ensures ok { IfOk result (λ read. HasDocument self.old.blocks doc read) }
         ensures err { IfErr result (λ fault. IsGetFault self.old.blocks doc fault) }

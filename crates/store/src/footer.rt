@@ -31,7 +31,7 @@ impl fmt::Display for DocStoreVersion {
 /// The end of a store, 28 bytes.
 #[derive(Clone, Copy, Debug, PartialEq, Eq)]
 pub struct DocStoreFooter {
-    /// The byte at which the skip index starts.
+    /// The offset of the skip index.
     pub offset: u64,
 }
 
@@ -39,14 +39,14 @@ impl DocStoreFooter {
     /// How many bytes a footer has.
     pub const LEN: usize = 28;
 
-    /// The footer of a store whose skip index starts at a byte.
+    /// Returns the footer of a store whose skip index starts at `offset`.
     pub fn new(offset: u64) -> DocStoreFooter
         ensures { result.offset ≡ offset }
     {
         DocStoreFooter { offset }
     }
 
-    /// Appends the footer.
+    /// Appends the footer to `out`.
     pub fn serialize(&self, out: &mut Vec<u8>) -> Result<(), AllocError>
         ensures { OnOk result (out.new.items ≡ out.old.items ++ footer_bytes self.now.offset) }
     {
@@ -57,7 +57,7 @@ impl DocStoreFooter {
         Ok(())
     }
 
-    /// A footer of the version that is read, and what follows it.
+    /// Decodes a footer of the version that is read; returns it, and the bytes after it.
     pub fn deserialize(bytes: &[u8]) -> Result<(DocStoreFooter, &[u8]), Fault>
         ensures ok { IfOk result (λ p. bytes.now ≡ footer_bytes p.0.offset ++ p.1.now) }
         ensures err { IfErr result (λ fault. (fault ≡ faults.Damaged None) × ((at : ℕ) (rest : List ℕ) → at < 2 ^ 64 → bytes.now ≡ footer_bytes at ++ rest → ⊥)) }
@@ -65,7 +65,7 @@ impl DocStoreFooter {
         take_footer(bytes)
     }
 
-    /// The footer at the end of a store, and the bytes before it.
+    /// Decodes the footer at the end of `file`; returns it, and the bytes before it.
     pub fn extract_footer(file: &[u8]) -> Result<(DocStoreFooter, &[u8]), Fault>
         ensures ok { IfOk result (λ p. file.now ≡ p.1.now ++ footer_bytes p.0.offset) }
         ensures err { IfErr result (λ fault. (fault ≡ faults.Damaged None) × ((at : ℕ) (body : List ℕ) → at < 2 ^ 64 → file.now ≡ body ++ footer_bytes at → ⊥)) }
@@ -81,7 +81,7 @@ impl DocStoreFooter {
     }
 }
 
-/// A footer, and what follows it.
+/// Decodes a footer; returns it, and the bytes after it.
 fn take_footer(bytes: &[u8]) -> Result<(DocStoreFooter, &[u8]), Fault>
     ensures ok { IfOk result (λ p. take_footer bytes.now ≡ Some (p.0.offset, p.1.now)) }
     ensures err { IfErr result (λ fault. (fault ≡ faults.Damaged None) × (take_footer bytes.now ≡ None)) }

@@ -1,4 +1,4 @@
-//! Groups of checkpoints, as they are put and taken back.
+//! Groups of checkpoints, encoded and decoded.
 
 ghost use Rattle.std.specs.Prelude.{◌++◌, ◌+◌, ◌<◌, ◌≡◌, ◌≤◌, ◌^◌, ◌∷◌, [], IfErr, IfOk, List, None, OnOk, Some, flat_map, length, ℕ};
 ghost use Rattle.definitions.specs.declared.fault.Fault.TheVariants as faults;
@@ -11,7 +11,7 @@ use definitions::Fault;
 use layouts::Checkpoint;
 use std::alloc::AllocError;
 
-/// One extent, and what follows it.
+/// Decodes one extent from `doc` and `byte` on; returns it, and the bytes after it.
 fn take_extent(doc: u32, byte: usize, bytes: &[u8]) -> Result<(Checkpoint, &[u8]), Fault>
     ensures ok { IfOk result (λ p. take_extent doc byte bytes.now ≡ Some (p.0, p.1.now)) }
     ensures err { IfErr result (λ fault. (fault ≡ faults.Damaged None) × (take_extent doc byte bytes.now ≡ None)) }
@@ -28,7 +28,7 @@ fn take_extent(doc: u32, byte: usize, bytes: &[u8]) -> Result<(Checkpoint, &[u8]
     Ok((reach, rest))
 }
 
-/// Appends a given number of checkpoints from a document and a byte on, and answers what follows them.
+/// Decodes `count` checkpoints from `first_doc` and `first_byte` on into `out`; returns the bytes after them.
 fn take_extents<'a>(
     out: &mut Vec<Checkpoint>,
     count: u64,
@@ -54,7 +54,7 @@ fn take_extents<'a>(
     Ok(rest)
 }
 
-/// Appends a group's checkpoints, and answers what follows the group.
+/// Decodes the checkpoints of a group, appending them to `out`; returns the bytes after the group.
 pub(crate) fn take_group<'a>(out: &mut Vec<Checkpoint>, bytes: &'a [u8]) -> Result<&'a [u8], Fault>
     ensures ok { IfOk result (λ rest. (cs : List Reach) × (take_group bytes.now ≡ Some (cs, rest.now)) × (out.new.items ≡ out.old.items ++ cs)) }
     ensures err { IfErr result (λ fault. IsDamage fault (take_group bytes.now ≡ None)) }
@@ -71,7 +71,7 @@ pub(crate) fn take_group<'a>(out: &mut Vec<Checkpoint>, bytes: &'a [u8]) -> Resu
     take_extents(out, count, doc as u32, byte as usize, rest)
 }
 
-/// Appends how many documents and how many bytes a block has.
+/// Appends how many documents and how many bytes the block at `reach` has.
 fn put_extent(out: &mut Vec<u8>, reach: &Checkpoint) -> Result<(), AllocError>
     ensures { OnOk result (out.new.items ≡ out.old.items ++ extent_bytes reach.now) }
 {
@@ -85,7 +85,7 @@ fn put_extent(out: &mut Vec<u8>, reach: &Checkpoint) -> Result<(), AllocError>
     )
 }
 
-/// Appends a group.
+/// Appends the bytes of `group`.
 pub(crate) fn put_group(out: &mut Vec<u8>, group: &[Checkpoint]) -> Result<(), AllocError>
     ensures { OnOk result (out.new.items ≡ out.old.items ++ group_bytes group.now) }
 {

@@ -1,4 +1,4 @@
-//! Documents are added to the fields of a writer, and blocks closed.
+//! The pending documents of a writer, and how they become blocks.
 
 ghost use Rattle.std.specs.Prelude.{◌++◌, ◌+◌, ◌<◌, ◌≡◌, ◌≤◌, ◌^◌, ◌∷◌, [], List, OnErr, OnOk, length, ℕ};
 ghost use Rattle.std.specs.List.{concat};
@@ -10,7 +10,7 @@ use layouts::Checkpoint;
 use std::alloc::{AllocError, Global};
 
 impl Parts {
-    /// Without blocks and documents.
+    /// Returns parts without blocks and documents.
     pub(crate) fn new(alloc: Global) -> Parts
         ensures { Stand result [] [] }
     {
@@ -36,7 +36,7 @@ impl Parts {
         Ok(())
     }
 
-    /// Takes the last pending document away.
+    /// Removes the last pending document.
     pub(crate) fn remove_last(&mut self)
         requires { (bs : List Block) × (ds : List (List ℕ)) × (doc : List ℕ) × Stand self.old bs (ds ++ doc ∷ []) }
         ensures { (bs : List Block) (ds : List (List ℕ)) (doc : List ℕ) → Stand self.old bs (ds ++ doc ∷ []) → Stand self.new bs ds }

@@ -1,4 +1,4 @@
-//! The skip index of a store: where the block of a document stands.
+//! The skip index of a store: where the block of a document lies.
 
 ghost use Rattle.std.specs.Prelude.{◌++◌, ◌<◌, ◌≡◌, ◌^◌, ◌↔◌, IfErr, IfNone, IfOk, IfSome, IsTrue, List, None, OnOk, Some, find, option_copied, slice_get};
 ghost use Rattle.definitions.specs.declared.fault.Fault.TheVariants as faults;
@@ -19,7 +19,7 @@ use std::marker::Model;
 /// The greatest number of documents of a store.
 pub(crate) const MAX_DOCS: u32 = 2147483647;
 
-/// The last of a given number of numbers, and what follows them.
+/// Decodes `count` numbers; returns the last, and the bytes after them.
 fn take_last(count: u64, bytes: &[u8]) -> Result<(u64, &[u8]), Fault>
     ensures ok { IfOk result (λ p. take_last count 0 bytes.now ≡ Some (p.0, p.1.now)) }
     ensures err { IfErr result (λ fault. (fault ≡ faults.Damaged None) × (take_last count 0 bytes.now ≡ None)) }
@@ -36,7 +36,7 @@ fn take_last(count: u64, bytes: &[u8]) -> Result<(u64, &[u8]), Fault>
     Ok((last, rest))
 }
 
-/// The bytes of the lowest layer.
+/// Returns the bytes of the lowest layer.
 fn lowest_layer(bytes: &[u8]) -> Result<&[u8], Fault>
     ensures ok { IfOk result (λ lowest. lowest_of bytes.now ≡ Some lowest.now) }
     ensures err { IfErr result (λ fault. (fault ≡ faults.Damaged None) × (lowest_of bytes.now ≡ None)) }
@@ -49,7 +49,7 @@ fn lowest_layer(bytes: &[u8]) -> Result<&[u8], Fault>
     Ok(rest.split_at(rest.len() - last as usize).1)
 }
 
-/// Appends the checkpoints of a layer.
+/// Decodes the checkpoints of a layer, appending them to `out`.
 fn take_layer(out: &mut Vec<Checkpoint>, bytes: &[u8]) -> Result<(), Fault>
     ensures ok { (cs : List Reach) → IsGroup cs → bytes.now ≡ layer_bytes cs → OnOk result (out.new.items ≡ out.old.items ++ cs) }
     ensures err { IfErr result (λ fault. IsDamage fault ((cs : List Reach) → IsGroup cs → bytes.now ≡ layer_bytes cs → ⊥)) }
@@ -62,7 +62,7 @@ fn take_layer(out: &mut Vec<Checkpoint>, bytes: &[u8]) -> Result<(), Fault>
     Ok(())
 }
 
-/// Whether a checkpoint begins at a document and a byte, and holds a document.
+/// Whether `reach` begins at `doc` and `byte`, and holds a document.
 fn follows(doc: u32, byte: usize, reach: &Checkpoint) -> bool
     ensures value { result ≡ follows doc byte reach.now }
     ensures fits { reach.now.byte_range.end < 2 ^ 64 }
@@ -74,7 +74,7 @@ fn follows(doc: u32, byte: usize, reach: &Checkpoint) -> bool
         && byte <= byte_end
 }
 
-/// Whether checkpoints adjoin from the first document and byte, up to the limit.
+/// Whether `checkpoints` adjoin from the first document and byte on, up to the limit.
 fn are_checkpoints(checkpoints: &[Checkpoint]) -> bool
     ensures { result ≡ adjoins 0 0 checkpoints.now }
 {
@@ -90,7 +90,7 @@ fn are_checkpoints(checkpoints: &[Checkpoint]) -> bool
     doc <= MAX_DOCS
 }
 
-/// How many documents the blocks at checkpoints hold.
+/// Returns how many documents the blocks at `checkpoints` hold.
 pub(crate) fn doc_end(checkpoints: &[Checkpoint]) -> u32
     ensures { result ≡ doc_end 0 checkpoints.now }
 {
@@ -100,7 +100,7 @@ pub(crate) fn doc_end(checkpoints: &[Checkpoint]) -> u32
     }
 }
 
-/// Whether the bytes are the same.
+/// Whether `a` and `b` are equal.
 fn are_same(a: &[u8], b: &[u8]) -> bool
     ensures { IsTrue result ↔ (a.now ≡ b.now) }
 {
@@ -126,7 +126,7 @@ impl Model for SkipIndex {
 }
 
 impl SkipIndex {
-    /// Reads a skip index, and checks it whole.
+    /// Opens a skip index, and checks it whole.
     pub fn open(alloc: Global, bytes: &[u8]) -> Result<SkipIndex, Fault>
         ensures ok { IfOk result (λ index. IsSkipIndex index bytes.now) }
         ensures err { IfErr result (λ fault. IsDamage fault ((cs : List Reach) → IsSkipIndex cs bytes.now → ⊥)) }
@@ -145,7 +145,7 @@ impl SkipIndex {
         Ok(SkipIndex { checkpoints })
     }
 
-    /// The checkpoints in order.
+    /// Returns the checkpoints in order.
     pub fn checkpoints(&self) -> &[Checkpoint]
         ensures all { result.now ≡ self.now }
         ensures valid { AreCheckpoints self.now }
@@ -153,7 +153,7 @@ impl SkipIndex {
         &self.checkpoints
     }
 
-    /// The first checkpoint whose documents end past the target, found by halving.
+    /// Returns the first checkpoint whose documents end past `target`, by binary search.
     pub fn seek(&self, target: u32) -> Option<&Checkpoint>
         ensures { option_copied result ≡ find (passes target) self.now }
     {
@@ -165,14 +165,14 @@ impl SkipIndex {
         }
     }
 
-    /// How many documents the blocks hold.
+    /// Returns how many documents the blocks hold.
     pub(crate) fn doc_end(&self) -> u32
         ensures { result ≡ doc_end 0 self.now }
     {
         doc_end(&self.checkpoints)
     }
 
-    /// How many bytes the blocks have.
+    /// Returns how many bytes the blocks have.
     pub(crate) fn byte_end(&self) -> usize
         ensures { result ≡ byte_end 0 self.now }
     {
@@ -182,7 +182,7 @@ impl SkipIndex {
         }
     }
 
-    /// The block of a document: its number, and its checkpoint.
+    /// Returns the block of `doc`: its index, and its checkpoint.
     pub(crate) fn find_block(&self, doc: u32) -> Option<(usize, &Checkpoint)>
         ensures some { IfSome result (λ p. (p.0 ≡ position_or_len (passes doc) self.now) × (slice_get self.now p.0 ≡ Some p.1.now)) }
         ensures none { IfNone result (slice_get self.now (position_or_len (passes doc) self.now) ≡ None) }
@@ -195,7 +195,7 @@ impl SkipIndex {
         }
     }
 
-    /// How many blocks end at or before the target.
+    /// Returns how many blocks end at or before `target`.
     pub(crate) fn block_of(&self, target: u32) -> usize
         ensures { result ≡ position_or_len (passes target) self.now }
     {

@@ -1,4 +1,4 @@
-//! The skip index of a store while its blocks are written, and how it is spelled.
+//! The skip index of a store while its blocks are written, and how it is encoded.
 
 ghost use Rattle.std.specs.Prelude.{◌++◌, ◌+◌, ◌<◌, ◌≡◌, ◌≤◌, ◌^◌, ◌∷◌, [], IfErr, IfOk, List, None, OnErr, OnOk, Some, flat_map, length, ℕ};
 ghost use Rattle.definitions.specs.NumberCodes.{vint_bytes};
@@ -14,7 +14,7 @@ use std::marker::Model;
 /// How many checkpoints a group has.
 const GROUP_LEN: usize = 8;
 
-/// Appends a layer's groups.
+/// Appends the groups of `layer`.
 fn put_layer(out: &mut Vec<u8>, layer: &[Checkpoint]) -> Result<(), AllocError>
     ensures { OnOk result (out.new.items ≡ out.old.items ++ layer_bytes layer.now) }
 {
@@ -27,7 +27,7 @@ fn put_layer(out: &mut Vec<u8>, layer: &[Checkpoint]) -> Result<(), AllocError>
     Ok(())
 }
 
-/// A group's documents and bytes as one checkpoint.
+/// Returns the documents and bytes of `group` as one checkpoint.
 pub(crate) fn whole_of(group: &[Checkpoint]) -> Checkpoint
     requires { 0 < length group.now }
     ensures { whole_of group.now ≡ result ∷ [] }
@@ -40,7 +40,7 @@ pub(crate) fn whole_of(group: &[Checkpoint]) -> Checkpoint
     }
 }
 
-/// The layer above: one checkpoint for each group.
+/// Returns the layer above `layer`: one checkpoint for each group.
 fn layer_above(alloc: Global, layer: &[Checkpoint]) -> Result<Vec<Checkpoint>, AllocError>
     ensures { IfOk result (λ higher. higher.items ≡ above layer.now) }
 {
@@ -54,7 +54,7 @@ fn layer_above(alloc: Global, layer: &[Checkpoint]) -> Result<Vec<Checkpoint>, A
     Ok(higher)
 }
 
-/// Appends one layer, and its length.
+/// Appends `layer` to `body`, and its length to `lengths`.
 fn put_one_layer(
     lengths: &mut Vec<usize>,
     body: &mut Vec<u8>,
@@ -69,7 +69,7 @@ fn put_one_layer(
     Ok(())
 }
 
-/// Appends the layers over the lowest one, from the top, and the length of each.
+/// Appends `layer` and the layers above it, from the top, and the length of each.
 fn put_layers(
     alloc: Global,
     lengths: &mut Vec<usize>,
@@ -91,7 +91,7 @@ fn put_layers(
     Ok(())
 }
 
-/// Appends how many lengths there are, and then these.
+/// Appends the number of `lengths`, and then these.
 fn put_lengths(out: &mut Vec<u8>, lengths: &[usize]) -> Result<(), AllocError>
     ensures { OnOk result (out.new.items ≡ out.old.items ++ (vint_bytes (length lengths.now) ++ flat_map vint_bytes lengths.now)) }
 {
@@ -102,7 +102,7 @@ fn put_lengths(out: &mut Vec<u8>, lengths: &[usize]) -> Result<(), AllocError>
     Ok(())
 }
 
-/// Appends the skip index over its lowest layer.
+/// Appends the skip index whose lowest layer is `checkpoints`.
 pub(crate) fn put_skip_index(
     alloc: Global,
     out: &mut Vec<u8>,
@@ -134,7 +134,7 @@ impl Model for SkipIndexBuilder {
 }
 
 impl SkipIndexBuilder {
-    /// A builder without checkpoints.
+    /// Returns a builder without checkpoints.
     pub fn new(alloc: Global) -> SkipIndexBuilder
         ensures { result ≡ [] }
     {
@@ -143,7 +143,7 @@ impl SkipIndexBuilder {
         }
     }
 
-    /// Adds a checkpoint at the end.
+    /// Appends a checkpoint.
     pub fn insert(&mut self, checkpoint: Checkpoint) -> Result<(), AllocError>
         ensures ok { OnOk result (self.new ≡ self.old ++ checkpoint ∷ []) }
         ensures err { OnErr result (self.new ≡ self.old) }
@@ -152,7 +152,7 @@ impl SkipIndexBuilder {
         Ok(())
     }
 
-    /// Appends the skip index over the checkpoints.
+    /// Appends the skip index over the checkpoints to `out`.
     pub fn serialize_into(&self, alloc: Global, out: &mut Vec<u8>) -> Result<(), AllocError>
         ensures { OnOk result (out.new.items ≡ out.old.items ++ skip_index_bytes self.now) }
     {

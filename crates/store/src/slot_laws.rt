@@ -10,7 +10,7 @@ pub fn documents_append_slots()
     ensures { (w : Written) (slots : List (List ℕ)) (doc : List ℕ) → AreWritten w.block_size w.blocks w.pending → HoldsSlots w slots → passes_limit w (length doc) ≡ false → HoldsSlots (stored w doc) (slots ++ doc ∷ []) }
 {}
 
-/// Stacking a store appends its slots, in whatever blocks they stand.
+/// Stacking a store appends its slots, in whatever blocks they are.
 pub fn stacked_stores_append_slots()
     ensures { (w : Written) (slots more : List (List ℕ)) (blocks : List Block) → AreWritten w.block_size w.blocks w.pending → HoldsSlots w slots → Hold blocks more → HoldsSlots (stacked w blocks) (slots ++ more) }
 {}

@@ -1,4 +1,4 @@
-//! Another store's blocks are appended to the fields of a writer.
+//! How another store's blocks are appended to the fields of a writer.
 
 ghost use Rattle.std.specs.Prelude.{◌++◌, ◌+◌, ◌<◌, ◌≡◌, ◌≤◌, ◌^◌, [], List, OnErr, OnOk, IfOk, All, length, map, take, ℕ};
 ghost use Rattle.layouts.specs.Stores.{Adjoin, Block, byte_end, checkpoints, data_of, doc_end, max_docs};
@@ -10,7 +10,7 @@ use crate::writer_fields::{Parts, put_block_end};
 use layouts::Checkpoint;
 use std::alloc::AllocError;
 
-/// A checkpoint moved on by a number of documents and of bytes.
+/// Returns `reach` moved on by `docs` documents and `bytes` bytes.
 fn shifted(reach: &Checkpoint, docs: u32, bytes: usize) -> Checkpoint
     requires { FitsShifted docs bytes reach.now }
     ensures { result ≡ shifted docs bytes reach.now }
@@ -21,7 +21,7 @@ fn shifted(reach: &Checkpoint, docs: u32, bytes: usize) -> Checkpoint
     }
 }
 
-/// Appends checkpoints moved on by a number of documents and of bytes.
+/// Appends `reaches`, each moved on by `docs` documents and `bytes` bytes.
 fn put_shifted(
     out: &mut Vec<Checkpoint>,
     reaches: &[Checkpoint],
@@ -39,8 +39,7 @@ fn put_shifted(
 }
 
 impl Parts {
-    /// Puts the end of the pending documents' block and its checkpoint, where there are any, and answers
-    /// how many documents and bytes the blocks then have. The documents are still pending.
+    /// Ends the block of any pending documents, which stay pending; returns the documents and bytes of the blocks then.
     fn put_pending(&mut self) -> Result<(u32, usize), AllocError>
         requires { (bs : List Block) × (ds : List (List ℕ)) × Stand self.old bs ds × (count_of bs + length ds ≤ max_docs) }
         ensures ok { (bs : List Block) (ds : List (List ℕ)) → Stand self.old bs ds → IfOk result (λ ends. IsShut self.new (blocks_of (written bs ds 0)) ends) }
@@ -59,7 +58,7 @@ impl Parts {
         Ok(ends)
     }
 
-    /// Makes a block of the pending documents, and appends the bytes and the checkpoints of blocks.
+    /// Makes a block of the pending documents, and appends the blocks of `bytes` with the checkpoints `reaches`.
     fn append(&mut self, bytes: &[u8], reaches: &[Checkpoint]) -> Result<(), AllocError>
         requires stands { (bs : List Block) × (ds : List (List ℕ)) × Stand self.old bs ds × (count_of bs + length ds + doc_end 0 reaches.now ≤ max_docs) }
         requires run { Adjoin 0 0 reaches.now }
@@ -77,7 +76,7 @@ impl Parts {
         Ok(())
     }
 
-    /// The same. A failed call changes nothing.
+    /// Like `append`, but a failed call changes nothing.
     pub(crate) fn stack(&mut self, bytes: &[u8], reaches: &[Checkpoint]) -> Result<(), AllocError>
         requires stands { (bs : List Block) × (ds : List (List ℕ)) × Stand self.old bs ds × (count_of bs + length ds + doc_end 0 reaches.now ≤ max_docs) }
         requires run { Adjoin 0 0 reaches.now }

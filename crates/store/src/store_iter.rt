@@ -22,7 +22,7 @@ pub struct StoreIter<'a> {
 impl<'a> StoreIter<'a> {
     ghost use Rattle.store.specs.Iterations.{flags_of, place_of, reader_of};
 
-    /// The next document that is due.
+    /// Returns the next document that is due.
     fn due(&self) -> Option<u32>
         ensures first { IsFirst (is_due (count_of (reader_of self.now).blocks) (flags_of self.now)) (place_of self.now) result }
         ensures within { IfSome result (λ doc. (doc < count_of (reader_of self.now).blocks) × (count_of (reader_of self.now).blocks < 2 ^ 32)) }

@@ -1,4 +1,4 @@
-//! Reading a store: documents by their numbers, from blocks that are opened when they are reached.
+//! The reader of a store: documents by their ids, from blocks that are opened when they are reached.
 
 ghost use Rattle.std.specs.Prelude.{[], ◌-◌, ◌<◌, ◌≡◌, ◌≤◌, IfErr, IfOk, List, None, OnErr, OnOk, Some, length, option_map, slice_index_or, ℕ};
 ghost use Rattle.layouts.specs.Stores.{AreBlocks, Hold, IsBlock, IsStore, checkpoints, data_of, store_bytes};
@@ -23,7 +23,7 @@ use layouts::Checkpoint;
 use std::alloc::Global;
 use std::marker::Model;
 
-/// A store that is read. Its blocks are parts of one shared run of bytes, and are checked when they are
+/// A reader of a store. Its blocks are parts of one shared run of bytes, and are checked when they are
 /// reached; the last of them are kept.
 #[derive(Drop)]
 pub struct StoreReader {
@@ -47,7 +47,7 @@ impl Model for StoreReader {
     ghost invariant = { λ r. IsReader r.whole r.index r.cache × IsCurrent r.whole r.index r.current };
 }
 
-/// Where the skip index of a store starts, and the skip index.
+/// Opens the skip index of a store; returns its offset, and the index.
 fn open_index(alloc: Global, file: &[u8]) -> Result<(usize, SkipIndex), Fault>
     ensures ok { IfOk result (λ p. IsFile p.0 p.1 file.now) }
     ensures err { IfErr result (λ fault. IsDamage fault (IsNoStore file.now)) }
@@ -64,7 +64,7 @@ fn open_index(alloc: Global, file: &[u8]) -> Result<(usize, SkipIndex), Fault>
     Ok((blocks.len(), index))
 }
 
-/// A document's bytes in its block.
+/// Returns the bytes of `doc` in its block.
 fn slot_of(block: Bytes, reach: &Checkpoint, doc: u32) -> Bytes
     requires block { IsBlockOf (reach.now.doc_range.end - reach.now.doc_range.start) block }
     requires doc { (reach.now.doc_range.start ≤ doc) × (doc < reach.now.doc_range.end) }
@@ -81,7 +81,8 @@ fn slot_of(block: Bytes, reach: &Checkpoint, doc: u32) -> Bytes
 impl StoreReader {
     ghost use Rattle.store.specs.Iterations.{flags_of, place_of, reader_of};
 
-    /// Reads a store. Its footer and its skip index are checked whole; its blocks aren't.
+    /// Opens a store that keeps `cache_num_blocks` blocks at most. Its footer and its skip index are checked whole; its
+    /// blocks aren't.
     pub fn open(alloc: Global, file: Bytes, cache_num_blocks: usize) -> Result<StoreReader, Fault>
         ensures ok { IfOk result (λ r. AreBlocks r.blocks × (file ≡ store_bytes r.blocks)) }
         ensures kept { IfOk result (λ r. r.kept ≡ none_kept cache_num_blocks) }
@@ -100,7 +101,7 @@ impl StoreReader {
         })
     }
 
-    /// How many documents there are.
+    /// Returns how many documents there are.
     pub fn num_docs(&self) -> u32
         ensures count { result ≡ count_of self.now.blocks }
         ensures valid { AreBlocks self.now.blocks }
@@ -108,21 +109,21 @@ impl StoreReader {
         self.index.doc_end()
     }
 
-    /// The bytes of the blocks.
+    /// Returns the bytes of the blocks.
     pub(crate) fn bytes(&self) -> &[u8]
         ensures { result.now ≡ data_of self.now.blocks }
     {
         self.whole.as_slice()
     }
 
-    /// The checkpoints of the blocks.
+    /// Returns the checkpoints of the blocks.
     pub(crate) fn checkpoints(&self) -> &[Checkpoint]
         ensures { result.now ≡ checkpoints 0 0 self.now.blocks }
     {
         self.index.checkpoints()
     }
 
-    /// A document's bytes, which are shared with the store.
+    /// Returns the bytes of `doc`, which are shared with the store.
     pub fn get_document_bytes(&mut self, doc: u32) -> Result<Bytes, Fault>
         ensures ok { IfOk result (HasSlot self.old.blocks doc) }
         ensures err { IfErr result (IsSlotFault self.old.blocks doc) }
@@ -141,7 +142,8 @@ impl StoreReader {
         Ok(slot_of(block, reach, doc))
     }
 
-    /// The same without the cache: the block is checked anew, none is kept, and no look-up is counted.
+    /// Like `get_document_bytes`, but without the cache: the block is checked anew, none is kept, and no look-up is
+    /// counted.
     pub fn read_document_bytes(&self, doc: u32) -> Result<Bytes, Fault>
         ensures ok { IfOk result (HasSlot self.now.blocks doc) }
         ensures err { IfErr result (IsSlotFault self.now.blocks doc) }
@@ -155,8 +157,7 @@ impl StoreReader {
         Ok(slot_of(block, reach, doc))
     }
 
-    /// The bytes of an iteration's next document. Its block is looked up where the iteration doesn't stand
-    /// in it.
+    /// Returns the bytes of an iteration's next document `doc`. Its block is looked up unless it is the current one.
     pub(crate) fn next_slot(&mut self, doc: u32) -> Result<Bytes, Fault>
         requires { doc < count_of self.old.blocks }
         ensures ok { IfOk result (HasSlot self.old.blocks doc) }
@@ -183,7 +184,7 @@ impl StoreReader {
         }
     }
 
-    /// The documents in order, or those of them that are alive; a document past the alive set isn't. A
+    /// Returns the documents in order, or those of them that are alive; a document past the alive set isn't. A
     /// block is looked up once, when a document of it is reached.
     pub fn iter<'a>(&'a mut self, alive_bitset: Option<&'a AliveBitSet>) -> StoreIter<'a>
         ensures place { place_of result ≡ 0 }
@@ -198,7 +199,7 @@ impl StoreReader {
         }
     }
 
-    /// How many blocks are kept, and how many look-ups found theirs and how many didn't.
+    /// Returns how many blocks are kept, and how many look-ups found theirs and how many didn't.
     pub fn cache_stats(&self) -> CacheStats
         ensures { result ≡ stats_of self.now.kept }
     {

@@ -1,4 +1,4 @@
-//! Writing a store: documents are appended, and their blocks closed by size.
+//! The writer of a store: documents are appended, and their blocks closed by size.
 
 ghost use Rattle.std.specs.Prelude.{◌≡◌, [], IfErr, IfOk, OnErr, OnOk, false, length};
 ghost use Rattle.layouts.specs.Stores.{store_bytes};
@@ -32,7 +32,7 @@ impl Model for StoreWriter {
 }
 
 impl StoreWriter {
-    /// A store without documents. A block is closed when its documents' bytes come over the block size.
+    /// Returns a store without documents. A block is closed when its documents' bytes exceed `block_size`.
     pub fn new(alloc: Global, block_size: usize) -> StoreWriter
         ensures { result ≡ written [] [] block_size }
     {
@@ -42,7 +42,7 @@ impl StoreWriter {
         }
     }
 
-    /// How many documents there are.
+    /// Returns how many documents there are.
     pub fn num_docs(&self) -> u32
         ensures count { result ≡ docs_of self.now }
         ensures valid { AreWritten self.now.block_size self.now.blocks self.now.pending }
@@ -50,7 +50,7 @@ impl StoreWriter {
         self.parts.first_doc + self.parts.starts.len() as u32
     }
 
-    /// Whether a document of a given number of bytes would pass a limit.
+    /// Whether a document of `len` bytes would pass a limit.
     fn passes_limit(&self, len: usize) -> bool
         ensures { result ≡ passes_limit self.now len }
     {
@@ -81,7 +81,7 @@ impl StoreWriter {
         }
     }
 
-    /// Appends the documents of a store, by its blocks, after those that are pending. A refused call
+    /// Appends the documents of `store`, by its blocks, after those that are pending. A refused call
     /// changes nothing.
     pub fn stack(&mut self, store: &StoreReader) -> Result<(), Fault>
         ensures ok { OnOk result (self.new ≡ stacked self.old store.now.blocks) }
@@ -97,7 +97,7 @@ impl StoreWriter {
         Ok(())
     }
 
-    /// The bytes of the store. The pending documents become its last block.
+    /// Returns the bytes of the store. The pending documents become its last block.
     pub fn close(self, alloc: Global) -> Result<Vec<u8>, AllocError>
         ensures { IfOk result (λ bytes. bytes.items ≡ store_bytes (blocks_of self)) }
     {

@@ -17,7 +17,7 @@ pub(crate) struct Parts {
     pub(crate) first_byte: usize,
 }
 
-/// Appends the numbers, and how many they are. A failed call leaves what stood there.
+/// Appends `starts`, and how many they are. A failed call leaves the bytes that were there.
 fn put_starts(out: &mut Vec<u8>, starts: &[u32]) -> Result<(), AllocError>
     requires { length starts.now < 2 ^ 32 }
     ensures ok { OnOk result (out.new.items ≡ out.old.items ++ (flat_map u32_bytes starts.now ++ u32_bytes (length starts.now))) }
@@ -30,7 +30,7 @@ fn put_starts(out: &mut Vec<u8>, starts: &[u32]) -> Result<(), AllocError>
     Ok(())
 }
 
-/// Appends where documents start, and how many they are. A failed call changes nothing.
+/// Appends the `starts` of documents, and how many they are. A failed call changes nothing.
 pub(crate) fn put_block_end(out: &mut Vec<u8>, starts: &[u32]) -> Result<(), AllocError>
     requires { length starts.now < 2 ^ 32 }
     ensures ok { OnOk result (out.new.items ≡ out.old.items ++ (flat_map u32_bytes starts.now ++ u32_bytes (length starts.now))) }

@@ -6,7 +6,7 @@ use common::Score;
 use serde_json::{Value, json};
 use std::alloc::{AllocError, Global};
 
-/// A value, what it is, and what it follows from.
+/// An explanation of a score: the value, its description, and the explanations that it follows from.
 #[derive(Drop)]
 pub struct Explanation {
     value: Score,
@@ -18,7 +18,7 @@ pub struct Explanation {
 impl Explanation {
     ghost use Rattle.term_scorer.specs.Explaining.{explained_value};
 
-    /// A value and what it is.
+    /// Returns an explanation of `value`, described by `description`.
     pub fn new(alloc: Global, description: &str, value: Score) -> Result<Explanation, AllocError>
         ensures { IfOk result (λ explanation. explained_value explanation ≡ value) }
     {
@@ -26,7 +26,7 @@ impl Explanation {
         Ok(Explanation::new_with_string(alloc, description, value))
     }
 
-    /// A value and what it is.
+    /// Like `new`, but keeps `description` itself, without a copy.
     pub fn new_with_string(alloc: Global, description: String, value: Score) -> Explanation
         ensures { explained_value result ≡ value }
     {
@@ -38,14 +38,14 @@ impl Explanation {
         }
     }
 
-    /// What is explained.
+    /// Returns the value that is explained.
     pub fn value(&self) -> Score
         ensures { result ≡ explained_value self.now }
     {
         self.value
     }
 
-    /// Adds what the value follows from.
+    /// Appends `child_explanation` to what the value follows from.
     pub fn add_detail(&mut self, child_explanation: Explanation) -> Result<(), AllocError>
         ensures { explained_value self.new ≡ explained_value self.old }
     {
@@ -53,14 +53,14 @@ impl Explanation {
         Ok(())
     }
 
-    /// Adds a value that this one follows from.
+    /// Appends `value`, described by `name`, to what this value follows from.
     pub fn add_const(&mut self, alloc: Global, name: &str, value: Score) -> Result<(), AllocError>
         ensures { explained_value self.new ≡ explained_value self.old }
     {
         self.add_detail(Explanation::new(alloc, name, value)?)
     }
 
-    /// Adds values that this one follows from.
+    /// Appends each value of `consts`, described by its name, to what this value follows from.
     pub(crate) fn add_consts(
         &mut self,
         alloc: Global,
@@ -75,7 +75,7 @@ impl Explanation {
         Ok(())
     }
 
-    /// Adds a text about where the value is used.
+    /// Appends `context`, a text about where the value is used.
     pub fn add_context(&mut self, context: String) -> Result<(), AllocError>
         ensures { explained_value self.new ≡ explained_value self.old }
     {
@@ -83,12 +83,12 @@ impl Explanation {
         Ok(())
     }
 
-    /// The explanation as an indented text of JSON.
+    /// Encodes the explanation as indented JSON.
     pub fn to_pretty_json(&self, alloc: Global) -> Result<String, AllocError> {
         self.to_json_value(alloc)?.to_string_pretty(alloc)
     }
 
-    /// The explanation as JSON.
+    /// Converts the explanation to JSON.
     #[cycle(explained)]
     fn to_json_value(&self, alloc: Global) -> Result<Value, AllocError> {
         json!(in alloc; {
@@ -99,7 +99,7 @@ impl Explanation {
         })
     }
 
-    /// What the value follows from, as JSON.
+    /// Converts what the value follows from to JSON.
     #[cycle(explained)]
     fn details_to_json(&self, alloc: Global) -> Result<Vec<Value>, AllocError> {
         let mut details = Vec::new(alloc);
@@ -109,7 +109,7 @@ impl Explanation {
         Ok(details)
     }
 
-    /// The texts about where the value is used, as JSON.
+    /// Converts the texts about where the value is used to JSON.
     fn context_to_json(&self, alloc: Global) -> Result<Vec<Value>, AllocError> {
         let mut texts = Vec::new(alloc);
         for text in &self.context {

@@ -1,10 +1,10 @@
-//! The part of a weight that a count earns.
+//! The part of a weight that a count scores.
 
 ghost use Rattle.std.specs.Prelude.{◌*◌, ◌/◌, ◌<◌, ◌≡◌, ◌≤◌};
 ghost use Rattle.definitions.specs.Scoring.{part};
 
-/// The part of a weight that a count earns beside a norm. It divides by 128 bits where the weight times the count
-/// passes 64.
+/// Returns the part of `weight` that `count` scores with `norm`. Divides in 128 bits if the weight times the count
+/// doesn't fit in 64.
 #[inline]
 pub(crate) fn part_of_weight(weight: u64, count: u32, norm: u32) -> u64
     ensures { result ≡ part weight count norm }
@@ -19,7 +19,7 @@ pub(crate) fn part_of_weight(weight: u64, count: u32, norm: u32) -> u64
     }
 }
 
-/// The part of a weight by 128 bits.
+/// Divides `weight` times `count` by `whole`, in 128 bits.
 #[inline(never)]
 fn wide_part(weight: u64, count: u32, whole: u64) -> u64
     requires some { 0 < whole }

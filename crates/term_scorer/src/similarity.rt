@@ -1,4 +1,4 @@
-//! What the scores of a term follow from, beside counts and lengths.
+//! The similarity of a term: what its scores follow from, beside counts and lengths.
 
 ghost use Rattle.std.specs.Prelude.{◌*◌, ◌<◌, ◌^◌, ◌≡◌, ◌≤ℤ◌, ◌≤◌, IfOk, length, pos};
 ghost use Rattle.definitions.specs.Scoring.{DontFall, max_score, natural};
@@ -11,7 +11,7 @@ use crate::part_of_weight::part_of_weight;
 use common::Score;
 use std::alloc::{AllocError, Global};
 
-/// What the score of a term is.
+/// The description of a term's score.
 const TERM_DESCRIPTION: &str =
     "TermQuery, boost * (weight * freq / (freq + norm)), rounded down before the boost";
 
@@ -30,7 +30,8 @@ pub struct Similarity<'a> {
 impl<'a> Similarity<'a> {
     ghost use Rattle.term_scorer.specs.Similarities.{similarity_data};
 
-    /// A weight and a boost, whose product is at most `MAX_SCORE`, and 256 norms, which don't fall.
+    /// Returns the similarity of `weight` and `boost`, whose product is at most `MAX_SCORE`, and 256 `norms`, which
+    /// don't fall.
     pub fn new(weight: Score, boost: Score, norms: &'a [u32]) -> Similarity<'a>
         requires weight { pos 0 ≤ℤ weight }
         requires boost { pos 0 ≤ℤ boost }
@@ -47,7 +48,7 @@ impl<'a> Similarity<'a> {
         }
     }
 
-    /// The score that a count earns in a document of this length id.
+    /// Returns the score of a count of `term_freq` in a document of length id `fieldnorm_id`.
     #[inline]
     pub fn score(&self, fieldnorm_id: u8, term_freq: u32) -> Score
         ensures { result ≡ pos (score_by (similarity_data self.now) fieldnorm_id term_freq) }
@@ -56,14 +57,14 @@ impl<'a> Similarity<'a> {
         (self.boost * part_of_weight(self.weight, term_freq, norm)) as i64
     }
 
-    /// No score is above the boost times the weight.
+    /// Returns the boost times the weight: no score is above it.
     pub(crate) fn max_score(&self) -> Score
         ensures { result ≡ pos ((similarity_data self.now).boost * (similarity_data self.now).weight) }
     {
         (self.boost * self.weight) as i64
     }
 
-    /// The score that a count earns in a document of this length id, and what it follows from.
+    /// Explains the score of a count of `term_freq` in a document of length id `fieldnorm_id`.
     pub(crate) fn explain(
         &self,
         alloc: Global,

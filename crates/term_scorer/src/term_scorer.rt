@@ -18,7 +18,7 @@ use fieldnorms::FieldNormReader;
 use segment_postings::SegmentPostings;
 use std::alloc::{AllocError, Global};
 
-/// The documents of a term, each with the score that its count and its length earn.
+/// The documents of a term, each with the score of its count and its length.
 #[derive(Drop)]
 pub struct TermScorer<'a> {
     postings: SegmentPostings<'a>,
@@ -30,7 +30,7 @@ pub struct TermScorer<'a> {
 impl<'a> TermScorer<'a> {
     ghost use Rattle.term_scorer.specs.ScoredTerms.{cursor_of, length_ids, scored_left, similarity_of};
 
-    /// The postings of a term with the scores that follow from the lengths of all documents.
+    /// Returns a scorer of `postings`. All documents have their lengths in `fieldnorm_reader`.
     pub fn new(
         postings: SegmentPostings<'a>,
         fieldnorm_reader: FieldNormReader<'a>,
@@ -50,7 +50,7 @@ impl<'a> TermScorer<'a> {
         }
     }
 
-    /// How often the term stands in the current document, as far as its postings tell.
+    /// Returns the count of the term in the current document, as far as its postings record it.
     #[inline]
     pub fn term_freq(&self) -> u32
         requires { first (scored_left self.now) < terminated }
@@ -59,7 +59,7 @@ impl<'a> TermScorer<'a> {
         self.postings.term_freq()
     }
 
-    /// The length id of the current document.
+    /// Returns the length id of the current document.
     #[inline]
     pub fn fieldnorm_id(&self) -> u8
         requires { first (scored_left self.now) < terminated }
@@ -68,7 +68,7 @@ impl<'a> TermScorer<'a> {
         self.fieldnorm_reader.fieldnorm_id(self.postings.doc())
     }
 
-    /// The boost times the weight. No score is above it.
+    /// Returns the boost times the weight. No score is above it.
     pub fn max_score(&self) -> Score
         ensures value { result ≡ pos ((similarity_of self.now).boost * (similarity_of self.now).weight) }
         ensures greatest { greatest_score (scored_left self.now)
@@ -77,7 +77,7 @@ impl<'a> TermScorer<'a> {
         self.similarity.max_score()
     }
 
-    /// The score of the current document, and what it follows from.
+    /// Explains the score of the current document.
     pub fn explain(&self, alloc: Global) -> Result<Explanation, AllocError>
         requires { first (scored_left self.now) < terminated }
         ensures { IfOk result (λ explanation. explained_value explanation

@@ -22,7 +22,8 @@ use std::alloc::{AllocError, Global};
 use term_scorer::{Similarity, TermScorer};
 use terms::Term;
 
-/// Documents that hold a term, by its weight and the norms of their lengths. Both are lent, and so is the term.
+/// The weight of a term and the norms of lengths, which score the documents that hold it. The term and the norms are
+/// borrowed.
 #[derive(Drop)]
 pub struct TermWeight<'q, 'a> {
     term: &'q Term,
@@ -37,7 +38,8 @@ pub struct TermWeight<'q, 'a> {
 impl<'q, 'a> TermWeight<'q, 'a> {
     ghost use Rattle.term_weight.specs.TermWeights.{ScoresBy, option_asked, term_of, weight_in};
 
-    /// A term, what is read of its postings, its weight, which is at most `MAX_SCORE`, and 256 norms, which don't fall.
+    /// Returns the weight of `term`: what is read of its postings, `weight`, which is at most `MAX_SCORE`, and 256
+    /// `norms`, which don't fall.
     pub fn new(
         term: &'q Term,
         index_record_option: IndexRecordOption,
@@ -61,14 +63,15 @@ impl<'q, 'a> TermWeight<'q, 'a> {
         }
     }
 
-    /// The term.
+    /// Returns the term.
     pub fn term(&self) -> &'q Term
         ensures { result.now ≡ term_of self.now }
     {
         self.term
     }
 
-    /// The documents of a segment that hold the term, with their scores under a boost; none where no document holds it.
+    /// Returns the documents of the segment that hold the term, with their scores under `boost`; `None` if no document
+    /// holds it.
     pub fn term_scorer(&self, reader: &SegmentReader<'a>, boost: Score) -> Option<TermScorer<'a>>
         requires positive { pos 0 ≤ℤ boost }
         requires fits { natural boost * weight_in self.now ≤ max_score }

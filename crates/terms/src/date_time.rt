@@ -19,7 +19,7 @@ impl Model for DateTime {
 }
 
 impl DateTime {
-    /// The instant so many nanoseconds after the start of 1970, or before it.
+    /// Makes the instant `nanoseconds` after the start of 1970; a negative number is before it.
     pub const fn from_timestamp_nanos(nanoseconds: i64) -> DateTime
         ensures { result ≡ nanoseconds }
     {
@@ -28,7 +28,7 @@ impl DateTime {
         }
     }
 
-    /// The nanoseconds since the start of 1970.
+    /// Returns the nanoseconds since the start of 1970.
     pub const fn into_timestamp_nanos(self) -> i64
         ensures { result ≡ self }
     {

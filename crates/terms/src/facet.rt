@@ -13,13 +13,13 @@ use definitions::Fault;
 use std::alloc::{AllocError, Global};
 use std::marker::Model;
 
-/// What stands between two steps in `Facet::encoded_str`.
+/// The separator of two steps in `Facet::encoded_str`.
 pub const FACET_SEP_BYTE: u8 = 0;
 
 /// `FACET_SEP_BYTE` as a character.
 pub const FACET_SEP_CHAR: char = '\u{0}';
 
-/// A facet: a path of steps, of which there is one or more. The root is one empty step.
+/// A facet: a path of one or more steps. The root is one empty step.
 #[derive(Drop)]
 pub struct Facet {
     encoded: String,
@@ -32,7 +32,7 @@ impl Model for Facet {
 }
 
 impl Facet {
-    /// The root.
+    /// Returns the root.
     pub fn root(alloc: Global) -> Facet
         ensures { result ≡ root }
     {
@@ -41,7 +41,7 @@ impl Facet {
         }
     }
 
-    /// Whether this is the root.
+    /// Whether the facet is the root.
     pub fn is_root(&self) -> bool
         ensures { result ≡ is_root self.now }
     {
@@ -49,9 +49,8 @@ impl Facet {
         encoded.is_empty()
     }
 
-    /// The facet of a path: a slash stands before each step, and a backslash takes the next character as it
-    /// stands. A path that begins otherwise, one that ends in such a backslash and one with U+0000 are
-    /// `FacetParseError`.
+    /// Parses the facet of a path: a slash begins each step, and a backslash escapes the next character. A path without
+    /// a first slash, one that ends in an escaping backslash and one with U+0000 are `FacetParseError`.
     pub fn from_text(alloc: Global, path: &str) -> Result<Facet, Fault>
         ensures ok { IfOk result (λ facet. facet_of_path path.now ≡ Some facet) }
         ensures err { IfErr result (λ fault. fault ≢ faults.OutOfMemory → (fault ≡ faults.FacetParseError) × (facet_of_path path.now ≡ None)) }
@@ -66,7 +65,7 @@ impl Facet {
         Ok(Facet { encoded })
     }
 
-    /// The facet of these steps, of none the root. U+0000 in a step is `FacetParseError`.
+    /// Makes the facet with the steps of `path`; without steps it is the root. U+0000 in a step is `FacetParseError`.
     pub fn from_path(alloc: Global, path: &[&str]) -> Result<Facet, Fault>
         ensures ok { IfOk result (λ facet. facet_of_steps (map (λ step. step.now) path.now) ≡ Some facet) }
         ensures err { IfErr result (λ fault. fault ≢ faults.OutOfMemory → (fault ≡ faults.FacetParseError) × (facet_of_steps (map (λ step. step.now) path.now) ≡ None)) }
@@ -78,7 +77,7 @@ impl Facet {
         Ok(Facet { encoded })
     }
 
-    /// The facet whose steps a text separates by U+0000: the one of which `encoded_str` gives that text.
+    /// Makes the facet whose `encoded_str` is `text`: its steps are separated by U+0000.
     pub fn from_separated(alloc: Global, text: &str) -> Result<Facet, AllocError>
         ensures { IfOk result (λ facet. facet ≡ steps_of text.now) }
     {
@@ -86,7 +85,7 @@ impl Facet {
         Ok(Facet { encoded })
     }
 
-    /// The steps with U+0000 between each two.
+    /// Returns the steps, separated by U+0000.
     pub fn encoded_str(&self) -> &str
         ensures value { result.now ≡ encoded self.now }
         ensures facet { IsFacet self.now }
@@ -94,14 +93,14 @@ impl Facet {
         self.encoded.as_str()
     }
 
-    /// The steps.
+    /// Lists the steps.
     pub fn to_path(&self, alloc: Global) -> Result<Vec<&str>, AllocError>
         ensures { IfOk result (λ steps. map (λ step. step.now) steps.items ≡ self.now) }
     {
         self.encoded.split(FACET_SEP_CHAR).collect(alloc)
     }
 
-    /// The path of the facet, of which `from_text` makes it again.
+    /// Returns the path of the facet, which `from_text` parses to it.
     pub fn to_path_string(&self, alloc: Global) -> Result<String, AllocError>
         ensures value { IfOk result (λ path. string_bytes path ≡ path_of self.now) }
         ensures read_back { facet_of_path (path_of self.now) ≡ Some self.now }
@@ -109,8 +108,8 @@ impl Facet {
         path_text(alloc, self.encoded.as_str())
     }
 
-    /// Whether the other facet is below this one: it has these steps and more. Every facet but the root is
-    /// below the root.
+    /// Whether `other` is below this facet: it begins with its steps and has more. Every facet but the root is below
+    /// the root.
     pub fn is_prefix_of(&self, other: &Facet) -> bool
         ensures { result ≡ is_prefix_of self.now other.now }
     {
@@ -121,28 +120,28 @@ impl Facet {
     }
 }
 
-/// What follows a path's first slash.
+/// Returns what follows the first slash of `path`.
 fn after_slash(path: &str) -> Option<&str>
     ensures { MatchOption result ((rest : List ℕ) → path.now ≢ slash ∷ rest) (λ steps. path.now ≡ slash ∷ steps.now) }
 {
     path.strip_prefix('/')
 }
 
-/// Whether U+0000 stands in any step.
+/// Whether any step contains U+0000.
 fn any_has_separator(path: &[&str]) -> bool
     ensures { result ≡ list_any (λ step. list_any (◌==◌ 0) step.now) path.now }
 {
     path.iter().any(|step| has_zero(step))
 }
 
-/// The steps with U+0000 between each two.
+/// Joins the steps, separated by U+0000.
 fn joined_steps(alloc: Global, path: &[&str]) -> Result<String, AllocError>
     ensures { IfOk result (λ text. string_bytes text ≡ encoded (map (λ step. step.now) path.now)) }
 {
     path.join(alloc, "\0")
 }
 
-/// Whether the steps of the first text are those of the second one and more.
+/// Whether `text` begins with the steps of `start` and has more.
 fn is_below(text: &[u8], start: &[u8]) -> bool
     ensures { result ≡ (nat_lt (length (steps_of start.now)) (length (steps_of text.now)) && starts_with bytes_eq (steps_of text.now) (steps_of start.now)) }
 {
@@ -152,7 +151,7 @@ fn is_below(text: &[u8], start: &[u8]) -> bool
     }
 }
 
-/// The steps of what follows a path's first slash, with U+0000 between each two.
+/// Parses the path after its first slash; returns its steps, separated by U+0000.
 fn encoded_steps(alloc: Global, path: &str) -> Result<String, Fault>
     ensures ok { IfOk result (λ text. option_map encoded (steps_from false path.now) ≡ Some (string_bytes text)) }
     ensures err { IfErr result (λ fault. fault ≢ faults.OutOfMemory → (fault ≡ faults.FacetParseError) × (steps_from false path.now ≡ None)) }
@@ -161,7 +160,7 @@ fn encoded_steps(alloc: Global, path: &str) -> Result<String, Fault>
     Ok(String::from_utf8(bytes).unwrap())
 }
 
-/// The bytes of `encoded_steps`.
+/// Returns the bytes of `encoded_steps`.
 fn step_bytes(alloc: Global, path: &str) -> Result<Vec<u8>, Fault>
     ensures ok { IfOk result (λ bytes. option_map encoded (steps_from false path.now) ≡ Some bytes.items) }
     ensures err { IfErr result (λ fault. fault ≢ faults.OutOfMemory → (fault ≡ faults.FacetParseError) × (steps_from false path.now ≡ None)) }
@@ -182,7 +181,7 @@ fn step_bytes(alloc: Global, path: &str) -> Result<Vec<u8>, Fault>
     Ok(bytes)
 }
 
-/// A byte of a path among the steps, where it is no backslash that takes the next one.
+/// Converts a byte of a path that isn't an escaping backslash to a byte of the encoded steps.
 fn step_byte(byte: u8, escaped: bool) -> u8
     requires { escaped ≡ false → byte ≢ 92 }
     ensures { (rest : List ℕ) → option_map encoded (steps_from escaped (byte ∷ rest)) ≡ option_map (λ steps. result ∷ steps) (option_map encoded (steps_from false rest)) }
@@ -193,7 +192,7 @@ fn step_byte(byte: u8, escaped: bool) -> u8
     byte
 }
 
-/// The path of the steps that stand in a text with U+0000 between each two.
+/// Returns the path of the steps in `text`, which are separated by U+0000.
 fn path_text(alloc: Global, text: &str) -> Result<String, AllocError>
     ensures { IfOk result (λ path. string_bytes path ≡ path_of (steps_of text.now)) }
 {
@@ -201,7 +200,7 @@ fn path_text(alloc: Global, text: &str) -> Result<String, AllocError>
     Ok(String::from_utf8(bytes).unwrap())
 }
 
-/// The bytes of `path_text`.
+/// Returns the bytes of `path_text`.
 fn path_bytes(alloc: Global, text: &str) -> Result<Vec<u8>, AllocError>
     ensures { IfOk result (λ bytes. bytes.items ≡ path_of (steps_of text.now)) }
 {
@@ -213,7 +212,7 @@ fn path_bytes(alloc: Global, text: &str) -> Result<Vec<u8>, AllocError>
     Ok(bytes)
 }
 
-/// Appends a byte of `Facet::encoded_str` as it is in the path.
+/// Appends a byte of `Facet::encoded_str` to a path.
 fn push_in_path(bytes: &mut Vec<u8>, byte: u8) -> Result<(), AllocError>
     ensures { OnOk result (bytes.new.items ≡ bytes.old.items ++ in_path byte) }
 {

@@ -11,19 +11,19 @@ use crate::date_time::DateTime;
 use crate::field_type::Type;
 use crate::sortable::{signed_number, whole_seconds};
 
-/// A value that a term holds as eight bytes: u64, i64, bool or `DateTime`.
+/// A value that is eight bytes in a term: u64, i64, bool or `DateTime`.
 pub trait FastValue: Copy {
     /// The value's kind.
     ghost kind: { Kind };
 
-    /// The value as a document holds it.
+    /// The value in a document.
     ghost value: { Self → Value };
 
-    /// The type whose code stands before the value.
+    /// Returns the type whose code comes before the value.
     fn to_type() -> Type
         ensures { kind_of result ≡ kind };
 
-    /// The number whose eight bytes, the highest first, are the value's.
+    /// Returns the number whose eight bytes, big-endian, are the value's.
     fn to_u64(self) -> u64
         ensures { value_bytes kind (value self) ≡ Some (to_be_bytes w64 result) };
 }

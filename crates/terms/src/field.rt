@@ -1,4 +1,4 @@
-//! A field by its number.
+//! Fields by their numbers.
 
 ghost use Rattle.std.specs.Prelude.{◌≡◌, ℕ};
 
@@ -17,14 +17,14 @@ impl Model for Field {
 }
 
 impl Field {
-    /// The field of that number, whether or not a schema has it.
+    /// Makes the field with the number `field_id`, whether or not a schema has it.
     pub const fn from_field_id(field_id: u32) -> Field
         ensures { result ≡ field_id }
     {
         Field(field_id)
     }
 
-    /// The field's number.
+    /// Returns the field's number.
     pub const fn field_id(self) -> u32
         ensures { result ≡ self }
     {

@@ -8,7 +8,7 @@ ghost use Rattle.terms.specs.Kinds.{kind_of};
 
 use std::array::IntoIter;
 
-/// What the values of a field are.
+/// The type of a field's values.
 #[derive(Clone, Copy, Debug, PartialEq, Eq)]
 pub enum Type {
     /// Texts, cut into tokens.
@@ -27,7 +27,7 @@ pub enum Type {
     Bytes,
     /// JSON objects.
     Json,
-    /// Addresses of 128 bits, IPv4 mapped into IPv6.
+    /// IP addresses of 128 bits, IPv4 mapped into IPv6.
     IpAddr,
 }
 
@@ -47,14 +47,14 @@ const ALL_TYPES: [Type; 9] = [
 impl Type {
     ghost use Rattle.terms.specs.declared.field_type.«Type».{«Type»};
 
-    /// The types, texts first.
+    /// Returns the types, texts first.
     pub fn iter_values() -> IntoIter<Type, 9>
         ensures { map kind_of (array_into_iter_items result) ≡ all_kinds }
     {
         ALL_TYPES.into_iter()
     }
 
-    /// The code that the type's terms have behind their field's number.
+    /// Returns the code of the type, which is after the field's number in its terms.
     pub fn to_code(self) -> u8
         ensures { type_code (kind_of self) ≡ result ∷ [] }
     {
@@ -71,7 +71,7 @@ impl Type {
         }
     }
 
-    /// The type of that code, if it is one.
+    /// Returns the type whose code is `code`, if there is one.
     pub fn from_code(code: u8) -> Option<Type>
         ensures value { option_map kind_of result ≡ find (λ kind. bytes_eq (type_code kind) (code ∷ [])) all_kinds }
         ensures inverse { (t : «Type») → type_code (kind_of t) ≡ code ∷ [] → result ≡ Some t }
@@ -90,7 +90,7 @@ impl Type {
         }
     }
 
-    /// The type's name in JSON.
+    /// Returns the type's name in JSON.
     pub fn name(self) -> &'static str
         ensures { result.now ≡ kind_name (kind_of self) }
     {

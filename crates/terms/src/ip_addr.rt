@@ -1,4 +1,4 @@
-//! Addresses of 128 bits.
+//! IP addresses of 128 bits.
 
 ghost use Rattle.std.specs.Prelude.{◌≡◌, ℕ};
 ghost use Rattle.std.specs.Net.Addr.{ipv6_bits};
@@ -6,12 +6,12 @@ ghost use Rattle.terms.specs.IpAddrs.{address_bits};
 
 use std::net::{IpAddr, Ipv6Addr};
 
-/// What stands for an address of 128 bits.
+/// A type of IP addresses that have 128 bits.
 pub trait IntoIpv6Addr {
     /// The address as a number.
     ghost bits: { Self → ℕ };
 
-    /// The address, of an IPv4 address the IPv6 address that it is mapped to.
+    /// Converts to an IPv6 address; an IPv4 address is mapped into IPv6.
     fn into_ipv6_addr(self) -> Ipv6Addr
         ensures { ipv6_bits result ≡ bits self };
 }

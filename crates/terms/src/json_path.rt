@@ -7,17 +7,17 @@ ghost use Rattle.terms.specs.JsonPaths.{keys_from, keys_in};
 
 use std::alloc::AllocError;
 
-/// What stands between two keys.
+/// The separator of two keys.
 const KEY_SEP: u8 = 1;
 
-/// Whether a byte 0 is in a key. In a term 0 ends the path, so that no path has such a key.
+/// Whether `key` contains a byte 0. Since 0 ends the path in a term, no path has such a key.
 pub fn has_zero(key: &str) -> bool
     ensures { result ≡ has_zero key.now }
 {
     key.as_bytes().contains(&0)
 }
 
-/// Appends the path of the keys that a text names.
+/// Appends the path of the keys in the path text `path`.
 pub(crate) fn push_path(
     bytes: &mut Vec<u8>,
     path: &str,
@@ -37,7 +37,7 @@ pub(crate) fn push_path(
     Ok(())
 }
 
-/// Appends the path of these keys.
+/// Appends the path of `keys`.
 pub(crate) fn push_keys(
     bytes: &mut Vec<u8>,
     keys: &[&str],
@@ -64,7 +64,7 @@ fn push_key(bytes: &mut Vec<u8>, key: &str, expand_dots: bool) -> Result<(), All
     Ok(())
 }
 
-/// A byte of a path text in the path, where it is no backslash that takes the next one.
+/// Converts a byte of a path text that isn't an escaping backslash to a byte of the path.
 fn path_byte(byte: u8, escaped: bool, expand_dots: bool) -> u8
     requires { escaped ≡ false → byte ≢ 92 }
     ensures { (rest : List ℕ) → path_of_keys expand_dots (keys_from escaped (byte ∷ rest)) ≡ result ∷ path_of_keys expand_dots (keys_from false rest) }
@@ -75,7 +75,7 @@ fn path_byte(byte: u8, escaped: bool, expand_dots: bool) -> u8
     key_byte(byte, expand_dots)
 }
 
-/// A byte of a key in a path, where a dot may part keys.
+/// Converts a byte of a key to a byte of the path; with `expand_dots` a dot separates keys.
 fn key_byte(byte: u8, expand_dots: bool) -> u8
     ensures { key_bytes expand_dots (byte ∷ []) ≡ result ∷ [] }
 {

@@ -1,21 +1,21 @@
-//! Signed numbers and instants as numbers whose bytes have their order.
+//! Signed numbers and instants as numbers whose bytes sort like them.
 
 ghost use Rattle.std.specs.Prelude.{pos, nat_abs, ◌+ℤ◌, ◌^◌, ◌≡◌};
 ghost use Rattle.definitions.specs.Terms.{whole_seconds};
 
-/// 2^63, the worth of the sign bit.
+/// 2^63, the value of the sign bit.
 pub const SIGN_BIT: u64 = 0x8000_0000_0000_0000;
 
 const NANOS_PER_SECOND: i64 = 1_000_000_000;
 
-/// The number with its sign bit flipped, so that negative numbers come first.
+/// Returns the number with its sign bit flipped, so that negative numbers come first.
 pub(crate) fn signed_number(value: i64) -> u64
     ensures { result ≡ nat_abs (value +ℤ pos (2 ^ 63)) }
 {
     value.cast_unsigned().wrapping_add(SIGN_BIT)
 }
 
-/// The nanoseconds cut toward zero to whole seconds.
+/// Returns the whole seconds of `nanos`, rounded toward zero.
 pub(crate) fn whole_seconds(nanos: i64) -> i64
     ensures { result ≡ whole_seconds nanos }
 {

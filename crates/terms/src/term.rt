@@ -1,4 +1,4 @@
-//! Terms: what a document is found by.
+//! Terms, by which documents are found.
 
 ghost use Rattle.std.specs.Prelude.{[], ◌++◌, ◌∷◌, ◌≡◌, IfErr, IfOk, IsSome, List, OnErr, OnOk, Some, if◌then◌else◌, is_ok, is_some, map, option_map, refl, ℕ};
 ghost use Rattle.std.specs.Cmp as Cmp;
@@ -27,13 +27,13 @@ use std::cmp::Ordering;
 use std::marker::Model;
 use std::net::Ipv6Addr;
 
-/// Bytes before the value: four of the field's number, one of the type's code.
+/// The number of bytes before the value: four of the field's number, one of the type's code.
 pub const HEADER_LEN: usize = 5;
 
-/// What stands behind the path of a JSON term.
+/// The byte after the path of a JSON term.
 const PATH_END: u8 = 0;
 
-/// The type that a term's code names.
+/// Returns the type of the code in a term's bytes.
 fn type_of(bytes: &[u8]) -> Type
     requires { IsSome (kind_in bytes.now) }
     ensures kind { kind_in bytes.now ≡ Some (kind_of result) }
@@ -42,7 +42,7 @@ fn type_of(bytes: &[u8]) -> Type
     Type::from_code(bytes[4]).unwrap()
 }
 
-/// A term: its field's number, the code of its type and its value, as bytes. Terms are ordered by them.
+/// A term: its field's number, the code of its type and its value, as bytes. Terms are ordered by these bytes.
 #[derive(Drop)]
 pub struct Term {
     bytes: Vec<u8>,
@@ -56,7 +56,7 @@ impl Model for Term {
     ghost invariant = { λ t. IsSome (kind_in t.bytes.items) };
 }
 
-/// The bytes of a term.
+/// Encodes a term.
 fn bytes_of(alloc: Global, field: Field, kind: Type, value: &[u8]) -> Result<Vec<u8>, AllocError>
     ensures { IfOk result (λ bytes. bytes.items ≡ term_bytes field (kind_of kind) value.now) }
 {
@@ -66,7 +66,7 @@ fn bytes_of(alloc: Global, field: Field, kind: Type, value: &[u8]) -> Result<Vec
     Ok(bytes)
 }
 
-/// Appends the first bytes of the terms of a field: its number, and the code of its type.
+/// Appends the header of the terms of `field`: its number, and the code of the type `kind`.
 pub fn push_term_header(bytes: &mut Vec<u8>, field: Field, kind: Type) -> Result<(), AllocError>
     ensures { OnOk result (bytes.new.items ≡ bytes.old.items ++ term_bytes field (kind_of kind) []) }
 {
@@ -75,7 +75,7 @@ pub fn push_term_header(bytes: &mut Vec<u8>, field: Field, kind: Type) -> Result
     Ok(())
 }
 
-/// Appends the first bytes of the terms at a path of a JSON field, by its keys, which may be any texts.
+/// Appends the first bytes of the terms at a path of a JSON field, by its `keys`, which may be any texts.
 pub fn push_json_path(
     bytes: &mut Vec<u8>,
     field: Field,
@@ -91,7 +91,7 @@ pub fn push_json_path(
 }
 
 impl Term {
-    /// The term of a token of a text field.
+    /// Makes the term of a token of a text field.
     pub fn from_field_text(alloc: Global, field: Field, text: &str) -> Result<Term, AllocError>
         ensures { IfOk result (λ term. term ≡ term_bytes field text_kind text.now) }
     {
@@ -99,35 +99,35 @@ impl Term {
         Ok(Term { bytes })
     }
 
-    /// The term of a number of a u64 field.
+    /// Makes the term of a number in a u64 field.
     pub fn from_field_u64(alloc: Global, field: Field, value: u64) -> Result<Term, AllocError>
         ensures { IfOk result (λ term. term ≡ term_bytes field u64_kind (to_be_bytes w64 value)) }
     {
         Term::from_fast_value(alloc, field, value)
     }
 
-    /// The term of a number of an i64 field.
+    /// Makes the term of a number in an i64 field.
     pub fn from_field_i64(alloc: Global, field: Field, value: i64) -> Result<Term, AllocError>
         ensures { IfOk result (λ term. term ≡ term_bytes field i64_kind (signed_bytes value)) }
     {
         Term::from_fast_value(alloc, field, value)
     }
 
-    /// The term of a bool of a bool field.
+    /// Makes the term of a bool in a bool field.
     pub fn from_field_bool(alloc: Global, field: Field, value: bool) -> Result<Term, AllocError>
         ensures { IfOk result (λ term. term ≡ term_bytes field bool_kind (to_be_bytes w64 (if value then 1 else 0))) }
     {
         Term::from_fast_value(alloc, field, value)
     }
 
-    /// The term of an instant of a date field: the whole second that the instant is cut to, toward 1970.
+    /// Makes the term of an instant in a date field: the instant is cut to its whole second, toward 1970.
     pub fn from_field_date(alloc: Global, field: Field, value: DateTime) -> Result<Term, AllocError>
         ensures { IfOk result (λ term. term ≡ term_bytes field date_kind (signed_bytes (whole_seconds value))) }
     {
         Term::from_fast_value(alloc, field, value)
     }
 
-    /// The term of an address of an address field.
+    /// Makes the term of an IP address in an IP address field.
     pub fn from_field_ip_addr(
         alloc: Global,
         field: Field,
@@ -139,7 +139,7 @@ impl Term {
         Ok(Term { bytes })
     }
 
-    /// The term of bytes of a bytes field.
+    /// Makes the term of bytes in a bytes field.
     pub fn from_field_bytes(alloc: Global, field: Field, value: &[u8]) -> Result<Term, AllocError>
         ensures { IfOk result (λ term. term ≡ term_bytes field bytes_kind value.now) }
     {
@@ -147,7 +147,7 @@ impl Term {
         Ok(Term { bytes })
     }
 
-    /// The term of a facet of a facet field. It finds the facets below this one, too.
+    /// Makes the term of a facet in a facet field. It finds the facets below this one, too.
     pub fn from_facet(alloc: Global, field: Field, facet: &Facet) -> Result<Term, AllocError>
         ensures { IfOk result (λ term. term ≡ term_bytes field facet_kind (encoded facet.now)) }
     {
@@ -156,9 +156,9 @@ impl Term {
         Ok(Term { bytes })
     }
 
-    /// The start of the terms of a path of a JSON field: the value is still to be appended. Dots part the
-    /// keys of the text, and a backslash takes the next character as it stands; with `expand_dots` each
-    /// key is parted at its dots, too.
+    /// Makes the start of the terms at a path of a JSON field; the value is still to be appended. Dots separate the
+    /// keys in `json_path`, and a backslash escapes the next character; with `expand_dots` each key is split at its
+    /// dots, too.
     pub fn from_field_json_path(
         alloc: Global,
         field: Field,
@@ -173,7 +173,7 @@ impl Term {
         Ok(Term { bytes })
     }
 
-    /// The start of the terms of a path of a JSON field by its keys, which may be any texts.
+    /// Like `from_field_json_path`, but with the path as its `keys`, which may be any texts.
     pub fn from_field_json_keys(
         alloc: Global,
         field: Field,
@@ -187,8 +187,8 @@ impl Term {
         Ok(Term { bytes })
     }
 
-    /// A term of its bytes, as `serialized_term` gives them. Fewer than five bytes or an unknown code of a
-    /// type are `BadTerm`; what stands behind the code isn't looked at.
+    /// Makes a term from its bytes, as `serialized_term` returns them. Fewer than five bytes or an unknown code of a
+    /// type are `BadTerm`; what comes after the code isn't checked.
     pub fn wrap(bytes: Vec<u8>) -> Result<Term, Fault>
         ensures ok { IfOk result (λ term. term ≡ bytes.items) }
         ensures err { IfErr result (λ fault. fault ≡ faults.BadTerm) }
@@ -201,7 +201,7 @@ impl Term {
         }
     }
 
-    /// Appends bytes to the value.
+    /// Appends `bytes` to the value.
     pub fn append_bytes(&mut self, bytes: &[u8]) -> Result<(), AllocError>
         ensures ok { OnOk result (self.new ≡ self.old ++ bytes.now) }
         ensures unchanged { OnErr result (self.new ≡ self.old) }
@@ -209,7 +209,7 @@ impl Term {
         self.bytes.extend_from_slice(bytes)
     }
 
-    /// Appends a text as the value at a path of a JSON field: its code and its bytes.
+    /// Appends a text as the value at a path of a JSON field: the code of texts and the bytes of `value`.
     pub fn append_type_and_str(&mut self, value: &str) -> Result<(), AllocError>
         ensures ok { OnOk result (self.new ≡ self.old ++ (type_code text_kind ++ value.now)) }
         ensures unchanged { OnErr result (self.new ≡ self.old) }
@@ -217,8 +217,8 @@ impl Term {
         self.append_type_and_bytes(Type::Str, value.as_bytes())
     }
 
-    /// Appends a u64, an i64, a bool or a `DateTime` as the value at a path of a JSON field: the code of
-    /// its type and eight bytes. A document's whole number that fits i64 is an i64 there.
+    /// Appends a u64, an i64, a bool or a `DateTime` as the value at a path of a JSON field: the code of its type and
+    /// eight bytes. A whole number of a document that fits i64 is an i64 there.
     pub fn append_type_and_fast_value<T: FastValue>(&mut self, value: T) -> Result<(), AllocError>
         ensures ok { OnOk result (option_map (λ payload. self.old ++ (type_code T.kind ++ payload)) (value_bytes T.kind (T.value value)) ≡ Some self.new) }
         ensures unchanged { OnErr result (self.new ≡ self.old) }
@@ -226,7 +226,7 @@ impl Term {
         self.append_type_and_bytes(T::to_type(), &value.to_u64().to_be_bytes())
     }
 
-    /// The term's field.
+    /// Returns the term's field.
     pub fn field(&self) -> Field
         ensures { result ≡ field_of self.now }
     {
@@ -234,7 +234,7 @@ impl Term {
         Field::from_field_id(u32::from_be_bytes([bytes[0], bytes[1], bytes[2], bytes[3]]))
     }
 
-    /// The type of the term's value.
+    /// Returns the type of the term's value.
     pub fn typ(&self) -> Type
         ensures kind { kind_in self.now ≡ Some (kind_of result) }
         ensures parts { self.now ≡ term_bytes (field_of self.now) (kind_of result) (payload_of self.now) }
@@ -242,14 +242,14 @@ impl Term {
         type_of(self.bytes.as_slice())
     }
 
-    /// The whole term: field, code and value.
+    /// Returns the bytes of the whole term: field, code and value.
     pub fn serialized_term(&self) -> &[u8]
         ensures { result.now ≡ self.now }
     {
         self.bytes.as_slice()
     }
 
-    /// The value alone, as the type writes it.
+    /// Returns the bytes of the value alone, as its type encodes it.
     pub fn serialized_value_bytes(&self) -> &[u8]
         ensures { result.now ≡ payload_of self.now }
     {
@@ -258,7 +258,7 @@ impl Term {
 }
 
 impl Term {
-    /// The term of a value of eight bytes, in a field of its type.
+    /// Makes the term of a value of eight bytes in a field of its type.
     fn from_fast_value<T: FastValue>(
         alloc: Global,
         field: Field,
@@ -271,7 +271,7 @@ impl Term {
         Ok(Term { bytes })
     }
 
-    /// Appends the code of a type and a value's bytes.
+    /// Appends the code of a type and the bytes of a value.
     fn append_type_and_bytes(&mut self, kind: Type, value: &[u8]) -> Result<(), AllocError>
         ensures ok { OnOk result (self.new ≡ self.old ++ (type_code (kind_of kind) ++ value.now)) }
         ensures unchanged { OnErr result (self.new ≡ self.old) }
@@ -282,7 +282,7 @@ impl Term {
     }
 }
 
-/// Whether a type's code stands behind four bytes.
+/// Whether there is a type's code after four bytes.
 fn has_type(bytes: &[u8]) -> bool
     ensures { result ≡ is_some (kind_in bytes.now) }
 {

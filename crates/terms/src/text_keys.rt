@@ -1,4 +1,4 @@
-//! The value bytes of texts.
+//! Value bytes of terms of texts.
 
 ghost use Rattle.std.specs.Prelude.{◌==◌, ◌≡◌};
 ghost use Rattle.std.specs.List.{after_first, position};
@@ -8,15 +8,15 @@ ghost use Rattle.terms.specs.TextKeys.{is_text_key};
 
 use crate::field_type::Type;
 
-/// What the text leaves of JSON objects have before their tokens.
+/// The code before the tokens of texts in JSON objects.
 const TEXT_CODE: u8 = b's';
 
-/// What ends the path of a JSON term.
+/// The byte after the path of a JSON term.
 const PATH_END: u8 = 0;
 
 impl Type {
-    /// Whether a term of a field of the type is a text's, by its value bytes. In a JSON field the code behind
-    /// the path tells.
+    /// Whether `value_bytes` are those of a text's term in a field of this type. In a JSON field the code after the
+    /// path says so.
     pub fn is_text_value(self, value_bytes: &[u8]) -> bool
         ensures { result ≡ is_text_key (kind_of self) value_bytes.now }
     {
@@ -28,7 +28,7 @@ impl Type {
     }
 }
 
-/// Whether the value bytes of a JSON term are a text's: its code stands behind the path.
+/// Whether the value bytes of a JSON term are a text's: the code of texts is after the path.
 fn is_text_leaf(key: &[u8]) -> bool
     ensures { result ≡ is_text_key json_kind key.now }
 {
@@ -38,7 +38,7 @@ fn is_text_leaf(key: &[u8]) -> bool
     }
 }
 
-/// What stands behind the path.
+/// Returns the bytes after the path.
 fn leaf_of(key: &[u8]) -> &[u8]
     ensures { result.now ≡ after_first (◌==◌ 0) key.now }
 {
@@ -48,7 +48,7 @@ fn leaf_of(key: &[u8]) -> &[u8]
     }
 }
 
-/// Where the path ends.
+/// Returns the index of the byte that ends the path.
 fn path_end(key: &[u8]) -> Option<usize>
     ensures { result ≡ position (◌==◌ 0) key.now }
 {

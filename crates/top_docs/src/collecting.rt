@@ -1,4 +1,4 @@
-//! The living documents of a segment, given to what keeps the best.
+//! The collection of a segment's living documents into the best.
 
 ghost use Rattle.std.specs.Prelude.{[], ◌++◌, ◌<◌, ◌≡◌, OnOk, false, slice_index_or, ℕ};
 ghost use Rattle.std.specs.List.{AllByRecursion};
@@ -18,8 +18,8 @@ use segment_reader::{DocAddress, SegmentReader};
 use std::alloc::AllocError;
 use top_n_computer::TopNComputer;
 
-/// Gives the documents of a scorer of any kind that are alive, as those of a segment, with their scores: each kind in a
-/// walk of its own, so that the kind is looked at once and not for each document.
+/// Feeds the living documents of `scorer` with their scores to `top`, as documents of segment `segment_ord`. Each kind
+/// of scorer has a walk of its own, so that the kind is looked at once and not for each document.
 pub(crate) fn collect_any<A: Scorer + Drop, T: Scorer + Drop, P: Scorer + Drop, X: Scorer + Drop>(
     scorer: AnyScorer<A, T, P, X>,
     reader: &SegmentReader<'_>,
@@ -42,7 +42,7 @@ pub(crate) fn collect_any<A: Scorer + Drop, T: Scorer + Drop, P: Scorer + Drop, 
     }
 }
 
-/// The same of a scorer of a query that holds no other, or of a list.
+/// Like `collect_any`, but of a scorer of a query that holds no other, or of a list.
 fn collect_leaf<A: Scorer + Drop, T: Scorer + Drop, P: Scorer + Drop, X: Scorer + Drop>(
     scorer: Leaf<A, T, P, X, ListScorer>,
     reader: &SegmentReader<'_>,
@@ -67,7 +67,7 @@ fn collect_leaf<A: Scorer + Drop, T: Scorer + Drop, P: Scorer + Drop, X: Scorer 
     }
 }
 
-/// Gives the documents that remain and are alive, as those of a segment, with their scores.
+/// Feeds the remaining living documents of `scorer` with their scores to `top`, as those of `segment_ord`.
 fn collect_living<S: Scorer + Drop>(
     scorer: S,
     reader: &SegmentReader<'_>,
@@ -95,7 +95,7 @@ fn collect_living<S: Scorer + Drop>(
     Ok(())
 }
 
-/// The score of the current document.
+/// Returns the score of the current document.
 #[inline]
 fn current_score<S: Scorer>(scorer: &mut S) -> u64
     requires { first (S.entries scorer.old) < terminated }
@@ -105,7 +105,7 @@ fn current_score<S: Scorer>(scorer: &mut S) -> u64
     scorer.score() as u64
 }
 
-/// Whether a document of a segment is alive.
+/// Whether `doc` is alive.
 #[inline]
 fn is_alive(reader: &SegmentReader<'_>, doc: DocId) -> bool
     requires { doc < max_doc_of reader.now }

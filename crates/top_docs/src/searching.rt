@@ -22,8 +22,8 @@ use std::alloc::{AllocError, Global};
 use top_n_computer::TopNComputer;
 use tree_scorers::scorer_of;
 
-/// The best living documents of segments that match a query, so many at most, each with its score: by score, and then
-/// by segment and number.
+/// Returns the best `limit` living documents of `readers` that match `query`, each with its score: by score, and then
+/// by segment and document id.
 pub fn top_docs<'a, W: LeafWeights<'a>>(
     alloc: Global,
     readers: &[SegmentReader<'a>],
@@ -48,7 +48,7 @@ pub fn top_docs<'a, W: LeafWeights<'a>>(
     top.into_sorted_vec()
 }
 
-/// Gives what keeps the best the living documents of one segment that match.
+/// Feeds the living documents of one segment that match `query` to `top`.
 fn collect_segment<'a, W: LeafWeights<'a>>(
     alloc: Global,
     scorers: &ReaderScorers<'_, 'a, W>,

@@ -1,20 +1,20 @@
-//! The best of what comes, by score and then by its order.
+//! The best of the items that are pushed, by score and then by their order.
 
 ghost use Rattle.std.specs.Prelude.{[], ◌++◌, ◌∷◌, ◌≡◌, IfOk, List, OnOk, ℕ};
 ghost use Rattle.top_n_computer.specs.Reached.{IsReached, IsReached-prop, best_items, is_passed};
 
 use std::alloc::{AllocError, Global};
 
-/// How many items are kept at least before the others are let go.
+/// The least number of items that are kept before all but the best are dropped.
 const ROOM: usize = 64;
 
-/// The best of what was given, so many at most: by score, and of equal scores what came first. It keeps at most twice
+/// The best `limit` of the items that are pushed: by score, and of equal scores what came first. It keeps at most twice
 /// as many items, or 64, and takes no item in that can't be among the best.
 #[derive(Drop)]
 pub struct TopNComputer<X: Copy> {
     limit: usize,
     items: Vec<(u64, X)>,
-    // Once so many are better or as good, only what is better is taken.
+    // Once `limit` items score at least this, only better items are taken.
     threshold: Option<u64>,
     ghost reached: { IsReached limit items.items threshold } by { IsReached-prop limit items.items threshold },
 }
@@ -22,7 +22,7 @@ pub struct TopNComputer<X: Copy> {
 impl<X: Copy> TopNComputer<X> {
     ghost use Rattle.top_n_computer.specs.Best.{best_of, limit_of};
 
-    /// Nothing yet, of which so many are to be kept.
+    /// Returns a computer of the best `limit` items, without items yet.
     pub fn new(alloc: Global, limit: usize) -> TopNComputer<X>
         ensures best { best_of result ≡ [] }
         ensures limit { limit_of result ≡ limit }
@@ -34,7 +34,7 @@ impl<X: Copy> TopNComputer<X> {
         }
     }
 
-    /// Takes an item in, if it is among the best.
+    /// Adds `item` with its `score`, if it is among the best.
     pub fn push(&mut self, score: u64, item: X) -> Result<(), AllocError>
         ensures best { OnOk result (best_of self.new
             ≡ best_items (limit_of self.old) (best_of self.old ++ (score, item) ∷ [])) }
@@ -50,7 +50,7 @@ impl<X: Copy> TopNComputer<X> {
         Ok(())
     }
 
-    /// The best, the best one first.
+    /// Returns the best items, the best one first.
     pub fn into_sorted_vec(self) -> Result<Vec<(u64, X)>, AllocError>
         ensures { IfOk result (λ best. best.items ≡ best_of self) }
     {
@@ -60,7 +60,7 @@ impl<X: Copy> TopNComputer<X> {
         Ok(items)
     }
 
-    /// Whether so many are as good as this score already.
+    /// Whether `limit` items score at least `score` already.
     fn is_below(&self, score: u64) -> bool
         ensures { result ≡ is_passed self.now.threshold score }
     {
@@ -70,7 +70,7 @@ impl<X: Copy> TopNComputer<X> {
         }
     }
 
-    /// Lets go of all but the best.
+    /// Drops all but the best.
     fn keep_best(&mut self) -> Result<(), AllocError>
         ensures best { OnOk result (best_of self.new ≡ best_of self.old) }
         ensures limit { limit_of self.new ≡ limit_of self.old }
@@ -82,7 +82,7 @@ impl<X: Copy> TopNComputer<X> {
     }
 }
 
-/// Keeps the best k, by score and then by place.
+/// Keeps the best `k` of `items`, by score and then by order.
 fn sort_best<X: Copy>(items: &mut Vec<(u64, X)>, k: usize) -> Result<(), AllocError>
     ensures { OnOk result (items.new.items ≡ best_items k items.old.items) }
 {
@@ -91,7 +91,7 @@ fn sort_best<X: Copy>(items: &mut Vec<(u64, X)>, k: usize) -> Result<(), AllocEr
     Ok(())
 }
 
-/// The least score of the best k, if there are so many.
+/// Returns the least score of the best `k`, if there are as many.
 fn least_score<X: Copy>(best: &[(u64, X)], k: usize) -> Option<u64>
     ensures { (items : List (ℕ × X)) → best.now ≡ best_items k items → IsReached k items result }
 {

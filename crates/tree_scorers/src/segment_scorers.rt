@@ -1,4 +1,4 @@
-//! What makes the scorers of each kind of query in a segment.
+//! Makers of the scorers of each kind of query in a segment.
 
 ghost use Rattle.std.specs.Prelude.{◌*◌, ◌+◌, ◌≡◌, ◌≤ℤ◌, ◌≤◌, IfOk, map, pos, ℕ, ℤ};
 ghost use Rattle.definitions.specs.Query as definitions;
@@ -14,7 +14,7 @@ use docsets::Scorer;
 use query_trees::{PhrasePrefixQuery, PhraseQuery, TermQuery};
 use std::alloc::{AllocError, Global};
 
-/// What makes the scorers of each kind of query in a segment, by weights of terms and norms of lengths.
+/// A maker of the scorers of each kind of query in a segment, by weights of terms and norms of lengths.
 pub trait SegmentScorers {
     /// The scorer of a query of any kind.
     type Scorer: Scorer + Drop;
@@ -25,17 +25,17 @@ pub trait SegmentScorers {
     // The segment.
     ghost segment: { Self → SegmentReader };
 
-    /// Every document, by the boost.
+    /// Returns a scorer of every document, by `boost`.
     fn all_scorer(&self, boost: u64) -> Self::Scorer
         requires { boost ≤ max_score }
         ensures { Scores (similarity self.now) boost definitions.all (segment self.now) (Self.Scorer.entries result) };
 
-    /// No document.
+    /// Returns a scorer of no document.
     fn empty_scorer(&self, alloc: Global) -> Self::Scorer
         ensures { (b : ℕ)
             → Scores (similarity self.now) b definitions.empty (segment self.now) (Self.Scorer.entries result) };
 
-    /// The documents that hold a term.
+    /// Returns a scorer of the documents that hold a term.
     fn term_scorer(&self, alloc: Global, query: &TermQuery, boost: u64) -> Self::Scorer
         requires small { boost ≤ max_score }
         requires accepted { IsAccepted (similarity self.now).weight boost
@@ -43,7 +43,7 @@ pub trait SegmentScorers {
         ensures { Scores (similarity self.now) boost (definitions.term query.now.0 query.now.1) (segment self.now)
             (Self.Scorer.entries result) };
 
-    /// The documents where a phrase stands.
+    /// Returns a scorer of the documents where a phrase occurs.
     fn phrase_scorer(
         &self,
         alloc: Global,
@@ -56,7 +56,7 @@ pub trait SegmentScorers {
         ensures { IfOk result (λ scorer. Scores (similarity self.now) boost
             (definitions.phrase query.now.0 query.now.1) (segment self.now) (Self.Scorer.entries scorer)) };
 
-    /// The documents where terms that begin with a prefix follow whole terms.
+    /// Returns a scorer of the documents where terms that begin with a prefix follow whole terms.
     fn phrase_prefix_scorer(
         &self,
         alloc: Global,
@@ -69,7 +69,7 @@ pub trait SegmentScorers {
         ensures { IfOk result (λ scorer. Scores (similarity self.now) boost
             (definitions.phrase_prefix query.now.0 query.now.1) (segment self.now) (Self.Scorer.entries scorer)) };
 
-    /// The documents that match clauses, whose scorers these are, by what they ask.
+    /// Returns a scorer of the documents that match clauses, whose scorers are given by what the clauses ask.
     fn clauses_scorer(
         &self,
         alloc: Global,
@@ -91,8 +91,8 @@ pub trait SegmentScorers {
             (definitions.boolean clauses minimum_number_should_match) (segment self.now)
             (Self.Scorer.entries scorer)) };
 
-    /// The documents that match one of several queries, whose scorers these are, by the best score and so many
-    /// thousandths of the others.
+    /// Returns a scorer of the documents that match one of several queries, whose scorers are `disjuncts`, by the best
+    /// score and `tie_breaker` thousandths of the others.
     fn best_scorer(
         &self,
         alloc: Global,
@@ -108,7 +108,7 @@ pub trait SegmentScorers {
             → IfOk result (λ scorer. Scores (similarity self.now) b
             (definitions.disjunction_max queries tie_breaker) (segment self.now) (Self.Scorer.entries scorer)) };
 
-    /// The documents of a scorer, each with the same score, which is the boost times the constant.
+    /// Returns the documents of `scorer`, each with `score`, which is the boost times the constant.
     fn constant_scorer(
         &self,
         alloc: Global,

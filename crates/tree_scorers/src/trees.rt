@@ -17,7 +17,8 @@ use query_trees::{
 };
 use std::alloc::{AllocError, Global};
 
-/// The documents of a segment that match a query, with their scores under a boost. Calls nest as deep as the tree.
+/// Returns a scorer of the documents of a segment that match `query`, with their scores under `boost`. Calls nest as
+/// deep as the tree.
 #[cycle(scorer_of)]
 pub fn scorer_of<F: SegmentScorers>(
     alloc: Global,
@@ -43,7 +44,7 @@ pub fn scorer_of<F: SegmentScorers>(
     }
 }
 
-/// The documents that match clauses.
+/// Returns a scorer of the documents that match the clauses of `query`.
 #[cycle(scorer_of)]
 fn boolean_scorer<F: SegmentScorers>(
     alloc: Global,
@@ -65,7 +66,7 @@ fn boolean_scorer<F: SegmentScorers>(
     forms.clauses_scorer(alloc, musts, shoulds, must_nots, minimum)
 }
 
-/// The scorers of the clauses that ask this, in order.
+/// Returns the scorers of the clauses that ask `occur`, in order.
 #[cycle(scorer_of)]
 fn scorers_asked<F: SegmentScorers>(
     alloc: Global,
@@ -88,14 +89,14 @@ fn scorers_asked<F: SegmentScorers>(
     Ok(scorers)
 }
 
-/// Whether two clauses ask the same.
+/// Whether `one` and `other` ask the same.
 fn is_same(one: Occur, other: Occur) -> bool
     ensures { result ≡ is_same (occur_of one) (occur_of other) }
 {
     one == other
 }
 
-/// The documents that match one of several queries.
+/// Returns a scorer of the documents that match one of several queries.
 #[cycle(scorer_of)]
 fn max_scorer<F: SegmentScorers>(
     alloc: Global,
@@ -113,7 +114,7 @@ fn max_scorer<F: SegmentScorers>(
     forms.best_scorer(alloc, disjuncts, query.tie_breaker())
 }
 
-/// The scorers of queries, in order.
+/// Returns the scorers of `queries`, in order.
 #[cycle(scorer_of)]
 fn scorers_of<F: SegmentScorers>(
     alloc: Global,
@@ -133,7 +134,7 @@ fn scorers_of<F: SegmentScorers>(
     Ok(scorers)
 }
 
-/// The documents that match a query, boosted once more.
+/// Returns a scorer of the documents that match a query, boosted once more.
 #[cycle(scorer_of)]
 fn boosted_scorer<F: SegmentScorers>(
     alloc: Global,
@@ -151,7 +152,7 @@ fn boosted_scorer<F: SegmentScorers>(
     scorer_of(alloc, forms, query.query(), boost)
 }
 
-/// The documents that match a query, by one score.
+/// Returns a scorer of the documents that match a query, with one score.
 #[cycle(scorer_of)]
 fn constant_scorer<F: SegmentScorers>(
     alloc: Global,
@@ -169,7 +170,7 @@ fn constant_scorer<F: SegmentScorers>(
     forms.constant_scorer(alloc, scorer, product(boost, query.score()))
 }
 
-/// The product of a boost and a factor.
+/// Returns the product of `boost` and `factor`.
 fn product(boost: u64, factor: Score) -> u64
     requires positive { pos 0 ≤ℤ factor }
     requires fits { boost * natural factor ≤ max_score }

@@ -1,4 +1,4 @@
-//! Addresses written as texts.
+//! IP addresses printed as texts.
 
 ghost use Rattle.std.specs.Prelude.{◌%◌, ◌++◌, ◌/◌, ◌<◌, ◌^◌, ◌≡◌, IfOk, OnOk, false, string_bytes};
 ghost use Rattle.std.specs.Fmt.{digits};
@@ -6,16 +6,16 @@ ghost use Rattle.definitions.specs.Addresses.{address_text, groups_text, quad_te
 
 use std::alloc::{AllocError, Global};
 
-/// What stands above the 32 bits of an IPv4 address that is mapped into IPv6.
+/// The bits above the 32 bits of an IPv4 address that is mapped into IPv6.
 const MAPPED: u128 = 0xffff;
 
-/// The longest text of an address: eight groups of four digits, and seven colons.
+/// The length of the longest text of an address: eight groups of four digits, and seven colons.
 const MAX_LEN: usize = 39;
 
-/// How many bits stand behind each group but the first.
+/// The numbers of bits below each group but the first.
 const LATER_SHIFTS: [u32; 7] = [96, 80, 64, 48, 32, 16, 0];
 
-/// The address of these 128 bits: of a mapped IPv4 address a dotted quad, of another eight groups of lower-case
+/// Prints the address of 128 bits: a mapped IPv4 address as a dotted quad, any other as eight groups of lower-case
 /// hexadecimal digits without leading zeros, with colons between them.
 pub fn address_text(alloc: Global, address: u128) -> Result<String, AllocError>
     ensures { IfOk result (λ text. string_bytes text ≡ address_text address) }
@@ -26,7 +26,7 @@ pub fn address_text(alloc: Global, address: u128) -> Result<String, AllocError>
     groups_text(alloc, address)
 }
 
-/// The dotted quad of an IPv4 address.
+/// Prints an IPv4 address as a dotted quad.
 fn quad_text(alloc: Global, address: u32) -> Result<String, AllocError>
     ensures { IfOk result (λ text. string_bytes text ≡ quad_text address) }
 {
@@ -34,7 +34,7 @@ fn quad_text(alloc: Global, address: u32) -> Result<String, AllocError>
     format!(in alloc; "{a}.{b}.{c}.{d}")
 }
 
-/// The eight groups of an address.
+/// Prints an address as eight groups.
 fn groups_text(alloc: Global, address: u128) -> Result<String, AllocError>
     ensures { IfOk result (λ text. string_bytes text ≡ groups_text address) }
 {
@@ -47,7 +47,7 @@ fn groups_text(alloc: Global, address: u128) -> Result<String, AllocError>
     Ok(text)
 }
 
-/// Appends the group of an address behind which so many bits stand.
+/// Appends the group of `address` that has `shift` bits below it.
 fn push_group(text: &mut String, address: u128, shift: u32) -> Result<(), AllocError>
     requires { shift < 128 }
     ensures { OnOk result (string_bytes text.new ≡ string_bytes text.old ++ digits 16 false (address / 2 ^ shift % 2 ^ 16)) }

@@ -1,12 +1,12 @@
-//! Addresses as texts.
+//! IP addresses read from texts.
 
 ghost use Rattle.std.specs.Prelude.{◌≡◌};
 ghost use Rattle.definitions.specs.Addresses.{address_in};
 
 use std::net::{Ipv4Addr, Ipv6Addr};
 
-/// The 128 bits of the address in a text, of an IPv4 address those of the one that it is mapped to: a dotted
-/// quad, or eight groups of hexadecimal digits, of which a `::` may stand for some and a quad for the last two.
+/// Reads the 128 bits of the address in `text`; an IPv4 address is mapped into IPv6. It is a dotted quad, or eight
+/// groups of hexadecimal digits, of which a `::` may replace some and a quad the last two.
 pub fn read_address(text: &str) -> Option<u128>
     ensures { result ≡ address_in text.now }
 {

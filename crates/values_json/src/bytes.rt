@@ -10,7 +10,7 @@ use base64::engine::general_purpose::STANDARD;
 use definitions::Fault;
 use std::alloc::{AllocError, Global};
 
-/// The byte string of a text in standard base64. A text that is none is `InvalidBase64`.
+/// Decodes a text in standard base64; any other text is `InvalidBase64`.
 pub fn read_bytes(alloc: Global, text: &str) -> Result<Vec<u8>, Fault>
     ensures ok { IfOk result (λ bytes. decoded_of standard text.now ≡ Some bytes.items) }
     ensures err { IfErr result (λ fault. fault ≢ faults.OutOfMemory → (fault ≡ faults.InvalidBase64) × (decoded_of standard text.now ≡ None)) }
@@ -22,7 +22,7 @@ pub fn read_bytes(alloc: Global, text: &str) -> Result<Vec<u8>, Fault>
     }
 }
 
-/// The text of a byte string in standard base64.
+/// Encodes `bytes` in standard base64.
 pub fn bytes_text(alloc: Global, bytes: &[u8]) -> Result<String, AllocError>
     ensures { IfOk result (λ text. string_bytes text ≡ encode_of standard bytes.now) }
 {

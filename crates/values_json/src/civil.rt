@@ -1,13 +1,13 @@
-//! Days as years, months and days, from the year 0 to the year 2262.
+//! Days as years, months and days of a month, from the year 0 to the year 2262.
 
 ghost use Rattle.std.specs.Prelude.{◌<◌, ◌+◌, ◌≡◌, ◌≤◌};
 ghost use Rattle.definitions.specs.Dates.{days_before, is_leap, month_lengths};
 ghost use Rattle.values_json.specs.DateParts.{month_and_day_in};
 
-/// The first day that is past the reach of dates; the days are numbered from the year 0 on.
+/// The first day past the range of dates; days are numbered from the start of the year 0.
 pub(crate) const LAST_DAY: u32 = 826_280;
 
-/// The days of the years before this one.
+/// Returns the number of days before `year`.
 pub(crate) fn days_before(year: u32) -> u32
     requires { year ≤ 2264 }
     ensures { result ≡ days_before year }
@@ -15,7 +15,7 @@ pub(crate) fn days_before(year: u32) -> u32
     365 * year + (year + 3) / 4 - (year + 99) / 100 + (year + 399) / 400
 }
 
-/// The year of a day.
+/// Returns the year of `day`.
 pub(crate) fn year_of(day: u32) -> u32
     requires { day < LAST_DAY }
     ensures begins { days_before result ≤ day }
@@ -33,7 +33,7 @@ pub(crate) fn year_of(day: u32) -> u32
     }
 }
 
-/// How many days the months of a year have.
+/// Returns the number of days of each month of `year`.
 fn month_lengths(year: u32) -> [u32; 12]
     ensures { result ≡ month_lengths year }
 {
@@ -41,14 +41,14 @@ fn month_lengths(year: u32) -> [u32; 12]
     [31, february, 31, 30, 31, 30, 31, 31, 30, 31, 30, 31]
 }
 
-/// Whether a year has a leap day.
+/// Whether `year` has a leap day.
 fn is_leap(year: u32) -> bool
     ensures { result ≡ is_leap year }
 {
     year % 4 == 0 && (year % 100 != 0 || year % 400 == 0)
 }
 
-/// The month and the day of the month, both from 1, of a day of a year, from 0.
+/// Returns the month and the day of the month, both from 1, of a day of `year`, which is numbered from 0.
 pub(crate) fn month_and_day(year: u32, day: u32) -> (u32, u32)
     requires { day < 366 }
     ensures { (result.0, result.1) ≡ month_and_day_in year day }

@@ -1,4 +1,4 @@
-//! Dates written as texts.
+//! Dates printed as texts.
 
 ghost use Rattle.std.specs.Prelude.{◌++◌, ◌+ℤ◌, ◌*◌, ◌<◌, ◌^◌, ◌≡◌, IfOk, OnOk, nat_abs, pos, string_bytes};
 ghost use Rattle.definitions.specs.Dates.{date_text, fraction_text, nanos_before_1970, time_text};
@@ -9,11 +9,11 @@ use crate::padded::push_padded;
 use std::alloc::{AllocError, Global};
 use terms::DateTime;
 
-/// The longest text of a date: a year of four digits, and a fraction of nine.
+/// The length of the longest text of a date: a year of four digits, and a fraction of nine.
 const MAX_LEN: usize = 30;
 
-/// The date as `YYYY-MM-DDTHH:MM:SS`, a dot and the fraction's digits without last zeros where it isn't zero,
-/// and `Z`.
+/// Prints `date` as `YYYY-MM-DDTHH:MM:SS`, a dot and the fraction's digits without trailing zeros if it isn't zero, and
+/// `Z`.
 pub fn date_text(alloc: Global, date: DateTime) -> Result<String, AllocError>
     ensures { IfOk result (λ text. string_bytes text ≡ date_text date) }
 {
@@ -22,7 +22,7 @@ pub fn date_text(alloc: Global, date: DateTime) -> Result<String, AllocError>
     Ok(text)
 }
 
-/// The nanoseconds since the year 0.
+/// Returns the nanoseconds since the start of the year 0.
 fn nanos_from_year_0(date: DateTime) -> u128
     ensures value { result ≡ nat_abs (date +ℤ pos nanos_before_1970) }
     ensures reached { result < LAST_DAY * (86400 * 10 ^ 9) }
@@ -30,7 +30,7 @@ fn nanos_from_year_0(date: DateTime) -> u128
     (date.into_timestamp_nanos() as i128 + 62_167_219_200_000_000_000) as u128
 }
 
-/// Appends the instant of so many nanoseconds since the year 0.
+/// Appends the instant `nanos` nanoseconds after the start of the year 0.
 fn push_instant(text: &mut String, nanos: u128) -> Result<(), AllocError>
     requires { nanos < LAST_DAY * (86400 * 10 ^ 9) }
     ensures { OnOk result (string_bytes text.new ≡ string_bytes text.old ++ parts_text nanos) }
@@ -42,7 +42,7 @@ fn push_instant(text: &mut String, nanos: u128) -> Result<(), AllocError>
     text.push_str("Z")
 }
 
-/// Appends the date of a day, which are numbered from the year 0 on.
+/// Appends the date of `day`; days are numbered from the start of the year 0.
 fn push_day(text: &mut String, day: u32) -> Result<(), AllocError>
     requires { day < LAST_DAY }
     ensures { OnOk result (string_bytes text.new ≡ string_bytes text.old ++ civil_text day) }
@@ -56,7 +56,7 @@ fn push_day(text: &mut String, day: u32) -> Result<(), AllocError>
     push_padded(text, 2, day_of_month)
 }
 
-/// Appends the time of a second of a day.
+/// Appends the time of `second`, in a day.
 fn push_time(text: &mut String, second: u32) -> Result<(), AllocError>
     requires { second < 86400 }
     ensures { OnOk result (string_bytes text.new ≡ string_bytes text.old ++ time_text second) }
@@ -68,7 +68,7 @@ fn push_time(text: &mut String, second: u32) -> Result<(), AllocError>
     push_padded(text, 2, second % 60)
 }
 
-/// Appends a dot and the digits of the nanoseconds without last zeros, where they aren't zero.
+/// Appends a dot and the digits of `nanos` without trailing zeros, if they aren't zero.
 fn push_fraction(text: &mut String, nanos: u32) -> Result<(), AllocError>
     requires { nanos < 10 ^ 9 }
     ensures { OnOk result (string_bytes text.new ≡ string_bytes text.old ++ fraction_text nanos) }

@@ -1,4 +1,4 @@
-//! Dates as texts.
+//! Dates read from texts.
 
 ghost use Rattle.std.specs.Prelude.{◌≡◌};
 ghost use Rattle.std.specs.Result.{result_map_both};
@@ -10,8 +10,8 @@ use definitions::Fault;
 use jiff::Timestamp;
 use terms::DateTime;
 
-/// The date in a text that `jiff` reads as a timestamp. Others are `ParseError`, and one that 64 bits of
-/// nanoseconds don't reach is `OverflowError`.
+/// Reads a date that `jiff` reads as a timestamp. Other texts are `ParseError`; a date that 64 bits of nanoseconds
+/// don't reach is `OverflowError`.
 pub fn read_date(text: &str) -> Result<DateTime, Fault>
     ensures { result_map_both values.date (λ fault. fault) result ≡ date_value text.now }
 {
@@ -21,7 +21,7 @@ pub fn read_date(text: &str) -> Result<DateTime, Fault>
     }
 }
 
-/// The date so many nanoseconds after the start of 1970.
+/// Makes the date `nanos` nanoseconds after the start of 1970.
 fn date_within(nanos: i128) -> Result<DateTime, Fault>
     ensures { result_map_both values.date (λ fault. fault) result ≡ date_within nanos }
 {

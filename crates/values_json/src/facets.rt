@@ -1,4 +1,4 @@
-//! Facets as texts.
+//! Facets read from texts.
 
 ghost use Rattle.std.specs.Prelude.{◌≡◌, ◌≢◌, IfErr, IfOk, None, Some};
 ghost use Rattle.definitions.specs.Facets.{facet_of_path};
@@ -8,7 +8,7 @@ use definitions::Fault;
 use std::alloc::Global;
 use terms::Facet;
 
-/// The facet of a path. A text that is none is `ParseError`.
+/// Reads the facet of a path; any other text is `ParseError`.
 pub fn read_facet(alloc: Global, text: &str) -> Result<Facet, Fault>
     ensures ok { IfOk result (λ facet. facet_of_path text.now ≡ Some facet) }
     ensures err { IfErr result (λ fault. fault ≢ faults.OutOfMemory → (fault ≡ faults.ParseError) × (facet_of_path text.now ≡ None)) }

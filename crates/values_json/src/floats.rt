@@ -6,7 +6,7 @@ ghost use Rattle.serde_json.specs.Written as json;
 
 use serde_json::{Map, Value as Json};
 
-/// Whether a float stands in the value, at any depth.
+/// Whether `value` contains a float, at any depth.
 #[cycle(floats)]
 pub fn has_float(value: &Json) -> bool
     ensures { result ≡ json.has_float (view value.now) }
@@ -19,7 +19,7 @@ pub fn has_float(value: &Json) -> bool
     }
 }
 
-/// Whether a float stands in one of the items.
+/// Whether one of `items` contains a float.
 #[cycle(floats)]
 fn items_have_float(items: &Vec<Json>) -> bool
     ensures { result ≡ json.items_have_float (items_view items.now.items) }
@@ -32,7 +32,7 @@ fn items_have_float(items: &Vec<Json>) -> bool
     false
 }
 
-/// Whether a float stands in one of the members.
+/// Whether one of `members` contains a float.
 #[cycle(floats)]
 fn members_have_float(members: &Map<String, Json>) -> bool
     ensures { result ≡ json.members_have_float (members_view members.now.entries) }

@@ -19,6 +19,6 @@ pub enum Leaf {
     Facet(Facet),
     /// A byte string.
     Bytes(Vec<u8>),
-    /// An address by its 128 bits; one of IPv4 is mapped into IPv6.
+    /// An IP address by its 128 bits; IPv4 is mapped into IPv6.
     IpAddr(u128),
 }

@@ -12,7 +12,7 @@ use crate::leaf::Leaf;
 use serde_json::Value as Json;
 use std::alloc::{AllocError, Global};
 
-/// The leaf as JSON: dates, facets, byte strings and addresses as texts.
+/// Prints `leaf` as JSON: dates, facets, byte strings and addresses as texts.
 pub fn leaf_to_json(alloc: Global, leaf: &Leaf) -> Result<Json, AllocError>
     ensures { IfOk result (λ json. view json ≡ printed (value_of leaf.now)) }
 {

@@ -25,8 +25,8 @@ use serde_json::Value as Json;
 use std::alloc::Global;
 use terms::Type;
 
-/// One value of a field of that type, but for the objects of JSON fields. Where the field coerces, further kinds of
-/// JSON values are taken, and floats are to be refused before.
+/// Reads one value of a field of the type `kind`, except for the objects of JSON fields. A field that coerces takes
+/// more kinds of JSON values; its floats must be refused before.
 pub fn read_leaf(alloc: Global, kind: Type, coerce: bool, json: &Json) -> Result<Leaf, Fault>
     requires leaf { kind_of kind ≡ json_kind → as_object (view json.now) ≡ None }
     requires whole { coerce ≡ true → has_float (view json.now) ≡ false }
@@ -46,7 +46,7 @@ pub fn read_leaf(alloc: Global, kind: Type, coerce: bool, json: &Json) -> Result
     }
 }
 
-/// A text as it stands; where the field coerces, also the JSON text of a whole number, a bool or null.
+/// Reads a text; if the field coerces, also a whole number, a bool or null by its JSON text.
 fn read_text(alloc: Global, coerce: bool, json: &Json) -> Result<Leaf, Fault>
     requires { coerce ≡ true → has_float (view json.now) ≡ false }
     ensures ok { IfOk result (λ leaf. read_kind text_kind coerce (view json.now) ≡ Ok (value_of leaf)) }
@@ -59,7 +59,7 @@ fn read_text(alloc: Global, coerce: bool, json: &Json) -> Result<Leaf, Fault>
     }
 }
 
-/// The JSON text of a value, where the field coerces.
+/// Returns the JSON text of a value if the field coerces.
 fn coerced_text(alloc: Global, coerce: bool, json: &Json) -> Result<Leaf, Fault>
     requires { coerce ≡ true → has_float (view json.now) ≡ false }
     ensures ok { IfOk result (λ leaf. if_coerced coerce (Ok (values.str (compact_text (view json.now)))) ≡ Ok (value_of leaf)) }
@@ -71,7 +71,7 @@ fn coerced_text(alloc: Global, coerce: bool, json: &Json) -> Result<Leaf, Fault>
     Ok(Leaf::Str(json.to_string(alloc)?))
 }
 
-/// A whole number from 0 below 2^64; where the field coerces, also a decimal text of one.
+/// Reads a whole number from 0 below 2^64; if the field coerces, also a decimal text of one.
 fn read_u64(coerce: bool, json: &Json) -> Result<Leaf, Fault>
     ensures { result_map_both value_of (λ fault. fault) result ≡ read_kind u64_kind coerce (view json.now) }
 {
@@ -82,7 +82,7 @@ fn read_u64(coerce: bool, json: &Json) -> Result<Leaf, Fault>
     }
 }
 
-/// A whole number from -2^63 below 2^63; where the field coerces, also a decimal text of one.
+/// Reads a whole number from -2^63 below 2^63; if the field coerces, also a decimal text of one.
 fn read_i64(coerce: bool, json: &Json) -> Result<Leaf, Fault>
     ensures { result_map_both value_of (λ fault. fault) result ≡ read_kind i64_kind coerce (view json.now) }
 {
@@ -93,7 +93,7 @@ fn read_i64(coerce: bool, json: &Json) -> Result<Leaf, Fault>
     }
 }
 
-/// True or false; where the field coerces, also the text of one.
+/// Reads a bool; if the field coerces, also the text of one.
 fn read_bool(coerce: bool, json: &Json) -> Result<Leaf, Fault>
     ensures { result_map_both value_of (λ fault. fault) result ≡ read_kind bool_kind coerce (view json.now) }
 {
@@ -104,7 +104,7 @@ fn read_bool(coerce: bool, json: &Json) -> Result<Leaf, Fault>
     }
 }
 
-/// A date of a text. A whole number from -2^63 below 2^63 stays a number.
+/// Reads the date of a text. A whole number from -2^63 below 2^63 stays a number.
 fn read_date_or_number(json: &Json) -> Result<Leaf, Fault>
     ensures { (coerce : Bool) → result_map_both value_of (λ fault. fault) result ≡ read_kind date_kind coerce (view json.now) }
 {
@@ -115,7 +115,7 @@ fn read_date_or_number(json: &Json) -> Result<Leaf, Fault>
     }
 }
 
-/// The facet of a path.
+/// Reads the facet of a path.
 fn read_facet_path(alloc: Global, json: &Json) -> Result<Leaf, Fault>
     ensures ok { (coerce : Bool) → IfOk result (λ leaf. read_kind facet_kind coerce (view json.now) ≡ Ok (value_of leaf)) }
     ensures err { (coerce : Bool) → IfErr result (λ fault. fault ≢ faults.OutOfMemory → read_kind facet_kind coerce (view json.now) ≡ Err fault) }
@@ -126,7 +126,7 @@ fn read_facet_path(alloc: Global, json: &Json) -> Result<Leaf, Fault>
     }
 }
 
-/// The byte string of a text in standard base64.
+/// Reads the byte string of a text in standard base64.
 fn read_base64(alloc: Global, json: &Json) -> Result<Leaf, Fault>
     ensures ok { (coerce : Bool) → IfOk result (λ leaf. read_kind bytes_kind coerce (view json.now) ≡ Ok (value_of leaf)) }
     ensures err { (coerce : Bool) → IfErr result (λ fault. fault ≢ faults.OutOfMemory → read_kind bytes_kind coerce (view json.now) ≡ Err fault) }
@@ -137,7 +137,7 @@ fn read_base64(alloc: Global, json: &Json) -> Result<Leaf, Fault>
     }
 }
 
-/// The address in a text.
+/// Reads the IP address in a text.
 fn read_ip_addr(json: &Json) -> Result<Leaf, Fault>
     ensures { (coerce : Bool) → result_map_both value_of (λ fault. fault) result ≡ read_kind ip_addr_kind coerce (view json.now) }
 {

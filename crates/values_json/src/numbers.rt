@@ -9,8 +9,8 @@ ghost use Rattle.serde_json.specs.View.{number_view};
 use definitions::Fault;
 use serde_json::Number;
 
-/// The number in a text: one decimal digit or more, before which a `+` may stand. Others are `ParseError`, and
-/// so are those from 2^64 on.
+/// Reads the number in `text`: one or more decimal digits, maybe after a `+`. Other texts, and numbers from 2^64 on,
+/// are `ParseError`.
 pub fn read_u64_text(text: &str) -> Result<u64, Fault>
     ensures { result_map_both values.u64 (λ fault. fault) result ≡ reading.or_parse_error (reading.u64_text text.now) }
 {
@@ -20,8 +20,8 @@ pub fn read_u64_text(text: &str) -> Result<u64, Fault>
     }
 }
 
-/// The number in a text: one decimal digit or more, before which a `+` or a `-` may stand. Others are
-/// `ParseError`, and so are those that 64 bits don't hold.
+/// Reads the number in `text`: one or more decimal digits, maybe after a `+` or a `-`. Other texts, and numbers that
+/// don't fit in 64 bits, are `ParseError`.
 pub fn read_i64_text(text: &str) -> Result<i64, Fault>
     ensures { result_map_both values.i64 (λ fault. fault) result ≡ reading.or_parse_error (reading.i64_text text.now) }
 {
@@ -31,7 +31,7 @@ pub fn read_i64_text(text: &str) -> Result<i64, Fault>
     }
 }
 
-/// The bool in a text: `true` or `false`. Others are `ParseError`.
+/// Reads the bool in `text`: `true` or `false`. Other texts are `ParseError`.
 pub fn read_bool_text(text: &str) -> Result<bool, Fault>
     ensures { result_map_both values.bool (λ fault. fault) result ≡ reading.or_parse_error (reading.bool_text text.now) }
 {
@@ -42,7 +42,7 @@ pub fn read_bool_text(text: &str) -> Result<bool, Fault>
     }
 }
 
-/// A whole number from 0 below 2^64. One below 0 is `OverflowError`, and a float is `FloatValue`.
+/// Reads a whole number from 0 below 2^64. One below 0 is `OverflowError`, and a float is `FloatValue`.
 pub fn read_u64_number(number: &Number) -> Result<u64, Fault>
     ensures { result_map_both values.u64 (λ fault. fault) result ≡ reading.u64_number (number_view number.now) }
 {
@@ -53,7 +53,7 @@ pub fn read_u64_number(number: &Number) -> Result<u64, Fault>
     }
 }
 
-/// A whole number from -2^63 below 2^63. One from 2^63 on is `OverflowError`, and a float is `FloatValue`.
+/// Reads a whole number from -2^63 below 2^63. One from 2^63 on is `OverflowError`, and a float is `FloatValue`.
 pub fn read_i64_number(number: &Number) -> Result<i64, Fault>
     ensures { result_map_both values.i64 (λ fault. fault) result ≡ reading.i64_number (number_view number.now) }
 {

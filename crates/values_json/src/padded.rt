@@ -5,7 +5,7 @@ ghost use Rattle.definitions.specs.Dates.{padded};
 
 use std::alloc::AllocError;
 
-/// Appends a number in so many digits, with zeros before it.
+/// Appends `n` in `width` digits, with leading zeros.
 pub(crate) fn push_padded(text: &mut String, width: u32, n: u32) -> Result<(), AllocError>
     requires some { 0 < width }
     requires fits { n < 10 ^ width }

@@ -1,4 +1,4 @@
-//! What makes the scorers of queries that hold no other, by the statistics of an index.
+//! The maker of the scorers of queries that hold no other, by the statistics of an index.
 
 ghost use Rattle.std.specs.Prelude.{◌≡◌};
 
@@ -13,7 +13,7 @@ use settings::Statistics;
 use std::alloc::{AllocError, Global};
 use term_scorer::TermScorer;
 
-/// The weights of an index: those that its statistics tell.
+/// The weights of an index, from its statistics.
 #[derive(Drop)]
 pub struct IndexWeights<'a, S: Statistics> {
     statistics: &'a S,
@@ -22,7 +22,7 @@ pub struct IndexWeights<'a, S: Statistics> {
 impl<'a, S: Statistics> IndexWeights<'a, S> {
     ghost use Rattle.weights.specs.Scored.{statistics_of};
 
-    /// The weights that these statistics tell.
+    /// Returns the weights from `statistics`.
     pub fn new(statistics: &'a S) -> IndexWeights<'a, S>
         ensures { statistics_of result ≡ statistics.now }
     {

@@ -21,7 +21,7 @@ use term_scorer::TermScorer;
 use term_weight::TermWeight;
 use terms::Term;
 
-/// The sum of the weights of terms, repeats counted.
+/// Returns the sum of the weights of `terms`, repeats counted.
 fn sum_of_weights<S: Statistics>(statistics: &S, terms: &[(usize, Term)]) -> u64
     requires { weight_sum (S.similarity statistics.now).weight terms.now ≤ max_score }
     ensures { result ≡ weight_sum (S.similarity statistics.now).weight terms.now }
@@ -33,7 +33,7 @@ fn sum_of_weights<S: Statistics>(statistics: &S, terms: &[(usize, Term)]) -> u64
     sum
 }
 
-/// What the terms of a phrase weigh under a boost. Under none they weigh nothing, which no score tells apart.
+/// Returns the weight of the terms of a phrase under `boost`: 0 if the boost is 0, which no score shows.
 fn weight_under<S: Statistics>(statistics: &S, terms: &[(usize, Term)], boost: u64) -> u64
     requires { 1 ≤ boost → weight_sum (S.similarity statistics.now).weight terms.now ≤ max_score }
     ensures { result ≡ weight_sum (under boost (S.similarity statistics.now)).weight terms.now }
@@ -44,7 +44,7 @@ fn weight_under<S: Statistics>(statistics: &S, terms: &[(usize, Term)], boost: u
     sum_of_weights(statistics, terms)
 }
 
-/// The documents that hold a term, with their scores under a boost; none where no document holds it.
+/// Returns a scorer of the documents that hold a term, with their scores under `boost`; `None` if no document holds it.
 pub fn term_query_scorer<'a, S: Statistics>(
     reader: &SegmentReader<'a>,
     statistics: &'a S,
@@ -65,7 +65,8 @@ pub fn term_query_scorer<'a, S: Statistics>(
     term.term_scorer(reader, boost as Score)
 }
 
-/// The documents where a phrase stands, with their scores under a boost; none where no document holds one of its terms.
+/// Returns a scorer of the documents where a phrase occurs, with their scores under `boost`; `None` if one of its terms
+/// is in no document.
 pub fn phrase_query_scorer<'a, S: Statistics>(
     alloc: Global,
     reader: &SegmentReader<'a>,
@@ -87,8 +88,8 @@ pub fn phrase_query_scorer<'a, S: Statistics>(
     phrase.phrase_scorer(alloc, reader, boost as Score)
 }
 
-/// The documents where terms that begin with a prefix follow whole terms, with their scores under a boost; none where
-/// no document holds one of the whole terms.
+/// Returns a scorer of the documents where terms that begin with a prefix follow whole terms, with their scores under
+/// `boost`; `None` if one of the whole terms is in no document.
 pub fn prefix_query_scorer<'a, S: Statistics>(
     alloc: Global,
     reader: &SegmentReader<'a>,

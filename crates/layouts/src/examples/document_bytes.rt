@@ -8,7 +8,7 @@ ghost use Rattle.definitions.specs.Facets.{root};
 ghost use Rattle.definitions.specs.Values.{array, bool, bytes, date, facet, i64, ip_addr, member, no_members, no_values, null, object, pre_tok_str, str, u64, value};
 ghost use Rattle.layouts.specs.DocumentBytes.{document_bytes, pair_bytes, value_bytes};
 
-/// Each kind of value: its code, then what it holds.
+/// Each kind of value is its code, then its content.
 pub fn values_have_bytes()
     ensures text { hex (value_bytes (str (codes "sea"))) ≡ codes "0083736561" }
     ensures empty_text { hex (value_bytes (str [])) ≡ codes "0080" }
@@ -22,7 +22,7 @@ pub fn values_have_bytes()
     ensures null { hex (value_bytes null) ≡ codes "0b" }
 {}
 
-/// Numbers below zero and dates stand in two's complement, the lowest byte first.
+/// Negative numbers and dates are in two's complement, little-endian.
 pub fn signed_numbers_have_bytes()
     ensures positive { hex (value_bytes (i64 (pos 7))) ≡ codes "020700000000000000" }
     ensures minus_one { hex (value_bytes (i64 (negsuc 0))) ≡ codes "02ffffffffffffffff" }
@@ -31,7 +31,7 @@ pub fn signed_numbers_have_bytes()
     ensures before_1970 { hex (value_bytes (date (negsuc 1))) ≡ codes "05feffffffffffffff" }
 {}
 
-/// Arrays and objects say how much they hold.
+/// Arrays and objects begin with their length.
 pub fn nested_values_have_bytes()
     ensures empty_array { hex (value_bytes (array no_values)) ≡ codes "0c80" }
     ensures array { hex (value_bytes (array (value (bool true) (value null no_values)))) ≡ codes "0c8209010b" }
@@ -41,13 +41,13 @@ pub fn nested_values_have_bytes()
     ensures nested { hex (value_bytes (array (value (object (member (codes "a") (array no_values) no_members)) no_values))) ≡ codes "0c810d8181610c80" }
 {}
 
-/// A pre-tokenised text stands as its text, at any depth.
+/// A pre-tokenised text is encoded as its text, at any depth.
 pub fn pre_tokenised_texts_are_texts()
     ensures alone { hex (value_bytes (pre_tok_str (codes "sea") (record { position = 3; position_length = 1; text = codes "s" } ∷ []))) ≡ codes "0083736561" }
     ensures inside { hex (value_bytes (array (value (pre_tok_str (codes "sea") []) no_values))) ≡ codes "0c810083736561" }
 {}
 
-/// A document says how many pairs it has.
+/// A document begins with the number of its pairs.
 pub fn documents_have_bytes()
     ensures title_and_year { hex (document_bytes ((0, str (codes "c")) ∷ (1, u64 7) ∷ [])) ≡ codes "820000000000816301000000010700000000000000" }
     ensures empty { hex (document_bytes []) ≡ codes "80" }

@@ -13,7 +13,7 @@ ghost use Rattle.layouts.specs.TermExamples.{posting, titles, years};
 ghost use Rattle.layouts.specs.TermPostings.{postings_bytes};
 ghost use Rattle.layouts.specs.TermSections.{field_terms_bytes};
 
-/// A text records what its field does, and any other term the documents alone.
+/// A text term records what its field does, any other term only the documents.
 pub fn terms_record_what_their_fields_do()
     ensures text { option_of_term books (term_of_key books 0 (codes "sea")) ≡ with_freqs_and_positions }
     ensures number { option_of_term books (term_of_key books 1 (to_be_bytes w64 1952)) ≡ basic }
@@ -22,7 +22,7 @@ pub fn terms_record_what_their_fields_do()
     ensures no_field { option_of_term books (term_bytes 2 text_kind (codes "sea")) ≡ basic }
 {}
 
-/// Each indexed field is there; its tokens are the sum of its counts.
+/// Each indexed field is in the section; its number of tokens is the sum of its counts.
 pub fn fields_have_tokens()
     ensures fields { indexed_fields books ≡ 0 ∷ 1 ∷ [] }
     ensures titles { num_tokens titles ≡ 7 }
@@ -31,14 +31,14 @@ pub fn fields_have_tokens()
     ensures lengths { field_ids ((0, 3 ∷ 3 ∷ 1 ∷ []) ∷ []) 0 ≡ 3 ∷ 3 ∷ 1 ∷ [] }
 {}
 
-/// What the section of terms tells of the books.
+/// The terms section of the books.
 pub fn fields_have_bytes()
     ensures titles { hex (field_terms_bytes (field_terms titles)) ≡ codes "00000000070000000000000084836f6c64818282837365618284848374686581828284" ++ codes "77696e64828483" }
     ensures years { hex (field_terms_bytes (field_terms years)) ≡ codes "010000000300000000000000828800000000000007a08282808800000000000007c3818180" }
     ensures terms { all_terms books (years ∷ []) ≡ (0 ∷ 0 ∷ 0 ∷ 1 ∷ codes "u" ++ to_be_bytes w64 1952) ∷ (0 ∷ 0 ∷ 0 ∷ 1 ∷ codes "u" ++ to_be_bytes w64 1987) ∷ [] }
 {}
 
-/// The postings are those that the documents give their terms.
+/// The postings of a term are those that the documents have.
 pub fn postings_are_of_documents()
     ensures sea { postings books raw_and_default (term_of_key books 0 (codes "sea")) (old_sea ∷ sea_wind ∷ wind ∷ []) ≡ posting 0 1 (2 ∷ []) ∷ posting 1 2 (0 ∷ 1 ∷ []) ∷ [] }
     ensures year { postings books raw_and_default (term_of_key books 1 (to_be_bytes w64 1952)) (old_sea ∷ sea_wind ∷ wind ∷ []) ≡ posting 0 1 [] ∷ posting 2 1 [] ∷ [] }

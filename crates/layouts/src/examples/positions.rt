@@ -4,7 +4,7 @@
 ghost use Rattle.std.specs.Prelude.{[], ◌++◌, ◌∷◌, ◌≡◌, replicate};
 ghost use Rattle.layouts.specs.Positions.{ArePositions, position_numbers};
 
-/// The first position of each document stands as it is, and the others as differences.
+/// The first position of each document is encoded as it is, the others as differences.
 pub fn documents_have_numbers()
     ensures two { position_numbers ((2 ∷ []) ∷ (0 ∷ 1 ∷ []) ∷ []) ≡ 2 ∷ 0 ∷ 1 ∷ [] }
     ensures falling { position_numbers ((5 ∷ 5 ∷ 9 ∷ []) ∷ (3 ∷ []) ∷ []) ≡ 5 ∷ 0 ∷ 4 ∷ 3 ∷ [] }
@@ -17,7 +17,7 @@ pub fn positions_have_bytes()
     ensures none { ArePositions [] (0x80 ∷ []) }
 {}
 
-/// 128 positions 0 are a block of width 0, which takes no byte; position 5 is the rest.
+/// 128 positions 0 are a block of width 0, which takes no bytes; position 5 is the rest.
 pub fn a_block_stands_before_the_rest()
     ensures { ArePositions (replicate 128 0 ++ 5 ∷ []) (0x81 ∷ 0 ∷ 0x85 ∷ []) }
 {}

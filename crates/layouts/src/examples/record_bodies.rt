@@ -7,7 +7,7 @@ ghost use Rattle.definitions.specs.SchemaGrammar.{entry_named};
 ghost use Rattle.definitions.specs.Settings.{default_settings};
 ghost use Rattle.layouts.specs.RecordBodies.{first_in};
 
-/// What first bodies say: keys come in any order, and options that a type lacks are ignored.
+/// First bodies that are accepted: keys in any order, and options that a type lacks are ignored.
 pub fn first_bodies_are_read()
     ensures none { first_in (1 ∷ codes "{\"schema\":[],\"settings\":{}}") ≡ Some ([], default_settings) }
     ensures order { first_in (1 ∷ codes " {\"settings\" : {}, \"schema\" : [{\"options\":{\"gap\":1},\"type\":\"u64\",\"name\":\"n\"}]} ") ≡ Some (entry_named (codes "n") u64_kind ∷ [], default_settings) }

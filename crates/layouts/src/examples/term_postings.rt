@@ -29,7 +29,7 @@ pub fn counts_and_positions_are_told()
     ensures no_bound { skip_entry with_freqs [] 0 (range_with_len 0 128) (replicate 127 1 ++ 300 ∷ []) ≡ record { last_doc = 127; doc_width = 0; count_width = 9; count_sum = 0; least_id = 1; greatest_count = 255 } }
 {}
 
-/// The deltas go on behind a full block: the documents 0, 1, .. 127 and 130, and twice 128 documents.
+/// The deltas continue after a full block: the documents 0, 1, .. 127 and 130, and twice 128 documents.
 pub fn deltas_run_over_block_borders()
     ensures rest { postings_bytes basic [] (range_with_len 0 128 ++ 130 ∷ []) (replicate 129 1) ≡ 0x87 ∷ 0x7f ∷ 0 ∷ 0 ∷ 0 ∷ 0 ∷ 1 ∷ 1 ∷ 0x82 ∷ [] }
     ensures three_blocks { length (postings_bytes basic [] (range_with_len 0 384) (replicate 384 1)) ≡ 22 }

@@ -7,7 +7,7 @@ ghost use Rattle.definitions.specs.Examples.{hex};
 ghost use Rattle.layouts.specs.TermExamples.{two_fields};
 ghost use Rattle.layouts.specs.TermSections.{entry_of_term, field_terms_bytes, positions_start, postings_start, terms_bytes};
 
-/// A term stands by its value bytes, and then how many documents, bytes of postings and bytes of positions it has.
+/// A term is its value bytes, and then its number of documents, of bytes of postings and of bytes of positions.
 pub fn terms_have_bytes()
     ensures word { hex (entry_of_term (codes "sea", record { doc_freq = 2; postings_len = 4; positions_len = 4 })) ≡ codes "83736561828484" }
     ensures number { hex (entry_of_term (to_be_bytes w64 1952, record { doc_freq = 2; postings_len = 2; positions_len = 0 })) ≡ codes "8800000000000007a0828280" }
@@ -22,7 +22,7 @@ pub fn fields_have_bytes()
     ensures no_field { terms_bytes [] ≡ 0 ∷ [] }
 {}
 
-/// Postings and positions follow one another from 0, over all fields.
+/// Ranges of postings and positions are contiguous from 0, over all fields.
 pub fn ranges_follow_one_another()
     ensures first { postings_start 0 two_fields ≡ 0 }
     ensures second { postings_start 1 two_fields ≡ 2 }

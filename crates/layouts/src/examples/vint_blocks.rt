@@ -4,7 +4,7 @@
 ghost use Rattle.std.specs.Prelude.{[], ◌∷◌, ◌≡◌, None, Some};
 ghost use Rattle.layouts.specs.VintBlocks.{documents_bytes, numbers_bytes, take_all_numbers, take_documents, take_numbers};
 
-/// Numbers stand one after another.
+/// Numbers are encoded one after another.
 pub fn numbers_have_bytes()
     ensures none { numbers_bytes [] ≡ [] }
     ensures three_hundred { numbers_bytes (300 ∷ []) ≡ 0x2c ∷ 0x82 ∷ [] }
@@ -12,7 +12,7 @@ pub fn numbers_have_bytes()
     ensures positions { numbers_bytes (2 ∷ 0 ∷ 1 ∷ []) ≡ 0x82 ∷ 0x80 ∷ 0x81 ∷ [] }
 {}
 
-/// Documents stand as what each is above the least that may come; where 0 stands before, none does.
+/// Documents are encoded as their distance from the least one possible; offset 0 says that there is none before.
 pub fn documents_have_bytes()
     ensures first { documents_bytes 0 (5 ∷ 6 ∷ 9 ∷ []) ≡ 0x85 ∷ 0x80 ∷ 0x82 ∷ [] }
     ensures from_zero { documents_bytes 0 (0 ∷ 1 ∷ []) ≡ 0x80 ∷ 0x80 ∷ [] }
@@ -20,7 +20,7 @@ pub fn documents_have_bytes()
     ensures far { documents_bytes 0 (4294967295 ∷ []) ≡ 127 ∷ 127 ∷ 127 ∷ 127 ∷ 143 ∷ [] }
 {}
 
-/// So many numbers are taken, and what follows is left.
+/// `take_numbers` decodes `n` numbers and leaves what follows.
 pub fn numbers_are_taken()
     ensures none { take_numbers 0 (7 ∷ []) ≡ Some ([], 7 ∷ []) }
     ensures two { take_numbers 2 (0x81 ∷ 0x2c ∷ 0x82 ∷ 7 ∷ []) ≡ Some (1 ∷ 300 ∷ [], 7 ∷ []) }
@@ -31,7 +31,7 @@ pub fn numbers_are_taken()
     ensures too_great { take_numbers 1 (0 ∷ 0 ∷ 0 ∷ 0 ∷ 144 ∷ []) ≡ None }
 {}
 
-/// So many documents are taken, where they are all below 2^32.
+/// `take_documents` decodes `n` documents, where they are all below 2^32.
 pub fn documents_are_taken()
     ensures first { take_documents 0 3 (0x85 ∷ 0x80 ∷ 0x82 ∷ 7 ∷ []) ≡ Some (5 ∷ 6 ∷ 9 ∷ [], 7 ∷ []) }
     ensures behind { take_documents 127 2 (0x80 ∷ 0x81 ∷ []) ≡ Some (128 ∷ 130 ∷ [], []) }
@@ -40,7 +40,7 @@ pub fn documents_are_taken()
     ensures past_later { take_documents 0 2 (127 ∷ 127 ∷ 127 ∷ 127 ∷ 143 ∷ 0x80 ∷ []) ≡ None }
 {}
 
-/// Up to the end nothing is left.
+/// `take_all_numbers` decodes up to the end and leaves nothing.
 pub fn numbers_are_taken_up_to_the_end()
     ensures none { take_all_numbers 0 [] ≡ Some [] }
     ensures two { take_all_numbers 128 (0x81 ∷ 0x2c ∷ 0x82 ∷ []) ≡ Some (1 ∷ 300 ∷ []) }

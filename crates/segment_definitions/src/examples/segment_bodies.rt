@@ -5,7 +5,7 @@ ghost use Rattle.std.specs.Prelude.{[], ◌++◌, ◌∷◌, ◌≡◌, false, r
 ghost use Rattle.segment_definitions.specs.SegmentBodies.{Makes, fresh, kept, part_bytes, segments_body};
 ghost use Rattle.segment_definitions.specs.SegmentExamples.{HasByteEach, four_segments, three_segments};
 
-/// A kept segment is a place in four bytes, and a new one its length in eight and its bytes.
+/// A kept segment is its index in four bytes, and a new one its length in eight and its bytes.
 pub fn parts_have_bytes()
     ensures kept { part_bytes (kept 258) ≡ 0 ∷ 2 ∷ 1 ∷ 0 ∷ 0 ∷ [] }
     ensures new { part_bytes (fresh (7 ∷ 8 ∷ [])) ≡ 1 ∷ 2 ∷ 0 ∷ 0 ∷ 0 ∷ 0 ∷ 0 ∷ 0 ∷ 0 ∷ 7 ∷ 8 ∷ [] }
@@ -18,8 +18,8 @@ pub fn bodies_have_bytes()
     ensures both { segments_body (kept 0 ∷ fresh (9 ∷ []) ∷ []) ((true ∷ false ∷ false ∷ []) ∷ (true ∷ []) ∷ []) ≡ 2 ∷ 2 ∷ 0 ∷ 0 ∷ 0 ∷ 0 ∷ 0 ∷ 0 ∷ 0 ∷ 0 ∷ 1 ∷ 1 ∷ 0 ∷ 0 ∷ 0 ∷ 0 ∷ 0 ∷ 0 ∷ 0 ∷ 9 ∷ 3 ∷ 0 ∷ 0 ∷ 0 ∷ 1 ∷ replicate 7 0 ++ 1 ∷ 0 ∷ 0 ∷ 0 ∷ 1 ∷ replicate 7 0 }
 {}
 
-/// Of four segments the second and the third are merged: the first and the last are kept, at places that aren't neighbours,
-/// and the alive sets are those of the body.
+/// Of four segments the second and the third are merged: the first and the last are kept, at indices that aren't
+/// neighbours, and the alive sets are those of the body.
 pub fn kept_segments_stand_by_their_places()
     ensures merged { Makes HasByteEach four_segments three_segments (segments_body (kept 0 ∷ fresh (7 ∷ 8 ∷ 9 ∷ []) ∷ kept 3 ∷ []) ((true ∷ true ∷ []) ∷ (true ∷ true ∷ true ∷ []) ∷ (false ∷ true ∷ []) ∷ [])) }
     ensures none { Makes HasByteEach four_segments [] (segments_body [] []) }

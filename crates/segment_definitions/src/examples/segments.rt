@@ -20,7 +20,7 @@ pub fn documents_have_slots()
     ensures tokens { slot books ((0, pre_tok_str (codes "a") []) ∷ []) ≡ slot books ((0, str (codes "a")) ∷ []) }
 {}
 
-/// What no add takes is in no segment, also where its slot is that of another document.
+/// A document that no add accepts is in no segment, even where its slot is that of another document.
 pub fn segments_are_of_documents_that_adds_take()
     ensures same_slot { slot stored_years ((0, u64 (2 ^ 64 + 7)) ∷ []) ≡ slot stored_years ((0, u64 7) ∷ []) }
     ensures taken { IsTaken stored_years ((0, u64 7) ∷ []) }
@@ -31,7 +31,7 @@ pub fn segments_are_of_documents_that_adds_take()
     ensures other_kind { (bytes : List ℕ) → ¬ IsSegmentOf books raw_and_default (((1, str (codes "1952")) ∷ []) ∷ []) bytes }
 {}
 
-/// A section stands behind its length.
+/// A section follows its length.
 pub fn sections_have_lengths()
     ensures three { section_bytes (7 ∷ 8 ∷ 9 ∷ []) ≡ 3 ∷ 0 ∷ 0 ∷ 0 ∷ 0 ∷ 0 ∷ 0 ∷ 0 ∷ 7 ∷ 8 ∷ 9 ∷ [] }
     ensures none { section_bytes [] ≡ 0 ∷ 0 ∷ 0 ∷ 0 ∷ 0 ∷ 0 ∷ 0 ∷ 0 ∷ [] }
@@ -45,7 +45,7 @@ pub fn books_are_a_segment()
     ensures of_documents { IsSegmentOf books raw_and_default three_books (segment_bytes 3 book_sections) }
 {}
 
-/// One document without a value, in a schema without a field.
+/// A segment of one document without a value, in a schema without a field.
 pub fn the_least_segment()
     ensures bytes { hex (segment_bytes 1 bare_sections) ≡ codes "010000000100000000000000000000000000000000000000000000000000000000000000002c0000" ++ codes "00000000008000000000010000008185818080818902000000090000000000000000000000000000" ++ codes "000000000000000000" }
     ensures of_documents { IsSegmentOf [] raw_and_default ([] ∷ []) (segment_bytes 1 bare_sections) }
