@@ -10,7 +10,7 @@ use Rattle.definitions.specs.Postings.{terminated}
 use Rattle.definitions.specs.Scoring.{best_and_tie, natural}
 use Rattle.docsets.specs.CombiningLaws.{sum-cons}
 use Rattle.docsets.specs.ScoredEntries.{greatest_score}
-use Rattle.docsets.specs.MemberLaws.{sum-greatest}
+use Rattle.docsets.proofs.MemberLaws.{sum-greatest}
 use Rattle.docsets.specs.Members.{enough, entries_of, greatest_sum, scores_in}
 
 pub first_here : (e : Entry) (es : List Entry) → scores_of e.doc (e ∷ es) ≡ e.score ∷ scores_of e.doc es

@@ -5,7 +5,7 @@ use Rattle.std.proofs.lemmas.List.{append_assoc, length-append, length-map}
 use Rattle.any_scorer.specs.Clauses.{by_clauses, by_number, scores_at, scores_of}
 use Rattle.docsets.specs.Entries.{Entry, Rising}
 use Rattle.docsets.specs.CombiningLaws.{sum-cons}
-use Rattle.docsets.specs.MemberLaws.{one-entry, scores-append, sum-scores}
+use Rattle.docsets.proofs.MemberLaws.{one-entry, scores-append, sum-scores}
 use Rattle.docsets.specs.Members.{enough, entries_at, entries_of, scores_in}
 
 -- ---- one list and two

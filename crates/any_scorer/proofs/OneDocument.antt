@@ -4,7 +4,7 @@ use Rattle.std.proofs.lemmas.Bool.Decides.{nat_tests}
 use Rattle.any_scorer.specs.Clauses.{scores_of}
 use Rattle.docsets.specs.Entries.{Entry}
 use Rattle.definitions.specs.Postings.{terminated}
-use Rattle.intersections.specs.DifferenceLaws.{without-in, without-out}
+use Rattle.intersections.proofs.DifferenceLaws.{without-in, without-out}
 use Rattle.intersections.specs.Differences.{without}
 use Rattle.intersections.specs.Optionals.{score_with, with_optional}
 use Rattle.docsets.specs.ScoredEntryLaws.{by_place}

@@ -2,7 +2,7 @@
 use Rattle.std.proofs.Common.{[], ◌++◌, ◌+◌, ◌<◌, ◌∙◌, ◌∷◌, ◌≡◌, ◌≤◌, List, add-one, ap, arith, drop, length, map, refl, set, suc, sym, take, zero, ℕ}
 use Rattle.std.proofs.lemmas.List.{length-drop, take_more_set}
 use Rattle.docsets.specs.Entries.{Entry, Rising, first}
-use Rattle.docsets.specs.EntryLaws.{none_left}
+use Rattle.docsets.proofs.EntryLaws.{none_left}
 
 -- there is one more
 pub one_more : (n : ℕ) (es : List Entry) → first (drop n es) < 2147483647 → suc n ≤ length es

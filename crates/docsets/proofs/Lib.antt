@@ -1,2 +1,12 @@
 pub mod FirstDocuments
 pub mod ListCuts
+pub mod AtLeastLaws
+pub mod ChangedLists
+pub mod DangerLaws
+pub mod DefinedLaws
+pub mod DistinctLaws
+pub mod EntryLaws
+pub mod LeaderLaws
+pub mod MemberLaws
+pub mod ScoredEntryLaws
+pub mod SetEntryLaws

@@ -3,7 +3,7 @@ use Rattle.std.proofs.Common.{[], List, arith, drop, get_or, length, refl, subst
 use Rattle.std.proofs.lemmas.List.{get_or-take}
 use Rattle.std.specs.List.Sorted.{IsNonDecreasingBy}
 use Rattle.docsets.specs.Entries.{from}
-use Rattle.docsets.specs.EntryLaws.{from-first, from-out}
+use Rattle.docsets.proofs.EntryLaws.{from-first, from-out}
 use Rattle.definitions.specs.Scoring.{natural}
 use Rattle.docsets.specs.ScoredEntries.{AreScores, naturals, scored}
 use Rattle.docsets.specs.ScoredEntryLaws.{Rising-scores, by_place}

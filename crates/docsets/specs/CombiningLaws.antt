@@ -1,16 +1,15 @@
 -- Laws of combined scores.
-use Rattle.std.proofs.Common.{[], ◌*◌, ◌+◌, ◌-◌, ◌/◌, ◌≡◌, ◌≤◌, ◌∷◌, ◌∙◌, All, IsPermutation, List, ap, arith, max, suc, sum, zero, ℕ}
+use Rattle.std.proofs.Common.{[], ◌*◌, ◌+◌, ◌-◌, ◌/◌, ◌∙◌, ◌∷◌, ◌≡◌, ◌≤◌, All, IsPermutation, List, ap, arith, max, suc, sum, zero, ℕ}
 use Rattle.std.proofs.Math.Nat.{mul-le-mul_left}
 use Rattle.std.proofs.lemmas.List.Sorted.{All-permutation, IsPermutation-sym, sum_by-IsPermutation}
 use Rattle.std.proofs.lemmas.List.Sums.{sum_by-cons}
-use Rattle.definitions.specs.Scoring.{best_and_tie, greatest_of, max_score}
+use Rattle.definitions.specs.Scoring.{greatest_of, max_score}
 use Rattle.docsets.specs.Combining.{tie_after, with_tie}
 
 pub sum-cons : (x : ℕ) (xs : List ℕ) → sum (x ∷ xs) ≡ x + sum xs
 sum-cons x xs = sum_by-cons (λ n. n) x xs
 
 -- ---- the order doesn't matter
-
 pub sum-permuted : (xs ys : List ℕ) → IsPermutation xs ys → sum ys ≡ sum xs
 sum-permuted xs ys is = sum_by-IsPermutation (λ n. n) xs ys is
 
@@ -44,7 +43,6 @@ pub tie-permuted : (tie greatest total : ℕ) (xs ys : List ℕ) → IsPermutati
 tie-permuted tie greatest total xs ys is = ap (λ g. with_tie tie (max greatest g) (total + sum ys)) (greatest-permuted xs ys is) ∙ ap (λ s. with_tie tie (max greatest (greatest_of xs)) (total + s)) (sum-permuted xs ys is)
 
 -- ---- no score is above the greatest where the sum isn't
-
 pub greatest-sum : (xs : List ℕ) → greatest_of xs ≤ sum xs
 greatest-sum [] = omega arith
 greatest-sum (x ∷ xs) = (let ih = greatest-sum xs in let is = sum-cons x xs in omega (arith, ih, is))
@@ -60,19 +58,12 @@ tie-bounded tie greatest total xs small within fits =
     omega (arith, best, le, within, fits)
 
 -- ---- a further score
-
 pub sum_further : (n x : ℕ) (xs : List ℕ) → n + x + sum xs ≡ n + sum (x ∷ xs)
 sum_further n x xs = (let is = sum-cons x xs in omega (arith, is))
 
 pub tie_further : (tie greatest total x : ℕ) (xs : List ℕ) → tie_after tie (max greatest x) (total + x) xs ≡ tie_after tie greatest total (x ∷ xs)
 tie_further tie greatest total x xs = ap (λ g. with_tie tie g (total + x + sum xs)) (let is : max (max greatest x) (greatest_of xs) ≡ max greatest (max x (greatest_of xs)) = omega arith in is) ∙ ap (λ s. with_tie tie (max greatest (max x (greatest_of xs))) s) (sum_further total x xs)
 
--- ---- combiners that have taken no score
-
-pub tie-fresh : (tie : ℕ) (xs : List ℕ) → tie_after tie 0 0 xs ≡ best_and_tie tie xs
-tie-fresh tie xs = ap (λ g. with_tie tie g (0 + sum xs)) (let is : max 0 (greatest_of xs) ≡ greatest_of xs = omega arith in is) ∙ ap (λ s. with_tie tie (greatest_of xs) s) (let is : 0 + sum xs ≡ sum xs = omega arith in is)
-
 -- ---- a combiner that reads no score
-
 pub one-bounded : 1 ≤ max_score
 one-bounded = omega arith

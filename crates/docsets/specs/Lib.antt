@@ -1,18 +1,12 @@
 pub mod Entries
-pub mod EntryLaws
 pub mod Danger
-pub mod DangerLaws
 pub mod ScoredEntries
-pub mod ScoredEntryLaws
 pub mod SetEntries
-pub mod SetEntryLaws
 pub mod Combining
-pub mod CombiningLaws
 pub mod Members
-pub mod MemberLaws
-pub mod AtLeastLaws
-pub mod LeaderLaws
-pub mod ChangedLists
 pub mod Distinct
-pub mod DistinctLaws
-pub mod DefinedLaws
+-- Laws that clauses and proofs of types must name.
+pub mod EntryLaws
+pub mod ScoredEntryLaws
+pub mod SetEntryLaws
+pub mod CombiningLaws

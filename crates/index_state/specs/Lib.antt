@@ -8,3 +8,5 @@ pub mod Parts
 pub mod Standing
 pub mod Commits
 pub mod Merges
+-- Laws that clauses and proofs of types must name.
+pub mod GivenLaws

@@ -1,50 +1,9 @@
 -- Laws of differences.
-use Rattle.std.proofs.Common.{[], Bool, List, ap, arith, drop, false, if◌then◌else◌, length, le-leb, max, nat_le, refl, sym, true, ◌+◌, ◌<◌, ◌∙◌, ◌∷◌, ◌≡◌, ◌≤◌, ℕ}
+use Rattle.std.proofs.Common.{[], ◌+◌, ◌∷◌, Bool, List, arith, false, if◌then◌else◌, true, ℕ}
 use Rattle.std.proofs.Props.{props}
-use Rattle.definitions.specs.Postings.{terminated}
-use Rattle.docsets.specs.Danger.{Missed}
-use Rattle.docsets.specs.Entries.{Entry, Rising, first, from}
-use Rattle.docsets.specs.EntryLaws.{Rising-from, Rising-lower, from-from, from-in, from-out}
-use Rattle.docsets.specs.ScoredEntries.{greatest_score}
-use Rattle.docsets.specs.ScoredEntryLaws.{by_place}
-use Rattle.docsets.specs.MemberLaws.{entries-kept, entries-low, entries-on, one-first}
-use Rattle.docsets.specs.Members.{entries_of}
-use Rattle.intersections.specs.Differences.{IsOutside, has, without}
-
--- what is excluded goes
-pub without-out : (set : ℕ → Bool) (e : Entry) (es : List Entry) → set e.doc ≡ true → without set (e ∷ es) ≡ without set es
-without-out set e es is = ap (λ b. if b then without set es else e ∷ without set es) is
-
--- and nothing else
-pub without-in : (set : ℕ → Bool) (e : Entry) (es : List Entry) → set e.doc ≡ false → without set (e ∷ es) ≡ e ∷ without set es
-without-in set e es is = ap (λ b. if b then without set es else e ∷ without set es) is
-
--- a cut of the list is a cut of the difference
-pub from-without : (set : ℕ → Bool) (t : ℕ) (es : List Entry) → from t (without set es) ≡ without set (from t es)
-from-without set t [] = refl
-from-without set t (e ∷ es) =
-    let ih = from-without set t es in
-    elim (set e.doc) as (λ b. set e.doc ≡ b → from t (without set (e ∷ es)) ≡ without set (from t (e ∷ es))) [
-      | true ↦ (λ out. ap (from t) (without-out set e es out) ∙ (ih ∙ by_place t e.doc (without set (from t es) ≡ without set (from t (e ∷ es)))
-          (λ i. sym (ap (without set) (from-in t e es i) ∙ without-out set e (from t es) out))
-          (λ o. sym (ap (without set) (from-out t e es o)))))
-      | false ↦ (λ stays. ap (from t) (without-in set e es stays) ∙ by_place t e.doc (from t (e ∷ without set es) ≡ without set (from t (e ∷ es)))
-          (λ i. from-in t e (without set es) i ∙ (ap (λ xs. e ∷ xs) ih ∙ sym (ap (without set) (from-in t e es i) ∙ without-in set e (from t es) stays)))
-          (λ o. from-out t e (without set es) o ∙ (ih ∙ sym (ap (without set) (from-out t e es o)))))
-    ] refl
-
--- sets that agree on what remains take the same from it
-pub without-same : (f g : ℕ → Bool) (low : ℕ) (es : List Entry) → Rising low es → ((d : ℕ) → low ≤ d → f d ≡ g d) → without f es ≡ without g es
-without-same f g low [] r same = refl
-without-same f g low (e ∷ es) r same =
-    let at = r.0 in
-    ap (λ b. if b then without f es else e ∷ without f es) (same e.doc r.0)
-    ∙ ap (λ xs. if g e.doc then xs else e ∷ xs) (without-same f g (e.doc + 1) es r.3 (λ d l. same d (omega (arith, l, at))))
-
--- from the first on
-pub without-later : (f g : ℕ → Bool) (es : List Entry) → Rising 0 es → ((d : ℕ) → first es ≤ d → f d ≡ g d) → without f es ≡ without g es
-without-later f g [] r same = refl
-without-later f g (e ∷ es) r same = without-same f g e.doc (e ∷ es) (omega arith, r.1, r.2, r.3) same
+use Rattle.docsets.specs.Entries.{Entry, Rising}
+use Rattle.docsets.specs.EntryLaws.{Rising-lower}
+use Rattle.intersections.specs.Differences.{IsOutside, without}
 
 pub Rising-without : (set : ℕ → Bool) (low : ℕ) (es : List Entry) → Rising low es → Rising low (without set es)
 Rising-without set low [] r = tt
@@ -53,53 +12,5 @@ Rising-without set low (e ∷ es) r = elim (set e.doc) as (λ b. Rising low (if 
   | false ↦ (r.0, r.1, r.2, Rising-without set (e.doc + 1) es r.3)
 ]
 
--- where the first isn't excluded it is the first of the difference
-pub outside-first : (set : ℕ → Bool) (low : ℕ) (es : List Entry) → Rising low es → IsOutside set es → first (without set es) ≡ first es
-outside-first set low [] r out = refl
-outside-first set low (e ∷ es) r out = ap first (without-in set e es (out r.1))
-
-pub outside-drop : (set : ℕ → Bool) (low : ℕ) (es : List Entry) → Rising low es → IsOutside set es → drop 1 (without set es) ≡ without set (drop 1 es)
-outside-drop set low [] r out = refl
-outside-drop set low (e ∷ es) r out = ap (drop 1) (without-in set e es (out r.1))
-
--- the first goes where it is excluded
-pub without-first : (set : ℕ → Bool) (es : List Entry) → set (first es) ≡ true → without set es ≡ without set (drop 1 es)
-without-first set [] out = refl
-without-first set (e ∷ es) out = without-out set e es out
-
 pub IsOutside-prop : (set : ℕ → Bool) (es : List Entry) → IsProp (IsOutside set es)
 IsOutside-prop set es = hlevel props
-
--- ---- whether a list has a document
-
--- one that it stands on
-pub has-first : (d : ℕ) (es : List Entry) → Rising 0 es → first es ≡ d → d < terminated → has es d ≡ true
-has-first d es r e l = (let size = ap length (entries-on d es r e l) ∙ (one-first es (omega (arith, e, l))).0 in le-leb 1 (length (entries_of d es)) (omega (arith, size)))
-
--- none before its first
-pub has-low : (d : ℕ) (es : List Entry) → Rising 0 es → d < first es → has es d ≡ false
-has-low d es r l = ap (λ xs. nat_le 1 (length xs)) (entries-low d 0 es r l)
-
--- a cut takes nothing behind it
-pub has-kept : (t d : ℕ) (before after : List Entry) → from t after ≡ from t before → t ≤ d → has after d ≡ has before d
-has-kept t d before after e l = ap (λ xs. nat_le 1 (length xs)) (sym (entries-kept d t after l) ∙ (ap (entries_of d) e ∙ entries-kept d t before l))
-
--- what a cursor answers that was asked for a document
-pub has-found : (d : ℕ) (before after : List Entry) → Rising 0 after → d < terminated → (first after ≡ d) × (after ≡ from d before) → has before d ≡ true
-has-found d before after r l is = sym (has-kept d d before after (ap (from d) is.1 ∙ from-from d d before (omega arith)) (omega arith)) ∙ has-first d after r is.0 l
-
-pub has-missed : (d bound : ℕ) (before after : List Entry) → Rising 0 before → Missed d bound before after → has before d ≡ false
-has-missed d bound before after r m =
-    let above = m.above in
-    let next = m.before_next in
-    sym (has-kept d d before (from d before) (from-from d d before (omega arith)) (omega arith)) ∙ has-low d (from d before) (Rising-from d 0 before r) (omega (arith, above, next))
-
--- no score is above the greatest
-pub greatest-without : (set : ℕ → Bool) (es : List Entry) → greatest_score (without set es) ≤ greatest_score es
-greatest-without set [] = omega arith
-greatest-without set (e ∷ es) =
-    let ih = greatest-without set es in
-    elim (set e.doc) as (λ b. greatest_score (if b then without set es else e ∷ without set es) ≤ max e.score (greatest_score es)) [
-      | true ↦ (let goal : greatest_score (without set es) ≤ max e.score (greatest_score es) = omega (arith, ih) in goal)
-      | false ↦ (let goal : max e.score (greatest_score (without set es)) ≤ max e.score (greatest_score es) = omega (arith, ih) in goal)
-    ]

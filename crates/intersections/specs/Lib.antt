@@ -1,9 +1,9 @@
 pub mod Differences
-pub mod DifferenceLaws
-pub mod ExclusionLaws
 pub mod Optionals
-pub mod OptionalLaws
 pub mod Columns
 pub mod Meetings
+-- Laws that clauses and proofs of types must name.
+pub mod DifferenceLaws
+pub mod ExclusionLaws
+pub mod OptionalLaws
 pub mod MeetingLaws
-pub mod ColumnLaws

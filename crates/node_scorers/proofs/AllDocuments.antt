@@ -9,7 +9,7 @@ use Rattle.definitions.specs.Schema.{Schema}
 use Rattle.definitions.specs.Scoring.{Similarity, max_score}
 use Rattle.definitions.specs.Values.{Document}
 use Rattle.docsets.specs.ScoredEntries.{all_from, greatest_score, pairs_of, rescored_by}
-use Rattle.docsets.specs.ScoredEntryLaws.{all-from, from-rescored}
+use Rattle.docsets.proofs.ScoredEntryLaws.{all-from, from-rescored}
 use Rattle.segment_reader.specs.SegmentReaders.{max_doc_of}
 use Rattle.segment_reader.specs.declared.segment_reader.SegmentReader.{SegmentReader}
 use Rattle.node_scorers.specs.Scores.{Scores}

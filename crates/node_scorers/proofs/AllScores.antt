@@ -10,7 +10,7 @@ use Rattle.definitions.specs.Refusing.{bound, tree_fault}
 use Rattle.definitions.specs.Schema.{Schema}
 use Rattle.definitions.specs.Scoring.{Similarity}
 use Rattle.definitions.specs.Values.{Document}
-use Rattle.docsets.specs.MemberLaws.{entries-kept, scores-append}
+use Rattle.docsets.proofs.MemberLaws.{entries-kept, scores-append}
 use Rattle.docsets.specs.Members.{entries_at, entries_of, greatest_sum}
 use Rattle.segment_reader.specs.SegmentReaders.{StandsFor, max_doc_of}
 use Rattle.segment_reader.specs.declared.segment_reader.SegmentReader.{SegmentReader}

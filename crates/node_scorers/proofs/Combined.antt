@@ -5,7 +5,7 @@ use Rattle.any_scorer.proofs.Bounded.{first_here, later_here}
 use Rattle.any_scorer.proofs.ByClauses.{length_both, sum_both}
 use Rattle.any_scorer.specs.Clauses.{by_best, by_clauses, scores_at, scores_of}
 use Rattle.docsets.specs.Entries.{Entry, Rising, from}
-use Rattle.docsets.specs.EntryLaws.{from-out}
+use Rattle.docsets.proofs.EntryLaws.{from-out}
 use Rattle.definitions.proofs.Bounds.{accepted_clauses, accepted_queries}
 use Rattle.definitions.specs.Analyzers.{Analyzer}
 use Rattle.definitions.specs.Postings.{terminated}

@@ -12,7 +12,7 @@ use Rattle.definitions.specs.ScoredLists.{ScoredList, rescored}
 use Rattle.definitions.specs.Scoring.{Similarity, natural, score}
 use Rattle.definitions.specs.Values.{Document}
 use Rattle.docsets.specs.ScoredEntries.{greatest_score, pairs_of, rescored_by}
-use Rattle.docsets.specs.ScoredEntryLaws.{from-rescored, pairs-rescored}
+use Rattle.docsets.proofs.ScoredEntryLaws.{from-rescored, pairs-rescored}
 use Rattle.node_scorers.specs.Scores.{Scores}
 use Rattle.segment_reader.specs.SegmentReaders.{max_doc_of}
 use Rattle.segment_reader.specs.declared.segment_reader.SegmentReader.{SegmentReader}

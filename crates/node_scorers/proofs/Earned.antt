@@ -5,7 +5,7 @@ use Rattle.std.proofs.lemmas.Bool.Decides.{nat_tests}
 use Rattle.any_scorer.proofs.SamePairs.{paired, scores_paired}
 use Rattle.any_scorer.specs.Clauses.{scores_of}
 use Rattle.docsets.specs.Entries.{Entry, Rising, from}
-use Rattle.docsets.specs.EntryLaws.{from-low, from-out}
+use Rattle.docsets.proofs.EntryLaws.{from-low, from-out}
 use Rattle.definitions.specs.Analyzers.{Analyzer}
 use Rattle.definitions.specs.Answers.{answer_at, answers}
 use Rattle.definitions.specs.Matching.{matches}
@@ -16,7 +16,7 @@ use Rattle.definitions.specs.Scoring.{Similarity, score}
 use Rattle.definitions.specs.Values.{Document}
 use Rattle.docsets.specs.ScoredEntries.{pairs_of}
 use Rattle.docsets.specs.ScoredEntryLaws.{by_place}
-use Rattle.docsets.specs.MemberLaws.{entries-before}
+use Rattle.docsets.proofs.MemberLaws.{entries-before}
 use Rattle.docsets.specs.Members.{entries_of, scores_in}
 
 -- the score of a document that matches

@@ -3,7 +3,7 @@ use Rattle.std.proofs.Common.{[], List, ap, arith, length, refl, replicate, suc,
 use Rattle.std.proofs.lemmas.List.{length-replicate}
 use Rattle.std.specs.List.{AllByRecursion}
 use Rattle.docsets.specs.Entries.{Entry, Rising, first_positions, from, most_positions, single}
-use Rattle.docsets.specs.EntryLaws.{from-out}
+use Rattle.docsets.proofs.EntryLaws.{from-out}
 use Rattle.definitions.specs.Postings.{terminated}
 use Rattle.definitions.specs.Scoring.{DontFall}
 

@@ -18,7 +18,7 @@ use Rattle.definitions.specs.Scoring.{Similarity, greatest_of, length_id, part, 
 use Rattle.definitions.specs.Values.{Document}
 use Rattle.intersections.specs.Meetings.{meeting}
 use Rattle.docsets.specs.ScoredEntries.{pairs_of}
-use Rattle.docsets.specs.MemberLaws.{listed-end, listed-found, listed-out, listed-same, listed-skip}
+use Rattle.docsets.proofs.MemberLaws.{listed-end, listed-found, listed-out, listed-same, listed-skip}
 use Rattle.docsets.specs.Members.{at_document, at_least, enough, entries_at, joining, listed}
 use Rattle.phrases.proofs.PhrasePlaces.{phrase-places}
 use Rattle.phrases.specs.PhraseEntries.{adjusted_terms, phrased, placed}

@@ -2,7 +2,7 @@
 use Rattle.std.proofs.Common.{[], List, ap, arith, get_or, length, map, refl, sym, ◌-◌, ◌<◌, ◌≡◌, ◌≤◌, ◌∙◌, ◌∷◌, ℕ}
 use Rattle.std.proofs.lemmas.List.{length-map}
 use Rattle.std.specs.List.{AllByRecursion}
-use Rattle.docsets.specs.EntryLaws.{from-out}
+use Rattle.docsets.proofs.EntryLaws.{from-out}
 use Rattle.docsets.specs.Entries.{Entry, from, most_positions}
 use Rattle.definitions.specs.Query.{Terms}
 use Rattle.definitions.specs.Scoring.{greatest_of, phrase_field}
@@ -13,8 +13,9 @@ use Rattle.phrase_weights.specs.ReadTerms.{placed_left}
 use Rattle.phrases.proofs.Adjusted.{adjusted-is}
 use Rattle.phrases.proofs.MeetingEntries.{bound-meeting}
 use Rattle.phrases.specs.PhraseEntries.{HaveColumns, adjusted_terms, phrased, placed}
-use Rattle.phrases.specs.PhraseEntryLaws.{from-phrased, from-placed, phrased-none, phrased-some}
-use Rattle.phrases.specs.PlaceCounts.{places-few}
+use Rattle.phrases.proofs.PhraseEntryLaws.{from-phrased, from-placed}
+use Rattle.phrases.specs.PhraseEntryLaws.{phrased-none, phrased-some}
+use Rattle.phrases.proofs.PlaceCounts.{places-few}
 use Rattle.phrases.specs.Places.{places_of}
 use Rattle.segment_postings.specs.Cursors.{entries_left}
 use Rattle.segment_postings.specs.declared.segment_postings.SegmentPostings.{SegmentPostings}

@@ -21,7 +21,7 @@ use Rattle.phrase_weights.proofs.WholeTerms.{no_whole_places}
 use Rattle.phrase_weights.specs.PlacedAnswers.{placed_entry, stands_whole, whole_answers}
 use Rattle.phrases.proofs.PhrasePlaces.{last-of, sorted-ordered}
 use Rattle.phrases.specs.PrefixEntries.{prefixed}
-use Rattle.phrases.specs.PrefixEntryLaws.{from-prefixed}
+use Rattle.phrases.proofs.PrefixEntryLaws.{from-prefixed}
 
 -- ---- the whole terms are in the order of their offsets too
 

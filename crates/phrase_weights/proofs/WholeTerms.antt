@@ -18,8 +18,8 @@ use Rattle.phrase_weights.proofs.TermsTogether.{read_entry, read_from}
 use Rattle.phrase_weights.specs.PlacedAnswers.{placed_answers, placed_entry, stands_whole, whole_answers, whole_at}
 use Rattle.phrases.proofs.PhrasePlaces.{phrase-places}
 use Rattle.phrases.specs.MergeLaws.{ascends-from}
-use Rattle.phrases.specs.OneTermLaws.{from-one_term}
-use Rattle.phrases.specs.PlaceCounts.{places-few}
+use Rattle.phrases.proofs.OneTermLaws.{from-one_term}
+use Rattle.phrases.proofs.PlaceCounts.{places-few}
 use Rattle.phrases.specs.Places.{places_of}
 use Rattle.phrases.specs.PrefixEntries.{one_term}
 

@@ -1,7 +1,7 @@
 //! The weight of a phrase whose last term is a prefix.
 
 ghost use Rattle.std.specs.Prelude.{[], ◌*◌, ◌≡◌, ◌≤ℤ◌, ◌≤◌, IfNone, IfOk, IfSome, List, length, map, pos};
-ghost use Rattle.docsets.specs.EntryLaws.{DontFall-prop};
+ghost use Rattle.docsets.proofs.EntryLaws.{DontFall-prop};
 ghost use Rattle.docsets.specs.Entries.{from};
 ghost use Rattle.definitions.specs.Analyzers.{Analyzer};
 ghost use Rattle.definitions.specs.Answers.{answers};

@@ -1,7 +1,7 @@
 //! The weight of a phrase.
 
 ghost use Rattle.std.specs.Prelude.{[], ◌*◌, ◌≡◌, ◌≤ℤ◌, ◌≤◌, IfNone, IfOk, IfSome, List, length, map, pos};
-ghost use Rattle.docsets.specs.EntryLaws.{DontFall-prop};
+ghost use Rattle.docsets.proofs.EntryLaws.{DontFall-prop};
 ghost use Rattle.docsets.specs.Entries.{from, most_positions};
 ghost use Rattle.definitions.specs.Analyzers.{Analyzer};
 ghost use Rattle.definitions.specs.Answers.{answers};

@@ -6,7 +6,7 @@ use Rattle.definitions.specs.Scoring.{greatest_of}
 use Rattle.intersections.specs.Meetings.{meeting}
 use Rattle.docsets.specs.Members.{greatest_sum}
 use Rattle.phrases.specs.PhraseEntries.{adjusted_terms, placed}
-use Rattle.phrases.specs.PhraseEntryLaws.{from-placed, greatest-placed}
+use Rattle.phrases.proofs.PhraseEntryLaws.{from-placed, greatest-placed}
 
 -- terms with what is left of each
 paired : {X : Type 0} (entries : X → List Entry) (g : ℕ) (ts : List (ℕ × X)) → map (λ t. placed (g - t.0) (entries t.1)) ts ≡ map (λ (u : ℕ × List Entry). placed (g - u.0) u.1) (map (λ t. (t.0, entries t.1)) ts)

@@ -6,7 +6,7 @@ use Rattle.phrases.specs.Costs.{IsGradual, IsTable, cheap, column_costs, costs, 
 use Rattle.phrases.specs.PhraseEntries.{AreColumns, longest}
 use Rattle.phrases.specs.Places.{AscendEach, Ascends, distinct, has, places_of, reached}
 use Rattle.phrases.proofs.PhrasePlaces.{earlier-next, places-reached}
-use Rattle.phrases.specs.PlaceLaws.{IsTable-costs, cheap-led, reached-next, reached-one}
+use Rattle.phrases.proofs.PlaceLaws.{IsTable-costs, cheap-led, reached-next, reached-one}
 use Rattle.phrases.proofs.NearestCosts.{costs-gradual, nearest-small}
 
 pub columns-ascend : (columns : List (List ℕ)) → AreColumns columns → AscendEach columns

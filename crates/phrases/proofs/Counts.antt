@@ -4,7 +4,8 @@ use Rattle.std.proofs.lemmas.Bool.Decides.{nat_tests}
 use Rattle.std.proofs.lemmas.List.{drop_all, drop_more}
 use Rattle.phrases.specs.Places.{Ascends, has}
 use Rattle.phrases.specs.PrefixEntries.{continued}
-use Rattle.phrases.specs.MergeLaws.{Ascends-step, IsStep, by_order, has-low}
+use Rattle.phrases.proofs.MergeLaws.{Ascends-step, by_order, has-low}
+use Rattle.phrases.specs.MergeLaws.{IsStep}
 
 -- tests that agree on what ascends keep alike
 filter-ascending : (f g : ℕ → Bool) (low : ℕ) (xs : List ℕ) → Ascends low xs → ((x : ℕ) → low ≤ x → f x ≡ g x) → filter f xs ≡ filter g xs

@@ -10,3 +10,11 @@ pub mod SuffixCounts
 pub mod BlockLaws
 pub mod RowLaws
 pub mod WindowLaws
+pub mod MergeLaws
+pub mod OneTermLaws
+pub mod PhraseEntryLaws
+pub mod PlaceCounts
+pub mod PlaceLaws
+pub mod PlacesLaws
+pub mod PrefixEntryLaws
+pub mod StandingLaws

@@ -11,7 +11,7 @@ use Rattle.intersections.specs.Meetings.{meeting}
 use Rattle.docsets.specs.Members.{at_document, enough, entries_at, entries_of, joining, listed, walk}
 use Rattle.phrases.specs.PhraseEntries.{AreColumns, HaveColumns, longest, longest_column}
 use Rattle.phrases.specs.MergeLaws.{ascends-from}
-use Rattle.term_scorer.specs.TermScoreLaws.{bound-of}
+use Rattle.term_scorer.proofs.TermScoreLaws.{bound-of}
 use Rattle.term_scorer.specs.TermScores.{documents_bound}
 
 -- ---- entries that are listed

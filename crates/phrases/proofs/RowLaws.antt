@@ -3,9 +3,9 @@ use Rattle.std.proofs.Common.{[], List, ap, arith, drop, get_or, length, map, re
 use Rattle.std.proofs.lemmas.List.{length-take, get_or-map, length-map}
 use Rattle.std.proofs.lemmas.List.Sums.{sum_by-append, sum_by-cons}
 use Rattle.docsets.specs.Entries.{Entry, Rising, first, from}
-use Rattle.docsets.specs.EntryLaws.{from-first, from-from}
+use Rattle.docsets.proofs.EntryLaws.{from-first, from-from}
 use Rattle.docsets.specs.ScoredEntryLaws.{by_place}
-use Rattle.docsets.specs.MemberLaws.{entries-kept, entries-low, one-entry}
+use Rattle.docsets.proofs.MemberLaws.{entries-kept, entries-low, one-entry}
 use Rattle.docsets.specs.Members.{entries_at, entries_of}
 use Rattle.phrases.specs.Places.{Rises}
 use Rattle.phrases.specs.PrefixEntries.{continued, continued_by}

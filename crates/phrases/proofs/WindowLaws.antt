@@ -3,13 +3,15 @@ use Rattle.std.proofs.Common.{[], List, ap, append_assoc, arith, drop, false, fi
 use Rattle.std.proofs.Math.Seq.{drop-append_seam, take-length}
 use Rattle.std.proofs.lemmas.List.{drop-append-le, drop_more, length-append, length-drop, map-append, take-append-le}
 use Rattle.docsets.specs.Entries.{Entry, IsRest, Rising, first, first_positions, first_score, from, most_positions, single}
-use Rattle.docsets.specs.EntryLaws.{Rising-lower, from-first, from-out, none_left}
+use Rattle.docsets.specs.EntryLaws.{Rising-lower}
+use Rattle.docsets.proofs.EntryLaws.{from-first, from-out, none_left}
 use Rattle.definitions.specs.Postings.{terminated}
 use Rattle.intersections.specs.Columns.{HaveOneColumn}
 use Rattle.docsets.specs.Members.{entries_at}
 use Rattle.phrases.specs.Places.{Ascends, Rises}
 use Rattle.phrases.specs.PrefixEntries.{continued_by, prefixed}
-use Rattle.phrases.specs.PrefixEntryLaws.{Rising-first, most-rest, most_suffix_positions, prefixed-cut}
+use Rattle.phrases.proofs.PrefixEntryLaws.{Rising-first, most-rest, prefixed-cut}
+use Rattle.phrases.specs.PrefixEntry.{most_suffix_positions}
 use Rattle.phrases.specs.PrefixWindows.{IsFollowing}
 use Rattle.phrases.specs.Rows.{AreRows, IsRow, added, docs_of, end_of, most_count, places_in, row_entries, row_entry, uncounted}
 use Rattle.phrases.specs.Windows.{IsWindow, left_in}

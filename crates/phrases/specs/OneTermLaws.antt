@@ -1,7 +1,6 @@
 -- Laws of a phrase of one whole term.
-use Rattle.std.proofs.Common.{[], List, ap, arith, drop, false, if◌then◌else◌, length, nat_le, refl, suc, true, zero, ◌+◌, ◌<◌, ◌∷◌, ◌≡◌, ◌≤◌, ℕ}
-use Rattle.docsets.specs.Entries.{AreSingle, Entry, Rising, first, first_positions, first_score, from, most_positions, single}
-use Rattle.definitions.specs.Postings.{terminated}
+use Rattle.std.proofs.Common.{[], ◌+◌, ◌∷◌, ◌≤◌, List, arith, length, refl, ℕ}
+use Rattle.docsets.specs.Entries.{AreSingle, Entry, Rising, single}
 use Rattle.definitions.specs.Scoring.{max_score}
 use Rattle.intersections.specs.Columns.{HaveOneColumn}
 use Rattle.phrases.specs.MergeLaws.{ascends-from}
@@ -10,21 +9,8 @@ use Rattle.phrases.specs.Places.{places_of}
 use Rattle.phrases.specs.PrefixEntries.{one_term}
 
 -- an entry with its places
-abbrev place_of : ℕ → Entry → Entry
+abbrev pub place_of : ℕ → Entry → Entry
 place_of score e = record { doc = e.doc; score = score; count = length (places_of 0 (single e.positions ∷ [])); positions = places_of 0 (single e.positions ∷ []) ∷ [] }
-
-pub first-one_term : (score : ℕ) (es : List Entry) → first (one_term score es) ≡ first es
-first-one_term score [] = refl
-first-one_term score (e ∷ es) = refl
-
-pub drop-one_term : (score n : ℕ) (es : List Entry) → drop n (one_term score es) ≡ one_term score (drop n es)
-drop-one_term score zero es = refl
-drop-one_term score (suc n) [] = refl
-drop-one_term score (suc n) (e ∷ es) = drop-one_term score n es
-
-pub from-one_term : (score t : ℕ) (es : List Entry) → from t (one_term score es) ≡ one_term score (from t es)
-from-one_term score t [] = refl
-from-one_term score t (e ∷ es) = (let ih = from-one_term score t es in elim (nat_le t e.doc) as (λ b. (if b then place_of score e ∷ from t (one_term score es) else from t (one_term score es)) ≡ one_term score (if b then e ∷ from t es else from t es)) [ true ↦ ap (λ xs. place_of score e ∷ xs) ih | false ↦ ih ])
 
 pub Rising-one_term : (score low : ℕ) (es : List Entry) → score ≤ max_score → Rising low es → Rising low (one_term score es)
 Rising-one_term score low [] small r = tt
@@ -33,15 +19,3 @@ Rising-one_term score low (e ∷ es) small r = (r.0, r.1, small, Rising-one_term
 pub one_column-one_term : (score : ℕ) (es : List Entry) → AreSingle es → HaveOneColumn (one_term score es)
 one_column-one_term score [] s = tt
 one_column-one_term score (e ∷ es) s = (let column = places-column 0 (single e.positions ∷ []) (ascends-from (single e.positions) s.1, (let high = s.2 in omega (arith, high)), tt) in (refl, column.0, column.1, one_column-one_term score es s.3))
-
-pub most-one_term : (score : ℕ) (es : List Entry) → AreSingle es → most_positions (one_term score es) ≤ most_positions es
-most-one_term score [] s = omega arith
-most-one_term score (e ∷ es) s = (let ih = most-one_term score es s.3 in let column = places-column 0 (single e.positions ∷ []) (ascends-from (single e.positions) s.1, (let high = s.2 in omega (arith, high)), tt) in omega (arith, ih, column.2))
-
-pub first_score-one_term : (score : ℕ) (es : List Entry) → first es < terminated → first_score (one_term score es) ≡ score
-first_score-one_term score [] l = absurd (omega (arith, l))
-first_score-one_term score (e ∷ es) l = refl
-
-pub positions-one_term : (score : ℕ) (es : List Entry) → first es < terminated → single (first_positions (one_term score es)) ≡ places_of 0 (single (first_positions es) ∷ [])
-positions-one_term score [] l = absurd (omega (arith, l))
-positions-one_term score (e ∷ es) l = refl

@@ -1,5 +1,5 @@
 -- Laws of the scores of phrases.
-use Rattle.std.proofs.Common.{List, None, Option, Some, arith, slice_index, ◌≤◌, ℕ}
+use Rattle.std.proofs.Common.{◌≤◌, List, None, Option, Some, arith, slice_index, ℕ}
 use Rattle.definitions.specs.Scoring.{max_score}
 use Rattle.phrases.specs.PhraseScores.{phrase_score_by}
 use Rattle.term_scorer.specs.Similarities.{similarity_data}

@@ -1,16 +1,16 @@
 -- Laws of places as one column.
-use Rattle.std.proofs.Common.{[], Bool, List, ap, arith, false, filter, get_or, if◌then◌else◌, length, max, refl, subst, suc, sym, take, true, zero, ◌+◌, ◌-◌, ◌<◌, ◌==◌, ◌∷◌, ◌≤◌, ℕ}
-use Rattle.docsets.specs.Entries.{Entry, highest, most_positions}
+use Rattle.std.proofs.Common.{[], ◌+◌, ◌-◌, ◌<◌, ◌==◌, ◌∷◌, ◌≤◌, Bool, List, ap, arith, false, filter, get_or, if◌then◌else◌, length, max, refl, subst, suc, sym, take, true, zero, ℕ}
+use Rattle.docsets.specs.Entries.{Entry, highest}
 use Rattle.definitions.specs.JsonLeaves.{once}
 use Rattle.definitions.specs.Phrases.{is_reached}
 use Rattle.definitions.specs.Scoring.{DontFall}
 use Rattle.intersections.specs.Columns.{HaveOneColumn}
 use Rattle.docsets.specs.ScoredEntryLaws.{by_place}
-use Rattle.phrases.specs.PhraseEntries.{AreColumns, HaveColumns, longest, longest_column, phrased}
+use Rattle.phrases.specs.PhraseEntries.{AreColumns, HaveColumns, longest, phrased}
 use Rattle.phrases.specs.PhraseEntryLaws.{phrased-none, phrased-some}
 use Rattle.phrases.specs.Places.{Rises, distinct, places_of}
 use Rattle.phrases.specs.MergeLaws.{Rises-distinct, length-distinct}
-use Rattle.phrases.specs.PlaceCounts.{column-fits, highest-distinct, length-kept}
+use Rattle.phrases.specs.PlaceCountsLaws.{column-fits, highest-distinct, length-kept}
 use Rattle.phrases.specs.PlaceLaws.{Rises-filter, distinct-once}
 
 rising-falls : (low p : ℕ) (ps : List ℕ) → Rises low (p ∷ ps) → DontFall (p ∷ ps)
@@ -55,12 +55,3 @@ one_column-phrased score slop (e ∷ es) h =
     by_place 1 (length (places_of slop e.positions)) (HaveOneColumn (phrased score slop (e ∷ es)))
     (λ some. subst HaveOneColumn (sym (phrased-some score slop e es (omega (arith, some)))) (refl, column.0, column.1, rest))
     (λ none. subst HaveOneColumn (sym (phrased-none score slop e es (omega (arith, none)))) rest)
-
-pub most-phrased : (score : ℕ → ℕ → ℕ) (slop : ℕ) (es : List Entry) → HaveColumns es → most_positions (phrased score slop es) ≤ longest_column es
-most-phrased score slop [] h = omega arith
-most-phrased score slop (e ∷ es) h =
-    let rest = most-phrased score slop es h.2 in
-    let column = places-column slop e.positions h.1 in
-    by_place 1 (length (places_of slop e.positions)) (most_positions (phrased score slop (e ∷ es)) ≤ longest_column (e ∷ es))
-    (λ some. (let is = ap most_positions (phrased-some score slop e es (omega (arith, some))) in omega (arith, is, rest, column.2)))
-    (λ none. (let is = ap most_positions (phrased-none score slop e es (omega (arith, none))) in omega (arith, is, rest)))

@@ -1,9 +1,8 @@
 -- Windows of phrase prefixes.
 use Rattle.std.specs.Prelude.{◌<◌, ◌≤◌, List, ℕ}
-use Rattle.std.proofs.Props.{props}
 use Rattle.docsets.specs.Entries.{Entry, first, most_positions}
 use Rattle.definitions.specs.Postings.{terminated}
-use Rattle.phrases.specs.PrefixEntryLaws.{most_suffix_positions}
+use Rattle.phrases.specs.PrefixEntry.{most_suffix_positions}
 use Rattle.phrases.specs.Windows.{IsWindow, left_in}
 use Rattle.phrases.specs.declared.window.Window.{Window}
 
@@ -13,6 +12,3 @@ pub record IsFollowing (w : Window) (num_suffixes : ℕ) (ess : List (List Entry
   pub ends : terminated ≤ first (left_in w) → terminated ≤ first es
   pub few_places : most_positions es ≤ 4294967295
   pub few_suffixes : num_suffixes < 4294967296
-
-pub IsFollowing-prop : (w : Window) (num_suffixes : ℕ) (ess : List (List Entry)) (es : List Entry) → IsProp (IsFollowing w num_suffixes ess es)
-IsFollowing-prop w num_suffixes ess es = hlevel props

@@ -4,9 +4,10 @@ ghost use Rattle.std.specs.Prelude.{◌++◌, ◌<◌, ◌≡◌, ◌≤◌, IfO
 ghost use Rattle.docsets.specs.Entries.{Rising, first, first_count, most_positions};
 ghost use Rattle.docsets.specs.EntryLaws.{Rising-prop};
 ghost use Rattle.definitions.specs.Postings.{terminated};
-ghost use Rattle.phrases.specs.PrefixEntryLaws.{most_suffix_positions};
+ghost use Rattle.phrases.specs.PrefixEntry.{most_suffix_positions};
 ghost use Rattle.phrases.specs.PrefixEntries.{prefixed};
-ghost use Rattle.phrases.specs.PrefixWindows.{IsFollowing, IsFollowing-prop};
+ghost use Rattle.phrases.specs.PrefixWindows.{IsFollowing};
+ghost use Rattle.phrases.specs.PrefixWindowsLaws.{IsFollowing-prop};
 ghost use Rattle.phrases.specs.Windows.{left_in};
 
 use crate::suffix_windows::refill;

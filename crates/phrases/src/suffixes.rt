@@ -6,7 +6,7 @@ ghost use Rattle.definitions.specs.Postings.{terminated};
 ghost use Rattle.docsets.specs.Members.{entries_of};
 ghost use Rattle.phrases.specs.Places.{Ascends, Rises};
 ghost use Rattle.phrases.specs.PrefixEntries.{continued_by};
-ghost use Rattle.phrases.specs.PrefixEntryLaws.{most_suffix_positions};
+ghost use Rattle.phrases.specs.PrefixEntry.{most_suffix_positions};
 ghost use Rattle.phrases.specs.Rows.{AreRows, IsRow, added, added_one, docs_of, end_of, most_count};
 
 use crate::row::Row;

@@ -1,5 +1,6 @@
 pub mod PhraseTerms
 pub mod QueryCodes
 pub mod Queries
-pub mod QueryDepths
 pub mod NeededTerms
+-- Laws that clauses and proofs of types must name.
+pub mod QueryDepthsLaws

@@ -43,7 +43,7 @@ impl Model for BooleanQuery {
 
     ghost size = { λ v. definitions.clauses_depth v.0 };
 
-    ghost use Rattle.query_trees.specs.QueryDepths.{clauses_below};
+    ghost use Rattle.query_trees.specs.QueryDepthsLaws.{clauses_below};
 
     ghost size_decreases = { λ q h. clauses_below q.subqueries.items };
 }

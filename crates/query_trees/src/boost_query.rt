@@ -37,7 +37,7 @@ impl Model for BoostQuery {
 
     ghost size = { λ v. definitions.depth v.0 };
 
-    ghost use Rattle.query_trees.specs.QueryDepths.{query_below};
+    ghost use Rattle.query_trees.specs.QueryDepthsLaws.{query_below};
 
     ghost size_decreases = { λ q h. query_below q.query.value };
 }

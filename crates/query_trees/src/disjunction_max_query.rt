@@ -38,7 +38,7 @@ impl Model for DisjunctionMaxQuery {
 
     ghost size = { λ v. definitions.queries_depth v.0 };
 
-    ghost use Rattle.query_trees.specs.QueryDepths.{queries_below};
+    ghost use Rattle.query_trees.specs.QueryDepthsLaws.{queries_below};
 
     ghost size_decreases = { λ q h. queries_below q.disjuncts.items };
 }

@@ -8,3 +8,4 @@ pub mod LivingCounts
 pub mod Places
 pub mod ScoresThere
 pub mod Signs
+pub mod AnswerLaws

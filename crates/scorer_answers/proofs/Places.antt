@@ -5,7 +5,7 @@ use Rattle.docsets.specs.Danger.{Missed}
 use Rattle.docsets.specs.Entries.{Entry, Rising, first, first_score, from}
 use Rattle.docsets.specs.EntryLaws.{Rising-from}
 use Rattle.definitions.specs.Postings.{terminated}
-use Rattle.docsets.specs.MemberLaws.{entries-kept, entries-low, scores-on}
+use Rattle.docsets.proofs.MemberLaws.{entries-kept, entries-low, scores-on}
 use Rattle.docsets.specs.Members.{entries_of, scores_in}
 
 -- where it stands on the document, that is its score

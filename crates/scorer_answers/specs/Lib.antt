@@ -3,4 +3,3 @@ pub mod Rows
 pub mod Matching
 pub mod Listed
 pub mod Earned
-pub mod AnswerLaws

@@ -3,7 +3,7 @@ use Rattle.std.proofs.Common.{[], Bool, List, ap, arith, false, if◌then◌else
 use Rattle.docsets.specs.Entries.{Entry, Rising}
 use Rattle.intersections.specs.Differences.{without}
 use Rattle.docsets.specs.ScoredEntries.{greatest_score}
-use Rattle.docsets.specs.AtLeastLaws.{greatest-joined, greatest-summed}
+use Rattle.docsets.proofs.AtLeastLaws.{greatest-joined, greatest-summed}
 use Rattle.docsets.specs.Members.{at_least, combining, greatest_sum, joining}
 
 -- three members

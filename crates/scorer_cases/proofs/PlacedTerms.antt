@@ -9,11 +9,11 @@ use Rattle.docsets.specs.Entries.{Entry}
 use Rattle.segment_reader.specs.OpenedTerms.{entry_as}
 use Rattle.docsets.specs.CombiningLaws.{sum-cons}
 use Rattle.docsets.specs.ScoredEntries.{greatest_score}
-use Rattle.docsets.specs.AtLeastLaws.{greatest-last}
-use Rattle.docsets.specs.LeaderLaws.{entries-last}
+use Rattle.docsets.proofs.AtLeastLaws.{greatest-last}
+use Rattle.docsets.proofs.LeaderLaws.{entries-last}
 use Rattle.docsets.specs.Members.{entries_at, entries_of, greatest_sum}
 use Rattle.scorers.specs.Uniting.{counts_in}
-use Rattle.scorers.specs.UnitingLaws.{counts-append}
+use Rattle.scorers.proofs.UnitingLaws.{counts-append}
 
 -- the entries of a term
 abbrev told : List Posting → List Entry

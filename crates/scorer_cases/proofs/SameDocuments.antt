@@ -2,7 +2,7 @@
 use Rattle.std.proofs.Common.{[], List, ap, ap₂, arith, drop, sym, ◌<◌, ◌∙◌, ◌∷◌, ◌≡◌, ◌≤◌}
 use Rattle.definitions.specs.Postings.{terminated}
 use Rattle.docsets.specs.Entries.{Entry, Rising, first}
-use Rattle.docsets.specs.EntryLaws.{none_left}
+use Rattle.docsets.proofs.EntryLaws.{none_left}
 use Rattle.scorers.specs.Documents.{documents}
 
 -- where the first is the same, and what follows

@@ -9,8 +9,8 @@ use Rattle.docsets.specs.Entries.{Entry}
 use Rattle.definitions.specs.Postings.{terminated}
 use Rattle.definitions.specs.Scoring.{max_score}
 use Rattle.docsets.specs.Members.{entries_at, least, scores_in}
-use Rattle.scorers.specs.Clearings.{cleared-pass, first-all, held-answer, same-pass, same-refl, standing-flag, window-same, windowed-same}
-use Rattle.scorers.specs.Fillings.{standing-first}
+use Rattle.scorers.proofs.Clearings.{cleared-pass, first-all, held-answer, same-pass, same-refl, standing-flag, window-same, windowed-same}
+use Rattle.scorers.proofs.Fillings.{standing-first}
 use Rattle.scorers.specs.Windows.{IsCleared, IsLowest, IsSameFrom, IsWindow, StandsAt, held, entry_ahead, score_ahead, windowed}
 
 -- the word of its flag is one of the window

@@ -7,8 +7,8 @@ ghost use Rattle.definitions.specs.Postings.{terminated};
 ghost use Rattle.definitions.specs.Scoring.{max_score};
 ghost use Rattle.docsets.specs.ScoredEntries.{pairs_of};
 ghost use Rattle.docsets.specs.Members.{at_least, combining, entries_at, greatest_sum, least, scores_in};
-ghost use Rattle.scorers.specs.Clearings.{IsCleared-prop, IsPlaced-prop};
-ghost use Rattle.scorers.specs.Fillings.{IsStanding-prop};
+ghost use Rattle.scorers.specs.ClearingsLaws.{IsCleared-prop, IsPlaced-prop};
+ghost use Rattle.scorers.specs.FillingsLaws.{IsStanding-prop};
 ghost use Rattle.scorers.specs.Windows.{IsCleared, IsStanding, IsWindow, windowed};
 
 use crate::union_list::list_rest;
@@ -193,7 +193,7 @@ impl<S: Scorer + Drop, C: ScoreCombiner> BufferedUnionScorer<S, C> {
 }
 
 impl<S: Scorer, C: ScoreCombiner> DocSet for BufferedUnionScorer<S, C> {
-    ghost use Rattle.scorers.specs.Fillings.{Rising-windowed};
+    ghost use Rattle.scorers.specs.FillingsLaws.{Rising-windowed};
 
     ghost entries = { λ s. windowed C.answer s.present s.slots.items s.fresh s.start (map S.entries s.docsets.items) s.doc };
 

@@ -5,7 +5,8 @@ ghost use Rattle.docsets.specs.Entries.{Entry, first, from};
 ghost use Rattle.definitions.specs.Postings.{terminated};
 ghost use Rattle.definitions.specs.Scoring.{max_score};
 ghost use Rattle.docsets.specs.Members.{at_least, combining, entries_at, greatest_sum, least, scores_in};
-ghost use Rattle.scorers.specs.Choices.{IsChosen, IsChosen-prop};
+ghost use Rattle.scorers.specs.Choices.{IsChosen};
+ghost use Rattle.scorers.specs.ChoicesLaws.{IsChosen-prop};
 
 use crate::two_least::past_alone;
 use common::{DocId, Score, TERMINATED};
@@ -69,7 +70,7 @@ impl<S: Scorer, C: ScoreCombiner> Disjunction<S, C> {
 }
 
 impl<S: Scorer, C: ScoreCombiner> DocSet for Disjunction<S, C> {
-    ghost use Rattle.scorers.specs.Choices.{Rising-chosen};
+    ghost use Rattle.scorers.specs.ChoicesLaws.{Rising-chosen};
 
     ghost entries = { λ s. at_least s.minimum (combining (C.answer s.combiner)) (map S.entries s.docsets.items) };
 

@@ -3,8 +3,10 @@
 ghost use Rattle.std.specs.Prelude.{◌++◌, ◌≡◌, ◌≤◌, IfOk, false, is_some, map, sum, true, ℕ};
 ghost use Rattle.definitions.specs.Scoring.{max_score};
 ghost use Rattle.docsets.specs.Members.{at_least, entries_at, greatest_sum};
-ghost use Rattle.scorers.specs.Together.{IsTogether, IsTogether-prop};
-ghost use Rattle.scorers.specs.UnitedRoom.{HasRoom, HasRoom-prop};
+ghost use Rattle.scorers.specs.Together.{IsTogether};
+ghost use Rattle.scorers.specs.TogetherLaws.{IsTogether-prop};
+ghost use Rattle.scorers.specs.UnitedRoom.{HasRoom};
+ghost use Rattle.scorers.specs.UnitedRoomLaws.{HasRoom-prop};
 ghost use Rattle.scorers.specs.Uniting.{counts_in, uniting};
 
 use crate::united_positions::{PositionRoom, append_united, freq_at, most_together};

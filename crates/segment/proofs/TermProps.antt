@@ -3,7 +3,7 @@ use Rattle.std.proofs.Common.{[], Bool, List, None, Option, Some, ap, arith, dro
 use Rattle.std.proofs.Props.{props}
 use Rattle.std.specs.List.{AllByRecursion, AllByRecursion-prop}
 use Rattle.common.proofs.TakenBack.{bytes_back}
-use Rattle.docsets.specs.EntryLaws.{DontFall-prop}
+use Rattle.docsets.proofs.EntryLaws.{DontFall-prop}
 use Rattle.definitions.specs.Blocks.{block_len}
 use Rattle.definitions.specs.NumberCodes.{sized_bytes, take_bytes, vint_bytes}
 use Rattle.definitions.specs.Postings.{Posting}

@@ -8,11 +8,12 @@ use Rattle.definitions.specs.Postings.{terminated}
 use Rattle.segment_postings.proofs.Passing.{below_stops, sum_of_more}
 use Rattle.definitions.specs.Scoring.{DontFall}
 use Rattle.docsets.specs.Entries.{AreSingle, Entry, first, first_count, first_positions, from, highest, most_positions, single}
-use Rattle.docsets.specs.EntryLaws.{AreSingle-drop, AreSingle-from, from-low, from-out}
+use Rattle.docsets.proofs.EntryLaws.{AreSingle-drop, AreSingle-from, from-low, from-out}
 use Rattle.segment_postings.specs.Reading.{Ascends, below}
 use Rattle.positions.specs.Places.{places}
 use Rattle.segment_postings.specs.TermEntries.{entries_from, entries_of, numbers_of}
-use Rattle.segment_postings.specs.TermEntryLaws.{Ascends-behind, Rising-entries_of, first-entries_of}
+use Rattle.segment_postings.specs.TermEntryLaws.{Ascends-behind, Rising-entries_of}
+use Rattle.segment_postings.proofs.TermEntryLaws.{first-entries_of}
 
 -- ---- one document on
 

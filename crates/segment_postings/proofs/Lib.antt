@@ -19,3 +19,4 @@ pub mod TermChecks
 pub mod BoundedNumbers
 pub mod WholeTerms
 pub mod OneTerm
+pub mod TermEntryLaws

@@ -1,12 +1,10 @@
 -- What remains of a term's postings.
-use Rattle.std.proofs.Common.{refl}
-use Rattle.std.specs.Prelude.{[], ◌%◌, ◌*◌, ◌++◌, ◌+◌, ◌/◌, ◌≡◌, Bool, List, drop, if◌then◌else◌, length, map, min, nat_lt, sum, take, ℕ}
+use Rattle.std.specs.Prelude.{◌%◌, ◌*◌, ◌+◌, ◌/◌, ◌≡◌, Bool, List, drop, if◌then◌else◌, length, min, nat_lt, ℕ}
 use Rattle.definitions.specs.Blocks.{block_len}
 use Rattle.layouts.specs.SkipEntries.{SkipEntry}
-use Rattle.docsets.specs.Entries.{AreSingle, Entry, Rising, first_positions, single}
+use Rattle.docsets.specs.Entries.{Entry}
 use Rattle.segment_postings.specs.Reading.{counts_at, docs_at}
 use Rattle.segment_postings.specs.TermEntries.{entries_from, numbers_of}
-use Rattle.segment_postings.specs.TermEntryLaws.{Ascends-behind, Rising-entries_of}
 use Rattle.segment_postings.specs.declared.block_segment_postings.BlockSegmentPostings.{BlockSegmentPostings}
 use Rattle.segment_postings.specs.declared.segment_postings.SegmentPostings.{SegmentPostings}
 
@@ -74,12 +72,3 @@ pub record HasMoved (place : ℕ) (before after : SegmentPostings) : Type 0 wher
   pub decoded : cursor_blocks_decoded after ≡ cursor_blocks_decoded before + (if nat_lt place block_len then 0 else min 1 (length (docs_left (cursor_blocks after))))
   pub doc_freq : cursor_doc_freq after ≡ cursor_doc_freq before
   pub positions : cursor_positions after ≡ cursor_positions before
-
-pub rising_left : (s : SegmentPostings) → Rising 0 (entries_left s)
-rising_left s = Rising-entries_of 0 (drop s.cur (docs_left s.blocks)) (drop s.cur (counts_left s.blocks)) (drop (s.blocks.skips.position_offset + sum (take s.cur (counts_left s.blocks))) (numbers_of s.positions)) (Ascends-behind s.cur 0 (docs_left s.blocks) s.blocks.ascends)
-
-pub single_left : (s : SegmentPostings) → AreSingle (entries_left s)
-single_left s = s.of_one_term
-
-pub alone_left : (s : SegmentPostings) (offset : ℕ) → [] ++ map (λ p. p + offset) (single (first_positions (entries_left s))) ≡ map (λ p. p + offset) (single (first_positions (entries_left s)))
-alone_left s offset = refl

@@ -1,10 +1,12 @@
 pub mod Reading
-pub mod ReadingLaws
 pub mod TermEntries
-pub mod TermEntryLaws
 pub mod CountBounds
 pub mod Cursors
 -- Words of the contracts.
 pub mod Blocks
 pub mod Terms
 pub mod Placed
+-- Laws that clauses and proofs of types must name.
+pub mod ReadingLaws
+pub mod TermEntryLaws
+pub mod CursorsLaws

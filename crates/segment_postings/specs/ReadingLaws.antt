@@ -1,5 +1,5 @@
 -- What is known of bytes is known in one way.
-use Rattle.std.proofs.Common.{[], ◌∷◌, Bool, List, ℕ, ◌+◌, drop}
+use Rattle.std.proofs.Common.{[], ◌+◌, ◌∷◌, Bool, List, drop, ℕ}
 use Rattle.std.specs.Coded.{Unit-prop}
 use Rattle.std.proofs.Props.{props}
 use Rattle.layouts.specs.SkipEntries.{SkipEntry}

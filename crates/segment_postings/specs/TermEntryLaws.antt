@@ -1,7 +1,6 @@
 -- Laws of a term's entries.
-use Rattle.std.proofs.Common.{[], ◌+◌, ◌∷◌, ◌≡◌, ◌≤◌, List, arith, drop, get_or, refl, suc, zero, ℕ}
-use Rattle.definitions.specs.Postings.{terminated}
-use Rattle.docsets.specs.Entries.{Rising, first}
+use Rattle.std.proofs.Common.{[], ◌+◌, ◌∷◌, ◌≤◌, List, arith, drop, get_or, suc, zero, ℕ}
+use Rattle.docsets.specs.Entries.{Rising}
 use Rattle.segment_postings.specs.Reading.{Ascends}
 use Rattle.segment_postings.specs.TermEntries.{entries_of}
 
@@ -9,11 +8,6 @@ use Rattle.segment_postings.specs.TermEntries.{entries_of}
 pub Rising-entries_of : (low : ℕ) (docs counts numbers : List ℕ) → Ascends low docs → Rising low (entries_of docs counts numbers)
 Rising-entries_of low [] counts numbers a = tt
 Rising-entries_of low (d ∷ ds) counts numbers a = (a.0, a.1, omega arith, Rising-entries_of (d + 1) ds (drop 1 counts) (drop (get_or counts 0 0) numbers) a.2)
-
--- the first is that of the first document
-pub first-entries_of : (docs counts numbers : List ℕ) → first (entries_of docs counts numbers) ≡ get_or docs 0 terminated
-first-entries_of [] counts numbers = refl
-first-entries_of (d ∷ ds) counts numbers = refl
 
 pub Ascends-from_lower : (low high : ℕ) (docs : List ℕ) → low ≤ high → Ascends high docs → Ascends low docs
 Ascends-from_lower low high [] l a = tt

@@ -4,7 +4,7 @@ ghost use Rattle.std.specs.Prelude.{[], ◌+◌, ◌/◌, ◌<◌, ◌≡◌, �
 ghost use Rattle.definitions.specs.Blocks.{block_len};
 ghost use Rattle.definitions.specs.Postings.{terminated};
 ghost use Rattle.docsets.specs.Entries.{AreSingle, first, first_positions, most_positions, single};
-ghost use Rattle.docsets.specs.EntryLaws.{AreSingle-prop};
+ghost use Rattle.docsets.proofs.EntryLaws.{AreSingle-prop};
 ghost use Rattle.layouts.specs.Positions.{differences};
 ghost use Rattle.layouts.specs.TermPostings.{skip_entries};
 ghost use Rattle.segment_postings.specs.CountBounds.{TellCounts};
@@ -206,14 +206,15 @@ impl<'a> DocSet for SegmentPostings<'a> {
         self.doc_freq()
     }
 
-    ghost use Rattle.segment_postings.specs.Cursors.{rising_left};
+    ghost use Rattle.segment_postings.specs.CursorsLaws.{rising_left};
 
     ghost rising = { rising_left };
 }
 
 impl<'a> Postings for SegmentPostings<'a> {
     ghost use Rattle.std.specs.Prelude.{◌++◌};
-    ghost use Rattle.segment_postings.specs.Cursors.{alone_left, cursor_positions, entries_left, single_left};
+    ghost use Rattle.segment_postings.specs.CursorsLaws.{alone_left, single_left};
+    ghost use Rattle.segment_postings.specs.Cursors.{cursor_positions, entries_left};
 
     ghost joined = { λ held positions. held ++ positions };
 

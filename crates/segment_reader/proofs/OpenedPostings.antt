@@ -11,7 +11,7 @@ use Rattle.layouts.specs.InvertedIndexes.{IsPosting, IsTerm}
 use Rattle.layouts.specs.Positions.{ArePositions, differences, position_numbers}
 use Rattle.layouts.specs.TermPostings.{skip_entries}
 use Rattle.docsets.specs.Entries.{Entry, from, highest}
-use Rattle.docsets.specs.EntryLaws.{from-out}
+use Rattle.docsets.proofs.EntryLaws.{from-out}
 use Rattle.segment_postings.specs.Reading.{HasPostings}
 use Rattle.positions.specs.Places.{places}
 use Rattle.segment_postings.specs.TermEntries.{HasPositions, IsPlaced, entries_of, term_entries}

@@ -15,3 +15,5 @@ pub mod SegmentReaders
 pub mod Searchers
 pub mod Scorings
 pub mod LengthIds
+-- Laws that clauses and proofs of types must name.
+pub mod FlagsLaws

@@ -3,7 +3,8 @@
 ghost use Rattle.std.specs.Prelude.{◌≡◌, ◌≤◌, nat_lt, option_map};
 ghost use Rattle.definitions.specs.Postings.{terminated};
 ghost use Rattle.segment_reader.specs.Together.{AreTogether};
-ghost use Rattle.segment_reader.specs.Flags.{HasFlags, HasFlags-prop};
+ghost use Rattle.segment_reader.specs.Flags.{HasFlags};
+ghost use Rattle.segment_reader.specs.FlagsLaws.{HasFlags-prop};
 
 use crate::InvertedIndexReader;
 use common::{AliveBitSet, DocId};

@@ -5,3 +5,4 @@ pub mod RowsRead
 pub mod BestFound
 pub mod HitsRead
 pub mod Counts
+pub mod Flags

@@ -1,11 +1,9 @@
 -- Alive sets of segments: one for each of the first segments.
+use Rattle.segment.specs.declared.segment.Segment as code
 use Rattle.std.specs.Prelude.{[], ⊤, ◌∷◌, ◌≡◌, Bool, List, length}
-use Rattle.std.specs.Coded.{Unit-prop, ×_prop}
-use Rattle.std.proofs.Props.{props}
 use Rattle.definitions.specs.Alive.{Segment}
 use Rattle.definitions.specs.Values.{Document}
 use Rattle.segment.specs.Opened.{num_docs_of}
-use Rattle.segment.specs.declared.segment.Segment as code
 use Rattle.segment_definitions.specs.Rows.{flagged}
 
 -- each of the first segments has a flag for each of its documents
@@ -13,11 +11,6 @@ abbrev pub AreFlagged : List code.Segment → List (List Bool) → Type 0
 AreFlagged segments [] = ⊤
 AreFlagged [] (flags ∷ sets) = ⊥
 AreFlagged (s ∷ segments) (flags ∷ sets) = (length flags ≡ num_docs_of s) × AreFlagged segments sets
-
-pub AreFlagged-prop : (segments : List code.Segment) (sets : List (List Bool)) → IsProp (AreFlagged segments sets)
-AreFlagged-prop segments [] = Unit-prop
-AreFlagged-prop [] (flags ∷ sets) = hlevel props
-AreFlagged-prop (s ∷ segments) (flags ∷ sets) = ×_prop (hlevel props) (AreFlagged-prop segments sets)
 
 -- the documents of the first segments, each with its flag
 abbrev pub flagged_each : List (List Document) → List (List Bool) → List Segment

@@ -1,1 +1,2 @@
 pub mod SignedScores
+pub mod TermScoreLaws

@@ -1,5 +1,6 @@
 pub mod TermScores
-pub mod TermScoreLaws
 pub mod Similarities
 pub mod ScoredTerms
 pub mod Explaining
+-- Laws that clauses and proofs of types must name.
+pub mod TermScoreLaws

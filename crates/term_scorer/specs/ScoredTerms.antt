@@ -1,7 +1,8 @@
 -- What a scorer of a term has.
 use Rattle.std.specs.Prelude.{◌≡◌, List, ℕ}
 use Rattle.docsets.specs.Entries.{Entry, Rising}
-use Rattle.segment_postings.specs.Cursors.{HasMoved, entries_left, rising_left}
+use Rattle.segment_postings.specs.Cursors.{HasMoved, entries_left}
+use Rattle.segment_postings.specs.CursorsLaws.{rising_left}
 use Rattle.segment_postings.specs.declared.segment_postings.SegmentPostings.{SegmentPostings}
 use Rattle.term_scorer.specs.Similarities.{similarity_data}
 use Rattle.term_scorer.specs.TermScores.{TermSimilarity, term_scored}

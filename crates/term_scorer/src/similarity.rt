@@ -2,7 +2,7 @@
 
 ghost use Rattle.std.specs.Prelude.{◌*◌, ◌<◌, ◌^◌, ◌≡◌, ◌≤ℤ◌, ◌≤◌, IfOk, length, pos};
 ghost use Rattle.definitions.specs.Scoring.{DontFall, max_score, natural};
-ghost use Rattle.docsets.specs.EntryLaws.{DontFall-prop};
+ghost use Rattle.docsets.proofs.EntryLaws.{DontFall-prop};
 ghost use Rattle.term_scorer.specs.Explaining.{explained_value};
 ghost use Rattle.term_scorer.specs.TermScores.{score_by};
 

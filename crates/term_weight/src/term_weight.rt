@@ -9,7 +9,7 @@ ghost use Rattle.definitions.specs.Scoring.{DontFall, max_score, natural};
 ghost use Rattle.definitions.specs.Scoring as scoring;
 ghost use Rattle.definitions.specs.Values.{Document};
 ghost use Rattle.docsets.specs.Entries.{from};
-ghost use Rattle.docsets.specs.EntryLaws.{DontFall-prop};
+ghost use Rattle.docsets.proofs.EntryLaws.{DontFall-prop};
 ghost use Rattle.docsets.specs.ScoredEntries.{greatest_score, pairs_of};
 ghost use Rattle.options.specs.RecordOption.{record_option_of};
 ghost use Rattle.segment_reader.specs.SegmentReaders.{StandsFor, max_doc_of};

@@ -1,8 +1,6 @@
 -- When only better items are taken in.
 use Rattle.std.specs.Prelude.{⊤, ◌≡◌, ◌≤◌, Bool, List, None, Option, Some, false, length, nat_le, take, ℕ}
-use Rattle.std.specs.Coded.{Unit-prop, ×_prop}
-use Rattle.std.specs.List.{AllByRecursion, AllByRecursion-prop}
-use Rattle.std.proofs.Props.{props}
+use Rattle.std.specs.List.{AllByRecursion}
 use Rattle.definitions.specs.Scanning.{ranked}
 
 -- the best by a key, so many at most, and of equal keys the earlier
@@ -17,10 +15,6 @@ best_items limit items = best_by (λ m. m.0) limit items
 abbrev pub IsReached : {X : Type 0} → ℕ → List (ℕ × X) → Option ℕ → Type 0
 IsReached limit items None = ⊤
 IsReached limit items (Some t) = (length (best_items limit items) ≡ limit) × AllByRecursion (λ m. t ≤ m.0) (best_items limit items)
-
-pub IsReached-prop : {X : Type 0} (limit : ℕ) (items : List (ℕ × X)) (threshold : Option ℕ) → IsProp (IsReached limit items threshold)
-IsReached-prop limit items None = Unit-prop
-IsReached-prop limit items (Some t) = ×_prop (hlevel props) (AllByRecursion-prop _ (λ m. hlevel props) (best_items limit items))
 
 -- a score is not above the threshold, if there is one
 abbrev pub is_passed : Option ℕ → ℕ → Bool

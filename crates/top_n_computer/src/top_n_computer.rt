@@ -1,7 +1,8 @@
 //! The best of the items that are pushed, by score and then by their order.
 
 ghost use Rattle.std.specs.Prelude.{[], ◌++◌, ◌∷◌, ◌≡◌, IfOk, List, OnOk, ℕ};
-ghost use Rattle.top_n_computer.specs.Reached.{IsReached, IsReached-prop, best_items, is_passed};
+ghost use Rattle.top_n_computer.specs.Reached.{IsReached, best_items, is_passed};
+ghost use Rattle.top_n_computer.specs.ReachedLaws.{IsReached-prop};
 
 use std::alloc::{AllocError, Global};
 

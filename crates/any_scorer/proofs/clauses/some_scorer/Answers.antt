@@ -2,7 +2,7 @@ use Rattle.std.proofs.Common.{ap, arith, map, max, refl, sum, ◌∙◌, ◌≡�
 use Rattle.any_scorer.proofs.ByScores.{combined}
 use Rattle.any_scorer.specs.Clauses.{by_number}
 use Rattle.any_scorer.proofs.SameGreatest.{greatest_below}
-use Rattle.docsets.specs.AtLeastLaws.{greatest-summed}
+use Rattle.docsets.proofs.AtLeastLaws.{greatest-summed}
 use Rattle.docsets.specs.Members.{greatest_sum}
 use Rattle.any_scorer.proofs.clauses.some_scorer.Goals as goal
 

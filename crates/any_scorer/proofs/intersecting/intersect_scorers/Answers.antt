@@ -5,7 +5,7 @@ use Rattle.any_scorer.proofs.ByScores.{joined}
 use Rattle.any_scorer.proofs.SameGreatest.{greatest_below}
 use Rattle.any_scorer.proofs.SamePairs.{same_scores}
 use Rattle.any_scorer.specs.Clauses.{by_number}
-use Rattle.docsets.specs.AtLeastLaws.{greatest-joined}
+use Rattle.docsets.proofs.AtLeastLaws.{greatest-joined}
 use Rattle.docsets.specs.Members.{greatest_sum}
 use Rattle.any_scorer.proofs.intersecting.intersect_scorers.Goals as goal
 

@@ -2,7 +2,7 @@ use Rattle.std.proofs.Common.{[], ap, arith, subst, sym, ◌++◌, ◌∙◌, �
 use Rattle.std.proofs.lemmas.List.{append-nil}
 use Rattle.scorers.proofs.SignedScores.{scores_rise}
 use Rattle.scorers.specs.Signed.{signed}
-use Rattle.docsets.specs.EntryLaws.{none_left}
+use Rattle.docsets.proofs.EntryLaws.{none_left}
 use Rattle.docsets.specs.ScoredEntries.{AreScores}
 use Rattle.any_scorer.proofs.listing.for_each_scorer.Goals as goal
 

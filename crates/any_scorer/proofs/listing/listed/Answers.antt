@@ -1,7 +1,7 @@
 use Rattle.std.proofs.Common.{ap, ◌∙◌}
 use Rattle.scorers.proofs.SignedScores.{naturals_of}
 use Rattle.docsets.specs.ScoredEntries.{naturals, pairs_of}
-use Rattle.docsets.specs.ScoredEntryLaws.{pairs-scored}
+use Rattle.docsets.proofs.ScoredEntryLaws.{pairs-scored}
 use Rattle.any_scorer.proofs.listing.listed.Goals as goal
 
 -- src/listing.rt:31:1

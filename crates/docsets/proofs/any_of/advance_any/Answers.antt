@@ -1,8 +1,8 @@
 use Rattle.std.proofs.Common.{ap, arith, map, sym, ◌+◌, ◌<◌, ◌∙◌, ◌≡◌, ◌≤◌}
 use Rattle.definitions.specs.Postings.{terminated}
 use Rattle.docsets.specs.Entries.{from}
-use Rattle.docsets.specs.AtLeastLaws.{ended-same, union-ended, union-first, union-next}
-use Rattle.docsets.specs.MemberLaws.{least-small}
+use Rattle.docsets.proofs.AtLeastLaws.{ended-same, union-ended, union-first, union-next}
+use Rattle.docsets.proofs.MemberLaws.{least-small}
 use Rattle.docsets.specs.Members.{at_least, least}
 use Rattle.docsets.proofs.any_of.advance_any.Goals as goal
 

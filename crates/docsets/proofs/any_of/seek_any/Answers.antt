@@ -1,5 +1,5 @@
 use Rattle.std.proofs.Common.{ap, arith, map, sym, ◌∙◌}
-use Rattle.docsets.specs.AtLeastLaws.{chosen-from, union-first}
+use Rattle.docsets.proofs.AtLeastLaws.{chosen-from, union-first}
 use Rattle.docsets.specs.Members.{at_least}
 use Rattle.docsets.proofs.any_of.seek_any.Goals as goal
 

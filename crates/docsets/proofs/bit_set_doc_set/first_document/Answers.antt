@@ -1,6 +1,6 @@
 use Rattle.std.proofs.Common.{ap, sym, ◌∙◌}
 use Rattle.docsets.specs.Entries.{first}
-use Rattle.docsets.specs.SetEntryLaws.{end-set, first-set, none-set, same-set}
+use Rattle.docsets.proofs.SetEntryLaws.{end-set, first-set, none-set, same-set}
 use Rattle.docsets.proofs.bit_set_doc_set.first_document.Goals as goal
 
 pub returns-in-Some-clause-at : goal.returns-in-Some-clause-at

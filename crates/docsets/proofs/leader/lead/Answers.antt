@@ -2,9 +2,9 @@ use Rattle.std.proofs.Common.{[], add-one, ap, arith, drop, get_or, length, map,
 use Rattle.std.proofs.lemmas.List.{get_or-map, length-map, map-append, map-set, take_more_set}
 use Rattle.definitions.specs.Postings.{terminated}
 use Rattle.docsets.specs.Entries.{from}
-use Rattle.docsets.specs.ChangedLists.{changed-get, changed-length, changed-set}
+use Rattle.docsets.proofs.ChangedLists.{changed-get, changed-length, changed-set}
 use Rattle.docsets.specs.Members.{entries_at, least}
-use Rattle.docsets.specs.LeaderLaws.{leader-next}
+use Rattle.docsets.proofs.LeaderLaws.{leader-next}
 use Rattle.docsets.proofs.leader.lead.Goals as goal
 
 pub loop-i-preserved : goal.loop-i-preserved

@@ -1,4 +1,4 @@
-use Rattle.docsets.specs.ScoredEntryLaws.{pairs-boosted, pairs-rescored, pairs-scored}
+use Rattle.docsets.proofs.ScoredEntryLaws.{pairs-boosted, pairs-rescored, pairs-scored}
 use Rattle.docsets.proofs.leaf_laws.scores_are_those_of_definitions.Goals as goal
 
 pub returns : goal.returns

@@ -1,5 +1,5 @@
 use Rattle.std.proofs.Common.{refl, sum}
-use Rattle.docsets.specs.DefinedLaws.{at_least-defined}
+use Rattle.docsets.proofs.DefinedLaws.{at_least-defined}
 use Rattle.docsets.specs.Members.{combining, joining}
 use Rattle.docsets.proofs.member_laws.at_least_is_that_of_definitions.Goals as goal
 

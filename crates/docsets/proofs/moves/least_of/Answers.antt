@@ -2,7 +2,7 @@ use Rattle.std.proofs.Common.{[], ap, arith, map, sym, ◌∙◌}
 use Rattle.std.proofs.lemmas.List.{at_drop_more, drop_all, get_or-map, length-map}
 use Rattle.docsets.specs.Entries.{first}
 use Rattle.docsets.specs.Members.{least}
-use Rattle.docsets.specs.MemberLaws.{least-small}
+use Rattle.docsets.proofs.MemberLaws.{least-small}
 use Rattle.docsets.proofs.moves.least_of.Goals as goal
 
 pub loop-i-init : goal.loop-i-init

@@ -1,7 +1,7 @@
 use Rattle.std.proofs.Common.{[], add-one, ap, arith, drop, get_or, length, map, set, sym, take, ◌++◌, ◌∙◌, ◌≡◌, ◌<◌}
 use Rattle.std.proofs.lemmas.List.{get_or-map, length-map, map-set}
 use Rattle.docsets.specs.Entries.{from}
-use Rattle.docsets.specs.ChangedLists.{changed-all, changed-get, changed-length, changed-set}
+use Rattle.docsets.proofs.ChangedLists.{changed-all, changed-get, changed-length, changed-set}
 use Rattle.docsets.proofs.moves.move_all.Goals as goal
 
 pub loop-i-preserved : goal.loop-i-preserved

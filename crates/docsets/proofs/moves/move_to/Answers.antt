@@ -1,6 +1,6 @@
 use Rattle.std.proofs.Common.{ap, arith, sym, ◌+◌, ◌∙◌, ◌≡◌}
 use Rattle.docsets.specs.Entries.{first, from}
-use Rattle.docsets.specs.EntryLaws.{drop-one, from-first}
+use Rattle.docsets.proofs.EntryLaws.{drop-one, from-first}
 use Rattle.docsets.proofs.moves.move_to.Goals as goal
 
 pub returns-then-doc-target-clause-rest : goal.returns-then-doc-target-clause-rest

@@ -1,10 +1,10 @@
 use Rattle.std.proofs.Common.{[], ap, arith, drop, get_or, length, map, sum, sym, ◌++◌, ◌+◌, ◌∙◌, ◌∷◌, ◌≡◌, ◌<◌}
 use Rattle.std.proofs.Math.Seq.{map-set_same}
 use Rattle.std.proofs.lemmas.List.{drop_all, drop_more, get_or-map, length-map}
-use Rattle.docsets.specs.MemberLaws.{scores-then, sum-scores}
+use Rattle.docsets.proofs.MemberLaws.{scores-then, sum-scores}
 use Rattle.docsets.specs.Entries.{first}
 use Rattle.docsets.specs.Members.{entries_at, entries_of, scores_in}
-use Rattle.docsets.specs.MemberLaws.{least-get}
+use Rattle.docsets.proofs.MemberLaws.{least-get}
 use Rattle.docsets.proofs.scores.combine_at.Given.{Over}
 use Rattle.docsets.proofs.scores.combine_at.Goals.{After-index_mut}
 use Rattle.docsets.proofs.scores.combine_at.Goals as goal

@@ -1,6 +1,6 @@
 use Rattle.std.proofs.Common.{ap, arith, sym, ◌++◌, ◌∙◌, ◌≢◌}
 use Rattle.docsets.specs.Entries.{first}
-use Rattle.docsets.specs.MemberLaws.{entries-off, scores-on}
+use Rattle.docsets.proofs.MemberLaws.{entries-off, scores-on}
 use Rattle.docsets.specs.Members.{scores_in}
 use Rattle.docsets.proofs.scores.take_score.Goals as goal
 

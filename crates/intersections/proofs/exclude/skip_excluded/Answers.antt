@@ -1,9 +1,9 @@
 use Rattle.std.proofs.Common.{ap, arith, drop, sym, true, ◌∙◌, ◌≡◌}
 use Rattle.docsets.specs.Entries.{first}
-use Rattle.docsets.specs.EntryLaws.{Rising-drop}
-use Rattle.intersections.specs.DifferenceLaws.{without-first, without-later}
+use Rattle.docsets.proofs.EntryLaws.{Rising-drop}
+use Rattle.intersections.proofs.DifferenceLaws.{without-first, without-later}
 use Rattle.intersections.specs.Differences.{without}
-use Rattle.docsets.specs.MemberLaws.{first-next}
+use Rattle.docsets.proofs.MemberLaws.{first-next}
 use Rattle.intersections.proofs.exclude.skip_excluded.Goals as goal
 
 pub returns-then-not-contains-clause-same : goal.returns-then-not-contains-clause-same

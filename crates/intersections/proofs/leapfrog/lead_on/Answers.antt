@@ -1,8 +1,8 @@
 use Rattle.std.proofs.Common.{[], ap, arith, get_or, map, sym, ◌∙◌}
 use Rattle.std.proofs.lemmas.List.{get_or-set_same, length-map, map-set}
 use Rattle.docsets.specs.Entries.{first, from}
-use Rattle.docsets.specs.EntryLaws.{first-from, from-from}
-use Rattle.intersections.specs.MeetingLaws.{one-passes}
+use Rattle.docsets.proofs.EntryLaws.{first-from, from-from}
+use Rattle.intersections.proofs.MeetingLaws.{one-passes}
 use Rattle.intersections.proofs.leapfrog.lead_on.Goals as goal
 
 pub returns-clause-passes : goal.returns-clause-passes

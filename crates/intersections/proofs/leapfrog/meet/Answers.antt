@@ -1,8 +1,8 @@
 use Rattle.std.proofs.Common.{[], List, ap, arith, length, map, slice_set, take, ◌++◌, ◌+◌, ◌∙◌, ◌∷◌, ◌≡◌}
 use Rattle.std.proofs.lemmas.List.{map-append, take_more_set}
 use Rattle.docsets.specs.Entries.{Entry}
-use Rattle.intersections.specs.MeetingLaws.{Passes-on, kept-passes, kept-within, one-passes, set-kept}
-use Rattle.docsets.specs.LeaderLaws.{count-last, least-last, one-on}
+use Rattle.intersections.proofs.MeetingLaws.{Passes-on, kept-passes, kept-within, one-passes, set-kept}
+use Rattle.docsets.proofs.LeaderLaws.{count-last, least-last, one-on}
 use Rattle.docsets.specs.Members.{entries_at, least}
 use Rattle.intersections.proofs.leapfrog.meet.Goals as goal
 

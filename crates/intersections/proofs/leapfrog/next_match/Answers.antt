@@ -2,7 +2,7 @@ use Rattle.std.proofs.Common.{ap, arith, map, sym, ◌∙◌, ◌≡◌}
 use Rattle.std.proofs.lemmas.List.{length-map}
 use Rattle.definitions.specs.Postings.{terminated}
 use Rattle.docsets.specs.Entries.{first}
-use Rattle.intersections.specs.MeetingLaws.{Passes-on, few-before, few-led, meeting-end, meeting-first, meeting-same, passes-within}
+use Rattle.intersections.proofs.MeetingLaws.{Passes-on, few-before, few-led, meeting-end, meeting-first, meeting-same, passes-within}
 use Rattle.intersections.proofs.leapfrog.next_match.Goals as goal
 
 pub returns-then-bound-candidate-clause-same : goal.returns-then-bound-candidate-clause-same

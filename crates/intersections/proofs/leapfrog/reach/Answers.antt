@@ -1,7 +1,8 @@
 use Rattle.std.proofs.Common.{arith}
-use Rattle.docsets.specs.DangerLaws.{danger-kept}
+use Rattle.docsets.proofs.DangerLaws.{danger-kept}
 use Rattle.docsets.specs.Entries.{from}
-use Rattle.docsets.specs.EntryLaws.{Rising-from, first_at_most}
+use Rattle.docsets.specs.EntryLaws.{Rising-from}
+use Rattle.docsets.proofs.EntryLaws.{first_at_most}
 use Rattle.docsets.specs.declared.seek_danger_result.SeekDangerResult.TheVariants.{Found}
 use Rattle.intersections.proofs.leapfrog.reach.Goals as goal
 

@@ -5,7 +5,8 @@ use Rattle.layouts.specs.Positions.{differences}
 use Rattle.merging.proofs.Writes.{highest_first, small_deltas}
 use Rattle.postings_writer.specs.FieldWriting.{IsOpen}
 use Rattle.postings_writer.specs.TermWriting.{IsSumRefusal, recorded_count}
-use Rattle.segment_postings.specs.Cursors.{entries_left, single_left}
+use Rattle.segment_postings.specs.Cursors.{entries_left}
+use Rattle.segment_postings.specs.CursorsLaws.{single_left}
 use Rattle.merging.proofs.living_postings.write_posting.Goals as goal
 
 pub write_doc-requires-clause-positions : goal.write_doc-requires-clause-positions

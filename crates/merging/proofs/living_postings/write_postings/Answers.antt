@@ -11,7 +11,8 @@ use Rattle.merging.specs.Mappings.{new_doc}
 use Rattle.postings_writer.specs.FieldWriting.{FieldWriting, IsOpen}
 use Rattle.postings_writer.specs.TermWriting.{IsSumRefusal, recorded_count}
 use Rattle.postings_writer.proofs.WrittenTerms.{Written, none_written}
-use Rattle.segment_postings.specs.Cursors.{entries_left, rising_left, single_left}
+use Rattle.segment_postings.specs.Cursors.{entries_left}
+use Rattle.segment_postings.specs.CursorsLaws.{rising_left, single_left}
 use Rattle.merging.proofs.living_postings.write_postings.Goals as goal
 use Rattle.merging.proofs.living_postings.write_postings.Goals.{in-Some+in_ok-write_posting, in_default}
 

@@ -1,4 +1,5 @@
-use Rattle.segment_postings.specs.Cursors.{entries_left, rising_left}
+use Rattle.segment_postings.specs.Cursors.{entries_left}
+use Rattle.segment_postings.specs.CursorsLaws.{rising_left}
 use Rattle.phrase_cases.proofs.Covered.{all-covered}
 use Rattle.phrase_cases.proofs.phrase_rows.phrase_of.Goals as goal
 

@@ -1,5 +1,5 @@
 use Rattle.std.proofs.Common.{arith}
-use Rattle.docsets.specs.EntryLaws.{few}
+use Rattle.docsets.proofs.EntryLaws.{few}
 use Rattle.phrase_cases.proofs.sinks.feed.Goals as goal
 
 pub for_each_pruning_scorer-requires-clause-room : goal.for_each_pruning_scorer-requires-clause-room

@@ -15,7 +15,8 @@ use Rattle.intersections.specs.Meetings.{meeting}
 use Rattle.phrases.specs.PhraseEntries.{phrased, placed}
 use Rattle.phrases.specs.PhraseScores.{phrase_score_by}
 use Rattle.phrases.specs.PrefixEntries.{one_term}
-use Rattle.segment_postings.specs.Cursors.{entries_left, single_left}
+use Rattle.segment_postings.specs.Cursors.{entries_left}
+use Rattle.segment_postings.specs.CursorsLaws.{single_left}
 use Rattle.segment_reader.specs.SegmentReaders.{max_doc_of}
 use Rattle.phrase_weights.proofs.whole_phrase.whole_phrase.Goals as goal
 

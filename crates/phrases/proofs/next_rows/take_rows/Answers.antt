@@ -2,8 +2,8 @@ use Rattle.std.proofs.Common.{[], ap, arith, drop, length, map, subst, sym, ◌+
 use Rattle.std.proofs.lemmas.List.{length-append}
 use Rattle.docsets.specs.Entries.{first, first_positions, first_score, single}
 use Rattle.definitions.specs.Postings.{terminated}
-use Rattle.phrases.specs.PhraseEntryLaws.{IsRest-on}
-use Rattle.phrases.specs.PrefixEntryLaws.{most-rest}
+use Rattle.phrases.proofs.PhraseEntryLaws.{IsRest-on}
+use Rattle.phrases.proofs.PrefixEntryLaws.{most-rest}
 use Rattle.phrases.specs.Rows.{AreRows, most_count, row_entries, uncounted}
 use Rattle.phrases.proofs.SuffixCounts.{column-rises}
 use Rattle.phrases.proofs.WindowLaws.{first-most, fresh-next, next_row, rows-next, taken-next}

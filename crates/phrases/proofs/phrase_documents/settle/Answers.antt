@@ -3,9 +3,9 @@ use Rattle.std.proofs.lemmas.Bool.Decides.{nat_tests}
 use Rattle.docsets.specs.Entries.{Entry, first_positions}
 use Rattle.intersections.specs.Meetings.{meeting}
 use Rattle.phrases.specs.PhraseEntries.{longest, longest_column, phrased}
-use Rattle.phrases.specs.PhraseEntryLaws.{HaveColumns-rest, IsRest-on, first-columns, longest-first, longest-rest, phrased-pass}
+use Rattle.phrases.proofs.PhraseEntryLaws.{HaveColumns-rest, IsRest-on, first-columns, longest-first, longest-rest, phrased-pass}
 use Rattle.phrases.specs.Places.{places_of}
-use Rattle.phrases.specs.StandingLaws.{HasRoom-lower}
+use Rattle.phrases.proofs.StandingLaws.{HasRoom-lower}
 use Rattle.phrases.proofs.phrase_documents.settle.Goals as goal
 
 pub find-requires-clause-some : goal.find-requires-clause-some

@@ -1,7 +1,7 @@
 use Rattle.std.proofs.Common.{[], ap, arith, drop, get_or, length, sym, vec_capacity, vec_len, ◌++◌, ◌+◌, ◌<◌, ◌∙◌, ◌∷◌, ◌≡◌, ◌≤◌, ℕ}
 use Rattle.std.proofs.lemmas.List.{append_assoc}
 use Rattle.phrases.specs.Places.{distinct}
-use Rattle.phrases.specs.MergeLaws.{Ascends-lower, Ascends-step, distinct-in, distinct-out}
+use Rattle.phrases.proofs.MergeLaws.{Ascends-lower, Ascends-step, distinct-in, distinct-out}
 use Rattle.phrases.proofs.shared_positions.copy_distinct.Goals as goal
 use Rattle.phrases.proofs.shared_positions.copy_distinct.Goals.{else-p-next, then-p-next}
 

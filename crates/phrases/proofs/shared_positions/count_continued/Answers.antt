@@ -1,6 +1,7 @@
 use Rattle.std.proofs.Common.{arith, get_or, length, subst, ◌+◌, ◌<◌, ◌≡◌}
 use Rattle.phrases.proofs.Counts.{count-over, count-step}
-use Rattle.phrases.specs.MergeLaws.{Ascends-past, IsStep, step-by-tests, step-few}
+use Rattle.phrases.proofs.MergeLaws.{Ascends-past, step-by-tests, step-few}
+use Rattle.phrases.specs.MergeLaws.{IsStep}
 use Rattle.phrases.proofs.shared_positions.count_continued.Goals as goal
 
 pub loop-i-preserved : goal.loop-i-preserved

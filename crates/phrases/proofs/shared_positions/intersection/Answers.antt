@@ -1,7 +1,8 @@
 use Rattle.std.proofs.Common.{[], ap, arith, drop, filter, get_or, length, set, subst, sym, take, ◌++◌, ◌+◌, ◌<◌, ◌∙◌, ◌≡◌, ℕ}
 use Rattle.std.proofs.lemmas.List.{append-nil, get_or_read, length-set}
 use Rattle.phrases.specs.Places.{Ascends, has}
-use Rattle.phrases.specs.MergeLaws.{Ascends-past, IsStep, merge-end, merge-over, merge-step, step-by-tests, step-few, written}
+use Rattle.phrases.proofs.MergeLaws.{Ascends-past, merge-end, merge-over, merge-step, step-by-tests, step-few, written}
+use Rattle.phrases.specs.MergeLaws.{IsStep}
 use Rattle.phrases.proofs.shared_positions.intersection.Goals as goal
 use Rattle.phrases.proofs.shared_positions.intersection.Goals.{else-loop-i-test, then-loop-i-test+else-j-right}
 

@@ -1,9 +1,10 @@
 use Rattle.std.proofs.Common.{[], ap, arith, map, subst, sym, ◌++◌, ◌∙◌, ◌≡◌}
 use Rattle.docsets.specs.Entries.{Rising, most_positions}
-use Rattle.docsets.specs.EntryLaws.{none_left}
-use Rattle.phrases.specs.PhraseEntryLaws.{IsRest-on}
+use Rattle.docsets.proofs.EntryLaws.{none_left}
+use Rattle.phrases.proofs.PhraseEntryLaws.{IsRest-on}
 use Rattle.phrases.specs.PrefixEntries.{prefixed}
-use Rattle.phrases.specs.PrefixEntryLaws.{most-rest, most_suffix_positions}
+use Rattle.phrases.proofs.PrefixEntryLaws.{most-rest}
+use Rattle.phrases.specs.PrefixEntry.{most_suffix_positions}
 use Rattle.phrases.specs.Windows.{left_in}
 use Rattle.phrases.proofs.WindowLaws.{rising-front, window-fewer}
 use Rattle.phrases.proofs.suffix_windows.refill.Goals as goal

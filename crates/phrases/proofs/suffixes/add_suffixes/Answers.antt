@@ -1,7 +1,7 @@
 use Rattle.std.proofs.Common.{[], List, add-one, ap, arith, drop, get_or, length, map, set, subst, sym, take, ◌++◌, ◌+◌, ◌<◌, ◌∙◌, ◌∷◌, ◌≡◌}
 use Rattle.std.proofs.lemmas.List.{drop_all, drop_more, get_or-map, length-map, map-set}
 use Rattle.docsets.specs.Entries.{Entry, from, most_positions}
-use Rattle.docsets.specs.ChangedLists.{changed-all, changed-get, changed-length, changed-set}
+use Rattle.docsets.proofs.ChangedLists.{changed-all, changed-get, changed-length, changed-set}
 use Rattle.phrases.specs.Places.{Rises}
 use Rattle.phrases.specs.Rows.{AreRows, added, docs_of, end_of, most_count}
 use Rattle.phrases.proofs.RowLaws.{added-more, added-nil, docs-added, most-added, rows-added}

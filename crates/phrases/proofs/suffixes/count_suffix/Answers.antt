@@ -1,6 +1,6 @@
 use Rattle.std.proofs.Common.{ap, arith, subst, sym, ◌∙◌, ◌≡◌}
 use Rattle.docsets.specs.Entries.{first}
-use Rattle.docsets.specs.MemberLaws.{entries-off, entries-on}
+use Rattle.docsets.proofs.MemberLaws.{entries-off, entries-on}
 use Rattle.phrases.specs.Places.{Ascends}
 use Rattle.phrases.specs.PrefixEntries.{continued, continued_by}
 use Rattle.phrases.proofs.Counts.{continued-few}

@@ -1,6 +1,6 @@
 use Rattle.std.proofs.Common.{ap, arith, ◌∙◌}
 use Rattle.docsets.specs.Entries.{first, from, most_positions}
-use Rattle.docsets.specs.EntryLaws.{first-from, from-from, most-from}
+use Rattle.docsets.proofs.EntryLaws.{first-from, from-from, most-from}
 use Rattle.phrases.proofs.suffixes.step_to.Goals as goal
 
 pub returns-clause-rest : goal.returns-clause-rest

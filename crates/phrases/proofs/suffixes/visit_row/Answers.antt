@@ -1,7 +1,7 @@
 use Rattle.std.proofs.Common.{[], ap, arith, drop, sym, ◌+◌, ◌∙◌, ◌≡◌}
 use Rattle.docsets.specs.Entries.{first, from}
-use Rattle.docsets.specs.EntryLaws.{drop-one}
-use Rattle.docsets.specs.MemberLaws.{entries-cut, entries-kept}
+use Rattle.docsets.proofs.EntryLaws.{drop-one}
+use Rattle.docsets.proofs.MemberLaws.{entries-cut, entries-kept}
 use Rattle.docsets.specs.Members.{entries_of}
 use Rattle.phrases.specs.PrefixEntries.{continued_by}
 use Rattle.phrases.specs.Rows.{counted_on, places_in}

@@ -1,6 +1,6 @@
 use Rattle.std.proofs.Common.{subst}
 use Rattle.query_trees.specs.Queries.{query_of}
-use Rattle.scorer_answers.specs.AnswerLaws.{scores_match}
+use Rattle.scorer_answers.proofs.AnswerLaws.{scores_match}
 use Rattle.scorer_answers.specs.Matching.{Matches}
 use Rattle.query_answers.proofs.counts.count_by_scorer.Goals as goal
 

@@ -1,5 +1,5 @@
 use Rattle.query_trees.specs.Queries.{query_of}
-use Rattle.scorer_answers.specs.AnswerLaws.{scores_match}
+use Rattle.scorer_answers.proofs.AnswerLaws.{scores_match}
 use Rattle.query_answers.proofs.walks.for_each_no_score.Goals as goal
 
 pub returns-clause-fed : goal.returns-clause-fed

@@ -1,6 +1,6 @@
 use Rattle.std.proofs.Common.{arith}
 use Rattle.query_trees.specs.Queries.{query_of}
-use Rattle.scorer_answers.specs.AnswerLaws.{few_documents}
+use Rattle.scorer_answers.proofs.AnswerLaws.{few_documents}
 use Rattle.query_answers.proofs.walks.for_each_pruning.Goals as goal
 
 pub for_each_pruning-requires-clause-room : goal.for_each_pruning-requires-clause-room

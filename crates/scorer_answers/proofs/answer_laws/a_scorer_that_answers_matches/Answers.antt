@@ -1,4 +1,4 @@
-use Rattle.scorer_answers.specs.AnswerLaws.{few_documents, scores_match}
+use Rattle.scorer_answers.proofs.AnswerLaws.{few_documents, scores_match}
 use Rattle.scorer_answers.proofs.answer_laws.a_scorer_that_answers_matches.Goals as goal
 
 -- src/answer_laws.rt:14:1

@@ -1,5 +1,5 @@
 use Rattle.std.proofs.Common.{arith, sym, ◌∙◌}
-use Rattle.docsets.specs.EntryLaws.{none_left}
+use Rattle.docsets.proofs.EntryLaws.{none_left}
 use borrow.Author.Tests.{eqb-true}
 use Rattle.scorer_cases.proofs.asked.are_below.Goals as goal
 

@@ -3,7 +3,7 @@ use Rattle.std.proofs.lemmas.List.{length-append, map-append}
 use Rattle.docsets.specs.Entries.{Entry}
 use Rattle.docsets.specs.ScoredEntries.{greatest_score}
 use Rattle.docsets.specs.contracts.list_scorer.ListScorerDocSet.TheImpl.{entries-value}
-use Rattle.docsets.specs.AtLeastLaws.{greatest-last}
+use Rattle.docsets.proofs.AtLeastLaws.{greatest-last}
 use Rattle.docsets.specs.Members.{greatest_sum}
 use Rattle.scorer_cases.proofs.given_lists.add.Goals as goal
 

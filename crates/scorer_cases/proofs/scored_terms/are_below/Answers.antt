@@ -1,6 +1,7 @@
 use Rattle.std.proofs.Common.{arith, sym, ◌∙◌}
-use Rattle.docsets.specs.EntryLaws.{none_left}
-use Rattle.segment_postings.specs.Cursors.{entries_left, rising_left}
+use Rattle.docsets.proofs.EntryLaws.{none_left}
+use Rattle.segment_postings.specs.Cursors.{entries_left}
+use Rattle.segment_postings.specs.CursorsLaws.{rising_left}
 use borrow.Author.Tests.{eqb-true}
 use Rattle.scorer_cases.proofs.scored_terms.are_below.Goals as goal
 

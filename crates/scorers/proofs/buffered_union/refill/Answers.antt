@@ -1,9 +1,9 @@
 use Rattle.std.proofs.Common.{ap, arith, length, map, ◌<◌}
 use Rattle.definitions.specs.Postings.{terminated}
-use Rattle.scorers.specs.Clearings.{cleared-to, none-set}
-use Rattle.scorers.specs.Fillings.{ended, filled}
+use Rattle.scorers.proofs.Clearings.{cleared-to, none-set}
+use Rattle.scorers.proofs.Fillings.{ended, filled}
 use Rattle.docsets.specs.Members.{least, entries_at}
-use Rattle.docsets.specs.MemberLaws.{has-least, least-small, entries-least}
+use Rattle.docsets.proofs.MemberLaws.{has-least, least-small, entries-least}
 use Rattle.scorers.specs.Windows.{IsFilling}
 use Rattle.scorers.proofs.buffered_union.refill.Given.{Over}
 use Rattle.scorers.proofs.buffered_union.refill.Goals.{After-collect_all}

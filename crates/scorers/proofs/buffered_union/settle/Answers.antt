@@ -1,8 +1,8 @@
 use Rattle.std.proofs.Common.{None, Option, Some, arith, false, map, slice_index_or, subst, sym, ◌-◌, ◌<◌, ◌∙◌, IfSome, ℕ}
 use Rattle.common.specs.BitSets.{IsFirst}
-use Rattle.docsets.specs.MemberLaws.{entries-least}
-use Rattle.scorers.specs.Clearings.{cleared-to, first-late}
-use Rattle.scorers.specs.Fillings.{window-empty, window-found}
+use Rattle.docsets.proofs.MemberLaws.{entries-least}
+use Rattle.scorers.proofs.Clearings.{cleared-to, first-late}
+use Rattle.scorers.proofs.Fillings.{window-empty, window-found}
 use Rattle.scorers.proofs.buffered_union.settle.Goals as goal
 
 pub returns-in-Some-clause-same : goal.returns-in-Some-clause-same

@@ -1,8 +1,8 @@
 use Rattle.std.proofs.Common.{ap, arith, map, ◌-◌, ◌∙◌}
-use Rattle.scorers.specs.Clearings.{first-all, window-same, windowed-same}
-use Rattle.scorers.specs.Fillings.{window-moved, windowed-moved}
+use Rattle.scorers.proofs.Clearings.{first-all, window-same, windowed-same}
+use Rattle.scorers.proofs.Fillings.{window-moved, windowed-moved}
 use Rattle.docsets.specs.Members.{least}
-use Rattle.docsets.specs.MemberLaws.{least-cut}
+use Rattle.docsets.proofs.MemberLaws.{least-cut}
 use Rattle.scorers.proofs.buffered_union.settle_at.Goals as goal
 
 pub returns-then-target-start-lt-HORIZON-clause-same : goal.returns-then-target-start-lt-HORIZON-clause-same

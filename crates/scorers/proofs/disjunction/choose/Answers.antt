@@ -2,10 +2,10 @@ use Rattle.std.proofs.Common.{ap, arith, length, map, min, sum, sym, ◌+◌, �
 use Rattle.definitions.specs.Postings.{terminated}
 use Rattle.docsets.specs.Entries.{first}
 use Rattle.docsets.specs.ScoredEntryLaws.{by_place}
-use Rattle.docsets.specs.AtLeastLaws.{chosen-end, chosen-from, chosen-here, chosen-past}
+use Rattle.docsets.proofs.AtLeastLaws.{chosen-end, chosen-from, chosen-here, chosen-past}
 use Rattle.docsets.specs.Members.{at_least, entries_at, least, scores_in}
-use Rattle.docsets.specs.MemberLaws.{entries-least, least-cut, least-small, sums-cut}
-use Rattle.scorers.specs.TwoLeastLaws.{alone-further, chosen-cut, least-ends}
+use Rattle.docsets.proofs.MemberLaws.{entries-least, least-cut, least-small, sums-cut}
+use Rattle.scorers.proofs.TwoLeastLaws.{alone-further, chosen-cut, least-ends}
 use Rattle.scorers.proofs.disjunction.choose.Goals as goal
 
 pub loop-leader-init : goal.loop-leader-init

@@ -1,5 +1,5 @@
 use Rattle.std.proofs.Common.{arith, sym, ◌∙◌}
-use Rattle.docsets.specs.DistinctLaws.{count-new, count-old}
+use Rattle.docsets.proofs.DistinctLaws.{count-new, count-old}
 use Rattle.scorers.proofs.distinct_positions.count_once.Goals as goal
 use Rattle.scorers.proofs.distinct_positions.count_once.Goals.{else-not-contains, then-not-contains}
 

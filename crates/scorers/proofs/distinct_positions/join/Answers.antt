@@ -1,6 +1,6 @@
 use Rattle.std.proofs.Common.{ap, length, subst, sym, vec_capacity, ◌++◌, ◌<◌, ◌∙◌}
 use Rattle.docsets.specs.Distinct.{Ascends, distinct}
-use Rattle.docsets.specs.DistinctLaws.{Ascends-distinct, distinct-right}
+use Rattle.docsets.proofs.DistinctLaws.{Ascends-distinct, distinct-right}
 use Rattle.scorers.proofs.Calls.{on_err}
 use Rattle.scorers.proofs.distinct_positions.join.Goals as goal
 

@@ -1,7 +1,7 @@
 use Rattle.std.proofs.Common.{ap, not, rules, ◌==◌, ◌∙◌}
 use Rattle.std.proofs.lemmas.Fn.{filter_same}
 use Rattle.std.specs.List.{list_any}
-use Rattle.docsets.specs.DistinctLaws.{filter-agrees, holds-contains}
+use Rattle.docsets.proofs.DistinctLaws.{filter-agrees, holds-contains}
 use Rattle.docsets.specs.Distinct.{holds}
 use Rattle.scorers.proofs.distinct_positions.leave_out.Goals as goal
 

@@ -1,6 +1,6 @@
 use Rattle.std.proofs.Common.{List, ap, arith, filter, length, not, vec_capacity, ◌++◌, ◌<◌, ◌∙◌, ◌≡◌, ℕ}
 use Rattle.docsets.specs.Distinct.{distinct, holds}
-use Rattle.docsets.specs.DistinctLaws.{distinct-beside, distinct-left, distinct-split, length-distinct}
+use Rattle.docsets.proofs.DistinctLaws.{distinct-beside, distinct-left, distinct-split, length-distinct}
 use Rattle.scorers.proofs.Calls.{on_err}
 use Rattle.scorers.proofs.distinct_positions.make_room.Goals as goal
 

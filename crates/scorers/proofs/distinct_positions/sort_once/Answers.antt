@@ -1,5 +1,5 @@
 use Rattle.std.proofs.lemmas.List.Filters.{dedup_is}
-use Rattle.docsets.specs.DistinctLaws.{sorted-distinct}
+use Rattle.docsets.proofs.DistinctLaws.{sorted-distinct}
 use Rattle.scorers.proofs.distinct_positions.sort_once.Goals as goal
 
 pub returns-clause-items : goal.returns-clause-items

@@ -1,6 +1,6 @@
 use Rattle.std.proofs.Common.{ap, arith, sym, ◌∙◌}
 use Rattle.docsets.specs.Entries.{from}
-use Rattle.docsets.specs.EntryLaws.{from-first, from-step}
+use Rattle.docsets.proofs.EntryLaws.{from-first, from-step}
 use Rattle.scorers.proofs.two_least.advance_to.Goals as goal
 
 pub returns-else-advance-target : goal.returns-else-advance-target

@@ -3,11 +3,11 @@ use Rattle.std.proofs.lemmas.Bool.Decides.{nat_tests}
 use Rattle.std.proofs.lemmas.List.{at_drop_more, drop_all, get_or-map, length-append, length-map}
 use Rattle.definitions.specs.Postings.{terminated}
 use Rattle.docsets.specs.Entries.{Entry, Rising, first}
-use Rattle.docsets.specs.LeaderLaws.{one-on}
-use Rattle.docsets.specs.MemberLaws.{entries-off, least-get}
+use Rattle.docsets.proofs.LeaderLaws.{one-on}
+use Rattle.docsets.proofs.MemberLaws.{entries-off, least-get}
 use Rattle.docsets.specs.Members.{entries_at, entries_of}
 use mir.Val.{bool_byte}
-use Rattle.scorers.specs.TwoLeastLaws.{entries-behind}
+use Rattle.scorers.proofs.TwoLeastLaws.{entries-behind}
 use Rattle.scorers.proofs.two_least.count_least.Goals as goal
 
 -- a list that isn't past a document has it where it stands on it

@@ -2,9 +2,9 @@ use Rattle.std.proofs.Common.{[], ap, arith, get_or, length, map, set, slice_set
 use Rattle.std.proofs.lemmas.List.{get_or-map, length-map, map-set}
 use Rattle.definitions.specs.Postings.{terminated}
 use Rattle.docsets.specs.Entries.{from}
-use Rattle.docsets.specs.MemberLaws.{entries-least, least-cut}
+use Rattle.docsets.proofs.MemberLaws.{entries-least, least-cut}
 use Rattle.docsets.specs.Members.{entries_at, least}
-use Rattle.scorers.specs.TwoLeastLaws.{cut-ahead, cut-alone, cut-further, few-further, next-ends, two-have}
+use Rattle.scorers.proofs.TwoLeastLaws.{cut-ahead, cut-alone, cut-further, few-further, next-ends, two-have}
 use Rattle.scorers.proofs.two_least.past_alone.Given.{Over}
 use Rattle.scorers.proofs.two_least.past_alone.Goals.{After-loop-two, After-two_least-two-in-loop-two}
 use Rattle.scorers.proofs.two_least.past_alone.Goals as goal

@@ -1,7 +1,7 @@
 use Rattle.std.proofs.Common.{[], ap, arith, map, max, min, subst, sym, take, ◌++◌, ◌+◌, ◌∙◌, ◌∷◌, ◌≡◌}
 use Rattle.std.proofs.lemmas.List.{length-take-le, map-append, take_all, take_more}
 use Rattle.scorers.specs.TwoLeast.{AreTwoLeast}
-use Rattle.scorers.specs.TwoLeastLaws.{two-more, two-none}
+use Rattle.scorers.proofs.TwoLeastLaws.{two-more, two-none}
 use Rattle.scorers.proofs.two_least.two_least.Goals as goal
 
 pub loop-i-init : goal.loop-i-init

@@ -1,6 +1,6 @@
 use Rattle.std.proofs.Common.{[], ap, append-nil, append_assoc, arith, length, map, of_z, sym, to_z, ◌++◌, ◌<◌, ◌∙◌, ◌∷◌}
 use Rattle.definitions.specs.Postings.{terminated}
-use Rattle.docsets.specs.MemberLaws.{entries-least, listed-end}
+use Rattle.docsets.proofs.MemberLaws.{entries-least, listed-end}
 use Rattle.scorers.specs.Signed.{signed}
 use Rattle.scorers.specs.Windows.{entry_ahead, is_ahead, windowed}
 use Rattle.scorers.proofs.PassedDocuments.{cleared-on, first-on, rest-on, score-there, window-on}

@@ -1,7 +1,7 @@
 use Rattle.std.proofs.Common.{ap, arith, is_some, length, map, subst, true, vec_capacity, ◌++◌, ◌<◌, ◌∙◌, ◌≡◌}
 use Rattle.docsets.specs.Distinct.{distinct}
 use Rattle.docsets.specs.Members.{entries_at}
-use Rattle.scorers.specs.UnitingLaws.{highest-told, told-put}
+use Rattle.scorers.proofs.UnitingLaws.{highest-told, told-put}
 use Rattle.scorers.proofs.Calls.{on_err}
 use Rattle.scorers.proofs.united_positions.append_united.Goals as goal
 

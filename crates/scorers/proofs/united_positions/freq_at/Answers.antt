@@ -1,10 +1,10 @@
 use Rattle.std.proofs.Common.{[], ap, arith, drop, get_or, map, sum, sym, ◌+◌, ◌∙◌, ◌∷◌, ◌≡◌}
 use Rattle.std.proofs.lemmas.List.{drop_all, drop_more, get_or-map, length-map}
 use Rattle.docsets.specs.Entries.{first}
-use Rattle.docsets.specs.MemberLaws.{least-get}
+use Rattle.docsets.proofs.MemberLaws.{least-get}
 use Rattle.docsets.specs.Members.{entries_at, entries_of}
 use Rattle.scorers.specs.Uniting.{counts_in}
-use Rattle.scorers.specs.UnitingLaws.{counts-append}
+use Rattle.scorers.proofs.UnitingLaws.{counts-append}
 use Rattle.scorers.proofs.united_positions.freq_at.Given.{Over}
 use Rattle.scorers.proofs.united_positions.freq_at.Goals.{After-index}
 use Rattle.scorers.proofs.united_positions.freq_at.Goals as goal

@@ -1,8 +1,8 @@
 use Rattle.std.proofs.Common.{ap, arith, sum, sym, ◌∙◌, ◌≢◌}
 use Rattle.docsets.specs.Entries.{first}
-use Rattle.docsets.specs.MemberLaws.{entries-off}
+use Rattle.docsets.proofs.MemberLaws.{entries-off}
 use Rattle.scorers.specs.Uniting.{counts_in}
-use Rattle.scorers.specs.UnitingLaws.{counts-on}
+use Rattle.scorers.proofs.UnitingLaws.{counts-on}
 use Rattle.scorers.proofs.united_positions.freq_on.Goals as goal
 
 pub returns-then-doc : goal.returns-then-doc

@@ -2,10 +2,11 @@ use Rattle.std.proofs.Common.{[], ap, append-nil, append_assoc, arith, drop, get
 use Rattle.std.proofs.Math.Seq.{map-set_same}
 use Rattle.std.proofs.lemmas.List.{drop_all, drop_more, get_or-map, length-append, length-map, map-append}
 use Rattle.docsets.specs.Entries.{first, highest}
-use Rattle.docsets.specs.MemberLaws.{least-get}
+use Rattle.docsets.proofs.MemberLaws.{least-get}
 use Rattle.docsets.specs.Members.{entries_at, entries_of}
 use Rattle.scorers.specs.Uniting.{most_sum, positions_in}
-use Rattle.scorers.specs.UnitingLaws.{few-positions, highest-append, positions-append}
+use Rattle.scorers.proofs.UnitingLaws.{few-positions}
+use Rattle.scorers.specs.UnitingLaws.{highest-append, positions-append}
 use Rattle.scorers.proofs.united_positions.gather_positions.Given.{Over}
 use Rattle.scorers.proofs.united_positions.gather_positions.Goals.{After-index_mut}
 use Rattle.scorers.proofs.united_positions.gather_positions.Goals as goal

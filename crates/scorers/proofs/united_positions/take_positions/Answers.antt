@@ -1,10 +1,10 @@
 use Rattle.std.proofs.Common.{ap, append-nil, arith, length, map, sym, vec_capacity, ◌++◌, ◌+◌, ◌∙◌, ◌≡◌, ◌≢◌, if◌then◌else◌}
 use Rattle.std.proofs.lemmas.List.{length-map}
 use Rattle.docsets.specs.Entries.{first, first_positions, highest, single}
-use Rattle.docsets.specs.MemberLaws.{entries-off}
+use Rattle.docsets.proofs.MemberLaws.{entries-off}
 use Rattle.docsets.specs.Members.{entries_of}
 use Rattle.scorers.specs.Uniting.{positions_in}
-use Rattle.scorers.specs.UnitingLaws.{positions-on}
+use Rattle.scorers.proofs.UnitingLaws.{positions-on}
 use Rattle.scorers.proofs.Calls.{must_answer, must_be_ok}
 use Rattle.scorers.proofs.united_positions.take_positions.Goals as goal
 

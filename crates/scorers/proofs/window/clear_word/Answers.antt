@@ -1,6 +1,7 @@
 use Rattle.std.proofs.Common.{arith, bit_and, set, ◌%◌, ◌*◌, ◌+◌, ◌<◌}
 use Rattle.std.specs.Int.{bit_not, trailing_zeros, w64}
-use Rattle.scorers.specs.ClearedWords.{bit_mask, clearing-end, clearing-step, left-smaller, next-below}
+use Rattle.scorers.specs.ClearedWords.{bit_mask}
+use Rattle.scorers.proofs.ClearedWords.{clearing-end, clearing-step, left-smaller, next-below}
 use Rattle.scorers.specs.Windows.{IsClearing}
 use Rattle.scorers.proofs.window.clear_word.Given.{Over}
 use Rattle.scorers.proofs.window.clear_word.Goals.{After-index_mut}

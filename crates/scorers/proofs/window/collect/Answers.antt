@@ -1,13 +1,13 @@
 use Rattle.std.proofs.Common.{[], Bool, List, ap, arith, drop, get_or, length, set, subst, sum, sym, ◌-◌, ◌∙◌, ◌∷◌, ◌≡◌}
 use Rattle.std.proofs.lemmas.List.{get_or_default}
 use Rattle.docsets.specs.Entries.{first, first_score, from}
-use Rattle.docsets.specs.EntryLaws.{from-first, from-step}
+use Rattle.docsets.proofs.EntryLaws.{from-first, from-step}
 use Rattle.docsets.specs.CombiningLaws.{sum-cons}
 use Rattle.docsets.specs.Members.{entries_of}
-use Rattle.docsets.specs.MemberLaws.{entries-low, first-next, scores-on}
-use Rattle.scorers.specs.Clearings.{cleared-set, held-answer, held-total}
+use Rattle.docsets.proofs.MemberLaws.{entries-low, first-next, scores-on}
+use Rattle.scorers.proofs.Clearings.{cleared-set, held-answer, held-total}
 use Rattle.scorers.specs.Windows.{IsCleared}
-use Rattle.scorers.specs.WindowLaws.{Moves-next, Moves-on, Moves-same}
+use Rattle.scorers.proofs.WindowLaws.{Moves-next, Moves-on, Moves-same}
 use Rattle.scorers.proofs.window.collect.Given.{Over}
 use Rattle.scorers.proofs.window.collect.Goals.{After-index_mut}
 use Rattle.scorers.proofs.window.collect.Goals as goal

@@ -1,12 +1,12 @@
 use Rattle.std.proofs.Common.{[], List, add-one, ap, arith, drop, get_or, length, map, set, subst, sum, sym, take, ◌++◌, ◌+◌, ◌∙◌, ◌∷◌, ◌≡◌, ◌<◌}
 use Rattle.std.proofs.lemmas.List.{drop_all, drop_more, get_or-map, length-map, map-set}
-use Rattle.docsets.specs.MemberLaws.{sum-scores}
+use Rattle.docsets.proofs.MemberLaws.{sum-scores}
 use Rattle.docsets.specs.Entries.{Entry, first, from}
 use Rattle.docsets.specs.Members.{entries_at, entries_of, scores_in}
-use Rattle.docsets.specs.ChangedLists.{changed-all, changed-get, changed-length, changed-set}
-use Rattle.docsets.specs.MemberLaws.{least-get}
+use Rattle.docsets.proofs.ChangedLists.{changed-all, changed-get, changed-length, changed-set}
+use Rattle.docsets.proofs.MemberLaws.{least-get}
 use Rattle.scorers.specs.Windows.{Moves}
-use Rattle.scorers.specs.WindowLaws.{Moves-list, Moves-on}
+use Rattle.scorers.proofs.WindowLaws.{Moves-list, Moves-on}
 use Rattle.scorers.proofs.window.collect_all.Given.{Over}
 use Rattle.scorers.proofs.window.collect_all.Goals.{After-index_mut}
 use Rattle.scorers.proofs.window.collect_all.Goals as goal

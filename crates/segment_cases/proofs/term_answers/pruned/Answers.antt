@@ -1,5 +1,5 @@
 use Rattle.std.proofs.Common.{arith}
-use Rattle.docsets.specs.EntryLaws.{few}
+use Rattle.docsets.proofs.EntryLaws.{few}
 use Rattle.term_scorer.specs.ScoredTerms.{rising_scored, scored_left}
 use Rattle.segment_cases.proofs.term_answers.pruned.Goals as goal
 

@@ -1,6 +1,6 @@
 use Rattle.std.proofs.Common.{[], ap, arith, drop, false, slice_index_or, subst, sym, true, ◌++◌, ◌<◌, ◌∙◌, ◌∷◌, ◌≡◌}
 use Rattle.std.specs.List.{AllByRecursion}
-use Rattle.docsets.specs.EntryLaws.{none_left}
+use Rattle.docsets.proofs.EntryLaws.{none_left}
 use Rattle.docsets.specs.Entries.{first, first_score, from}
 use Rattle.scorer_answers.specs.Rows.{flags_in}
 use Rattle.segment_reader.specs.SegmentReaders.{max_doc_of}

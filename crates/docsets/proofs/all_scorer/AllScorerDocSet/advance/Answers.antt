@@ -1,5 +1,5 @@
 use Rattle.std.proofs.Common.{◌∙◌, ap, arith, drop, sym}
-use Rattle.docsets.specs.ScoredEntryLaws.{behind-all, none-all}
+use Rattle.docsets.proofs.ScoredEntryLaws.{behind-all, none-all}
 use Rattle.docsets.proofs.all_scorer.AllScorerDocSet.advance.Goals as goal
 
 pub returns-then-self-eq-TERMINATED-clause-rest : goal.returns-then-self-eq-TERMINATED-clause-rest

@@ -1,5 +1,5 @@
 use Rattle.std.proofs.Common.{◌∙◌}
-use Rattle.docsets.specs.ScoredEntryLaws.{sought-all}
+use Rattle.docsets.proofs.ScoredEntryLaws.{sought-all}
 use Rattle.docsets.proofs.all_scorer.AllScorerDocSet.seek.Goals as goal
 
 pub returns-clause-rest : goal.returns-clause-rest

@@ -1,5 +1,5 @@
 use Rattle.std.proofs.Common.{arith, ◌∙◌}
-use Rattle.docsets.specs.EntryLaws.{from-first}
+use Rattle.docsets.proofs.EntryLaws.{from-first}
 use Rattle.docsets.specs.SetEntries.{set_entries}
 use Rattle.docsets.specs.SetEntryLaws.{Rising-flags}
 use Rattle.docsets.proofs.bit_set_doc_set.BitSetDocSet.from.Goals as goal

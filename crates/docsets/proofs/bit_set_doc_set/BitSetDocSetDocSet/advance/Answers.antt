@@ -1,7 +1,7 @@
 use Rattle.std.proofs.Common.{[], ap, arith, drop, rules, sym, ◌+◌, ◌<◌, ◌≡◌, ◌∙◌}
 use Rattle.docsets.specs.Entries.{from}
 use Rattle.docsets.specs.SetEntries.{set_entries}
-use Rattle.docsets.specs.SetEntryLaws.{end-set, next-set, place-set}
+use Rattle.docsets.proofs.SetEntryLaws.{end-set, next-set, place-set}
 use Rattle.docsets.proofs.bit_set_doc_set.BitSetDocSetDocSet.advance.Goals as goal
 
 pub returns-then-self-eq-TERMINATED-clause-rest : goal.returns-then-self-eq-TERMINATED-clause-rest

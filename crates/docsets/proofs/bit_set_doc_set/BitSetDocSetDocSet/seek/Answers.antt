@@ -1,5 +1,5 @@
 use Rattle.std.proofs.Common.{arith, sym, ◌∙◌, ◌≤◌}
-use Rattle.docsets.specs.EntryLaws.{from-from}
+use Rattle.docsets.proofs.EntryLaws.{from-from}
 use Rattle.docsets.specs.SetEntries.{set_entries}
 use Rattle.docsets.proofs.bit_set_doc_set.BitSetDocSetDocSet.seek.Goals as goal
 

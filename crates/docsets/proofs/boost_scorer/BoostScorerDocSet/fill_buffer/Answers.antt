@@ -1,6 +1,6 @@
 use Rattle.std.proofs.Common.{◌*◌, ap, min, sym, ◌∙◌}
 use Rattle.docsets.specs.ScoredEntries.{greatest_score}
-use Rattle.docsets.specs.ScoredEntryLaws.{boost-fits, greatest-rest, docs-taken, length-rescored, drop-rescored}
+use Rattle.docsets.proofs.ScoredEntryLaws.{boost-fits, greatest-rest, docs-taken, length-rescored, drop-rescored}
 use Rattle.docsets.specs.ScoredEntries.{rescored_by}
 use Rattle.docsets.proofs.boost_scorer.BoostScorerDocSet.fill_buffer.Goals as goal
 

@@ -1,7 +1,7 @@
 use Rattle.std.proofs.Common.{◌*◌, ap, sym, ◌∙◌}
-use Rattle.docsets.specs.EntryLaws.{IsRest-from}
+use Rattle.docsets.proofs.EntryLaws.{IsRest-from}
 use Rattle.docsets.specs.ScoredEntries.{greatest_score}
-use Rattle.docsets.specs.ScoredEntryLaws.{boost-fits, greatest-rest, from-rescored, IsRest-along}
+use Rattle.docsets.proofs.ScoredEntryLaws.{boost-fits, greatest-rest, from-rescored, IsRest-along}
 use Rattle.docsets.specs.ScoredEntries.{rescored_by}
 use Rattle.docsets.proofs.boost_scorer.BoostScorerDocSet.seek.Goals as goal
 

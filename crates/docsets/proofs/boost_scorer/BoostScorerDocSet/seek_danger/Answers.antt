@@ -1,6 +1,6 @@
 use Rattle.std.proofs.Common.{◌*◌}
 use Rattle.docsets.specs.ScoredEntries.{greatest_score}
-use Rattle.docsets.specs.ScoredEntryLaws.{boost-fits, greatest-rest, danger-rescored, danger-rest}
+use Rattle.docsets.proofs.ScoredEntryLaws.{boost-fits, greatest-rest, danger-rescored, danger-rest}
 use Rattle.docsets.proofs.boost_scorer.BoostScorerDocSet.seek_danger.Goals as goal
 
 pub invariant_of-self : goal.invariant_of-self

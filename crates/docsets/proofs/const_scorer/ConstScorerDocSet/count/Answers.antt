@@ -1,5 +1,5 @@
 use Rattle.std.proofs.Common.{false, slice_index_or, sym, ◌∙◌}
-use Rattle.docsets.specs.ScoredEntryLaws.{count-rescored, none-rescored}
+use Rattle.docsets.proofs.ScoredEntryLaws.{count-rescored, none-rescored}
 use Rattle.docsets.proofs.const_scorer.ConstScorerDocSet.count.Goals as goal
 
 pub count-requires : goal.count-requires

@@ -1,5 +1,5 @@
 use Rattle.std.proofs.Common.{sym, ◌∙◌}
-use Rattle.docsets.specs.ScoredEntryLaws.{length-rescored}
+use Rattle.docsets.proofs.ScoredEntryLaws.{length-rescored}
 use Rattle.docsets.proofs.const_scorer.ConstScorerDocSet.count_including_deleted.Goals as goal
 
 pub returns-clause-count : goal.returns-clause-count

@@ -1,5 +1,5 @@
 use Rattle.std.proofs.Common.{ap, min, sym, ◌∙◌}
-use Rattle.docsets.specs.ScoredEntryLaws.{docs-taken, length-rescored, drop-rescored}
+use Rattle.docsets.proofs.ScoredEntryLaws.{docs-taken, length-rescored, drop-rescored}
 use Rattle.docsets.specs.ScoredEntries.{rescored_by}
 use Rattle.docsets.proofs.const_scorer.ConstScorerDocSet.fill_buffer.Goals as goal
 

@@ -1,5 +1,5 @@
 use Rattle.std.proofs.Common.{ap, sym, ◌∙◌}
-use Rattle.docsets.specs.ScoredEntryLaws.{from-rescored}
+use Rattle.docsets.proofs.ScoredEntryLaws.{from-rescored}
 use Rattle.docsets.specs.ScoredEntries.{rescored_by}
 use Rattle.docsets.proofs.const_scorer.ConstScorerDocSet.seek.Goals as goal
 

@@ -1,4 +1,4 @@
-use Rattle.docsets.specs.ScoredEntryLaws.{danger-rescored}
+use Rattle.docsets.proofs.ScoredEntryLaws.{danger-rescored}
 use Rattle.docsets.proofs.const_scorer.ConstScorerDocSet.seek_danger.Goals as goal
 
 pub returns : goal.returns

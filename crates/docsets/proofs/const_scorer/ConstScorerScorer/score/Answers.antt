@@ -4,7 +4,7 @@ use mir.Syntax.{w64}
 use mir.Val.{SFits}
 use Rattle.docsets.specs.Entries.{Entry, first}
 use Rattle.definitions.specs.Postings.{terminated}
-use Rattle.docsets.specs.ScoredEntryLaws.{first-rescored, first_score-rescored}
+use Rattle.docsets.proofs.ScoredEntryLaws.{first-rescored, first_score-rescored}
 use Rattle.docsets.proofs.const_scorer.ConstScorerScorer.score.Goals as goal
 
 pub returns-clause-value : goal.returns-clause-value

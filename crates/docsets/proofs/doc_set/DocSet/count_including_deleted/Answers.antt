@@ -1,5 +1,5 @@
 use Rattle.std.proofs.Common.{arith}
-use Rattle.docsets.specs.EntryLaws.{few}
+use Rattle.docsets.proofs.EntryLaws.{few}
 use Rattle.docsets.proofs.doc_set.DocSet.count_including_deleted.Goals as goal
 
 pub loop-doc-init : goal.loop-doc-init

@@ -2,7 +2,7 @@ use Rattle.std.proofs.Common.{ap, arith, drop, length, map, sym, ◌∙◌, ◌�
 use Rattle.std.proofs.lemmas.List.{drop-drop, drop_all, length-set, take_all}
 use Rattle.docsets.proofs.FirstDocuments.{all_given, document_written, one_more}
 use Rattle.docsets.specs.Entries.{Entry, first}
-use Rattle.docsets.specs.EntryLaws.{first_at_most}
+use Rattle.docsets.proofs.EntryLaws.{first_at_most}
 use Rattle.docsets.proofs.doc_set.DocSet.fill_buffer.Given.{Over}
 use Rattle.docsets.proofs.doc_set.DocSet.fill_buffer.Goals.{Then-doc-eq-TERMINATED}
 use Rattle.docsets.proofs.doc_set.DocSet.fill_buffer.Goals as goal

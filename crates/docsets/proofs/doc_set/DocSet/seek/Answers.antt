@@ -1,5 +1,5 @@
 use Rattle.std.proofs.Common.{arith, sym, ◌∙◌}
-use Rattle.docsets.specs.EntryLaws.{from-first}
+use Rattle.docsets.proofs.EntryLaws.{from-first}
 use Rattle.docsets.proofs.doc_set.DocSet.seek.Goals as goal
 
 pub returns-clause-rest : goal.returns-clause-rest

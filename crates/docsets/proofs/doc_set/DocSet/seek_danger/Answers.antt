@@ -1,7 +1,7 @@
 use Rattle.std.proofs.Common.{ap, arith, ◌≤◌}
 use Rattle.docsets.specs.Entries.{first, from}
-use Rattle.docsets.specs.EntryLaws.{first-from}
-use Rattle.docsets.specs.DangerLaws.{missed-seek}
+use Rattle.docsets.proofs.EntryLaws.{first-from}
+use Rattle.docsets.proofs.DangerLaws.{missed-seek}
 use Rattle.docsets.proofs.doc_set.DocSet.seek_danger.Goals as goal
 
 pub returns-then-target-doc-2 : goal.returns-then-target-doc-2

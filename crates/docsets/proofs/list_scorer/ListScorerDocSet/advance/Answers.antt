@@ -1,4 +1,4 @@
-use Rattle.docsets.specs.ScoredEntryLaws.{AreScores-next, scored-next}
+use Rattle.docsets.proofs.ScoredEntryLaws.{AreScores-next, scored-next}
 use Rattle.definitions.specs.Scoring.{natural}
 use Rattle.docsets.proofs.list_scorer.ListScorerDocSet.advance.Goals as goal
 

@@ -1,7 +1,7 @@
 use Rattle.std.proofs.Common.{drop, subst}
 use Rattle.std.proofs.lemmas.List.{drop-drop}
 use Rattle.docsets.specs.ScoredEntries.{AreScores}
-use Rattle.docsets.specs.ScoredEntryLaws.{AreScores-drop}
+use Rattle.docsets.proofs.ScoredEntryLaws.{AreScores-drop}
 use Rattle.docsets.proofs.list_scorer.ListScorerDocSet.seek.Goals as goal
 
 pub invariant_of-self : goal.invariant_of-self

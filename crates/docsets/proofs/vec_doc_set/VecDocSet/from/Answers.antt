@@ -1,4 +1,4 @@
-use Rattle.docsets.specs.ScoredEntryLaws.{Rising-scored}
+use Rattle.docsets.proofs.ScoredEntryLaws.{Rising-scored}
 use Rattle.definitions.specs.ScoredLists.{each_scoring}
 use Rattle.docsets.proofs.vec_doc_set.VecDocSet.from.Goals as goal
 

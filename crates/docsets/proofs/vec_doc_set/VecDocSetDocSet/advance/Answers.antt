@@ -1,9 +1,9 @@
 use Rattle.std.proofs.Common.{drop, subst, sym}
 use Rattle.docsets.specs.Entries.{Rising}
-use Rattle.docsets.specs.EntryLaws.{Rising-drop}
+use Rattle.docsets.proofs.EntryLaws.{Rising-drop}
 use Rattle.definitions.specs.ScoredLists.{each_scoring}
 use Rattle.docsets.specs.ScoredEntries.{scored}
-use Rattle.docsets.specs.ScoredEntryLaws.{scored-next}
+use Rattle.docsets.proofs.ScoredEntryLaws.{scored-next}
 use Rattle.docsets.proofs.vec_doc_set.VecDocSetDocSet.advance.Goals as goal
 
 pub invariant_of-self : goal.invariant_of-self

@@ -1,5 +1,5 @@
 use Rattle.std.proofs.Common.{ap, sym, ◌∙◌}
-use Rattle.intersections.specs.DifferenceLaws.{from-without}
+use Rattle.intersections.proofs.DifferenceLaws.{from-without}
 use Rattle.intersections.specs.Differences.{without}
 use Rattle.intersections.proofs.exclude.ExcludeDocSet.seek.Goals as goal
 

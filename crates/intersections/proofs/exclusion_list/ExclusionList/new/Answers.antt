@@ -1,7 +1,7 @@
 use Rattle.std.proofs.Common.{ap, map, ◌∙◌}
 use Rattle.intersections.specs.Differences.{has, unscored}
-use Rattle.intersections.specs.ExclusionLaws.{has-one}
-use Rattle.docsets.specs.MemberLaws.{from-zero}
+use Rattle.intersections.proofs.ExclusionLaws.{has-one}
+use Rattle.docsets.proofs.MemberLaws.{from-zero}
 use Rattle.docsets.specs.Members.{at_least}
 use Rattle.intersections.proofs.exclusion_list.ExclusionList.new.Goals as goal
 

@@ -1,6 +1,6 @@
 use Rattle.std.proofs.Common.{sym, ◌∙◌}
 use Rattle.intersections.specs.Differences.{unscored}
-use Rattle.docsets.specs.AtLeastLaws.{union-first}
+use Rattle.docsets.proofs.AtLeastLaws.{union-first}
 use Rattle.intersections.proofs.exclusion_list.ExclusionListDocSet.doc.Goals as goal
 
 pub returns : goal.returns

@@ -1,7 +1,7 @@
 use Rattle.std.proofs.Common.{sym}
-use Rattle.docsets.specs.DangerLaws.{danger-kept}
+use Rattle.docsets.proofs.DangerLaws.{danger-kept}
 use Rattle.docsets.specs.declared.seek_danger_result.SeekDangerResult.TheVariants.{Found}
-use Rattle.intersections.specs.DifferenceLaws.{has-found, has-kept, has-missed}
+use Rattle.intersections.proofs.DifferenceLaws.{has-found, has-kept, has-missed}
 use Rattle.intersections.proofs.exclusion_set.AnyExclusionSet.contains.Goals as goal
 
 pub returns-in-Found-clause-value : goal.returns-in-Found-clause-value

@@ -3,7 +3,7 @@ use Rattle.std.proofs.Math.Seq.{map-set_same}
 use Rattle.std.proofs.lemmas.List.{get_or-map, length-set, map-set}
 use Rattle.docsets.specs.Entries.{Entry, first, first_positions, single}
 use Rattle.definitions.specs.Postings.{terminated}
-use Rattle.intersections.specs.ColumnLaws.{all-have, column-is, column-within, stands-at}
+use Rattle.intersections.proofs.ColumnLaws.{all-have, column-is, column-within, stands-at}
 use Rattle.intersections.specs.Meetings.{IsMeeting, meeting}
 use Rattle.intersections.proofs.intersection.Intersection.column.Goals as goal
 

@@ -1,7 +1,7 @@
 use Rattle.std.proofs.Common.{arith, map, ◌∙◌}
-use Rattle.intersections.specs.MeetingLaws.{Rising-meeting, meets-on}
+use Rattle.intersections.proofs.MeetingLaws.{Rising-meeting, meets-on}
 use Rattle.intersections.specs.Meetings.{meeting}
-use Rattle.docsets.specs.MemberLaws.{from-zero}
+use Rattle.docsets.proofs.MemberLaws.{from-zero}
 use Rattle.intersections.proofs.intersection.Intersection.new.Goals as goal
 
 pub invariant_of-result : goal.invariant_of-result

@@ -1,6 +1,6 @@
 use Rattle.std.proofs.Common.{arith, length, sym, ◌<◌, ◌∙◌, ◌≡◌}
 use Rattle.docsets.specs.Entries.{first_positions}
-use Rattle.intersections.specs.ColumnLaws.{columns-count}
+use Rattle.intersections.proofs.ColumnLaws.{columns-count}
 use Rattle.intersections.proofs.intersection.Intersection.num_columns.Goals as goal
 
 pub returns : goal.returns

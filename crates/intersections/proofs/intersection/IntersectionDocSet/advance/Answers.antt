@@ -1,7 +1,7 @@
 use Rattle.std.proofs.Common.{ap, arith, map, sym, ◌+◌, ◌∙◌}
 use Rattle.docsets.specs.Entries.{from}
-use Rattle.docsets.specs.EntryLaws.{drop-one}
-use Rattle.intersections.specs.MeetingLaws.{meets-on}
+use Rattle.docsets.proofs.EntryLaws.{drop-one}
+use Rattle.intersections.proofs.MeetingLaws.{meets-on}
 use Rattle.intersections.specs.Meetings.{meeting}
 use Rattle.intersections.proofs.intersection.IntersectionDocSet.advance.Goals as goal
 

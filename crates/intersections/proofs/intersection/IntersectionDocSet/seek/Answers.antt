@@ -1,5 +1,5 @@
 use Rattle.std.proofs.Common.{arith, map}
-use Rattle.intersections.specs.MeetingLaws.{meets-on}
+use Rattle.intersections.proofs.MeetingLaws.{meets-on}
 use Rattle.intersections.proofs.intersection.IntersectionDocSet.seek.Goals as goal
 
 pub invariant_of-self : goal.invariant_of-self

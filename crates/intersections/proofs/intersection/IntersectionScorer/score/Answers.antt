@@ -3,7 +3,7 @@ use Rattle.std.proofs.lemmas.Int.{ints, to_z-of_z}
 use Rattle.std.proofs.lemmas.List.{append-nil}
 use Rattle.definitions.specs.Postings.{terminated}
 use Rattle.definitions.specs.Scoring.{max_score}
-use Rattle.intersections.specs.MeetingLaws.{meeting-fits, meeting-score}
+use Rattle.intersections.proofs.MeetingLaws.{meeting-fits, meeting-score}
 use Rattle.docsets.specs.Members.{entries_at, scores_in}
 use mir.Syntax.{w64}
 use mir.Val.{SFits}

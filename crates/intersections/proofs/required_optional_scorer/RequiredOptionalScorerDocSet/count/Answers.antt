@@ -1,5 +1,5 @@
 use Rattle.std.proofs.Common.{false, slice_index_or, sym, ◌∙◌}
-use Rattle.docsets.specs.ScoredEntryLaws.{count-rescored, none-rescored}
+use Rattle.docsets.proofs.ScoredEntryLaws.{count-rescored, none-rescored}
 use Rattle.intersections.specs.Optionals.{score_with}
 use Rattle.intersections.proofs.required_optional_scorer.RequiredOptionalScorerDocSet.count.Goals as goal
 

@@ -1,5 +1,5 @@
 use Rattle.std.proofs.Common.{sym, ◌∙◌}
-use Rattle.docsets.specs.ScoredEntryLaws.{length-rescored}
+use Rattle.docsets.proofs.ScoredEntryLaws.{length-rescored}
 use Rattle.intersections.specs.Optionals.{score_with}
 use Rattle.intersections.proofs.required_optional_scorer.RequiredOptionalScorerDocSet.count_including_deleted.Goals as goal
 

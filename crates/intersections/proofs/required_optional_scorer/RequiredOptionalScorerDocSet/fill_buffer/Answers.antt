@@ -1,6 +1,6 @@
 use Rattle.std.proofs.Common.{ap, arith, min, sym, ◌∙◌}
 use Rattle.docsets.specs.ScoredEntries.{rescored_by}
-use Rattle.docsets.specs.ScoredEntryLaws.{docs-taken, drop-rescored, greatest-rest, length-rescored}
+use Rattle.docsets.proofs.ScoredEntryLaws.{docs-taken, drop-rescored, greatest-rest, length-rescored}
 use Rattle.intersections.specs.Optionals.{score_with}
 use Rattle.intersections.proofs.required_optional_scorer.RequiredOptionalScorerDocSet.fill_buffer.Goals as goal
 

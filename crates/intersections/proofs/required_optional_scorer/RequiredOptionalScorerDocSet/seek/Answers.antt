@@ -1,7 +1,7 @@
 use Rattle.std.proofs.Common.{ap, arith, sym, ◌∙◌}
-use Rattle.docsets.specs.EntryLaws.{IsRest-from}
+use Rattle.docsets.proofs.EntryLaws.{IsRest-from}
 use Rattle.docsets.specs.ScoredEntries.{rescored_by}
-use Rattle.docsets.specs.ScoredEntryLaws.{IsRest-along, from-rescored, greatest-rest}
+use Rattle.docsets.proofs.ScoredEntryLaws.{IsRest-along, from-rescored, greatest-rest}
 use Rattle.intersections.specs.Optionals.{score_with}
 use Rattle.intersections.proofs.required_optional_scorer.RequiredOptionalScorerDocSet.seek.Goals as goal
 

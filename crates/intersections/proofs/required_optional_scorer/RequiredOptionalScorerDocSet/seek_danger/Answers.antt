@@ -1,5 +1,5 @@
 use Rattle.std.proofs.Common.{arith}
-use Rattle.docsets.specs.ScoredEntryLaws.{danger-rescored, danger-rest, greatest-rest}
+use Rattle.docsets.proofs.ScoredEntryLaws.{danger-rescored, danger-rest, greatest-rest}
 use Rattle.intersections.specs.Optionals.{score_with}
 use Rattle.intersections.proofs.required_optional_scorer.RequiredOptionalScorerDocSet.seek_danger.Goals as goal
 

@@ -4,13 +4,14 @@ use Rattle.std.proofs.lemmas.List.{append-nil}
 use Rattle.definitions.specs.Postings.{terminated}
 use Rattle.definitions.specs.Scoring.{max_score}
 use Rattle.docsets.specs.Entries.{first, first_score, from}
-use Rattle.docsets.specs.EntryLaws.{IsRest-from, first-from}
-use Rattle.intersections.specs.OptionalLaws.{optional-first, optional-fits, optional-score}
+use Rattle.docsets.proofs.EntryLaws.{IsRest-from, first-from}
+use Rattle.intersections.proofs.OptionalLaws.{optional-first, optional-score}
+use Rattle.intersections.specs.OptionalLaws.{optional-fits}
 use Rattle.intersections.specs.Optionals.{score_with, with_optional}
 use Rattle.docsets.specs.CombiningLaws.{sum-cons}
 use Rattle.docsets.specs.ScoredEntries.{greatest_score}
-use Rattle.docsets.specs.ScoredEntryLaws.{IsRest-along, first-rescored, first_score-least, greatest-rest}
-use Rattle.docsets.specs.MemberLaws.{entries-kept}
+use Rattle.docsets.proofs.ScoredEntryLaws.{IsRest-along, first-rescored, first_score-least, greatest-rest}
+use Rattle.docsets.proofs.MemberLaws.{entries-kept}
 use Rattle.docsets.specs.Members.{entries_of, scores_in}
 use mir.Syntax.{w64}
 use mir.Val.{SFits}

@@ -1,7 +1,7 @@
 use Rattle.std.proofs.Common.{ap, arith, sym, ◌∙◌}
-use Rattle.docsets.specs.EntryLaws.{most-from}
+use Rattle.docsets.proofs.EntryLaws.{most-from}
 use Rattle.docsets.specs.Entries.{most_positions}
-use Rattle.phrases.specs.OneTermLaws.{from-one_term}
+use Rattle.phrases.proofs.OneTermLaws.{from-one_term}
 use Rattle.phrases.specs.PrefixEntries.{one_term}
 use Rattle.phrases.proofs.one_term_phrase.OneTermPhraseDocSet.seek.Goals as goal
 

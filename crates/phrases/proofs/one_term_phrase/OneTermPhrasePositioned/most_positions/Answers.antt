@@ -1,5 +1,5 @@
 use Rattle.std.proofs.Common.{arith}
-use Rattle.phrases.specs.OneTermLaws.{most-one_term}
+use Rattle.phrases.proofs.OneTermLaws.{most-one_term}
 use Rattle.phrases.proofs.one_term_phrase.OneTermPhrasePositioned.most_positions.Goals as goal
 
 pub returns : goal.returns

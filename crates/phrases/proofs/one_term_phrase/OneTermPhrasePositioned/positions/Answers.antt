@@ -1,8 +1,8 @@
 use Rattle.std.proofs.Common.{[], List, ap, arith, length, subst, sym, ◌<◌, ◌∙◌, ◌∷◌, ◌≡◌, ℕ}
 use Rattle.docsets.specs.Entries.{AreSingle, Entry, first, first_positions, single}
 use Rattle.definitions.specs.Postings.{terminated}
-use Rattle.phrases.specs.OneTermLaws.{first-one_term, positions-one_term}
-use Rattle.phrases.specs.PlaceLaws.{reached-one}
+use Rattle.phrases.proofs.OneTermLaws.{first-one_term, positions-one_term}
+use Rattle.phrases.proofs.PlaceLaws.{reached-one}
 use Rattle.phrases.specs.Places.{Ascends, distinct}
 use Rattle.phrases.specs.PrefixEntries.{one_term}
 use Rattle.phrases.proofs.PhrasePlaces.{places-reached}

@@ -5,7 +5,7 @@ use mir.Val.{SFits}
 use Rattle.std.proofs.Common.{sym}
 use Rattle.docsets.specs.Entries.{first}
 use Rattle.definitions.specs.Postings.{terminated}
-use Rattle.phrases.specs.OneTermLaws.{first-one_term, first_score-one_term}
+use Rattle.phrases.proofs.OneTermLaws.{first-one_term, first_score-one_term}
 use Rattle.phrases.proofs.one_term_phrase.OneTermPhraseScorer.score.Goals as goal
 
 pub returns-clause-value : goal.returns-clause-value

@@ -1,9 +1,11 @@
 use Rattle.std.proofs.Common.{ap, arith, length, map, subst, sym, ◌++◌, ◌∙◌, ◌≡◌, ◌≤◌}
 use Rattle.docsets.specs.Entries.{Rising, from, most_positions}
-use Rattle.docsets.specs.EntryLaws.{IsRest-from, Rising-from}
-use Rattle.docsets.specs.ScoredEntryLaws.{IsRest-along}
+use Rattle.docsets.proofs.EntryLaws.{IsRest-from}
+use Rattle.docsets.specs.EntryLaws.{Rising-from}
+use Rattle.docsets.proofs.ScoredEntryLaws.{IsRest-along}
 use Rattle.phrases.specs.PrefixEntries.{prefixed}
-use Rattle.phrases.specs.PrefixEntryLaws.{from-prefixed, most-rest, most_suffix_positions}
+use Rattle.phrases.proofs.PrefixEntryLaws.{from-prefixed, most-rest}
+use Rattle.phrases.specs.PrefixEntry.{most_suffix_positions}
 use Rattle.phrases.specs.Windows.{IsWindow, left_in}
 use Rattle.phrases.proofs.WindowLaws.{from-append, refilled, rising-front, window-fewer}
 use Rattle.phrases.proofs.phrase_prefix_scorer.PhrasePrefixScorerDocSet.seek.Given.{Over}

@@ -3,7 +3,7 @@ use Rattle.docsets.specs.Entries.{Entry}
 use Rattle.intersections.specs.Meetings.{meeting}
 use Rattle.phrases.specs.Finders.{HasRoom}
 use Rattle.phrases.specs.PhraseEntries.{HaveColumns, longest_column}
-use Rattle.phrases.specs.StandingLaws.{HasRoom-lower, stands-on}
+use Rattle.phrases.proofs.StandingLaws.{HasRoom-lower, stands-on}
 use Rattle.phrases.proofs.MeetingEntries.{HaveColumns-meeting, bound-meeting, longest-meeting}
 use Rattle.phrases.proofs.phrase_scorer.PhraseScorer.over.Goals as goal
 use Rattle.term_scorer.specs.TermScores.{documents_bound}

@@ -2,9 +2,9 @@ use Rattle.std.proofs.Common.{List, ap, arith, length, map, ◌<◌}
 use Rattle.docsets.specs.Entries.{Entry, first, first_positions}
 use Rattle.definitions.specs.Postings.{terminated}
 use Rattle.intersections.specs.Meetings.{meeting}
-use Rattle.phrases.specs.PhraseEntryLaws.{first-columns, phrased-stands}
+use Rattle.phrases.proofs.PhraseEntryLaws.{first-columns, phrased-stands}
 use Rattle.phrases.specs.PhraseScores.{phrase_score_by}
-use Rattle.phrases.specs.PlaceCounts.{places-few}
+use Rattle.phrases.proofs.PlaceCounts.{places-few}
 use Rattle.phrases.proofs.phrase_scorer.PhraseScorer.phrase_count.Goals as goal
 
 pub overflow_cast-result : goal.overflow_cast-result

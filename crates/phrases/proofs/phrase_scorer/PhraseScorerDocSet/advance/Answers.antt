@@ -1,8 +1,8 @@
 use Rattle.std.proofs.Common.{List, length, map}
 use Rattle.docsets.specs.Entries.{Entry}
 use Rattle.intersections.specs.Meetings.{meeting}
-use Rattle.phrases.specs.PhraseEntryLaws.{IsRest-on}
-use Rattle.phrases.specs.StandingLaws.{stands-on}
+use Rattle.phrases.proofs.PhraseEntryLaws.{IsRest-on}
+use Rattle.phrases.proofs.StandingLaws.{stands-on}
 use Rattle.phrases.proofs.phrase_scorer.PhraseScorerDocSet.advance.Goals as goal
 
 pub invariant_of-self : goal.invariant_of-self

@@ -1,12 +1,12 @@
 use Rattle.std.proofs.Common.{List, ap, length, map, sym, ◌∙◌, ℕ}
-use Rattle.docsets.specs.EntryLaws.{IsRest-from}
+use Rattle.docsets.proofs.EntryLaws.{IsRest-from}
 use Rattle.docsets.specs.Entries.{Entry, from}
 use Rattle.intersections.specs.Meetings.{meeting}
-use Rattle.docsets.specs.ScoredEntryLaws.{IsRest-along}
+use Rattle.docsets.proofs.ScoredEntryLaws.{IsRest-along}
 use Rattle.phrases.specs.PhraseEntries.{longest_column, phrased}
-use Rattle.phrases.specs.PhraseEntryLaws.{HaveColumns-rest, IsRest-on, from-phrased, longest-rest}
+use Rattle.phrases.proofs.PhraseEntryLaws.{HaveColumns-rest, IsRest-on, from-phrased, longest-rest}
 use Rattle.phrases.specs.PhraseScores.{phrase_score_by}
-use Rattle.phrases.specs.StandingLaws.{HasRoom-lower, stands-on}
+use Rattle.phrases.proofs.StandingLaws.{HasRoom-lower, stands-on}
 use Rattle.phrases.proofs.phrase_scorer.PhraseScorerDocSet.seek.Goals as goal
 
 pub settle-requires-clause-columns : goal.settle-requires-clause-columns

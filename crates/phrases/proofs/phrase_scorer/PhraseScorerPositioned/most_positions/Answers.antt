@@ -1,7 +1,7 @@
 use Rattle.std.proofs.Common.{arith, map}
 use Rattle.intersections.specs.Meetings.{meeting}
 use Rattle.phrases.specs.PhraseScores.{phrase_score_by}
-use Rattle.phrases.specs.PlacesLaws.{most-phrased}
+use Rattle.phrases.proofs.PlacesLaws.{most-phrased}
 use Rattle.phrases.proofs.phrase_scorer.PhraseScorerPositioned.most_positions.Goals as goal
 
 pub returns : goal.returns

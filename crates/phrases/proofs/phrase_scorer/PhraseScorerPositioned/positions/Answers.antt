@@ -3,7 +3,7 @@ use Rattle.docsets.specs.Entries.{Entry, first, first_positions, single}
 use Rattle.definitions.specs.Postings.{terminated}
 use Rattle.intersections.specs.Meetings.{meeting}
 use Rattle.phrases.specs.PhraseEntries.{phrased}
-use Rattle.phrases.specs.PhraseEntryLaws.{phrased-first, phrased-stands}
+use Rattle.phrases.proofs.PhraseEntryLaws.{phrased-first, phrased-stands}
 use Rattle.phrases.specs.PhraseScores.{phrase_score_by}
 use Rattle.phrases.specs.Settled.{IsSettled}
 use Rattle.phrases.specs.declared.place_finder.PlaceFinder.{PlaceFinder}

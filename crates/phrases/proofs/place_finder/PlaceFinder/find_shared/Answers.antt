@@ -4,7 +4,7 @@ use Rattle.std.proofs.lemmas.List.{nil_from_length}
 use Rattle.docsets.specs.Entries.{first_positions}
 use Rattle.intersections.specs.Meetings.{meeting}
 use Rattle.phrases.specs.PhraseEntries.{longest}
-use Rattle.phrases.specs.MergeLaws.{Ascends-filter, distinct-filter}
+use Rattle.phrases.proofs.MergeLaws.{Ascends-filter, distinct-filter}
 use Rattle.phrases.specs.Places.{Ascends, distinct, has}
 use Rattle.phrases.proofs.Columns.{column-ascends, column-length, shared-all, shared-first, shared-next, shared-none}
 use Rattle.phrases.proofs.place_finder.PlaceFinder.find_shared.Goals as goal

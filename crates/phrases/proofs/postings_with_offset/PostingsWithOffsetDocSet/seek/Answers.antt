@@ -1,6 +1,6 @@
 use Rattle.std.proofs.Common.{ap, sym, ◌∙◌}
 use Rattle.phrases.specs.PhraseEntries.{placed}
-use Rattle.phrases.specs.PhraseEntryLaws.{from-placed}
+use Rattle.phrases.proofs.PhraseEntryLaws.{from-placed}
 use Rattle.phrases.proofs.postings_with_offset.PostingsWithOffsetDocSet.seek.Goals as goal
 
 pub returns-clause-rest : goal.returns-clause-rest

@@ -1,4 +1,4 @@
-use Rattle.phrases.specs.PhraseEntryLaws.{danger-placed}
+use Rattle.phrases.proofs.PhraseEntryLaws.{danger-placed}
 use Rattle.phrases.proofs.postings_with_offset.PostingsWithOffsetDocSet.seek_danger.Goals as goal
 
 pub returns : goal.returns

@@ -1,5 +1,5 @@
 use Rattle.std.proofs.Common.{arith}
-use Rattle.phrases.specs.PhraseEntryLaws.{most-placed}
+use Rattle.phrases.proofs.PhraseEntryLaws.{most-placed}
 use Rattle.phrases.proofs.postings_with_offset.PostingsWithOffsetPositioned.most_positions.Goals as goal
 
 pub returns : goal.returns

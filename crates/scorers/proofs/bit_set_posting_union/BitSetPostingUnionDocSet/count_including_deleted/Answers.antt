@@ -1,6 +1,7 @@
 use Rattle.std.proofs.Common.{ap, is_some, map, sym, ◌∙◌}
 use Rattle.docsets.specs.Members.{at_least}
-use Rattle.scorers.specs.Documents.{documents, from-end}
+use Rattle.scorers.specs.Documents.{documents}
+use Rattle.scorers.proofs.Documents.{from-end}
 use Rattle.scorers.specs.Uniting.{uniting}
 use Rattle.scorers.proofs.bit_set_posting_union.BitSetPostingUnionDocSet.count_including_deleted.Goals as goal
 

@@ -2,7 +2,7 @@ use Rattle.std.proofs.Common.{is_some, map}
 use Rattle.docsets.specs.Entries.{from}
 use Rattle.docsets.specs.SetEntries.{set_entries}
 use Rattle.docsets.specs.Members.{at_least}
-use Rattle.scorers.specs.Documents.{same-from}
+use Rattle.scorers.proofs.Documents.{same-from}
 use Rattle.scorers.specs.Uniting.{uniting}
 use Rattle.scorers.proofs.bit_set_posting_union.BitSetPostingUnionDocSet.seek.Goals as goal
 

@@ -1,9 +1,9 @@
 use Rattle.std.proofs.Common.{ap, arith, false, map, slice_index_or, ◌∙◌}
 use Rattle.std.proofs.lemmas.List.{get_or-replicate}
-use Rattle.docsets.specs.AtLeastLaws.{same-making}
+use Rattle.docsets.proofs.AtLeastLaws.{same-making}
 use Rattle.docsets.specs.Members.{combining, scores_in, with_score}
-use Rattle.docsets.specs.MemberLaws.{sum-greatest}
-use Rattle.scorers.specs.Clearings.{cleared-all}
+use Rattle.docsets.proofs.MemberLaws.{sum-greatest}
+use Rattle.scorers.proofs.Clearings.{cleared-all}
 use Rattle.scorers.proofs.buffered_union.BufferedUnionScorer.build.Goals as goal
 
 pub refill-doc-requires-clause-fits : goal.refill-doc-requires-clause-fits

@@ -1,7 +1,7 @@
 use Rattle.std.proofs.Common.{ap, map, subst, sym, ◌∙◌}
 use Rattle.docsets.specs.ScoredEntries.{AreScores, naturals, pairs_of}
-use Rattle.docsets.specs.ScoredEntryLaws.{pairs-scored}
-use Rattle.scorers.specs.Fillings.{Rising-windowed}
+use Rattle.docsets.proofs.ScoredEntryLaws.{pairs-scored}
+use Rattle.scorers.specs.FillingsLaws.{Rising-windowed}
 use Rattle.scorers.specs.Windows.{windowed}
 use Rattle.scorers.proofs.SignedScores.{naturals_of, scores_rise}
 use Rattle.scorers.proofs.buffered_union.BufferedUnionScorer.into_list.Goals as goal

@@ -1,6 +1,6 @@
 use Rattle.std.proofs.Common.{ap, arith, drop, map, sym, ◌<◌, ◌∙◌}
 use Rattle.definitions.specs.Postings.{terminated}
-use Rattle.docsets.specs.MemberLaws.{entries-least, listed-end}
+use Rattle.docsets.proofs.MemberLaws.{entries-least, listed-end}
 use Rattle.scorers.specs.Windows.{entry_ahead, is_ahead}
 use Rattle.scorers.proofs.PassedDocuments.{cleared-on, first-on, rest-on, window-on, word-within}
 use Rattle.scorers.proofs.buffered_union.BufferedUnionScorerDocSet.advance.Goals as goal

@@ -1,5 +1,5 @@
 use Rattle.std.proofs.Common.{arith, map, sym, ◌∙◌}
-use Rattle.docsets.specs.MemberLaws.{from-listed}
+use Rattle.docsets.proofs.MemberLaws.{from-listed}
 use Rattle.scorers.specs.Windows.{is_ahead, entry_ahead}
 use Rattle.scorers.proofs.buffered_union.BufferedUnionScorerDocSet.seek.Goals as goal
 

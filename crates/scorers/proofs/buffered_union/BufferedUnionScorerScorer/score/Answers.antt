@@ -1,8 +1,8 @@
 use Rattle.std.proofs.Common.{ap, arith, map, pos, sym, ◌<◌, ◌∙◌}
 use Rattle.docsets.specs.Entries.{first_score}
 use Rattle.definitions.specs.Postings.{terminated}
-use Rattle.docsets.specs.MemberLaws.{entries-least}
-use Rattle.scorers.specs.Fillings.{standing-first}
+use Rattle.docsets.proofs.MemberLaws.{entries-least}
+use Rattle.scorers.proofs.Fillings.{standing-first}
 use Rattle.scorers.proofs.PassedDocuments.{score-there}
 use Rattle.scorers.proofs.buffered_union.BufferedUnionScorerScorer.score.Goals as goal
 

@@ -1,7 +1,7 @@
 use Rattle.std.proofs.Common.{ap, arith, map, ◌∙◌}
-use Rattle.docsets.specs.MemberLaws.{from-zero, least-small, sum-greatest}
+use Rattle.docsets.proofs.MemberLaws.{from-zero, least-small, sum-greatest}
 use Rattle.docsets.specs.Members.{at_least, combining, scores_in, with_score}
-use Rattle.docsets.specs.AtLeastLaws.{same-making}
+use Rattle.docsets.proofs.AtLeastLaws.{same-making}
 use Rattle.scorers.proofs.disjunction.Disjunction.new.Goals as goal
 
 pub invariant_of-result : goal.invariant_of-result

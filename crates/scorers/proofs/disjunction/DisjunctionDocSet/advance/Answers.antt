@@ -1,10 +1,10 @@
 use Rattle.std.proofs.Common.{ap, arith, drop, map, sym, ◌+◌, ◌∙◌}
 use Rattle.docsets.specs.Entries.{from}
-use Rattle.docsets.specs.EntryLaws.{drop-one}
-use Rattle.docsets.specs.AtLeastLaws.{chosen-end}
+use Rattle.docsets.proofs.EntryLaws.{drop-one}
+use Rattle.docsets.proofs.AtLeastLaws.{chosen-end}
 use Rattle.docsets.specs.Members.{at_least, combining}
-use Rattle.docsets.specs.MemberLaws.{entries-least, least-small}
-use Rattle.scorers.specs.Choices.{Rising-chosen}
+use Rattle.docsets.proofs.MemberLaws.{entries-least, least-small}
+use Rattle.scorers.specs.ChoicesLaws.{Rising-chosen}
 use Rattle.scorers.proofs.disjunction.DisjunctionDocSet.advance.Goals as goal
 
 pub returns-then-self-eq-TERMINATED-clause-rest : goal.returns-then-self-eq-TERMINATED-clause-rest

@@ -1,6 +1,6 @@
 use Rattle.std.proofs.Common.{arith}
 use Rattle.docsets.specs.Members.{combining}
-use Rattle.docsets.specs.MemberLaws.{least-small}
+use Rattle.docsets.proofs.MemberLaws.{least-small}
 use Rattle.scorers.proofs.disjunction.DisjunctionDocSet.seek.Goals as goal
 
 pub invariant_of-self : goal.invariant_of-self

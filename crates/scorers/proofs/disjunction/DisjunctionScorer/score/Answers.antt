@@ -1,9 +1,9 @@
 use Rattle.std.proofs.Common.{[], ap, arith, map, pos, sym, of_z, to_z, ◌∙◌, ◌≡◌, ◌≤◌, ℕ}
 use Rattle.std.proofs.lemmas.Int.{ints, to_z-of_z}
 use Rattle.std.proofs.lemmas.List.{append-nil}
-use Rattle.scorers.specs.Choices.{chosen-score}
+use Rattle.scorers.proofs.Choices.{chosen-score}
 use Rattle.docsets.specs.Members.{entries_at, scores_in}
-use Rattle.docsets.specs.MemberLaws.{entries-least}
+use Rattle.docsets.proofs.MemberLaws.{entries-least}
 use Rattle.definitions.specs.Scoring.{max_score}
 use mir.Syntax.{w64}
 use mir.Val.{SFits}

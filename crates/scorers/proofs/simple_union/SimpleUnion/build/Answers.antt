@@ -1,9 +1,9 @@
 use Rattle.std.proofs.Common.{ap, arith, map, true, ◌∙◌}
 use Rattle.docsets.specs.Members.{at_least}
-use Rattle.docsets.specs.MemberLaws.{from-zero}
-use Rattle.scorers.specs.Together.{together-first}
+use Rattle.docsets.proofs.MemberLaws.{from-zero}
+use Rattle.scorers.proofs.Together.{together-first}
 use Rattle.scorers.specs.Uniting.{most_sum, uniting}
-use Rattle.scorers.specs.UnitingLaws.{most_sum-cut}
+use Rattle.scorers.proofs.UnitingLaws.{most_sum-cut}
 use Rattle.scorers.proofs.simple_union.SimpleUnion.build.Goals as goal
 
 pub invariant_of-result : goal.invariant_of-result

@@ -1,7 +1,7 @@
 use Rattle.std.proofs.Common.{false, map, ◌∙◌}
 use Rattle.docsets.specs.Members.{at_least}
-use Rattle.docsets.specs.MemberLaws.{from-zero}
-use Rattle.scorers.specs.Together.{together-first}
+use Rattle.docsets.proofs.MemberLaws.{from-zero}
+use Rattle.scorers.proofs.Together.{together-first}
 use Rattle.scorers.specs.Uniting.{uniting}
 use Rattle.scorers.proofs.simple_union.SimpleUnion.without_positions.Goals as goal
 

@@ -1,9 +1,9 @@
 use Rattle.std.proofs.Common.{is_some, map, subst, sym, ◌+◌}
 use Rattle.docsets.specs.Entries.{Rising}
-use Rattle.docsets.specs.EntryLaws.{Rising-drop}
+use Rattle.docsets.proofs.EntryLaws.{Rising-drop}
 use Rattle.docsets.specs.Members.{at_least}
-use Rattle.scorers.specs.Together.{together-on}
-use Rattle.scorers.specs.UnitedRoom.{room-on}
+use Rattle.scorers.proofs.Together.{together-on}
+use Rattle.scorers.proofs.UnitedRoom.{room-on}
 use Rattle.scorers.specs.Uniting.{uniting}
 use Rattle.scorers.proofs.simple_union.SimpleUnionDocSet.advance.Goals as goal
 

@@ -1,5 +1,5 @@
 use Rattle.std.proofs.Common.{is_some, sym, ◌∙◌}
-use Rattle.docsets.specs.AtLeastLaws.{union-first}
+use Rattle.docsets.proofs.AtLeastLaws.{union-first}
 use Rattle.scorers.specs.Uniting.{uniting}
 use Rattle.scorers.proofs.simple_union.SimpleUnionDocSet.doc.Goals as goal
 

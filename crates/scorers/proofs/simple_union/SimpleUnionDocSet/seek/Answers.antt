@@ -2,8 +2,8 @@ use Rattle.std.proofs.Common.{is_some, map, subst, sym}
 use Rattle.docsets.specs.Entries.{Rising}
 use Rattle.docsets.specs.EntryLaws.{Rising-from}
 use Rattle.docsets.specs.Members.{at_least}
-use Rattle.scorers.specs.Together.{together-on}
-use Rattle.scorers.specs.UnitedRoom.{room-on}
+use Rattle.scorers.proofs.Together.{together-on}
+use Rattle.scorers.proofs.UnitedRoom.{room-on}
 use Rattle.scorers.specs.Uniting.{uniting}
 use Rattle.scorers.proofs.simple_union.SimpleUnionDocSet.seek.Goals as goal
 

@@ -1,5 +1,5 @@
 use Rattle.std.proofs.Common.{arith, map}
-use Rattle.scorers.specs.UnitedRoom.{no_room-bounds, room-bounds}
+use Rattle.scorers.proofs.UnitedRoom.{no_room-bounds, room-bounds}
 use Rattle.scorers.proofs.simple_union.SimpleUnionPostings.most_positions.Goals as goal
 
 pub returns-in-Some : goal.returns-in-Some

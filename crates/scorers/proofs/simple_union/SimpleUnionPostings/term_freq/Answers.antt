@@ -1,6 +1,6 @@
 use Rattle.std.proofs.Common.{ap, false, if◌then◌else◌, is_some, map, sum, sym, true, ◌∙◌, ◌≡◌}
 use Rattle.docsets.specs.Members.{entries_at}
-use Rattle.scorers.specs.Together.{together-count, together-on_document}
+use Rattle.scorers.proofs.Together.{together-count, together-on_document}
 use Rattle.scorers.specs.Uniting.{counts_in}
 use Rattle.scorers.proofs.simple_union.SimpleUnionPostings.term_freq.Goals as goal
 

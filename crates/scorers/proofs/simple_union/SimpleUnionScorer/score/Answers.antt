@@ -5,10 +5,10 @@ use Rattle.definitions.specs.Postings.{terminated}
 use Rattle.definitions.specs.Scoring.{max_score}
 use Rattle.docsets.specs.Members.{entries_at, scores_in}
 use Rattle.scorers.specs.Uniting.{uniting}
-use Rattle.scorers.specs.Together.{summed-fits, summed-score}
+use Rattle.scorers.proofs.Together.{summed-fits, summed-score}
 use mir.Syntax.{w64}
 use mir.Val.{SFits}
-use Rattle.docsets.specs.AtLeastLaws.{union-first}
+use Rattle.docsets.proofs.AtLeastLaws.{union-first}
 use Rattle.scorers.proofs.simple_union.SimpleUnionScorer.score.Goals as goal
 
 pub combine_at-requires-clause-leads : goal.combine_at-requires-clause-leads

@@ -5,7 +5,7 @@ use Rattle.segment_postings.proofs.ReadBack.{posted_from}
 use Rattle.segment_postings.specs.CountBounds.{TellCounts}
 use Rattle.segment_postings.specs.Cursors.{counts_left, docs_left}
 use Rattle.docsets.specs.Entries.{AreSingle}
-use Rattle.docsets.specs.EntryLaws.{AreSingle-prop}
+use Rattle.docsets.proofs.EntryLaws.{AreSingle-prop}
 use Rattle.segment_postings.specs.Reading.{HasPostings}
 use Rattle.segment_postings.specs.TermEntries.{HasPositions, entries_from, term_entries}
 use Rattle.segment_postings.proofs.segment_postings.SegmentPostings.with_positions.Goals.{After-new}

@@ -1,10 +1,11 @@
 use Rattle.std.proofs.Common.{ap, arith, drop, max, subst, sum, take, ◌+◌, ◌≡◌, ◌≤◌}
-use Rattle.docsets.specs.DangerLaws.{missed-seek}
+use Rattle.docsets.proofs.DangerLaws.{missed-seek}
 use Rattle.docsets.specs.Entries.{first, from}
-use Rattle.docsets.specs.EntryLaws.{first-from}
+use Rattle.docsets.proofs.EntryLaws.{first-from}
 use Rattle.segment_postings.proofs.CursorMoves.{stays}
 use Rattle.segment_postings.proofs.EntryMoves.{below_behind, below_from}
-use Rattle.segment_postings.specs.Cursors.{HasMoved, counts_left, docs_left, entries_left, rising_left}
+use Rattle.segment_postings.specs.Cursors.{HasMoved, counts_left, docs_left, entries_left}
+use Rattle.segment_postings.specs.CursorsLaws.{rising_left}
 use Rattle.segment_postings.specs.Reading.{below}
 use Rattle.segment_postings.specs.TermEntries.{numbers_of}
 use Rattle.segment_postings.proofs.segment_postings.SegmentPostingsDocSet.seek_danger.Goals as goal

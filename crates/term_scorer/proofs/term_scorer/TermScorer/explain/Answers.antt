@@ -4,7 +4,7 @@ use Rattle.segment_postings.specs.Cursors.{entries_left}
 use Rattle.term_scorer.specs.Explaining.{explained_value}
 use Rattle.term_scorer.specs.ScoredTerms.{scored_left}
 use Rattle.term_scorer.specs.Similarities.{similarity_data}
-use Rattle.term_scorer.specs.TermScoreLaws.{first_score-term}
+use Rattle.term_scorer.proofs.TermScoreLaws.{first_score-term}
 use Rattle.term_scorer.specs.TermScores.{score_by}
 use Rattle.term_scorer.proofs.term_scorer.TermScorer.explain.Goals as goal
 

@@ -1,11 +1,12 @@
 use Rattle.std.proofs.Common.{ap, arith, sym, ◌∙◌}
-use Rattle.docsets.specs.EntryLaws.{IsRest-from}
+use Rattle.docsets.proofs.EntryLaws.{IsRest-from}
 use Rattle.docsets.specs.ScoredEntries.{rescored_by}
-use Rattle.docsets.specs.ScoredEntryLaws.{IsRest-along, from-rescored}
-use Rattle.segment_postings.specs.Cursors.{entries_left, rising_left}
+use Rattle.docsets.proofs.ScoredEntryLaws.{IsRest-along, from-rescored}
+use Rattle.segment_postings.specs.Cursors.{entries_left}
+use Rattle.segment_postings.specs.CursorsLaws.{rising_left}
 use Rattle.term_scorer.specs.Similarities.{similarity_data}
 use Rattle.term_scorer.specs.TermScores.{entry_score}
-use Rattle.term_scorer.specs.TermScoreLaws.{bound-rest}
+use Rattle.term_scorer.proofs.TermScoreLaws.{bound-rest}
 use Rattle.term_scorer.proofs.term_scorer.TermScorerDocSet.seek.Goals as goal
 
 pub invariant_of-self : goal.invariant_of-self

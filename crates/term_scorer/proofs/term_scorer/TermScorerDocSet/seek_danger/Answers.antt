@@ -1,9 +1,10 @@
 use Rattle.std.proofs.Common.{arith}
-use Rattle.docsets.specs.ScoredEntryLaws.{danger-rescored, danger-rest}
-use Rattle.segment_postings.specs.Cursors.{entries_left, rising_left}
+use Rattle.docsets.proofs.ScoredEntryLaws.{danger-rescored, danger-rest}
+use Rattle.segment_postings.specs.Cursors.{entries_left}
+use Rattle.segment_postings.specs.CursorsLaws.{rising_left}
 use Rattle.term_scorer.specs.Similarities.{similarity_data}
 use Rattle.term_scorer.specs.TermScores.{entry_score}
-use Rattle.term_scorer.specs.TermScoreLaws.{bound-rest}
+use Rattle.term_scorer.proofs.TermScoreLaws.{bound-rest}
 use Rattle.term_scorer.proofs.term_scorer.TermScorerDocSet.seek_danger.Goals as goal
 
 pub invariant_of-self : goal.invariant_of-self

@@ -7,7 +7,8 @@ use Rattle.segment_postings.specs.Cursors.{entries_left}
 use Rattle.term_scorer.proofs.SignedScores.{score-kept}
 use Rattle.term_scorer.specs.Similarities.{similarity_data}
 use Rattle.term_scorer.specs.TermScores.{score_by}
-use Rattle.term_scorer.specs.TermScoreLaws.{first_score-term, score-below}
+use Rattle.term_scorer.proofs.TermScoreLaws.{first_score-term}
+use Rattle.term_scorer.specs.TermScoreLaws.{score-below}
 use Rattle.term_scorer.proofs.term_scorer.TermScorerScorer.score.Goals as goal
 
 pub returns-clause-value : goal.returns-clause-value

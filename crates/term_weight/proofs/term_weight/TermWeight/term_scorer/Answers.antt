@@ -9,7 +9,7 @@ use Rattle.segment_postings.specs.Cursors.{entries_left}
 use Rattle.segment_reader.specs.SegmentReaders.{max_doc_of}
 use Rattle.term_scorer.specs.Similarities.{similarity_data}
 use Rattle.segment_reader.specs.LengthIds.{AreIds}
-use Rattle.term_scorer.specs.TermScoreLaws.{greatest-below}
+use Rattle.term_scorer.proofs.TermScoreLaws.{greatest-below}
 use Rattle.term_weight.specs.TermWeights.{option_asked, term_of}
 use Rattle.term_weight.proofs.TermsFound.{all_within, if_none, none_found, scored_found, scored_within, weighed}
 use Rattle.term_weight.proofs.term_weight.TermWeight.term_scorer.Goals as goal

@@ -3,11 +3,11 @@ use Rattle.std.proofs.Common.{[], Bool, List, ap, arith, drop, false, if◌then�
 use Rattle.std.proofs.lemmas.Bool.{lt-leb}
 use Rattle.definitions.specs.Postings.{terminated}
 use Rattle.docsets.specs.Entries.{Entry, Rising, first, from}
-use Rattle.docsets.specs.EntryLaws.{none_left}
+use Rattle.docsets.proofs.EntryLaws.{none_left}
 use Rattle.docsets.specs.ScoredEntries.{greatest_score}
 use Rattle.docsets.specs.ScoredEntryLaws.{by_place}
 use Rattle.docsets.specs.Members.{at_document, at_least, combining, enough, entries_at, greatest_sum, joining, least, listed, walk}
-use Rattle.docsets.specs.MemberLaws.{entries-least, entries_at-cut, entries_at-kept, from-listed, has-least, least-both, least-small, listed-end, listed-found, listed-same, listed-skip, sum-greatest}
+use Rattle.docsets.proofs.MemberLaws.{entries-least, entries_at-cut, entries_at-kept, from-listed, has-least, least-both, least-small, listed-end, listed-found, listed-same, listed-skip, sum-greatest}
 
 pub too_few : (minimum : ℕ) (ess : List (List Entry)) (d : ℕ) → length (entries_at d ess) < minimum → enough minimum ess d ≡ false
 too_few minimum ess d l = lt-leb minimum (length (entries_at d ess)) l

@@ -6,11 +6,11 @@ use Rattle.std.proofs.lemmas.List.{append-nil, get_or-map, length-append, length
 use Rattle.definitions.specs.Postings.{terminated}
 use Rattle.docsets.specs.Entries.{Entry, Rising, first, first_positions, single}
 use Rattle.intersections.specs.Columns.{HaveOneColumn}
-use Rattle.intersections.specs.MeetingLaws.{few-before, meeting-here}
+use Rattle.intersections.proofs.MeetingLaws.{few-before, meeting-here}
 use Rattle.intersections.specs.Meetings.{IsMeeting, meeting}
 use Rattle.docsets.specs.ScoredEntryLaws.{by_place}
-use Rattle.docsets.specs.AtLeastLaws.{too_few}
-use Rattle.docsets.specs.MemberLaws.{entries-low, entries-on, few-have, least-both, listed-skip, listed-stands, one-entry}
+use Rattle.docsets.proofs.AtLeastLaws.{too_few}
+use Rattle.docsets.proofs.MemberLaws.{entries-low, entries-on, few-have, least-both, listed-skip, listed-stands, one-entry}
 use Rattle.docsets.specs.Members.{enough, entries_at, entries_of, joining, least}
 
 -- the column of a list that isn't at its end

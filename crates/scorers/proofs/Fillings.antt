@@ -1,21 +1,14 @@
 -- Laws of unions that stand in a window.
-use Rattle.std.proofs.Common.{[], Bool, List, ap, arith, false, if◌then◌else◌, le-leb, length, map, min, nat_le, slice_index_or, subst, sum, sym, true, ◌++◌, ◌+◌, ◌-◌, ◌<◌, ◌||◌, ◌∙◌, ◌∷◌, ◌≡◌, ◌≤◌, ℕ}
-use Rattle.std.proofs.Props.{props}
+use Rattle.std.proofs.Common.{[], ◌++◌, ◌+◌, ◌-◌, ◌<◌, ◌||◌, ◌∙◌, ◌∷◌, ◌≡◌, ◌≤◌, Bool, List, ap, arith, false, if◌then◌else◌, le-leb, length, map, min, nat_le, slice_index_or, subst, sum, sym, true, ℕ}
 use Rattle.std.proofs.lemmas.Bool.{or_from}
 use Rattle.std.proofs.lemmas.List.{append-nil, get_or_past}
 use Rattle.definitions.specs.Postings.{terminated}
 use Rattle.definitions.specs.Scoring.{max_score}
-use Rattle.docsets.specs.Entries.{Entry, Rising, first, from}
+use Rattle.docsets.specs.Entries.{Entry, first, from}
 use Rattle.docsets.specs.ScoredEntryLaws.{by_place}
 use Rattle.docsets.specs.Members.{at_least, combining, enough, entries_at, least, scores_in, with_score}
-use Rattle.docsets.specs.MemberLaws.{Rising-listed, least-cut, listed-end, listed-found, listed-same, listed-skip, listed-stands, entries_at-cut, entries_at-kept}
+use Rattle.docsets.proofs.MemberLaws.{entries_at-cut, entries_at-kept, least-cut, listed-end, listed-found, listed-same, listed-skip, listed-stands}
 use Rattle.scorers.specs.Windows.{IsFilling, IsStanding, IsWindow, entry_ahead, held, is_ahead, score_ahead, windowed}
-
-pub IsWindow-prop : {C : Type 0} (total : C → ℕ) (flags : List Bool) (slots : List C) (fresh : C) (start : ℕ) (ess : List (List Entry)) → IsProp (IsWindow total flags slots fresh start ess)
-IsWindow-prop total flags slots fresh start ess = hlevel props
-
-pub IsStanding-prop : {C : Type 0} (answer : C → List ℕ → ℕ) (total : C → ℕ) (flags : List Bool) (slots : List C) (fresh : C) (start : ℕ) (ess : List (List Entry)) (doc : ℕ) → IsProp (IsStanding answer total flags slots fresh start ess doc)
-IsStanding-prop answer total flags slots fresh start ess doc = let window = IsWindow-prop total flags slots fresh start ess in hlevel (props, window)
 
 held-none : {C : Type 0} (flags : List Bool) (slots : List C) (fresh : C) (k : ℕ) → slice_index_or flags k false ≡ false → held flags slots fresh k ≡ fresh
 held-none flags slots fresh k e = ap (λ b. if b then slice_index_or slots k fresh else fresh) e
@@ -27,12 +20,6 @@ not_enough ess d e = ap (λ xs. nat_le 1 (length xs)) e
 pub standing-first : {C : Type 0} (answer : C → List ℕ → ℕ) (total : C → ℕ) (flags : List Bool) (slots : List C) (fresh : C) (start : ℕ) (ess : List (List Entry)) (doc : ℕ) → IsStanding answer total flags slots fresh start ess doc → doc < terminated → windowed answer flags slots fresh start ess doc ≡ entry_ahead answer flags slots fresh start ess doc ∷ windowed answer flags slots fresh start ess (doc + 1)
 standing-first answer total flags slots fresh start ess doc s l =
     listed-found (is_ahead flags start ess) (entry_ahead answer flags slots fresh start ess) doc l (listed-stands (is_ahead flags start ess) (entry_ahead answer flags slots fresh start ess) doc l s.at)
-
--- the scores fit
-pub Rising-windowed : {C : Type 0} (answer : C → List ℕ → ℕ) (total : C → ℕ) → ((c : C) (xs : List ℕ) → total c + sum xs ≤ max_score → answer c xs ≤ max_score) → (flags : List Bool) (slots : List C) (fresh : C) (start : ℕ) (ess : List (List Entry)) (doc : ℕ) → IsStanding answer total flags slots fresh start ess doc → Rising 0 (windowed answer flags slots fresh start ess doc)
-Rising-windowed answer total bounded flags slots fresh start ess doc s =
-    let begun = s.begun in
-    Rising-listed (is_ahead flags start ess) (entry_ahead answer flags slots fresh start ess) doc (λ d l t e. bounded (held flags slots fresh (d - start)) (scores_in (entries_at d ess)) (s.window.fits d (omega (arith, l, begun)) t))
 
 -- documents that are neither in the window nor in the lists can be passed
 pub window-skip : {C : Type 0} (answer : C → List ℕ → ℕ) (flags : List Bool) (slots : List C) (fresh : C) (start : ℕ) (ess : List (List Entry)) (low high : ℕ) → ((d : ℕ) → d < least ess → entries_at d ess ≡ []) → low ≤ high → high ≤ terminated → high ≤ least ess → ((d : ℕ) → low ≤ d → d < high → slice_index_or flags (d - start) false ≡ false) → windowed answer flags slots fresh start ess high ≡ windowed answer flags slots fresh start ess low
@@ -59,7 +46,6 @@ window-found answer total flags slots fresh start ess low k doc w none begun sma
     )
 
 -- ---- filling
-
 flag_past : (flags : List Bool) (k : ℕ) → length flags ≡ 4096 → 4096 ≤ k → slice_index_or flags k false ≡ false
 flag_past flags k e l = get_or_past flags k false (omega (arith, e, l))
 

@@ -1,5 +1,5 @@
 -- Laws of a list whose first elements are changed, and the others as they were.
-use Rattle.std.proofs.Common.{[], List, ap, arith, drop, get_or, length, map, refl, set, suc, take, zero, ◌++◌, ◌<◌, ◌∷◌, ◌≡◌, ◌≤◌, ℕ}
+use Rattle.std.proofs.Common.{[], ◌++◌, ◌<◌, ◌∷◌, ◌≡◌, ◌≤◌, List, ap, arith, drop, get_or, length, map, refl, set, suc, take, zero, ℕ}
 
 pub changed-set : {X : Type 0} (f : X → X) (i : ℕ) (xs : List X) (d : X) → i < length xs → set (map f (take i xs) ++ drop i xs) i (f (get_or xs i d)) ≡ map f (take (suc i) xs) ++ drop (suc i) xs
 changed-set f i [] d l = absurd (omega (arith, l))

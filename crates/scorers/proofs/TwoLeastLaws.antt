@@ -5,11 +5,11 @@ use Rattle.std.proofs.Math.Seq.{get_or-append_seam, take-append_seam}
 use Rattle.std.proofs.lemmas.List.{length-append, length-map, take-append-le}
 use Rattle.definitions.specs.Postings.{terminated}
 use Rattle.docsets.specs.Entries.{Entry, Rising, first, from}
-use Rattle.docsets.specs.EntryLaws.{first_at_most, from-first, from-from}
+use Rattle.docsets.proofs.EntryLaws.{first_at_most, from-first, from-from}
 use Rattle.docsets.specs.ScoredEntryLaws.{by_place}
-use Rattle.docsets.specs.AtLeastLaws.{chosen-from, too_few}
-use Rattle.docsets.specs.LeaderLaws.{least-last, one-on}
-use Rattle.docsets.specs.MemberLaws.{entries-least, entries-low, entries_at-kept, from-listed, has-least, least-get, listed-skip, one-entry}
+use Rattle.docsets.proofs.AtLeastLaws.{chosen-from, too_few}
+use Rattle.docsets.proofs.LeaderLaws.{least-last, one-on}
+use Rattle.docsets.proofs.MemberLaws.{entries-least, entries-low, entries_at-kept, from-listed, has-least, least-get, listed-skip, one-entry}
 use Rattle.docsets.specs.Members.{at_least, enough, entries_at, entries_of, least}
 use Rattle.scorers.specs.TwoLeast.{AreTwoLeast, next_least}
 use Rattle.scorers.specs.declared.two_least.TwoLeast.{TwoLeast}

@@ -1,7 +1,7 @@
 -- Laws of cursors that were asked for a document.
 use Rattle.std.proofs.Common.{◌<◌, ◌≡◌, ◌∙◌, List, ap, arith, refl, ℕ}
 use Rattle.docsets.specs.Entries.{Entry, Rising, first, from}
-use Rattle.docsets.specs.EntryLaws.{IsRest-from, IsRest-refl, from-first, from-from}
+use Rattle.docsets.proofs.EntryLaws.{IsRest-from, IsRest-refl, from-first, from-from}
 use Rattle.docsets.specs.Danger.{IsDangerAnswer, Missed}
 use Rattle.docsets.specs.declared.seek_danger_result.SeekDangerResult.{SeekDangerResult}
 use Rattle.docsets.specs.declared.seek_danger_result.SeekDangerResult.TheVariants.{Found, SeekLowerBound}

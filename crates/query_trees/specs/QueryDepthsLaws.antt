@@ -1,8 +1,8 @@
--- What holds queries is deeper than they are.
+-- What holds queries is deeper than they are: laws.
+use Rattle.definitions.specs.Query as definitions
 use Rattle.std.specs.Prelude.{[], ◌∷◌, ◌≤◌, List, max}
 use Rattle.std.proofs.Common.{arith}
 use denote.Param.Weighed.{most}
-use Rattle.definitions.specs.Query as definitions
 use Rattle.query_trees.specs.Queries.{clauses_of, queries_of, query_of}
 use Rattle.query_trees.specs.declared.any_query.AnyQuery.{AnyQuery}
 use Rattle.query_trees.specs.declared.any_query.AnyQuery.TheVariants.{All, Boolean, Boost, ConstScore, DisjunctionMax, Empty, Phrase, PhrasePrefix, Term}

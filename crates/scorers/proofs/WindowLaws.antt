@@ -6,7 +6,7 @@ use Rattle.std.proofs.lemmas.List.{get_or-set_other, get_or-set_same, length-set
 use Rattle.definitions.specs.Postings.{terminated}
 use Rattle.docsets.specs.Entries.{Entry, Rising, first, first_score}
 use Rattle.docsets.specs.CombiningLaws.{sum-cons}
-use Rattle.docsets.specs.MemberLaws.{scores-then, sum-scores}
+use Rattle.docsets.proofs.MemberLaws.{scores-then, sum-scores}
 use Rattle.docsets.specs.Members.{entries_at, entries_of, scores_in}
 use Rattle.scorers.specs.Windows.{Moves, held}
 

@@ -1,6 +1,5 @@
 -- Laws of windows whose documents are cleared where they are passed.
-use Rattle.std.proofs.Common.{[], Bool, List, None, Option, Some, ap, arith, false, if◌then◌else◌, inl, inr, length, nat_le, refl, set, slice_index_or, sum, sym, true, ◌+◌, ◌-◌, ◌/◌, ◌<◌, ◌∙◌, ◌≡◌, ◌≤◌, ◌⊎◌, ◌≢◌, ◌||◌, ℕ}
-use Rattle.std.proofs.Props.{props}
+use Rattle.std.proofs.Common.{[], ◌+◌, ◌-◌, ◌<◌, ◌||◌, ◌∙◌, ◌≡◌, ◌≢◌, ◌≤◌, ◌⊎◌, Bool, List, None, Option, Some, ap, arith, false, if◌then◌else◌, inl, inr, length, nat_le, refl, set, slice_index_or, sum, sym, true, ℕ}
 use Rattle.std.proofs.lemmas.Bool.{cases_eq, cases_lt}
 use Rattle.std.proofs.lemmas.List.{get_or-set_other, get_or-set_same, get_or_past, length-set}
 use Rattle.common.specs.BitSets.{IsFirst}
@@ -8,14 +7,8 @@ use Rattle.definitions.specs.Postings.{terminated}
 use Rattle.definitions.specs.Scoring.{max_score}
 use Rattle.docsets.specs.Entries.{Entry}
 use Rattle.docsets.specs.Members.{enough, entries_at, least, scores_in, with_score}
-use Rattle.docsets.specs.MemberLaws.{listed-same, listed-stands}
+use Rattle.docsets.proofs.MemberLaws.{listed-same, listed-stands}
 use Rattle.scorers.specs.Windows.{IsCleared, IsSameFrom, IsStanding, IsWindow, entry_ahead, held, is_ahead, windowed}
-
-pub IsCleared-prop : {C : Type 0} (answer : C → List ℕ → ℕ) (total : C → ℕ) (flags : List Bool) (slots : List C) (fresh : C) (n : ℕ) → IsProp (IsCleared answer total flags slots fresh n)
-IsCleared-prop answer total flags slots fresh n = hlevel props
-
-pub IsPlaced-prop : (doc start bucket : ℕ) → IsProp (doc < terminated → bucket ≡ (doc - start) / 64)
-IsPlaced-prop doc start bucket = hlevel props
 
 -- what a slot holds counts as what it is
 pub held-total : {C : Type 0} (answer : C → List ℕ → ℕ) (total : C → ℕ) (flags : List Bool) (slots : List C) (fresh : C) (n k : ℕ) → IsCleared answer total flags slots fresh n → total (slice_index_or slots k fresh) ≡ total (held flags slots fresh k)

@@ -6,7 +6,8 @@ use Rattle.std.proofs.lemmas.List.Sums.{sum_by-append}
 use Rattle.definitions.specs.Postings.{terminated}
 use Rattle.definitions.specs.Scoring.{max_score}
 use Rattle.docsets.specs.Entries.{Entry, Rising, first, first_score, from}
-use Rattle.docsets.specs.EntryLaws.{Rising-lower, first-from, from-in, from-out}
+use Rattle.docsets.specs.EntryLaws.{Rising-lower}
+use Rattle.docsets.proofs.EntryLaws.{first-from, from-in, from-out}
 use Rattle.docsets.specs.CombiningLaws.{sum-cons}
 use Rattle.docsets.specs.ScoredEntries.{greatest_score}
 use Rattle.docsets.specs.ScoredEntryLaws.{by_place}

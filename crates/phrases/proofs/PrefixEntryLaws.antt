@@ -1,19 +1,13 @@
 -- Laws of the entries of phrase prefixes.
-use Rattle.std.proofs.Common.{[], List, ap, arith, false, if◌then◌else◌, map, max, nat_lt, refl, sym, true, ◌+◌, ◌<◌, ◌∙◌, ◌∷◌, ◌≡◌, ◌≤◌, ℕ}
+use Rattle.std.proofs.Common.{[], ◌+◌, ◌<◌, ◌∙◌, ◌∷◌, ◌≡◌, ◌≤◌, List, ap, arith, false, if◌then◌else◌, map, nat_lt, refl, sym, true, ℕ}
 use Rattle.std.proofs.lemmas.Bool.Decides.{nat_tests}
 use Rattle.docsets.specs.Entries.{Entry, IsRest, Rising, first, from, most_positions, single}
-use Rattle.docsets.specs.EntryLaws.{Rising-lower, from-in, from-out, most-drop, most-from}
+use Rattle.docsets.specs.EntryLaws.{Rising-lower}
+use Rattle.docsets.proofs.EntryLaws.{from-in, from-out, most-drop, most-from}
 use Rattle.docsets.specs.ScoredEntryLaws.{by_place}
-use Rattle.docsets.specs.MemberLaws.{entries_at-kept}
-use Rattle.docsets.specs.Members.{entries_at}
+use Rattle.docsets.proofs.MemberLaws.{entries_at-kept}
 use Rattle.phrases.specs.PrefixEntries.{continued_by, prefixed}
-
--- how often suffixes follow an entry
-abbrev follows : ℕ → List (List Entry) → Entry → ℕ
-follows moved ess e = continued_by moved (single e.positions) (entries_at e.doc ess)
-
-abbrev counted : Entry → ℕ → Entry
-counted e n = record e { count = n }
+use Rattle.phrases.specs.PrefixEntry.{counted, follows, most_suffix_positions}
 
 prefixed-none : (moved : ℕ) (ess : List (List Entry)) (e : Entry) (es : List Entry) → follows moved ess e ≡ 0 → prefixed moved ess (e ∷ es) ≡ prefixed moved ess es
 prefixed-none moved ess e es none = ap (λ n. if nat_lt 0 n then counted e n ∷ prefixed moved ess es else prefixed moved ess es) none
@@ -50,11 +44,6 @@ prefixed-cut moved ess t (e ∷ es) r =
     let same : follows moved (map (from t) ess) e ≡ follows moved ess e = ap (continued_by moved (single e.positions)) (entries_at-kept e.doc t ess r.0) in
     ap (λ xs. if nat_lt 0 (follows moved (map (from t) ess) e) then counted e (follows moved (map (from t) ess) e) ∷ xs else xs) (prefixed-cut moved ess t es (Rising-lower t (e.doc + 1) es (omega (arith, r.0)) r.3))
     ∙ ap (λ n. if nat_lt 0 n then counted e n ∷ prefixed moved ess es else prefixed moved ess es) same
-
--- the greatest number of positions that an entry of some list has
-abbrev pub most_suffix_positions : List (List Entry) → ℕ
-most_suffix_positions [] = 0
-most_suffix_positions (es ∷ ess) = max (most_positions es) (most_suffix_positions ess)
 
 -- a cut leaves no more
 pub most_suffix-cut : (t : ℕ) (ess : List (List Entry)) → most_suffix_positions (map (from t) ess) ≤ most_suffix_positions ess

@@ -5,7 +5,7 @@ use Rattle.definitions.specs.Postings.{terminated}
 use Rattle.docsets.specs.Entries.{Entry, Rising, first}
 use Rattle.docsets.specs.ScoredEntryLaws.{by_place}
 use Rattle.docsets.specs.Members.{entries_at, entries_of, least}
-use Rattle.docsets.specs.MemberLaws.{entries-least, entries-low, entries-on, one-first}
+use Rattle.docsets.proofs.MemberLaws.{entries-least, entries-low, entries-on, one-first}
 
 pub least-last : (ess : List (List Entry)) (es : List Entry) → least (ess ++ es ∷ []) ≡ min (least ess) (first es)
 least-last [] es = omega arith

@@ -1,0 +1,6 @@
+-- Lemmas on the words of the contracts.
+pub mod ColumnLaws
+pub mod DifferenceLaws
+pub mod ExclusionLaws
+pub mod MeetingLaws
+pub mod OptionalLaws
