@@ -7,7 +7,7 @@ use Rattle.definitions.specs.Postings.{terminated}
 use Rattle.intersections.proofs.DifferenceLaws.{without-in, without-out}
 use Rattle.intersections.specs.Differences.{without}
 use Rattle.intersections.specs.Optionals.{score_with, with_optional}
-use Rattle.docsets.specs.ScoredEntryLaws.{by_place}
+use Rattle.definitions.proofs.Lists.{by_order as by_place}
 use Rattle.docsets.specs.Members.{at_document, at_least, enough, entries_at, entries_of, listed, scores_in, walk}
 
 -- ---- one entry and the others

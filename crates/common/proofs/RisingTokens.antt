@@ -3,13 +3,11 @@ use Rattle.std.proofs.Common.{[], ◌&&◌, ◌∷◌, ◌≡◌, ◌≤◌, Lis
 use Rattle.std.proofs.lemmas.Bool.{and_parts}
 use Rattle.std.proofs.lemmas.Bool.Decides.{nat_tests}
 use Rattle.std.proofs.lemmas.Str.{IsUtf8-string_bytes}
+use Rattle.definitions.proofs.Lists.{le_of as not_before}
 use Rattle.definitions.specs.Values as values
 use Rattle.definitions.specs.Values.{AreTokensFrom}
 use Rattle.common.specs.Token.{positions_rise, token_of}
 use Rattle.common.specs.declared.token.Token.{Token}
-
-not_before : (a b : ℕ) → nat_le a b ≡ true → a ≤ b
-not_before a b e = grind (arith, nat_tests)
 
 pub are_tokens : (least : ℕ) (ts : List Token) → positions_rise least (map token_of ts) ≡ true → AreTokensFrom least (map token_of ts)
 are_tokens least [] e = tt

@@ -1,4 +1,5 @@
 -- Lemmas on the definitions, behind the laws and for the crates above.
+pub mod Lists
 pub mod Bounds
 pub mod BlockBounds
 pub mod LengthIds

@@ -6,6 +6,7 @@ use Rattle.std.specs.Ordering.{is_ge, is_lt, nat_cmp, ordering_then}
 use Rattle.std.specs.declared.cmp.Ordering.TheVariants.{Equal, Greater, Less}
 use Rattle.std.proofs.lemmas.Bool.{cases_lt, le-ltb, lt-ltb}
 use Rattle.std.proofs.lemmas.Bool.Decides.{nat_tests}
+use Rattle.definitions.proofs.Lists.{cmp_self as is_equal}
 use Rattle.definitions.specs.Prefixes.{is_before, is_from, prefix_end}
 
 -- ---- two numbers
@@ -21,11 +22,6 @@ alike b = grind (arith, nat_tests)
 
 is_less : (c b : ℕ) → c < b → nat_cmp c b ≡ Less
 is_less c b l = ap (λ t. cond t Less (cond (c == b) Equal Greater)) (lt-ltb c b l)
-
-is_equal : (b : ℕ) → nat_cmp b b ≡ Equal
-is_equal b =
-    let below : nat_lt b b ≡ false = le-ltb b b (omega arith) in
-    ap₂ (λ (t u : Bool). cond t Less (cond u Equal Greater)) below (alike b)
 
 is_greater : (c b : ℕ) → b < c → nat_cmp c b ≡ Greater
 is_greater c b l =

@@ -3,6 +3,7 @@ use Rattle.std.proofs.Common.{[], Bool, codes, drop, if◌then◌else◌, length
 use Rattle.std.proofs.lemmas.Option.{slice_get_within}
 use Rattle.std.specs.List.{AllByRecursion, starts_with}
 use Rattle.std.specs.Option.{option_map_or}
+use Rattle.definitions.proofs.Lists.{all_append}
 use Rattle.base64.specs.Engines.{standard}
 use Rattle.base64.specs.GeneralPurpose.{decoded_of}
 use Rattle.definitions.specs.Addresses.{address_in}
@@ -40,10 +41,6 @@ then_ok : {A B C : Type 0} (f : A → B → C) (ra : Result A Fault) (rb : Resul
 then_ok f (Ok a) (Ok b) c h = (a, b, refl, refl, ok_same h)
 then_ok f (Ok a) (Err fault) c h = absurd (err≢ok h)
 then_ok f (Err fault) rb c h = absurd (err≢ok h)
-
-all_append : {X : Type 0} (P : X → Type 0) (xs ys : List X) → AllByRecursion P xs → AllByRecursion P ys → AllByRecursion P (xs ++ ys)
-all_append P [] ys h k = k
-all_append P (x ∷ xs) ys h k = (h.0, all_append P xs ys h.1 k)
 
 items_read : (schema : Schema) (field : ℕ) (e : Entry) → slice_get schema field ≡ Some e → (ds : json.Items) (doc : Document) → read_items field e ds ≡ Ok doc → AllByRecursion (IsRead schema) doc
 items_read schema field e at json.no_items doc h = subst (AllByRecursion (IsRead schema)) (ok_same h) tt

@@ -11,6 +11,7 @@ use Rattle.serde_json.proofs.OnLiterals.{serde_json_on_literals}
 use Rattle.serde_json.specs.Data.{put}
 use Rattle.serde_json.specs.Written.{has_float, items_have_float, members_have_float}
 use Rattle.std.specs.Cmp.Lexicographic.{slice_cmp}
+use Rattle.definitions.proofs.Lists.{neither, or_first, or_second}
 use Rattle.definitions.specs.declared.fault.Fault.{Fault}
 use Rattle.serde_json.specs.Data as json
 use Rattle.definitions.specs.declared.fault.Fault.TheVariants as faults
@@ -24,23 +25,6 @@ error_text _ = refl
 pub ok_text : reply_of ok_reply ≡ codes "{\"ok\":true}"
 unfolding serde_json_on_literals
 ok_text = refl
-
--- ---- no float
-
--- two values without a float
-neither : (a b : Bool) → a ≡ false → b ≡ false → (a || b) ≡ false
-neither true b ha hb = ha
-neither false b ha hb = hb
-
--- the first of two, where neither has a float
-or_first : (a b : Bool) → (a || b) ≡ false → a ≡ false
-or_first true b h = h
-or_first false b h = refl
-
--- the second of two, where neither has a float
-or_second : (a b : Bool) → (a || b) ≡ false → b ≡ false
-or_second true b h = absurd (true≢false h)
-or_second false b h = h
 
 -- a member put in its place brings no float
 put_float : (k : List ℕ) (d : json.Data) (ms : json.Members) → has_float d ≡ false → members_have_float ms ≡ false → members_have_float (put k d ms) ≡ false

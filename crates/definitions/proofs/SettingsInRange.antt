@@ -2,18 +2,9 @@
 use Rattle.std.proofs.Common.{[], ◌&&◌, ◌<◌, ◌==◌, ◌^◌, ◌∷◌, ◌≡◌, ◌≤◌, Bool, List, Some, bytes_eq, cond, eqb-true, false, find, leb-true, length, ltb-true, nat_le, nat_lt, refl, sym, true, true≢false, ℕ}
 use Rattle.std.specs.List.{AllByRecursion, list_all}
 use Rattle.std.specs.Option.{option_map_or}
+use Rattle.definitions.proofs.Lists.{and_first, and_second}
 use Rattle.definitions.specs.Scoring.{DontFall, IsSimilarity, max_score}
 use Rattle.definitions.specs.Settings.{Settings, are_norms, are_weights, fits_segment, is_settings, never_falls, similarity_of, weighs_once}
-
--- the first of two tests that hold
-and_first : (a b : Bool) → (a && b) ≡ true → a ≡ true
-and_first true b h = refl
-and_first false b h = h
-
--- the second of two tests that hold
-and_second : (a b : Bool) → (a && b) ≡ true → b ≡ true
-and_second true b h = h
-and_second false b h = absurd (true≢false (sym h))
 
 -- no weight is above the greatest score, of whatever term
 weight_fits : (ws : List (List ℕ × ℕ)) (least : ℕ) (t : List ℕ) → least ≤ max_score → list_all (λ w. nat_le w.1 max_score) ws ≡ true → option_map_or (λ w. w.1) (find (λ w. bytes_eq w.0 t) ws) least ≤ max_score

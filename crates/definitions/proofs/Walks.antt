@@ -9,29 +9,7 @@ use Rattle.std.proofs.lemmas.Bool.Decides.{nat_tests}
 use Rattle.std.proofs.lemmas.Grind.{reverse_onto}
 use Rattle.std.proofs.lemmas.List.{reverse-reverse}
 use Rattle.std.proofs.lemmas.List.Folds.{list_any-append}
-
--- ---- some element that passes
-
--- or false changes nothing
-or_no : (b : Bool) → (b || false) ≡ b
-or_no true = refl
-or_no false = refl
-
--- the middle two of four tests may change places
-or_swap : (a b c d : Bool) → ((a || b) || (c || d)) ≡ ((a || c) || (b || d))
-or_swap true b c d = refl
-or_swap false true true d = refl
-or_swap false true false d = refl
-or_swap false false c d = refl
-
--- tests that agree find alike
-any_same : {X : Type 0} (f g : X → Bool) → ((x : X) → f x ≡ g x) → (xs : List X) → list_any f xs ≡ list_any g xs
-any_same f g h xs = λ i. list_any (λ x. h x i) xs
-
--- no element passes a test that fails
-any_never : {X : Type 0} (xs : List X) → list_any (λ x. false) xs ≡ false
-any_never [] = refl
-any_never (x ∷ xs) = any_never xs
+use Rattle.definitions.proofs.Lists.{any_never, any_same, or_false as or_no, or_swap}
 
 -- some element passes one of two tests where some passes the first or some the second
 any_or : {X : Type 0} (f g : X → Bool) (xs : List X) → list_any (λ x. f x || g x) xs ≡ (list_any f xs || list_any g xs)

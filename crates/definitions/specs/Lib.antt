@@ -40,7 +40,10 @@ pub mod SettingsGrammar
 pub mod Making
 pub mod Lines
 pub mod Step
+pub mod Disk
+pub mod Moments
 pub mod Replying
+-- What the layers below name.
 pub mod Alive
 pub mod NumberCodes
 pub mod Postings
@@ -52,8 +55,7 @@ pub mod Prefixes
 pub mod QueryTerms
 pub mod KeptLengths
 pub mod Merging
-pub mod Disk
-pub mod Moments
+-- Worked examples.
 pub mod Examples
 pub mod LineExamples
 pub mod MomentExamples

@@ -5,7 +5,7 @@ use Rattle.definitions.specs.Postings.{terminated}
 use Rattle.docsets.specs.Entries.{Entry, Rising, first, from}
 use Rattle.docsets.proofs.EntryLaws.{none_left}
 use Rattle.docsets.specs.ScoredEntries.{greatest_score}
-use Rattle.docsets.specs.ScoredEntryLaws.{by_place}
+use Rattle.definitions.proofs.Lists.{by_order as by_place}
 use Rattle.docsets.specs.Members.{at_document, at_least, combining, enough, entries_at, greatest_sum, joining, least, listed, walk}
 use Rattle.docsets.proofs.MemberLaws.{entries-least, entries_at-cut, entries_at-kept, from-listed, has-least, least-both, least-small, listed-end, listed-found, listed-same, listed-skip, sum-greatest}
 

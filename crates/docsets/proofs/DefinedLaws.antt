@@ -9,7 +9,7 @@ use Rattle.definitions.specs.ScoredLists.{ScoredList, documents_of}
 use Rattle.definitions.specs.ScoredLists as lists
 use Rattle.docsets.specs.Entries.{Entry, Rising}
 use Rattle.docsets.specs.ScoredEntries.{pairs_of}
-use Rattle.docsets.specs.ScoredEntryLaws.{by_place}
+use Rattle.definitions.proofs.Lists.{by_order as by_place}
 use Rattle.docsets.specs.Distinct.{Ascends, distinct, holds}
 use Rattle.docsets.proofs.DistinctLaws.{Ascends-distinct, Ascends-filter, Ascends-lower, ascending-same, filter-agrees, holds-append, holds-below, holds-distinct, holds-filter, holds-first, holds-other}
 use Rattle.docsets.specs.Members.{at_document, at_least, enough, entries_at, entries_of, listed, scores_in, walk}

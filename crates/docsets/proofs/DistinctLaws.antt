@@ -14,7 +14,7 @@ use Rattle.std.specs.declared.cmp.Ordering.TheVariants.{Less}
 use lib.Dec.{eqb}
 use Rattle.definitions.specs.JsonLeaves.{once}
 use Rattle.definitions.specs.Recorded.{ascending, insert_ascending}
-use Rattle.docsets.specs.ScoredEntryLaws.{by_place}
+use Rattle.definitions.proofs.Lists.{by_order as by_place}
 use Rattle.docsets.specs.Distinct.{Ascends, distinct, holds}
 
 or-swap : (a b c : Bool) → (a || (b || c)) ≡ (b || (a || c))

@@ -3,6 +3,7 @@ use Rattle.std.proofs.Common.{[], ◌+◌, ◌-◌, ◌<◌, ◌∙◌, ◌∷�
 use Rattle.std.specs.Coded.{Unit-prop}
 use Rattle.std.proofs.lemmas.Bool.{lt-leb}
 use Rattle.std.proofs.Props.{props}
+use Rattle.definitions.proofs.Lists.{by_order as by_place}
 use Rattle.definitions.specs.Postings.{terminated}
 use Rattle.definitions.specs.Scoring.{DontFall}
 use Rattle.docsets.specs.Entries.{AreSingle, Entry, IsRest, Rising, first, from, most_positions, single}
@@ -17,10 +18,6 @@ from-in t e es l = ap (λ b. if b then e ∷ from t es else from t es) (le-leb t
 -- one that is below goes
 pub from-out : (t : ℕ) (e : Entry) (es : List Entry) → e.doc < t → from t (e ∷ es) ≡ from t es
 from-out t e es l = ap (λ b. if b then e ∷ from t es else from t es) (lt-leb t e.doc l)
-
--- a document is below or it isn't
-by_place : (t d : ℕ) (P : Type 0) → (t ≤ d → P) → (d < t → P) → P
-by_place t d P inside outside = elim (nat_le t d) as (λ b. nat_le t d ≡ b → P) [ true ↦ (λ e. inside (leb-true t d e)) | false ↦ (λ e. outside (leb-false t d e)) ] refl
 
 -- nothing is cut where all come later
 pub from-low : (t low : ℕ) (es : List Entry) → t ≤ low → Rising low es → from t es ≡ es

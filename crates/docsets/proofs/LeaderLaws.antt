@@ -3,7 +3,7 @@ use Rattle.std.proofs.Common.{[], List, ap, arith, length, map, min, sym, â—Œ++â
 use Rattle.std.proofs.lemmas.List.{append-nil, append_assoc, length-append}
 use Rattle.definitions.specs.Postings.{terminated}
 use Rattle.docsets.specs.Entries.{Entry, Rising, first}
-use Rattle.docsets.specs.ScoredEntryLaws.{by_place}
+use Rattle.definitions.proofs.Lists.{by_order as by_place}
 use Rattle.docsets.specs.Members.{entries_at, entries_of, least}
 use Rattle.docsets.proofs.MemberLaws.{entries-least, entries-low, entries-on, one-first}
 

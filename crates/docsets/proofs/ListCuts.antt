@@ -6,7 +6,8 @@ use Rattle.docsets.specs.Entries.{from}
 use Rattle.docsets.proofs.EntryLaws.{from-first, from-out}
 use Rattle.definitions.specs.Scoring.{natural}
 use Rattle.docsets.specs.ScoredEntries.{AreScores, naturals, scored}
-use Rattle.docsets.specs.ScoredEntryLaws.{Rising-scores, by_place}
+use Rattle.docsets.specs.ScoredEntryLaws.{Rising-scores}
+use Rattle.definitions.proofs.Lists.{by_order as by_place}
 
 -- no document is below the least
 least-there : (low : ℕ) (ps : List (ℕ × ℤ)) (j : ℕ) (d : ℕ × ℤ) → AreScores low ps → j < length ps → low ≤ (get_or ps j d).0

@@ -10,7 +10,7 @@ use Rattle.docsets.specs.EntryLaws.{Rising-lower}
 use Rattle.docsets.proofs.EntryLaws.{first-from, from-in, from-out}
 use Rattle.docsets.specs.CombiningLaws.{sum-cons}
 use Rattle.docsets.specs.ScoredEntries.{greatest_score}
-use Rattle.docsets.specs.ScoredEntryLaws.{by_place}
+use Rattle.definitions.proofs.Lists.{by_order as by_place}
 use Rattle.docsets.specs.Members.{at_document, entries_at, entries_of, greatest_sum, least, listed, scores_in, walk}
 
 -- ---- walks

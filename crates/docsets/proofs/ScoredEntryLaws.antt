@@ -12,7 +12,7 @@ use Rattle.definitions.specs.Postings.{terminated}
 use Rattle.definitions.specs.ScoredLists.{AreScoredFrom, ScoredList, boosted, rescored}
 use Rattle.definitions.specs.Scoring.{max_score}
 use Rattle.docsets.specs.ScoredEntries.{AreScores, all_from, greatest_score, pairs_of, rescored_by, scored}
-use Rattle.docsets.specs.ScoredEntryLaws.{by_place}
+use Rattle.definitions.proofs.Lists.{by_order as by_place}
 
 -- ---- documents and scores alone
 

@@ -5,7 +5,7 @@ use Rattle.docsets.specs.Entries.{Entry, Rising, first, from}
 use Rattle.docsets.specs.EntryLaws.{Rising-from}
 use Rattle.docsets.proofs.EntryLaws.{drop-one, first_at_most, from-first, from-from, from-in, from-out}
 use Rattle.definitions.specs.Postings.{terminated}
-use Rattle.docsets.specs.ScoredEntryLaws.{by_place}
+use Rattle.definitions.proofs.Lists.{by_order as by_place}
 use Rattle.docsets.specs.SetEntries.{flag_entries, set_entries}
 use Rattle.docsets.specs.SetEntryLaws.{NoneBetween, Rising-flags, Rising-set, bare, flag_of}
 

@@ -4,14 +4,11 @@ use Rattle.std.specs.Coded.{Unit-prop}
 use Rattle.std.proofs.Props.{props}
 use Rattle.std.proofs.lemmas.Int.{ints}
 use Rattle.std.proofs.Math.Nat.{mul-le-mul_left}
+use Rattle.definitions.proofs.Lists.{by_order as by_place}
 use Rattle.docsets.specs.Entries.{Entry, Rising}
 use Rattle.definitions.specs.Postings.{terminated}
 use Rattle.definitions.specs.Scoring.{max_score, natural}
 use Rattle.docsets.specs.ScoredEntries.{AreScores, all_from, greatest_score, naturals, rescored_by, scored}
-
--- a document is below a target or it isn't
-pub by_place : (t d : ℕ) (P : Type 0) → (t ≤ d → P) → (d < t → P) → P
-by_place t d P inside outside = elim (nat_le t d) as (λ b. nat_le t d ≡ b → P) [ true ↦ (λ e. inside (leb-true t d e)) | false ↦ (λ e. outside (leb-false t d e)) ] refl
 
 -- ---- scores from 0 on
 natural-small : (n : ℤ) → pos 0 ≤ℤ n → n ≤ℤ pos max_score → natural n ≤ max_score

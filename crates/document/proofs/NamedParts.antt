@@ -4,6 +4,7 @@ use Rattle.std.proofs.lemmas.Bool.Decides.{nat_tests}
 use Rattle.std.proofs.lemmas.List.{map-append}
 use Rattle.std.proofs.lemmas.List.Elements.{filter-append}
 use Rattle.std.specs.List.{cons_option, enumerate_from}
+use Rattle.definitions.proofs.Lists.{equal_self as equal-self}
 use Rattle.definitions.specs.Schema.{Schema}
 use Rattle.definitions.specs.Stored.{Named, by_field, named_values}
 use Rattle.definitions.specs.Values.{Document, Value, values_of}
@@ -12,9 +13,6 @@ use Rattle.document_values.specs.Owned.{owned_value, owned_values}
 use Rattle.document_values.specs.declared.owned_value.OwnedValue.{OwnedValue}
 
 -- ---- values of fields
-
-equal-self : (n : ℕ) → (n == n) ≡ true
-equal-self n = grind (arith, nat_tests)
 
 other-is : (m n : ℕ) → m ≢ n → (m == n) ≡ false
 other-is m n e = grind (arith, nat_tests)

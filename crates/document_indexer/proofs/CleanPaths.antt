@@ -2,6 +2,7 @@
 use Rattle.std.proofs.Common.{[], ◌&&◌, ◌++◌, ◌+◌, ◌==◌, ◌||◌, ◌≡◌, ◌∙◌, ◌∷◌, Bool, List, ap, ap₂, arith, cond, drop, false, if◌then◌else◌, not, refl, suc, sym, take, true, ℕ}
 use Rattle.std.specs.List.{AllByRecursion, after_first, before_first, position_or_len}
 use Rattle.std.proofs.lemmas.List.Folds.{list_any-append}
+use Rattle.definitions.proofs.Lists.{or_first as first_false, or_second as second_false}
 use Rattle.definitions.specs.JsonLeaves.{has_zero, leaves, members_leaves, values_leaves}
 use Rattle.definitions.specs.Schema.{json_kind}
 use Rattle.definitions.specs.Terms.{json_term, key_bytes, path_of_keys, payload_of}
@@ -12,14 +13,6 @@ use Rattle.terms.proofs.TermParts.{payload_of-term}
 
 abbrev pub is_zero : ℕ → Bool
 is_zero b = 0 == b
-
-first_false : (a b : Bool) → (a || b) ≡ false → a ≡ false
-first_false false b h = refl
-first_false true b h = cc
-
-second_false : (a b : Bool) → (a || b) ≡ false → b ≡ false
-second_false false b h = h
-second_false true b h = cc
 
 behind_zero : (x : ℕ) (xs : List ℕ) → is_zero x ≡ false → after_first is_zero (x ∷ xs) ≡ after_first is_zero xs
 behind_zero x xs other =

@@ -1,6 +1,7 @@
 -- Tokens as a document holds them: what was put is taken back, and what is taken was put.
 use Rattle.std.proofs.Common.{[], ◌++◌, ◌-◌, ◌<◌, ◌≤◌, ◌^◌, ◌∷◌, ◌≡◌, ◌∙◌, IsUtf8, List, None, Option, Some, ap, ap₂, append_assoc, arith, flat_map, length, nat_le, option_map, refl, subst, suc, sym, true, zero, ℕ}
 use Rattle.std.proofs.lemmas.Bool.Decides.{nat_tests}
+use Rattle.definitions.proofs.Lists.{le_of}
 use Rattle.common.proofs.TakenBack.{text_back, text_put, vint_back, vint_put}
 use Rattle.definitions.specs.Json.{only_if, ◌>>=◌}
 use Rattle.definitions.specs.NumberCodes.{AreBytes, sized_bytes, take_text, take_vint, vint_bytes}
@@ -20,9 +21,6 @@ pub record IsToken (least : ℕ) (t : Token) : Type 0 where
 
 abbrev Put : ℕ → List ℕ → List ℕ → Token → Type 0
 Put least bs rest t = IsToken least t × (bs ≡ token_bytes t ++ rest)
-
-le_of : (a b : ℕ) → nat_le a b ≡ true → a ≤ b
-le_of a b e = grind (arith, nat_tests)
 
 -- the token of these parts
 abbrev made : ℕ → ℕ → List ℕ → Token

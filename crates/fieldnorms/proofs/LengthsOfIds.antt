@@ -2,13 +2,10 @@
 use Rattle.std.proofs.Common.{◌+◌, ◌<◌, ◌⊎◌, ◌≡◌, ◌≤◌, arith, get_or, inl, inr, nat_eq, le_antisymm, le_refl, le_trans, not-le_of_lt, refl, true, ℕ}
 use Rattle.std.proofs.lemmas.Bool.{agree_below_at, cases_lt}
 use Rattle.std.proofs.lemmas.Bool.Decides.{nat_tests}
+use Rattle.definitions.proofs.Lists.{nat_same as same_number}
 use Rattle.definitions.specs.Lengths.{fieldnorm_to_id, greatest_id, id_to_fieldnorm}
 use Rattle.fieldnorms.specs.declared.code.TheConstants.{FIELD_NORMS_TABLE}
 use Rattle.definitions.proofs.LengthIds.{greatest_id_fits, greatest_id_greatest, greatest_id_within, lengths_rise}
-
--- the test that two numbers are one
-pub same_number : (a b : ℕ) → nat_eq a b ≡ true → a ≡ b
-same_number a b e = grind (arith, nat_tests)
 
 -- each place of the table has the length of its id
 pub the_table : (id : ℕ) → id < 256 → get_or FIELD_NORMS_TABLE id 0 ≡ id_to_fieldnorm id

@@ -1,5 +1,5 @@
 -- Fields and their ids side by side, as lengths are recorded and padded.
-use Rattle.std.proofs.Common.{[], List, ap, ap₂, arith, cond, false, get_or, length, map, nat_eq, refl, replicate, set, suc, sym, true, zero, zip, ◌+◌, ◌++◌, ◌-◌, ◌<◌, ◌≡◌, ◌≢◌, ◌≤◌, ◌∙◌, ◌∷◌, ℕ, length-append, add-one, take, Result, Ok, Err, OnOk, OnErr}
+use Rattle.std.proofs.Common.{[], List, ap, append-nil, ap₂, arith, cond, false, get_or, length, map, nat_eq, refl, replicate, set, suc, sym, true, zero, zip, ◌+◌, ◌++◌, ◌-◌, ◌<◌, ◌≡◌, ◌≢◌, ◌≤◌, ◌∙◌, ◌∷◌, ℕ, length-append, add-one, take, Result, Ok, Err, OnOk, OnErr}
 use Rattle.std.proofs.lemmas.Bool.Decides.{nat_tests}
 use Rattle.std.proofs.lemmas.List.{flat_map_more, get_or-map, length-map, length-replicate, map-append, map-set, replicate_more}
 use Rattle.std.proofs.Math.Seq.{map-set_same}
@@ -63,11 +63,7 @@ padded_again : (n : ℕ) (x : List ℕ) → padded n (padded n x) ≡ padded n x
 padded_again n x =
     let long : length (padded n x) ≡ length x + (n - length x) = simp (length-append, length-replicate) in
     let none : n - length (padded n x) ≡ 0 = omega (arith, long) in
-    ap (λ k. padded n x ++ replicate k 0) none ∙ append_nil (padded n x)
-  where
-    append_nil : (ys : List ℕ) → ys ++ [] ≡ ys
-    append_nil [] = refl
-    append_nil (y ∷ ys) = ap (λ zs. y ∷ zs) (append_nil ys)
+    ap (λ k. padded n x ++ replicate k 0) none ∙ append-nil (padded n x)
 
 -- padding the rest pads all
 pub padded_still : (n i : ℕ) (xs : List (List ℕ)) → map (padded n) (part_padded n i xs) ≡ map (padded n) xs
@@ -94,13 +90,6 @@ no_ids = []
 pub zip_empty : (fs : List ℕ) → zip fs (replicate (length fs) no_ids) ≡ map (λ f. (f, no_ids)) fs
 zip_empty [] = refl
 zip_empty (f ∷ fs) = ap (λ ps. (f, no_ids) ∷ ps) (zip_empty fs)
-
--- ---- ids behind another type
-
--- what follows from what holds where a call succeeds
-pub on_ok : {A E : Type 0} (r : Result A E) {P Q : Type 0} → (P → Q) → OnOk r P → OnOk r Q
-on_ok (Ok x) f p = f p
-on_ok (Err e) f p = tt
 
 pub on_err : {A E : Type 0} (r : Result A E) {P Q : Type 0} → (P → Q) → OnErr r P → OnErr r Q
 on_err (Ok x) f p = tt

@@ -1,5 +1,5 @@
 -- The section of the lengths of fields, field by field.
-use Rattle.std.proofs.Common.{Bool, List, None, Option, Some, [], add-one, ap, append_assoc, ap₂, arith, cond, drop, drop-cons, false, find, get_or, length, length-append, map, nat_eq, option_map, refl, subst, suc, sym, take, true, zero, zip, ℕ, ◌*◌, ◌++◌, ◌+◌, ◌<◌, ◌^◌, ◌∙◌, ◌∷◌, ◌≡◌, ◌≢◌, ◌≤◌}
+use Rattle.std.proofs.Common.{Bool, List, None, Option, Some, [], add-one, ap, append-nil, append_assoc, ap₂, arith, cond, drop, drop-cons, false, find, get_or, length, length-append, map, nat_eq, option_map, refl, subst, suc, sym, take, true, zero, zip, ℕ, ◌*◌, ◌++◌, ◌+◌, ◌<◌, ◌^◌, ◌∙◌, ◌∷◌, ◌≡◌, ◌≢◌, ◌≤◌}
 use Rattle.std.proofs.Math.Nat.{mul-le-mul_right, suc-mul}
 use Rattle.std.proofs.Math.Seq.{drop-append_seam, take-append_seam}
 use Rattle.std.proofs.lemmas.Bool.Decides.{nat_tests}
@@ -237,15 +237,11 @@ nothing_taken (Some ids) = refl
 
 pub section_read : (n : ℕ) (fields bytes rest : List ℕ) (ids : List (List ℕ)) (i : ℕ) → take_all_ids n fields bytes ≡ behind ids (take_all_ids n (drop i fields) rest) → length fields ≤ i → length rest ≡ 0 → take_all_ids n fields bytes ≡ Some ids
 section_read n fields bytes rest ids i so_far all empty =
-    so_far ∙ ap₂ (λ fs bs. behind ids (take_all_ids n fs bs)) (drop_all i fields all) (nothing rest empty) ∙ ap Some (append_nil ids)
+    so_far ∙ ap₂ (λ fs bs. behind ids (take_all_ids n fs bs)) (drop_all i fields all) (nothing rest empty) ∙ ap Some (append-nil ids)
   where
     nothing : (bs : List ℕ) → length bs ≡ 0 → bs ≡ []
     nothing [] e = refl
     nothing (b ∷ bs) e = absurd (omega arith)
-
-    append_nil : (xs : List (List ℕ)) → xs ++ [] ≡ xs
-    append_nil [] = refl
-    append_nil (x ∷ xs) = ap (λ ys. x ∷ ys) (append_nil xs)
 
 pub section_left : (n : ℕ) (fields bytes rest : List ℕ) (ids : List (List ℕ)) (i : ℕ) → take_all_ids n fields bytes ≡ behind ids (take_all_ids n (drop i fields) rest) → length fields ≤ i → length rest ≢ 0 → take_all_ids n fields bytes ≡ None
 section_left n fields bytes rest ids i so_far all more = so_far ∙ ap (λ fs. behind ids (take_all_ids n fs rest)) (drop_all i fields all) ∙ something rest more

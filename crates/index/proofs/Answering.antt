@@ -89,10 +89,6 @@ pub ok_weaker : {T E : Type 0} (r : Result T E) (P Q : T → Type 0) → ((t : T
 ok_weaker (Ok t) P Q f h = f t h
 ok_weaker (Err e) P Q f h = tt
 
-pub err_weaker : {T E : Type 0} (r : Result T E) (P Q : E → Type 0) → ((e : E) → P e → Q e) → IfErr r P → IfErr r Q
-err_weaker (Ok t) P Q f h = tt
-err_weaker (Err e) P Q f h = f e h
-
 -- ---- replies
 
 -- the reply to a request that is refused

@@ -31,7 +31,7 @@ use Rattle.index.specs.declared.requests.IndexRequest.{IndexRequest}
 use Rattle.index.specs.declared.requests.IndexRequest.TheVariants.{Add, Commit, Count, Delete, Merge, Search}
 use Rattle.index.specs.declared.session.Session.{Session}
 use Rattle.index.specs.declared.stage.Stage.TheVariants.{Spare, Standing}
-use Rattle.index.proofs.Answering.{err_weaker}
+use Rattle.definitions.proofs.Lists.{err_map as err_weaker}
 use Rattle.index.proofs.Causes.{memory_cause, memory_no_limit, same_cause, same_error}
 use Rattle.index.proofs.IndexFiles.{step_status}
 use Rattle.index.proofs.Leavings.{error_of_change, index_left}

@@ -89,10 +89,6 @@ no_end parts got sets found code n count bs after rest left taken read many long
     let same = same_sets found sets left [] (long ∙ many ∙ sym (ap length are.0) ∙ sym is.each) short is.short (sym whole ∙ sym are.1 ∙ sym (append-nil (flat_map alive_bytes sets))) in
     some same.1
 
-pub nothing_left : (xs : List ℕ) → length xs ≡ 0 → xs ≡ []
-nothing_left [] short = refl
-nothing_left (x ∷ xs) short = absurd (omega (arith, short))
-
 -- what is read is a body
 pub is_body : (got : List Part) (found : List (List Bool)) (n count : ℕ) (bs after rest left : List ℕ) → AreBytes bs → take_u32 bs ≡ Some (n, after) → take_many take_part n after ≡ Some (got, rest) → count ≡ length got
     → length found ≡ count → AllByRecursion IsShort found → rest ≡ flat_map alive_bytes found ++ left → left ≡ [] → IsBody got found (2 ∷ bs)

@@ -73,10 +73,6 @@ here_left f xs i d inside =
     let next : suc i ≡ i + 1 = omega arith in
     ap (map f) (drop-cons xs i d inside) ∙ ap (λ n. f (get_or xs i d) ∷ map f (drop n xs)) next
 
-pub all_more : {X : Type 0} (P : X → Type 0) (xs : List X) (x : X) → AllByRecursion P xs → P x → AllByRecursion P (xs ++ x ∷ [])
-all_more P [] x all here = (here, tt)
-all_more P (y ∷ ys) x all here = (all.0, all_more P ys x all.1 here)
-
 -- the flags of a member don't say of which part it is
 same_part : (before : List Member) (part : Part) (bytes : List ℕ) (flags others : List Bool) → IsOfPart before part (bytes, flags) → IsOfPart before part (bytes, others)
 same_part before (kept place) bytes flags others is = is

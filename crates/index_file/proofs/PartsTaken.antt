@@ -4,6 +4,7 @@ use Rattle.std.specs.List.{AllByRecursion}
 use Rattle.std.proofs.lemmas.List.{drop-drop, take_at}
 use Rattle.std.proofs.lemmas.Bool.Decides.{nat_tests}
 use Rattle.std.proofs.lemmas.Option.{slice_get-map}
+use Rattle.definitions.proofs.Lists.{both_true}
 use Rattle.segment.specs.Opened.{bytes_of}
 use Rattle.segment.specs.declared.segment.Segment.{Segment}
 use Rattle.index_file.specs.Places.{places_rise}
@@ -33,10 +34,6 @@ taken_at all before left passed place m was from is =
     let whole : drop place all ≡ m ∷ left = ap (λ n. drop n all) (sym there) ∙ sym (drop-drop (place - passed) passed all) ∙ ap (drop (place - passed)) was ∙ is in
     let here = dropped_here all place m left whole in
     (here.0, ap (λ n. drop n all) (sym next) ∙ here.1)
-
-both_true : (a b : Bool) → (a && b) ≡ true → (a ≡ true) × (b ≡ true)
-both_true true b e = (refl, e)
-both_true false b e = cc
 
 -- a place that follows stands behind those that are passed, inside the list, and the others follow it
 pub kept_follows : (least len place : ℕ) (parts : List Part) → places_rise least len (kept place ∷ parts) ≡ true → (least ≤ place) × (place < len) × (places_rise (place + 1) len parts ≡ true)

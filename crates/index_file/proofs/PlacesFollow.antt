@@ -4,6 +4,7 @@ use Rattle.std.specs.List.{AllByRecursion, AllZip}
 use Rattle.std.proofs.lemmas.Bool.{cases_lt}
 use Rattle.std.proofs.lemmas.Bool.Decides.{nat_tests}
 use Rattle.std.proofs.lemmas.Option.{slice_get_past}
+use Rattle.definitions.proofs.Lists.{both_true}
 use Rattle.definitions.specs.Schema.{Schema}
 use Rattle.layouts.specs.Deltas.{IsAscendingFrom}
 use Rattle.segment_definitions.specs.SegmentBodies.{IsMember, IsOfPart, Makes, Member, Part, fresh, kept, place_of, segments_body}
@@ -13,10 +14,6 @@ use Rattle.index_file.specs.Places.{Follow, Says, places_rise}
 use Rattle.index_file.proofs.BodiesBack.{one_body}
 
 -- ---- the test
-
-both_true : (a b : Bool) → (a && b) ≡ true → (a ≡ true) × (b ≡ true)
-both_true true b e = (refl, e)
-both_true false b e = cc
 
 pub rise-ascend : (least len : ℕ) (parts : List Part) → places_rise least len parts ≡ true → IsAscendingFrom least (filter_map place_of parts)
 rise-ascend least len [] rise = tt

@@ -6,6 +6,7 @@ use Rattle.std.specs.List.{after_first, before_first, slice_split}
 use Rattle.std.specs.Option.{option_map_or}
 use Rattle.std.specs.Ordering.{match_ordering}
 use Rattle.std.specs.Str.{is_utf8}
+use Rattle.definitions.proofs.Lists.{neither, or_first, or_second}
 use Rattle.definitions.specs.Json.{members_of, object_of}
 use Rattle.definitions.specs.Printed.{int_json, printed}
 use Rattle.definitions.specs.Replies.{number_data}
@@ -36,18 +37,6 @@ ArePlainMembers k ms = (members_have_float ms ≡ false) × (members_depth ms �
 abbrev ArePlain : ℕ → List (List ℕ × json.Data) → Type 0
 ArePlain k [] = Unit {0}
 ArePlain k (m ∷ ms) = IsPlain k m.1 × ArePlain k ms
-
-neither : (a b : Bool) → a ≡ false → b ≡ false → (a || b) ≡ false
-neither true b ha hb = ha
-neither false b ha hb = hb
-
-or_first : (a b : Bool) → (a || b) ≡ false → a ≡ false
-or_first true b h = h
-or_first false b h = refl
-
-or_second : (a b : Bool) → (a || b) ≡ false → b ≡ false
-or_second true b h = absurd (true≢false h)
-or_second false b h = h
 
 deeper : (j k : ℕ) (d : json.Data) → j ≤ k → IsPlain j d → IsPlain k d
 deeper j k d more p = (let shallow = p.1 in (p.0, omega arith))

@@ -3,6 +3,7 @@ use Rattle.std.proofs.Common.{[], ◌++◌, ◌+◌, ◌-◌, ◌<◌, ◌∙◌
 use Rattle.std.proofs.lemmas.List.{length-drop, length-map}
 use Rattle.std.proofs.lemmas.List.Concat.{flat_map-append}
 use Rattle.std.specs.List.{AllByRecursion, AllZip, zip}
+use Rattle.definitions.proofs.Lists.{all_append as all_both}
 use Rattle.definitions.specs.Schema.{Schema}
 use Rattle.layouts.specs.Deltas.{IsAscendingFrom}
 use Rattle.segment.specs.Opened.{IsOpened, bytes_of}
@@ -87,11 +88,6 @@ none_below len (b ∷ bs) = none_below len bs
 below : (len i k : ℕ) (bs : List (List ℕ)) → i + k ≤ len → AllByRecursion (λ place. place < len) (filter_map place_of (kept_from i k ++ map fresh bs))
 below len i zero bs l = none_below len bs
 below len i (suc k) bs l = (omega (arith, l), below len (suc i) k bs (omega (arith, l)))
-
--- they fit in their bytes
-pub all_both : {X : Type 0} (P : X → Type 0) (xs ys : List X) → AllByRecursion P xs → AllByRecursion P ys → AllByRecursion P (xs ++ ys)
-all_both P [] ys h k = k
-all_both P (x ∷ xs) ys h k = (h.0, all_both P xs ys h.1 k)
 
 pub kept_fit : (i k : ℕ) → i + k < 2 ^ 32 → AllByRecursion Fits (kept_from i k)
 kept_fit i zero l = tt

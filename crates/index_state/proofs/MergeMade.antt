@@ -9,7 +9,8 @@ use Rattle.segment.specs.declared.segment.Segment as code
 use Rattle.segment_definitions.specs.SegmentBodies.{Fits, IsMember, IsOfPart, Makes, Member, Part, fresh, place_of, segments_body}
 use Rattle.segment_definitions.specs.Segments.{IsSegment}
 use Rattle.segment_search.proofs.Places.{zip_more}
-use Rattle.index_state.proofs.BodyMade.{all_both, are_members, get_seam, kept_fit, length-kept}
+use Rattle.index_state.proofs.BodyMade.{are_members, get_seam, kept_fit, length-kept}
+use Rattle.definitions.proofs.Lists.{all_append as all_both}
 use Rattle.index_state.proofs.MergedLists.{all_replaced}
 use Rattle.index_state.specs.Bodies.{kept_from, merged_parts}
 use Rattle.index_state.specs.Merges.{all_alive, alive_member, replaced}

@@ -25,13 +25,13 @@ use Rattle.segment_definitions.proofs.Merges.{merged_groups}
 use Rattle.segment_definitions.specs.Rows.{flagged}
 use Rattle.segment.specs.Members as merger
 use Rattle.segment_search.proofs.Flagging.{flagged_within}
-use Rattle.segment_search.proofs.Places.{all_take}
+use Rattle.definitions.proofs.Lists.{all_drop, all_take}
 use Rattle.segment_search.proofs.RowsRead.{docs_counted, documents_flagged, flags_flagged}
 use Rattle.index_state.proofs.BodyMade.{are_members, length-zip, zip_flags}
 use Rattle.index_state.proofs.EachFlagged.{length-each}
 use Rattle.index_state.proofs.Members.{zip_take}
 use Rattle.index_state.proofs.MergeMade.{alive_bytes, alive_flags, alive_members, merge_makes, short_bytes}
-use Rattle.index_state.proofs.MergedLists.{all_drop, drop_replaced, map_replaced, zip_drop, zip_replaced, zipped_drop, zipped_replaced, zipped_take}
+use Rattle.index_state.proofs.MergedLists.{drop_replaced, map_replaced, zip_drop, zip_replaced, zipped_drop, zipped_replaced, zipped_take}
 use Rattle.index_state.proofs.Outcomes.{own_refuses}
 use Rattle.index_state.proofs.Standings.{sets_within, stands_with}
 use Rattle.index_state.specs.Bodies.{merged_parts}

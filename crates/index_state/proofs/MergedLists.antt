@@ -2,17 +2,12 @@
 use Rattle.std.proofs.Common.{[], ◌++◌, ◌+◌, ◌-◌, ◌∙◌, ◌∷◌, ◌≡◌, ◌≤◌, List, ap, ap₂, arith, drop, length, length-append, map, refl, suc, sym, take, zero, ℕ}
 use Rattle.std.proofs.lemmas.List.{drop-drop, drop-map, length-drop, length-take-le, map-append, take-map}
 use Rattle.std.specs.List.{AllByRecursion, AllZip, zip}
-use Rattle.segment_search.proofs.Places.{all_take, zip_more}
-use Rattle.index_state.proofs.BodyMade.{all_both}
+use Rattle.definitions.proofs.Lists.{all_append as all_both, all_drop, all_take}
+use Rattle.segment_search.proofs.Places.{zip_more}
 use Rattle.index_state.proofs.Members.{zip_take}
 use Rattle.index_state.specs.Merges.{replaced}
 
 -- ---- fronts and rests
-
-pub all_drop : {X : Type 0} (P : X → Type 0) (n : ℕ) (xs : List X) → AllByRecursion P xs → AllByRecursion P (drop n xs)
-all_drop P zero xs h = h
-all_drop P (suc n) [] h = tt
-all_drop P (suc n) (x ∷ xs) h = all_drop P n xs h.1
 
 pub zip_drop : {X Y : Type 0} (R : X → Y → Type 0) (xs : List X) (ys : List Y) (n : ℕ) → AllZip R xs ys → AllZip R (drop n xs) (drop n ys)
 zip_drop R xs ys zero h = h

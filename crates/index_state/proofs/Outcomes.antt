@@ -17,11 +17,6 @@ pub err_has : {T : Type 0} (r : Result T Fault) (fault : Fault) (P : Fault → T
 err_has (Ok x) fault P is p = tt
 err_has (Err e) fault P is p = subst P (sym is) p
 
--- what follows of an error
-pub err_map : {T E : Type 0} (r : Result T E) (P Q : E → Type 0) → ((e : E) → P e → Q e) → IfErr r P → IfErr r Q
-err_map (Ok x) P Q f h = tt
-err_map (Err e) P Q f h = f e h
-
 -- where changes are taken the index is ready
 pub ready_of : (s : calls.Status) → calls.status_fault s false ≡ None → s ≡ calls.ready
 ready_of calls.ready e = refl

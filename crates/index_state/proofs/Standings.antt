@@ -22,7 +22,8 @@ use Rattle.segment_search.proofs.Flagging.{flagged_more, flagged_within}
 use Rattle.segment_search.proofs.RowsRead.{docs_counted}
 use Rattle.index_state.proofs.Groups.{HaveFlags}
 use Rattle.index_state.proofs.Outcomes.{closed_is_not_ready, own_refuses, writer_is_not_ready}
-use Rattle.segment_search.proofs.Places.{all_more, zip_length, zip_more}
+use Rattle.segment_search.proofs.Places.{zip_length, zip_more}
+use Rattle.definitions.proofs.Lists.{all_push as all_more}
 use Rattle.index_state.proofs.Waitings.{added_closed, added_open, deleted_more}
 use Rattle.index_state.specs.Deletions.{IsSmall, numbered}
 use Rattle.index_state.specs.Flags.{AreFlagged, flagged_each}

@@ -50,10 +50,6 @@ pub all_front : {A : Type 0} (P : A → Type 0) (xs ys : List A) → AllByRecurs
 all_front P [] ys all = tt
 all_front P (x ∷ xs) ys all = (all.0, all_front P xs ys all.1)
 
-pub all_behind : {A : Type 0} (P : A → Type 0) (xs ys : List A) → AllByRecursion P (xs ++ ys) → AllByRecursion P ys
-all_behind P [] ys all = all
-all_behind P (x ∷ xs) ys all = all_behind P xs ys all.1
-
 take_front : (docs rest : List Document) (i : ℕ) → i < length docs → take i (docs ++ rest) ≡ take i docs
 take_front [] rest i l = absurd (omega (arith, l))
 take_front (d ∷ docs) rest zero l = refl

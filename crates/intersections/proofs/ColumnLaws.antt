@@ -8,7 +8,7 @@ use Rattle.docsets.specs.Entries.{Entry, Rising, first, first_positions, single}
 use Rattle.intersections.specs.Columns.{HaveOneColumn}
 use Rattle.intersections.proofs.MeetingLaws.{few-before, meeting-here}
 use Rattle.intersections.specs.Meetings.{IsMeeting, meeting}
-use Rattle.docsets.specs.ScoredEntryLaws.{by_place}
+use Rattle.definitions.proofs.Lists.{by_order as by_place}
 use Rattle.docsets.proofs.AtLeastLaws.{too_few}
 use Rattle.docsets.proofs.MemberLaws.{entries-low, entries-on, few-have, least-both, listed-skip, listed-stands, one-entry}
 use Rattle.docsets.specs.Members.{enough, entries_at, entries_of, joining, least}

@@ -5,7 +5,7 @@ use Rattle.docsets.specs.Danger.{Missed}
 use Rattle.docsets.specs.Entries.{Entry, Rising, first, from}
 use Rattle.docsets.specs.EntryLaws.{Rising-from}
 use Rattle.docsets.proofs.EntryLaws.{from-from, from-in, from-out}
-use Rattle.docsets.specs.ScoredEntryLaws.{by_place}
+use Rattle.definitions.proofs.Lists.{by_order as by_place}
 use Rattle.docsets.proofs.MemberLaws.{entries-kept, entries-low, entries-on, one-first}
 use Rattle.docsets.specs.Members.{entries_of}
 use Rattle.intersections.specs.Differences.{has, without}

@@ -7,7 +7,7 @@ use Rattle.definitions.specs.Scoring.{max_score}
 use Rattle.docsets.specs.Entries.{Entry, Rising, first, first_score, from}
 use Rattle.docsets.specs.EntryLaws.{Rising-from}
 use Rattle.docsets.proofs.EntryLaws.{first_at_most, from-from}
-use Rattle.docsets.specs.ScoredEntryLaws.{by_place}
+use Rattle.definitions.proofs.Lists.{by_order as by_place}
 use Rattle.docsets.proofs.AtLeastLaws.{too_few}
 use Rattle.docsets.proofs.MemberLaws.{Rising-listed, entries-kept, entries-least, entries-low, from-listed, listed-end, listed-found, listed-same, listed-skip, listed-stands, one-lacks, same-from, sum-greatest}
 use Rattle.docsets.specs.Members.{at_least, enough, entries_at, entries_of, greatest_sum, joining, least, listed, scores_in}

@@ -4,6 +4,7 @@ use Rattle.std.specs.Int.{from_le_bytes, w64}
 use Rattle.std.proofs.lemmas.List.{ext_get_or, get_or-take, get_or_append_left, length-take-le, take-append-drop}
 use Rattle.std.proofs.lemmas.Nat.{from_le_bytes-to_le_bytes_8}
 use Rattle.std.proofs.Math.Seq.{drop-append_seam, drop-cons, get_or-append_seam, take-append_seam}
+use Rattle.definitions.proofs.Lists.{head_of, tail_of}
 use Rattle.definitions.specs.NumberCodes.{u64_bytes}
 use Rattle.layouts.specs.RecordFiles.{AreShort, AreTaken, EndsAt, HasRecord, IsAtRest, IsDamaged, IsFile, IsFresh, IsNoIndex, IsOneOf, records, sized_body}
 
@@ -42,12 +43,6 @@ one_frame x y r s short_x short_y same =
     let long : length x ≡ length y = sym (from_le_bytes-to_le_bytes_8 (length x) short_x) ∙ ap (λ (l : List ℕ). from_le_bytes w64 l) spelled ∙ from_le_bytes-to_le_bytes_8 (length y) short_y in
     let after : x ++ r ≡ y ++ s = ap (λ (l : List ℕ). drop 8 l) same in
     (sym (take-append_seam x r) ∙ ap₂ (λ (n : ℕ) (l : List ℕ). take n l) long after ∙ take-append_seam y s, sym (drop-append_seam x r) ∙ ap₂ (λ (n : ℕ) (l : List ℕ). drop n l) long after ∙ drop-append_seam y s)
-
-tail_of : (a b : ℕ) (xs ys : List ℕ) → a ∷ xs ≡ b ∷ ys → xs ≡ ys
-tail_of a b xs ys e = cc
-
-head_of : (a b : ℕ) (xs ys : List ℕ) → a ∷ xs ≡ b ∷ ys → a ≡ b
-head_of a b xs ys e = cc
 
 -- the first record and what follows it, where two begin alike
 one_record : (x y : List ℕ) (a b : List (List ℕ)) (r s : List ℕ) → length x < 2 ^ 64 → length y < 2 ^ 64 → records (x ∷ a) ++ r ≡ records (y ∷ b) ++ s → (x ≡ y) × (records a ++ r ≡ records b ++ s)

@@ -5,6 +5,7 @@ use Rattle.std.proofs.Math.Pow.{pow_mono}
 use Rattle.std.proofs.lemmas.Bool.Decides.{nat_tests}
 use Rattle.std.specs.Int.{bit_at}
 use Rattle.std.specs.List.{list_all}
+use Rattle.definitions.proofs.Lists.{both_true as and_true}
 use Rattle.layouts.specs.Deltas.{IsAscendingFrom}
 use Rattle.layouts.specs.PackedBlocks.{IsPacked, bit_in}
 
@@ -12,11 +13,6 @@ use Rattle.layouts.specs.PackedBlocks.{IsPacked, bit_in}
 abbrev pub all_to : ℕ → (ℕ → Bool) → Bool
 all_to zero p = true
 all_to (suc n) p = p n && all_to n p
-
-and_true : (a b : Bool) → (a && b) ≡ true → (a ≡ true) × (b ≡ true)
-and_true true true h = (refl, refl)
-and_true true false h = absurd (cc)
-and_true false b h = absurd (cc)
 
 pub all_to_each : (n : ℕ) (p : ℕ → Bool) → all_to n p ≡ true → (i : ℕ) → i < n → p i ≡ true
 all_to_each zero p h i within = absurd (omega arith)

@@ -21,7 +21,8 @@ use Rattle.merging.specs.MergedTerms.{AreAdded, IsTermsRefusal, Told, told_in, t
 use Rattle.merging.specs.ToldFields.{told_of_all}
 use Rattle.merging.specs.declared.member.Member.{Member}
 use Rattle.merging.specs.Mappings.{end_of}
-use Rattle.merging.proofs.MergedKeys.{AllAbove, all_above, any_has, ascends_behind, behind, keys_ascend, merged_among, same_key, turned}
+use Rattle.merging.proofs.MergedKeys.{AllAbove, all_above, any_has, ascends_behind, behind, keys_ascend, merged_among, same_key}
+use Rattle.definitions.proofs.Lists.{bytes_swap as turned}
 use Rattle.merging.specs.KeyLists.{keys_of, merged_keys}
 use Rattle.packed_blocks.specs.UnpackedBlocks.{listed}
 use Rattle.postings_writer.specs.FieldWriting as writing

@@ -2,6 +2,7 @@
 use Rattle.std.proofs.Common.{[], Bool, List, None, Some, ap, append-nil, ap₂, append_assoc, arith, false, find, if◌then◌else◌, length, option_map, refl, slice_index, subst, suc, sym, take, true, zero, ◌++◌, ◌+◌, ◌<◌, ◌==◌, ◌≡◌, ◌≤◌, ◌∙◌, ◌∷◌, ℕ}
 use Rattle.std.specs.List.{AllByRecursion, items_where_true, slice_index_or}
 use Rattle.std.specs.Option.{option_map_or}
+use Rattle.definitions.proofs.Lists.{take_whole}
 use Rattle.layouts.specs.FieldNorms.{ids_of}
 use Rattle.layouts.specs.InvertedIndexes.{field_ids}
 use Rattle.merging.specs.MergedNorms.{IsFlagged, merged_ids}
@@ -22,12 +23,6 @@ living_more i flags ids flag within same is =
     ap (λ n. items_where_true (take n flags) (take n ids)) (let e : i + 1 ≡ suc i = omega arith in e)
     ∙ living_suc i flags ids 0 (omega (arith, within, same)) within
     ∙ ap (λ b. items_where_true (take i flags) (take i ids) ++ (if b then slice_index_or ids i 0 ∷ [] else [])) is
-
-take_whole : {X : Type 0} (k : ℕ) (xs : List X) → length xs ≤ k → take k xs ≡ xs
-take_whole zero [] long = refl
-take_whole zero (x ∷ xs) long = absurd (omega (arith, long))
-take_whole (suc k) [] long = refl
-take_whole (suc k) (x ∷ xs) long = ap (λ ys. x ∷ ys) (take_whole k xs (omega (arith, long)))
 
 pub living_all : (i : ℕ) (flags : List Bool) (ids : List ℕ) → length ids ≤ i → length ids ≡ length flags → items_where_true (take i flags) (take i ids) ≡ items_where_true flags ids
 living_all i flags ids long same = ap₂ items_where_true (take_whole i flags (omega (arith, long, same))) (take_whole i ids long)

@@ -1,6 +1,7 @@
 -- Members that are appended one after another.
 use Rattle.std.proofs.Common.{[], List, Some, ap, append-nil, ap₂, append_assoc, arith, inl, inr, length, refl, slice_get, subst, suc, sym, take, zero, ◌++◌, ◌+◌, ◌<◌, ◌≡◌, ◌≤◌, ◌∙◌, ◌∷◌, ℕ}
 use Rattle.std.specs.List.{AllByRecursion, items_where_true, slice_index_or}
+use Rattle.definitions.proofs.Lists.{take_whole}
 use Rattle.layouts.specs.Stores.{Hold}
 use Rattle.common.specs.BitSets.{count_set}
 use Rattle.definitions.specs.declared.fault.Fault.{Fault}
@@ -38,12 +39,6 @@ same_many [] [] held = refl
 same_many [] (slots ∷ all) held = absurd held
 same_many (m ∷ ms) [] held = absurd held
 same_many (m ∷ ms) (slots ∷ all) held = ap suc (same_many ms all held.1)
-
-take_whole : {X : Type 0} (k : ℕ) (xs : List X) → length xs ≤ k → take k xs ≡ xs
-take_whole zero [] long = refl
-take_whole zero (x ∷ xs) long = absurd (omega (arith, long))
-take_whole (suc k) [] long = refl
-take_whole (suc k) (x ∷ xs) long = ap (λ ys. x ∷ ys) (take_whole k xs (omega (arith, long)))
 
 pub all_slots : (k : ℕ) (ms : List MemberStore) (all : List (List (List ℕ))) → AreHeld ms all → length ms ≤ k → merged_slots (take k ms) (take k all) ≡ merged_slots ms all
 all_slots k ms all held long = (let many = same_many ms all held in ap₂ merged_slots (take_whole k ms long) (take_whole k all (omega (arith, many, long))))

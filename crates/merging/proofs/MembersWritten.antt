@@ -3,6 +3,7 @@ use Rattle.std.proofs.Common.{[], List, ap, append-nil, ap₂, append_assoc, ari
 use Rattle.std.proofs.lemmas.List.{map-append}
 use Rattle.std.proofs.lemmas.List.Sums.{sum_by-append}
 use Rattle.std.specs.List.{slice_index_or}
+use Rattle.definitions.proofs.Lists.{take_whole}
 use Rattle.definitions.specs.Merging.{merged_postings, num_living, renumbered}
 use Rattle.definitions.specs.Postings.{Posting}
 use Rattle.definitions.specs.Schema.{Schema}
@@ -99,13 +100,6 @@ member_at schema next end (suc k) (m ∷ ms) (fields ∷ all) d are within =
           (let rest = later.split field key in
           (rest.0, ap (λ ps. living_of m.doc_ids (postings_in fields field key) ++ ps) rest.1 ∙ sym (append_assoc (living_of m.doc_ids (postings_in fields field key)) (merged_in field key (take k ms) (take k all)) (living_of (slice_index_or ms k d).doc_ids (postings_in later.fields field key) ++ rest.0))));
     }
-
--- all members
-pub take_whole : {X : Type 0} (k : ℕ) (xs : List X) → length xs ≤ k → take k xs ≡ xs
-take_whole zero [] long = refl
-take_whole zero (x ∷ xs) long = absurd (omega (arith, long))
-take_whole (suc k) [] long = refl
-take_whole (suc k) (x ∷ xs) long = ap (λ ys. x ∷ ys) (take_whole k xs (omega (arith, long)))
 
 same_many : (schema : Schema) (next end : ℕ) (ms : List Member) (all : List (List IndexedField)) → AreMembers schema next end ms all → length all ≡ length ms
 same_many schema next end [] [] are = refl

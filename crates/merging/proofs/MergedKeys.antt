@@ -32,14 +32,6 @@ less_apart s t is = sym (is_eq-slice_cmp s t) ∙ ap is_eq is
 pub flipped : (s t : List ℕ) (o : Ordering) → cmp s t ≡ o → cmp t s ≡ ordering_reverse o
 flipped s t o is = nat_list_cmp_total.antisymm t s ∙ ap ordering_reverse is
 
-pub turned : (s t : List ℕ) → bytes_eq s t ≡ bytes_eq t s
-turned s t = sym (is_eq-slice_cmp s t) ∙ go (cmp t s) refl ∙ is_eq-slice_cmp t s
-  where
-    go : (o : Ordering) → cmp t s ≡ o → is_eq (cmp s t) ≡ is_eq (cmp t s)
-    go Less is = ap is_eq (flipped t s Less is) ∙ sym (ap is_eq is)
-    go Equal is = ap is_eq (flipped t s Equal is) ∙ sym (ap is_eq is)
-    go Greater is = ap is_eq (flipped t s Greater is) ∙ sym (ap is_eq is)
-
 -- ---- keys behind one
 
 abbrev pub AllAbove : List ℕ → List (List ℕ) → Type 0

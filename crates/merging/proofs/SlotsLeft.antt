@@ -2,6 +2,7 @@
 use Rattle.std.proofs.Common.{[], Bool, List, ap, append-nil, ap₂, arith, false, filter, if◌then◌else◌, inl, inr, leb-true, length, length-append, nat_le, nat_lt, refl, suc, take, true, zero, ◌++◌, ◌+◌, ◌<◌, ◌^◌, ◌||◌, ◌≡◌, ◌≤◌, ◌⊎◌, ◌∙◌, ◌∷◌, ℕ}
 use Rattle.std.proofs.lemmas.List.Sums.{count_by_more_yes, length-filter}
 use Rattle.std.specs.List.{concat, items_where_true, slice_index_or}
+use Rattle.definitions.proofs.Lists.{take_whole}
 use Rattle.common.specs.BitSets.{count_set}
 use Rattle.layouts.specs.Stores.{Block, Hold, max_docs}
 use Rattle.definitions.specs.declared.fault.Fault.{Fault}
@@ -34,12 +35,6 @@ living_more i flags xs d flag within same is =
     ap (λ n. items_where_true (take n flags) (take n xs)) (let e : i + 1 ≡ suc i = omega arith in e)
     ∙ living_suc i flags xs d (omega (arith, within, same)) within
     ∙ ap (λ b. items_where_true (take i flags) (take i xs) ++ (if b then slice_index_or xs i d ∷ [] else [])) is
-
-take_whole : {X : Type 0} (k : ℕ) (xs : List X) → length xs ≤ k → take k xs ≡ xs
-take_whole zero [] long = refl
-take_whole zero (x ∷ xs) long = absurd (omega (arith, long))
-take_whole (suc k) [] long = refl
-take_whole (suc k) (x ∷ xs) long = ap (λ ys. x ∷ ys) (take_whole k xs (omega (arith, long)))
 
 pub living_all : {X : Type 0} (i : ℕ) (flags : List Bool) (xs : List X) → length xs ≤ i → length xs ≡ length flags → items_where_true (take i flags) (take i xs) ≡ items_where_true flags xs
 living_all i flags xs long same = ap₂ items_where_true (take_whole i flags (omega (arith, long, same))) (take_whole i xs long)

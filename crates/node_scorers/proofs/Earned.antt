@@ -15,7 +15,7 @@ use Rattle.definitions.specs.ScoredLists.{ScoredList}
 use Rattle.definitions.specs.Scoring.{Similarity, score}
 use Rattle.definitions.specs.Values.{Document}
 use Rattle.docsets.specs.ScoredEntries.{pairs_of}
-use Rattle.docsets.specs.ScoredEntryLaws.{by_place}
+use Rattle.definitions.proofs.Lists.{by_order as by_place}
 use Rattle.docsets.proofs.MemberLaws.{entries-before}
 use Rattle.docsets.specs.Members.{entries_of, scores_in}
 

@@ -1,5 +1,5 @@
 -- Lists of numbers in bytes of seven bits, number by number.
-use Rattle.std.proofs.Common.{[], Bool, IsSome, List, None, Option, Some, add-one, ap, ap₂, append_assoc, arith, drop, drop-cons, false, get_or, length, length-append, option_map, refl, set, subst, suc, sym, take, true, zero, ◌+◌, ◌++◌, ◌-◌, ◌<◌, ◌≡◌, ◌≢◌, ◌≤◌, ◌∙◌, ◌∷◌, ◌^◌, ℕ, nat_eq}
+use Rattle.std.proofs.Common.{[], Bool, IsSome, List, None, Option, Some, add-one, ap, append-nil, ap₂, append_assoc, arith, drop, drop-cons, false, get_or, length, length-append, option_map, refl, set, subst, suc, sym, take, true, zero, ◌+◌, ◌++◌, ◌-◌, ◌<◌, ◌≡◌, ◌≢◌, ◌≤◌, ◌∙◌, ◌∷◌, ◌^◌, ℕ, nat_eq}
 use Rattle.std.proofs.lemmas.Bool.Decides.{nat_tests}
 use Rattle.std.proofs.Math.Seq.{drop-append_seam, take-suc-set}
 use Rattle.std.specs.List.{AllByRecursion}
@@ -54,16 +54,12 @@ number_unread bytes rest out count i so_far more none =
     ∙ ap (λ k. prefixed (take i out) (take_numbers k rest)) left
     ∙ ap (λ o. prefixed (take i out) (o >>= (λ p. take_numbers (count - (i + 1)) p.1 >>= (λ q. Some (p.0 ∷ q.0, q.1))))) none
 
-append_nil : (xs : List ℕ) → xs ++ [] ≡ xs
-append_nil [] = refl
-append_nil (x ∷ xs) = ap (λ ys. x ∷ ys) (append_nil xs)
-
 pub all_read : (bytes rest out : List ℕ) (count i : ℕ) → take_numbers count bytes ≡ prefixed (take i out) (take_numbers (count - i) rest) → i ≡ count → take_numbers count bytes ≡ Some (take count out, rest)
 all_read bytes rest out count i so_far all =
     let none : count - i ≡ 0 = omega arith in
     so_far
     ∙ ap (λ k. prefixed (take i out) (take_numbers k rest)) none
-    ∙ ap (λ xs. Some (xs, rest)) (append_nil (take i out) ∙ ap (λ k. take k out) all)
+    ∙ ap (λ xs. Some (xs, rest)) (append-nil (take i out) ∙ ap (λ k. take k out) all)
 
 -- ---- what is taken was put
 
@@ -193,7 +189,7 @@ end_read bytes rest out room i so_far none =
     so_far
     ∙ ap (λ bs. all_behind (take i out) (take_all_numbers (room - i) bs)) (nothing rest none)
     ∙ ap (all_behind (take i out)) (take_all_nil (room - i))
-    ∙ ap Some (append_nil (take i out))
+    ∙ ap Some (append-nil (take i out))
   where
     nothing : (bs : List ℕ) → length bs ≡ 0 → bs ≡ []
     nothing [] e = refl

@@ -8,7 +8,7 @@ use Rattle.definitions.specs.Query.{Terms}
 use Rattle.definitions.specs.Scoring.{greatest_of, phrase_field}
 use Rattle.definitions.specs.Terms.{field_of}
 use Rattle.docsets.specs.ScoredEntries.{greatest_score}
-use Rattle.docsets.specs.ScoredEntryLaws.{by_place}
+use Rattle.definitions.proofs.Lists.{by_order as by_place}
 use Rattle.phrase_weights.specs.ReadTerms.{placed_left}
 use Rattle.phrases.proofs.Adjusted.{adjusted-is}
 use Rattle.phrases.proofs.MeetingEntries.{bound-meeting}

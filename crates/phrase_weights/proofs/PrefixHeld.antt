@@ -21,7 +21,8 @@ use Rattle.segment_reader.specs.Readers.{Contents, dictionary_in, info_in, term_
 use Rattle.segment_reader.specs.declared.term_info.TermInfo.{TermInfo}
 use Rattle.definitions.specs.KeptLengths.{norms_of}
 use Rattle.layouts.specs.InvertedIndexes.{IndexedTerm, term_of_key}
-use Rattle.phrase_weights.proofs.AnyLaws.{any_and, any_filter, any_same}
+use Rattle.phrase_weights.proofs.AnyLaws.{any_and, any_filter}
+use Rattle.definitions.proofs.Lists.{any_same}
 use Rattle.phrase_weights.proofs.PrefixMatches.{AreSuffixes}
 use Rattle.phrase_weights.specs.Suffixes.{suffix_places}
 use Rattle.segment_reader.specs.SegmentReaders.{StandsFor, index_of}

@@ -13,7 +13,8 @@ use Rattle.definitions.specs.Recorded.{ascending, count_of, holds, insert_ascend
 use Rattle.definitions.specs.Schema.{Schema, has_positions}
 use Rattle.definitions.specs.Values.{Document}
 use Rattle.docsets.specs.Members.{entries_at, entries_of}
-use Rattle.phrase_weights.proofs.AnyLaws.{any_and, any_each, any_filter, any_same, any_swap, positive_sum, some_filtered}
+use Rattle.phrase_weights.proofs.AnyLaws.{any_and, any_each, any_filter, any_swap, positive_sum, some_filtered}
+use Rattle.definitions.proofs.Lists.{any_same}
 use Rattle.phrase_weights.proofs.PhraseAnswers.{none_held}
 use Rattle.phrase_weights.proofs.TermsTogether.{read_entry, read_from}
 use Rattle.phrases.specs.Places.{has}

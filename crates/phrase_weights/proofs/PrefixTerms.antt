@@ -11,6 +11,7 @@ use Rattle.std.specs.Ordering.{is_eq, is_ge, is_lt, nat_cmp, ordering_then}
 use Rattle.std.specs.Prelude.{slice_index}
 use Rattle.std.specs.declared.cmp.Ordering.{Ordering}
 use Rattle.std.specs.declared.cmp.Ordering.TheVariants.{Equal, Greater, Less}
+use Rattle.definitions.proofs.Lists.{both_true, cmp_self as is_equal}
 use Rattle.definitions.proofs.PrefixRanges.{end_with, prefix_range}
 use Rattle.definitions.specs.Prefixes.{is_before, is_from, prefix_end}
 use Rattle.docsets.specs.Entries.{Entry}
@@ -30,12 +31,6 @@ use Rattle.segment_reader.specs.declared.segment_reader.SegmentReader.{SegmentRe
 
 -- ---- what begins with a prefix is between it and its end
 
-is_equal : (b : ℕ) → nat_cmp b b ≡ Equal
-is_equal b =
-    let below : nat_lt b b ≡ false = le-ltb b b (omega arith) in
-    let same : (b == b) ≡ true = grind (arith, nat_tests) in
-    ap (λ t. cond t Less (cond (b == b) Equal Greater)) below ∙ ap (λ u. cond u Equal Greater) same
-
 is_less : (b : ℕ) → nat_cmp b (b + 1) ≡ Less
 is_less b = ap (λ t. cond t Less (cond (b == b + 1) Equal Greater)) (lt-ltb b (b + 1) (omega arith))
 
@@ -46,11 +41,6 @@ before_alike b cs None is = go (nat_lt b 255)
     go : (t : Bool) → is_before (if t then Some ((b + 1) ∷ []) else None) (b ∷ cs) ≡ true
     go true = ap (λ o. is_lt (ordering_then o (slice_cmp nat_cmp cs []))) (is_less b)
     go false = refl
-
-both_true : (a b : Bool) → (a && b) ≡ true → (a ≡ true) × (b ≡ true)
-both_true true true is = (refl, refl)
-both_true true false is = absurd (true≢false (sym is))
-both_true false b is = absurd (true≢false (sym is))
 
 begins_there : (p k : List ℕ) → starts_with nat_eq k p ≡ true → (is_from p k ≡ true) × (is_before (prefix_end p) k ≡ true)
 begins_there [] [] is = (refl, refl)

@@ -4,6 +4,7 @@ use Rattle.std.proofs.lemmas.Bool.Decides.{nat_tests}
 use Rattle.std.proofs.lemmas.List.{drop-set-lt, drop_all, drop_more, get_or-drop, length-set, take-set}
 use Rattle.std.proofs.lemmas.List.Filters.{FiltersInPlace, FiltersInPlace-more_no}
 use Rattle.std.proofs.lemmas.List.Folds.{list_any_more}
+use Rattle.definitions.proofs.Lists.{or_false as or-false, or_true as or-true}
 use Rattle.phrases.specs.Places.{has}
 
 -- two positions are the same or they aren't
@@ -15,14 +16,6 @@ is-same q p e = grind (arith, nat_tests, e)
 
 is-apart : (q p : ℕ) → q ≢ p → (q == p) ≡ false
 is-apart q p e = grind (arith, nat_tests, e)
-
-or-true : (b : Bool) → (b || true) ≡ true
-or-true true = refl
-or-true false = refl
-
-or-false : (b : Bool) → (b || false) ≡ b
-or-false true = refl
-or-false false = refl
 
 -- one more is marked
 pub marked-more : (marks : List Bool) (ps : List ℕ) (i : ℕ) → i < length ps → get_or ps i 0 < length marks → ((p : ℕ) → get_or marks p false ≡ has (take i ps) p) → (p : ℕ) → get_or (set marks (get_or ps i 0) true) p false ≡ has (take (i + 1) ps) p

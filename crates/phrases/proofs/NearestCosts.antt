@@ -3,13 +3,10 @@ use Rattle.std.proofs.Common.{[], Bool, List, ap, arith, false, get_or, length, 
 use Rattle.std.proofs.lemmas.Bool.{true≢false}
 use Rattle.std.proofs.lemmas.Bool.Decides.{nat_tests}
 use Rattle.std.proofs.lemmas.List.{get_or-map, length-map}
+use Rattle.definitions.proofs.Lists.{by_order}
 use Rattle.definitions.specs.Phrases.{distance}
 use Rattle.phrases.specs.Costs.{IsGradual, IsInOrder, IsTable, costs, least_cost, nearest}
 use Rattle.phrases.specs.Places.{Ascends}
-
--- a number is no more than another or it is
-by_order : (t d : ℕ) (P : Type 0) → (t ≤ d → P) → (d < t → P) → P
-by_order t d P inside outside = elim (nat_le t d) as (λ b. nat_le t d ≡ b → P) [ true ↦ (λ e. inside (grind (arith, nat_tests, e))) | false ↦ (λ e. outside (grind (arith, nat_tests, e))) ] refl
 
 -- ---- orders
 

@@ -7,7 +7,7 @@ use Rattle.docsets.specs.declared.seek_danger_result.SeekDangerResult.TheVariant
 use Rattle.docsets.specs.Entries.{Entry, IsRest, Rising, first, first_count, first_positions, first_score, from, most_positions, single}
 use Rattle.docsets.proofs.EntryLaws.{from-in, from-out}
 use Rattle.docsets.specs.ScoredEntries.{greatest_score}
-use Rattle.docsets.specs.ScoredEntryLaws.{by_place}
+use Rattle.definitions.proofs.Lists.{by_order as by_place}
 use Rattle.definitions.specs.Postings.{terminated}
 use Rattle.phrases.specs.PhraseEntries.{AreColumns, HaveColumns, longest, longest_column, phrased, placed}
 use Rattle.phrases.specs.Places.{places_of}

@@ -1,7 +1,7 @@
 -- Laws of places as one column.
 use Rattle.std.proofs.Common.{[], ◌-◌, ◌∷◌, ◌≤◌, List, ap, arith, length, ℕ}
 use Rattle.docsets.specs.Entries.{Entry, most_positions}
-use Rattle.docsets.specs.ScoredEntryLaws.{by_place}
+use Rattle.definitions.proofs.Lists.{by_order as by_place}
 use Rattle.phrases.specs.PhraseEntries.{HaveColumns, longest_column, phrased}
 use Rattle.phrases.specs.PhraseEntryLaws.{phrased-none, phrased-some}
 use Rattle.phrases.specs.Places.{places_of}

@@ -4,7 +4,7 @@ use Rattle.std.proofs.lemmas.Bool.Decides.{nat_tests}
 use Rattle.docsets.specs.Entries.{Entry, IsRest, Rising, first, from, most_positions, single}
 use Rattle.docsets.specs.EntryLaws.{Rising-lower}
 use Rattle.docsets.proofs.EntryLaws.{from-in, from-out, most-drop, most-from}
-use Rattle.docsets.specs.ScoredEntryLaws.{by_place}
+use Rattle.definitions.proofs.Lists.{by_order as by_place}
 use Rattle.docsets.proofs.MemberLaws.{entries_at-kept}
 use Rattle.phrases.specs.PrefixEntries.{continued_by, prefixed}
 use Rattle.phrases.specs.PrefixEntry.{counted, follows, most_suffix_positions}

@@ -4,7 +4,7 @@ use Rattle.std.proofs.lemmas.List.{length-take, get_or-map, length-map}
 use Rattle.std.proofs.lemmas.List.Sums.{sum_by-append, sum_by-cons}
 use Rattle.docsets.specs.Entries.{Entry, Rising, first, from}
 use Rattle.docsets.proofs.EntryLaws.{from-first, from-from}
-use Rattle.docsets.specs.ScoredEntryLaws.{by_place}
+use Rattle.definitions.proofs.Lists.{by_order as by_place}
 use Rattle.docsets.proofs.MemberLaws.{entries-kept, entries-low, one-entry}
 use Rattle.docsets.specs.Members.{entries_at, entries_of}
 use Rattle.phrases.specs.Places.{Rises}

@@ -5,7 +5,7 @@ use Rattle.definitions.specs.JsonLeaves.{once}
 use Rattle.definitions.specs.Phrases.{is_reached}
 use Rattle.definitions.specs.Scoring.{DontFall}
 use Rattle.intersections.specs.Columns.{HaveOneColumn}
-use Rattle.docsets.specs.ScoredEntryLaws.{by_place}
+use Rattle.definitions.proofs.Lists.{by_order as by_place}
 use Rattle.phrases.specs.PhraseEntries.{AreColumns, HaveColumns, longest, phrased}
 use Rattle.phrases.specs.PhraseEntryLaws.{phrased-none, phrased-some}
 use Rattle.phrases.specs.Places.{Rises, distinct, places_of}

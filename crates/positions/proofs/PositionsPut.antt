@@ -1,5 +1,5 @@
 -- Positions that are put, block by block.
-use Rattle.std.proofs.Common.{[], List, ap, ap₂, append_assoc, drop, length, refl, subst, sym, take, ◌*◌, ◌++◌, ◌<◌, ◌≡◌, ◌∙◌, ◌∷◌, ℕ}
+use Rattle.std.proofs.Common.{[], List, ap, append-nil, ap₂, append_assoc, drop, length, refl, subst, sym, take, ◌*◌, ◌++◌, ◌<◌, ◌≡◌, ◌∙◌, ◌∷◌, ℕ}
 use Rattle.std.proofs.Math.Seq.{drop-append_seam, take-append_seam}
 use Rattle.positions.specs.PositionBlocks.{AreSmall}
 use Rattle.definitions.specs.NumberCodes.{sized_bytes}
@@ -30,15 +30,11 @@ goes_more numbers widths packed rest bytes w goes block ws bs blocks =
     let Q : List ℕ → Type 0 = λ xs. AreBlocks ((widths ++ w ∷ []) ++ ws) numbers xs in
     subst Q (sym (append_assoc packed bytes bs)) (subst P (sym (append_assoc widths (w ∷ []) ws)) all)
 
-append_nil : (xs : List ℕ) → xs ++ [] ≡ xs
-append_nil [] = refl
-append_nil (x ∷ xs) = ap (λ ys. x ∷ ys) (append_nil xs)
-
 -- and the rest
 pub goes_all : (numbers widths packed rest : List ℕ) → Goes numbers widths packed rest → length rest < 128 → AreBlocks widths numbers (packed ++ numbers_bytes rest)
 goes_all numbers widths packed rest goes few =
     let P : List ℕ → Type 0 = λ xs. AreBlocks xs numbers (packed ++ numbers_bytes rest) in
-    subst P (append_nil widths) (goes [] (numbers_bytes rest) (few, refl))
+    subst P (append-nil widths) (goes [] (numbers_bytes rest) (few, refl))
 
 -- the positions of a term
 pub positions_put : (numbers widths packed : List ℕ) → AreSmall numbers → AreBlocks widths numbers packed → ArePositions numbers (sized_bytes widths ++ packed)

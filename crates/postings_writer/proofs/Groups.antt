@@ -3,6 +3,7 @@ use Rattle.std.proofs.Common.{[], ◌++◌, ◌+◌, ◌-◌, ◌<◌, ◌^◌, 
 use Rattle.std.proofs.lemmas.Bool.Decides.{nat_tests}
 use Rattle.std.proofs.lemmas.List.{length-map}
 use Rattle.std.proofs.lemmas.Option.{get_or_from_slice_get, slice_get_within}
+use Rattle.definitions.proofs.Lists.{nat_same as same}
 use Rattle.postings_writer.specs.Occurrences.{by_document, counts_of, docs_of, ends_in, grouped, last_count}
 
 -- one place more, at the end
@@ -10,10 +11,6 @@ abbrev pub extended : List (ℕ × List ℕ) → ℕ × ℕ → List (ℕ × Lis
 extended [] p = (p.0, p.1 ∷ []) ∷ []
 extended (g ∷ []) p = cond (nat_eq g.0 p.0) ((g.0, g.1 ++ p.1 ∷ []) ∷ []) (g ∷ (p.0, p.1 ∷ []) ∷ [])
 extended (g ∷ h ∷ gs) p = g ∷ extended (h ∷ gs) p
-
--- equal where the test says so
-same : (a b : ℕ) → nat_eq a b ≡ true → a ≡ b
-same a b e = grind (arith, nat_tests)
 
 -- one of two lists of groups
 abbrev pick : Bool → List (ℕ × List ℕ) → List (ℕ × List ℕ) → List (ℕ × List ℕ)

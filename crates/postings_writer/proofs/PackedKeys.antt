@@ -6,13 +6,10 @@ use Rattle.std.proofs.Math.Nat.{div-div-eq-div-mul, div-lt_iff_lt-mul, pow-suc}
 use Rattle.std.proofs.lemmas.Nat.{mod-mul-add, pow-add}
 use Rattle.std.proofs.Math.Seq.{take-append_seam}
 use Rattle.std.proofs.lemmas.List.{append_assoc, drop-drop, length-append, length-drop, take-append-drop, take_rest}
+use Rattle.definitions.proofs.Lists.{base_pos as pow_pos, byte_is}
 use Rattle.postings_writer.specs.PackedKeys.{IsShort, key_of, packed, padded, unpacked, worth}
 
 -- ---- bytes of a number
-
-byte_is : (k n : ℕ) → byte_at k n ≡ n / 256 ^ k % 256
-byte_is zero n = omega arith
-byte_is (suc k) n = refl
 
 -- the number in front of so many bytes
 front : (n : ℕ) (bs : List ℕ) → AllByRecursion (λ b. b < 256) bs → worth n bs / 256 ^ length bs ≡ n
@@ -132,10 +129,6 @@ worth_zeros n (suc k) = worth_zeros (n * 256 + 0) k ∙ shifted n (256 ^ k) ∙ 
 
     shifted : (n p : ℕ) → (n * 256 + 0) * p ≡ n * (p * 256)
     shifted n p = ap (λ m. m * p) (plus_zero (n * 256)) ∙ mul_assoc n 256 p ∙ ap (λ q. n * q) (mul_comm 256 p)
-
-pow_pos : (k : ℕ) → 0 < 256 ^ k
-pow_pos zero = omega arith
-pow_pos (suc k) = (let here = pow_pos k in let power = pow-suc 256 k in omega arith)
 
 -- bytes alone are below the power of their number
 worth_below : (bs : List ℕ) → AllByRecursion (λ b. b < 256) bs → worth 0 bs < 256 ^ length bs

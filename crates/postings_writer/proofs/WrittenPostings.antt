@@ -334,11 +334,6 @@ sum_refused fault w was block doc count id n docs counts seen is counted held fu
         let same = ap sum whole in
         absurd (omega arith)
 
--- from what holds of an error
-pub on_err : {T E : Type 0} (r : Result T E) (P Q : E → Type 0) → ((e : E) → P e → Q e) → IfErr r P → IfErr r Q
-on_err (Ok x) P Q f p = tt
-on_err (Err e) P Q f p = f e p
-
 -- of two facts on `Ok` another one
 pub on_ok_both : {T E P Q R : Type 0} (r : Result T E) → (P → Q → R) → OnOk r P → OnOk r Q → OnOk r R
 on_ok_both (Ok x) f p q = f p q

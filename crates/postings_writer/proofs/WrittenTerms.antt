@@ -15,6 +15,7 @@ use Rattle.layouts.specs.TermPostings.{ArePosted, SumsFit, postings_bytes}
 use Rattle.postings_writer.specs.FieldWriting.{FieldWriting, IsCloseRefusal, IsClosed, IsOpen, MeetsLimit, Terms, inserted, postings_of}
 use Rattle.postings_writer.specs.TermWriting.{IsSumRefusal, recorded_count}
 use Rattle.std.proofs.lemmas.List.{drop-append-le, drop_all, length-drop, length-map, take-append-le}
+use Rattle.definitions.proofs.Lists.{all_after as all_behind}
 use Rattle.definitions.specs.Schema.{with_freqs_and_positions}
 use Rattle.definitions.specs.Blocks.{block_len}
 use Rattle.postings_writer.specs.Limits.{CountsPass, SumsPass, TermPasses}
@@ -122,10 +123,6 @@ pub all_counted : (was now : FieldWriting) (all rest : List Posting) → Written
 all_counted was now all rest before none = subst (λ ps. now.total_term_freq ≡ was.total_term_freq + tokens_in ps) (written_all was now all rest before none) before.total
 
 -- ---- what is refused
-
-all_behind : {A : Type 0} (P : A → Type 0) (xs ys : List A) → AllByRecursion P (xs ++ ys) → AllByRecursion P ys
-all_behind P [] ys all = all
-all_behind P (x ∷ xs) ys all = all_behind P xs ys all.1
 
 -- a count of what is left is one of all
 count_passes : (was now : FieldWriting) (all rest : List Posting) → Written was now all rest → CountsPass rest → CountsPass all

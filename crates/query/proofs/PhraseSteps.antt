@@ -16,6 +16,7 @@ use Rattle.query_trees.specs.PhraseTerms.{are_phrase_terms}
 use Rattle.serde_json.specs.Data as json
 use Rattle.serde_json.specs.Find.{get}
 use Rattle.std.proofs.Common.{codes}
+use Rattle.definitions.proofs.Lists.{equal_self as is_itself}
 
 -- ---- terms with as many offsets
 
@@ -30,9 +31,6 @@ as_many [] [] same = refl
 as_many [] (t ∷ ts) same = absurd (omega (arith, same))
 as_many (o ∷ os) [] same = absurd (omega (arith, same))
 as_many (o ∷ os) (t ∷ ts) same = ap suc (as_many os ts (omega (arith, same)))
-
-is_itself : (n : ℕ) → (n == n) ≡ true
-is_itself n = grind (arith, nat_tests)
 
 some_more : (n : ℕ) → nat_le 2 (suc n) ≡ nat_lt 0 n
 some_more n = grind (arith, nat_tests)

@@ -7,6 +7,7 @@ use Rattle.std.specs.Bool.{⊤}
 use Rattle.std.specs.Option.{option_map_or}
 use Rattle.std.proofs.lemmas.Bool.Decides.{nat_tests}
 use Rattle.std.proofs.lemmas.Bool.{cases_lt}
+use Rattle.definitions.proofs.Lists.{both_true as both_parts}
 use Rattle.definitions.specs.Phrases.{by_offset, insert_by_offset, last_and_rest, whole_terms}
 use Rattle.definitions.specs.Query.{Terms}
 use Rattle.definitions.specs.Scoring.{phrase_field}
@@ -200,10 +201,6 @@ pub sorted_row : (least : ℕ) (ts : List (List ℕ)) → ArePhraseTerms least (
 sorted_row least ts h = record { phrase = h; sorted = by_offset_kept (enumerate_from 0 ts) (rows_rise 0 ts) }
 
 -- ---- what a test of terms tells
-
-both_parts : (a b : Bool) → (a && b) ≡ true → (a ≡ true) × (b ≡ true)
-both_parts true b h = (refl, h)
-both_parts false b h = absurd (true≢false (sym h))
 
 all_told : (field : ℕ) (ts : Terms) → list_all (λ t. field_of t.1 == field) ts ≡ true → AllByRecursion (λ t. field_of t.1 ≡ field) ts
 all_told field [] h = tt

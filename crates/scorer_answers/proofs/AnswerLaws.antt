@@ -12,7 +12,7 @@ use Rattle.definitions.specs.ScoredLists.{documents_of}
 use Rattle.definitions.specs.Scoring.{Similarity, score}
 use Rattle.definitions.specs.Values.{Document}
 use Rattle.docsets.specs.ScoredEntries.{pairs_of}
-use Rattle.docsets.specs.ScoredEntryLaws.{by_place}
+use Rattle.definitions.proofs.Lists.{by_order as by_place}
 use Rattle.node_scorers.specs.Scores.{Scores}
 use Rattle.scorer_answers.specs.Matching.{Matches, matching}
 use Rattle.segment_reader.specs.SegmentReaders.{max_doc_of}

@@ -5,7 +5,7 @@ use Rattle.std.proofs.lemmas.List.{append-nil, get_or_past}
 use Rattle.definitions.specs.Postings.{terminated}
 use Rattle.definitions.specs.Scoring.{max_score}
 use Rattle.docsets.specs.Entries.{Entry, first, from}
-use Rattle.docsets.specs.ScoredEntryLaws.{by_place}
+use Rattle.definitions.proofs.Lists.{by_order as by_place}
 use Rattle.docsets.specs.Members.{at_least, combining, enough, entries_at, least, scores_in, with_score}
 use Rattle.docsets.proofs.MemberLaws.{entries_at-cut, entries_at-kept, least-cut, listed-end, listed-found, listed-same, listed-skip, listed-stands}
 use Rattle.scorers.specs.Windows.{IsFilling, IsStanding, IsWindow, entry_ahead, held, is_ahead, score_ahead, windowed}

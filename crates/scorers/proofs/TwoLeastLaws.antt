@@ -6,7 +6,7 @@ use Rattle.std.proofs.lemmas.List.{length-append, length-map, take-append-le}
 use Rattle.definitions.specs.Postings.{terminated}
 use Rattle.docsets.specs.Entries.{Entry, Rising, first, from}
 use Rattle.docsets.proofs.EntryLaws.{first_at_most, from-first, from-from}
-use Rattle.docsets.specs.ScoredEntryLaws.{by_place}
+use Rattle.definitions.proofs.Lists.{by_order as by_place}
 use Rattle.docsets.proofs.AtLeastLaws.{chosen-from, too_few}
 use Rattle.docsets.proofs.LeaderLaws.{least-last, one-on}
 use Rattle.docsets.proofs.MemberLaws.{entries-least, entries-low, entries_at-kept, from-listed, has-least, least-get, listed-skip, one-entry}

@@ -6,7 +6,7 @@ use Rattle.definitions.specs.Postings.{terminated}
 use Rattle.docsets.specs.Entries.{Entry, Rising, first, first_count, first_positions, from, highest, most_positions, single}
 use Rattle.docsets.proofs.EntryLaws.{most-from}
 use Rattle.docsets.specs.CombiningLaws.{sum-cons}
-use Rattle.docsets.specs.ScoredEntryLaws.{by_place}
+use Rattle.definitions.proofs.Lists.{by_order as by_place}
 use Rattle.docsets.proofs.AtLeastLaws.{chosen-here}
 use Rattle.docsets.specs.Distinct.{distinct, holds}
 use Rattle.docsets.proofs.DistinctLaws.{distinct-same, holds-append, holds-distinct, length-distinct, moved-same}

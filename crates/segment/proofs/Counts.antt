@@ -47,12 +47,6 @@ count_front zero ms = omega arith
 count_front (suc k) [] = omega arith
 count_front (suc k) (m ∷ ms) = (let later = count_front k ms in omega (arith, later))
 
-pub take_whole : {X : Type 0} (k : ℕ) (xs : List X) → length xs ≤ k → take k xs ≡ xs
-take_whole zero [] long = refl
-take_whole zero (x ∷ xs) long = absurd (omega (arith, long))
-take_whole (suc k) [] long = refl
-take_whole (suc k) (x ∷ xs) long = ap (λ ys. x ∷ ys) (take_whole k xs (omega (arith, long)))
-
 -- one member more, of what is made of each
 pub mapped_more : {X Y : Type 0} (f : X → Y) (k : ℕ) (xs : List X) (x : X) → x ≡ slice_index_or xs k x → k < length xs → map f (take (k + 1) xs) ≡ map f (take k xs) ++ f x ∷ []
 mapped_more {X = X} f k xs x is within = ap (λ n. map f (take n xs)) (let e : k + 1 ≡ suc k = omega arith in e) ∙ go k xs within ∙ ap (λ y. map f (take k xs) ++ f y ∷ []) (sym is)

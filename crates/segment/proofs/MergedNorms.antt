@@ -4,6 +4,7 @@ use Rattle.std.proofs.lemmas.Bool.Decides.{nat_tests}
 use Rattle.std.proofs.lemmas.List.{length-map}
 use Rattle.std.specs.List.{AllByRecursion, items_where_true, list_any}
 use Rattle.std.specs.Option.{option_map_or}
+use Rattle.definitions.proofs.Lists.{or_true}
 use Rattle.definitions.specs.Alive.{Segment, live}
 use Rattle.definitions.specs.Analyzers.{Analyzer}
 use Rattle.definitions.specs.KeptLengths.{length_fields, norms_of}
@@ -36,10 +37,6 @@ standing_opened schema analyze (m ∷ ms) (rows ∷ segments) stand =
 any_name : (field : ℕ) (norms : List (ℕ × List ℕ)) → list_any (λ (p : ℕ × List ℕ). p.0 == field) norms ≡ list_any (λ n. n == field) (map (λ (p : ℕ × List ℕ). p.0) norms)
 any_name field [] = refl
 any_name field (p ∷ norms) = ap (λ b. (p.0 == field) || b) (any_name field norms)
-
-or_true : (b : Bool) → (b || true) ≡ true
-or_true true = refl
-or_true false = refl
 
 each_among : (whole xs : List ℕ) → ((x : ℕ) → list_any (λ n. n == x) xs ≡ true → list_any (λ n. n == x) whole ≡ true) → AllByRecursion (λ x. list_any (λ n. n == x) whole ≡ true) xs
 each_among whole [] up = tt

@@ -126,5 +126,3 @@ cut_dead (suc i) (b ∷ left) (flag ∷ flags) l e a = ap (λ more. (flag && b) 
 
 -- ---- deletions one after the other
 
-pub all_first : {X : Type 0} (P : X → Type 0) (xs : List X) (x : X) (rest : List X) → xs ≡ x ∷ rest → AllByRecursion P xs → P x × AllByRecursion P rest
-all_first P xs x rest e h = subst (AllByRecursion P) e h

@@ -4,17 +4,12 @@ use Rattle.std.specs.Int.{from_le_bytes, w32, w64}
 use Rattle.std.specs.List.{AllByRecursion}
 use Rattle.std.proofs.lemmas.Nat.{from_le_bytes-to_le_bytes_4, from_le_bytes-to_le_bytes_8}
 use Rattle.std.proofs.Math.Seq.{drop-append_seam, take-append_seam}
+use Rattle.definitions.proofs.Lists.{head_of, tail_of}
 use Rattle.definitions.specs.NumberCodes.{u32_bytes, u64_bytes}
 use Rattle.layouts.specs.AliveSets.{alive_bytes}
 use Rattle.segment_definitions.specs.SegmentBodies.{Fits, Part, fresh, kept, part_bytes, segments_body}
 
 -- ---- what stands first
-
-tail_of : (a b : ℕ) (xs ys : List ℕ) → a ∷ xs ≡ b ∷ ys → xs ≡ ys
-tail_of a b xs ys e = cc
-
-head_of : (a b : ℕ) (xs ys : List ℕ) → a ∷ xs ≡ b ∷ ys → a ≡ b
-head_of a b xs ys e = cc
 
 pub one_u32 : (m n : ℕ) (r s : List ℕ) → m < 2 ^ 32 → n < 2 ^ 32 → u32_bytes m ++ r ≡ u32_bytes n ++ s → (m ≡ n) × (r ≡ s)
 one_u32 m n r s small_m small_n same =

@@ -230,10 +230,6 @@ code_is n = go (nat_lt 254 n) refl
 
 -- ---- how long blocks are
 
-pub empty_list : (xs : List ℕ) → length xs ≡ 0 → xs ≡ []
-empty_list [] none = refl
-empty_list (x ∷ xs) none = absurd (omega (arith, none))
-
 pub docs_long : (ids : List ℕ) (num_docs next : ℕ) (e : SkipEntry) (docs bytes : List ℕ) → num_docs ≤ 2 ^ 32 → IsDocBlock ids num_docs next e docs bytes → length bytes ≡ 16 * e.doc_width
 docs_long ids num_docs next e docs bytes few b =
     let small = below_all (2 ^ 32) docs (omega arith) (wider num_docs (2 ^ 32) docs few b.are.within) in

@@ -3,6 +3,7 @@ use Rattle.std.proofs.Common.{[], Bool, List, Some, ap, ap₂, arith, false, if�
 use Rattle.std.proofs.lemmas.Bool.{cases_lt}
 use Rattle.std.proofs.lemmas.List.{length-map}
 use Rattle.std.specs.List.{AllByRecursion}
+use Rattle.definitions.proofs.Lists.{no_numbers}
 use Rattle.segment_postings.specs.Placed.{term_of}
 use Rattle.positions.proofs.PositionNumbers.{same_documents}
 use Rattle.positions.proofs.PositionsOpened.{one_list}
@@ -65,10 +66,6 @@ falls_of recorded num_docs (p ∷ ps) each = (each.0.placed, falls_of recorded n
 lengths_of : (num_docs : ℕ) (ps : List Posting) → AllByRecursion (IsPosting true num_docs) ps → map length (map (λ (p : Posting). p.positions) ps) ≡ map (λ (p : Posting). p.count) ps
 lengths_of num_docs [] each = refl
 lengths_of num_docs (p ∷ ps) each = ap₂ (λ x xs. x ∷ xs) each.0.counted (lengths_of num_docs ps each.1)
-
-no_numbers : (xs : List ℕ) → length xs ≡ 0 → xs ≡ []
-no_numbers [] none = refl
-no_numbers (x ∷ xs) none = absurd (omega (arith, none))
 
 both_empty : (num_docs : ℕ) (ps qs : List Posting) → length ps ≡ length qs → AllByRecursion (IsPosting false num_docs) ps → AllByRecursion (IsPosting false num_docs) qs → map (λ (p : Posting). p.positions) ps ≡ map (λ (p : Posting). p.positions) qs
 both_empty num_docs [] [] long first second = refl

@@ -4,6 +4,7 @@ use Rattle.std.proofs.Math.Seq.{drop-append_seam, take-append_seam}
 use Rattle.std.proofs.lemmas.List.{length-map, take-append-drop}
 use Rattle.std.proofs.lemmas.List.Sums.{sum_by-cons}
 use Rattle.std.specs.List.{AllByRecursion}
+use Rattle.definitions.proofs.Lists.{no_numbers}
 use Rattle.segment_postings.specs.Placed.{AreBounded, HasNumbers, term_of}
 use Rattle.segment_postings.specs.Terms.{HasTerm}
 use Rattle.definitions.specs.Postings.{Posting}
@@ -83,10 +84,6 @@ lists_cut (n ∷ ns) numbers many bounded =
       places_below (2 ^ 31) 0 (take n numbers) (omega (arith, few)),
       lists_cut ns (drop n numbers) (omega (arith, length-drop n numbers, many, total)) bounded.1,
     )
-
-no_numbers : (xs : List ℕ) → length xs ≡ 0 → xs ≡ []
-no_numbers [] none = refl
-no_numbers (x ∷ xs) none = absurd (omega (arith, none))
 
 numbers_cut : (counts numbers : List ℕ) → length numbers ≡ sum counts → position_numbers (cut counts numbers) ≡ numbers
 numbers_cut [] numbers many = sym (no_numbers numbers many)

@@ -3,6 +3,7 @@ use Rattle.std.proofs.Common.{[], Bool, List, None, Option, Some, ap, arith, byt
 use Rattle.std.proofs.lemmas.Slice.Eq.{bytes_eq-Decides}
 use Rattle.std.specs.List.{AllByRecursion, list_any}
 use Rattle.std.specs.Option.{option_map_or}
+use Rattle.definitions.proofs.Lists.{all_append as all_joined, bytes_swap as same_way}
 use Rattle.definitions.specs.Postings.{Posting}
 use Rattle.definitions.specs.Schema.{Schema}
 use Rattle.layouts.specs.InvertedIndexes.{AreGiven, HasPostingsOf, IndexedField, IndexedTerm, all_terms, term_of_key}
@@ -22,10 +23,6 @@ rows schema fields = flat_map (λ (f : IndexedField). map (row schema f.field) f
 abbrev IsGiven : (List ℕ → List Posting) → Row → Type 0
 IsGiven given p = p.1.postings ≡ given p.0
 
-all_joined : {X : Type 0} (P : X → Type 0) (xs ys : List X) → AllByRecursion P xs → AllByRecursion P ys → AllByRecursion P (xs ++ ys)
-all_joined P [] ys a b = b
-all_joined P (x ∷ xs) ys a b = (a.0, all_joined P xs ys a.1 b)
-
 row_given : (given : List ℕ → List Posting) (schema : Schema) (field : ℕ) (xs : List IndexedTerm) → AllByRecursion (λ (x : IndexedTerm). x.postings ≡ given (term_of_key schema field x.key)) xs → AllByRecursion (IsGiven given) (map (row schema field) xs)
 row_given given schema field [] all = tt
 row_given given schema field (x ∷ xs) all = (all.0, row_given given schema field xs all.1)
@@ -43,15 +40,6 @@ terms_of_rows schema (f ∷ fields) = go f.terms (terms_of_rows schema fields)
     go : (xs : List IndexedTerm) → map (λ (p : Row). p.0) (rows schema fields) ≡ all_terms schema fields → map (λ (p : Row). p.0) (map (row schema f.field) xs ++ rows schema fields) ≡ map (λ (x : IndexedTerm). term_of_key schema f.field x.key) xs ++ all_terms schema fields
     go [] rest = rest
     go (x ∷ xs) rest = ap (λ ts. term_of_key schema f.field x.key ∷ ts) (go xs rest)
-
-same_way : (s t : List ℕ) → bytes_eq s t ≡ bytes_eq t s
-same_way s t = go (bytes_eq s t) (bytes_eq t s) refl refl
-  where
-    go : (a b : Bool) → bytes_eq s t ≡ a → bytes_eq t s ≡ b → a ≡ b
-    go true true p q = refl
-    go false false p q = refl
-    go true false p q = absurd (true≢false (sym ((bytes_eq-Decides t s).1 (sym ((bytes_eq-Decides s t).0 p))) ∙ q))
-    go false true p q = absurd (true≢false (sym ((bytes_eq-Decides s t).1 (sym ((bytes_eq-Decides t s).0 q))) ∙ p))
 
 none_any : (t : List ℕ) (ps : List Row) → find (λ (p : Row). bytes_eq p.0 t) ps ≡ None → list_any (bytes_eq t) (map (λ (p : Row). p.0) ps) ≡ false
 none_any t [] none = refl

@@ -4,6 +4,7 @@ use Rattle.std.proofs.Math.Logic.{∥∥₁_elim, ∥∥₁_map}
 use Rattle.std.proofs.lemmas.List.{drop-map, take-map}
 use Rattle.std.specs.Bool.{⊤}
 use Rattle.std.specs.List.{AllByRecursion, prefix_len}
+use Rattle.definitions.proofs.Lists.{all_drop as all_dropped, all_take as all_taken}
 use Rattle.layouts.specs.TermSections.{TermsAscend}
 use Rattle.segment_reader.proofs.Found.{ascends}
 use Rattle.segment_reader.proofs.Ordered.{InfoFits-prop, behind, below_before}
@@ -89,16 +90,6 @@ range_is bs starts start end n m last known first second is =
     ∙ ap (λ k. take (last - n) (drop k terms)) first
     ∙ ap (λ k. take k (drop (prefix_len (λ (t : Placed). is_below start t.0) terms) terms)) long
     ∙ sym whole
-
-all_taken : {X : Type 0} (P : X → Type 0) (n : ℕ) (xs : List X) → AllByRecursion P xs → AllByRecursion P (take n xs)
-all_taken P zero xs all = tt
-all_taken P (suc n) [] all = tt
-all_taken P (suc n) (x ∷ xs) all = (all.0, all_taken P n xs all.1)
-
-all_dropped : {X : Type 0} (P : X → Type 0) (n : ℕ) (xs : List X) → AllByRecursion P xs → AllByRecursion P (drop n xs)
-all_dropped P zero xs all = all
-all_dropped P (suc n) [] all = tt
-all_dropped P (suc n) (x ∷ xs) all = all_dropped P n xs all.1
 
 pub part_fits : (bs : List ℕ) (starts : List TermStart) (n k : ℕ) → AllFit (terms_at bs starts) → AllFit (terms_at bs (take k (drop n starts)))
 part_fits bs starts n k all =

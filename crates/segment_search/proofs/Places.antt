@@ -43,15 +43,3 @@ all_at P [] i x h l e = absurd (omega (arith, l))
 all_at P (y ∷ xs) zero x h l e = subst P (sym e) h.0
 all_at P (y ∷ xs) (suc i) x h l e = all_at P xs i x h.1 (omega (arith, l)) e
 
-pub all_more : {X : Type 0} (P : X → Type 0) (xs : List X) (x : X) → AllByRecursion P xs → P x → AllByRecursion P (xs ++ x ∷ [])
-all_more P [] x h p = (p, tt)
-all_more P (y ∷ xs) x h p = (h.0, all_more P xs x h.1 p)
-
--- of what is left, the first and the others
-pub all_first : {X : Type 0} (P : X → Type 0) (xs : List X) (x : X) (rest : List X) → xs ≡ x ∷ rest → AllByRecursion P xs → P x × AllByRecursion P rest
-all_first P xs x rest e h = subst (AllByRecursion P) e h
-
-pub all_take : {X : Type 0} (P : X → Type 0) (n : ℕ) (xs : List X) → AllByRecursion P xs → AllByRecursion P (take n xs)
-all_take P zero xs h = tt
-all_take P (suc n) [] h = tt
-all_take P (suc n) (x ∷ xs) h = (h.0, all_take P n xs h.1)

@@ -4,6 +4,7 @@ use Rattle.std.specs.Int.{byte_at, bytes_high_first, from_be_bytes, to_be_bytes,
 use Rattle.std.specs.Net.Addr.{IsIpv6OfBits, ipv6_bits, octets_of, segments_of}
 use Rattle.std.specs.declared.net.ipv6_addr.Ipv6Addr.{Ipv6Addr}
 use Rattle.std.proofs.Math.Nat.{div-div-eq-div-mul, pow-suc}
+use Rattle.definitions.proofs.Lists.{byte_is, high_octet, low_octet}
 
 -- ---- octets of segments
 
@@ -13,12 +14,6 @@ byte_below (suc i) n = go (n / 256 ^ suc i)
   where
     go : (m : ℕ) → m % 256 < 256
     go m = omega arith
-
-high_octet : (a b : ℕ) → b < 256 → (a * 256 + b) / 256 ≡ a
-high_octet a b h = omega arith
-
-low_octet : (a b : ℕ) → b < 256 → (a * 256 + b) % 256 ≡ b
-low_octet a b h = omega arith
 
 abbrev double : ℕ → ℕ
 double zero = zero
@@ -35,10 +30,6 @@ octets_back (suc k) n =
     ∙ ap₂ (λ a b. a ∷ b ∷ bytes_high_first (double k) n) (high_octet high low below) (low_octet high low below)
 
 -- ---- the number of bytes
-
-byte_is : (k n : ℕ) → byte_at k n ≡ n / 256 ^ k % 256
-byte_is zero n = omega arith
-byte_is (suc k) n = refl
 
 -- a number's higher digits, and then its bytes
 next_byte : (n p : ℕ) → n / (p * 256) * 256 + n / p % 256 ≡ n / p

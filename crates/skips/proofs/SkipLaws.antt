@@ -7,6 +7,7 @@ use Rattle.std.proofs.lemmas.Nat.{from_le_bytes-to_le_bytes_4}
 use Rattle.std.specs.Option.{option_map_or}
 use Rattle.common.proofs.TakenBack.{count_back, u32_put}
 use Rattle.std.specs.Int.{from_le_bytes, w32}
+use Rattle.definitions.proofs.Lists.{and_first, and_second as and_last}
 use Rattle.packed_blocks.proofs.VintLists.{last_bytes}
 use Rattle.skips.specs.SkipBlocks.{are_skips, entries_of, take_byte, take_entries, take_entry, take_where}
 use Rattle.definitions.specs.Json.{◌>>=◌}
@@ -171,14 +172,6 @@ entry_back false false e rest fits =
     ap (take_entry false false) (sym (spelled false false e rest))
     ∙ ap (with_last false false) (u32_back e.last_doc (e.doc_width ∷ (e.least_id ∷ (e.greatest_count ∷ rest))) fits.last)
     ∙ ap₂ (λ w s. made e rest e.last_doc w s) (sym (fits.width refl)) (sym (fits.none refl))
-
-and_first : (a b : Bool) → (a && b) ≡ true → a ≡ true
-and_first true b h = refl
-and_first false b h = h
-
-and_last : (a b : Bool) → (a && b) ≡ true → b ≡ true
-and_last true b h = h
-and_last false b h = absurd cc
 
 entries_back : (c p : Bool) (least : ℕ) (es : List SkipEntry) → are_entries c p least es ≡ true → take_entries c p (length es) (skip_bytes c p es) ≡ Some es
 entries_back c p least [] sound = refl

@@ -9,6 +9,7 @@ use Rattle.common.proofs.VintDigits.{vint_high, vint_low}
 use Rattle.layouts.specs.Stores.{Adjoin, byte_end, doc_end, extent_bytes, group_bytes}
 use Rattle.layouts.specs.declared.checkpoint.Checkpoint.{Checkpoint}
 use Rattle.std.proofs.Common.{inl, inr}
+use Rattle.definitions.proofs.Lists.{map_some as mapped}
 use Rattle.definitions.specs.declared.fault.Fault.{Fault}
 use Rattle.store.specs.TakenGroups.{IsDamage, IsGroup, reach, take_extent, take_extents, take_group}
 use Rattle.store.proofs.Blocks.{bytes_right}
@@ -23,10 +24,6 @@ bound (Some x) f y e = (x, refl, e)
 pub passed : {A : Type 0} (b : Bool) (o : Option A) (y : A) → only_if b o ≡ Some y → (b ≡ true) × (o ≡ Some y)
 passed true o y e = (refl, e)
 passed false o y e = cc
-
-pub mapped : {A B : Type 0} (f : A → B) (o : Option A) (y : B) → option_map f o ≡ Some y → (x : A) × (o ≡ Some x) × (f x ≡ y)
-mapped f None y e = cc
-mapped f (Some x) y e = (x, refl, (let h : f x ≡ y = cc in h))
 
 pub both : (x y : Bool) → x && y ≡ true → (x ≡ true) × (y ≡ true)
 both true true e = (refl, refl)

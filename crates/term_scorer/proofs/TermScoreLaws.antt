@@ -4,7 +4,7 @@ use Rattle.docsets.specs.Entries.{Entry, IsRest, first, first_count, first_score
 use Rattle.docsets.proofs.EntryLaws.{from-in, from-out}
 use Rattle.definitions.specs.Postings.{terminated}
 use Rattle.docsets.specs.ScoredEntries.{greatest_score}
-use Rattle.docsets.specs.ScoredEntryLaws.{by_place}
+use Rattle.definitions.proofs.Lists.{by_order as by_place}
 use Rattle.term_scorer.specs.TermScores.{TermSimilarity, documents_bound, score_by, term_scored}
 use Rattle.term_scorer.specs.TermScoreLaws.{score-below}
 

@@ -2,14 +2,8 @@
 use Rattle.std.proofs.Common.{[], ◌%◌, ◌*◌, ◌+◌, ◌/◌, ◌<◌, ◌∙◌, ◌∷◌, ◌≡◌, List, ap, arith, get_or, length, refl, ℕ}
 use Rattle.std.specs.Int.{from_be_bytes, w128, w32}
 use Rattle.std.specs.Net.Addr.{octets_of, segments_of}
+use Rattle.definitions.proofs.Lists.{high_octet, low_octet}
 use Rattle.definitions.specs.Addresses.{mapped}
-
--- two octets of a segment are its octets
-high_octet : (a b : ℕ) → b < 256 → (a * 256 + b) / 256 ≡ a
-high_octet a b h = omega arith
-
-low_octet : (a b : ℕ) → b < 256 → (a * 256 + b) % 256 ≡ b
-low_octet a b h = omega arith
 
 octets_back : (a b c d : ℕ) → b < 256 → d < 256 → octets_of (segments_of (a ∷ b ∷ c ∷ d ∷ [])) ≡ a ∷ b ∷ c ∷ d ∷ []
 octets_back a b c d hb hd = rw (high_octet a b hb, low_octet a b hb, high_octet c d hd, low_octet c d hd) refl

@@ -13,6 +13,7 @@ use Rattle.std.proofs.Math.Nat.{mod-eq_of_lt, mul-le-mul_right, pos_of_ne-zero, 
 use Rattle.std.proofs.lemmas.Cmp.{by_ranked, int_ranked, ranked}
 use Rattle.std.proofs.lemmas.Int.{ints}
 use Rattle.std.proofs.lemmas.Nat.{mod_below}
+use Rattle.definitions.proofs.Lists.{base_pos, byte_is}
 use Rattle.definitions.specs.Schema.{Kind}
 use Rattle.definitions.specs.Terms.{signed_bytes, term_bytes, type_code, whole_seconds}
 
@@ -46,14 +47,6 @@ two_digits a b r s base small below =
         (λ is h. less (high + r) (high + s) (omega arith) ∙ sym is)
         (λ is h. equal (high + r) (high + s) (omega arith) ∙ sym is)
         (λ is h. greater (high + r) (high + s) (omega arith) ∙ sym is)
-
-byte_is : (k n : ℕ) → byte_at k n ≡ n / 256 ^ k % 256
-byte_is zero n = ap (λ m. m % 256) (let same : n ≡ n / 1 = omega arith in same)
-byte_is (suc k) n = refl
-
-base_pos : (k : ℕ) → 0 < 256 ^ k
-base_pos zero = lit< tt
-base_pos (suc k) = rw (pow-succ' 256 k) (let rest = base_pos k in omega (arith, rest))
 
 split : (k n : ℕ) → n % 256 ^ suc k ≡ (n / 256 ^ k % 256) * 256 ^ k + n % 256 ^ k
 split k n = ap (λ base. n % base) (pow-succ' 256 k) ∙ mod-mul n (lit< tt) (base_pos k)

@@ -9,7 +9,8 @@ use Rattle.std.proofs.lemmas.Bool.Decides.{nat_tests}
 use Rattle.std.proofs.lemmas.Fmt.{decimal_nonempty}
 use Rattle.std.proofs.lemmas.Option.{cond_some, none-some, option_and_then_some, same_Some, some_pair_parts}
 use Rattle.definitions.specs.Addresses.{address_in, eight_groups, filled, groups_in, groups_of, joined, mapped, parts_at, quad_in, round_gap}
-use Rattle.values_json.proofs.GroupTexts.{after_colon, dotted_lacks_colon, lacks_colon, map_some, parts_read, parts_written}
+use Rattle.values_json.proofs.GroupTexts.{after_colon, dotted_lacks_colon, lacks_colon, parts_read, parts_written}
+use Rattle.definitions.proofs.Lists.{map_some}
 use Rattle.values_json.proofs.Parts.{Lacks, parts_joined}
 use Rattle.values_json.proofs.QuadTexts.{dots, lacks_decimal, quad_read, quad_written}
 

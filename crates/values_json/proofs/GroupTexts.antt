@@ -8,6 +8,7 @@ use Rattle.std.specs.Str.Parse.{AllDigits, digits_value_after}
 use Rattle.std.proofs.lemmas.Bool.{agree_below_at, and_from, and_parts, cases_lt, cond-false, cond-true, eqb-false, false_from_ne_true}
 use Rattle.std.proofs.lemmas.Bool.Decides.{nat_tests}
 use Rattle.std.proofs.lemmas.Option.{none-some, same_Some}
+use Rattle.definitions.proofs.Lists.{map_some}
 use Rattle.definitions.specs.Addresses.{digits_value, groups_of, is_group, joined, parts_at, quad_groups, quad_in}
 use Rattle.values_json.proofs.Parts.{Lacks, first_part, lacks_append, lacks_digits, one_part}
 use Rattle.values_json.proofs.QuadTexts.{dots, lacks_decimal, quad_read, quad_written}
@@ -128,10 +129,6 @@ parts_written quad s more text (inr h) =
 then_some : {A : Type 0} (b : Bool) (o : Option A) (y : A) → cond b o None ≡ Some y → (b ≡ true) × (o ≡ Some y)
 then_some true o y e = (refl, e)
 then_some false o y e = absurd (none-some y e)
-
-pub map_some : {A B : Type 0} (f : A → B) (o : Option A) (y : B) → option_map f o ≡ Some y → (x : A) × (o ≡ Some x) × (f x ≡ y)
-map_some f None y e = absurd (none-some y e)
-map_some f (Some x) y e = (x, refl, same_Some _ y e)
 
 -- the groups, of which there is a first
 abbrev pub Found : Bool → List ℕ → List ℕ → Type 0

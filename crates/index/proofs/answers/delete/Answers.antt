@@ -8,7 +8,8 @@ use Rattle.definitions.specs.TermGrammar.{term_in}
 use Rattle.definitions.specs.declared.fault.Fault.TheVariants as faults
 use Rattle.definitions.proofs.Steps.{refused_call}
 use Rattle.index_file.proofs.ErrorsKept.{err_has}
-use Rattle.index.proofs.Answering.{deletion_left, deletion_taken, err_weaker, read_deletion, unread_deletion}
+use Rattle.index.proofs.Answering.{deletion_left, deletion_taken, read_deletion, unread_deletion}
+use Rattle.definitions.proofs.Lists.{err_map as err_weaker}
 use Rattle.index.proofs.Causes.{call_goes_on, status_goes_on}
 use Rattle.serde_json.specs.View.{view}
 use Rattle.index.proofs.answers.delete.Goals as goal

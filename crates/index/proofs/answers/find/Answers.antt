@@ -12,7 +12,8 @@ use Rattle.definitions.proofs.Steps.{refused_call}
 use Rattle.segment_search.specs.Hits.{hit_of, scored}
 use Rattle.query_trees.specs.Queries.{query_of}
 use Rattle.index_file.proofs.ErrorsKept.{err_has}
-use Rattle.index.proofs.Answering.{err_weaker, ok_weaker, read_search, search_answered, unread_search}
+use Rattle.index.proofs.Answering.{ok_weaker, read_search, search_answered, unread_search}
+use Rattle.definitions.proofs.Lists.{err_map as err_weaker}
 use Rattle.serde_json.specs.View.{view}
 use Rattle.definitions.specs.Replying.{stops}
 use Rattle.index.proofs.Causes.{call_goes_on, status_goes_on}

@@ -5,7 +5,8 @@ use Rattle.std.proofs.lemmas.List.{length-map}
 use Rattle.std.proofs.lemmas.Result.{err_from_is_err_and}
 use Rattle.definitions.specs.NumberCodes.{AreBytes, take_u32}
 use Rattle.common.proofs.Many.{bytes_after}
-use Rattle.index_file.proofs.BodiesBack.{body_is, is_body, no_end, no_number, no_parts, no_sets, nothing_left}
+use Rattle.index_file.proofs.BodiesBack.{body_is, is_body, no_end, no_number, no_parts, no_sets}
+use Rattle.definitions.proofs.Lists.{no_numbers as nothing_left}
 use Rattle.index_file.specs.Bodies.{IsBody}
 use Rattle.index_file.specs.Parts.{part_of}
 use Rattle.index_file.proofs.body_reader.take_body.Goals as goal

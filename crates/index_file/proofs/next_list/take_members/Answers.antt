@@ -12,7 +12,8 @@ use Rattle.index_file.specs.Reading.{IsLeft}
 use Rattle.segment_definitions.specs.SegmentBodies.{IsMember}
 use Rattle.segment_definitions.specs.Segments.{IsSegment}
 use Rattle.index_file.specs.declared.segment_opener.Opener.{Opener}
-use Rattle.index_file.proofs.ListsMade.{AreSoFar, all_left, all_more, here_left, next_member, none_flagged, none_taken, one_more}
+use Rattle.index_file.proofs.ListsMade.{AreSoFar, all_left, here_left, next_member, none_flagged, none_taken, one_more}
+use Rattle.definitions.proofs.Lists.{all_push as all_more}
 use Rattle.index_file.proofs.next_list.take_members.Goals as goal
 
 pub take-requires : goal.take-requires

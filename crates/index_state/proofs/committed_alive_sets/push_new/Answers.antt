@@ -5,7 +5,8 @@ use Rattle.definitions.specs.Recorded.{holds}
 use Rattle.definitions.specs.Values.{Document}
 use Rattle.segment.specs.Opened.{IsOpened, StandsFor}
 use Rattle.segment_search.proofs.Flagging.{flagged_step, flagged_within}
-use Rattle.segment_search.proofs.Places.{all_at, all_first, nothing_left, rest_is, zip_at, zip_length}
+use Rattle.segment_search.proofs.Places.{all_at, nothing_left, rest_is, zip_at, zip_length}
+use Rattle.definitions.proofs.Lists.{all_first}
 use Rattle.index_state.proofs.SetSteps.{new_step, one_longer}
 use Rattle.index_state.specs.Deletions.{numbered}
 use Rattle.index_state.specs.Flags.{flagged_each}

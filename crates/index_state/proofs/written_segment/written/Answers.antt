@@ -3,7 +3,8 @@ use Rattle.std.proofs.lemmas.Result.{err_from_is_err_and}
 use Rattle.std.specs.List.{AllByRecursion}
 use Rattle.definitions.specs.Values.{Document}
 use Rattle.segment.specs.Writers.{HasWritten}
-use Rattle.index_state.proofs.WrittenDocs.{all_behind, all_front, chunk_passes}
+use Rattle.index_state.proofs.WrittenDocs.{all_front, chunk_passes}
+use Rattle.definitions.proofs.Lists.{all_after as all_behind}
 use Rattle.index_state.specs.Given.{IsGiven}
 use Rattle.index_state.proofs.written_segment.written.Goals as goal
 

@@ -1,5 +1,5 @@
 use Rattle.std.proofs.Common.{⊎_elim, inl, inr}
-use Rattle.index_state.proofs.Outcomes.{err_map}
+use Rattle.definitions.proofs.Lists.{err_map}
 use Rattle.index_state.proofs.WrittenDocs.{all_pass}
 use Rattle.index_state.proofs.written_segment.written_bytes.Goals as goal
 

@@ -5,7 +5,7 @@ use Rattle.segment_reader.proofs.Found.{TermsAscend-prop}
 use Rattle.segment_reader.specs.Readers.{dictionary_in}
 use Rattle.layouts.specs.TermSections.{TermsAscend}
 use Rattle.merging.proofs.FieldMerged.{dictionaries_ascend}
-use Rattle.merging.proofs.MembersWritten.{take_whole}
+use Rattle.definitions.proofs.Lists.{take_whole}
 use Rattle.merging.specs.KeyLists.{keys_of}
 use Rattle.merging.proofs.merged_field.all_terms.Goals as goal
 

@@ -2,7 +2,7 @@ use Rattle.std.proofs.Common.{ap, arith, get_or, length, subst, sym, ◌+◌, �
 use Rattle.std.proofs.Math.Seq.{map-set_same}
 use Rattle.std.proofs.lemmas.List.{get_or-map, length-map}
 use Rattle.docsets.specs.Entries.{first, from}
-use Rattle.docsets.specs.ScoredEntryLaws.{by_place}
+use Rattle.definitions.proofs.Lists.{by_order as by_place}
 use Rattle.phrases.specs.Places.{Rises}
 use Rattle.phrases.specs.Rows.{IsRow, docs_of, end_of, most_count}
 use Rattle.phrases.proofs.RowLaws.{added-behind, added-visited, count-fits, end-behind, from-later, kept-by, rest-behind, rises-apart, rises-before, rows-get, rows-set}

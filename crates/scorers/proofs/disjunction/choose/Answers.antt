@@ -1,7 +1,7 @@
 use Rattle.std.proofs.Common.{ap, arith, length, map, min, sum, sym, ◌+◌, ◌<◌, ◌∙◌, ◌≡◌, ℕ}
 use Rattle.definitions.specs.Postings.{terminated}
 use Rattle.docsets.specs.Entries.{first}
-use Rattle.docsets.specs.ScoredEntryLaws.{by_place}
+use Rattle.definitions.proofs.Lists.{by_order as by_place}
 use Rattle.docsets.proofs.AtLeastLaws.{chosen-end, chosen-from, chosen-here, chosen-past}
 use Rattle.docsets.specs.Members.{at_least, entries_at, least, scores_in}
 use Rattle.docsets.proofs.MemberLaws.{entries-least, least-cut, least-small, sums-cut}

@@ -1,6 +1,7 @@
 use Rattle.std.proofs.Common.{ap, map, sym, ◌∙◌}
 use Rattle.std.proofs.Math.Logic.{∥∥₁_map}
-use Rattle.segment.proofs.Counts.{mapped_at, mapped_twice, mapped_within, opened_at, take_whole}
+use Rattle.segment.proofs.Counts.{mapped_at, mapped_twice, mapped_within, opened_at}
+use Rattle.definitions.proofs.Lists.{take_whole}
 use Rattle.segment.specs.Members.{member_of, with_lengths}
 use Rattle.segment.proofs.merged_norms.member_norms.Goals as goal
 

@@ -1,5 +1,6 @@
 use Rattle.std.proofs.Common.{ap, map, sym, ◌∙◌}
-use Rattle.segment.proofs.Counts.{mapped_twice, take_whole}
+use Rattle.segment.proofs.Counts.{mapped_twice}
+use Rattle.definitions.proofs.Lists.{take_whole}
 use Rattle.segment.specs.Members.{member_of}
 use Rattle.segment.specs.Slots.{with_blocks}
 use Rattle.segment.proofs.merged_slots.member_stores.Goals as goal

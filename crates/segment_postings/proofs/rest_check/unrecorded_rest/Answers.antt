@@ -1,5 +1,5 @@
 use Rattle.std.proofs.Common.{ap, arith, length, refl, rules, ◌≡◌, ◌≢◌}
-use Rattle.segment_postings.proofs.BlockChecks.{empty_list}
+use Rattle.definitions.proofs.Lists.{no_numbers as empty_list}
 use Rattle.segment_postings.proofs.RestChecks.{rest_ones, rest_unrecorded}
 use Rattle.options.specs.RecordOption.{record_option_of}
 use Rattle.segment_postings.proofs.rest_check.unrecorded_rest.Goals as goal

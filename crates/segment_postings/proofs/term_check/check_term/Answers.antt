@@ -1,7 +1,7 @@
 use Rattle.std.proofs.Common.{ap, arith, length, refl, rules, false, true, ◌<◌, ◌≡◌, ◌≢◌}
 use Rattle.std.proofs.lemmas.Grind.{merely}
 use Rattle.std.proofs.lemmas.Result.{err_from_is_err_and}
-use Rattle.segment_postings.proofs.BlockChecks.{empty_list}
+use Rattle.definitions.proofs.Lists.{no_numbers as empty_list}
 use Rattle.segment_postings.proofs.WholeTerms.{has_nothing, has_numbers, has_term, known_postings, stands_alone, stands_placed}
 use Rattle.packed_blocks.specs.UnpackedBlocks.{listed}
 use Rattle.definitions.specs.Schema.{has_positions}

@@ -4,7 +4,8 @@ use Rattle.definitions.specs.Calls as calls
 use Rattle.definitions.specs.Reading.{read_data, read_json}
 use Rattle.definitions.specs.Values.{Document}
 use Rattle.definitions.specs.declared.fault.Fault.TheVariants as faults
-use Rattle.index_state.proofs.Outcomes.{err_has, err_map, err_same, own_refuses, status_refuses}
+use Rattle.index_state.proofs.Outcomes.{err_has, err_same, own_refuses, status_refuses}
+use Rattle.definitions.proofs.Lists.{err_map}
 use Rattle.index_state.specs.Standing.{Stands}
 use Rattle.engine.specs.Indexes.{HasLongSlot, PassesLimit, open_of}
 use Rattle.engine.proofs.Adding.{adds_json, adds_value, any_refusal, as_other, early_no_limit, no_limit, no_text_is, refused_no_ok, same_refusal, text_is, unread_left}

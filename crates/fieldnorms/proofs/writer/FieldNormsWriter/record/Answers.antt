@@ -1,5 +1,6 @@
 use Rattle.std.proofs.Common.{length, sym, ap, ◌∙◌, ◌≡◌, ◌<◌, get_or, map, [], ◌∷◌, ◌++◌}
-use Rattle.fieldnorms.proofs.Recording.{kept_in, nowhere, on_err, on_ok, recorded_in}
+use Rattle.fieldnorms.proofs.Recording.{kept_in, nowhere, on_err, recorded_in}
+use Rattle.definitions.proofs.Lists.{on_ok}
 use Rattle.fieldnorms.specs.FieldNorms.{padded, with_length}
 use Rattle.fieldnorms.proofs.writer.FieldNormsWriter.record.Goals as goal
 

@@ -10,7 +10,8 @@ use Rattle.definitions.specs.State as states
 use Rattle.definitions.specs.declared.fault.Fault.TheVariants as faults
 use Rattle.query_trees.specs.Queries.{query_of}
 use Rattle.segment.specs.Opened.{IsOpened, StandsFor, bytes_of}
-use Rattle.index_state.proofs.Outcomes.{err_has, err_map, own_refuses, status_refuses}
+use Rattle.index_state.proofs.Outcomes.{err_has, own_refuses, status_refuses}
+use Rattle.definitions.proofs.Lists.{err_map}
 use Rattle.index_state.proofs.Searching.{live_committed, ok_both, query_refused, query_taken, segments_held}
 use Rattle.index_state.proofs.Standings.{stands_with}
 use Rattle.index_state.specs.Flags.{AreFlagged, flagged_each}

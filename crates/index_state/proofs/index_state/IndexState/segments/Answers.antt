@@ -9,7 +9,7 @@ use Rattle.segment.specs.Opened.{IsOpened, StandsFor}
 use Rattle.segment_definitions.specs.SegmentFiles.{IsGroup}
 use Rattle.segment_search.proofs.Flagging.{flagged_taken, flagged_within}
 use Rattle.index_state.proofs.Members.{each_take, in_groups, zip_take}
-use Rattle.segment_search.proofs.Places.{all_take}
+use Rattle.definitions.proofs.Lists.{all_take}
 use Rattle.index_state.specs.Flags.{AreFlagged, flagged_each, members}
 use Rattle.index_state.proofs.index_state.IndexState.segments.Goals as goal
 

@@ -7,7 +7,8 @@ use Rattle.postings_writer.specs.Fields.{HasPlaces, Terms, option_of_key}
 use Rattle.postings_writer.specs.PackedKeys.{unpacked}
 use Rattle.postings_writer.specs.declared.recorder.Recorder.{Recorder}
 use Rattle.postings_writer.proofs.FieldViews.{AreMaps, found_long, updated_long}
-use Rattle.postings_writer.proofs.KeptRecorders.{has_places-updated, on_ok, recorder_is, recorder_none}
+use Rattle.postings_writer.proofs.KeptRecorders.{has_places-updated, recorder_is, recorder_none}
+use Rattle.definitions.proofs.Lists.{on_ok}
 use Rattle.postings_writer.proofs.field_postings.FieldPostings.record_long.Goals as goal
 
 pub returns-in-Some-clause-ok : goal.returns-in-Some-clause-ok
