@@ -64,7 +64,9 @@ fn best(
     num_docs: u32,
     work: Work,
 ) -> Result<(u128, u64), Fault>
-    requires { (docs counts : List ℕ) × (lists : List (List ℕ)) × (numbers : List ℕ) × HasPostings true true num_docs postings.now docs counts × HasPositions counts lists numbers × ArePositions numbers positions.now }
+    requires { (docs counts : List ℕ) × (lists : List (List ℕ)) × (numbers : List ℕ)
+        × HasPostings true true num_docs postings.now docs counts × HasPositions counts lists numbers
+        × ArePositions numbers positions.now }
 {
     let mut best = u128::MAX;
     let mut seen = 0u64;
@@ -99,8 +101,11 @@ fn write_places(
     requires counted { has_freq serializer.old.option ≡ true }
     requires nothing { AreWritten serializer.old [] [] }
     requires none { positions.old ≡ ([], []) }
-    ensures written { OnOk result ((docs counts : List ℕ) × (lists : List (List ℕ)) × AreWritten serializer.new docs counts × (length docs ≡ num_docs) × HasPositions counts lists positions.new.1) }
-    ensures same { OnOk result ((serializer.new.option ≡ serializer.old.option) × (serializer.new.norms ≡ None) × (positions.new.0 ≡ [])) }
+    ensures written { OnOk result ((docs counts : List ℕ) × (lists : List (List ℕ))
+        × AreWritten serializer.new docs counts × (length docs ≡ num_docs)
+        × HasPositions counts lists positions.new.1) }
+    ensures same { OnOk result ((serializer.new.option ≡ serializer.old.option) × (serializer.new.norms ≡ None)
+        × (positions.new.0 ≡ [])) }
 {
     for place in 0..num_docs {
         serializer.write_doc(3 * place, 1)?;
@@ -112,7 +117,9 @@ fn write_places(
 /// The bytes of the postings of a term of a given number of documents, and those of its positions.
 fn written(alloc: Global, num_docs: u32) -> Result<(Vec<u8>, Vec<u8>), Fault>
     requires { num_docs ≤ 1000000 }
-    ensures { IfOk result (λ bytes. (docs counts : List ℕ) × (lists : List (List ℕ)) × (numbers : List ℕ) × HasPostings true true num_docs bytes.0.items docs counts × HasPositions counts lists numbers × ArePositions numbers bytes.1.items) }
+    ensures { IfOk result (λ bytes. (docs counts : List ℕ) × (lists : List (List ℕ)) × (numbers : List ℕ)
+        × HasPostings true true num_docs bytes.0.items docs counts × HasPositions counts lists numbers
+        × ArePositions numbers bytes.1.items) }
 {
     let mut serializer = PostingsSerializer::new(
         alloc,
@@ -129,7 +136,9 @@ fn written(alloc: Global, num_docs: u32) -> Result<(Vec<u8>, Vec<u8>), Fault>
 
 /// The cursor at its first document.
 fn opened<'a>(postings: &'a [u8], positions: &'a [u8], num_docs: u32) -> SegmentPostings<'a>
-    requires { (docs counts : List ℕ) × (lists : List (List ℕ)) × (numbers : List ℕ) × HasPostings true true num_docs postings.now docs counts × HasPositions counts lists numbers × ArePositions numbers positions.now }
+    requires { (docs counts : List ℕ) × (lists : List (List ℕ)) × (numbers : List ℕ)
+        × HasPostings true true num_docs postings.now docs counts × HasPositions counts lists numbers
+        × ArePositions numbers positions.now }
 {
     let recorded = Recorded {
         counts: true,

@@ -27,7 +27,8 @@ fn write_docs(
     requires next { serializer.old.next ≡ 0 }
     requires lengths { serializer.old.norms ≡ None }
     requires nothing { AreWritten serializer.old [] [] }
-    ensures written { OnOk result ((docs counts : List ℕ) × AreWritten serializer.new docs counts × (length docs ≡ num_docs)) }
+    ensures written { OnOk result ((docs counts : List ℕ) × AreWritten serializer.new docs counts
+        × (length docs ≡ num_docs)) }
     ensures same { OnOk result ((serializer.new.option ≡ serializer.old.option) × (serializer.new.norms ≡ None)) }
 {
     let mut state = 7u32;
@@ -62,7 +63,8 @@ pub(crate) fn written(
 /// The cursor at its first document.
 pub(crate) fn opened(bytes: &[u8], num_docs: u32) -> SegmentPostings<'_>
     requires { (docs counts : List ℕ) × HasPostings true false num_docs bytes.now docs counts }
-    ensures { (docs counts : List ℕ) → HasPostings true false num_docs bytes.now docs counts → entries_left result ≡ entries_of docs counts [] }
+    ensures { (docs counts : List ℕ) → HasPostings true false num_docs bytes.now docs counts
+        → entries_left result ≡ entries_of docs counts [] }
 {
     let recorded = Recorded {
         counts: true,

@@ -101,7 +101,8 @@ impl AliveBitSet {
     /// Decodes an alive set; `Damaged` if `bytes` represent none.
     pub fn from_bytes(alloc: Global, bytes: &[u8]) -> Result<AliveBitSet, Fault>
         ensures ok { IfOk result (λ alive. IsAliveSet alive bytes.now) }
-        ensures err { IfErr result (λ fault. (fault ≡ faults.OutOfMemory) ⊎ ((fault ≡ faults.Damaged None) × ((flags : List Bool) → ¬ IsAliveSet flags bytes.now))) }
+        ensures err { IfErr result (λ fault. (fault ≡ faults.OutOfMemory)
+            ⊎ ((fault ≡ faults.Damaged None) × ((flags : List Bool) → ¬ IsAliveSet flags bytes.now))) }
     {
         let (max_doc, rest) = take_u32(bytes)?;
         if rest.len() != 8 * num_words(max_doc) {

@@ -11,5 +11,6 @@ pub fn bytes_stand_for_one_alive_set()
 
 /// States that after the four bytes of the count, bit i is 1 if flag i is set, and 0 past the flags.
 pub fn bits_are_flags()
-    ensures { (flags : List Bool) (i : ℕ) → bit_in (drop 4 (alive_bytes flags)) i ≡ (if slice_index_or flags i false then 1 else 0) }
+    ensures { (flags : List Bool) (i : ℕ) → bit_in (drop 4 (alive_bytes flags)) i
+        ≡ (if slice_index_or flags i false then 1 else 0) }
 {}

@@ -154,7 +154,8 @@ impl BitSet {
     pub(crate) fn from_words(words: Vec<u64>, max_value: u32) -> Option<BitSet>
         requires { length words.items ≡ (max_value + 63) / 64 }
         ensures some { IfSome result (λ set. (length set ≡ max_value) × (words.items ≡ alive_words set)) }
-        ensures none { IfNone result ((flags : List Bool) → length flags ≡ max_value → words.items ≢ alive_words flags) }
+        ensures none { IfNone result ((flags : List Bool) → length flags ≡ max_value
+            → words.items ≢ alive_words flags) }
         ensures small { (i : ℕ) → slice_index words.items i < 2 ^ 64 }
     {
         if !is_clear_from(&words, max_value) {

@@ -40,7 +40,9 @@ pub trait Device {
         ensures bytes { IsTrue (honest self.old) → IfOk result (λ bytes. bytes.items ≡ content self.old) }
         ensures content { IsTrue (honest self.old) → content self.new ≡ content self.old }
         ensures unsynced { IsTrue (honest self.old) → unsynced self.new ≡ unsynced self.old }
-        ensures time { IsTrue (honest self.old) → Elapses (moment self.old) (moment self.new) (left_since self.old) (left_since self.new) (IsImage (content self.new) (unsynced self.new)) };
+        ensures time { IsTrue (honest self.old)
+            → Elapses (moment self.old) (moment self.new) (left_since self.old) (left_since self.new)
+            (IsImage (content self.new) (unsynced self.new)) };
 
     /// Writes `bytes` at offset `at`, over what is there and past the end.
     fn write_at(&mut self, at: usize, bytes: &[u8]) -> Result<(), Fault>
@@ -49,11 +51,19 @@ pub trait Device {
         ensures cause { HasCause (failed self.old) (failed self.new) result }
         ensures counted { ¬ IsErrOf result faults.Device → failed self.new ≡ failed self.old }
         ensures fault { IfErr result (λ fault. fault ≡ faults.Device) }
-        ensures content { IsTrue (honest self.old) → OnOk result (content self.new ≡ overwritten at bytes.now (content self.old)) }
-        ensures partly { IsTrue (honest self.old) → OnErr result (IsPartly (content self.old) (overwritten at bytes.now (content self.old)) (content self.new)) }
-        ensures unsynced { IsTrue (honest self.old) → OnOk result (unsynced self.new ≡ written at (length bytes.now) (unsynced self.old)) }
-        ensures unsynced_err { IsTrue (honest self.old) → OnErr result (IsEither (unsynced self.old) (written at (length bytes.now) (unsynced self.old)) (unsynced self.new)) }
-        ensures time { IsTrue (honest self.old) → Elapses (moment self.old) (moment self.new) (left_since self.old) (left_since self.new) (IsImage (content self.new) (unsynced self.new)) };
+        ensures content { IsTrue (honest self.old)
+            → OnOk result (content self.new ≡ overwritten at bytes.now (content self.old)) }
+        ensures partly { IsTrue (honest self.old)
+            → OnErr result (IsPartly (content self.old) (overwritten at bytes.now (content self.old))
+            (content self.new)) }
+        ensures unsynced { IsTrue (honest self.old)
+            → OnOk result (unsynced self.new ≡ written at (length bytes.now) (unsynced self.old)) }
+        ensures unsynced_err { IsTrue (honest self.old)
+            → OnErr result (IsEither (unsynced self.old) (written at (length bytes.now) (unsynced self.old))
+            (unsynced self.new)) }
+        ensures time { IsTrue (honest self.old)
+            → Elapses (moment self.old) (moment self.new) (left_since self.old) (left_since self.new)
+            (IsImage (content self.new) (unsynced self.new)) };
 
     /// Cuts the content to `len` bytes.
     fn cut(&mut self, len: usize) -> Result<(), Fault>
@@ -63,10 +73,15 @@ pub trait Device {
         ensures counted { ¬ IsErrOf result faults.Device → failed self.new ≡ failed self.old }
         ensures fault { IfErr result (λ fault. fault ≡ faults.Device) }
         ensures content { IsTrue (honest self.old) → OnOk result (content self.new ≡ take len (content self.old)) }
-        ensures partly { IsTrue (honest self.old) → OnErr result (IsPartly (content self.old) (take len (content self.old)) (content self.new)) }
-        ensures unsynced { IsTrue (honest self.old) → OnOk result (unsynced self.new ≡ shortened len (unsynced self.old)) }
-        ensures unsynced_err { IsTrue (honest self.old) → OnErr result (IsEither (unsynced self.old) (shortened len (unsynced self.old)) (unsynced self.new)) }
-        ensures time { IsTrue (honest self.old) → Elapses (moment self.old) (moment self.new) (left_since self.old) (left_since self.new) (IsImage (content self.new) (unsynced self.new)) };
+        ensures partly { IsTrue (honest self.old)
+            → OnErr result (IsPartly (content self.old) (take len (content self.old)) (content self.new)) }
+        ensures unsynced { IsTrue (honest self.old)
+            → OnOk result (unsynced self.new ≡ shortened len (unsynced self.old)) }
+        ensures unsynced_err { IsTrue (honest self.old)
+            → OnErr result (IsEither (unsynced self.old) (shortened len (unsynced self.old)) (unsynced self.new)) }
+        ensures time { IsTrue (honest self.old)
+            → Elapses (moment self.old) (moment self.new) (left_since self.old) (left_since self.new)
+            (IsImage (content self.new) (unsynced self.new)) };
 
     /// Syncs: from then on, a crash leaves what a read returns.
     fn sync(&mut self) -> Result<(), Fault>
@@ -75,9 +90,12 @@ pub trait Device {
         ensures counted { ¬ IsErrOf result faults.Device → failed self.new ≡ failed self.old }
         ensures fault { IfErr result (λ fault. fault ≡ faults.Device) }
         ensures content { IsTrue (honest self.old) → content self.new ≡ content self.old }
-        ensures unsynced { IsTrue (honest self.old) → OnOk result (unsynced self.new ≡ settled (length (content self.old))) }
+        ensures unsynced { IsTrue (honest self.old)
+            → OnOk result (unsynced self.new ≡ settled (length (content self.old))) }
         ensures unsynced_err { IsTrue (honest self.old) → OnErr result (unsynced self.new ≡ unsynced self.old) }
-        ensures time { IsTrue (honest self.old) → Elapses (moment self.old) (moment self.new) (left_since self.old) (left_since self.new) (IsImage (content self.new) (unsynced self.new)) };
+        ensures time { IsTrue (honest self.old)
+            → Elapses (moment self.old) (moment self.new) (left_since self.old) (left_since self.new)
+            (IsImage (content self.new) (unsynced self.new)) };
 
     /// Returns the number of failures, saturating.
     fn failures(&self) -> u64

@@ -53,7 +53,9 @@ impl MemoryDevice {
         ensures cause { HasCause self.old.failed self.new.failed result }
         ensures counted { OnOk result (self.new.failed ≡ self.old.failed) }
         ensures fault { IfErr result (λ fault. fault ≡ faults.Device) }
-        ensures time { Elapses (length self.old.calls.items) (length self.new.calls.items) (LeftSince self.old.calls.items) (LeftSince self.new.calls.items) (IsImage self.new.bytes.items (unsynced_after self.new.calls.items)) }
+        ensures time { Elapses (length self.old.calls.items) (length self.new.calls.items)
+            (LeftSince self.old.calls.items) (LeftSince self.new.calls.items)
+            (IsImage self.new.bytes.items (unsynced_after self.new.calls.items)) }
     {
         match record_call(&mut self.bytes, &mut self.calls, call) {
             Ok(()) => Ok(()),
@@ -74,7 +76,8 @@ fn fail(failed: &mut u64) -> Result<(), Fault>
 // Makes and records a call, or changes nothing.
 fn record_call(bytes: &mut Vec<u8>, calls: &mut Vec<Call>, call: Call) -> Result<(), AllocError>
     requires { IsWithin (length bytes.old.items) call }
-    ensures bytes { content_after calls.old.items ≡ bytes.old.items → OnOk result (bytes.new.items ≡ (after_call (disk_after calls.old.items) call).content) }
+    ensures bytes { content_after calls.old.items ≡ bytes.old.items
+        → OnOk result (bytes.new.items ≡ (after_call (disk_after calls.old.items) call).content) }
     ensures calls { OnOk result (calls.new.items ≡ calls.old.items ++ call ∷ []) }
     ensures bytes_err { OnErr result (bytes.new.items ≡ bytes.old.items) }
     ensures calls_err { OnErr result (calls.new.items ≡ calls.old.items) }
@@ -141,7 +144,8 @@ impl Device for MemoryDevice {
         ensures unsynced { OnOk result (unsynced_of self.new ≡ written at (length bytes.now) (unsynced_of self.old)) }
         ensures unchanged { OnErr result (content_of self.new ≡ content_of self.old) }
         ensures unsynced_err { OnErr result (unsynced_of self.new ≡ unsynced_of self.old) }
-        ensures time { Elapses (moment_of self.old) (moment_of self.new) (left_since_of self.old) (left_since_of self.new)
+        ensures time { Elapses (moment_of self.old) (moment_of self.new) (left_since_of self.old)
+            (left_since_of self.new)
             (IsImage (content_of self.new) (unsynced_of self.new)) }
     {
         match bytes.to_vec(self.alloc) {
@@ -160,7 +164,8 @@ impl Device for MemoryDevice {
         ensures unsynced { OnOk result (unsynced_of self.new ≡ shortened len (unsynced_of self.old)) }
         ensures unchanged { OnErr result (content_of self.new ≡ content_of self.old) }
         ensures unsynced_err { OnErr result (unsynced_of self.new ≡ unsynced_of self.old) }
-        ensures time { Elapses (moment_of self.old) (moment_of self.new) (left_since_of self.old) (left_since_of self.new)
+        ensures time { Elapses (moment_of self.old) (moment_of self.new) (left_since_of self.old)
+            (left_since_of self.new)
             (IsImage (content_of self.new) (unsynced_of self.new)) }
     {
         self.make(Call::Cut { len })

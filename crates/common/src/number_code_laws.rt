@@ -9,17 +9,24 @@ pub fn what_was_put_is_taken_back()
     ensures vint { (n : ℕ) (rest : List ℕ) → n < 2 ^ 64 → take_vint (vint_bytes n ++ rest) ≡ Some (n, rest) }
     ensures u32 { (n : ℕ) (rest : List ℕ) → n < 2 ^ 32 → take_u32 (u32_bytes n ++ rest) ≡ Some (n, rest) }
     ensures u64 { (n : ℕ) (rest : List ℕ) → n < 2 ^ 64 → take_u64 (u64_bytes n ++ rest) ≡ Some (n, rest) }
-    ensures bytes { (bytes rest : List ℕ) → length bytes < 2 ^ 64 → take_bytes (sized_bytes bytes ++ rest) ≡ Some (bytes, rest) }
-    ensures text { (text rest : List ℕ) → IsUtf8 text → length text < 2 ^ 64 → take_text (sized_bytes text ++ rest) ≡ Some (text, rest) }
+    ensures bytes { (bytes rest : List ℕ) → length bytes < 2 ^ 64
+        → take_bytes (sized_bytes bytes ++ rest) ≡ Some (bytes, rest) }
+    ensures text { (text rest : List ℕ) → IsUtf8 text → length text < 2 ^ 64
+        → take_text (sized_bytes text ++ rest) ≡ Some (text, rest) }
 {}
 
 /// States that what is decoded is what encodes to those bytes: nothing else is decoded.
 pub fn what_is_taken_was_put()
-    ensures vint { (bs rest : List ℕ) (n : ℕ) → AreBytes bs → take_vint bs ≡ Some (n, rest) → (n < 2 ^ 64) × (bs ≡ vint_bytes n ++ rest) }
-    ensures u32 { (bs rest : List ℕ) (n : ℕ) → AreBytes bs → take_u32 bs ≡ Some (n, rest) → (n < 2 ^ 32) × (bs ≡ u32_bytes n ++ rest) }
-    ensures u64 { (bs rest : List ℕ) (n : ℕ) → AreBytes bs → take_u64 bs ≡ Some (n, rest) → (n < 2 ^ 64) × (bs ≡ u64_bytes n ++ rest) }
-    ensures bytes { (bs rest bytes : List ℕ) → AreBytes bs → take_bytes bs ≡ Some (bytes, rest) → (length bytes < 2 ^ 64) × (bs ≡ sized_bytes bytes ++ rest) }
-    ensures text { (bs rest text : List ℕ) → AreBytes bs → take_text bs ≡ Some (text, rest) → IsUtf8 text × (length text < 2 ^ 64) × (bs ≡ sized_bytes text ++ rest) }
+    ensures vint { (bs rest : List ℕ) (n : ℕ) → AreBytes bs → take_vint bs ≡ Some (n, rest) → (n < 2 ^ 64)
+        × (bs ≡ vint_bytes n ++ rest) }
+    ensures u32 { (bs rest : List ℕ) (n : ℕ) → AreBytes bs → take_u32 bs ≡ Some (n, rest) → (n < 2 ^ 32)
+        × (bs ≡ u32_bytes n ++ rest) }
+    ensures u64 { (bs rest : List ℕ) (n : ℕ) → AreBytes bs → take_u64 bs ≡ Some (n, rest) → (n < 2 ^ 64)
+        × (bs ≡ u64_bytes n ++ rest) }
+    ensures bytes { (bs rest bytes : List ℕ) → AreBytes bs → take_bytes bs ≡ Some (bytes, rest)
+        → (length bytes < 2 ^ 64) × (bs ≡ sized_bytes bytes ++ rest) }
+    ensures text { (bs rest text : List ℕ) → AreBytes bs → take_text bs ≡ Some (text, rest) → IsUtf8 text
+        × (length text < 2 ^ 64) × (bs ≡ sized_bytes text ++ rest) }
 {}
 
 /// States the bytes of some numbers in groups of seven bits.
@@ -40,7 +47,8 @@ pub fn numbers_have_bytes()
 pub fn bytes_begin_with_numbers()
     ensures three_hundred { take_vint (0x2c ∷ 0x82 ∷ 7 ∷ []) ≡ Some (300, 7 ∷ []) }
     ensures zero { take_vint (128 ∷ 0 ∷ []) ≡ Some (0, 0 ∷ []) }
-    ensures greatest { take_vint (127 ∷ 127 ∷ 127 ∷ 127 ∷ 127 ∷ 127 ∷ 127 ∷ 127 ∷ 127 ∷ 129 ∷ []) ≡ Some (2 ^ 64 - 1, []) }
+    ensures greatest { take_vint (127 ∷ 127 ∷ 127 ∷ 127 ∷ 127 ∷ 127 ∷ 127 ∷ 127 ∷ 127 ∷ 129 ∷ [])
+        ≡ Some (2 ^ 64 - 1, []) }
     ensures nothing { take_vint [] ≡ None }
     ensures cut { take_vint (0x2c ∷ []) ≡ None }
     ensures longer_zero { take_vint (0 ∷ 128 ∷ []) ≡ None }

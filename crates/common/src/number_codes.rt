@@ -119,7 +119,8 @@ fn with_last(value: u64, shift: u32, digit: u8) -> Result<u64, Fault>
     requires places { shift % 7 ≡ 0 }
     requires few { shift ≤ 63 }
     requires digit { digit < 128 }
-    ensures { result ≡ ok_or (only_if ((nat_eq shift 0 || nat_lt 0 digit) && nat_lt (value + 2 ^ shift * digit) (2 ^ 64)) (Some (value + 2 ^ shift * digit))) (faults.Damaged None) }
+    ensures { result ≡ ok_or (only_if ((nat_eq shift 0 || nat_lt 0 digit) && nat_lt (value + 2 ^ shift * digit)
+        (2 ^ 64)) (Some (value + 2 ^ shift * digit))) (faults.Damaged None) }
 {
     if !is_shortest(shift, digit) || !has_room(value, shift, digit) {
         return Err(Fault::Damaged(None));

@@ -15,14 +15,21 @@ pub fn write_synced<D: Device>(device: &mut D, at: usize, bytes: &[u8]) -> Resul
     ensures cause { HasCause (D.failed device.old) (D.failed device.new) result }
     ensures counted { ¬ IsErrOf result faults.Device → D.failed device.new ≡ D.failed device.old }
     ensures fault { IfErr result (λ fault. fault ≡ faults.Device) }
-    ensures content { IsTrue (D.honest device.old) → OnOk result (D.content device.new ≡ overwritten at bytes.now (D.content device.old)) }
-    ensures partly { IsTrue (D.honest device.old) → OnErr result (IsPartly (D.content device.old) (overwritten at bytes.now (D.content device.old)) (D.content device.new)) }
+    ensures content { IsTrue (D.honest device.old)
+        → OnOk result (D.content device.new ≡ overwritten at bytes.now (D.content device.old)) }
+    ensures partly { IsTrue (D.honest device.old)
+        → OnErr result (IsPartly (D.content device.old) (overwritten at bytes.now (D.content device.old))
+        (D.content device.new)) }
     ensures no_shorter { IsTrue (D.honest device.old) → length (D.content device.old) ≤ length (D.content device.new) }
-    ensures unsynced { IsTrue (D.honest device.old) → OnOk result (D.unsynced device.new ≡ settled (length (D.content device.new))) }
-    ensures unsynced_err { IsTrue (D.honest device.old) → OnErr result (IsEither (D.unsynced device.old) (written at (length bytes.now) (D.unsynced device.old)) (D.unsynced device.new)) }
+    ensures unsynced { IsTrue (D.honest device.old)
+        → OnOk result (D.unsynced device.new ≡ settled (length (D.content device.new))) }
+    ensures unsynced_err { IsTrue (D.honest device.old)
+        → OnErr result (IsEither (D.unsynced device.old) (written at (length bytes.now) (D.unsynced device.old))
+        (D.unsynced device.new)) }
     // A crash at any moment of the call leaves what it may leave after the write.
     ensures any_moment { IsTrue (D.honest device.old) → LeavesOnly D.moment D.left_since device.old device.new
-        (IsImage (overwritten at bytes.now (D.content device.old)) (written at (length bytes.now) (D.unsynced device.old))) }
+        (IsImage (overwritten at bytes.now (D.content device.old))
+        (written at (length bytes.now) (D.unsynced device.old))) }
 {
     device.write_at(at, bytes)?;
     device.sync()
@@ -35,10 +42,15 @@ pub fn cut_synced<D: Device>(device: &mut D, len: usize) -> Result<(), Fault>
     ensures cause { HasCause (D.failed device.old) (D.failed device.new) result }
     ensures counted { ¬ IsErrOf result faults.Device → D.failed device.new ≡ D.failed device.old }
     ensures fault { IfErr result (λ fault. fault ≡ faults.Device) }
-    ensures content { IsTrue (D.honest device.old) → OnOk result (D.content device.new ≡ take len (D.content device.old)) }
-    ensures partly { IsTrue (D.honest device.old) → OnErr result (IsPartly (D.content device.old) (take len (D.content device.old)) (D.content device.new)) }
-    ensures unsynced { IsTrue (D.honest device.old) → OnOk result (D.unsynced device.new ≡ settled (length (D.content device.new))) }
-    ensures unsynced_err { IsTrue (D.honest device.old) → OnErr result (IsEither (D.unsynced device.old) (shortened len (D.unsynced device.old)) (D.unsynced device.new)) }
+    ensures content { IsTrue (D.honest device.old)
+        → OnOk result (D.content device.new ≡ take len (D.content device.old)) }
+    ensures partly { IsTrue (D.honest device.old)
+        → OnErr result (IsPartly (D.content device.old) (take len (D.content device.old)) (D.content device.new)) }
+    ensures unsynced { IsTrue (D.honest device.old)
+        → OnOk result (D.unsynced device.new ≡ settled (length (D.content device.new))) }
+    ensures unsynced_err { IsTrue (D.honest device.old)
+        → OnErr result (IsEither (D.unsynced device.old) (shortened len (D.unsynced device.old))
+        (D.unsynced device.new)) }
     // A crash at any moment of the call leaves what it may leave after the cut.
     ensures any_moment { IsTrue (D.honest device.old) → LeavesOnly D.moment D.left_since device.old device.new
         (IsImage (take len (D.content device.old)) (shortened len (D.unsynced device.old))) }

@@ -24,7 +24,8 @@ ghost use Rattle.serde_json.specs.Written.{has_float};
 
 /// A query is its form by what stands at its keys.
 pub fn queries_are_read_by_their_keys()
-    ensures { (schema : Schema) (d : Data) → query_in schema d ≡ query_of schema (one_at schema d) (many_at schema d) d }
+    ensures { (schema : Schema) (d : Data) → query_in schema d
+        ≡ query_of schema (one_at schema d) (many_at schema d) d }
 {}
 
 /// The reply of a refusal is the compact text of its JSON, and so is the reply of what succeeds.
@@ -42,23 +43,30 @@ pub fn replies_have_a_text()
 /// stays as it was. Every other line is a text, and is answered.
 pub fn some_lines_are_refused_unread()
     ensures long { (session : Session) (line : List ℕ) → max_line_len < length line
-        → (reply_to answer_of after_line session line ≡ reply_text LineTooLong) × (state_after answer_of after_line session line ≡ session) }
+        → (reply_to answer_of after_line session line ≡ reply_text LineTooLong)
+        × (state_after answer_of after_line session line ≡ session) }
     ensures no_text { (session : Session) (line : List ℕ) → length line ≤ max_line_len → is_utf8 line ≡ false
-        → (reply_to answer_of after_line session line ≡ reply_text BadRequest) × (state_after answer_of after_line session line ≡ session) }
+        → (reply_to answer_of after_line session line ≡ reply_text BadRequest)
+        × (state_after answer_of after_line session line ≡ session) }
     ensures text { (session : Session) (line : List ℕ) → length line ≤ max_line_len → is_utf8 line ≡ true
-        → (reply_to answer_of after_line session line ≡ answer_of session line) × (state_after answer_of after_line session line ≡ after_line session line) }
+        → (reply_to answer_of after_line session line ≡ answer_of session line)
+        × (state_after answer_of after_line session line ≡ after_line session line) }
 {}
 
 /// The answers to lines are replies to them, as the relation of all replies has them.
 pub fn answers_are_replies()
-    ensures { (session : Session) (lines : List (List ℕ)) → AreReplies answer_of after_line session lines (flat_map output_line (answers_to session lines)) }
+    ensures { (session : Session) (lines : List (List ℕ))
+        → AreReplies answer_of after_line session lines (flat_map output_line (answers_to session lines)) }
 {}
 
 /// A request of which a call is read does what that call does, and replies so.
 pub fn a_request_is_its_call()
-    ensures refused { (c : Configuration) (x : Index) (r : Request) (call : Call) (fault : Fault) → call_in c.schema r ≡ Ok call → call_fault c x call ≡ Some fault → index_step c x r ≡ refusing fault x }
-    ensures answered { (c : Configuration) (x : Index) (r : Request) (call : Call) → call_in c.schema r ≡ Ok call → call_fault c x call ≡ None → index_step c x r ≡ answering c x call }
-    ensures unread { (c : Configuration) (x : Index) (r : Request) (fault : Fault) → call_in c.schema r ≡ Err fault → status_fault x.status (only_asks r) ≡ None → index_step c x r ≡ refusing fault x }
+    ensures refused { (c : Configuration) (x : Index) (r : Request) (call : Call) (fault : Fault)
+        → call_in c.schema r ≡ Ok call → call_fault c x call ≡ Some fault → index_step c x r ≡ refusing fault x }
+    ensures answered { (c : Configuration) (x : Index) (r : Request) (call : Call) → call_in c.schema r ≡ Ok call
+        → call_fault c x call ≡ None → index_step c x r ≡ answering c x call }
+    ensures unread { (c : Configuration) (x : Index) (r : Request) (fault : Fault) → call_in c.schema r ≡ Err fault
+        → status_fault x.status (only_asks r) ≡ None → index_step c x r ≡ refusing fault x }
 {}
 
 /// The settings that stand where none are given are in range.
@@ -73,11 +81,15 @@ pub fn settings_give_a_similarity()
 
 /// Settings in range, of which each weighted term reads back, are read from what is written of them.
 pub fn settings_read_back()
-    ensures { (schema : Schema) (s : Settings) → is_settings s ≡ true → weighs_named schema s ≡ true → settings_in schema (settings_data schema s) ≡ Some s }
+    ensures { (schema : Schema) (s : Settings) → is_settings s ≡ true → weighs_named schema s ≡ true
+        → settings_in schema (settings_data schema s) ≡ Some s }
 {}
 
 /// Each text of a text field, and each number of a u64 field, is a term that is read from what is written of it.
 pub fn texts_and_numbers_read_back()
-    ensures text { (schema : Schema) (field : ℕ) (e : Entry) → IsSchema schema → slice_get schema field ≡ Some e → (s : List ℕ) → e.kind ≡ text_kind → IsUtf8 s → reads_back schema (term_bytes field text_kind s) ≡ true }
-    ensures number { (schema : Schema) (field : ℕ) (e : Entry) → IsSchema schema → slice_get schema field ≡ Some e → (n : ℕ) → e.kind ≡ u64_kind → n < 2 ^ 64 → reads_back schema (term_bytes field u64_kind (to_be_bytes w64 n)) ≡ true }
+    ensures text { (schema : Schema) (field : ℕ) (e : Entry) → IsSchema schema → slice_get schema field ≡ Some e
+        → (s : List ℕ) → e.kind ≡ text_kind → IsUtf8 s → reads_back schema (term_bytes field text_kind s) ≡ true }
+    ensures number { (schema : Schema) (field : ℕ) (e : Entry) → IsSchema schema → slice_get schema field ≡ Some e
+        → (n : ℕ) → e.kind ≡ u64_kind → n < 2 ^ 64
+        → reads_back schema (term_bytes field u64_kind (to_be_bytes w64 n)) ≡ true }
 {}

@@ -35,12 +35,15 @@ pub fn lengths_rise()
 /// The runs of a text joined are its word bytes, no run is empty, and each byte of a run is a word byte.
 pub fn runs_are_the_words()
     ensures joined { (s : List ℕ) → concat (runs s) ≡ filter is_word_byte s }
-    ensures words { (s : List ℕ) → AllByRecursion (λ run. (run ≢ []) × AllByRecursion (λ b. IsTrue (is_word_byte b)) run) (runs s) }
+    ensures words { (s : List ℕ) → AllByRecursion (λ run. (run ≢ [])
+        × AllByRecursion (λ b. IsTrue (is_word_byte b)) run) (runs s) }
 {}
 
 /// Word bytes up to the next other byte, or to the end, are one run.
 pub fn runs_are_longest()
-    ensures followed { (run : List ℕ) (b : ℕ) (s : List ℕ) → run ≢ [] → AllByRecursion (λ c. IsTrue (is_word_byte c)) run → IsFalse (is_word_byte b) → runs (run ++ (b ∷ s)) ≡ run ∷ runs s }
+    ensures followed { (run : List ℕ) (b : ℕ) (s : List ℕ) → run ≢ []
+        → AllByRecursion (λ c. IsTrue (is_word_byte c)) run → IsFalse (is_word_byte b)
+        → runs (run ++ (b ∷ s)) ≡ run ∷ runs s }
     ensures last { (run : List ℕ) → run ≢ [] → AllByRecursion (λ c. IsTrue (is_word_byte c)) run → runs run ≡ run ∷ [] }
     ensures skipped { (b : ℕ) (s : List ℕ) → IsFalse (is_word_byte b) → runs (b ∷ s) ≡ runs s }
 {}

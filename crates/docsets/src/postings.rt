@@ -30,9 +30,12 @@ pub trait Postings: DocSet {
         requires on { first (Self.entries self.old) < terminated }
         requires fits { highest (single (first_positions (Self.entries self.old))) + offset ≤ 4294967295 }
         ensures same { Self.entries self.new ≡ Self.entries self.old }
-        ensures ok { OnOk result (output.new.items ≡ joined output.old.items (map (λ p. p + offset) (single (first_positions (Self.entries self.old))))) }
+        ensures ok { OnOk result (output.new.items
+            ≡ joined output.old.items (map (λ p. p + offset) (single (first_positions (Self.entries self.old))))) }
         ensures err { OnErr result (output.new.items ≡ output.old.items) }
-        ensures full { OnErr result (vec_capacity output.old < length (joined output.old.items (map (λ p. p + offset) (single (first_positions (Self.entries self.old)))))) }
+        ensures full { OnErr result (vec_capacity output.old
+            < length (joined output.old.items (map (λ p. p + offset)
+            (single (first_positions (Self.entries self.old)))))) }
         ensures room { vec_capacity output.old ≤ vec_capacity output.new };
 
     /// Replaces what `output` holds by the positions in the current document, each plus `offset`; by none if out of
@@ -45,9 +48,11 @@ pub trait Postings: DocSet {
         requires on { first (Self.entries self.old) < terminated }
         requires fits { highest (single (first_positions (Self.entries self.old))) + offset ≤ 4294967295 }
         ensures same { Self.entries self.new ≡ Self.entries self.old }
-        ensures ok { OnOk result (output.new.items ≡ map (λ p. p + offset) (single (first_positions (Self.entries self.old)))) }
+        ensures ok { OnOk result (output.new.items
+            ≡ map (λ p. p + offset) (single (first_positions (Self.entries self.old)))) }
         ensures err { OnErr result (output.new.items ≡ []) }
-        ensures full { OnErr result (vec_capacity output.old < length (single (first_positions (Self.entries self.old)))) }
+        ensures full { OnErr result (vec_capacity output.old
+            < length (single (first_positions (Self.entries self.old)))) }
         ensures room { vec_capacity output.old ≤ vec_capacity output.new }
     {
         output.clear();
@@ -61,7 +66,8 @@ pub trait Postings: DocSet {
         ensures same { Self.entries self.new ≡ Self.entries self.old }
         ensures ok { OnOk result (output.new.items ≡ single (first_positions (Self.entries self.old))) }
         ensures err { OnErr result (output.new.items ≡ []) }
-        ensures full { OnErr result (vec_capacity output.old < length (single (first_positions (Self.entries self.old)))) }
+        ensures full { OnErr result (vec_capacity output.old
+            < length (single (first_positions (Self.entries self.old)))) }
         ensures room { vec_capacity output.old ≤ vec_capacity output.new }
     {
         self.positions_with_offset(0, output)?;

@@ -127,7 +127,8 @@ impl CompactDoc {
     /// that nests more than 128 deep.
     pub fn deserialize(alloc: Global, bytes: &[u8]) -> Result<CompactDoc, Fault>
         ensures ok { IfOk result (λ doc. read_document bytes.now ≡ Some doc) }
-        ensures err { IfErr result (λ fault. (fault ≡ faults.OutOfMemory) ⊎ ((fault ≡ faults.Damaged None) × (read_document bytes.now ≡ None))) }
+        ensures err { IfErr result (λ fault. (fault ≡ faults.OutOfMemory)
+            ⊎ ((fault ≡ faults.Damaged None) × (read_document bytes.now ≡ None))) }
     {
         let (count, pairs) = take_vint(bytes)?;
         if !skip_pairs(count, pairs)?.is_empty() {
@@ -184,7 +185,8 @@ impl CompactDoc {
         field: Field,
         members: &[(String, OwnedValue)],
     ) -> Result<(), AllocError>
-        ensures ok { OnOk result (self.new ≡ self.old ++ ((field, values.object (to_members (owned_members members.now))) ∷ [])) }
+        ensures ok { OnOk result (self.new
+            ≡ self.old ++ ((field, values.object (to_members (owned_members members.now))) ∷ [])) }
         ensures err { OnErr result (self.new ≡ self.old) }
     {
         let pair = object_pair(*self.heap.allocator(), field, members)?;
@@ -250,7 +252,8 @@ impl CompactDoc {
     /// Adds the encoded `pair`.
     pub(crate) fn add(&mut self, pair: Vec<u8>) -> Result<(), AllocError>
         requires { (p : ℕ × DocValue) × IsGoodPair true deepest p × (pair.items ≡ held_pair p) }
-        ensures ok { OnOk result ((p : ℕ × DocValue) → IsGoodPair true deepest p → pair.items ≡ held_pair p → self.new ≡ self.old ++ (p ∷ [])) }
+        ensures ok { OnOk result ((p : ℕ × DocValue) → IsGoodPair true deepest p → pair.items ≡ held_pair p
+            → self.new ≡ self.old ++ (p ∷ [])) }
         ensures err { OnErr result (self.new ≡ self.old) }
     {
         self.add_parts(pair.as_slice(), &[])
@@ -259,7 +262,8 @@ impl CompactDoc {
     /// Adds the pair that is encoded as `first` and then `second`.
     fn add_parts(&mut self, first: &[u8], second: &[u8]) -> Result<(), AllocError>
         requires { (p : ℕ × DocValue) × IsGoodPair true deepest p × (first.now ++ second.now ≡ held_pair p) }
-        ensures ok { OnOk result ((p : ℕ × DocValue) → IsGoodPair true deepest p → first.now ++ second.now ≡ held_pair p → self.new ≡ self.old ++ (p ∷ [])) }
+        ensures ok { OnOk result ((p : ℕ × DocValue) → IsGoodPair true deepest p
+            → first.now ++ second.now ≡ held_pair p → self.new ≡ self.old ++ (p ∷ [])) }
         ensures err { OnErr result (self.new ≡ self.old) }
     {
         append(&mut self.heap, first, second)?;
@@ -269,8 +273,10 @@ impl CompactDoc {
 
     /// Adds the pair that is encoded as `first`, the length of `second`, and `second`.
     fn add_sized(&mut self, first: [u8; 5], second: &[u8]) -> Result<(), AllocError>
-        requires { (p : ℕ × DocValue) × (length second.now < 2 ^ 64 → IsGoodPair true deepest p) × (first ++ sized_bytes second.now ≡ held_pair p) }
-        ensures ok { OnOk result ((p : ℕ × DocValue) → (length second.now < 2 ^ 64 → IsGoodPair true deepest p) → first ++ sized_bytes second.now ≡ held_pair p → self.new ≡ self.old ++ (p ∷ [])) }
+        requires { (p : ℕ × DocValue) × (length second.now < 2 ^ 64 → IsGoodPair true deepest p)
+            × (first ++ sized_bytes second.now ≡ held_pair p) }
+        ensures ok { OnOk result ((p : ℕ × DocValue) → (length second.now < 2 ^ 64 → IsGoodPair true deepest p)
+            → first ++ sized_bytes second.now ≡ held_pair p → self.new ≡ self.old ++ (p ∷ [])) }
         ensures err { OnErr result (self.new ≡ self.old) }
     {
         append_sized(&mut self.heap, first, second)?;

@@ -20,7 +20,8 @@ impl CompactDoc {
     /// Returns the stored values as the text of one JSON object without spaces: field names as keys, in the order of
     /// their bytes, with a list of values for each.
     pub fn to_json(&self, alloc: Global, schema: &Schema) -> Result<String, AllocError>
-        ensures { IfOk result (λ text. string_bytes text ≡ compact_text (printed_named (stored_values schema.now self.now))) }
+        ensures { IfOk result (λ text. string_bytes text
+            ≡ compact_text (printed_named (stored_values schema.now self.now))) }
     {
         let fields = stored_fields(alloc, schema, self)?;
         let mut out = Writer::new(Vec::new(alloc));
@@ -36,7 +37,8 @@ fn stored_fields<'a>(
     schema: &'a Schema,
     doc: &CompactDoc,
 ) -> Result<BTreeMap<&'a str, u32>, AllocError>
-    ensures { IfOk result (λ fields. field_members doc.now fields.entries ≡ printed_fields (stored_values schema.now doc.now)) }
+    ensures { IfOk result (λ fields. field_members doc.now fields.entries
+        ≡ printed_fields (stored_values schema.now doc.now)) }
 {
     let count = schema.num_fields();
     let mut fields = BTreeMap::new(alloc);
@@ -55,7 +57,8 @@ fn write_fields(
     fields: BTreeMap<&str, u32>,
     out: &mut Writer,
 ) -> Result<(), AllocError>
-    ensures ok { OnOk result (out.new.tokens ≡ out.old.tokens ++ json_tokens (outline (object (field_members doc.now fields.entry.entries)))) }
+    ensures ok { OnOk result (out.new.tokens
+        ≡ out.old.tokens ++ json_tokens (outline (object (field_members doc.now fields.entry.entries)))) }
     ensures before { out.new.before ≡ out.old.before }
 {
     out.begin_object()?;
@@ -69,7 +72,8 @@ fn write_fields(
 
 /// Writes the values of a field as one list.
 fn write_list(alloc: Global, values: ValuesOfField<'_>, out: &mut Writer) -> Result<(), AllocError>
-    ensures ok { OnOk result (out.new.tokens ≡ out.old.tokens ++ json_tokens (outline (array (printed_list values.entry)))) }
+    ensures ok { OnOk result (out.new.tokens
+        ≡ out.old.tokens ++ json_tokens (outline (array (printed_list values.entry)))) }
     ensures before { out.new.before ≡ out.old.before }
 {
     out.begin_array()?;

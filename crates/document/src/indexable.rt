@@ -81,7 +81,8 @@ fn is_of_type(field_type: Type, value: &CompactDocValue<'_>) -> bool
 /// Whether `value` is or holds what no JSON field takes; `None`, before going deeper, where it nests over `depth` deep.
 #[cycle(foreign_leaf)]
 fn foreign_leaf(depth: usize, value: CompactDocValue<'_>) -> Option<bool>
-    ensures { result ≡ only_if (nat_le (nesting (value_of value.entry)) depth) (Some (has_foreign_leaf (value_of value.entry))) }
+    ensures { result ≡ only_if (nat_le (nesting (value_of value.entry)) depth)
+        (Some (has_foreign_leaf (value_of value.entry))) }
 {
     match value {
         CompactDocValue::Null
@@ -101,7 +102,8 @@ fn foreign_leaf(depth: usize, value: CompactDocValue<'_>) -> Option<bool>
 
 #[cycle(foreign_leaf)]
 fn foreign_value(depth: usize, values: CompactDocArrayIter<'_>) -> Option<bool>
-    ensures { result ≡ only_if (nat_le (values_nesting (to_values values.entry)) depth) (Some (have_foreign_leaf (to_values values.entry))) }
+    ensures { result ≡ only_if (nat_le (values_nesting (to_values values.entry)) depth)
+        (Some (have_foreign_leaf (to_values values.entry))) }
 {
     let mut found = false;
     for value in values {
@@ -112,7 +114,8 @@ fn foreign_value(depth: usize, values: CompactDocArrayIter<'_>) -> Option<bool>
 
 #[cycle(foreign_leaf)]
 fn foreign_member(depth: usize, members: CompactDocObjectIter<'_>) -> Option<bool>
-    ensures { result ≡ only_if (nat_le (members_nesting (to_members members.entry)) depth) (Some (members_have_foreign_leaf (to_members members.entry))) }
+    ensures { result ≡ only_if (nat_le (members_nesting (to_members members.entry)) depth)
+        (Some (members_have_foreign_leaf (to_members members.entry))) }
 {
     let mut found = false;
     for (_, value) in members {

@@ -30,7 +30,8 @@ impl CompactDoc {
         json: &Json,
     ) -> Result<CompactDoc, Fault>
         ensures ok { IfOk result (λ doc. reading.read_data schema.now (view json.now) ≡ Ok doc) }
-        ensures err { IfErr result (λ fault. fault ≢ faults.OutOfMemory → reading.read_data schema.now (view json.now) ≡ Err fault) }
+        ensures err { IfErr result (λ fault. fault ≢ faults.OutOfMemory
+            → reading.read_data schema.now (view json.now) ≡ Err fault) }
     {
         match json {
             Json::Object(members) => read_members(alloc, schema, members),
@@ -46,7 +47,8 @@ fn read_members(
     members: &Map<String, Json>,
 ) -> Result<CompactDoc, Fault>
     ensures ok { IfOk result (λ doc. reading.read_members schema.now (members_view members.now.entries) ≡ Ok doc) }
-    ensures err { IfErr result (λ fault. fault ≢ faults.OutOfMemory → reading.read_members schema.now (members_view members.now.entries) ≡ Err fault) }
+    ensures err { IfErr result (λ fault. fault ≢ faults.OutOfMemory
+        → reading.read_members schema.now (members_view members.now.entries) ≡ Err fault) }
 {
     let mut doc = CompactDoc::new(alloc);
     for (key, member) in members.iter() {
@@ -64,7 +66,8 @@ fn read_member(
     doc: &mut CompactDoc,
 ) -> Result<(), Fault>
     ensures ok { OnOk result (added_to doc.old (reading.read_member schema.now key.now (view json.now)) ≡ Ok doc.new) }
-    ensures err { IfErr result (λ fault. fault ≢ faults.OutOfMemory → reading.read_member schema.now key.now (view json.now) ≡ Err fault) }
+    ensures err { IfErr result (λ fault. fault ≢ faults.OutOfMemory
+        → reading.read_member schema.now key.now (view json.now) ≡ Err fault) }
 {
     match schema.get_field(key) {
         Ok(field) => read_field(alloc, field, schema.get_field_entry(field), json, doc),
@@ -81,7 +84,8 @@ fn read_field(
     doc: &mut CompactDoc,
 ) -> Result<(), Fault>
     ensures ok { OnOk result (added_to doc.old (reading.read_field field entry.now (view json.now)) ≡ Ok doc.new) }
-    ensures err { IfErr result (λ fault. fault ≢ faults.OutOfMemory → reading.read_field field entry.now (view json.now) ≡ Err fault) }
+    ensures err { IfErr result (λ fault. fault ≢ faults.OutOfMemory
+        → reading.read_field field entry.now (view json.now) ≡ Err fault) }
 {
     match json {
         Json::Array(items) => read_items(alloc, field, entry, items.as_slice(), doc),
@@ -97,8 +101,10 @@ fn read_items(
     items: &[Json],
     doc: &mut CompactDoc,
 ) -> Result<(), Fault>
-    ensures ok { OnOk result (added_to doc.old (reading.read_items field entry.now (items_view items.now)) ≡ Ok doc.new) }
-    ensures err { IfErr result (λ fault. fault ≢ faults.OutOfMemory → reading.read_items field entry.now (items_view items.now) ≡ Err fault) }
+    ensures ok { OnOk result (added_to doc.old (reading.read_items field entry.now (items_view items.now))
+        ≡ Ok doc.new) }
+    ensures err { IfErr result (λ fault. fault ≢ faults.OutOfMemory
+        → reading.read_items field entry.now (items_view items.now) ≡ Err fault) }
 {
     for item in items {
         read_one(alloc, field, entry, item, doc)?;
@@ -114,8 +120,10 @@ fn read_one(
     json: &Json,
     doc: &mut CompactDoc,
 ) -> Result<(), Fault>
-    ensures ok { OnOk result ((value : definitions.Value) × (reading.read_value entry.now (view json.now) ≡ Ok value) × (doc.new ≡ doc.old ++ (field, value) ∷ [])) }
-    ensures err { IfErr result (λ fault. fault ≢ faults.OutOfMemory → reading.read_value entry.now (view json.now) ≡ Err fault) }
+    ensures ok { OnOk result ((value : definitions.Value) × (reading.read_value entry.now (view json.now) ≡ Ok value)
+        × (doc.new ≡ doc.old ++ (field, value) ∷ [])) }
+    ensures err { IfErr result (λ fault. fault ≢ faults.OutOfMemory
+        → reading.read_value entry.now (view json.now) ≡ Err fault) }
 {
     if let Some(text) = plain_text(entry, json) {
         doc.add_text(field, text)?;
@@ -147,7 +155,8 @@ fn read_plain(alloc: Global, entry: &FieldEntry, json: &Json) -> Result<Leaf, Fa
     requires kind { entry.now.kind ≢ json_kind }
     requires whole { has_float (view json.now) ≡ false }
     ensures ok { IfOk result (λ leaf. reading.read_value entry.now (view json.now) ≡ Ok (value_of leaf)) }
-    ensures err { IfErr result (λ fault. fault ≢ faults.OutOfMemory → reading.read_value entry.now (view json.now) ≡ Err fault) }
+    ensures err { IfErr result (λ fault. fault ≢ faults.OutOfMemory
+        → reading.read_value entry.now (view json.now) ≡ Err fault) }
 {
     let field_type = entry.field_type();
     read_leaf(alloc, field_type.value_type(), coerces(field_type), json)
@@ -155,8 +164,10 @@ fn read_plain(alloc: Global, entry: &FieldEntry, json: &Json) -> Result<Leaf, Fa
 
 /// Adds an object.
 fn read_object(alloc: Global, field: Field, json: &Json, doc: &mut CompactDoc) -> Result<(), Fault>
-    ensures ok { OnOk result ((value : definitions.Value) × (reading.read_kind json_kind false (view json.now) ≡ Ok value) × (doc.new ≡ doc.old ++ (field, value) ∷ [])) }
-    ensures err { IfErr result (λ fault. fault ≢ faults.OutOfMemory → reading.read_kind json_kind false (view json.now) ≡ Err fault) }
+    ensures ok { OnOk result ((value : definitions.Value)
+        × (reading.read_kind json_kind false (view json.now) ≡ Ok value) × (doc.new ≡ doc.old ++ (field, value) ∷ [])) }
+    ensures err { IfErr result (λ fault. fault ≢ faults.OutOfMemory
+        → reading.read_kind json_kind false (view json.now) ≡ Err fault) }
 {
     match json {
         Json::Object(members) => Ok(add_object(alloc, field, members, doc)?),
@@ -171,7 +182,8 @@ fn add_object(
     members: &Map<String, Json>,
     doc: &mut CompactDoc,
 ) -> Result<(), AllocError>
-    ensures ok { OnOk result (doc.new ≡ doc.old ++ (field, definitions.object (reading.json_members (members_view members.now.entries))) ∷ []) }
+    ensures ok { OnOk result (doc.new
+        ≡ doc.old ++ (field, definitions.object (reading.json_members (members_view members.now.entries))) ∷ []) }
     ensures err { OnErr result (doc.new ≡ doc.old) }
 {
     let pair = json_object_pair(alloc, field, members)?;

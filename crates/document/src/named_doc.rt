@@ -44,7 +44,8 @@ impl NamedDocument {
 
     /// Returns the values of the field `name`, or `None` where the document has none.
     pub fn get(&self, name: &str) -> Option<&[OwnedValue]>
-        ensures { option_map (λ values. owned_values values.now) result ≡ option_map (λ f. f.1) (find (λ f. bytes_eq f.0 name.now) self.now) }
+        ensures { option_map (λ values. owned_values values.now) result
+            ≡ option_map (λ f. f.1) (find (λ f. bytes_eq f.0 name.now) self.now) }
     {
         for field in &self.fields {
             if field.0.as_str() == name {
@@ -89,7 +90,8 @@ fn put_stored(
 ) -> Result<(), AllocError>
     requires { length lists.old.items ≡ length schema.now }
     ensures len { OnOk result (length lists.new.items ≡ length schema.now) }
-    ensures lists { OnOk result (lists_of lists.new.items ≡ put_all (stored_pairs schema.now doc.now) (lists_of lists.old.items)) }
+    ensures lists { OnOk result (lists_of lists.new.items
+        ≡ put_all (stored_pairs schema.now doc.now) (lists_of lists.old.items)) }
 {
     for (field, value) in doc.field_values() {
         if is_stored(schema, field) {
@@ -104,7 +106,8 @@ fn put_stored(
 fn put(lists: &mut Vec<Vec<OwnedValue>>, field: Field, value: OwnedValue) -> Result<(), AllocError>
     requires { field < length lists.old.items }
     ensures len { length lists.new.items ≡ length lists.old.items }
-    ensures lists { OnOk result (lists_of lists.new.items ≡ put_at field (owned_value value) (lists_of lists.old.items)) }
+    ensures lists { OnOk result (lists_of lists.new.items
+        ≡ put_at field (owned_value value) (lists_of lists.old.items)) }
 {
     Ok(lists[field.field_id() as usize].push(value)?)
 }
@@ -143,7 +146,8 @@ fn push_named(
     fields: &mut Vec<(String, Vec<OwnedValue>)>,
 ) -> Result<(), AllocError>
     requires { field < length schema.now }
-    ensures { OnOk result (named_of fields.new.items ≡ named_of fields.old.items ++ named_list (slice_get schema.now field) (owned_values values.items)) }
+    ensures { OnOk result (named_of fields.new.items
+        ≡ named_of fields.old.items ++ named_list (slice_get schema.now field) (owned_values values.items)) }
 {
     if values.is_empty() {
         return Ok(());

@@ -24,7 +24,9 @@ impl CompactDoc {
     /// document of these pairs where no value nests more than 128 deep.
     pub fn serialize(&self, alloc: Global, schema: &Schema) -> Result<Vec<u8>, AllocError>
         ensures bytes { IfOk result (λ bytes. bytes.items ≡ document_bytes (stored_pairs schema.now self.now)) }
-        ensures read_back { AllByRecursion (λ p. nesting p.1 ≤ max_nesting) self.now → read_document (document_bytes (stored_pairs schema.now self.now)) ≡ Some (stored_pairs schema.now self.now) }
+        ensures read_back { AllByRecursion (λ p. nesting p.1 ≤ max_nesting) self.now
+            → read_document (document_bytes (stored_pairs schema.now self.now))
+            ≡ Some (stored_pairs schema.now self.now) }
     {
         let count = self.stored_count(schema);
         let mut bytes = Vec::with_capacity(alloc, self.serialized_at_most())?;
@@ -58,7 +60,8 @@ impl CompactDoc {
 
     // Appends the pairs of stored fields.
     fn put_stored(&self, out: &mut Vec<u8>, schema: &Schema) -> Result<(), AllocError>
-        ensures { OnOk result (out.new.items ≡ out.old.items ++ flat_map pair_bytes (stored_pairs schema.now self.now)) }
+        ensures { OnOk result (out.new.items
+            ≡ out.old.items ++ flat_map pair_bytes (stored_pairs schema.now self.now)) }
     {
         for (field, value) in self.field_values() {
             if is_stored(schema, field) {

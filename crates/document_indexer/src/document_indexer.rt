@@ -76,7 +76,8 @@ impl DocumentIndexer {
 
     /// Returns the number of documents that are indexed.
     pub fn num_docs(&self) -> u32
-        ensures { (schema : schemas.Schema) (analyze : definitions.Analyzer) (docs : List Document) → HasIndexed schema analyze self.now docs
+        ensures { (schema : schemas.Schema) (analyze : definitions.Analyzer) (docs : List Document)
+            → HasIndexed schema analyze self.now docs
             → result ≡ length docs }
     {
         self.context.doc()
@@ -95,17 +96,23 @@ impl DocumentIndexer {
         alloc: Global,
         schema: &Schema,
     ) -> Result<(Vec<u8>, Vec<u8>, Vec<u8>, Vec<u8>), Fault>
-        requires { (analyze : definitions.Analyzer) × (docs : List Document) × HasIndexed schema.now analyze self.now docs }
-        ensures ok { (analyze : definitions.Analyzer) (docs : List Document) → HasIndexed schema.now analyze self.now docs
+        requires { (analyze : definitions.Analyzer) × (docs : List Document)
+            × HasIndexed schema.now analyze self.now docs }
+        ensures ok { (analyze : definitions.Analyzer) (docs : List Document)
+            → HasIndexed schema.now analyze self.now docs
             → IfOk result (λ sections. (fields : List IndexedField)
             × AreSections schema.now (length docs) (norms_of schema.now analyze docs) fields
             sections.0.items sections.1.items sections.2.items
             × AreIndexed schema.now analyze docs fields
             × AllByRecursion (IsFieldWithin schema.now) fields) }
-        ensures lengths { (analyze : definitions.Analyzer) (docs : List Document) → HasIndexed schema.now analyze self.now docs
-            → IfOk result (λ sections. IsNorms (length_fields schema.now) (length docs) sections.3.items (norms_of schema.now analyze docs)) }
-        ensures err { (analyze : definitions.Analyzer) (docs : List Document) → HasIndexed schema.now analyze self.now docs
-            → IfErr result (λ fault. IsSerializeRefusal fault schema.now (norms_of schema.now analyze docs) (λ t. postings schema.now analyze t docs)) }
+        ensures lengths { (analyze : definitions.Analyzer) (docs : List Document)
+            → HasIndexed schema.now analyze self.now docs
+            → IfOk result (λ sections. IsNorms (length_fields schema.now) (length docs) sections.3.items
+            (norms_of schema.now analyze docs)) }
+        ensures err { (analyze : definitions.Analyzer) (docs : List Document)
+            → HasIndexed schema.now analyze self.now docs
+            → IfErr result (λ fault. IsSerializeRefusal fault schema.now (norms_of schema.now analyze docs)
+            (λ t. postings schema.now analyze t docs)) }
     {
         let norms = self
             .norms
@@ -121,16 +128,20 @@ impl DocumentIndexer {
         schema: &Schema,
         norms: &[u8],
     ) -> Result<(Vec<u8>, Vec<u8>, Vec<u8>), Fault>
-        requires indexed { (analyze : definitions.Analyzer) × (docs : List Document) × HasIndexed schema.now analyze self.now docs }
+        requires indexed { (analyze : definitions.Analyzer) × (docs : List Document)
+            × HasIndexed schema.now analyze self.now docs }
         requires lengths { norms.now ≡ norms_bytes self.now.norms }
-        ensures ok { (analyze : definitions.Analyzer) (docs : List Document) → HasIndexed schema.now analyze self.now docs
+        ensures ok { (analyze : definitions.Analyzer) (docs : List Document)
+            → HasIndexed schema.now analyze self.now docs
             → IfOk result (λ sections. (fields : List IndexedField)
             × AreSections schema.now (length docs) (norms_of schema.now analyze docs) fields
             sections.0.items sections.1.items sections.2.items
             × AreIndexed schema.now analyze docs fields
             × AllByRecursion (IsFieldWithin schema.now) fields) }
-        ensures err { (analyze : definitions.Analyzer) (docs : List Document) → HasIndexed schema.now analyze self.now docs
-            → IfErr result (λ fault. IsSerializeRefusal fault schema.now (norms_of schema.now analyze docs) (λ t. postings schema.now analyze t docs)) }
+        ensures err { (analyze : definitions.Analyzer) (docs : List Document)
+            → HasIndexed schema.now analyze self.now docs
+            → IfErr result (λ fault. IsSerializeRefusal fault schema.now (norms_of schema.now analyze docs)
+            (λ t. postings schema.now analyze t docs)) }
     {
         let fields = length_fields(alloc, schema)?;
         let readers = FieldNormReaders::new(norms, self.num_docs(), &fields);

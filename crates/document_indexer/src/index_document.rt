@@ -26,7 +26,8 @@ pub(crate) fn index_document<A: Analyzer>(
     lengths: &mut Vec<u32>,
 ) -> Result<(), Fault>
     requires { IsReady schema.now indexer.old }
-    ensures ok { OnOk result (Records schema.now indexer.old indexer.new (steps_of schema.now (A.analyze analyzer.now) doc.now)) }
+    ensures ok { OnOk result (Records schema.now indexer.old indexer.new
+        (steps_of schema.now (A.analyze analyzer.now) doc.now)) }
     ensures lengths { OnOk result (AreLengths schema.now (A.analyze analyzer.now) doc.now lengths.new.items) }
     ensures err { IfErr result (Refuses schema.now indexer.old (steps_of schema.now (A.analyze analyzer.now) doc.now)) }
 {
@@ -47,10 +48,13 @@ fn index_field_value<A: Analyzer>(
     value: CompactDocValue<'_>,
 ) -> Result<u32, Fault>
     requires { IsReady schema.now indexer.old }
-    ensures ok { OnOk result (Records schema.now indexer.old indexer.new (value_steps schema.now (A.analyze analyzer.now) (field, value_of value.entry))) }
+    ensures ok { OnOk result (Records schema.now indexer.old indexer.new
+        (value_steps schema.now (A.analyze analyzer.now) (field, value_of value.entry))) }
     ensures len { field_has is_indexed schema.now field ≡ true
-        → IfOk result (λ n. n ≡ cut (field_value_len schema.now (A.analyze analyzer.now) (field, value_of value.entry))) }
-    ensures err { IfErr result (Refuses schema.now indexer.old (value_steps schema.now (A.analyze analyzer.now) (field, value_of value.entry))) }
+        → IfOk result (λ n. n
+        ≡ cut (field_value_len schema.now (A.analyze analyzer.now) (field, value_of value.entry))) }
+    ensures err { IfErr result (Refuses schema.now indexer.old
+        (value_steps schema.now (A.analyze analyzer.now) (field, value_of value.entry))) }
 {
     if field.field_id() as usize >= schema.num_fields() {
         return Ok(0);

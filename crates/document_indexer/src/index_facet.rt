@@ -39,7 +39,8 @@ fn index_prefixes(
     text: &str,
 ) -> Result<(), Fault>
     requires { CanIndex schema.now indexer.old field facet_kind }
-    ensures ok { OnOk result (Records schema.now indexer.old indexer.new (facet_steps field (facet (steps_in text.now)))) }
+    ensures ok { OnOk result (Records schema.now indexer.old indexer.new
+        (facet_steps field (facet (steps_in text.now)))) }
     ensures err { IfErr result (Refuses schema.now indexer.old (facet_steps field (facet (steps_in text.now)))) }
 {
     let bytes = text.as_bytes();

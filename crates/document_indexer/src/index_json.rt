@@ -28,8 +28,12 @@ pub(crate) fn index_json<A: Analyzer>(
     value: CompactDocValue<'_>,
 ) -> Result<(), Fault>
     requires { CanIndex schema.now indexer.old field json_kind }
-    ensures ok { OnOk result (Records schema.now indexer.old indexer.new (leaves_steps (A.analyze analyzer.now) field entry.now.tokenizer (leaves entry.now.expand_dots [] (value_of value.entry)))) }
-    ensures err { IfErr result (Refuses schema.now indexer.old (leaves_steps (A.analyze analyzer.now) field entry.now.tokenizer (leaves entry.now.expand_dots [] (value_of value.entry)))) }
+    ensures ok { OnOk result (Records schema.now indexer.old indexer.new
+        (leaves_steps (A.analyze analyzer.now) field entry.now.tokenizer
+        (leaves entry.now.expand_dots [] (value_of value.entry)))) }
+    ensures err { IfErr result (Refuses schema.now indexer.old
+        (leaves_steps (A.analyze analyzer.now) field entry.now.tokenizer
+        (leaves entry.now.expand_dots [] (value_of value.entry)))) }
 {
     let json_field = JsonField {
         schema,
@@ -52,8 +56,12 @@ fn index_leaves<'a, A: Analyzer>(
 ) -> Result<(), Fault>
     requires { CanIndex json_field.now.schema.now indexer.old json_field.now.field json_kind }
     ensures keys { OnOk result (keys.new.items ≡ keys.old.items) }
-    ensures ok { OnOk result (Records json_field.now.schema.now indexer.old indexer.new (leaves_steps (A.analyze analyzer.now) json_field.now.field json_field.now.tokenizer.now (leaves json_field.now.expand_dots (map (λ k. k.now) keys.old.items) (value_of value.entry)))) }
-    ensures err { IfErr result (Refuses json_field.now.schema.now indexer.old (leaves_steps (A.analyze analyzer.now) json_field.now.field json_field.now.tokenizer.now (leaves json_field.now.expand_dots (map (λ k. k.now) keys.old.items) (value_of value.entry)))) }
+    ensures ok { OnOk result (Records json_field.now.schema.now indexer.old indexer.new
+        (leaves_steps (A.analyze analyzer.now) json_field.now.field json_field.now.tokenizer.now
+        (leaves json_field.now.expand_dots (map (λ k. k.now) keys.old.items) (value_of value.entry)))) }
+    ensures err { IfErr result (Refuses json_field.now.schema.now indexer.old
+        (leaves_steps (A.analyze analyzer.now) json_field.now.field json_field.now.tokenizer.now
+        (leaves json_field.now.expand_dots (map (λ k. k.now) keys.old.items) (value_of value.entry)))) }
 {
     match value {
         CompactDocValue::Str(text) => indexer.index_path_text(analyzer, json_field, keys, text),
@@ -86,8 +94,12 @@ fn index_values<'a, A: Analyzer>(
 ) -> Result<(), Fault>
     requires { CanIndex json_field.now.schema.now indexer.old json_field.now.field json_kind }
     ensures keys { OnOk result (keys.new.items ≡ keys.old.items) }
-    ensures ok { OnOk result (Records json_field.now.schema.now indexer.old indexer.new (leaves_steps (A.analyze analyzer.now) json_field.now.field json_field.now.tokenizer.now (values_leaves json_field.now.expand_dots (map (λ k. k.now) keys.old.items) (to_values values.entry)))) }
-    ensures err { IfErr result (Refuses json_field.now.schema.now indexer.old (leaves_steps (A.analyze analyzer.now) json_field.now.field json_field.now.tokenizer.now (values_leaves json_field.now.expand_dots (map (λ k. k.now) keys.old.items) (to_values values.entry)))) }
+    ensures ok { OnOk result (Records json_field.now.schema.now indexer.old indexer.new
+        (leaves_steps (A.analyze analyzer.now) json_field.now.field json_field.now.tokenizer.now
+        (values_leaves json_field.now.expand_dots (map (λ k. k.now) keys.old.items) (to_values values.entry)))) }
+    ensures err { IfErr result (Refuses json_field.now.schema.now indexer.old
+        (leaves_steps (A.analyze analyzer.now) json_field.now.field json_field.now.tokenizer.now
+        (values_leaves json_field.now.expand_dots (map (λ k. k.now) keys.old.items) (to_values values.entry)))) }
 {
     for value in values {
         index_leaves(indexer, analyzer, json_field, keys, value)?;
@@ -106,8 +118,12 @@ fn index_members<'a, A: Analyzer>(
 ) -> Result<(), Fault>
     requires { CanIndex json_field.now.schema.now indexer.old json_field.now.field json_kind }
     ensures keys { OnOk result (keys.new.items ≡ keys.old.items) }
-    ensures ok { OnOk result (Records json_field.now.schema.now indexer.old indexer.new (leaves_steps (A.analyze analyzer.now) json_field.now.field json_field.now.tokenizer.now (members_leaves json_field.now.expand_dots (map (λ k. k.now) keys.old.items) (to_members members.entry)))) }
-    ensures err { IfErr result (Refuses json_field.now.schema.now indexer.old (leaves_steps (A.analyze analyzer.now) json_field.now.field json_field.now.tokenizer.now (members_leaves json_field.now.expand_dots (map (λ k. k.now) keys.old.items) (to_members members.entry)))) }
+    ensures ok { OnOk result (Records json_field.now.schema.now indexer.old indexer.new
+        (leaves_steps (A.analyze analyzer.now) json_field.now.field json_field.now.tokenizer.now
+        (members_leaves json_field.now.expand_dots (map (λ k. k.now) keys.old.items) (to_members members.entry)))) }
+    ensures err { IfErr result (Refuses json_field.now.schema.now indexer.old
+        (leaves_steps (A.analyze analyzer.now) json_field.now.field json_field.now.tokenizer.now
+        (members_leaves json_field.now.expand_dots (map (λ k. k.now) keys.old.items) (to_members members.entry)))) }
 {
     for (key, value) in members {
         index_member(indexer, analyzer, json_field, keys, key, value)?;
@@ -127,8 +143,14 @@ fn index_member<'a, A: Analyzer>(
 ) -> Result<(), Fault>
     requires { CanIndex json_field.now.schema.now indexer.old json_field.now.field json_kind }
     ensures keys { OnOk result (keys.new.items ≡ keys.old.items) }
-    ensures ok { OnOk result (Records json_field.now.schema.now indexer.old indexer.new (leaves_steps (A.analyze analyzer.now) json_field.now.field json_field.now.tokenizer.now (if has_zero key.now then [] else leaves json_field.now.expand_dots (map (λ k. k.now) keys.old.items ++ (key.now ∷ [])) (value_of value.entry)))) }
-    ensures err { IfErr result (Refuses json_field.now.schema.now indexer.old (leaves_steps (A.analyze analyzer.now) json_field.now.field json_field.now.tokenizer.now (if has_zero key.now then [] else leaves json_field.now.expand_dots (map (λ k. k.now) keys.old.items ++ (key.now ∷ [])) (value_of value.entry)))) }
+    ensures ok { OnOk result (Records json_field.now.schema.now indexer.old indexer.new
+        (leaves_steps (A.analyze analyzer.now) json_field.now.field json_field.now.tokenizer.now
+        (if has_zero key.now then [] else leaves json_field.now.expand_dots
+        (map (λ k. k.now) keys.old.items ++ (key.now ∷ [])) (value_of value.entry)))) }
+    ensures err { IfErr result (Refuses json_field.now.schema.now indexer.old
+        (leaves_steps (A.analyze analyzer.now) json_field.now.field json_field.now.tokenizer.now
+        (if has_zero key.now then [] else leaves json_field.now.expand_dots
+        (map (λ k. k.now) keys.old.items ++ (key.now ∷ [])) (value_of value.entry)))) }
 {
     if has_zero(key) {
         return Ok(());
@@ -147,8 +169,16 @@ fn index_whole_number(
     n: u64,
 ) -> Result<(), Fault>
     requires { CanIndex json_field.now.schema.now indexer.old json_field.now.field json_kind }
-    ensures ok { OnOk result (Records json_field.now.schema.now indexer.old indexer.new (plain_leaf_steps json_field.now.field (path_of_keys json_field.now.expand_dots (map (λ k. k.now) keys.now), u64 n))) }
-    ensures err { IfErr result (Refuses json_field.now.schema.now indexer.old (plain_leaf_steps json_field.now.field (path_of_keys json_field.now.expand_dots (map (λ k. k.now) keys.now), u64 n))) }
+    ensures ok { OnOk result (Records json_field.now.schema.now indexer.old indexer.new
+        (plain_leaf_steps json_field.now.field (
+          path_of_keys json_field.now.expand_dots (map (λ k. k.now) keys.now),
+          u64 n,
+        ))) }
+    ensures err { IfErr result (Refuses json_field.now.schema.now indexer.old
+        (plain_leaf_steps json_field.now.field (
+          path_of_keys json_field.now.expand_dots (map (λ k. k.now) keys.now),
+          u64 n,
+        ))) }
 {
     if n < 1 << 63 {
         index_fast_value(indexer, json_field, keys, n as i64)
@@ -165,8 +195,12 @@ fn index_fast_value<T: FastValue>(
     value: T,
 ) -> Result<(), Fault>
     requires { CanIndex json_field.now.schema.now indexer.old json_field.now.field json_kind }
-    ensures ok { OnOk result (Records json_field.now.schema.now indexer.old indexer.new (fast_steps json_field.now.field (path_of_keys json_field.now.expand_dots (map (λ k. k.now) keys.now)) T.kind (T.value value))) }
-    ensures err { IfErr result (Refuses json_field.now.schema.now indexer.old (fast_steps json_field.now.field (path_of_keys json_field.now.expand_dots (map (λ k. k.now) keys.now)) T.kind (T.value value))) }
+    ensures ok { OnOk result (Records json_field.now.schema.now indexer.old indexer.new
+        (fast_steps json_field.now.field (path_of_keys json_field.now.expand_dots (map (λ k. k.now) keys.now)) T.kind
+        (T.value value))) }
+    ensures err { IfErr result (Refuses json_field.now.schema.now indexer.old
+        (fast_steps json_field.now.field (path_of_keys json_field.now.expand_dots (map (λ k. k.now) keys.now)) T.kind
+        (T.value value))) }
 {
     let bytes = value.to_u64().to_be_bytes();
     indexer.index_leaf(json_field, keys, T::to_type(), &bytes)

@@ -27,8 +27,10 @@ pub(crate) fn index_value<A: Analyzer>(
 ) -> Result<(), Fault>
     requires can { CanIndex schema.now indexer.old field entry.now.kind }
     requires other { is_text entry.now.kind ≡ false }
-    ensures ok { OnOk result (Records schema.now indexer.old indexer.new (kind_steps entry.now.kind (A.analyze analyzer.now) field entry.now (value_of value.entry))) }
-    ensures err { IfErr result (Refuses schema.now indexer.old (kind_steps entry.now.kind (A.analyze analyzer.now) field entry.now (value_of value.entry))) }
+    ensures ok { OnOk result (Records schema.now indexer.old indexer.new
+        (kind_steps entry.now.kind (A.analyze analyzer.now) field entry.now (value_of value.entry))) }
+    ensures err { IfErr result (Refuses schema.now indexer.old
+        (kind_steps entry.now.kind (A.analyze analyzer.now) field entry.now (value_of value.entry))) }
 {
     match entry.value_type() {
         Type::Str => Ok(()),
@@ -53,9 +55,12 @@ pub(crate) fn index_text<A: Analyzer>(
     value: CompactDocValue<'_>,
 ) -> Result<u32, Fault>
     requires { CanIndex schema.now indexer.old field text_kind }
-    ensures ok { OnOk result (Records schema.now indexer.old indexer.new (text_steps (A.analyze analyzer.now) field entry.now (value_of value.entry))) }
-    ensures num_tokens { IfOk result (λ n. n ≡ cut (num_tokens (A.analyze analyzer.now) entry.now.tokenizer (value_of value.entry))) }
-    ensures err { IfErr result (Refuses schema.now indexer.old (text_steps (A.analyze analyzer.now) field entry.now (value_of value.entry))) }
+    ensures ok { OnOk result (Records schema.now indexer.old indexer.new
+        (text_steps (A.analyze analyzer.now) field entry.now (value_of value.entry))) }
+    ensures num_tokens { IfOk result (λ n. n
+        ≡ cut (num_tokens (A.analyze analyzer.now) entry.now.tokenizer (value_of value.entry))) }
+    ensures err { IfErr result (Refuses schema.now indexer.old
+        (text_steps (A.analyze analyzer.now) field entry.now (value_of value.entry))) }
 {
     match value {
         CompactDocValue::Str(text) => {
@@ -77,7 +82,8 @@ fn index_u64(
     value: CompactDocValue<'_>,
 ) -> Result<(), Fault>
     requires { CanIndex schema.now indexer.old field u64_kind }
-    ensures ok { OnOk result (Records schema.now indexer.old indexer.new (plain_steps u64_kind field (value_of value.entry))) }
+    ensures ok { OnOk result (Records schema.now indexer.old indexer.new
+        (plain_steps u64_kind field (value_of value.entry))) }
     ensures err { IfErr result (Refuses schema.now indexer.old (plain_steps u64_kind field (value_of value.entry))) }
 {
     match value {
@@ -94,7 +100,8 @@ fn index_i64(
     value: CompactDocValue<'_>,
 ) -> Result<(), Fault>
     requires { CanIndex schema.now indexer.old field i64_kind }
-    ensures ok { OnOk result (Records schema.now indexer.old indexer.new (plain_steps i64_kind field (value_of value.entry))) }
+    ensures ok { OnOk result (Records schema.now indexer.old indexer.new
+        (plain_steps i64_kind field (value_of value.entry))) }
     ensures err { IfErr result (Refuses schema.now indexer.old (plain_steps i64_kind field (value_of value.entry))) }
 {
     match value {
@@ -111,7 +118,8 @@ fn index_bool(
     value: CompactDocValue<'_>,
 ) -> Result<(), Fault>
     requires { CanIndex schema.now indexer.old field bool_kind }
-    ensures ok { OnOk result (Records schema.now indexer.old indexer.new (plain_steps bool_kind field (value_of value.entry))) }
+    ensures ok { OnOk result (Records schema.now indexer.old indexer.new
+        (plain_steps bool_kind field (value_of value.entry))) }
     ensures err { IfErr result (Refuses schema.now indexer.old (plain_steps bool_kind field (value_of value.entry))) }
 {
     match value {
@@ -128,7 +136,8 @@ fn index_date(
     value: CompactDocValue<'_>,
 ) -> Result<(), Fault>
     requires { CanIndex schema.now indexer.old field date_kind }
-    ensures ok { OnOk result (Records schema.now indexer.old indexer.new (plain_steps date_kind field (value_of value.entry))) }
+    ensures ok { OnOk result (Records schema.now indexer.old indexer.new
+        (plain_steps date_kind field (value_of value.entry))) }
     ensures err { IfErr result (Refuses schema.now indexer.old (plain_steps date_kind field (value_of value.entry))) }
 {
     match value {
@@ -145,7 +154,8 @@ fn index_bytes(
     value: CompactDocValue<'_>,
 ) -> Result<(), Fault>
     requires { CanIndex schema.now indexer.old field bytes_kind }
-    ensures ok { OnOk result (Records schema.now indexer.old indexer.new (plain_steps bytes_kind field (value_of value.entry))) }
+    ensures ok { OnOk result (Records schema.now indexer.old indexer.new
+        (plain_steps bytes_kind field (value_of value.entry))) }
     ensures err { IfErr result (Refuses schema.now indexer.old (plain_steps bytes_kind field (value_of value.entry))) }
 {
     match value {
@@ -162,7 +172,8 @@ fn index_ip_addr(
     value: CompactDocValue<'_>,
 ) -> Result<(), Fault>
     requires { CanIndex schema.now indexer.old field ip_addr_kind }
-    ensures ok { OnOk result (Records schema.now indexer.old indexer.new (plain_steps ip_addr_kind field (value_of value.entry))) }
+    ensures ok { OnOk result (Records schema.now indexer.old indexer.new
+        (plain_steps ip_addr_kind field (value_of value.entry))) }
     ensures err { IfErr result (Refuses schema.now indexer.old (plain_steps ip_addr_kind field (value_of value.entry))) }
 {
     match value {

@@ -96,8 +96,10 @@ impl IndexingContext {
         value: &[u8],
     ) -> Result<(), Fault>
         requires { CanIndex schema.now self.old field (kind_of kind) }
-        ensures ok { OnOk result (Records schema.now self.old self.new (term_step (term_bytes field (kind_of kind) value.now) ∷ [])) }
-        ensures err { IfErr result (Refuses schema.now self.old (term_step (term_bytes field (kind_of kind) value.now) ∷ [])) }
+        ensures ok { OnOk result (Records schema.now self.old self.new
+            (term_step (term_bytes field (kind_of kind) value.now) ∷ [])) }
+        ensures err { IfErr result (Refuses schema.now self.old (term_step (term_bytes field (kind_of kind) value.now)
+            ∷ [])) }
     {
         self.term_buffer.clear();
         push_term_header(&mut self.term_buffer, field, kind)?;
@@ -119,7 +121,8 @@ impl IndexingContext {
         requires { CanIndex schema.now self.old field text_kind }
         ensures ok { OnOk result (Records schema.now self.old self.new
             (text_step (term_bytes field text_kind []) 1 (kept (A.analyze analyzer.now tokenizer.now text.now)) ∷ [])) }
-        ensures num_tokens { IfOk result (λ n. n ≡ cut (length (kept (A.analyze analyzer.now tokenizer.now text.now)))) }
+        ensures num_tokens { IfOk result (λ n. n
+            ≡ cut (length (kept (A.analyze analyzer.now tokenizer.now text.now)))) }
         ensures err { IfErr result (Refuses schema.now self.old
             (text_step (term_bytes field text_kind []) 1 (kept (A.analyze analyzer.now tokenizer.now text.now)) ∷ [])) }
     {
@@ -175,9 +178,11 @@ impl IndexingContext {
     ) -> Result<(), Fault>
         requires { CanIndex json_field.now.schema.now self.old json_field.now.field json_kind }
         ensures ok { OnOk result (Records json_field.now.schema.now self.old self.new
-            (term_step (json_term json_field.now.field (path_of_keys json_field.now.expand_dots (map (λ k. k.now) keys.now)) (type_code (kind_of kind) ++ value.now)) ∷ [])) }
+            (term_step (json_term json_field.now.field (path_of_keys json_field.now.expand_dots
+            (map (λ k. k.now) keys.now)) (type_code (kind_of kind) ++ value.now)) ∷ [])) }
         ensures err { IfErr result (Refuses json_field.now.schema.now self.old
-            (term_step (json_term json_field.now.field (path_of_keys json_field.now.expand_dots (map (λ k. k.now) keys.now)) (type_code (kind_of kind) ++ value.now)) ∷ [])) }
+            (term_step (json_term json_field.now.field (path_of_keys json_field.now.expand_dots
+            (map (λ k. k.now) keys.now)) (type_code (kind_of kind) ++ value.now)) ∷ [])) }
     {
         begin_leaf(&mut self.term_buffer, json_field, keys, kind)?;
         self.term_buffer.extend_from_slice(value)?;
@@ -195,9 +200,11 @@ impl IndexingContext {
     ) -> Result<(), Fault>
         requires { CanIndex json_field.now.schema.now self.old json_field.now.field json_kind }
         ensures ok { OnOk result (Records json_field.now.schema.now self.old self.new
-            (path_step json_field.now.field (path_of_keys json_field.now.expand_dots (map (λ k. k.now) keys.now)) (kept (A.analyze analyzer.now json_field.now.tokenizer.now text.now)) ∷ [])) }
+            (path_step json_field.now.field (path_of_keys json_field.now.expand_dots (map (λ k. k.now) keys.now))
+            (kept (A.analyze analyzer.now json_field.now.tokenizer.now text.now)) ∷ [])) }
         ensures err { IfErr result (Refuses json_field.now.schema.now self.old
-            (path_step json_field.now.field (path_of_keys json_field.now.expand_dots (map (λ k. k.now) keys.now)) (kept (A.analyze analyzer.now json_field.now.tokenizer.now text.now)) ∷ [])) }
+            (path_step json_field.now.field (path_of_keys json_field.now.expand_dots (map (λ k. k.now) keys.now))
+            (kept (A.analyze analyzer.now json_field.now.tokenizer.now text.now)) ∷ [])) }
     {
         analyzer.tokens_into(self.alloc, json_field.tokenizer, text, &mut self.tokens)?;
         begin_leaf(&mut self.term_buffer, json_field, keys, Type::Str)?;
@@ -221,7 +228,9 @@ fn begin_leaf(
     keys: &[&str],
     kind: Type,
 ) -> Result<(), AllocError>
-    ensures { OnOk result (term_buffer.new.items ≡ json_term json_field.now.field (path_of_keys json_field.now.expand_dots (map (λ k. k.now) keys.now)) (type_code (kind_of kind))) }
+    ensures { OnOk result (term_buffer.new.items
+        ≡ json_term json_field.now.field (path_of_keys json_field.now.expand_dots (map (λ k. k.now) keys.now))
+        (type_code (kind_of kind))) }
 {
     term_buffer.clear();
     push_json_path(term_buffer, json_field.field, keys, json_field.expand_dots)?;

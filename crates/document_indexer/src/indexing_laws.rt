@@ -11,10 +11,15 @@ ghost use Rattle.document_indexer.specs.Indexed.{AreOccurrences};
 
 /// States that what is recorded of a term gives its postings in the documents.
 pub fn documents_give_postings()
-    ensures { (schema : Schema) (analyze : Analyzer) (docs : List Document) (os : List Occurrence) → AreOccurrences schema analyze docs os → (t : List ℕ) → postings_in (option_of_term schema t) t os ≡ postings schema analyze t docs }
+    ensures { (schema : Schema) (analyze : Analyzer) (docs : List Document) (os : List Occurrence)
+        → AreOccurrences schema analyze docs os → (t : List ℕ)
+        → postings_in (option_of_term schema t) t os ≡ postings schema analyze t docs }
 {}
 
 /// States that fields that have what is recorded are those of the documents.
 pub fn documents_give_fields()
-    ensures { (schema : Schema) (analyze : Analyzer) (docs : List Document) (os : List Occurrence) (fields : List IndexedField) → AreOccurrences schema analyze docs os → AreGiven (λ t. postings_in (option_of_term schema t) t os) schema fields → AreIndexed schema analyze docs fields }
+    ensures { (schema : Schema) (analyze : Analyzer) (docs : List Document) (os : List Occurrence)
+        (fields : List IndexedField) → AreOccurrences schema analyze docs os
+        → AreGiven (λ t. postings_in (option_of_term schema t) t os) schema fields
+        → AreIndexed schema analyze docs fields }
 {}

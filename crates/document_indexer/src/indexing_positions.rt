@@ -54,7 +54,8 @@ impl IndexingPositions {
         prefix: &[u8],
         start: u32,
     ) -> Result<(), AllocError>
-        ensures { OnOk result ((other : List ℕ) → lookup (bytes_eq other) self.new ≡ (if bytes_eq prefix.now other then Some (doc, start) else lookup (bytes_eq other) self.old)) }
+        ensures { OnOk result ((other : List ℕ) → lookup (bytes_eq other) self.new
+            ≡ (if bytes_eq prefix.now other then Some (doc, start) else lookup (bytes_eq other) self.old)) }
     {
         match self.starts.get_mut(prefix) {
             Some(last) => {

@@ -67,7 +67,8 @@ fn str_leaf(bytes: &[u8]) -> Result<(Head<'_>, &[u8]), Fault>
 
 fn facet_leaf(bytes: &[u8]) -> Result<(Head<'_>, &[u8]), Fault>
     ensures ok { IfOk result (λ p. take_text_leaf (λ s. facet (steps_in s)) bytes.now ≡ Some (head_of p.0, p.1.now)) }
-    ensures err { IfErr result (λ fault. (fault ≡ faults.Damaged None) × (take_text_leaf (λ s. facet (steps_in s)) bytes.now ≡ None)) }
+    ensures err { IfErr result (λ fault. (fault ≡ faults.Damaged None)
+        × (take_text_leaf (λ s. facet (steps_in s)) bytes.now ≡ None)) }
 {
     let (text, rest) = take_text(bytes)?;
     Ok((Head::Leaf(CompactDocValue::Facet(text)), rest))
@@ -82,16 +83,20 @@ fn u64_leaf(bytes: &[u8]) -> Result<(Head<'_>, &[u8]), Fault>
 }
 
 fn i64_leaf(bytes: &[u8]) -> Result<(Head<'_>, &[u8]), Fault>
-    ensures ok { IfOk result (λ p. take_u64_leaf (λ n. i64 (cast_signed w64 n)) bytes.now ≡ Some (head_of p.0, p.1.now)) }
-    ensures err { IfErr result (λ fault. (fault ≡ faults.Damaged None) × (take_u64_leaf (λ n. i64 (cast_signed w64 n)) bytes.now ≡ None)) }
+    ensures ok { IfOk result (λ p. take_u64_leaf (λ n. i64 (cast_signed w64 n)) bytes.now
+        ≡ Some (head_of p.0, p.1.now)) }
+    ensures err { IfErr result (λ fault. (fault ≡ faults.Damaged None)
+        × (take_u64_leaf (λ n. i64 (cast_signed w64 n)) bytes.now ≡ None)) }
 {
     let (n, rest) = take_u64(bytes)?;
     Ok((Head::Leaf(CompactDocValue::I64(n.cast_signed())), rest))
 }
 
 fn date_leaf(bytes: &[u8]) -> Result<(Head<'_>, &[u8]), Fault>
-    ensures ok { IfOk result (λ p. take_u64_leaf (λ n. date (cast_signed w64 n)) bytes.now ≡ Some (head_of p.0, p.1.now)) }
-    ensures err { IfErr result (λ fault. (fault ≡ faults.Damaged None) × (take_u64_leaf (λ n. date (cast_signed w64 n)) bytes.now ≡ None)) }
+    ensures ok { IfOk result (λ p. take_u64_leaf (λ n. date (cast_signed w64 n)) bytes.now
+        ≡ Some (head_of p.0, p.1.now)) }
+    ensures err { IfErr result (λ fault. (fault ≡ faults.Damaged None)
+        × (take_u64_leaf (λ n. date (cast_signed w64 n)) bytes.now ≡ None)) }
 {
     let (n, rest) = take_u64(bytes)?;
     let date = DateTime::from_timestamp_nanos(n.cast_signed());
@@ -131,7 +136,8 @@ fn address_leaf(bytes: &[u8]) -> Result<(Head<'_>, &[u8]), Fault>
 
 fn array_count(bytes: &[u8]) -> Result<(Head<'_>, &[u8]), Fault>
     ensures ok { IfOk result (λ p. taken_map array_head (take_vint bytes.now) ≡ Some (head_of p.0, p.1.now)) }
-    ensures err { IfErr result (λ fault. (fault ≡ faults.Damaged None) × (taken_map array_head (take_vint bytes.now) ≡ None)) }
+    ensures err { IfErr result (λ fault. (fault ≡ faults.Damaged None)
+        × (taken_map array_head (take_vint bytes.now) ≡ None)) }
 {
     let (n, rest) = take_vint(bytes)?;
     Ok((Head::Array(n), rest))
@@ -139,7 +145,8 @@ fn array_count(bytes: &[u8]) -> Result<(Head<'_>, &[u8]), Fault>
 
 fn object_count(bytes: &[u8]) -> Result<(Head<'_>, &[u8]), Fault>
     ensures ok { IfOk result (λ p. taken_map object_head (take_vint bytes.now) ≡ Some (head_of p.0, p.1.now)) }
-    ensures err { IfErr result (λ fault. (fault ≡ faults.Damaged None) × (taken_map object_head (take_vint bytes.now) ≡ None)) }
+    ensures err { IfErr result (λ fault. (fault ≡ faults.Damaged None)
+        × (taken_map object_head (take_vint bytes.now) ≡ None)) }
 {
     let (n, rest) = take_vint(bytes)?;
     Ok((Head::Object(n), rest))
@@ -147,7 +154,8 @@ fn object_count(bytes: &[u8]) -> Result<(Head<'_>, &[u8]), Fault>
 
 fn tokens_leaf(tokens: bool, bytes: &[u8]) -> Result<(Head<'_>, &[u8]), Fault>
     ensures ok { IfOk result (λ p. only_if tokens (take_pre_tokenized_leaf bytes.now) ≡ Some (head_of p.0, p.1.now)) }
-    ensures err { IfErr result (λ fault. (fault ≡ faults.Damaged None) × (only_if tokens (take_pre_tokenized_leaf bytes.now) ≡ None)) }
+    ensures err { IfErr result (λ fault. (fault ≡ faults.Damaged None)
+        × (only_if tokens (take_pre_tokenized_leaf bytes.now) ≡ None)) }
 {
     if !tokens {
         return Err(Fault::Damaged(None));

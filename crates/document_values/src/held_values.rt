@@ -38,7 +38,8 @@ pub(crate) fn put_owned(out: &mut Vec<u8>, value: &OwnedValue) -> Result<(), All
 /// Appends an array of `values`.
 #[cycle(put_owned)]
 fn put_owned_values(out: &mut Vec<u8>, values: &[OwnedValue]) -> Result<(), AllocError>
-    ensures put { OnOk result (out.new.items ≡ out.old.items ++ held_bytes (array (to_values (owned_values values.now)))) }
+    ensures put { OnOk result (out.new.items
+        ≡ out.old.items ++ held_bytes (array (to_values (owned_values values.now)))) }
     ensures held { OnOk result (IsHeldValue (array (to_values (owned_values values.now)))) }
 {
     out.push(12)?;
@@ -55,7 +56,8 @@ pub(crate) fn put_owned_members(
     out: &mut Vec<u8>,
     members: &[(String, OwnedValue)],
 ) -> Result<(), AllocError>
-    ensures put { OnOk result (out.new.items ≡ out.old.items ++ held_bytes (object (to_members (owned_members members.now)))) }
+    ensures put { OnOk result (out.new.items
+        ≡ out.old.items ++ held_bytes (object (to_members (owned_members members.now)))) }
     ensures held { OnOk result (IsHeldValue (object (to_members (owned_members members.now)))) }
 {
     out.push(13)?;

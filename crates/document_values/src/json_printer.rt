@@ -55,7 +55,8 @@ fn members_to_json(
     alloc: Global,
     members: &[(String, OwnedValue)],
 ) -> Result<Map<String, Json>, AllocError>
-    ensures { IfOk result (λ printed. members_view printed.entries ≡ printed_onto json.no_members (to_members (owned_members members.now))) }
+    ensures { IfOk result (λ printed. members_view printed.entries
+        ≡ printed_onto json.no_members (to_members (owned_members members.now))) }
 {
     let mut printed = Map::new(alloc);
     for (key, value) in members {

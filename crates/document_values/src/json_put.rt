@@ -22,8 +22,10 @@ pub fn json_object_pair(
     field: Field,
     members: &Map<String, Json>,
 ) -> Result<Vec<u8>, AllocError>
-    ensures pair { IfOk result (λ pair. pair.items ≡ held_pair (field, values.object (json_members (members_view members.now.entries)))) }
-    ensures good { IfOk result (λ _. IsGoodPair true deepest (field, values.object (json_members (members_view members.now.entries)))) }
+    ensures pair { IfOk result (λ pair. pair.items
+        ≡ held_pair (field, values.object (json_members (members_view members.now.entries)))) }
+    ensures good { IfOk result (λ _. IsGoodPair true deepest
+        (field, values.object (json_members (members_view members.now.entries)))) }
 {
     let mut pair = Vec::new(alloc);
     put_u32(&mut pair, field.field_id())?;
@@ -81,7 +83,8 @@ fn put_head(out: &mut Vec<u8>, code: u8, count: usize) -> Result<(), AllocError>
 /// Appends an array of `items`.
 #[cycle(put_json)]
 fn put_array(out: &mut Vec<u8>, items: &[Json]) -> Result<(), AllocError>
-    ensures put { OnOk result (out.new.items ≡ out.old.items ++ held_bytes (values.array (json_values (items_view items.now)))) }
+    ensures put { OnOk result (out.new.items
+        ≡ out.old.items ++ held_bytes (values.array (json_values (items_view items.now)))) }
     ensures held { OnOk result (IsHeldValue (values.array (json_values (items_view items.now)))) }
 {
     put_head(out, 12, items.len())?;
@@ -105,7 +108,8 @@ fn put_items(out: &mut Vec<u8>, items: &[Json]) -> Result<(), AllocError>
 /// Appends an object of `members`.
 #[cycle(put_json)]
 fn put_object(out: &mut Vec<u8>, members: &Map<String, Json>) -> Result<(), AllocError>
-    ensures put { OnOk result (out.new.items ≡ out.old.items ++ held_bytes (values.object (json_members (members_view members.now.entries)))) }
+    ensures put { OnOk result (out.new.items
+        ≡ out.old.items ++ held_bytes (values.object (json_members (members_view members.now.entries)))) }
     ensures held { OnOk result (IsHeldValue (values.object (json_members (members_view members.now.entries)))) }
 {
     put_head(out, 13, members.len())?;
@@ -116,7 +120,8 @@ fn put_object(out: &mut Vec<u8>, members: &Map<String, Json>) -> Result<(), Allo
 /// Appends each of `members`.
 #[cycle(put_json)]
 fn put_members(out: &mut Vec<u8>, members: &Map<String, Json>) -> Result<(), AllocError>
-    ensures put { OnOk result (out.new.items ≡ out.old.items ++ held_members (json_members (members_view members.now.entries))) }
+    ensures put { OnOk result (out.new.items
+        ≡ out.old.items ++ held_members (json_members (members_view members.now.entries))) }
     ensures members { OnOk result (AreMembers (json_members (members_view members.now.entries))) }
     ensures sized { OnOk result (AreSizedMembers (json_members (members_view members.now.entries))) }
 {

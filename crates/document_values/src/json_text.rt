@@ -25,7 +25,8 @@ pub fn write_value(
     value: CompactDocValue<'_>,
     out: &mut Writer,
 ) -> Result<(), AllocError>
-    ensures ok { OnOk result (out.new.tokens ≡ out.old.tokens ++ json_tokens (outline (printed (value_of value.entry)))) }
+    ensures ok { OnOk result (out.new.tokens
+        ≡ out.old.tokens ++ json_tokens (outline (printed (value_of value.entry)))) }
     ensures before { out.new.before ≡ out.old.before }
 {
     match value {
@@ -51,7 +52,8 @@ fn write_array(
     values: CompactDocArrayIter<'_>,
     out: &mut Writer,
 ) -> Result<(), AllocError>
-    ensures ok { OnOk result (out.new.tokens ≡ out.old.tokens ++ json_tokens (outline (array (printed_values (to_values values.entry))))) }
+    ensures ok { OnOk result (out.new.tokens
+        ≡ out.old.tokens ++ json_tokens (outline (array (printed_values (to_values values.entry))))) }
     ensures before { out.new.before ≡ out.old.before }
 {
     out.begin_array()?;
@@ -69,7 +71,8 @@ fn write_object(
     members: BTreeMap<&str, CompactDocValue<'_>>,
     out: &mut Writer,
 ) -> Result<(), AllocError>
-    ensures ok { OnOk result (out.new.tokens ≡ out.old.tokens ++ json_tokens (outline (object (lent_members members.entry.entries)))) }
+    ensures ok { OnOk result (out.new.tokens
+        ≡ out.old.tokens ++ json_tokens (outline (object (lent_members members.entry.entries)))) }
     ensures before { out.new.before ≡ out.old.before }
 {
     out.begin_object()?;

@@ -60,7 +60,8 @@ pub fn tokens_pair(
     field: Field,
     text: &PreTokenizedString,
 ) -> Result<Vec<u8>, AllocError>
-    ensures pair { IfOk result (λ pair. pair.items ≡ u32_bytes field ++ held_bytes (values.pre_tok_str text.now.0 text.now.1)) }
+    ensures pair { IfOk result (λ pair. pair.items
+        ≡ u32_bytes field ++ held_bytes (values.pre_tok_str text.now.0 text.now.1)) }
     ensures held { IfOk result (λ _. IsHeldValue (values.pre_tok_str text.now.0 text.now.1)) }
     ensures field { field < 2 ^ 32 }
 {
@@ -87,8 +88,10 @@ pub fn object_pair(
     field: Field,
     members: &[(String, OwnedValue)],
 ) -> Result<Vec<u8>, AllocError>
-    ensures pair { IfOk result (λ pair. pair.items ≡ held_pair (field, values.object (to_members (owned_members members.now)))) }
-    ensures good { IfOk result (λ _. IsGoodPair true deepest (field, values.object (to_members (owned_members members.now)))) }
+    ensures pair { IfOk result (λ pair. pair.items
+        ≡ held_pair (field, values.object (to_members (owned_members members.now)))) }
+    ensures good { IfOk result (λ _. IsGoodPair true deepest
+        (field, values.object (to_members (owned_members members.now)))) }
 {
     let mut pair = Vec::new(alloc);
     put_u32(&mut pair, field.field_id())?;
@@ -98,7 +101,8 @@ pub fn object_pair(
 
 /// Encodes a pair of `field` and an IP address.
 pub fn address_pair(alloc: Global, field: Field, address: u128) -> Result<Vec<u8>, AllocError>
-    ensures pair { IfOk result (λ pair. pair.items ≡ u32_bytes field ++ (10 ∷ (u64_bytes (address % 2 ^ 64) ++ u64_bytes (address / 2 ^ 64)))) }
+    ensures pair { IfOk result (λ pair. pair.items ≡ u32_bytes field ++ (10
+        ∷ (u64_bytes (address % 2 ^ 64) ++ u64_bytes (address / 2 ^ 64)))) }
     ensures field { field < 2 ^ 32 }
 {
     let mut pair = Vec::with_capacity(alloc, 21)?;

@@ -38,7 +38,8 @@ pub(crate) fn take_any(bytes: &[u8]) -> Result<(CompactDocValue<'_>, &[u8]), Fau
 /// Skips `count` pairs of the binary form; returns the bytes after them.
 pub fn skip_pairs(count: u64, bytes: &[u8]) -> Result<&[u8], Fault>
     ensures ok { IfOk result (λ rest. skip_many (take_pair take_value) count bytes.now ≡ Some rest.now) }
-    ensures err { IfErr result (λ fault. (fault ≡ faults.Damaged None) × (skip_many (take_pair take_value) count bytes.now ≡ None)) }
+    ensures err { IfErr result (λ fault. (fault ≡ faults.Damaged None)
+        × (skip_many (take_pair take_value) count bytes.now ≡ None)) }
 {
     let mut rest = bytes;
     let mut left = count;
@@ -92,7 +93,8 @@ fn inner(depth: usize) -> Result<usize, Fault>
 #[cycle(take)]
 fn skip_values(tokens: bool, depth: usize, count: u64, bytes: &[u8]) -> Result<&[u8], Fault>
     ensures ok { IfOk result (λ rest. skip_many (take_held tokens depth) count bytes.now ≡ Some rest.now) }
-    ensures err { IfErr result (λ fault. (fault ≡ faults.Damaged None) × (skip_many (take_held tokens depth) count bytes.now ≡ None)) }
+    ensures err { IfErr result (λ fault. (fault ≡ faults.Damaged None)
+        × (skip_many (take_held tokens depth) count bytes.now ≡ None)) }
 {
     let mut rest = bytes;
     let mut left = count;
@@ -107,8 +109,10 @@ fn skip_values(tokens: bool, depth: usize, count: u64, bytes: &[u8]) -> Result<&
 /// Skips `count` members; returns the bytes after them.
 #[cycle(take)]
 fn skip_members(tokens: bool, depth: usize, count: u64, bytes: &[u8]) -> Result<&[u8], Fault>
-    ensures ok { IfOk result (λ rest. skip_many (take_member (take_held tokens depth)) count bytes.now ≡ Some rest.now) }
-    ensures err { IfErr result (λ fault. (fault ≡ faults.Damaged None) × (skip_many (take_member (take_held tokens depth)) count bytes.now ≡ None)) }
+    ensures ok { IfOk result (λ rest. skip_many (take_member (take_held tokens depth)) count bytes.now
+        ≡ Some rest.now) }
+    ensures err { IfErr result (λ fault. (fault ≡ faults.Damaged None)
+        × (skip_many (take_member (take_held tokens depth)) count bytes.now ≡ None)) }
 {
     let mut rest = bytes;
     let mut left = count;

@@ -92,7 +92,8 @@ pub(crate) fn put_bool(out: &mut Vec<u8>, b: bool) -> Result<(), AllocError>
 
 /// Appends an IP address.
 pub(crate) fn put_address(out: &mut Vec<u8>, address: u128) -> Result<(), AllocError>
-    ensures { OnOk result (out.new.items ≡ out.old.items ++ (10 ∷ (u64_bytes (address % 2 ^ 64) ++ u64_bytes (address / 2 ^ 64)))) }
+    ensures { OnOk result (out.new.items ≡ out.old.items ++ (10
+        ∷ (u64_bytes (address % 2 ^ 64) ++ u64_bytes (address / 2 ^ 64)))) }
 {
     out.push(10)?;
     put_u64(out, (address % 18446744073709551616) as u64)?;

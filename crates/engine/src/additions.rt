@@ -82,7 +82,8 @@ impl<D: Device + Drop, A: Analyzer + Drop> Index<D, A> {
             → IndexStands A.analyze self.old c x → read_data c.schema (view value.now) ≡ Ok doc
             → OnOk result (¬ HasLongSlot self.old doc) }
         ensures long { (c : calls.Configuration) (x : calls.Index) (doc : Document)
-            → IndexStands A.analyze self.old c x → read_data c.schema (view value.now) ≡ Ok doc → HasLongSlot self.old doc
+            → IndexStands A.analyze self.old c x → read_data c.schema (view value.now) ≡ Ok doc
+            → HasLongSlot self.old doc
             → OnErr result (IndexStands A.analyze self.new c x) }
         ensures made { KeepsMaking self.old self.new }
         ensures file { KeepsFile self.old self.new }

@@ -59,7 +59,8 @@ impl<'a> FieldNormReaders<'a> {
     ) -> Result<FieldNormReaders<'a>, Fault>
         requires { IsAscendingFrom 0 fields.now }
         ensures ok { IfOk result (λ readers. IsNorms fields.now num_docs bytes.now readers) }
-        ensures err { IfErr result (λ fault. (fault ≡ faults.Damaged None) × ((norms : List (ℕ × List ℕ)) → IsNorms fields.now num_docs bytes.now norms → ⊥)) }
+        ensures err { IfErr result (λ fault. (fault ≡ faults.Damaged None)
+            × ((norms : List (ℕ × List ℕ)) → IsNorms fields.now num_docs bytes.now norms → ⊥)) }
     {
         check_norms(bytes, num_docs, fields)?;
         Ok(FieldNormReaders::new(bytes, num_docs, fields))
@@ -98,7 +99,8 @@ fn ids_at(bytes: &[u8], place: usize, num_docs: usize) -> &[u8]
 /// Checks that the bytes are the section of `fields`.
 fn check_norms(bytes: &[u8], num_docs: u32, fields: &[u32]) -> Result<(), Fault>
     ensures ok { OnOk result ((norms : List (ℕ × List ℕ)) × IsNorms fields.now num_docs bytes.now norms) }
-    ensures err { IfErr result (λ fault. (fault ≡ faults.Damaged None) × ((norms : List (ℕ × List ℕ)) → IsNorms fields.now num_docs bytes.now norms → ⊥)) }
+    ensures err { IfErr result (λ fault. (fault ≡ faults.Damaged None)
+        × ((norms : List (ℕ × List ℕ)) → IsNorms fields.now num_docs bytes.now norms → ⊥)) }
 {
     let mut rest = bytes;
     for field in fields {

@@ -29,7 +29,8 @@ pub fn read_segments_body(
     body: &[u8],
 ) -> Result<Option<SegmentsBody<'_>>, AllocError>
     ensures some { IfOk result (λ found. IfSome found (λ b. IsBody (map part_of b.parts.items) b.alive.items body.now)) }
-    ensures none { IfOk result (λ found. IfNone found ((parts : List layout.Part) (sets : List (List Bool)) → ¬ IsBody parts sets body.now)) }
+    ensures none { IfOk result (λ found. IfNone found ((parts : List layout.Part) (sets : List (List Bool))
+        → ¬ IsBody parts sets body.now)) }
 {
     match take_body(alloc, body) {
         Ok(found) => Ok(Some(found)),
@@ -41,7 +42,8 @@ pub fn read_segments_body(
 /// Like `read_segments_body`, but with an error for what isn't a body that lists segments.
 fn take_body(alloc: Global, body: &[u8]) -> Result<SegmentsBody<'_>, Fault>
     ensures ok { IfOk result (λ b. IsBody (map part_of b.parts.items) b.alive.items body.now) }
-    ensures err { IfErr result (λ fault. fault ≢ faults.OutOfMemory → (parts : List layout.Part) (sets : List (List Bool))
+    ensures err { IfErr result (λ fault. fault ≢ faults.OutOfMemory
+        → (parts : List layout.Part) (sets : List (List Bool))
         → ¬ IsBody parts sets body.now) }
 {
     let rest = behind_code(body)?;

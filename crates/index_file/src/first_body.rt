@@ -23,7 +23,8 @@ pub fn put_first_body(
     settings: &Settings,
 ) -> Result<(), AllocError>
     ensures put { OnOk result (out.new.items ≡ out.old.items ++ definitions.first_body schema.now settings.now) }
-    ensures read_back { OnOk result (definitions.makes_index schema.now settings.now ≡ true → definitions.first_in (definitions.first_body schema.now settings.now) ≡ Some (schema.now, settings.now)) }
+    ensures read_back { OnOk result (definitions.makes_index schema.now settings.now ≡ true
+        → definitions.first_in (definitions.first_body schema.now settings.now) ≡ Some (schema.now, settings.now)) }
 {
     let text = made_text(alloc, schema, settings)?;
     out.push(1)?;
@@ -47,8 +48,10 @@ pub fn read_first_body(alloc: Global, body: &[u8]) -> Result<Option<(Schema, Set
 /// Returns the compact JSON of a schema and settings.
 #[tactic(auto, using(crate::proofs::PlainData::made_float, crate::proofs::MadeTexts::text_back, crate::proofs::MadeTexts::string_utf8))]
 fn made_text(alloc: Global, schema: &Schema, settings: &Settings) -> Result<String, AllocError>
-    ensures text { IfOk result (λ text. string_bytes text ≡ compact_text (definitions.made_data schema.now settings.now)) }
-    ensures read_back { IfOk result (λ text. definitions.makes_index schema.now settings.now ≡ true → definitions.made_in_text (string_bytes text) ≡ Some (schema.now, settings.now)) }
+    ensures text { IfOk result (λ text. string_bytes text
+        ≡ compact_text (definitions.made_data schema.now settings.now)) }
+    ensures read_back { IfOk result (λ text. definitions.makes_index schema.now settings.now ≡ true
+        → definitions.made_in_text (string_bytes text) ≡ Some (schema.now, settings.now)) }
 {
     let json = made_to_json(alloc, schema, settings)?;
     let text = json.to_string(alloc)?;
@@ -58,7 +61,8 @@ fn made_text(alloc: Global, schema: &Schema, settings: &Settings) -> Result<Stri
 /// Converts a schema and settings to a JSON object.
 fn made_to_json(alloc: Global, schema: &Schema, settings: &Settings) -> Result<Json, AllocError>
     ensures value { IfOk result (λ json. view json ≡ definitions.made_data schema.now settings.now) }
-    ensures read_back { IfOk result (λ json. definitions.makes_index schema.now settings.now ≡ true → definitions.made_in (view json) ≡ Some (schema.now, settings.now)) }
+    ensures read_back { IfOk result (λ json. definitions.makes_index schema.now settings.now ≡ true
+        → definitions.made_in (view json) ≡ Some (schema.now, settings.now)) }
 {
     let schema_json = schema.to_json_value(alloc)?;
     let settings_json = settings.to_json_value(alloc, schema)?;

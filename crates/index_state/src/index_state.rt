@@ -388,7 +388,8 @@ impl<A: Analyzer + Drop> IndexState<A> {
             → IfOk result (λ hits.
             (calls.call_fault c x (calls.search_best (query_of query.now) limit) ≡ None)
             × (map hit_of hits.items
-            ≡ map scored (scanning.scan c.schema c.analyze c.similarity (states.committed x.state) (query_of query.now) limit))) }
+            ≡ map scored (scanning.scan c.schema c.analyze c.similarity (states.committed x.state) (query_of query.now)
+            limit))) }
         ensures err { (c : calls.Configuration) (x : calls.Index) → Stands A.analyze self.old c x
             → IfErr result (λ fault. fault ≢ faults.OutOfMemory
             → calls.call_fault c x (calls.search_best (query_of query.now) limit) ≡ Some fault) }

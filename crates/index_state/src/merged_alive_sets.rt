@@ -17,7 +17,8 @@ pub(crate) fn merged_sets(
 ) -> Result<Vec<AliveBitSet>, AllocError>
     requires some { from ≤ to }
     requires within { to ≤ length alive.now }
-    ensures { IfOk result (λ sets. sets.items ≡ replaced from to (map all_alive (option_to_list segment.now)) alive.now) }
+    ensures { IfOk result (λ sets. sets.items
+        ≡ replaced from to (map all_alive (option_to_list segment.now)) alive.now) }
 {
     let mut sets = Vec::with_capacity(alloc, alive.len())?;
     push_copies(alloc, &alive[..from], &mut sets)?;

@@ -51,7 +51,8 @@ impl<S: Positioned> Intersection<S> {
     pub fn column(&mut self, place: usize, output: &mut Vec<u32>)
         requires on { first (⟦<Intersection<S> as DocSet>⟧.entries self.old) < terminated }
         requires within { place < length (first_positions (⟦<Intersection<S> as DocSet>⟧.entries self.old)) }
-        requires room { length (slice_index_or (first_positions (⟦<Intersection<S> as DocSet>⟧.entries self.old)) place [])
+        requires room { length (slice_index_or (first_positions (⟦<Intersection<S> as DocSet>⟧.entries self.old)) place
+            [])
             ≤ vec_capacity output.old }
         ensures same { ⟦<Intersection<S> as DocSet>⟧.entries self.new ≡ ⟦<Intersection<S> as DocSet>⟧.entries self.old }
         ensures items { output.new.items

@@ -5,19 +5,28 @@ ghost use Rattle.layouts.specs.RecordFiles.{AreTaken, EndsAt, IsAtRest, IsDamage
 
 /// A file has one list of bodies.
 pub fn a_file_has_one_list_of_bodies()
-    ensures { (first second : List (List ℕ)) (bytes : List ℕ) → IsFile first bytes → IsFile second bytes → first ≡ second }
+    ensures { (first second : List (List ℕ)) (bytes : List ℕ) → IsFile first bytes → IsFile second bytes
+        → first ≡ second }
 {}
 
 /// States that no bytes are two of these: no index, damaged from one offset on, a file of bodies that are accepted.
 pub fn no_file_has_two_outcomes()
-    ensures no_index { (body : List ℕ) (bodies : List (List ℕ)) (bytes : List ℕ) → IsFile (body ∷ bodies) bytes → ¬ IsNoIndex bytes }
-    ensures damaged { (takes : List (List ℕ) → List ℕ → Bool) (bodies : List (List ℕ)) (bytes : List ℕ) (place : ℕ) → IsFile bodies bytes → AreTaken (λ before body. IsTrue (takes before body)) [] bodies → ¬ IsDamaged (λ before body. IsTrue (takes before body)) bytes place }
-    ensures neither { (takes : List (List ℕ) → List ℕ → Bool) (bytes : List ℕ) (place : ℕ) → IsDamaged (λ before body. IsTrue (takes before body)) bytes place → ¬ IsNoIndex bytes }
-    ensures one_place { (takes : List (List ℕ) → List ℕ → Bool) (bytes : List ℕ) (first second : ℕ) → IsDamaged (λ before body. IsTrue (takes before body)) bytes first → IsDamaged (λ before body. IsTrue (takes before body)) bytes second → first ≡ second }
+    ensures no_index { (body : List ℕ) (bodies : List (List ℕ)) (bytes : List ℕ) → IsFile (body ∷ bodies) bytes
+        → ¬ IsNoIndex bytes }
+    ensures damaged { (takes : List (List ℕ) → List ℕ → Bool) (bodies : List (List ℕ)) (bytes : List ℕ) (place : ℕ)
+        → IsFile bodies bytes → AreTaken (λ before body. IsTrue (takes before body)) [] bodies
+        → ¬ IsDamaged (λ before body. IsTrue (takes before body)) bytes place }
+    ensures neither { (takes : List (List ℕ) → List ℕ → Bool) (bytes : List ℕ) (place : ℕ)
+        → IsDamaged (λ before body. IsTrue (takes before body)) bytes place → ¬ IsNoIndex bytes }
+    ensures one_place { (takes : List (List ℕ) → List ℕ → Bool) (bytes : List ℕ) (first second : ℕ)
+        → IsDamaged (λ before body. IsTrue (takes before body)) bytes first
+        → IsDamaged (λ before body. IsTrue (takes before body)) bytes second → first ≡ second }
 {}
 
 /// Bytes after the closed gate that follows the last opened record change nothing, and neither does their cut.
 pub fn bytes_after_the_closed_gate_change_nothing()
-    ensures added { (content more : List ℕ) (gate : ℕ) (bodies : List (List ℕ)) → IsAtRest content gate bodies → EndsAt (content ++ more) gate bodies }
-    ensures cut { (content : List ℕ) (gate : ℕ) (bodies : List (List ℕ)) → EndsAt content gate bodies → IsAtRest (take (gate + 1) content) gate bodies }
+    ensures added { (content more : List ℕ) (gate : ℕ) (bodies : List (List ℕ)) → IsAtRest content gate bodies
+        → EndsAt (content ++ more) gate bodies }
+    ensures cut { (content : List ℕ) (gate : ℕ) (bodies : List (List ℕ)) → EndsAt content gate bodies
+        → IsAtRest (take (gate + 1) content) gate bodies }
 {}

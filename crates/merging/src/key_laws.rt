@@ -10,5 +10,6 @@ ghost use Rattle.merging.specs.KeyLists.{keys_of, merged_keys};
 pub fn merged_keys_ascend()
     ensures ascend { (members : List (List Placed)) → TermsAscend (merged_keys members) }
     ensures among { (members : List (List Placed)) (key : List ℕ)
-        → list_any (bytes_eq key) (merged_keys members) ≡ list_any (λ terms. list_any (bytes_eq key) (keys_of terms)) members }
+        → list_any (bytes_eq key) (merged_keys members)
+        ≡ list_any (λ terms. list_any (bytes_eq key) (keys_of terms)) members }
 {}

@@ -70,7 +70,8 @@ fn write_posting(
         → OnOk result (IsOpen serializer.new (docs ++ new_doc ∷ [])
         (counts ++ recorded_count serializer.old.writing.option (first_count (entries_left postings.old)) ∷ [])
         (numbers ++ differences 0 (single (first_positions (entries_left postings.old))))) }
-    ensures total { OnOk result (serializer.new.total_term_freq ≡ serializer.old.total_term_freq + first_count (entries_left postings.old)) }
+    ensures total { OnOk result (serializer.new.total_term_freq
+        ≡ serializer.old.total_term_freq + first_count (entries_left postings.old)) }
     ensures same { OnOk result (IsSame serializer.old serializer.new × (serializer.new.writing.next ≡ new_doc + 1)) }
     ensures err { (docs counts numbers : List ℕ) → IsOpen serializer.old docs counts numbers
         → IfErr result (λ fault. IsSumRefusal fault

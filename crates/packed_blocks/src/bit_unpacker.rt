@@ -14,7 +14,8 @@ const PADDED_LEN: usize = 520;
 pub(crate) fn unpack(bytes: &[u8], width: u32, out: &mut [u32; COMPRESSION_BLOCK_SIZE])
     requires width { width ≤ 32 }
     requires room { 16 * width ≤ length bytes.now }
-    ensures fields { (i : ℕ) → i < block_len → slice_index out.new i ≡ field width (number_l 256 (take (16 * width) bytes.now)) i }
+    ensures fields { (i : ℕ) → i < block_len → slice_index out.new i
+        ≡ field width (number_l 256 (take (16 * width) bytes.now)) i }
     ensures count { length out.new ≡ block_len }
 {
     let len = 16 * width as usize;

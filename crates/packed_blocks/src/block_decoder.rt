@@ -52,7 +52,10 @@ impl BlockDecoder {
     pub fn uncompress_block_sorted(&mut self, bytes: &[u8], offset: u32, num_bits: u8) -> usize
         requires width { num_bits ≤ 32 }
         requires room { 16 * num_bits ≤ length bytes.now }
-        ensures documents { (docs : List ℕ) → IsAscendingFrom (next_of offset) docs → ((i : ℕ) → slice_index docs i < 2 ^ 32) → IsPacked num_bits (deltas (next_of offset) docs) (take (16 * num_bits) bytes.now) → output_list self.new ≡ docs }
+        ensures documents { (docs : List ℕ) → IsAscendingFrom (next_of offset) docs
+            → ((i : ℕ) → slice_index docs i < 2 ^ 32)
+            → IsPacked num_bits (deltas (next_of offset) docs) (take (16 * num_bits) bytes.now)
+            → output_list self.new ≡ docs }
         ensures length { length (output_list self.new) ≡ block_len }
         ensures consumed { result ≡ 16 * num_bits }
     {

@@ -11,7 +11,8 @@ ghost use Rattle.layouts.specs.PackedBytes.{packed_bytes, width_of};
 pub fn blocks_have_one_reading()
     ensures packed { (w : ℕ) (a b bytes : List ℕ) → IsPacked w a bytes → IsPacked w b bytes → a ≡ b }
     ensures block { (w : ℕ) (a b bytes : List ℕ) → IsBlock w a bytes → IsBlock w b bytes → a ≡ b }
-    ensures sorted { (offset w : ℕ) (a b bytes : List ℕ) → IsSortedBlock offset w a bytes → IsSortedBlock offset w b bytes → a ≡ b }
+    ensures sorted { (offset w : ℕ) (a b bytes : List ℕ) → IsSortedBlock offset w a bytes
+        → IsSortedBlock offset w b bytes → a ≡ b }
 {}
 
 /// Numbers have one width.
@@ -22,5 +23,6 @@ pub fn numbers_have_one_width()
 /// Numbers have one block, whose width and bytes compute.
 pub fn numbers_have_one_block()
     ensures width { (w : ℕ) (numbers bytes : List ℕ) → IsBlock w numbers bytes → w ≡ width_of numbers }
-    ensures bytes { (w : ℕ) (numbers bytes : List ℕ) → AreBytes bytes → IsBlock w numbers bytes → bytes ≡ packed_bytes numbers }
+    ensures bytes { (w : ℕ) (numbers bytes : List ℕ) → AreBytes bytes → IsBlock w numbers bytes
+        → bytes ≡ packed_bytes numbers }
 {}

@@ -16,8 +16,10 @@ use definitions::Fault;
 impl BlockDecoder {
     /// Decodes the block of width `num_bits` that `bytes` must begin with; returns how many bytes it takes.
     pub fn checked_block_unsorted(&mut self, bytes: &[u8], num_bits: u8) -> Result<usize, Fault>
-        ensures ok { IfOk result (λ consumed. (consumed ≡ 16 * num_bits) × IsBlock num_bits (output_list self.new) (take (16 * num_bits) bytes.now)) }
-        ensures err { IfErr result (λ fault. (fault ≡ faults.Damaged None) × ((numbers : List ℕ) → ¬ IsBlock num_bits numbers (take (16 * num_bits) bytes.now))) }
+        ensures ok { IfOk result (λ consumed. (consumed ≡ 16 * num_bits)
+            × IsBlock num_bits (output_list self.new) (take (16 * num_bits) bytes.now)) }
+        ensures err { IfErr result (λ fault. (fault ≡ faults.Damaged None)
+            × ((numbers : List ℕ) → ¬ IsBlock num_bits numbers (take (16 * num_bits) bytes.now))) }
         ensures nothing { OnErr result (output_list self.new ≡ []) }
     {
         if num_bits > 32 || bytes.len() < compressed_block_size(num_bits) {
@@ -40,8 +42,10 @@ impl BlockDecoder {
         offset: u32,
         num_bits: u8,
     ) -> Result<usize, Fault>
-        ensures ok { IfOk result (λ consumed. (consumed ≡ 16 * num_bits) × IsSortedBlock offset num_bits (output_list self.new) (take (16 * num_bits) bytes.now)) }
-        ensures err { IfErr result (λ fault. (fault ≡ faults.Damaged None) × ((docs : List ℕ) → ¬ IsSortedBlock offset num_bits docs (take (16 * num_bits) bytes.now))) }
+        ensures ok { IfOk result (λ consumed. (consumed ≡ 16 * num_bits)
+            × IsSortedBlock offset num_bits (output_list self.new) (take (16 * num_bits) bytes.now)) }
+        ensures err { IfErr result (λ fault. (fault ≡ faults.Damaged None)
+            × ((docs : List ℕ) → ¬ IsSortedBlock offset num_bits docs (take (16 * num_bits) bytes.now))) }
         ensures count { OnOk result (length (output_list self.new) ≡ block_len) }
         ensures nothing { OnErr result (output_list self.new ≡ []) }
     {
@@ -58,7 +62,8 @@ impl BlockDecoder {
 /// Returns the documents with these strict deltas after `offset`, where all are below 2^32.
 fn documents_of(deltas: &[u32], offset: u32) -> Option<[u32; COMPRESSION_BLOCK_SIZE]>
     requires { length deltas.now ≡ block_len }
-    ensures some { IfSome result (λ docs. (docs ≡ documents (next_of offset) deltas.now) × ((i : ℕ) → slice_index docs i < 2 ^ 32)) }
+    ensures some { IfSome result (λ docs. (docs ≡ documents (next_of offset) deltas.now)
+        × ((i : ℕ) → slice_index docs i < 2 ^ 32)) }
     ensures none { IfNone result ((i : ℕ) × (2 ^ 32 ≤ slice_index (documents (next_of offset) deltas.now) i)) }
 {
     let mut docs = [0; COMPRESSION_BLOCK_SIZE];

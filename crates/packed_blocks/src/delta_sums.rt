@@ -17,7 +17,8 @@ pub(crate) fn documents(
 )
     requires width { width ≤ 32 }
     requires room { 16 * width ≤ length bytes.now }
-    ensures documents { (i : ℕ) → i < block_len → slice_index out.new i ≡ document next (field width (number_l 256 (take (16 * width) bytes.now))) i }
+    ensures documents { (i : ℕ) → i < block_len → slice_index out.new i
+        ≡ document next (field width (number_l 256 (take (16 * width) bytes.now))) i }
     ensures count { length out.new ≡ block_len }
 {
     let len = 16 * width as usize;

@@ -55,7 +55,8 @@ pub trait VIntDecoder {
     ) -> usize
         requires room { num_els ≤ block_len }
         requires layout { IsSome (take_documents offset num_els bytes.now) }
-        ensures documents { take_documents offset num_els bytes.now ≡ Some (take num_els (places self.new), drop result bytes.now) }
+        ensures documents { take_documents offset num_els bytes.now
+            ≡ Some (take num_els (places self.new), drop result bytes.now) }
         ensures padded { drop num_els (places self.new) ≡ replicate (block_len - num_els) padding }
         ensures filled { filled self.new ≡ num_els }
         ensures within { result ≤ length bytes.now };
@@ -64,7 +65,8 @@ pub trait VIntDecoder {
     fn uncompress_vint_unsorted(&mut self, bytes: &[u8], num_els: usize, padding: u32) -> usize
         requires room { num_els ≤ block_len }
         requires layout { IsSome (take_numbers num_els bytes.now) }
-        ensures numbers { take_numbers num_els bytes.now ≡ Some (take num_els (places self.new), drop result bytes.now) }
+        ensures numbers { take_numbers num_els bytes.now
+            ≡ Some (take num_els (places self.new), drop result bytes.now) }
         ensures padded { drop num_els (places self.new) ≡ replicate (block_len - num_els) padding }
         ensures filled { filled self.new ≡ num_els }
         ensures within { result ≤ length bytes.now };
@@ -84,10 +86,13 @@ pub trait VIntDecoder {
         padding: u32,
     ) -> Result<usize, Fault>
         requires room { num_els ≤ block_len }
-        ensures ok { IfOk result (λ consumed. (consumed ≤ length bytes.now) × (take_documents offset num_els bytes.now ≡ Some (take num_els (places self.new), drop consumed bytes.now))) }
+        ensures ok { IfOk result (λ consumed. (consumed ≤ length bytes.now)
+            × (take_documents offset num_els bytes.now
+            ≡ Some (take num_els (places self.new), drop consumed bytes.now))) }
         ensures padded { OnOk result (drop num_els (places self.new) ≡ replicate (block_len - num_els) padding) }
         ensures filled { OnOk result (filled self.new ≡ num_els) }
-        ensures err { IfErr result (λ fault. (fault ≡ faults.Damaged None) × (take_documents offset num_els bytes.now ≡ None)) }
+        ensures err { IfErr result (λ fault. (fault ≡ faults.Damaged None)
+            × (take_documents offset num_els bytes.now ≡ None)) }
         ensures none { OnErr result (filled self.new ≡ 0) };
 
     /// Like `uncompress_vint_unsorted`, but for bytes that may be damaged.
@@ -98,7 +103,8 @@ pub trait VIntDecoder {
         padding: u32,
     ) -> Result<usize, Fault>
         requires room { num_els ≤ block_len }
-        ensures ok { IfOk result (λ consumed. (consumed ≤ length bytes.now) × (take_numbers num_els bytes.now ≡ Some (take num_els (places self.new), drop consumed bytes.now))) }
+        ensures ok { IfOk result (λ consumed. (consumed ≤ length bytes.now)
+            × (take_numbers num_els bytes.now ≡ Some (take num_els (places self.new), drop consumed bytes.now))) }
         ensures padded { OnOk result (drop num_els (places self.new) ≡ replicate (block_len - num_els) padding) }
         ensures filled { OnOk result (filled self.new ≡ num_els) }
         ensures err { IfErr result (λ fault. (fault ≡ faults.Damaged None) × (take_numbers num_els bytes.now ≡ None)) }
@@ -313,7 +319,8 @@ fn try_read_numbers(
     output: &mut [u32; COMPRESSION_BLOCK_SIZE],
 ) -> Result<usize, Fault>
     requires room { count ≤ block_len }
-    ensures ok { IfOk result (λ consumed. (consumed ≤ length bytes.now) × (take_numbers count bytes.now ≡ Some (take count output.new, drop consumed bytes.now))) }
+    ensures ok { IfOk result (λ consumed. (consumed ≤ length bytes.now)
+        × (take_numbers count bytes.now ≡ Some (take count output.new, drop consumed bytes.now))) }
     ensures err { IfErr result (λ fault. (fault ≡ faults.Damaged None) × (take_numbers count bytes.now ≡ None)) }
 {
     let mut rest = bytes;
@@ -332,7 +339,8 @@ fn try_read_all_numbers(
 ) -> Result<usize, Fault>
     ensures ok { IfOk result (λ count. (count ≤ block_len)
         × (take_all_numbers block_len bytes.now ≡ Some (take count output.new))) }
-    ensures err { IfErr result (λ fault. (fault ≡ faults.Damaged None) × (take_all_numbers block_len bytes.now ≡ None)) }
+    ensures err { IfErr result (λ fault. (fault ≡ faults.Damaged None)
+        × (take_all_numbers block_len bytes.now ≡ None)) }
 {
     let mut rest = bytes;
     let mut count: usize = 0;

@@ -13,5 +13,6 @@ pub fn positions_have_one_reading()
 
 /// States that no other positions have the same numbers, where each document has as many of them and they don't fall.
 pub fn numbers_have_one_reading()
-    ensures { (a b : List (List ℕ)) → map length a ≡ map length b → AllByRecursion DontFall a → AllByRecursion DontFall b → position_numbers a ≡ position_numbers b → a ≡ b }
+    ensures { (a b : List (List ℕ)) → map length a ≡ map length b → AllByRecursion DontFall a
+        → AllByRecursion DontFall b → position_numbers a ≡ position_numbers b → a ≡ b }
 {}

@@ -65,7 +65,8 @@ impl<'a> PositionReader<'a> {
     pub fn open(bytes: &'a [u8]) -> Result<PositionReader<'a>, Fault>
         ensures ok { IfOk result (λ reader. ArePositions reader bytes.now) }
         ensures one { IfOk result (λ reader. (numbers : List ℕ) → ArePositions numbers bytes.now → numbers ≡ reader) }
-        ensures err { IfErr result (λ fault. (fault ≡ faults.Damaged None) × ((numbers : List ℕ) → ArePositions numbers bytes.now → ⊥)) }
+        ensures err { IfErr result (λ fault. (fault ≡ faults.Damaged None)
+            × ((numbers : List ℕ) → ArePositions numbers bytes.now → ⊥)) }
     {
         let (widths, packed) = take_bytes(bytes)?;
         let mut decoder = BlockDecoder::with_val(0);
@@ -188,8 +189,10 @@ fn push_places(numbers: &[u32], before: u32, output: &mut Vec<u32>) -> u32
 
 /// Decodes fewer than 128 numbers below 2^31 up to the end of `bytes`.
 fn checked_rest(bytes: &[u8], decoder: &mut BlockDecoder) -> Result<(), Fault>
-    ensures ok { OnOk result (AreBlocks [] (output_list decoder.new) bytes.now × AreSmall (output_list decoder.new) × (take_all_numbers block_len bytes.now ≡ Some (output_list decoder.new))) }
-    ensures err { IfErr result (λ fault. (fault ≡ faults.Damaged None) × ((numbers : List ℕ) → AreBlocks [] numbers bytes.now → AreSmall numbers → ⊥)) }
+    ensures ok { OnOk result (AreBlocks [] (output_list decoder.new) bytes.now × AreSmall (output_list decoder.new)
+        × (take_all_numbers block_len bytes.now ≡ Some (output_list decoder.new))) }
+    ensures err { IfErr result (λ fault. (fault ≡ faults.Damaged None)
+        × ((numbers : List ℕ) → AreBlocks [] numbers bytes.now → AreSmall numbers → ⊥)) }
 {
     decoder.try_uncompress_vint_unsorted_until_end(bytes)?;
     if !is_rest(decoder.output_array()) {
@@ -272,7 +275,8 @@ fn decode(widths: &[u8], packed: &[u8], block: usize, at: usize, decoder: &mut B
 /// Checks a block of numbers below 2^31 for each width, where `decoder` holds the last; returns the offset after them.
 fn checked_blocks(widths: &[u8], packed: &[u8], decoder: &mut BlockDecoder) -> Result<usize, Fault>
     ensures ok { IfOk result (λ at. HasAll widths.now packed.now at) }
-    ensures err { IfErr result (λ fault. (fault ≡ faults.Damaged None) × ((numbers : List ℕ) → AreBlocks widths.now numbers packed.now → AreSmall numbers → ⊥)) }
+    ensures err { IfErr result (λ fault. (fault ≡ faults.Damaged None)
+        × ((numbers : List ℕ) → AreBlocks widths.now numbers packed.now → AreSmall numbers → ⊥)) }
 {
     let mut at = 0;
     for width in widths {
@@ -293,7 +297,8 @@ fn copy_from(numbers: &[u32], place: usize, output: &mut [u32], filled: usize) -
     ensures some { place < length numbers.now → filled < length output.old → filled < result }
     ensures long { length output.new ≡ length output.old }
     ensures room { result - filled ≤ length numbers.now - place }
-    ensures copied { take result output.new ≡ take filled output.old ++ take (result - filled) (drop place numbers.now) }
+    ensures copied { take result output.new
+        ≡ take filled output.old ++ take (result - filled) (drop place numbers.now) }
 {
     let count = (output.len() - filled).min(numbers.len() - place);
     output[filled..filled + count].copy_from_slice(&numbers[place..place + count]);

@@ -64,7 +64,8 @@ fn write_docs(serializer: &mut PostingsSerializer, num_docs: u32) -> Result<(), 
     requires next { serializer.old.next ≡ 0 }
     requires lengths { serializer.old.norms ≡ None }
     requires nothing { AreWritten serializer.old [] [] }
-    ensures written { OnOk result ((docs counts : List ℕ) × AreWritten serializer.new docs counts × (length docs ≡ num_docs) × AllByRecursion (λ d. d < 3 * num_docs) docs) }
+    ensures written { OnOk result ((docs counts : List ℕ) × AreWritten serializer.new docs counts
+        × (length docs ≡ num_docs) × AllByRecursion (λ d. d < 3 * num_docs) docs) }
     ensures same { OnOk result ((serializer.new.option ≡ serializer.old.option) × (serializer.new.norms ≡ None)) }
 {
     for place in 0..num_docs {
@@ -75,7 +76,9 @@ fn write_docs(serializer: &mut PostingsSerializer, num_docs: u32) -> Result<(), 
 
 fn written(alloc: Global, option: IndexRecordOption, num_docs: u32) -> Result<Vec<u8>, Fault>
     requires { num_docs ≤ 65535 }
-    ensures { IfOk result (λ bytes. (docs counts : List ℕ) × HasPostings (has_freq (record_option_of option)) (has_positions (record_option_of option)) num_docs bytes.items docs counts × AllByRecursion (λ d. d < 3 * num_docs) docs) }
+    ensures { IfOk result (λ bytes. (docs counts : List ℕ)
+        × HasPostings (has_freq (record_option_of option)) (has_positions (record_option_of option)) num_docs
+        bytes.items docs counts × AllByRecursion (λ d. d < 3 * num_docs) docs) }
 {
     let mut serializer = PostingsSerializer::new(alloc, option, None);
     let mut bytes = Vec::new(alloc);
@@ -96,8 +99,11 @@ fn write_places(
     requires counted { has_freq serializer.old.option ≡ true }
     requires nothing { AreWritten serializer.old [] [] }
     requires none { positions.old ≡ ([], []) }
-    ensures written { OnOk result ((docs counts : List ℕ) × (lists : List (List ℕ)) × AreWritten serializer.new docs counts × (length docs ≡ num_docs) × HasPositions counts lists positions.new.1) }
-    ensures same { OnOk result ((serializer.new.option ≡ serializer.old.option) × (serializer.new.norms ≡ None) × (positions.new.0 ≡ [])) }
+    ensures written { OnOk result ((docs counts : List ℕ) × (lists : List (List ℕ))
+        × AreWritten serializer.new docs counts × (length docs ≡ num_docs)
+        × HasPositions counts lists positions.new.1) }
+    ensures same { OnOk result ((serializer.new.option ≡ serializer.old.option) × (serializer.new.norms ≡ None)
+        × (positions.new.0 ≡ [])) }
 {
     for place in 0..num_docs {
         let count = count_at(place);
@@ -110,7 +116,9 @@ fn write_places(
 /// The bytes of the postings, and those of the positions.
 fn written_places(alloc: Global, num_docs: u32) -> Result<(Vec<u8>, Vec<u8>), Fault>
     requires { num_docs ≤ 65535 }
-    ensures { IfOk result (λ bytes. (docs counts : List ℕ) × (lists : List (List ℕ)) × (numbers : List ℕ) × HasPostings true true num_docs bytes.0.items docs counts × HasPositions counts lists numbers × ArePositions numbers bytes.1.items) }
+    ensures { IfOk result (λ bytes. (docs counts : List ℕ) × (lists : List (List ℕ)) × (numbers : List ℕ)
+        × HasPostings true true num_docs bytes.0.items docs counts × HasPositions counts lists numbers
+        × ArePositions numbers bytes.1.items) }
 {
     let mut serializer = PostingsSerializer::new(alloc, POSITIONS, None);
     let mut positions = PositionSerializer::new(alloc, Vec::new(alloc));
@@ -122,7 +130,8 @@ fn written_places(alloc: Global, num_docs: u32) -> Result<(Vec<u8>, Vec<u8>), Fa
 }
 
 fn recorded(option: IndexRecordOption) -> Recorded
-    ensures { (result.counts ≡ has_freq (record_option_of option)) × (result.positions ≡ has_positions (record_option_of option)) }
+    ensures { (result.counts ≡ has_freq (record_option_of option))
+        × (result.positions ≡ has_positions (record_option_of option)) }
 {
     Recorded {
         counts: option.has_freq(),
@@ -131,14 +140,18 @@ fn recorded(option: IndexRecordOption) -> Recorded
 }
 
 fn opened<'a>(bytes: &'a [u8], option: IndexRecordOption, num_docs: u32) -> SegmentPostings<'a>
-    requires { (docs counts : List ℕ) × HasPostings (has_freq (record_option_of option)) (has_positions (record_option_of option)) num_docs bytes.now docs counts × AllByRecursion (λ d. d < 3 * num_docs) docs }
+    requires { (docs counts : List ℕ)
+        × HasPostings (has_freq (record_option_of option)) (has_positions (record_option_of option)) num_docs bytes.now
+        docs counts × AllByRecursion (λ d. d < 3 * num_docs) docs }
     ensures { from (3 * num_docs) (⟦<SegmentPostings<'a> as DocSet>⟧.entries result) ≡ [] }
 {
     SegmentPostings::new(bytes, num_docs, recorded(option), option.has_freq())
 }
 
 fn places_opened<'a>(bytes: &'a [u8], places: &'a [u8], num_docs: u32) -> SegmentPostings<'a>
-    requires { (docs counts : List ℕ) × (lists : List (List ℕ)) × (numbers : List ℕ) × HasPostings true true num_docs bytes.now docs counts × HasPositions counts lists numbers × ArePositions numbers places.now }
+    requires { (docs counts : List ℕ) × (lists : List (List ℕ)) × (numbers : List ℕ)
+        × HasPostings true true num_docs bytes.now docs counts × HasPositions counts lists numbers
+        × ArePositions numbers places.now }
 {
     let recorded = Recorded {
         counts: true,

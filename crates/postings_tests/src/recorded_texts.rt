@@ -16,7 +16,8 @@ type Shape = (usize, usize, usize);
 
 /// Whether the first field is an indexed one of texts.
 fn begins_with_a_text_field(schema: &Schema) -> bool
-    ensures { IsTrue result → (e : Entry) × (slice_get schema.now 0 ≡ Some e) × (is_indexed e ≡ true) × (e.kind ≡ text_kind) }
+    ensures { IsTrue result → (e : Entry) × (slice_get schema.now 0 ≡ Some e) × (is_indexed e ≡ true)
+        × (e.kind ≡ text_kind) }
 {
     if schema.num_fields() == 0 {
         return false;

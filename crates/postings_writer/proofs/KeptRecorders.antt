@@ -61,4 +61,3 @@ recorded_more e old new places key place r has is put q = put q ∙ go (bytes_eq
 -- terms after a recorder is put at a key
 pub has_places-updated : (e : Entry) (old new : Terms) (places : List ℕ → List (ℕ × ℕ)) (key : List ℕ) (place : ℕ × ℕ) (r : Recorder) → HasPlaces e places old → r ≡ recorded_as (option_of_key e key) (places key ++ place ∷ []) → ((q : List ℕ) → lookup (bytes_eq q) new ≡ update bytes_eq (λ p. lookup (bytes_eq p) old) key (Some r) q) → HasPlaces e (with_place key place places) new
 has_places-updated e old new places key place r has is put = recorded_more e (λ q. lookup (bytes_eq q) old) (λ q. lookup (bytes_eq q) new) places key place r has is put
-

@@ -84,7 +84,13 @@ impl BlockWriter {
     fn write_docs(&mut self, offset: u32, docs: &[u32]) -> Result<(), AllocError>
         requires count { length docs.now ≡ block_len }
         requires ascending { IsAscendingFrom (next_of offset) docs.now }
-        ensures { OnOk result (self.new ≡ record { skips = self.old.skips ++ u32_bytes (slice_index docs.now 127) ++ width_of (deltas (next_of offset) docs.now) ∷ []; blocks = self.old.blocks ++ packed_bytes (deltas (next_of offset) docs.now) }) }
+        ensures { OnOk result (self.new
+            ≡ record {
+              skips = self.old.skips ++ u32_bytes (slice_index docs.now 127) ++ width_of
+                  (deltas (next_of offset) docs.now)
+                  ∷ [];
+              blocks = self.old.blocks ++ packed_bytes (deltas (next_of offset) docs.now);
+            }) }
     {
         let (width, bytes) = self.encoder.compress_block_sorted(docs, offset);
         self.skip_write.write_doc(docs[127], width)?;
@@ -99,7 +105,13 @@ impl BlockWriter {
         counts_less_1: &[u32],
     ) -> Result<(), AllocError>
         requires { length counts_less_1.now ≡ block_len }
-        ensures { OnOk result (self.new ≡ record { skips = self.old.skips ++ (if has_freq (record_option_of option) then width_of counts_less_1.now ∷ [] else []); blocks = self.old.blocks ++ (if has_freq (record_option_of option) then packed_bytes counts_less_1.now else []) }) }
+        ensures { OnOk result (self.new
+            ≡ record {
+              skips = self.old.skips ++ (if has_freq (record_option_of option) then width_of counts_less_1.now
+                  ∷ [] else []);
+              blocks = self.old.blocks ++ (if has_freq (record_option_of option) then packed_bytes
+                  counts_less_1.now else []);
+            }) }
     {
         if !option.has_freq() {
             return Ok(());
@@ -116,7 +128,12 @@ impl BlockWriter {
         option: IndexRecordOption,
         count_sum: u32,
     ) -> Result<(), AllocError>
-        ensures { OnOk result (self.new ≡ record { skips = self.old.skips ++ (if has_positions (record_option_of option) then u32_bytes count_sum else []); blocks = self.old.blocks }) }
+        ensures { OnOk result (self.new
+            ≡ record {
+              skips = self.old.skips ++ (if has_positions (record_option_of option) then u32_bytes count_sum
+                  else []);
+              blocks = self.old.blocks;
+            }) }
     {
         if !option.has_positions() {
             return Ok(());
@@ -150,7 +167,8 @@ impl BlockWriter {
     pub(crate) fn append_to(&self, has_skips: bool, output: &mut Vec<u8>) -> Result<(), Fault>
         ensures ok { OnOk result (output.new.items ≡ output.old.items ++ term_bytes has_skips self.now) }
         ensures within { OnOk result (length (term_bytes has_skips self.now) < 2 ^ 32) }
-        ensures err { IfErr result (λ fault. IsRefusal fault (nat_le (2 ^ 32) (length (term_bytes has_skips self.now)))) }
+        ensures err { IfErr result (λ fault. IsRefusal fault
+            (nat_le (2 ^ 32) (length (term_bytes has_skips self.now)))) }
     {
         let before = output.len();
         self.put(has_skips, output)?;
@@ -175,7 +193,8 @@ impl BlockWriter {
 
 /// Appends a packed block, the only one of its numbers.
 fn put_packed(blocks: &mut Vec<u8>, packed: &[u8]) -> Result<(), AllocError>
-    ensures { (w : ℕ) (numbers : List ℕ) → IsBlock w numbers packed.now → OnOk result (blocks.new.items ≡ blocks.old.items ++ packed_bytes numbers) }
+    ensures { (w : ℕ) (numbers : List ℕ) → IsBlock w numbers packed.now
+        → OnOk result (blocks.new.items ≡ blocks.old.items ++ packed_bytes numbers) }
 {
     blocks.extend_from_slice(packed)?;
     Ok(())

@@ -78,8 +78,10 @@ impl FieldPostings {
         position: u32,
     ) -> Result<(), Fault>
         requires { is_indexed entry.now ≡ true }
-        ensures ok { (places : List ℕ → List (ℕ × ℕ)) → HasPlaces entry.now places self.old → OnOk result (HasPlaces entry.now (with_place key.now (doc, position) places) self.new) }
-        ensures err { (places : List ℕ → List (ℕ × ℕ)) → HasPlaces entry.now places self.old → IfErr result (λ fault. IsCountRefusal fault (places key.now ++ (doc, position) ∷ [])) }
+        ensures ok { (places : List ℕ → List (ℕ × ℕ)) → HasPlaces entry.now places self.old
+            → OnOk result (HasPlaces entry.now (with_place key.now (doc, position) places) self.new) }
+        ensures err { (places : List ℕ → List (ℕ × ℕ)) → HasPlaces entry.now places self.old
+            → IfErr result (λ fault. IsCountRefusal fault (places key.now ++ (doc, position) ∷ [])) }
     {
         if key.len() > MAX_SHORT_LEN {
             return self.record_long(alloc, entry, key, doc, position);
@@ -101,8 +103,10 @@ impl FieldPostings {
     ) -> Result<(), Fault>
         requires indexed { is_indexed entry.now ≡ true }
         requires long { max_short < length key.now }
-        ensures ok { (places : List ℕ → List (ℕ × ℕ)) → HasPlaces entry.now places self.old → OnOk result (HasPlaces entry.now (with_place key.now (doc, position) places) self.new) }
-        ensures err { (places : List ℕ → List (ℕ × ℕ)) → HasPlaces entry.now places self.old → IfErr result (λ fault. IsCountRefusal fault (places key.now ++ (doc, position) ∷ [])) }
+        ensures ok { (places : List ℕ → List (ℕ × ℕ)) → HasPlaces entry.now places self.old
+            → OnOk result (HasPlaces entry.now (with_place key.now (doc, position) places) self.new) }
+        ensures err { (places : List ℕ → List (ℕ × ℕ)) → HasPlaces entry.now places self.old
+            → IfErr result (λ fault. IsCountRefusal fault (places key.now ++ (doc, position) ∷ [])) }
     {
         match self.long.get_mut(key) {
             Some(recorder) => recorder.record(doc, position),
@@ -120,7 +124,8 @@ impl FieldPostings {
         position: u32,
     ) -> Result<(), Fault>
         requires indexed { is_indexed entry.now ≡ true }
-        ensures ok { (places : List ℕ → List (ℕ × ℕ)) → HasPlaces entry.now places self.old → places key.now ≡ [] → OnOk result (HasPlaces entry.now (with_place key.now (doc, position) places) self.new) }
+        ensures ok { (places : List ℕ → List (ℕ × ℕ)) → HasPlaces entry.now places self.old → places key.now ≡ []
+            → OnOk result (HasPlaces entry.now (with_place key.now (doc, position) places) self.new) }
         ensures err { IfErr result (λ fault. fault ≡ faults.OutOfMemory) }
     {
         let mut recorder = Recorder::new(alloc, option_of_key(entry, key));
@@ -131,7 +136,8 @@ impl FieldPostings {
 
     /// Sets the recorder of the value bytes `key`.
     fn insert(&mut self, alloc: Global, key: &[u8], recorder: Recorder) -> Result<(), AllocError>
-        ensures { OnOk result ((q : List ℕ) → lookup (bytes_eq q) self.new ≡ update bytes_eq (λ p. lookup (bytes_eq p) self.old) key.now (Some recorder) q) }
+        ensures { OnOk result ((q : List ℕ) → lookup (bytes_eq q) self.new
+            ≡ update bytes_eq (λ p. lookup (bytes_eq p) self.old) key.now (Some recorder) q) }
     {
         if key.len() <= MAX_SHORT_LEN {
             self.short.insert(packed(key), recorder)?;
@@ -185,8 +191,10 @@ impl FieldPostings {
     ) -> Result<Vec<(&'a [u8], &'a Recorder)>, AllocError>
         requires { AreShortTerms self.now (map (λ t. (t.0, t.1.now)) short.now) }
         ensures ascend { IfOk result (λ terms. TermsAscend (map (λ t. t.0.now) terms.items)) }
-        ensures each { IfOk result (λ terms. AllByRecursion (λ t. lookup (bytes_eq t.0.now) self.now ≡ Some t.1.now) terms.items) }
-        ensures all { IfOk result (λ terms. (key : List ℕ) → IsSome (lookup (bytes_eq key) self.now) → list_any (bytes_eq key) (map (λ t. t.0.now) terms.items) ≡ true) }
+        ensures each { IfOk result (λ terms. AllByRecursion (λ t. lookup (bytes_eq t.0.now) self.now
+            ≡ Some t.1.now) terms.items) }
+        ensures all { IfOk result (λ terms. (key : List ℕ) → IsSome (lookup (bytes_eq key) self.now)
+            → list_any (bytes_eq key) (map (λ t. t.0.now) terms.items) ≡ true) }
     {
         let mut terms = self.all_terms(alloc, short)?;
         terms.sort_unstable_by_key(|term| term.0);

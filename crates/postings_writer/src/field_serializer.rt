@@ -46,8 +46,12 @@ impl<'a> FieldSerializer<'a> {
     pub fn new_term(&mut self, key: &[u8], record_term_freq: bool) -> Result<(), AllocError>
         ensures ready { OnOk result (IsOpen self.new [] [] []) }
         ensures key { OnOk result (self.new.key ≡ key.now) }
-        ensures option { OnOk result (self.new.writing.option ≡ (if record_term_freq then self.old.writing.mode else basic)) }
-        ensures same { OnOk result ((self.new.field ≡ self.old.field) × (self.new.num_tokens ≡ self.old.num_tokens) × (self.new.terms ≡ self.old.terms) × (self.new.postings ≡ self.old.postings) × (self.new.positions ≡ (self.old.positions.0, [])) × (self.new.writing.mode ≡ self.old.writing.mode) × (self.new.writing.norms ≡ self.old.writing.norms) × (self.new.writing.next ≡ 0)) }
+        ensures option { OnOk result (self.new.writing.option
+            ≡ (if record_term_freq then self.old.writing.mode else basic)) }
+        ensures same { OnOk result ((self.new.field ≡ self.old.field) × (self.new.num_tokens ≡ self.old.num_tokens)
+            × (self.new.terms ≡ self.old.terms) × (self.new.postings ≡ self.old.postings)
+            × (self.new.positions ≡ (self.old.positions.0, [])) × (self.new.writing.mode ≡ self.old.writing.mode)
+            × (self.new.writing.norms ≡ self.old.writing.norms) × (self.new.writing.next ≡ 0)) }
         ensures total { OnOk result (self.new.total_term_freq ≡ 0) }
         ensures refused { OnErr result (AreKept self.old self.new) }
         ensures waiting { OnErr result (self.new.positions.1 ≡ []) }
@@ -66,7 +70,10 @@ impl<'a> FieldSerializer<'a> {
         ensures ready { OnOk result (IsOpen self.new [] [] []) }
         ensures key { OnOk result (self.new.key ≡ key.now) }
         ensures option { OnOk result (self.new.writing.option ≡ basic) }
-        ensures same { OnOk result ((self.new.field ≡ self.old.field) × (self.new.num_tokens ≡ self.old.num_tokens) × (self.new.terms ≡ self.old.terms) × (self.new.postings ≡ self.old.postings) × (self.new.positions ≡ (self.old.positions.0, [])) × (self.new.writing.mode ≡ self.old.writing.mode) × (self.new.writing.norms ≡ self.old.writing.norms) × (self.new.writing.next ≡ 0)) }
+        ensures same { OnOk result ((self.new.field ≡ self.old.field) × (self.new.num_tokens ≡ self.old.num_tokens)
+            × (self.new.terms ≡ self.old.terms) × (self.new.postings ≡ self.old.postings)
+            × (self.new.positions ≡ (self.old.positions.0, [])) × (self.new.writing.mode ≡ self.old.writing.mode)
+            × (self.new.writing.norms ≡ self.old.writing.norms) × (self.new.writing.next ≡ 0)) }
         ensures total { OnOk result (self.new.total_term_freq ≡ 0) }
         ensures refused { OnErr result (AreKept self.old self.new) }
         ensures waiting { OnErr result (self.new.positions.1 ≡ []) }
@@ -88,10 +95,18 @@ impl<'a> FieldSerializer<'a> {
         requires kept { IfSome self.old.writing.norms (λ ids. doc < length ids) }
         requires some { IsTrue (has_freq self.old.writing.option) → 0 < term_freq }
         requires positions { (i : ℕ) → slice_index position_deltas.now i < 2 ^ 31 }
-        ensures written { (docs counts numbers : List ℕ) → IsOpen self.old docs counts numbers → OnOk result (IsOpen self.new (docs ++ doc ∷ []) (counts ++ recorded_count self.old.writing.option term_freq ∷ []) (numbers ++ position_deltas.now)) }
-        ensures same { OnOk result ((self.new.field ≡ self.old.field) × (self.new.num_tokens ≡ self.old.num_tokens) × (self.new.terms ≡ self.old.terms) × (self.new.postings ≡ self.old.postings) × (self.new.key ≡ self.old.key) × (self.new.writing.mode ≡ self.old.writing.mode) × (self.new.writing.option ≡ self.old.writing.option) × (self.new.writing.norms ≡ self.old.writing.norms) × (self.new.writing.next ≡ doc + 1) × (self.new.positions.0 ≡ self.old.positions.0)) }
+        ensures written { (docs counts numbers : List ℕ) → IsOpen self.old docs counts numbers
+            → OnOk result (IsOpen self.new (docs ++ doc
+            ∷ []) (counts ++ recorded_count self.old.writing.option term_freq ∷ []) (numbers ++ position_deltas.now)) }
+        ensures same { OnOk result ((self.new.field ≡ self.old.field) × (self.new.num_tokens ≡ self.old.num_tokens)
+            × (self.new.terms ≡ self.old.terms) × (self.new.postings ≡ self.old.postings)
+            × (self.new.key ≡ self.old.key) × (self.new.writing.mode ≡ self.old.writing.mode)
+            × (self.new.writing.option ≡ self.old.writing.option) × (self.new.writing.norms ≡ self.old.writing.norms)
+            × (self.new.writing.next ≡ doc + 1) × (self.new.positions.0 ≡ self.old.positions.0)) }
         ensures total { OnOk result (self.new.total_term_freq ≡ self.old.total_term_freq + term_freq) }
-        ensures err { (docs counts numbers : List ℕ) → IsOpen self.old docs counts numbers → IfErr result (λ fault. IsSumRefusal fault (counts ++ recorded_count self.old.writing.option term_freq ∷ [])) }
+        ensures err { (docs counts numbers : List ℕ) → IsOpen self.old docs counts numbers
+            → IfErr result (λ fault. IsSumRefusal fault (counts ++ recorded_count self.old.writing.option term_freq
+            ∷ [])) }
         ensures refused { OnErr result (AreKept self.old self.new) }
     {
         self.postings_serializer.write_doc(doc, term_freq)?;
@@ -104,7 +119,14 @@ impl<'a> FieldSerializer<'a> {
     /// Appends the positions of a document, if they are recorded.
     fn write_positions(&mut self, position_deltas: &[u32]) -> Result<(), AllocError>
         requires { (i : ℕ) → slice_index position_deltas.now i < 2 ^ 31 }
-        ensures ok { OnOk result (self.new ≡ record self.old { positions = (self.old.positions.0, self.old.positions.1 ++ (if has_positions self.old.writing.option then position_deltas.now else [])) }) }
+        ensures ok { OnOk result (self.new
+            ≡ record self.old {
+              positions = (
+                self.old.positions.0,
+                self.old.positions.1 ++
+                    (if has_positions self.old.writing.option then position_deltas.now else []),
+              );
+            }) }
         ensures refused { OnErr result (self.new ≡ self.old) }
     {
         if !self.postings_serializer.has_positions() {
@@ -118,12 +140,14 @@ impl<'a> FieldSerializer<'a> {
     /// Closes the term: its postings and positions follow those of the terms before, and its tokens, the sum of each
     /// `term_freq` that `write_doc` was given, count for the field.
     pub fn close_term(&mut self) -> Result<(), Fault>
-        ensures ok { (docs counts numbers : List ℕ) → IsOpen self.old docs counts numbers → OnOk result (IsClosed self.old self.new docs counts numbers) }
+        ensures ok { (docs counts numbers : List ℕ) → IsOpen self.old docs counts numbers
+            → OnOk result (IsClosed self.old self.new docs counts numbers) }
         ensures tokens { OnOk result ((self.new.num_tokens ≡ self.old.num_tokens + self.old.total_term_freq)
             × (self.old.num_tokens + self.old.total_term_freq < 2 ^ 64)) }
         ensures same { OnOk result ((self.new.field ≡ self.old.field) × (self.new.writing.mode ≡ self.old.writing.mode)
             × (self.new.writing.norms ≡ self.old.writing.norms)) }
-        ensures err { (docs counts numbers : List ℕ) → IsOpen self.old docs counts numbers → IfErr result (λ fault. IsCloseRefusal fault self.old docs counts numbers) }
+        ensures err { (docs counts numbers : List ℕ) → IsOpen self.old docs counts numbers
+            → IfErr result (λ fault. IsCloseRefusal fault self.old docs counts numbers) }
         ensures refused { OnErr result (IsSameField self.old self.new) }
     {
         let num_tokens = self
@@ -151,7 +175,15 @@ impl<'a> FieldSerializer<'a> {
 
     /// Closes the positions of the term, if they are recorded.
     fn close_positions(&mut self) -> Result<(), AllocError>
-        ensures ok { OnOk result ((bytes : List ℕ) × HasPositions (has_positions self.old.writing.option) self.old.positions.1 bytes × (self.new ≡ record self.old { positions = (self.old.positions.0 ++ bytes, if has_positions self.old.writing.option then [] else self.old.positions.1) })) }
+        ensures ok { OnOk result ((bytes : List ℕ)
+            × HasPositions (has_positions self.old.writing.option) self.old.positions.1 bytes
+            × (self.new ≡ record self.old {
+              positions = (
+                self.old.positions.0 ++ bytes,
+                if has_positions
+                    self.old.writing.option then [] else self.old.positions.1,
+              );
+            })) }
         ensures refused { OnErr result (self.new ≡ self.old) }
     {
         if !self.postings_serializer.has_positions() {

@@ -20,8 +20,10 @@ const MAX_POSITION: u32 = 2147483648;
 
 /// Returns the position of `token` in a value that begins at `start`, and its end, which `gap` follows.
 fn place_of(start: u32, gap: u32, token: TokenRef<'_>) -> Result<(u32, u32), Fault>
-    ensures ok { IfOk result (λ p. (p.0 ≡ start + token.entry.position) × (p.1 ≡ start + token.entry.position + token.entry.position_length) × (p.1 + gap < 2 ^ 31)) }
-    ensures err { IfErr result (λ fault. (fault ≡ faults.Limit) × (2 ^ 31 ≤ end_of gap start (token_of_ref token.entry))) }
+    ensures ok { IfOk result (λ p. (p.0 ≡ start + token.entry.position)
+        × (p.1 ≡ start + token.entry.position + token.entry.position_length) × (p.1 + gap < 2 ^ 31)) }
+    ensures err { IfErr result (λ fault. (fault ≡ faults.Limit)
+        × (2 ^ 31 ≤ end_of gap start (token_of_ref token.entry))) }
 {
     let position = below_limit(token.position)?;
     let length = below_limit(token.position_length)?;
@@ -71,14 +73,19 @@ impl PostingsWriter {
         requires fits { doc < terminated }
         requires small { gap < 2 ^ 31 }
         ensures ok { (os : List Occurrence) (real : ℕ) → Stands schema.now self.old os → start ≡ min (2 ^ 31) real
-            → OnOk result (Stands schema.now self.new (os ++ text_occurrences doc term_buffer.old.items real (kept (T.rest stream.old)))) }
+            → OnOk result (Stands schema.now self.new (os ++ text_occurrences doc term_buffer.old.items real
+            (kept (T.rest stream.old)))) }
         ensures next { (real : ℕ) → start ≡ min (2 ^ 31) real
             → IfOk result (λ text. text.next_start ≡ min (2 ^ 31) (next_start gap real (kept (T.rest stream.old)))) }
-        ensures num_tokens { IfOk result (λ text. text.num_tokens ≡ min 4294967295 (length (kept (T.rest stream.old)))) }
-        ensures within { (real : ℕ) → start ≡ min (2 ^ 31) real → OnOk result (AreWithin gap real (kept (T.rest stream.old))) }
-        ensures same { OnOk result (HasFields schema.now self.new × (self.new.num_docs ≤ doc + 1) × (term_buffer.new.items ≡ term_buffer.old.items)) }
+        ensures num_tokens { IfOk result (λ text. text.num_tokens
+            ≡ min 4294967295 (length (kept (T.rest stream.old)))) }
+        ensures within { (real : ℕ) → start ≡ min (2 ^ 31) real
+            → OnOk result (AreWithin gap real (kept (T.rest stream.old))) }
+        ensures same { OnOk result (HasFields schema.now self.new × (self.new.num_docs ≤ doc + 1)
+            × (term_buffer.new.items ≡ term_buffer.old.items)) }
         ensures err { (os : List Occurrence) (real : ℕ) → Stands schema.now self.old os → start ≡ min (2 ^ 31) real
-            → IfErr result (λ fault. IsTextRefusal fault os doc term_buffer.old.items gap real (kept (T.rest stream.old))) }
+            → IfErr result (λ fault. IsTextRefusal fault os doc term_buffer.old.items gap real
+            (kept (T.rest stream.old))) }
     {
         let (end, num_tokens) = self.index_tokens(schema, doc, term_buffer, stream, start, gap)?;
         Ok(IndexedText {
@@ -102,13 +109,16 @@ impl PostingsWriter {
         requires next { self.old.num_docs ≤ doc + 1 }
         requires fits { doc < terminated }
         ensures ok { (os : List Occurrence) → Stands schema.now self.old os
-            → OnOk result (Stands schema.now self.new (os ++ text_occurrences doc term_buffer.old.items start (kept (T.rest stream.old)))) }
+            → OnOk result (Stands schema.now self.new (os ++ text_occurrences doc term_buffer.old.items start
+            (kept (T.rest stream.old)))) }
         ensures end { IfOk result (λ p. p.0 ≡ greatest_from start (ends start (kept (T.rest stream.old)))) }
         ensures num_tokens { IfOk result (λ p. p.1 ≡ min 4294967295 (length (kept (T.rest stream.old)))) }
         ensures within { OnOk result (AreWithin gap start (kept (T.rest stream.old))) }
-        ensures same { OnOk result (HasFields schema.now self.new × (self.new.num_docs ≤ doc + 1) × (term_buffer.new.items ≡ term_buffer.old.items)) }
+        ensures same { OnOk result (HasFields schema.now self.new × (self.new.num_docs ≤ doc + 1)
+            × (term_buffer.new.items ≡ term_buffer.old.items)) }
         ensures err { (os : List Occurrence) → Stands schema.now self.old os
-            → IfErr result (λ fault. IsTextRefusal fault os doc term_buffer.old.items gap start (kept (T.rest stream.old))) }
+            → IfErr result (λ fault. IsTextRefusal fault os doc term_buffer.old.items gap start
+            (kept (T.rest stream.old))) }
     {
         let mut end = start;
         let mut num_tokens: u32 = 0;
@@ -142,13 +152,16 @@ impl PostingsWriter {
         requires next { self.old.num_docs ≤ doc + 1 }
         requires fits { doc < terminated }
         ensures ok { (os : List Occurrence) → Stands schema.now self.old os
-            → OnOk result (Stands schema.now self.new (os ++ text_occurrences doc term_buffer.old.items start (kept (token_of_ref token.entry ∷ [])))) }
+            → OnOk result (Stands schema.now self.new (os ++ text_occurrences doc term_buffer.old.items start
+            (kept (token_of_ref token.entry ∷ [])))) }
         ensures end { IfOk result (λ p. p.0 ≡ greatest_from start (ends start (kept (token_of_ref token.entry ∷ [])))) }
         ensures count { IfOk result (λ p. p.1 ≡ length (kept (token_of_ref token.entry ∷ []))) }
         ensures within { OnOk result (AreWithin gap start (kept (token_of_ref token.entry ∷ []))) }
-        ensures same { OnOk result (HasFields schema.now self.new × (self.new.num_docs ≤ doc + 1) × (term_buffer.new.items ≡ term_buffer.old.items)) }
+        ensures same { OnOk result (HasFields schema.now self.new × (self.new.num_docs ≤ doc + 1)
+            × (term_buffer.new.items ≡ term_buffer.old.items)) }
         ensures err { (os : List Occurrence) → Stands schema.now self.old os
-            → IfErr result (λ fault. IsTextRefusal fault os doc term_buffer.old.items gap start (kept (token_of_ref token.entry ∷ []))) }
+            → IfErr result (λ fault. IsTextRefusal fault os doc term_buffer.old.items gap start
+            (kept (token_of_ref token.entry ∷ []))) }
     {
         if token.text.len() > MAX_TOKEN_LEN {
             return Ok((start, 0));

@@ -70,7 +70,8 @@ impl<'a> PostingsSerializer<'a> {
 
     /// Begins a term; only its documents are recorded unless `record_term_freq`.
     pub fn new_term(&mut self, record_term_freq: bool)
-        ensures begun { self.new ≡ begun self.old.mode (if record_term_freq then self.old.mode else basic) self.old.norms }
+        ensures begun { self.new
+            ≡ begun self.old.mode (if record_term_freq then self.old.mode else basic) self.old.norms }
         ensures nothing { AreWritten self.new [] [] }
     {
         self.option = if record_term_freq {
@@ -125,11 +126,17 @@ impl<'a> PostingsSerializer<'a> {
         requires fits { doc < terminated }
         requires kept { IfSome self.old.norms (λ ids. doc < length ids) }
         requires some { IsTrue (has_freq self.old.option) → 0 < term_freq }
-        ensures written { (docs counts : List ℕ) → AreWritten self.old docs counts → OnOk result (AreWritten self.new (docs ++ doc ∷ []) (counts ++ recorded_count self.old.option term_freq ∷ [])) }
-        ensures within { OnOk result (passes_sum (self.old.waiting.counts ++ recorded_count self.old.option term_freq ∷ []) ≡ false) }
-        ensures err { IfErr result (λ fault. IsRefusal fault (passes_sum (self.old.waiting.counts ++ recorded_count self.old.option term_freq ∷ []))) }
-        ensures sums { (docs counts : List ℕ) → AreWritten self.old docs counts → IfErr result (λ fault. IsSumRefusal fault (counts ++ recorded_count self.old.option term_freq ∷ [])) }
-        ensures same { (self.new.mode ≡ self.old.mode) × (self.new.option ≡ self.old.option) × (self.new.norms ≡ self.old.norms) × (self.new.next ≡ doc + 1) }
+        ensures written { (docs counts : List ℕ) → AreWritten self.old docs counts
+            → OnOk result (AreWritten self.new (docs ++ doc ∷ []) (counts ++ recorded_count self.old.option term_freq
+            ∷ [])) }
+        ensures within { OnOk result (passes_sum (self.old.waiting.counts ++ recorded_count self.old.option term_freq
+            ∷ []) ≡ false) }
+        ensures err { IfErr result (λ fault. IsRefusal fault
+            (passes_sum (self.old.waiting.counts ++ recorded_count self.old.option term_freq ∷ []))) }
+        ensures sums { (docs counts : List ℕ) → AreWritten self.old docs counts
+            → IfErr result (λ fault. IsSumRefusal fault (counts ++ recorded_count self.old.option term_freq ∷ [])) }
+        ensures same { (self.new.mode ≡ self.old.mode) × (self.new.option ≡ self.old.option)
+            × (self.new.norms ≡ self.old.norms) × (self.new.next ≡ doc + 1) }
     {
         let count = self.recorded_count(term_freq);
         let fieldnorm_id = self.fieldnorm_id(doc);
@@ -148,10 +155,16 @@ impl<'a> PostingsSerializer<'a> {
 
     /// Appends the postings of the term, of `doc_freq` documents, to `output`; `Limit` if they take 2^32 bytes or more.
     pub fn close_term(&mut self, doc_freq: u32, output: &mut Vec<u8>) -> Result<(), Fault>
-        ensures ok { (docs counts : List ℕ) → AreWritten self.old docs counts → length docs ≡ doc_freq → OnOk result (output.new.items ≡ output.old.items ++ postings_bytes self.old.option (listed self.old.norms) docs counts) }
-        ensures within { (docs counts : List ℕ) → AreWritten self.old docs counts → length docs ≡ doc_freq → OnOk result (length (postings_bytes self.old.option (listed self.old.norms) docs counts) < 2 ^ 32) }
-        ensures err { (docs counts : List ℕ) → AreWritten self.old docs counts → length docs ≡ doc_freq → IfErr result (λ fault. IsRefusal fault (nat_le (2 ^ 32) (length (postings_bytes self.old.option (listed self.old.norms) docs counts)))) }
-        ensures posted { (docs counts : List ℕ) → AreWritten self.old docs counts → ArePosted self.old.option docs counts }
+        ensures ok { (docs counts : List ℕ) → AreWritten self.old docs counts → length docs ≡ doc_freq
+            → OnOk result (output.new.items
+            ≡ output.old.items ++ postings_bytes self.old.option (listed self.old.norms) docs counts) }
+        ensures within { (docs counts : List ℕ) → AreWritten self.old docs counts → length docs ≡ doc_freq
+            → OnOk result (length (postings_bytes self.old.option (listed self.old.norms) docs counts) < 2 ^ 32) }
+        ensures err { (docs counts : List ℕ) → AreWritten self.old docs counts → length docs ≡ doc_freq
+            → IfErr result (λ fault. IsRefusal fault (nat_le (2 ^ 32)
+            (length (postings_bytes self.old.option (listed self.old.norms) docs counts)))) }
+        ensures posted { (docs counts : List ℕ) → AreWritten self.old docs counts
+            → ArePosted self.old.option docs counts }
         ensures sums { (docs counts : List ℕ) → AreWritten self.old docs counts
             → SumsFit (length docs / block_len) counts }
         ensures begun { OnOk result (self.new ≡ begun self.old.mode self.old.option self.old.norms) }

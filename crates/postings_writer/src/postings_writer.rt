@@ -55,7 +55,8 @@ impl Model for PostingsWriter {
 impl PostingsWriter {
     /// Returns a writer for the fields of `schema`, with nothing recorded.
     pub fn for_schema(alloc: Global, schema: &Schema) -> Result<PostingsWriter, AllocError>
-        ensures value { IfOk result (λ writer. writer ≡ record { fields = replicate (length schema.now) []; num_docs = 0 }) }
+        ensures value { IfOk result (λ writer. writer
+            ≡ record { fields = replicate (length schema.now) []; num_docs = 0 }) }
         ensures nothing { IfOk result (λ writer. Stands schema.now writer []) }
     {
         let num_fields = schema.num_fields();
@@ -85,7 +86,8 @@ impl PostingsWriter {
         requires fits { doc < terminated }
         requires placed { position < 2 ^ 31 }
         ensures ok { (os : List Occurrence) → Stands schema.now self.old os
-            → OnOk result (Stands schema.now self.new (os ++ record { doc = doc; term = term.now; position = position } ∷ [])) }
+            → OnOk result (Stands schema.now self.new (os ++ record { doc = doc; term = term.now; position = position }
+            ∷ [])) }
         ensures same { OnOk result (HasFields schema.now self.new × (self.new.num_docs ≡ doc + 1)) }
         ensures err { (os : List Occurrence) → Stands schema.now self.old os
             → IfErr result (λ fault. IsCountRefusal fault (places_of term.now os ++ (doc, position) ∷ [])) }
@@ -109,10 +111,13 @@ impl PostingsWriter {
         requires fits { doc < terminated }
         requires placed { position < 2 ^ 31 }
         ensures ok { (os : List Occurrence) → Stands schema.now self.old os
-            → OnOk result (Stands schema.now self.new (os ++ record { doc = doc; term = term_buffer.old.items ++ text.now; position = position } ∷ [])) }
-        ensures same { OnOk result (HasFields schema.now self.new × (self.new.num_docs ≡ doc + 1) × (term_buffer.new.items ≡ term_buffer.old.items)) }
+            → OnOk result (Stands schema.now self.new (os ++ record
+            { doc = doc; term = term_buffer.old.items ++ text.now; position = position } ∷ [])) }
+        ensures same { OnOk result (HasFields schema.now self.new × (self.new.num_docs ≡ doc + 1)
+            × (term_buffer.new.items ≡ term_buffer.old.items)) }
         ensures err { (os : List Occurrence) → Stands schema.now self.old os
-            → IfErr result (λ fault. IsCountRefusal fault (places_of (term_buffer.old.items ++ text.now) os ++ (doc, position) ∷ [])) }
+            → IfErr result (λ fault. IsCountRefusal fault (places_of (term_buffer.old.items ++ text.now) os ++
+            (doc, position) ∷ [])) }
     {
         let prefix_len = term_buffer.len();
         if prefix_len == HEADER_LEN {
@@ -134,14 +139,18 @@ impl PostingsWriter {
         position: u32,
     ) -> Result<(), Fault>
         requires made { HasFields schema.now self.old }
-        requires known { (term : List ℕ) × IsIndexedTerm schema.now term × (field ≡ field_of term) × (key.now ≡ payload_of term) }
+        requires known { (term : List ℕ) × IsIndexedTerm schema.now term × (field ≡ field_of term)
+            × (key.now ≡ payload_of term) }
         requires next { self.old.num_docs ≤ doc + 1 }
         requires fits { doc < terminated }
         requires placed { position < 2 ^ 31 }
-        ensures ok { (term : List ℕ) (os : List Occurrence) → IsIndexedTerm schema.now term → field ≡ field_of term → key.now ≡ payload_of term → Stands schema.now self.old os
-            → OnOk result (Stands schema.now self.new (os ++ record { doc = doc; term = term; position = position } ∷ [])) }
+        ensures ok { (term : List ℕ) (os : List Occurrence) → IsIndexedTerm schema.now term → field ≡ field_of term
+            → key.now ≡ payload_of term → Stands schema.now self.old os
+            → OnOk result (Stands schema.now self.new (os ++ record { doc = doc; term = term; position = position }
+            ∷ [])) }
         ensures same { OnOk result (HasFields schema.now self.new × (self.new.num_docs ≡ doc + 1)) }
-        ensures err { (term : List ℕ) (os : List Occurrence) → IsIndexedTerm schema.now term → field ≡ field_of term → key.now ≡ payload_of term → Stands schema.now self.old os
+        ensures err { (term : List ℕ) (os : List Occurrence) → IsIndexedTerm schema.now term → field ≡ field_of term
+            → key.now ≡ payload_of term → Stands schema.now self.old os
             → IfErr result (λ fault. IsCountRefusal fault (places_of term os ++ (doc, position) ∷ [])) }
     {
         let entry = schema.get_field_entry(Field::from_field_id(field));

@@ -36,8 +36,13 @@ fn stands_last(pairs: &[(u32, u32)], doc: u32) -> bool
 /// Raises the last count by 1.
 fn raise_last(counts: &mut Vec<(u32, u32)>) -> Result<(), Fault>
     requires { 0 < length counts.old.items }
-    ensures ok { OnOk result ((m : ℕ) → length counts.old.items ≡ suc m → counts.new.items ≡ set counts.old.items m ((get_or counts.old.items m (0, 0)).0, (get_or counts.old.items m (0, 0)).1 + 1)) }
-    ensures err { IfErr result (λ fault. (fault ≡ faults.Limit) × ((m : ℕ) → length counts.old.items ≡ suc m → 2 ^ 32 ≤ (get_or counts.old.items m (0, 0)).1 + 1)) }
+    ensures ok { OnOk result ((m : ℕ) → length counts.old.items ≡ suc m
+        → counts.new.items ≡ set counts.old.items m (
+          (get_or counts.old.items m (0, 0)).0,
+          (get_or counts.old.items m (0, 0)).1 + 1,
+        )) }
+    ensures err { IfErr result (λ fault. (fault ≡ faults.Limit)
+        × ((m : ℕ) → length counts.old.items ≡ suc m → 2 ^ 32 ≤ (get_or counts.old.items m (0, 0)).1 + 1)) }
 {
     let last = counts.len() - 1;
     let (doc, count) = counts[last];
@@ -71,7 +76,8 @@ impl DocIdRecorder {
 
     /// Records that the term occurs in `doc`, which isn't before the last one.
     pub fn record(&mut self, doc: u32) -> Result<(), AllocError>
-        ensures { (ps : List (ℕ × ℕ)) (position : ℕ) → self.old ≡ docs_of ps → OnOk result (self.new ≡ docs_of (ps ++ (doc, position) ∷ [])) }
+        ensures { (ps : List (ℕ × ℕ)) (position : ℕ) → self.old ≡ docs_of ps
+            → OnOk result (self.new ≡ docs_of (ps ++ (doc, position) ∷ [])) }
     {
         if ends_in(&self.docs, doc) {
             return Ok(());
@@ -115,8 +121,10 @@ impl TermFrequencyRecorder {
     /// Records one more occurrence of the term in `doc`, which isn't before the last one. A count past 4294967295 is
     /// refused.
     pub fn record(&mut self, doc: u32) -> Result<(), Fault>
-        ensures ok { (ps : List (ℕ × ℕ)) (position : ℕ) → self.old ≡ counts_of ps → OnOk result (self.new ≡ counts_of (ps ++ (doc, position) ∷ [])) }
-        ensures err { (ps : List (ℕ × ℕ)) (position : ℕ) → self.old ≡ counts_of ps → IfErr result (λ fault. IsCountRefusal fault (ps ++ (doc, position) ∷ [])) }
+        ensures ok { (ps : List (ℕ × ℕ)) (position : ℕ) → self.old ≡ counts_of ps
+            → OnOk result (self.new ≡ counts_of (ps ++ (doc, position) ∷ [])) }
+        ensures err { (ps : List (ℕ × ℕ)) (position : ℕ) → self.old ≡ counts_of ps
+            → IfErr result (λ fault. IsCountRefusal fault (ps ++ (doc, position) ∷ [])) }
     {
         if !stands_last(&self.counts, doc) {
             self.counts.push((doc, 1))?;
@@ -163,8 +171,10 @@ impl Recorder {
 
     /// Records an occurrence of the term in `doc`, which isn't before the last one, at `position`.
     pub fn record(&mut self, doc: u32, position: u32) -> Result<(), Fault>
-        ensures ok { (option : definitions.IndexRecordOption) (ps : List (ℕ × ℕ)) → self.old ≡ recorded_as option ps → OnOk result (self.new ≡ recorded_as option (ps ++ (doc, position) ∷ [])) }
-        ensures err { (option : definitions.IndexRecordOption) (ps : List (ℕ × ℕ)) → self.old ≡ recorded_as option ps → IfErr result (λ fault. IsCountRefusal fault (ps ++ (doc, position) ∷ [])) }
+        ensures ok { (option : definitions.IndexRecordOption) (ps : List (ℕ × ℕ)) → self.old ≡ recorded_as option ps
+            → OnOk result (self.new ≡ recorded_as option (ps ++ (doc, position) ∷ [])) }
+        ensures err { (option : definitions.IndexRecordOption) (ps : List (ℕ × ℕ)) → self.old ≡ recorded_as option ps
+            → IfErr result (λ fault. IsCountRefusal fault (ps ++ (doc, position) ∷ [])) }
     {
         match self {
             Recorder::DocIds(recorder) => {

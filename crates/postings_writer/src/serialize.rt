@@ -30,12 +30,15 @@ impl PostingsWriter {
         requires stands { (os : List Occurrence) × Stands schema.now self.now os }
         requires lengths { AllByRecursion (λ p. self.now.num_docs ≤ length p.1) fieldnorm_readers.now }
         requires new { serializer ≡ record { terms = 0 ∷ []; postings = []; positions = [] } }
-        ensures ok { (num_docs : ℕ) (os : List Occurrence) → self.now.num_docs ≤ num_docs → Stands schema.now self.now os
+        ensures ok { (num_docs : ℕ) (os : List Occurrence) → self.now.num_docs ≤ num_docs
+            → Stands schema.now self.now os
             → IfOk result (λ s. (fields : List IndexedField)
             × AreSections schema.now num_docs fieldnorm_readers.now fields s.terms s.postings s.positions
             × AreGiven (λ t. postings_in (option_of_term schema.now t) t os) schema.now fields
             × AllByRecursion (IsFieldWithin schema.now) fields) }
-        ensures err { (os : List Occurrence) → Stands schema.now self.now os → IfErr result (λ fault. IsSerializeRefusal fault schema.now fieldnorm_readers.now (λ t. postings_in (option_of_term schema.now t) t os)) }
+        ensures err { (os : List Occurrence) → Stands schema.now self.now os
+            → IfErr result (λ fault. IsSerializeRefusal fault schema.now fieldnorm_readers.now
+            (λ t. postings_in (option_of_term schema.now t) t os)) }
     {
         for (field, entry) in schema.fields() {
             if entry.is_indexed() {
@@ -53,13 +56,21 @@ impl PostingsWriter {
         fieldnorm_readers: &FieldNormReaders<'_>,
         serializer: InvertedIndexSerializer,
     ) -> Result<InvertedIndexSerializer, Fault>
-        requires stands { (schema : Fields) × (os : List Occurrence) × Stands schema self.now os × (slice_get schema field ≡ Some entry.now) }
+        requires stands { (schema : Fields) × (os : List Occurrence) × Stands schema self.now os
+            × (slice_get schema field ≡ Some entry.now) }
         requires lengths { AllByRecursion (λ p. self.now.num_docs ≤ length p.1) fieldnorm_readers.now }
         requires indexed { is_indexed entry.now ≡ true }
-        ensures ok { (schema : Fields) (os : List Occurrence) → Stands schema self.now os → slice_get schema field ≡ Some entry.now
-            → IfOk result (λ sections. (f : IndexedField) × (f.field ≡ field) × IsFieldOf entry.now (field_ids fieldnorm_readers.now field) (λ key. places_of (term_bytes field entry.now.kind key) os) f × AreFieldsAdded serializer sections (f ∷ [])) }
-        ensures err { (schema : Fields) (os : List Occurrence) → Stands schema self.now os → slice_get schema field ≡ Some entry.now
-            → IfErr result (λ fault. IsFieldRefusal fault (option_of_key entry.now) (field_ids fieldnorm_readers.now field) (λ key. postings_at (option_of_key entry.now key) (places_of (term_bytes field entry.now.kind key) os))) }
+        ensures ok { (schema : Fields) (os : List Occurrence) → Stands schema self.now os
+            → slice_get schema field ≡ Some entry.now
+            → IfOk result (λ sections. (f : IndexedField) × (f.field ≡ field)
+            × IsFieldOf entry.now (field_ids fieldnorm_readers.now field)
+            (λ key. places_of (term_bytes field entry.now.kind key) os) f
+            × AreFieldsAdded serializer sections (f ∷ [])) }
+        ensures err { (schema : Fields) (os : List Occurrence) → Stands schema self.now os
+            → slice_get schema field ≡ Some entry.now
+            → IfErr result (λ fault. IsFieldRefusal fault (option_of_key entry.now)
+            (field_ids fieldnorm_readers.now field) (λ key. postings_at (option_of_key entry.now key)
+            (places_of (term_bytes field entry.now.kind key) os))) }
     {
         let field_id = field.field_id();
         let fieldnorm_reader = fieldnorm_readers.get_field(field_id);

@@ -47,8 +47,11 @@ fn serialize_terms<'a>(
 ) -> Result<(), Fault>
     requires nothing { serializer.old.positions.1 ≡ [] }
     requires can { AllByRecursion (λ t. CanWrite 0 serializer.old.writing.norms (postings_from t.1.now 0)) terms.now }
-    ensures ok { OnOk result ((ts : List IndexedTerm) × AreAdded (kind_of kind) serializer.old serializer.new (map (λ t. (t.0.now, t.1.now)) terms.now) ts) }
-    ensures err { IfErr result (λ fault. (fault ≡ faults.OutOfMemory) ⊎ ((fault ≡ faults.Limit) × AnyTermPasses (kind_of kind) serializer.old (map (λ t. (t.0.now, t.1.now)) terms.now))) }
+    ensures ok { OnOk result ((ts : List IndexedTerm)
+        × AreAdded (kind_of kind) serializer.old serializer.new (map (λ t. (t.0.now, t.1.now)) terms.now) ts) }
+    ensures err { IfErr result (λ fault. (fault ≡ faults.OutOfMemory)
+        ⊎ ((fault ≡ faults.Limit)
+        × AnyTermPasses (kind_of kind) serializer.old (map (λ t. (t.0.now, t.1.now)) terms.now))) }
 {
     let mut places = Vec::new(alloc);
     let mut deltas = Vec::new(alloc);
@@ -76,9 +79,15 @@ impl FieldPostings {
         serializer: InvertedIndexSerializer,
     ) -> Result<InvertedIndexSerializer, Fault>
         requires indexed { is_indexed entry.now ≡ true }
-        requires can { (key : List ℕ) (recorder : recorders.Recorder) → lookup (bytes_eq key) self.now ≡ Some recorder → CanWrite 0 fieldnorm_reader (postings_from recorder 0) }
-        ensures ok { (places : List ℕ → List (ℕ × ℕ)) → HasPlaces entry.now places self.now → IfOk result (λ sections. (f : IndexedField) × (f.field ≡ field) × IsFieldOf entry.now (listed fieldnorm_reader.entry) places f × AreFieldsAdded serializer sections (f ∷ [])) }
-        ensures err { (places : List ℕ → List (ℕ × ℕ)) → HasPlaces entry.now places self.now → IfErr result (λ fault. IsFieldRefusal fault (option_of_key entry.now) (listed fieldnorm_reader.entry) (λ key. postings_at (option_of_key entry.now key) (places key))) }
+        requires can { (key : List ℕ) (recorder : recorders.Recorder) → lookup (bytes_eq key) self.now ≡ Some recorder
+            → CanWrite 0 fieldnorm_reader (postings_from recorder 0) }
+        ensures ok { (places : List ℕ → List (ℕ × ℕ)) → HasPlaces entry.now places self.now
+            → IfOk result (λ sections. (f : IndexedField) × (f.field ≡ field)
+            × IsFieldOf entry.now (listed fieldnorm_reader.entry) places f
+            × AreFieldsAdded serializer sections (f ∷ [])) }
+        ensures err { (places : List ℕ → List (ℕ × ℕ)) → HasPlaces entry.now places self.now
+            → IfErr result (λ fault. IsFieldRefusal fault (option_of_key entry.now) (listed fieldnorm_reader.entry)
+            (λ key. postings_at (option_of_key entry.now key) (places key))) }
     {
         let short = self.short_terms(alloc)?;
         let terms = self.sorted_terms(alloc, &short)?;

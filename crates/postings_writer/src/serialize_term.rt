@@ -24,7 +24,9 @@ use std::alloc::AllocError;
 fn run_end(places: &[(u32, u32)], start: usize) -> usize
     requires { start < length places.now }
     ensures within { (start < result) × (result ≤ length places.now) }
-    ensures run { by_document (drop start places.now) ≡ ((get_or places.now start (0, 0)).0, map (λ p. p.1) (take (result - start) (drop start places.now))) ∷ by_document (drop result places.now) }
+    ensures run { by_document (drop start places.now)
+        ≡ ((get_or places.now start (0, 0)).0, map (λ p. p.1) (take (result - start) (drop start places.now)))
+        ∷ by_document (drop result places.now) }
 {
     let doc = places[start].0;
     let mut end = start + 1;
@@ -108,7 +110,8 @@ impl Recorder {
         requires holds { HoldsPlaces self.now places.now }
         requires within { at < length_of self.now }
         ensures ok { IfOk result (λ p. StandsAt self.now at p.0 p.1 p.2 deltas.new.items) }
-        ensures err { IfErr result (λ fault. (fault ≡ faults.OutOfMemory) ⊎ ((fault ≡ faults.Limit) × CountsPass (postings_from self.now at))) }
+        ensures err { IfErr result (λ fault. (fault ≡ faults.OutOfMemory)
+            ⊎ ((fault ≡ faults.Limit) × CountsPass (postings_from self.now at))) }
     {
         deltas.clear();
         match self {
@@ -130,7 +133,8 @@ fn position_posting(
 ) -> Result<(u32, u32, usize), Fault>
     requires { at < length places.now }
     ensures ok { IfOk result (λ p. StandsAt (recorders.TfAndPositions places.now) at p.0 p.1 p.2 deltas.new.items) }
-    ensures err { IfErr result (λ fault. (fault ≡ faults.OutOfMemory) ⊎ ((fault ≡ faults.Limit) × CountsPass (postings_from (recorders.TfAndPositions places.now) at))) }
+    ensures err { IfErr result (λ fault. (fault ≡ faults.OutOfMemory)
+        ⊎ ((fault ≡ faults.Limit) × CountsPass (postings_from (recorders.TfAndPositions places.now) at))) }
 {
     let end = run_end(places, at);
     let Ok(count) = u32::try_from(end - at) else {
@@ -151,10 +155,22 @@ fn write_postings<'a>(
 ) -> Result<(), Fault>
     requires holds { HoldsPlaces recorder.now places.now }
     requires can { CanWrite serializer.old.writing.next serializer.old.writing.norms (postings_from recorder.now 0) }
-    ensures ok { (docs counts numbers : List ℕ) → IsOpen serializer.old docs counts numbers → OnOk result (IsOpen serializer.new (docs ++ map (λ p. p.doc) (postings_from recorder.now 0)) (counts ++ map (λ p. recorded_count serializer.old.writing.option p.count) (postings_from recorder.now 0)) (numbers ++ position_numbers (map (λ p. p.positions) (postings_from recorder.now 0)))) }
-    ensures same { OnOk result ((serializer.new.field ≡ serializer.old.field) × (serializer.new.num_tokens ≡ serializer.old.num_tokens) × (serializer.new.terms ≡ serializer.old.terms) × (serializer.new.postings ≡ serializer.old.postings) × (serializer.new.key ≡ serializer.old.key) × (serializer.new.writing.mode ≡ serializer.old.writing.mode) × (serializer.new.writing.option ≡ serializer.old.writing.option) × (serializer.new.writing.norms ≡ serializer.old.writing.norms) × (serializer.new.positions.0 ≡ serializer.old.positions.0)) }
-    ensures total { OnOk result (serializer.new.total_term_freq ≡ serializer.old.total_term_freq + tokens_of recorder.now) }
-    ensures err { IsOpen serializer.old [] [] [] → IfErr result (λ fault. (fault ≡ faults.OutOfMemory) ⊎ ((fault ≡ faults.Limit) × (CountsPass (postings_from recorder.now 0) ⊎ SumsPass serializer.old.writing.option (postings_from recorder.now 0)))) }
+    ensures ok { (docs counts numbers : List ℕ) → IsOpen serializer.old docs counts numbers
+        → OnOk result (IsOpen serializer.new (docs ++ map (λ p. p.doc) (postings_from recorder.now 0))
+        (counts ++ map (λ p. recorded_count serializer.old.writing.option p.count) (postings_from recorder.now 0))
+        (numbers ++ position_numbers (map (λ p. p.positions) (postings_from recorder.now 0)))) }
+    ensures same { OnOk result ((serializer.new.field ≡ serializer.old.field)
+        × (serializer.new.num_tokens ≡ serializer.old.num_tokens) × (serializer.new.terms ≡ serializer.old.terms)
+        × (serializer.new.postings ≡ serializer.old.postings) × (serializer.new.key ≡ serializer.old.key)
+        × (serializer.new.writing.mode ≡ serializer.old.writing.mode)
+        × (serializer.new.writing.option ≡ serializer.old.writing.option)
+        × (serializer.new.writing.norms ≡ serializer.old.writing.norms)
+        × (serializer.new.positions.0 ≡ serializer.old.positions.0)) }
+    ensures total { OnOk result (serializer.new.total_term_freq
+        ≡ serializer.old.total_term_freq + tokens_of recorder.now) }
+    ensures err { IsOpen serializer.old [] [] [] → IfErr result (λ fault. (fault ≡ faults.OutOfMemory)
+        ⊎ ((fault ≡ faults.Limit) × (CountsPass (postings_from recorder.now 0)
+        ⊎ SumsPass serializer.old.writing.option (postings_from recorder.now 0)))) }
 {
     let mut at = 0;
     while at < recorder.len() {
@@ -177,8 +193,13 @@ pub(crate) fn serialize_term<'a>(
 ) -> Result<(), Fault>
     requires nothing { serializer.old.positions.1 ≡ [] }
     requires can { CanWrite 0 serializer.old.writing.norms (postings_from recorder.now 0) }
-    ensures ok { OnOk result (IsWrittenTerm serializer.old serializer.new key.now (if is_text then serializer.old.writing.mode else basic) (postings_from recorder.now 0)) }
-    ensures err { IfErr result (λ fault. (fault ≡ faults.OutOfMemory) ⊎ ((fault ≡ faults.Limit) × (TermPasses (if is_text then serializer.old.writing.mode else basic) (listed serializer.old.writing.norms) (postings_from recorder.now 0) ⊎ (serializer.old.terms.num_terms ≡ 4294967295) ⊎ (2 ^ 64 ≤ serializer.old.num_tokens + tokens_of recorder.now)))) }
+    ensures ok { OnOk result (IsWrittenTerm serializer.old serializer.new key.now
+        (if is_text then serializer.old.writing.mode else basic) (postings_from recorder.now 0)) }
+    ensures err { IfErr result (λ fault. (fault ≡ faults.OutOfMemory)
+        ⊎ ((fault ≡ faults.Limit)
+        × (TermPasses (if is_text then serializer.old.writing.mode else basic) (listed serializer.old.writing.norms)
+        (postings_from recorder.now 0) ⊎ (serializer.old.terms.num_terms ≡ 4294967295)
+        ⊎ (2 ^ 64 ≤ serializer.old.num_tokens + tokens_of recorder.now)))) }
 {
     recorder.copy_places(places)?;
     serializer.new_term(key, is_text)?;

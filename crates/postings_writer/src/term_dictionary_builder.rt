@@ -47,7 +47,13 @@ impl TermDictionaryBuilder {
         postings_len: u64,
         positions_len: u64,
     ) -> Result<(), Fault>
-        ensures ok { OnOk result (self.new ≡ record { closed = self.old.closed; entries = self.old.entries ++ entry_of_term (key.now, record { doc_freq = doc_freq; postings_len = postings_len; positions_len = positions_len }); num_terms = self.old.num_terms + 1 }) }
+        ensures ok { OnOk result (self.new
+            ≡ record {
+              closed = self.old.closed;
+              entries = self.old.entries ++ entry_of_term
+                  (key.now, record { doc_freq = doc_freq; postings_len = postings_len; positions_len = positions_len });
+              num_terms = self.old.num_terms + 1;
+            }) }
         ensures within { OnOk result (self.old.num_terms < 4294967295) }
         ensures err { IfErr result (λ fault. IsRefusal fault (nat_eq self.old.num_terms 4294967295)) }
     {
@@ -64,7 +70,13 @@ impl TermDictionaryBuilder {
 
     /// Closes `field` with its number of tokens.
     pub(crate) fn close_field(&mut self, field: u32, num_tokens: u64) -> Result<(), AllocError>
-        ensures { OnOk result (self.new ≡ record { closed = self.old.closed ++ u32_bytes field ++ u64_bytes num_tokens ++ vint_bytes self.old.num_terms ++ self.old.entries; entries = []; num_terms = 0 }) }
+        ensures { OnOk result (self.new
+            ≡ record {
+              closed = self.old.closed ++ u32_bytes field ++ u64_bytes num_tokens ++ vint_bytes
+                  self.old.num_terms ++ self.old.entries;
+              entries = [];
+              num_terms = 0;
+            }) }
     {
         put_u32(&mut self.output, field)?;
         put_u64(&mut self.output, num_tokens)?;

@@ -67,7 +67,8 @@ fn terms_at(
     schema: &Schema,
     json: &Json,
 ) -> Result<Option<Vec<(usize, Term)>>, AllocError>
-    ensures terms { IfOk result (λ found. option_map (λ terms. by_offset terms.items) found ≡ definitions.terms_at schema.now (view json.now)) }
+    ensures terms { IfOk result (λ found. option_map (λ terms. by_offset terms.items) found
+        ≡ definitions.terms_at schema.now (view json.now)) }
     ensures phrase { IfOk result (λ found. IfSome found (λ terms. are_phrase_terms 2 terms.items ≡ true)) }
 {
     let Some(terms) = given_terms(alloc, schema, json)? else {
@@ -99,7 +100,8 @@ fn read_each_term(
     schema: &Schema,
     items: &[Json],
 ) -> Result<Option<Vec<Term>>, AllocError>
-    ensures { IfOk result (λ found. option_map (λ terms. terms.items) found ≡ keys.each (term_in schema.now) (items_view items.now)) }
+    ensures { IfOk result (λ found. option_map (λ terms. terms.items) found
+        ≡ keys.each (term_in schema.now) (items_view items.now)) }
 {
     let mut terms = Vec::with_capacity(alloc, items.len())?;
     for item in items {
@@ -117,7 +119,8 @@ fn with_offsets(
     json: &Json,
     terms: Vec<Term>,
 ) -> Result<Option<Vec<(usize, Term)>>, AllocError>
-    ensures { IfOk result (λ found. option_map (λ placed. placed.items) found ≡ with_offsets (view json.now) terms.items) }
+    ensures { IfOk result (λ found. option_map (λ placed. placed.items) found
+        ≡ with_offsets (view json.now) terms.items) }
 {
     let Some(offsets) = offsets_at(alloc, json, terms.len())? else {
         return Ok(None);
@@ -173,7 +176,8 @@ fn places(alloc: Global, count: usize) -> Result<Vec<usize>, AllocError>
 
 /// Reads each of `items` as an offset.
 fn read_each_offset(alloc: Global, items: &[Json]) -> Result<Option<Vec<usize>>, AllocError>
-    ensures { IfOk result (λ found. option_map (λ offsets. offsets.items) found ≡ keys.each (keys.number_below definitions.offset_limit) (items_view items.now)) }
+    ensures { IfOk result (λ found. option_map (λ offsets. offsets.items) found
+        ≡ keys.each (keys.number_below definitions.offset_limit) (items_view items.now)) }
 {
     let mut offsets = Vec::with_capacity(alloc, items.len())?;
     for item in items {

@@ -78,7 +78,8 @@ fn read_empty_query(json: &Json) -> Result<AnyQuery, Fault>
 /// Reads a boolean query.
 #[cycle(read_query)]
 fn read_boolean_query(alloc: Global, schema: &Schema, json: &Json) -> Result<AnyQuery, Fault>
-    ensures { Gives query_of result (definitions.bool_query (definitions.many_at schema.now (view json.now)) (view json.now)) }
+    ensures { Gives query_of result (definitions.bool_query (definitions.many_at schema.now (view json.now))
+        (view json.now)) }
 {
     if !has_only(json, &["q", "must", "should", "must_not", "min"]) {
         return Err(Fault::BadQuery);
@@ -94,7 +95,8 @@ fn read_clauses(
     schema: &Schema,
     json: &Json,
 ) -> Result<Vec<(Occur, AnyQuery)>, Fault>
-    ensures { Gives (λ clauses. clauses_of clauses.items) result (definitions.clauses_at (definitions.many_at schema.now (view json.now))) }
+    ensures { Gives (λ clauses. clauses_of clauses.items) result
+        (definitions.clauses_at (definitions.many_at schema.now (view json.now))) }
 {
     let musts = read_queries_at(alloc, schema, json, "must")?;
     let shoulds = read_queries_at(alloc, schema, json, "should")?;
@@ -113,7 +115,8 @@ fn read_disjunction_max_query(
     schema: &Schema,
     json: &Json,
 ) -> Result<AnyQuery, Fault>
-    ensures { Gives query_of result (definitions.dismax_query (definitions.many_at schema.now (view json.now)) (view json.now)) }
+    ensures { Gives query_of result (definitions.dismax_query (definitions.many_at schema.now (view json.now))
+        (view json.now)) }
 {
     if !has_only(json, &["q", "queries", "tie"]) {
         return Err(Fault::BadQuery);
@@ -141,7 +144,8 @@ fn tie_at(json: &Json) -> Option<i64>
 /// Reads a query with a boost.
 #[cycle(read_query)]
 fn read_boost_query(alloc: Global, schema: &Schema, json: &Json) -> Result<AnyQuery, Fault>
-    ensures { Gives query_of result (definitions.boost_query (definitions.one_at schema.now (view json.now)) (view json.now)) }
+    ensures { Gives query_of result (definitions.boost_query (definitions.one_at schema.now (view json.now))
+        (view json.now)) }
 {
     if !has_only(json, &["q", "boost", "query"]) {
         return Err(Fault::BadQuery);
@@ -156,7 +160,8 @@ fn read_boost_query(alloc: Global, schema: &Schema, json: &Json) -> Result<AnyQu
 /// Reads a query with a constant score.
 #[cycle(read_query)]
 fn read_const_score_query(alloc: Global, schema: &Schema, json: &Json) -> Result<AnyQuery, Fault>
-    ensures { Gives query_of result (definitions.const_query (definitions.one_at schema.now (view json.now)) (view json.now)) }
+    ensures { Gives query_of result (definitions.const_query (definitions.one_at schema.now (view json.now))
+        (view json.now)) }
 {
     if !has_only(json, &["q", "score", "query"]) {
         return Err(Fault::BadQuery);
@@ -203,7 +208,8 @@ fn read_queries_at(
     json: &Json,
     key: &str,
 ) -> Result<Vec<AnyQuery>, Fault>
-    ensures { Gives (λ queries. queries_of queries.items) result (unwrap_or (definitions.many_at schema.now (view json.now) key.now) (Some no_queries)) }
+    ensures { Gives (λ queries. queries_of queries.items) result
+        (unwrap_or (definitions.many_at schema.now (view json.now) key.now) (Some no_queries)) }
 {
     match child_at(json, key) {
         Some(list) => read_queries(alloc, schema, list),
@@ -235,7 +241,8 @@ fn read_queries(alloc: Global, schema: &Schema, json: &Json) -> Result<Vec<AnyQu
 #[cycle(read_query)]
 #[tactic(auto, using(crate::proofs::QuerySteps::item_depth))]
 fn read_items(alloc: Global, schema: &Schema, items: &[Json]) -> Result<Vec<AnyQuery>, Fault>
-    ensures { Gives (λ queries. queries_of queries.items) result (definitions.items_in schema.now (items_view items.now)) }
+    ensures { Gives (λ queries. queries_of queries.items) result
+        (definitions.items_in schema.now (items_view items.now)) }
 {
     let mut queries = Vec::with_capacity(alloc, items.len())?;
     for item in items {

@@ -36,7 +36,8 @@ pub(crate) fn read_term_query(
 
 /// Reads what a term query reads of its term.
 fn record_option_at(json: &Json) -> Option<IndexRecordOption>
-    ensures { option_map record_option_of result ≡ keys.at_or with_freqs definitions.record_option_in (codes "record") (view json.now) }
+    ensures { option_map record_option_of result
+        ≡ keys.at_or with_freqs definitions.record_option_in (codes "record") (view json.now) }
 {
     match json.get("record") {
         Some(name) => record_option_named(name.as_str()?),

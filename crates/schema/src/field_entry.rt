@@ -125,7 +125,8 @@ impl FieldType {
 
     /// Returns what is recorded of the field's terms; for a JSON field, of those of texts. `None` if it isn't indexed.
     pub fn get_index_record_option(&self) -> Option<IndexRecordOption>
-        ensures { let e = entry_of [] self.now in option_map record_option_of result ≡ (if is_indexed e then Some e.record_option else None) }
+        ensures { let e = entry_of [] self.now in option_map record_option_of result
+            ≡ (if is_indexed e then Some e.record_option else None) }
     {
         match self {
             FieldType::Str(options) => options

@@ -16,7 +16,8 @@ pub fn has_only(value: &Value, keys: &[&str]) -> bool
 
 /// Whether `value` is an object without keys other than `keys` and `further`.
 pub fn has_only_beside(value: &Value, keys: &[&str], further: &[&str]) -> bool
-    ensures { result ≡ definitions.has_only (map (λ k. k.now) keys.now ++ map (λ k. k.now) further.now) (view value.now) }
+    ensures { result ≡ definitions.has_only (map (λ k. k.now) keys.now ++ map (λ k. k.now) further.now)
+        (view value.now) }
 {
     match value.as_object() {
         Some(members) => members_have_only(members, keys, further),
@@ -70,7 +71,8 @@ pub fn number_in(value: &Value) -> Option<u64>
 
 /// Whether each key of `members` is one of `keys` and `further`.
 fn members_have_only(members: &Map<String, Value>, keys: &[&str], further: &[&str]) -> bool
-    ensures { result ≡ definitions.members_have_only (map (λ k. k.now) keys.now ++ map (λ k. k.now) further.now) (members_view members.now.entries) }
+    ensures { result ≡ definitions.members_have_only (map (λ k. k.now) keys.now ++ map (λ k. k.now) further.now)
+        (members_view members.now.entries) }
 {
     for (key, _member) in members.iter() {
         if !is_one_of(key.as_str(), keys) && !is_one_of(key.as_str(), further) {

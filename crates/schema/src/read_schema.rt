@@ -29,7 +29,8 @@ impl Schema {
     /// or comes twice, is `BadSchema`; more than 4294967295 fields are `TooManyFields`.
     pub fn from_json_value(alloc: Global, value: &Value) -> Result<Schema, Fault>
         ensures ok { IfOk result (λ schema. definitions.schema_in (view value.now) ≡ Ok schema) }
-        ensures err { IfErr result (λ fault. fault ≢ faults.OutOfMemory → definitions.schema_in (view value.now) ≡ Err fault) }
+        ensures err { IfErr result (λ fault. fault ≢ faults.OutOfMemory
+            → definitions.schema_in (view value.now) ≡ Err fault) }
     {
         match value.as_array() {
             Some(entries) => read_entries(alloc, entries.as_slice()),
@@ -41,7 +42,8 @@ impl Schema {
 /// Reads the schema of the fields in a list.
 fn read_entries(alloc: Global, entries: &[Value]) -> Result<Schema, Fault>
     ensures ok { IfOk result (λ schema. definitions.with_entries_in [] (items_view entries.now) ≡ Ok schema) }
-    ensures err { IfErr result (λ fault. fault ≢ faults.OutOfMemory → definitions.with_entries_in [] (items_view entries.now) ≡ Err fault) }
+    ensures err { IfErr result (λ fault. fault ≢ faults.OutOfMemory
+        → definitions.with_entries_in [] (items_view entries.now) ≡ Err fault) }
 {
     let mut schema = Schema::builder(alloc).build();
     for entry in entries {
@@ -52,8 +54,10 @@ fn read_entries(alloc: Global, entries: &[Value]) -> Result<Schema, Fault>
 
 /// Reads a field and adds it.
 fn add_entry(alloc: Global, schema: &mut Schema, value: &Value) -> Result<(), Fault>
-    ensures ok { OnOk result (definitions.with_entry schema.old (definitions.entry_in (view value.now)) ≡ Ok schema.new) }
-    ensures err { IfErr result (λ fault. fault ≢ faults.OutOfMemory → definitions.with_entry schema.old (definitions.entry_in (view value.now)) ≡ Err fault) }
+    ensures ok { OnOk result (definitions.with_entry schema.old (definitions.entry_in (view value.now))
+        ≡ Ok schema.new) }
+    ensures err { IfErr result (λ fault. fault ≢ faults.OutOfMemory
+        → definitions.with_entry schema.old (definitions.entry_in (view value.now)) ≡ Err fault) }
 {
     let (name, field_type) = read_entry(alloc, value)?;
     match schema.add(alloc, name, field_type) {
@@ -75,7 +79,8 @@ fn fault_read(fault: Fault) -> Fault
 /// Reads a field's name, and its type with its options.
 fn read_entry<'a>(alloc: Global, value: &'a Value) -> Result<(&'a str, FieldType), Fault>
     ensures ok { IfOk result (λ p. definitions.entry_in (view value.now) ≡ Some (entry_of p.0.now p.1)) }
-    ensures err { IfErr result (λ fault. fault ≢ faults.OutOfMemory → (fault ≡ faults.BadSchema) × (definitions.entry_in (view value.now) ≡ None)) }
+    ensures err { IfErr result (λ fault. fault ≢ faults.OutOfMemory → (fault ≡ faults.BadSchema)
+        × (definitions.entry_in (view value.now) ≡ None)) }
 {
     if !has_only(value, &["name", "type", "options"]) {
         return Err(Fault::BadSchema);
@@ -89,8 +94,10 @@ fn read_entry<'a>(alloc: Global, value: &'a Value) -> Result<(&'a str, FieldType
 
 /// Reads the options of the type with the name `type_name`.
 fn read_field_type(alloc: Global, type_name: &str, options: &Value) -> Result<FieldType, Fault>
-    ensures ok { IfOk result (λ t. (name : List ℕ) → definitions.typed_entry_in name type_name.now (view options.now) ≡ Some (entry_of name t)) }
-    ensures err { IfErr result (λ fault. fault ≢ faults.OutOfMemory → (fault ≡ faults.BadSchema) × ((name : List ℕ) → definitions.typed_entry_in name type_name.now (view options.now) ≡ None)) }
+    ensures ok { IfOk result (λ t. (name : List ℕ)
+        → definitions.typed_entry_in name type_name.now (view options.now) ≡ Some (entry_of name t)) }
+    ensures err { IfErr result (λ fault. fault ≢ faults.OutOfMemory → (fault ≡ faults.BadSchema)
+        × ((name : List ℕ) → definitions.typed_entry_in name type_name.now (view options.now) ≡ None)) }
 {
     let value_type = read_type(type_name).ok_or(Fault::BadSchema)?;
     read_options(alloc, value_type, options)
@@ -116,8 +123,12 @@ fn read_type(name: &str) -> Option<Type>
 
 /// Reads the options of a type.
 fn read_options(alloc: Global, value_type: Type, options: &Value) -> Result<FieldType, Fault>
-    ensures ok { IfOk result (λ t. (name : List ℕ) → definitions.options_in (definitions.entry_named name (kind_of value_type)) (view options.now) ≡ Some (entry_of name t)) }
-    ensures err { IfErr result (λ fault. fault ≢ faults.OutOfMemory → (fault ≡ faults.BadSchema) × ((name : List ℕ) → definitions.options_in (definitions.entry_named name (kind_of value_type)) (view options.now) ≡ None)) }
+    ensures ok { IfOk result (λ t. (name : List ℕ)
+        → definitions.options_in (definitions.entry_named name (kind_of value_type)) (view options.now)
+        ≡ Some (entry_of name t)) }
+    ensures err { IfErr result (λ fault. fault ≢ faults.OutOfMemory → (fault ≡ faults.BadSchema)
+        × ((name : List ℕ) → definitions.options_in (definitions.entry_named name (kind_of value_type))
+        (view options.now) ≡ None)) }
 {
     match value_type {
         Type::Str => Ok(FieldType::Str(read_text_options(alloc, options)?)),
@@ -133,7 +144,9 @@ fn read_options(alloc: Global, value_type: Type, options: &Value) -> Result<Fiel
 #[tactic(auto, using(crate::proofs::ReadKinds::u64_read, crate::proofs::ReadKinds::i64_read, crate::proofs::ReadKinds::bool_read, crate::proofs::ReadKinds::date_read, crate::proofs::ReadKinds::bytes_read, crate::proofs::ReadKinds::ip_addr_read))]
 fn read_value_type(value_type: Type, options: &Value) -> Option<FieldType>
     requires { has_tokens (kind_of value_type) ≡ false }
-    ensures { (name : List ℕ) → definitions.options_in (definitions.entry_named name (kind_of value_type)) (view options.now) ≡ option_map (entry_of name) result }
+    ensures { (name : List ℕ)
+        → definitions.options_in (definitions.entry_named name (kind_of value_type)) (view options.now)
+        ≡ option_map (entry_of name) result }
 {
     match value_type {
         Type::U64 => Some(FieldType::U64(read_numeric_options(options)?)),
@@ -149,8 +162,12 @@ fn read_value_type(value_type: Type, options: &Value) -> Option<FieldType>
 
 /// Reads the options of a text field.
 fn read_text_options(alloc: Global, options: &Value) -> Result<TextOptions, Fault>
-    ensures ok { IfOk result (λ o. (name : List ℕ) → definitions.options_in (definitions.entry_named name text_kind) (view options.now) ≡ Some (text_entry name o)) }
-    ensures err { IfErr result (λ fault. fault ≢ faults.OutOfMemory → (fault ≡ faults.BadSchema) × ((name : List ℕ) → definitions.options_in (definitions.entry_named name text_kind) (view options.now) ≡ None)) }
+    ensures ok { IfOk result (λ o. (name : List ℕ)
+        → definitions.options_in (definitions.entry_named name text_kind) (view options.now)
+        ≡ Some (text_entry name o)) }
+    ensures err { IfErr result (λ fault. fault ≢ faults.OutOfMemory → (fault ≡ faults.BadSchema)
+        × ((name : List ℕ) → definitions.options_in (definitions.entry_named name text_kind) (view options.now)
+        ≡ None)) }
 {
     let text = read_text_flags(options).ok_or(Fault::BadSchema)?;
     match options.get("indexing") {
@@ -184,8 +201,12 @@ fn read_text_flags(options: &Value) -> Option<TextOptions>
 
 /// Reads the options of a JSON field.
 fn read_json_options(alloc: Global, options: &Value) -> Result<JsonObjectOptions, Fault>
-    ensures ok { IfOk result (λ o. (name : List ℕ) → definitions.options_in (definitions.entry_named name json_kind) (view options.now) ≡ Some (json_entry name o)) }
-    ensures err { IfErr result (λ fault. fault ≢ faults.OutOfMemory → (fault ≡ faults.BadSchema) × ((name : List ℕ) → definitions.options_in (definitions.entry_named name json_kind) (view options.now) ≡ None)) }
+    ensures ok { IfOk result (λ o. (name : List ℕ)
+        → definitions.options_in (definitions.entry_named name json_kind) (view options.now)
+        ≡ Some (json_entry name o)) }
+    ensures err { IfErr result (λ fault. fault ≢ faults.OutOfMemory → (fault ≡ faults.BadSchema)
+        × ((name : List ℕ) → definitions.options_in (definitions.entry_named name json_kind) (view options.now)
+        ≡ None)) }
 {
     let json = read_json_flags(options).ok_or(Fault::BadSchema)?;
     match options.get("indexing") {
@@ -219,8 +240,10 @@ fn read_json_flags(options: &Value) -> Option<JsonObjectOptions>
 
 /// Reads how a text field is indexed; for null it isn't.
 fn read_indexing(alloc: Global, value: &Value) -> Result<Option<TextFieldIndexing>, Fault>
-    ensures ok { IfOk result (λ indexing. (e : Entry) → definitions.indexing_in e (view value.now) ≡ Some (indexed_by e indexing)) }
-    ensures err { IfErr result (λ fault. fault ≢ faults.OutOfMemory → (fault ≡ faults.BadSchema) × ((e : Entry) → definitions.indexing_in e (view value.now) ≡ None)) }
+    ensures ok { IfOk result (λ indexing. (e : Entry)
+        → definitions.indexing_in e (view value.now) ≡ Some (indexed_by e indexing)) }
+    ensures err { IfErr result (λ fault. fault ≢ faults.OutOfMemory → (fault ≡ faults.BadSchema)
+        × ((e : Entry) → definitions.indexing_in e (view value.now) ≡ None)) }
 {
     if value.is_null() {
         return Ok(None);
@@ -234,8 +257,10 @@ fn read_indexing(alloc: Global, value: &Value) -> Result<Option<TextFieldIndexin
 /// Reads the indexing in an object.
 fn read_set_indexing(alloc: Global, value: &Value) -> Result<TextFieldIndexing, Fault>
     requires { is_some (as_object (view value.now)) ≡ true }
-    ensures ok { IfOk result (λ indexing. (e : Entry) → definitions.with_indexing_in e (view value.now) ≡ Some (indexed_by e (Some indexing))) }
-    ensures err { IfErr result (λ fault. fault ≢ faults.OutOfMemory → (fault ≡ faults.BadSchema) × ((e : Entry) → definitions.with_indexing_in e (view value.now) ≡ None)) }
+    ensures ok { IfOk result (λ indexing. (e : Entry)
+        → definitions.with_indexing_in e (view value.now) ≡ Some (indexed_by e (Some indexing))) }
+    ensures err { IfErr result (λ fault. fault ≢ faults.OutOfMemory → (fault ≡ faults.BadSchema)
+        × ((e : Entry) → definitions.with_indexing_in e (view value.now) ≡ None)) }
 {
     let option = match value.get("record") {
         Some(name) => read_record_option(name).ok_or(Fault::BadSchema)?,
@@ -355,7 +380,8 @@ fn read_ip_addr_options(options: &Value) -> Option<IpAddrOptions>
 
 /// Reads the options of a facet field.
 fn read_facet_options(options: &Value) -> Option<FacetOptions>
-    ensures { (name : List ℕ) → definitions.options_in (definitions.entry_named name facet_kind) (view options.now) ≡ option_map (facet_entry name) result }
+    ensures { (name : List ℕ) → definitions.options_in (definitions.entry_named name facet_kind) (view options.now)
+        ≡ option_map (facet_entry name) result }
 {
     if flag_or(options, "stored", false)? {
         Some(FacetOptions::default().set_stored())
@@ -375,7 +401,13 @@ struct ValueFlags {
 
 /// Reads the options of a field that is found by whole values.
 fn read_value_flags(options: &Value) -> Option<ValueFlags>
-    ensures { option_map (λ f. record { stored = f.stored; indexed = f.indexed; fieldnorms = f.fieldnorms; fast = f.fast }) result ≡ value_options_in (view options.now) }
+    ensures { option_map (λ f. record {
+      stored = f.stored;
+      indexed = f.indexed;
+      fieldnorms = f.fieldnorms;
+      fast =
+          f.fast;
+    }) result ≡ value_options_in (view options.now) }
 {
     let indexed = flag_or(options, "indexed", false)?;
     Some(ValueFlags {

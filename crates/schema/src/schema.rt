@@ -79,8 +79,10 @@ impl SchemaBuilder {
         name: &str,
         options: T,
     ) -> Result<Field, Fault>
-        ensures ok { IfOk result (λ field. (o : TextData) × T.converts options o × (with_field self.old (text_entry name.now o) ≡ Ok self.new) × (field ≡ length self.old)) }
-        ensures err { IfErr result (λ fault. fault ≢ faults.OutOfMemory → (o : TextData) × T.converts options o × (with_field self.old (text_entry name.now o) ≡ Err fault)) }
+        ensures ok { IfOk result (λ field. (o : TextData) × T.converts options o
+            × (with_field self.old (text_entry name.now o) ≡ Ok self.new) × (field ≡ length self.old)) }
+        ensures err { IfErr result (λ fault. fault ≢ faults.OutOfMemory → (o : TextData) × T.converts options o
+            × (with_field self.old (text_entry name.now o) ≡ Err fault)) }
         ensures unchanged { OnErr result (self.new ≡ self.old) }
     {
         self.schema
@@ -93,8 +95,10 @@ impl SchemaBuilder {
         name: &str,
         options: T,
     ) -> Result<Field, Fault>
-        ensures ok { IfOk result (λ field. (o : NumericData) × T.converts options o × (with_field self.old (numeric_entry u64_kind name.now o) ≡ Ok self.new) × (field ≡ length self.old)) }
-        ensures err { IfErr result (λ fault. fault ≢ faults.OutOfMemory → (o : NumericData) × T.converts options o × (with_field self.old (numeric_entry u64_kind name.now o) ≡ Err fault)) }
+        ensures ok { IfOk result (λ field. (o : NumericData) × T.converts options o
+            × (with_field self.old (numeric_entry u64_kind name.now o) ≡ Ok self.new) × (field ≡ length self.old)) }
+        ensures err { IfErr result (λ fault. fault ≢ faults.OutOfMemory → (o : NumericData) × T.converts options o
+            × (with_field self.old (numeric_entry u64_kind name.now o) ≡ Err fault)) }
         ensures unchanged { OnErr result (self.new ≡ self.old) }
     {
         self.schema
@@ -107,8 +111,10 @@ impl SchemaBuilder {
         name: &str,
         options: T,
     ) -> Result<Field, Fault>
-        ensures ok { IfOk result (λ field. (o : NumericData) × T.converts options o × (with_field self.old (numeric_entry i64_kind name.now o) ≡ Ok self.new) × (field ≡ length self.old)) }
-        ensures err { IfErr result (λ fault. fault ≢ faults.OutOfMemory → (o : NumericData) × T.converts options o × (with_field self.old (numeric_entry i64_kind name.now o) ≡ Err fault)) }
+        ensures ok { IfOk result (λ field. (o : NumericData) × T.converts options o
+            × (with_field self.old (numeric_entry i64_kind name.now o) ≡ Ok self.new) × (field ≡ length self.old)) }
+        ensures err { IfErr result (λ fault. fault ≢ faults.OutOfMemory → (o : NumericData) × T.converts options o
+            × (with_field self.old (numeric_entry i64_kind name.now o) ≡ Err fault)) }
         ensures unchanged { OnErr result (self.new ≡ self.old) }
     {
         self.schema
@@ -121,8 +127,10 @@ impl SchemaBuilder {
         name: &str,
         options: T,
     ) -> Result<Field, Fault>
-        ensures ok { IfOk result (λ field. (o : NumericData) × T.converts options o × (with_field self.old (numeric_entry bool_kind name.now o) ≡ Ok self.new) × (field ≡ length self.old)) }
-        ensures err { IfErr result (λ fault. fault ≢ faults.OutOfMemory → (o : NumericData) × T.converts options o × (with_field self.old (numeric_entry bool_kind name.now o) ≡ Err fault)) }
+        ensures ok { IfOk result (λ field. (o : NumericData) × T.converts options o
+            × (with_field self.old (numeric_entry bool_kind name.now o) ≡ Ok self.new) × (field ≡ length self.old)) }
+        ensures err { IfErr result (λ fault. fault ≢ faults.OutOfMemory → (o : NumericData) × T.converts options o
+            × (with_field self.old (numeric_entry bool_kind name.now o) ≡ Err fault)) }
         ensures unchanged { OnErr result (self.new ≡ self.old) }
     {
         self.schema
@@ -135,8 +143,10 @@ impl SchemaBuilder {
         name: &str,
         options: T,
     ) -> Result<Field, Fault>
-        ensures ok { IfOk result (λ field. (o : ValueData) × T.converts options o × (with_field self.old (value_entry date_kind name.now o) ≡ Ok self.new) × (field ≡ length self.old)) }
-        ensures err { IfErr result (λ fault. fault ≢ faults.OutOfMemory → (o : ValueData) × T.converts options o × (with_field self.old (value_entry date_kind name.now o) ≡ Err fault)) }
+        ensures ok { IfOk result (λ field. (o : ValueData) × T.converts options o
+            × (with_field self.old (value_entry date_kind name.now o) ≡ Ok self.new) × (field ≡ length self.old)) }
+        ensures err { IfErr result (λ fault. fault ≢ faults.OutOfMemory → (o : ValueData) × T.converts options o
+            × (with_field self.old (value_entry date_kind name.now o) ≡ Err fault)) }
         ensures unchanged { OnErr result (self.new ≡ self.old) }
     {
         self.schema
@@ -149,8 +159,10 @@ impl SchemaBuilder {
         name: &str,
         options: T,
     ) -> Result<Field, Fault>
-        ensures ok { IfOk result (λ field. (o : FacetData) × T.converts options o × (with_field self.old (facet_entry name.now o) ≡ Ok self.new) × (field ≡ length self.old)) }
-        ensures err { IfErr result (λ fault. fault ≢ faults.OutOfMemory → (o : FacetData) × T.converts options o × (with_field self.old (facet_entry name.now o) ≡ Err fault)) }
+        ensures ok { IfOk result (λ field. (o : FacetData) × T.converts options o
+            × (with_field self.old (facet_entry name.now o) ≡ Ok self.new) × (field ≡ length self.old)) }
+        ensures err { IfErr result (λ fault. fault ≢ faults.OutOfMemory → (o : FacetData) × T.converts options o
+            × (with_field self.old (facet_entry name.now o) ≡ Err fault)) }
         ensures unchanged { OnErr result (self.new ≡ self.old) }
     {
         self.schema
@@ -163,8 +175,10 @@ impl SchemaBuilder {
         name: &str,
         options: T,
     ) -> Result<Field, Fault>
-        ensures ok { IfOk result (λ field. (o : ValueData) × T.converts options o × (with_field self.old (value_entry bytes_kind name.now o) ≡ Ok self.new) × (field ≡ length self.old)) }
-        ensures err { IfErr result (λ fault. fault ≢ faults.OutOfMemory → (o : ValueData) × T.converts options o × (with_field self.old (value_entry bytes_kind name.now o) ≡ Err fault)) }
+        ensures ok { IfOk result (λ field. (o : ValueData) × T.converts options o
+            × (with_field self.old (value_entry bytes_kind name.now o) ≡ Ok self.new) × (field ≡ length self.old)) }
+        ensures err { IfErr result (λ fault. fault ≢ faults.OutOfMemory → (o : ValueData) × T.converts options o
+            × (with_field self.old (value_entry bytes_kind name.now o) ≡ Err fault)) }
         ensures unchanged { OnErr result (self.new ≡ self.old) }
     {
         self.schema
@@ -177,8 +191,10 @@ impl SchemaBuilder {
         name: &str,
         options: T,
     ) -> Result<Field, Fault>
-        ensures ok { IfOk result (λ field. (o : JsonData) × T.converts options o × (with_field self.old (json_entry name.now o) ≡ Ok self.new) × (field ≡ length self.old)) }
-        ensures err { IfErr result (λ fault. fault ≢ faults.OutOfMemory → (o : JsonData) × T.converts options o × (with_field self.old (json_entry name.now o) ≡ Err fault)) }
+        ensures ok { IfOk result (λ field. (o : JsonData) × T.converts options o
+            × (with_field self.old (json_entry name.now o) ≡ Ok self.new) × (field ≡ length self.old)) }
+        ensures err { IfErr result (λ fault. fault ≢ faults.OutOfMemory → (o : JsonData) × T.converts options o
+            × (with_field self.old (json_entry name.now o) ≡ Err fault)) }
         ensures unchanged { OnErr result (self.new ≡ self.old) }
     {
         self.schema
@@ -191,8 +207,10 @@ impl SchemaBuilder {
         name: &str,
         options: T,
     ) -> Result<Field, Fault>
-        ensures ok { IfOk result (λ field. (o : ValueData) × T.converts options o × (with_field self.old (value_entry ip_addr_kind name.now o) ≡ Ok self.new) × (field ≡ length self.old)) }
-        ensures err { IfErr result (λ fault. fault ≢ faults.OutOfMemory → (o : ValueData) × T.converts options o × (with_field self.old (value_entry ip_addr_kind name.now o) ≡ Err fault)) }
+        ensures ok { IfOk result (λ field. (o : ValueData) × T.converts options o
+            × (with_field self.old (value_entry ip_addr_kind name.now o) ≡ Ok self.new) × (field ≡ length self.old)) }
+        ensures err { IfErr result (λ fault. fault ≢ faults.OutOfMemory → (o : ValueData) × T.converts options o
+            × (with_field self.old (value_entry ip_addr_kind name.now o) ≡ Err fault)) }
         ensures unchanged { OnErr result (self.new ≡ self.old) }
     {
         self.schema
@@ -284,7 +302,8 @@ impl Schema {
 
     /// Splits `path` at the last unescaped dot that comes after a field's name; returns the field and the rest.
     fn find_before_dot<'a>(&self, path: &'a str) -> Option<(Field, &'a str)>
-        ensures { option_map (λ p. (p.0, p.1.now)) result ≡ last_or None (filter_map (field_at_split self.now) (splits_from false path.now)) }
+        ensures { option_map (λ p. (p.0, p.1.now)) result
+            ≡ last_or None (filter_map (field_at_split self.now) (splits_from false path.now)) }
     {
         let mut found = None;
         let mut escaped = false;
@@ -302,7 +321,8 @@ impl Schema {
     /// Returns the field with the name before `dot`, and what follows the dot.
     fn field_before<'a>(&self, path: &'a str, dot: usize) -> Option<(Field, &'a str)>
         requires { slice_get path.now dot ≡ Some 46 }
-        ensures { option_map (λ p. (p.0, p.1.now)) result ≡ field_at_split self.now (take dot path.now, drop (dot + 1) path.now) }
+        ensures { option_map (λ p. (p.0, p.1.now)) result
+            ≡ field_at_split self.now (take dot path.now, drop (dot + 1) path.now) }
     {
         let field = self.number_of(&path[..dot])?;
         Some((field, &path[dot + 1..]))
@@ -310,7 +330,9 @@ impl Schema {
 
     /// Checks whether a field with the name `name` may be added.
     fn check(&self, name: &str) -> Result<(), Fault>
-        ensures { (e : Entry) → e.name ≡ name.now → with_field self.now e ≡ (if is_ok result then Ok (self.now ++ e ∷ []) else Err (unwrap_or (result_err result) faults.BadName)) }
+        ensures { (e : Entry) → e.name ≡ name.now
+            → with_field self.now e ≡ (if is_ok result then Ok (self.now ++ e
+            ∷ []) else Err (unwrap_or (result_err result) faults.BadName)) }
     {
         if self.number_of(name).is_some() {
             return Err(Fault::DuplicateName);
@@ -331,8 +353,10 @@ impl Schema {
         name: &str,
         field_type: FieldType,
     ) -> Result<Field, Fault>
-        ensures ok { IfOk result (λ field. (with_field self.old (entry_of name.now field_type) ≡ Ok self.new) × (field ≡ length self.old)) }
-        ensures err { IfErr result (λ fault. fault ≢ faults.OutOfMemory → with_field self.old (entry_of name.now field_type) ≡ Err fault) }
+        ensures ok { IfOk result (λ field. (with_field self.old (entry_of name.now field_type) ≡ Ok self.new)
+            × (field ≡ length self.old)) }
+        ensures err { IfErr result (λ fault. fault ≢ faults.OutOfMemory
+            → with_field self.old (entry_of name.now field_type) ≡ Err fault) }
         ensures unchanged { OnErr result (self.new ≡ self.old) }
     {
         self.check(name)?;

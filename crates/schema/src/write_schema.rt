@@ -97,7 +97,8 @@ fn json_value(alloc: Global, options: &JsonObjectOptions) -> Result<Value, Alloc
 
 /// Writes an indexing.
 fn indexing_value(alloc: Global, indexing: &TextFieldIndexing) -> Result<Value, AllocError>
-    ensures { IfOk result (λ value. view value ≡ indexing_data (with_indexing (entry_named [] text_kind) (Some indexing.now))) }
+    ensures { IfOk result (λ value. view value
+        ≡ indexing_data (with_indexing (entry_named [] text_kind) (Some indexing.now))) }
 {
     json!(in alloc; {
         "record": record_option_name(indexing.index_option()),

@@ -26,7 +26,8 @@ pub(crate) fn list_rest<S: Scorer, C: ScoreCombiner>(
 ) -> Result<Vec<(DocId, Score)>, AllocError>
     requires { StandsAt C.answer C.total present.old slots.old.items fresh start (map S.entries docsets.old.items) doc
         bucket }
-    ensures pairs { IfOk result (λ pairs. pairs.items ≡ signed (windowed C.answer present.old slots.old.items fresh start
+    ensures pairs { IfOk result (λ pairs. pairs.items
+        ≡ signed (windowed C.answer present.old slots.old.items fresh start
         (map S.entries docsets.old.items) doc)) }
 {
     let mut start = start;

@@ -31,7 +31,8 @@ pub(crate) fn merge_terms(
     requires opened { ∥ AreOpened schema.now (map member_of members.now) ∥₁ }
     requires some { 0 < living_count (map member_of members.now) }
     requires few { living_count (map member_of members.now) ≤ max_docs }
-    requires lengths { AllByRecursion (λ p. length p.1 ≡ living_count (map member_of members.now)) fieldnorm_readers.now }
+    requires lengths { AllByRecursion (λ p. length p.1
+        ≡ living_count (map member_of members.now)) fieldnorm_readers.now }
     ensures sections { AreOpened schema.now (map member_of members.now)
         → IfOk result (λ sections. (fields : List IndexedField)
         × AreSections schema.now (living_count (map member_of members.now)) fieldnorm_readers.now fields

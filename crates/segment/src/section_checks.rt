@@ -21,7 +21,8 @@ pub(crate) fn checked_norms(
     num_docs: u32,
 ) -> Result<Vec<u32>, Fault>
     ensures fields { IfOk result (λ fields. fields.items ≡ length_fields schema.now) }
-    ensures ok { IfOk result (λ _. (read : List (ℕ × List ℕ)) × IsNorms (length_fields schema.now) num_docs norms.now read) }
+    ensures ok { IfOk result (λ _. (read : List (ℕ × List ℕ))
+        × IsNorms (length_fields schema.now) num_docs norms.now read) }
     ensures err { IfErr result (λ fault. fault ≢ faults.OutOfMemory → (fault ≡ faults.Damaged None)
         × ((read : List (ℕ × List ℕ)) → ¬ IsNorms (length_fields schema.now) num_docs norms.now read)) }
 {
@@ -41,7 +42,8 @@ pub(crate) fn open_store(
     ensures blocks { IfOk result (λ store. AreBlocks store.blocks × (bytes ≡ store_bytes store.blocks)) }
     ensures counted { IfOk result (λ store. sum_by (λ (b : Block). b.count) store.blocks ≡ num_docs) }
     ensures err { IfErr result (λ fault. fault ≢ faults.OutOfMemory → (fault ≡ faults.Damaged None)
-        × ((blocks : List Block) → AreBlocks blocks → bytes ≡ store_bytes blocks → sum_by (λ (b : Block). b.count) blocks ≢ num_docs)) }
+        × ((blocks : List Block) → AreBlocks blocks → bytes ≡ store_bytes blocks
+        → sum_by (λ (b : Block). b.count) blocks ≢ num_docs)) }
 {
     let store = StoreReader::open(alloc, bytes, cache_num_blocks)?;
     if store.num_docs() != num_docs {

@@ -125,4 +125,3 @@ cut_dead zero (b ∷ left) (flag ∷ flags) l e a = ap (λ (x : Bool). x ∷ fla
 cut_dead (suc i) (b ∷ left) (flag ∷ flags) l e a = ap (λ more. (flag && b) ∷ more) (cut_dead i left flags (omega arith) (omega arith) a)
 
 -- ---- deletions one after the other
-

@@ -18,15 +18,18 @@ ghost use Rattle.segment_definitions.specs.Waiting.{Numbered, Waits, pending_row
 /// States what a commit leaves: the committed documents with their alive flags, in which the documents with a deleted
 /// term died, and then the pending ones, where each deletion covers the documents that were added before it.
 pub fn a_commit_leaves_rows()
-    ensures { (schema : Schema) (analyze : Analyzer) (n : ℕ) (s : State) (rows : List Segment) (full : List (List Document)) (last : List Document)
+    ensures { (schema : Schema) (analyze : Analyzer) (n : ℕ) (s : State) (rows : List Segment)
+        (full : List (List Document)) (last : List Document)
         (dels : List Numbered) → s.groups ≡ live_groups rows → Waits n s.pending full last dels
-        → (after_commit schema analyze n s).groups ≡ live_groups (map (left_rows (holds schema analyze) (deleted_terms s.pending)) rows
+        → (after_commit schema analyze n s).groups
+        ≡ live_groups (map (left_rows (holds schema analyze) (deleted_terms s.pending)) rows
         ++ pending_rows (holds schema analyze) dels n 0 (full ++ as_group last)) }
 {}
 
 /// States that a merge replaces a range by one segment of its living documents, or by none where there are none.
 pub fn a_merge_leaves_rows()
-    ensures { (from to : ℕ) (rows one : List Segment) → live_groups one ≡ as_group (live (take (to - from) (drop from rows)))
+    ensures { (from to : ℕ) (rows one : List Segment)
+        → live_groups one ≡ as_group (live (take (to - from) (drop from rows)))
         → live_groups (take from rows ++ (one ++ drop to rows)) ≡ merged from to (live_groups rows) }
 {}
 
@@ -46,10 +49,13 @@ pub fn numbered_deletions_cover_earlier_documents()
         → struck_from has (del ∷ dels) i rows ≡ struck_from has dels i (struck_from has (del ∷ []) i rows) }
     ensures none { (has : List ℕ → Document → Bool) (i : ℕ) (rows : Segment) → struck_from has [] i rows ≡ rows }
     ensures before { (has : List ℕ → Document → Bool) (t : List ℕ) (n i : ℕ) (docs : List Document) (flags : List Bool)
-        → i + length docs ≤ n → struck_from has ((t, n) ∷ []) i (flagged docs flags) ≡ map (struck (has t)) (flagged docs flags) }
-    ensures behind { (has : List ℕ → Document → Bool) (t : List ℕ) (n i : ℕ) (rows : Segment) → n ≤ i → struck_from has ((t, n) ∷ []) i rows ≡ rows }
+        → i + length docs ≤ n → struck_from has ((t, n) ∷ []) i (flagged docs flags)
+        ≡ map (struck (has t)) (flagged docs flags) }
+    ensures behind { (has : List ℕ → Document → Bool) (t : List ℕ) (n i : ℕ) (rows : Segment) → n ≤ i
+        → struck_from has ((t, n) ∷ []) i rows ≡ rows }
     ensures cut { (has : List ℕ → Document → Bool) (t : List ℕ) (k i : ℕ) (docs : List Document) (flags : List Bool)
-        → flagged docs (cut_flags k (map (λ doc. not (has t doc)) docs) flags) ≡ struck_from has ((t, i + k) ∷ []) i (flagged docs flags) }
+        → flagged docs (cut_flags k (map (λ doc. not (has t doc)) docs) flags)
+        ≡ struck_from has ((t, i + k) ∷ []) i (flagged docs flags) }
 {}
 
 /// States that the best addresses over segments, by score and then by address, shown with their stored values, are

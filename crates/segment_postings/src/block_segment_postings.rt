@@ -67,16 +67,22 @@ impl<'a> BlockSegmentPostings<'a> {
         reads_counts: bool,
         reads_positions: bool,
     ) -> BlockSegmentPostings<'a>
-        requires known { ∥ ((docs counts : List ℕ) × HasPostings recorded.counts recorded.positions doc_freq bytes.now docs counts) ∥₁ }
+        requires known { ∥ ((docs counts : List ℕ)
+            × HasPostings recorded.counts recorded.positions doc_freq bytes.now docs counts) ∥₁ }
         requires counts { reads_counts ≡ true → recorded.counts ≡ true }
         requires positions { reads_positions ≡ true → (recorded.positions ≡ true) × (reads_counts ≡ true) }
-        ensures docs { (docs counts : List ℕ) → HasPostings recorded.counts recorded.positions doc_freq bytes.now docs counts → docs_left result ≡ docs }
-        ensures counts { (docs counts : List ℕ) → HasPostings recorded.counts recorded.positions doc_freq bytes.now docs counts → counts_left result ≡ (if reads_counts then counts else replicate doc_freq 1) }
+        ensures docs { (docs counts : List ℕ)
+            → HasPostings recorded.counts recorded.positions doc_freq bytes.now docs counts → docs_left result ≡ docs }
+        ensures counts { (docs counts : List ℕ)
+            → HasPostings recorded.counts recorded.positions doc_freq bytes.now docs counts
+            → counts_left result ≡ (if reads_counts then counts else replicate doc_freq 1) }
         ensures decoded { blocks_decoded result ≡ min 1 doc_freq }
         ensures doc_freq { doc_freq_of result ≡ doc_freq }
         ensures offset { positions_passed result ≡ 0 }
         ensures reads { (counts_are_read result ≡ reads_counts) × (positions_are_read result ≡ reads_positions) }
-        ensures entries { (docs counts : List ℕ) (known : HasPostings recorded.counts recorded.positions doc_freq bytes.now docs counts) → skips_left result ≡ skip_entries known.option known.ids (length docs / block_len) 0 docs counts }
+        ensures entries { (docs counts : List ℕ) (known : HasPostings recorded.counts recorded.positions doc_freq
+            bytes.now docs counts) → skips_left result
+            ≡ skip_entries known.option known.ids (length docs / block_len) 0 docs counts }
     {
         let (entries, blocks) = split_entries(bytes, doc_freq);
         let skips = SkipReader::new(entries, doc_freq, recorded);
@@ -228,9 +234,14 @@ impl<'a> BlockSegmentPostings<'a> {
         ensures counts { counts_left self.new ≡ drop block_len (counts_left self.old) }
         ensures entries { skips_left self.new ≡ drop 1 (skips_left self.old) }
         ensures decoded { blocks_decoded self.new ≡ blocks_decoded self.old + min 1 (length (docs_left self.new)) }
-        ensures room { positions_are_read self.old ≡ true → positions_passed self.new + sum (counts_left self.new) ≤ positions_passed self.old + sum (counts_left self.old) }
-        ensures offset { positions_are_read self.old ≡ true → 0 < length (docs_left self.new) → positions_passed self.new ≡ positions_passed self.old + sum (take block_len (counts_left self.old)) }
-        ensures kept { (doc_freq_of self.new ≡ doc_freq_of self.old) × (counts_are_read self.new ≡ counts_are_read self.old) × (positions_are_read self.new ≡ positions_are_read self.old) }
+        ensures room { positions_are_read self.old ≡ true
+            → positions_passed self.new + sum (counts_left self.new)
+            ≤ positions_passed self.old + sum (counts_left self.old) }
+        ensures offset { positions_are_read self.old ≡ true → 0 < length (docs_left self.new)
+            → positions_passed self.new ≡ positions_passed self.old + sum (take block_len (counts_left self.old)) }
+        ensures kept { (doc_freq_of self.new ≡ doc_freq_of self.old)
+            × (counts_are_read self.new ≡ counts_are_read self.old)
+            × (positions_are_read self.new ≡ positions_are_read self.old) }
     {
         self.before = self.skips.last_doc_in_block();
         self.skips.advance();
@@ -252,15 +263,26 @@ impl<'a> BlockSegmentPostings<'a> {
     /// document >= `target`.
     pub fn seek(&mut self, target: DocId) -> usize
         requires { target ≤ terminated }
-        ensures docs { docs_left self.new ≡ drop (block_len * (below target (docs_left self.old) / block_len)) (docs_left self.old) }
-        ensures counts { counts_left self.new ≡ drop (block_len * (below target (docs_left self.old) / block_len)) (counts_left self.old) }
+        ensures docs { docs_left self.new
+            ≡ drop (block_len * (below target (docs_left self.old) / block_len)) (docs_left self.old) }
+        ensures counts { counts_left self.new
+            ≡ drop (block_len * (below target (docs_left self.old) / block_len)) (counts_left self.old) }
         ensures entries { skips_left self.new
             ≡ drop (below target (docs_left self.old) / block_len) (skips_left self.old) }
         ensures place { result ≡ below target (docs_left self.old) % block_len }
-        ensures decoded { blocks_decoded self.new ≡ blocks_decoded self.old + (if nat_lt (below target (docs_left self.old)) block_len then 0 else min 1 (length (docs_left self.new))) }
-        ensures room { positions_are_read self.old ≡ true → positions_passed self.new + sum (counts_left self.new) ≤ positions_passed self.old + sum (counts_left self.old) }
-        ensures offset { positions_are_read self.old ≡ true → positions_passed self.new ≡ positions_passed self.old + sum (take (block_len * (below target (docs_left self.old) / block_len)) (counts_left self.old)) }
-        ensures kept { (doc_freq_of self.new ≡ doc_freq_of self.old) × (counts_are_read self.new ≡ counts_are_read self.old) × (positions_are_read self.new ≡ positions_are_read self.old) }
+        ensures decoded { blocks_decoded self.new
+            ≡ blocks_decoded self.old + (if nat_lt (below target (docs_left self.old)) block_len then 0 else min 1
+            (length (docs_left self.new))) }
+        ensures room { positions_are_read self.old ≡ true
+            → positions_passed self.new + sum (counts_left self.new)
+            ≤ positions_passed self.old + sum (counts_left self.old) }
+        ensures offset { positions_are_read self.old ≡ true
+            → positions_passed self.new
+            ≡ positions_passed self.old + sum (take (block_len * (below target (docs_left self.old) / block_len))
+            (counts_left self.old)) }
+        ensures kept { (doc_freq_of self.new ≡ doc_freq_of self.old)
+            × (counts_are_read self.new ≡ counts_are_read self.old)
+            × (positions_are_read self.new ≡ positions_are_read self.old) }
     {
         if target <= self.skips.last_doc_in_block() {
             return first_from(&self.docs, target);
@@ -293,7 +315,8 @@ fn count_block(decoded: &mut u64, len: usize)
 /// Passes blocks that end before `target`; returns the last document before the block reached, or `before`.
 fn pass_blocks(skips: &mut SkipReader, before: u32, target: DocId) -> u32
     requires { target ≤ terminated }
-    ensures { (reads sums : Bool) (bytes : List ℕ) → StandsIn reads sums before skips.old bytes → HasPassed reads sums target before skips.old result skips.new bytes }
+    ensures { (reads sums : Bool) (bytes : List ℕ) → StandsIn reads sums before skips.old bytes
+        → HasPassed reads sums target before skips.old result skips.new bytes }
 {
     let mut before = before;
     let mut last = skips.last_doc_in_block();

@@ -50,7 +50,8 @@ fn least_kept_id(docs: &[u32], reader: &FieldNormReader) -> u8
 /// Returns the sum of counts that are stored less 1, if each is below 2^32.
 pub(crate) fn count_sum(counts_less_1: &[u32]) -> Option<u64>
     requires { length counts_less_1.now ≤ block_len }
-    ensures some { IfSome result (λ total. AllByRecursion (λ n. n < 2 ^ 32) (more_1 counts_less_1.now) × (total ≡ sum (more_1 counts_less_1.now)) × (total ≤ 4294967295 * length counts_less_1.now)) }
+    ensures some { IfSome result (λ total. AllByRecursion (λ n. n < 2 ^ 32) (more_1 counts_less_1.now)
+        × (total ≡ sum (more_1 counts_less_1.now)) × (total ≤ 4294967295 * length counts_less_1.now)) }
     ensures none { IfNone result (AllByRecursion (λ n. n < 2 ^ 32) (more_1 counts_less_1.now) → ⊥) }
 {
     let mut total = 0;

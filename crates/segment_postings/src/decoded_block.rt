@@ -22,7 +22,8 @@ pub(crate) fn decode_block(
     counts: &mut [u32; COMPRESSION_BLOCK_SIZE],
 ) -> usize
     requires { (sums : Bool) × StandsIn reads_counts sums before skips.now bytes.now }
-    ensures { IsHeld docs.new counts.new result (docs_at before skips.now bytes.now) (counts_at reads_counts before skips.now bytes.now) }
+    ensures { IsHeld docs.new counts.new result (docs_at before skips.now bytes.now)
+        (counts_at reads_counts before skips.now bytes.now) }
 {
     let block = &bytes[skips.byte_offset()..];
     match skips.block_info() {

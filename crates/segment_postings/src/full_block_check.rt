@@ -26,8 +26,11 @@ pub(crate) fn checked_block(
     num_docs: u32,
 ) -> Result<u64, Fault>
     requires { IfSome fieldnorm_reader.now (λ ids. length ids ≡ num_docs) }
-    ensures ok { IfOk result (λ total. BeginsWithBlock (record_option_of option) (listed fieldnorm_reader.now) num_docs (next_of before) (entry_of entry) bytes.now total × (total ≤ 549755813760)) }
-    ensures err { IfErr result (λ fault. (fault ≡ faults.Damaged None) × ((total : ℕ) → BeginsWithBlock (record_option_of option) (listed fieldnorm_reader.now) num_docs (next_of before) (entry_of entry) bytes.now total → ⊥)) }
+    ensures ok { IfOk result (λ total. BeginsWithBlock (record_option_of option) (listed fieldnorm_reader.now) num_docs
+        (next_of before) (entry_of entry) bytes.now total × (total ≤ 549755813760)) }
+    ensures err { IfErr result (λ fault. (fault ≡ faults.Damaged None)
+        × ((total : ℕ) → BeginsWithBlock (record_option_of option) (listed fieldnorm_reader.now) num_docs
+        (next_of before) (entry_of entry) bytes.now total → ⊥)) }
 {
     let Some((docs, rest)) = bytes.split_at_checked(compressed_block_size(entry.doc_width)) else {
         return Err(Fault::Damaged(None));
@@ -49,8 +52,11 @@ fn check_docs(
 ) -> Result<(), Fault>
     requires kept { IfSome fieldnorm_reader.now (λ ids. length ids ≡ num_docs) }
     requires long { length bytes.now ≡ 16 * entry.doc_width }
-    ensures ok { IfOk result (λ done. (docs : List ℕ) × IsDocBlock (listed fieldnorm_reader.now) num_docs (next_of before) (entry_of entry) docs bytes.now) }
-    ensures err { IfErr result (λ fault. (fault ≡ faults.Damaged None) × ((docs : List ℕ) → IsDocBlock (listed fieldnorm_reader.now) num_docs (next_of before) (entry_of entry) docs bytes.now → ⊥)) }
+    ensures ok { IfOk result (λ done. (docs : List ℕ)
+        × IsDocBlock (listed fieldnorm_reader.now) num_docs (next_of before) (entry_of entry) docs bytes.now) }
+    ensures err { IfErr result (λ fault. (fault ≡ faults.Damaged None)
+        × ((docs : List ℕ) → IsDocBlock (listed fieldnorm_reader.now) num_docs (next_of before) (entry_of entry) docs
+        bytes.now → ⊥)) }
 {
     let mut decoder = BlockDecoder::with_val(0);
     decoder.checked_block_sorted(bytes, before, entry.doc_width)?;
@@ -70,8 +76,11 @@ fn check_docs(
 /// Checks the counts of a full block, and returns their sum.
 fn checked_counts(bytes: &[u8], entry: Entry, option: IndexRecordOption) -> Result<u64, Fault>
     requires { length bytes.now ≡ 16 * entry.count_width }
-    ensures ok { IfOk result (λ total. ((counts : List ℕ) × IsCountBlock (record_option_of option) (entry_of entry) counts bytes.now × (total ≡ sum counts)) × (total ≤ 549755813760)) }
-    ensures err { IfErr result (λ fault. (fault ≡ faults.Damaged None) × ((counts : List ℕ) → IsCountBlock (record_option_of option) (entry_of entry) counts bytes.now → ⊥)) }
+    ensures ok { IfOk result (λ total. ((counts : List ℕ)
+        × IsCountBlock (record_option_of option) (entry_of entry) counts bytes.now × (total ≡ sum counts))
+        × (total ≤ 549755813760)) }
+    ensures err { IfErr result (λ fault. (fault ≡ faults.Damaged None)
+        × ((counts : List ℕ) → IsCountBlock (record_option_of option) (entry_of entry) counts bytes.now → ⊥)) }
 {
     if !option.has_freq() {
         return unrecorded_counts(bytes, entry, option);
@@ -102,8 +111,11 @@ fn told_sum(option: IndexRecordOption, total: u64) -> u64
 fn unrecorded_counts(bytes: &[u8], entry: Entry, option: IndexRecordOption) -> Result<u64, Fault>
     requires long { length bytes.now ≡ 16 * entry.count_width }
     requires unrecorded { has_freq (record_option_of option) ≡ false }
-    ensures ok { IfOk result (λ total. ((counts : List ℕ) × IsCountBlock (record_option_of option) (entry_of entry) counts bytes.now × (total ≡ sum counts)) × (total ≤ 549755813760)) }
-    ensures err { IfErr result (λ fault. (fault ≡ faults.Damaged None) × ((counts : List ℕ) → IsCountBlock (record_option_of option) (entry_of entry) counts bytes.now → ⊥)) }
+    ensures ok { IfOk result (λ total. ((counts : List ℕ)
+        × IsCountBlock (record_option_of option) (entry_of entry) counts bytes.now × (total ≡ sum counts))
+        × (total ≤ 549755813760)) }
+    ensures err { IfErr result (λ fault. (fault ≡ faults.Damaged None)
+        × ((counts : List ℕ) → IsCountBlock (record_option_of option) (entry_of entry) counts bytes.now → ⊥)) }
 {
     if !bytes.is_empty() {
         return Err(Fault::Damaged(None));

@@ -29,8 +29,11 @@ pub(crate) fn checked_blocks(
 ) -> Result<u64, Fault>
     requires kept { IfSome fieldnorm_reader.now (λ ids. length ids ≡ num_docs) }
     requires entries { length skips.old.left ≡ doc_freq / block_len }
-    ensures ok { IfOk result (λ total. HasBlocks (record_option_of option) (listed fieldnorm_reader.now) num_docs 0 skips.old.left (doc_freq % block_len) bytes.now total) }
-    ensures err { IfErr result (λ fault. (fault ≡ faults.Damaged None) × ((total : ℕ) → HasBlocks (record_option_of option) (listed fieldnorm_reader.now) num_docs 0 skips.old.left (doc_freq % block_len) bytes.now total → ⊥)) }
+    ensures ok { IfOk result (λ total. HasBlocks (record_option_of option) (listed fieldnorm_reader.now) num_docs 0
+        skips.old.left (doc_freq % block_len) bytes.now total) }
+    ensures err { IfErr result (λ fault. (fault ≡ faults.Damaged None)
+        × ((total : ℕ) → HasBlocks (record_option_of option) (listed fieldnorm_reader.now) num_docs 0 skips.old.left
+        (doc_freq % block_len) bytes.now total → ⊥)) }
 {
     let mut rest = bytes;
     let mut before = 0;

@@ -19,9 +19,11 @@ pub(crate) fn append_numbers(
     requires few { count ≤ 4294967295 }
     requires room { IsSome positions.old → begin + count ≤ length (numbers_of positions.old) }
     ensures same { positions.new ≡ positions.old }
-    ensures ok { OnOk result (output.new.items ≡ output.old.items ++ take count (drop begin (numbers_of positions.old))) }
+    ensures ok { OnOk result (output.new.items
+        ≡ output.old.items ++ take count (drop begin (numbers_of positions.old))) }
     ensures err { OnErr result (output.new.items ≡ output.old.items) }
-    ensures full { OnErr result (vec_capacity output.old < length (output.old.items ++ take count (drop begin (numbers_of positions.old)))) }
+    ensures full { OnErr result (vec_capacity output.old
+        < length (output.old.items ++ take count (drop begin (numbers_of positions.old)))) }
     ensures room { vec_capacity output.old ≤ vec_capacity output.new }
 {
     let Some(reader) = positions else {
@@ -45,9 +47,12 @@ pub(crate) fn append_positions(
     requires room { IsSome positions.old → begin + count ≤ length (numbers_of positions.old) }
     requires fits { highest (places 0 (take count (drop begin (numbers_of positions.old)))) + offset ≤ 4294967295 }
     ensures same { positions.new ≡ positions.old }
-    ensures ok { OnOk result (output.new.items ≡ output.old.items ++ map (λ p. p + offset) (places 0 (take count (drop begin (numbers_of positions.old))))) }
+    ensures ok { OnOk result (output.new.items
+        ≡ output.old.items ++ map (λ p. p + offset) (places 0 (take count (drop begin (numbers_of positions.old))))) }
     ensures err { OnErr result (output.new.items ≡ output.old.items) }
-    ensures full { OnErr result (vec_capacity output.old < length (output.old.items ++ map (λ p. p + offset) (places 0 (take count (drop begin (numbers_of positions.old)))))) }
+    ensures full { OnErr result (vec_capacity output.old
+        < length (output.old.items ++ map (λ p. p + offset) (places 0
+        (take count (drop begin (numbers_of positions.old)))))) }
     ensures room { vec_capacity output.old ≤ vec_capacity output.new }
 {
     match positions {

@@ -20,9 +20,13 @@ pub(crate) fn check_positions(
     doc_freq: u32,
     total: u64,
 ) -> Result<(), Fault>
-    requires { ∥ ((docs counts : List ℕ) × HasPostings true true doc_freq postings.now docs counts × (total ≡ sum counts)) ∥₁ }
-    ensures ok { OnOk result ((docs counts : List ℕ) → HasPostings true true doc_freq postings.now docs counts → HasNumbers counts positions.now) }
-    ensures err { IfErr result (λ fault. (fault ≡ faults.Damaged None) × ((docs counts : List ℕ) → HasPostings true true doc_freq postings.now docs counts → HasNumbers counts positions.now → ⊥)) }
+    requires { ∥ ((docs counts : List ℕ) × HasPostings true true doc_freq postings.now docs counts
+        × (total ≡ sum counts)) ∥₁ }
+    ensures ok { OnOk result ((docs counts : List ℕ) → HasPostings true true doc_freq postings.now docs counts
+        → HasNumbers counts positions.now) }
+    ensures err { IfErr result (λ fault. (fault ≡ faults.Damaged None)
+        × ((docs counts : List ℕ) → HasPostings true true doc_freq postings.now docs counts
+        → HasNumbers counts positions.now → ⊥)) }
 {
     let mut reader = PositionReader::open(positions)?;
     let recorded = Recorded {
@@ -68,7 +72,8 @@ fn block_end(
     requires block { length counts.now ≤ block_len }
     requires within { place + sum counts.now ≤ length reader.old }
     requires few { place + sum counts.now < 2 ^ 64 }
-    ensures some { IfSome result (λ end. AreBounded counts.now (drop place reader.old) × (end ≡ place + sum counts.now)) }
+    ensures some { IfSome result (λ end. AreBounded counts.now (drop place reader.old)
+        × (end ≡ place + sum counts.now)) }
     ensures none { IfNone result (AreBounded counts.now (drop place reader.old) → ⊥) }
     ensures same { reader.new ≡ reader.old }
 {
@@ -88,7 +93,8 @@ fn bounded_end(
 ) -> Option<u64>
     requires within { place + sum counts.now ≤ length reader.old }
     requires few { place + sum counts.now < 2 ^ 64 }
-    ensures some { IfSome result (λ end. AreBounded counts.now (drop place reader.old) × (end ≡ place + sum counts.now)) }
+    ensures some { IfSome result (λ end. AreBounded counts.now (drop place reader.old)
+        × (end ≡ place + sum counts.now)) }
     ensures none { IfNone result (AreBounded counts.now (drop place reader.old) → ⊥) }
     ensures same { reader.new ≡ reader.old }
 {

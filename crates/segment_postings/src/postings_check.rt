@@ -39,8 +39,11 @@ pub(crate) fn checked_postings(
 ) -> Result<u64, Fault>
     requires kept { IfSome fieldnorm_reader.now (λ ids. length ids ≡ num_docs) }
     requires few { num_docs ≤ terminated }
-    ensures ok { IfOk result (λ total. HasTerm (record_option_of option) (listed fieldnorm_reader.now) num_docs doc_freq bytes.now total) }
-    ensures err { IfErr result (λ fault. (fault ≡ faults.Damaged None) × ((total : ℕ) → HasTerm (record_option_of option) (listed fieldnorm_reader.now) num_docs doc_freq bytes.now total → ⊥)) }
+    ensures ok { IfOk result (λ total. HasTerm (record_option_of option) (listed fieldnorm_reader.now) num_docs
+        doc_freq bytes.now total) }
+    ensures err { IfErr result (λ fault. (fault ≡ faults.Damaged None)
+        × ((total : ℕ) → HasTerm (record_option_of option) (listed fieldnorm_reader.now) num_docs doc_freq bytes.now
+        total → ⊥)) }
 {
     let (entries, packed) = split_entries(bytes, doc_freq)?;
     let mut skips = SkipReader::open(entries, doc_freq, recorded_of(option))?;
@@ -59,7 +62,8 @@ pub(crate) fn checked_postings(
 fn split_entries(bytes: &[u8], doc_freq: u32) -> Result<(&[u8], &[u8]), Fault>
     ensures few { IfOk result (λ p. doc_freq < block_len → (p.0.now ≡ []) × (p.1.now ≡ bytes.now)) }
     ensures many { IfOk result (λ p. block_len ≤ doc_freq → take_bytes bytes.now ≡ Some (p.0.now, p.1.now)) }
-    ensures err { IfErr result (λ fault. (fault ≡ faults.Damaged None) × (block_len ≤ doc_freq) × (take_bytes bytes.now ≡ None)) }
+    ensures err { IfErr result (λ fault. (fault ≡ faults.Damaged None) × (block_len ≤ doc_freq)
+        × (take_bytes bytes.now ≡ None)) }
 {
     if doc_freq < COMPRESSION_BLOCK_SIZE as u32 {
         return Ok((&bytes[..0], bytes));

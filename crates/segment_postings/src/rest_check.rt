@@ -24,8 +24,12 @@ pub(crate) fn checked_rest(
     num_docs: u32,
 ) -> Result<u64, Fault>
     requires { doc_count < block_len }
-    ensures ok { IfOk result (λ total. ((ids : List ℕ) → HasBlocks (record_option_of option) ids num_docs (next_of before) [] doc_count bytes.now total) × (total ≤ 549755813760)) }
-    ensures err { IfErr result (λ fault. (fault ≡ faults.Damaged None) × ((ids : List ℕ) (total : ℕ) → HasBlocks (record_option_of option) ids num_docs (next_of before) [] doc_count bytes.now total → ⊥)) }
+    ensures ok { IfOk result (λ total. ((ids : List ℕ)
+        → HasBlocks (record_option_of option) ids num_docs (next_of before) [] doc_count bytes.now total)
+        × (total ≤ 549755813760)) }
+    ensures err { IfErr result (λ fault. (fault ≡ faults.Damaged None)
+        × ((ids : List ℕ) (total : ℕ)
+        → HasBlocks (record_option_of option) ids num_docs (next_of before) [] doc_count bytes.now total → ⊥)) }
 {
     let mut decoder = BlockDecoder::with_val(0);
     let consumed = decoder.try_uncompress_vint_sorted(bytes, before, doc_count, TERMINATED)?;
@@ -39,8 +43,10 @@ pub(crate) fn checked_rest(
 /// Checks `doc_count` counts up to the end of `bytes`, and returns their sum.
 fn rest_counts(bytes: &[u8], doc_count: usize, option: IndexRecordOption) -> Result<u64, Fault>
     requires { doc_count < block_len }
-    ensures ok { IfOk result (λ total. HasRestCounts (record_option_of option) doc_count bytes.now total × (total ≤ 549755813760)) }
-    ensures err { IfErr result (λ fault. (fault ≡ faults.Damaged None) × ((total : ℕ) → HasRestCounts (record_option_of option) doc_count bytes.now total → ⊥)) }
+    ensures ok { IfOk result (λ total. HasRestCounts (record_option_of option) doc_count bytes.now total
+        × (total ≤ 549755813760)) }
+    ensures err { IfErr result (λ fault. (fault ≡ faults.Damaged None)
+        × ((total : ℕ) → HasRestCounts (record_option_of option) doc_count bytes.now total → ⊥)) }
 {
     if !option.has_freq() {
         return unrecorded_rest(bytes, doc_count, option);
@@ -60,8 +66,10 @@ fn rest_counts(bytes: &[u8], doc_count: usize, option: IndexRecordOption) -> Res
 fn unrecorded_rest(bytes: &[u8], doc_count: usize, option: IndexRecordOption) -> Result<u64, Fault>
     requires few { doc_count < block_len }
     requires unrecorded { has_freq (record_option_of option) ≡ false }
-    ensures ok { IfOk result (λ total. HasRestCounts (record_option_of option) doc_count bytes.now total × (total ≤ 549755813760)) }
-    ensures err { IfErr result (λ fault. (fault ≡ faults.Damaged None) × ((total : ℕ) → HasRestCounts (record_option_of option) doc_count bytes.now total → ⊥)) }
+    ensures ok { IfOk result (λ total. HasRestCounts (record_option_of option) doc_count bytes.now total
+        × (total ≤ 549755813760)) }
+    ensures err { IfErr result (λ fault. (fault ≡ faults.Damaged None)
+        × ((total : ℕ) → HasRestCounts (record_option_of option) doc_count bytes.now total → ⊥)) }
 {
     if !bytes.is_empty() {
         return Err(Fault::Damaged(None));

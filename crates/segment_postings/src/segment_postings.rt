@@ -58,9 +58,12 @@ impl<'a> SegmentPostings<'a> {
         recorded: Recorded,
         reads_counts: bool,
     ) -> SegmentPostings<'a>
-        requires known { ∥ ((docs counts : List ℕ) × HasPostings recorded.counts recorded.positions doc_freq bytes.now docs counts) ∥₁ }
+        requires known { ∥ ((docs counts : List ℕ)
+            × HasPostings recorded.counts recorded.positions doc_freq bytes.now docs counts) ∥₁ }
         requires counts { reads_counts ≡ true → recorded.counts ≡ true }
-        ensures entries { (docs counts : List ℕ) → HasPostings recorded.counts recorded.positions doc_freq bytes.now docs counts → entries_left result ≡ entries_of docs (if reads_counts then counts else replicate doc_freq 1) [] }
+        ensures entries { (docs counts : List ℕ)
+            → HasPostings recorded.counts recorded.positions doc_freq bytes.now docs counts
+            → entries_left result ≡ entries_of docs (if reads_counts then counts else replicate doc_freq 1) [] }
         ensures decoded { cursor_blocks_decoded result ≡ min 1 doc_freq }
         ensures doc_freq { cursor_doc_freq result ≡ doc_freq }
         ensures positions { cursor_positions result ≡ 0 }
@@ -87,9 +90,13 @@ impl<'a> SegmentPostings<'a> {
         recorded: Recorded,
         positions: PositionReader<'a>,
     ) -> SegmentPostings<'a>
-        requires known { ∥ ((docs counts : List ℕ) × (lists : List (List ℕ)) × HasPostings recorded.counts recorded.positions doc_freq bytes.now docs counts × HasPositions counts lists positions) ∥₁ }
+        requires known { ∥ ((docs counts : List ℕ) × (lists : List (List ℕ))
+            × HasPostings recorded.counts recorded.positions doc_freq bytes.now docs counts
+            × HasPositions counts lists positions) ∥₁ }
         requires recorded { (recorded.counts ≡ true) × (recorded.positions ≡ true) }
-        ensures entries { (docs counts : List ℕ) (lists : List (List ℕ)) → HasPostings recorded.counts recorded.positions doc_freq bytes.now docs counts → HasPositions counts lists positions.entry → entries_left result ≡ term_entries docs counts lists }
+        ensures entries { (docs counts : List ℕ) (lists : List (List ℕ))
+            → HasPostings recorded.counts recorded.positions doc_freq bytes.now docs counts
+            → HasPositions counts lists positions.entry → entries_left result ≡ term_entries docs counts lists }
         ensures decoded { cursor_blocks_decoded result ≡ min 1 doc_freq }
         ensures doc_freq { cursor_doc_freq result ≡ doc_freq }
         ensures positions { cursor_positions result ≡ length positions.entry }

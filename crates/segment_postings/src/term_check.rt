@@ -28,8 +28,13 @@ pub fn check_term(
 ) -> Result<u64, Fault>
     requires kept { IfSome fieldnorm_reader.now (λ ids. length ids ≡ num_docs) }
     requires few { num_docs ≤ terminated }
-    ensures ok { IfOk result (λ total. (ps : List Posting) × (length ps ≡ doc_freq) × IsTerm (record_option_of option) num_docs (listed fieldnorm_reader.now) (term_of ps postings.now positions.now) × (total ≡ sum_by (λ p. p.count) ps)) }
-    ensures err { IfErr result (λ fault. (fault ≡ faults.Damaged None) × ((ps : List Posting) → length ps ≡ doc_freq → IsTerm (record_option_of option) num_docs (listed fieldnorm_reader.now) (term_of ps postings.now positions.now) → ⊥)) }
+    ensures ok { IfOk result (λ total. (ps : List Posting) × (length ps ≡ doc_freq)
+        × IsTerm (record_option_of option) num_docs (listed fieldnorm_reader.now)
+        (term_of ps postings.now positions.now) × (total ≡ sum_by (λ p. p.count) ps)) }
+    ensures err { IfErr result (λ fault. (fault ≡ faults.Damaged None)
+        × ((ps : List Posting) → length ps ≡ doc_freq
+        → IsTerm (record_option_of option) num_docs (listed fieldnorm_reader.now)
+        (term_of ps postings.now positions.now) → ⊥)) }
 {
     if doc_freq == 0 {
         return Err(Fault::Damaged(None));

@@ -10,5 +10,8 @@ ghost use Rattle.layouts.specs.InvertedIndexes.{IsTerm};
 
 /// States that no other postings of equal number have the same bytes of postings and positions.
 pub fn terms_have_one_reading()
-    ensures { (option : IndexRecordOption) (num_docs : ℕ) (ids postings positions : List ℕ) (ps qs : List Posting) → AreBytes postings → length postings < 2 ^ 64 → length positions < 2 ^ 64 → length ps ≡ length qs → IsTerm option num_docs ids (term_of ps postings positions) → IsTerm option num_docs ids (term_of qs postings positions) → ps ≡ qs }
+    ensures { (option : IndexRecordOption) (num_docs : ℕ) (ids postings positions : List ℕ) (ps qs : List Posting)
+        → AreBytes postings → length postings < 2 ^ 64 → length positions < 2 ^ 64 → length ps ≡ length qs
+        → IsTerm option num_docs ids (term_of ps postings positions)
+        → IsTerm option num_docs ids (term_of qs postings positions) → ps ≡ qs }
 {}

@@ -29,8 +29,12 @@ fn check_term_at(
     requires kept { IfSome fieldnorm_reader.now (λ ids. length ids ≡ num_docs) }
     requires few { num_docs ≤ terminated }
     requires within { IsWithin (bytes_of sections) start }
-    ensures ok { IfOk result (λ total. (x : IndexedTerm) × IsTermAt (bytes_of sections.entry) start x × IsTerm (option_in kind x.key) num_docs (listed fieldnorm_reader.now) x × (total ≡ sum_by (λ p. p.count) x.postings)) }
-    ensures err { IfErr result (λ fault. (fault ≡ faults.Damaged None) × ((x : IndexedTerm) → IsTermAt (bytes_of sections.entry) start x → IsTerm (option_in kind x.key) num_docs (listed fieldnorm_reader.now) x → ⊥)) }
+    ensures ok { IfOk result (λ total. (x : IndexedTerm) × IsTermAt (bytes_of sections.entry) start x
+        × IsTerm (option_in kind x.key) num_docs (listed fieldnorm_reader.now) x
+        × (total ≡ sum_by (λ p. p.count) x.postings)) }
+    ensures err { IfErr result (λ fault. (fault ≡ faults.Damaged None)
+        × ((x : IndexedTerm) → IsTermAt (bytes_of sections.entry) start x
+        → IsTerm (option_in kind x.key) num_docs (listed fieldnorm_reader.now) x → ⊥)) }
 {
     let entry = entry_at(sections.terms, start.entry);
     let postings_end = start.postings + entry.postings_len as usize;
@@ -55,8 +59,11 @@ pub(crate) fn check_field(
     requires kept { IfSome fieldnorm_reader.now (λ ids. length ids ≡ num_docs) }
     requires few { num_docs ≤ terminated }
     requires within { AllByRecursion (IsWithin (bytes_of sections)) index.now.starts.items }
-    ensures ok { OnOk result ((xs : List IndexedTerm) × IsCheckedField (bytes_of sections.entry) num_docs (listed fieldnorm_reader.now) index.now xs) }
-    ensures err { IfErr result (λ fault. (fault ≡ faults.Damaged None) × ((xs : List IndexedTerm) → IsCheckedField (bytes_of sections.entry) num_docs (listed fieldnorm_reader.now) index.now xs → ⊥)) }
+    ensures ok { OnOk result ((xs : List IndexedTerm)
+        × IsCheckedField (bytes_of sections.entry) num_docs (listed fieldnorm_reader.now) index.now xs) }
+    ensures err { IfErr result (λ fault. (fault ≡ faults.Damaged None)
+        × ((xs : List IndexedTerm)
+        → IsCheckedField (bytes_of sections.entry) num_docs (listed fieldnorm_reader.now) index.now xs → ⊥)) }
 {
     let mut left = index.num_tokens;
     for start in &index.starts {
@@ -82,8 +89,11 @@ pub(crate) fn check_fields(
     requires kept { AllByRecursion (λ p. length p.1 ≡ num_docs) fieldnorm_readers.now }
     requires few { num_docs ≤ terminated }
     requires within { AllByRecursion (λ i. AllByRecursion (IsWithin (bytes_of sections)) i.starts.items) indexes.now }
-    ensures ok { OnOk result ((xss : List (List IndexedTerm)) × AreCheckedFields (bytes_of sections.entry) num_docs fieldnorm_readers.now indexes.now xss) }
-    ensures err { IfErr result (λ fault. (fault ≡ faults.Damaged None) × ((xss : List (List IndexedTerm)) → AreCheckedFields (bytes_of sections.entry) num_docs fieldnorm_readers.now indexes.now xss → ⊥)) }
+    ensures ok { OnOk result ((xss : List (List IndexedTerm))
+        × AreCheckedFields (bytes_of sections.entry) num_docs fieldnorm_readers.now indexes.now xss) }
+    ensures err { IfErr result (λ fault. (fault ≡ faults.Damaged None)
+        × ((xss : List (List IndexedTerm))
+        → AreCheckedFields (bytes_of sections.entry) num_docs fieldnorm_readers.now indexes.now xss → ⊥)) }
 {
     for index in indexes {
         let fieldnorm_reader = fieldnorm_readers.get_field(index.kind.field);

@@ -23,7 +23,9 @@ struct Header {
 fn take_header(section: &[u8], place: usize, field: u32) -> Result<Header, Fault>
     requires { place ≤ length section.now }
     ensures ok { IfOk result (λ h. IsHeader section.now place field h.num_tokens h.num_terms h.first) }
-    ensures err { IfErr result (λ fault. (fault ≡ faults.Damaged None) × ((num_tokens num_terms : ℕ) (rest : List ℕ) → num_tokens < 2 ^ 64 → num_terms < 2 ^ 64 → drop place section.now ≡ header_bytes field num_tokens num_terms ++ rest → ⊥)) }
+    ensures err { IfErr result (λ fault. (fault ≡ faults.Damaged None)
+        × ((num_tokens num_terms : ℕ) (rest : List ℕ) → num_tokens < 2 ^ 64 → num_terms < 2 ^ 64
+        → drop place section.now ≡ header_bytes field num_tokens num_terms ++ rest → ⊥)) }
 {
     let (number, rest) = take_u32(&section[place..])?;
     if number != field {
@@ -49,8 +51,12 @@ pub(crate) fn take_field(
     requires entry { place.entry ≤ length section.now }
     requires postings { place.postings ≤ lengths.postings }
     requires positions { place.positions ≤ lengths.positions }
-    ensures ok { IfOk result (λ p. (f : FieldTerms) × (f.field ≡ field) × (f.num_tokens ≡ p.0) × IsReadField section.now place lengths.postings lengths.positions f p.2 × (p.1.items ≡ starts_from (first_in place f) f.terms)) }
-    ensures err { IfErr result (λ fault. fault ≢ faults.OutOfMemory → (fault ≡ faults.Damaged None) × ((f : FieldTerms) (rest : List ℕ) → f.field ≡ field → IsField section.now place lengths.postings lengths.positions f rest → ⊥)) }
+    ensures ok { IfOk result (λ p. (f : FieldTerms) × (f.field ≡ field) × (f.num_tokens ≡ p.0)
+        × IsReadField section.now place lengths.postings lengths.positions f p.2
+        × (p.1.items ≡ starts_from (first_in place f) f.terms)) }
+    ensures err { IfErr result (λ fault. fault ≢ faults.OutOfMemory → (fault ≡ faults.Damaged None)
+        × ((f : FieldTerms) (rest : List ℕ) → f.field ≡ field
+        → IsField section.now place lengths.postings lengths.positions f rest → ⊥)) }
 {
     let header = take_header(section, place.entry, field)?;
     let first = TermStart {

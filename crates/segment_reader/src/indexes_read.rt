@@ -26,11 +26,17 @@ pub(crate) fn known_indexes(
     postings: &[u8],
     positions: &[u8],
 ) -> Result<Vec<FieldIndex>, AllocError>
-    requires { ∥ AreKnown schema.now (record { terms = terms.now; postings = postings.now; positions = positions.now }) ∥₁ }
+    requires { ∥ AreKnown schema.now (record { terms = terms.now; postings = postings.now; positions = positions.now })
+        ∥₁ }
     ensures { (num_docs : ℕ) (norms : List (ℕ × List ℕ)) (fields : List IndexedField)
         → num_docs ≤ terminated
         → AreSections schema.now num_docs norms fields terms.now postings.now positions.now
-        → IfOk result (λ indexes. IsReader schema.now num_docs norms fields (record { sections = record { terms = terms.now; postings = postings.now; positions = positions.now }; indexes = indexes.items })) }
+        → IfOk result (λ indexes. IsReader schema.now num_docs norms fields
+        (record {
+          sections = record { terms = terms.now; postings = postings.now; positions = positions.now };
+          indexes
+              = indexes.items;
+        })) }
 {
     let kinds = field_kinds(alloc, schema)?;
     let lengths = SectionLengths {
@@ -63,9 +69,24 @@ pub(crate) fn read_indexes(
 ) -> Result<Vec<FieldIndex>, Fault>
     requires kept { AllByRecursion (λ p. length p.1 ≡ num_docs) fieldnorm_readers.now }
     requires few { num_docs ≤ terminated }
-    ensures exact { IfOk result (λ indexes. (fields : List IndexedField) × IsReader schema.now num_docs fieldnorm_readers.now fields (record { sections = record { terms = terms.now; postings = postings.now; positions = positions.now }; indexes = indexes.items })) }
-    ensures ok { IfOk result (λ indexes. (fields : List IndexedField) → AreSections schema.now num_docs fieldnorm_readers.now fields terms.now postings.now positions.now → IsReader schema.now num_docs fieldnorm_readers.now fields (record { sections = record { terms = terms.now; postings = postings.now; positions = positions.now }; indexes = indexes.items })) }
-    ensures err { IfErr result (λ fault. fault ≢ faults.OutOfMemory → (fault ≡ faults.Damaged None) × ((fields : List IndexedField) → AreSections schema.now num_docs fieldnorm_readers.now fields terms.now postings.now positions.now → ⊥)) }
+    ensures exact { IfOk result (λ indexes. (fields : List IndexedField)
+        × IsReader schema.now num_docs fieldnorm_readers.now fields
+        (record {
+          sections = record { terms = terms.now; postings = postings.now; positions = positions.now };
+          indexes
+              = indexes.items;
+        })) }
+    ensures ok { IfOk result (λ indexes. (fields : List IndexedField)
+        → AreSections schema.now num_docs fieldnorm_readers.now fields terms.now postings.now positions.now
+        → IsReader schema.now num_docs fieldnorm_readers.now fields
+        (record {
+          sections = record { terms = terms.now; postings = postings.now; positions = positions.now };
+          indexes
+              = indexes.items;
+        })) }
+    ensures err { IfErr result (λ fault. fault ≢ faults.OutOfMemory → (fault ≡ faults.Damaged None)
+        × ((fields : List IndexedField)
+        → AreSections schema.now num_docs fieldnorm_readers.now fields terms.now postings.now positions.now → ⊥)) }
 {
     let kinds = field_kinds(alloc, schema)?;
     let lengths = SectionLengths {

@@ -62,7 +62,15 @@ impl Model for InvertedIndexReader {
 impl InvertedIndexReader {
     /// Returns an index without fields.
     pub fn empty(alloc: Global) -> InvertedIndexReader
-        ensures value { result ≡ record { sections = record { terms = 0 ∷ []; postings = []; positions = [] }; indexes = [] } }
+        ensures value { result ≡ record {
+          sections = record {
+            terms = 0
+                ∷ [];
+            postings = [];
+            positions = [];
+          };
+          indexes = [];
+        } }
         ensures ok { IsReader [] 0 [] [] result }
     {
         InvertedIndexReader {
@@ -84,7 +92,8 @@ impl InvertedIndexReader {
         positions: Bytes,
     ) -> Result<InvertedIndexReader, AllocError>
         requires { ∥ AreKnown schema.now (record { terms = terms; postings = postings; positions = positions }) ∥₁ }
-        ensures sections { IfOk result (λ r. r.sections ≡ record { terms = terms; postings = postings; positions = positions }) }
+        ensures sections { IfOk result (λ r. r.sections
+            ≡ record { terms = terms; postings = postings; positions = positions }) }
         ensures ok { (num_docs : ℕ) (norms : List (ℕ × List ℕ)) (fields : List IndexedField)
             → num_docs ≤ terminated
             → AreSections schema.now num_docs norms fields terms postings positions
@@ -118,10 +127,16 @@ impl InvertedIndexReader {
     ) -> Result<InvertedIndexReader, Fault>
         requires kept { AllByRecursion (λ p. length p.1 ≡ num_docs) fieldnorm_readers.now }
         requires few { num_docs ≤ terminated }
-        ensures sections { IfOk result (λ r. r.sections ≡ record { terms = terms; postings = postings; positions = positions }) }
-        ensures exact { IfOk result (λ r. (fields : List IndexedField) × IsReader schema.now num_docs fieldnorm_readers.now fields r) }
-        ensures ok { IfOk result (λ r. (fields : List IndexedField) → AreSections schema.now num_docs fieldnorm_readers.now fields terms postings positions → IsReader schema.now num_docs fieldnorm_readers.now fields r) }
-        ensures err { IfErr result (λ fault. fault ≢ faults.OutOfMemory → (fault ≡ faults.Damaged None) × ((fields : List IndexedField) → AreSections schema.now num_docs fieldnorm_readers.now fields terms postings positions → ⊥)) }
+        ensures sections { IfOk result (λ r. r.sections
+            ≡ record { terms = terms; postings = postings; positions = positions }) }
+        ensures exact { IfOk result (λ r. (fields : List IndexedField)
+            × IsReader schema.now num_docs fieldnorm_readers.now fields r) }
+        ensures ok { IfOk result (λ r. (fields : List IndexedField)
+            → AreSections schema.now num_docs fieldnorm_readers.now fields terms postings positions
+            → IsReader schema.now num_docs fieldnorm_readers.now fields r) }
+        ensures err { IfErr result (λ fault. fault ≢ faults.OutOfMemory → (fault ≡ faults.Damaged None)
+            × ((fields : List IndexedField)
+            → AreSections schema.now num_docs fieldnorm_readers.now fields terms postings positions → ⊥)) }
     {
         let indexes = read_indexes(
             alloc,
@@ -191,9 +206,13 @@ impl InvertedIndexReader {
 
     /// Returns where the postings of `term` are; none if no document has it.
     pub fn get_term_info(&self, term: &Term) -> Option<TermInfo>
-        ensures own { IfSome result (λ info. info_in (payload_of term.now) (dictionary_in self.now (field_of term.now)) ≡ Some info) }
-        ensures same { (contents : Contents self.now) → IfSome result (λ info. term_held contents.schema contents.fields term.now ≡ term_in contents.fields (field_of term.now) (payload_of term.now)) }
-        ensures ok { (contents : Contents self.now) → IsFound self.now.sections result (term_held contents.schema contents.fields term.now) }
+        ensures own { IfSome result (λ info. info_in (payload_of term.now) (dictionary_in self.now (field_of term.now))
+            ≡ Some info) }
+        ensures same { (contents : Contents self.now)
+            → IfSome result (λ info. term_held contents.schema contents.fields term.now
+            ≡ term_in contents.fields (field_of term.now) (payload_of term.now)) }
+        ensures ok { (contents : Contents self.now)
+            → IsFound self.now.sections result (term_held contents.schema contents.fields term.now) }
         ensures whole { (contents : Contents self.now)
             → IfSome result (λ info. term_of_key contents.schema (field_of term.now) (payload_of term.now) ≡ term.now) }
     {
@@ -205,7 +224,8 @@ impl InvertedIndexReader {
 
     /// Returns the number of documents that have `term`.
     pub fn doc_freq(&self, term: &Term) -> u32
-        ensures { (contents : Contents self.now) → result ≡ length (postings_held contents.schema contents.fields term.now) }
+        ensures { (contents : Contents self.now)
+            → result ≡ length (postings_held contents.schema contents.fields term.now) }
     {
         match self.get_term_info(term) {
             Some(info) => info.doc_freq,
@@ -225,7 +245,8 @@ impl InvertedIndexReader {
 
     /// Returns what is recorded of the term of `field` with these value bytes.
     fn option_of(&self, field: Field, value_bytes: &[u8]) -> IndexRecordOption
-        ensures option { (i : FieldIndex) → index_in field self.now.indexes ≡ Some i → record_option_of result ≡ option_in i.kind value_bytes.now }
+        ensures option { (i : FieldIndex) → index_in field self.now.indexes ≡ Some i
+            → record_option_of result ≡ option_in i.kind value_bytes.now }
         ensures known { ∥ Contents self.now ∥₁ }
     {
         match self.index_of(field) {
@@ -237,8 +258,12 @@ impl InvertedIndexReader {
     /// Returns the bytes of the postings and of the positions that `term_info`, one of this reader, locates.
     fn bytes_of(&self, term_info: &TermInfo) -> (&[u8], &[u8])
         requires { IsInfo self.now term_info.now }
-        ensures postings { result.0.now ≡ slice_range self.now.sections.postings term_info.now.postings_range.start term_info.now.postings_range.end }
-        ensures positions { result.1.now ≡ slice_range self.now.sections.positions term_info.now.positions_range.start term_info.now.positions_range.end }
+        ensures postings { result.0.now
+            ≡ slice_range self.now.sections.postings term_info.now.postings_range.start
+            term_info.now.postings_range.end }
+        ensures positions { result.1.now
+            ≡ slice_range self.now.sections.positions term_info.now.positions_range.start
+            term_info.now.positions_range.end }
     {
         let postings = &term_info.postings_range;
         let positions = &term_info.positions_range;
@@ -258,7 +283,9 @@ impl InvertedIndexReader {
         option: IndexRecordOption,
     ) -> SegmentPostings<'_>
         requires { info_in value_bytes.now (dictionary_in self.now field) ≡ Some term_info.now }
-        ensures ok { (contents : Contents self.now) → entries_left result ≡ map (entry_as (record_option_of option)) (postings_in contents.fields field value_bytes.now) }
+        ensures ok { (contents : Contents self.now)
+            → entries_left result
+            ≡ map (entry_as (record_option_of option)) (postings_in contents.fields field value_bytes.now) }
         ensures decoded { cursor_blocks_decoded result ≡ 1 }
         ensures doc_freq { cursor_doc_freq result ≡ term_info.now.doc_freq }
         ensures within { (contents : Contents self.now)
@@ -285,8 +312,11 @@ impl InvertedIndexReader {
         term: &Term,
         option: IndexRecordOption,
     ) -> Option<SegmentPostings<'_>>
-        ensures some { (contents : Contents self.now) → IfSome result (λ p. entries_left p ≡ map (entry_as (record_option_of option)) (postings_held contents.schema contents.fields term.now)) }
-        ensures none { (contents : Contents self.now) → IfNone result (postings_held contents.schema contents.fields term.now ≡ []) }
+        ensures some { (contents : Contents self.now)
+            → IfSome result (λ p. entries_left p
+            ≡ map (entry_as (record_option_of option)) (postings_held contents.schema contents.fields term.now)) }
+        ensures none { (contents : Contents self.now)
+            → IfNone result (postings_held contents.schema contents.fields term.now ≡ []) }
         ensures decoded { IfSome result (λ p. cursor_blocks_decoded p ≡ 1) }
         ensures within { (contents : Contents self.now)
             → IfSome result (λ p. from contents.num_docs (entries_left p) ≡ []) }
@@ -321,8 +351,11 @@ impl InvertedIndexReader {
         option: IndexRecordOption,
     ) -> BlockSegmentPostings<'_>
         requires { info_in value_bytes.now (dictionary_in self.now field) ≡ Some term_info.now }
-        ensures docs { (contents : Contents self.now) → docs_left result ≡ map (λ x. x.doc) (postings_in contents.fields field value_bytes.now) }
-        ensures counts { (contents : Contents self.now) → counts_left result ≡ map (λ x. if has_freq (record_option_of option) then x.count else 1) (postings_in contents.fields field value_bytes.now) }
+        ensures docs { (contents : Contents self.now)
+            → docs_left result ≡ map (λ x. x.doc) (postings_in contents.fields field value_bytes.now) }
+        ensures counts { (contents : Contents self.now)
+            → counts_left result ≡ map (λ x. if has_freq (record_option_of option) then x.count else 1)
+            (postings_in contents.fields field value_bytes.now) }
         ensures decoded { blocks_decoded result ≡ 1 }
         ensures doc_freq { doc_freq_of result ≡ term_info.now.doc_freq }
         ensures within { (contents : Contents self.now)
@@ -345,9 +378,15 @@ impl InvertedIndexReader {
         term: &Term,
         option: IndexRecordOption,
     ) -> Option<BlockSegmentPostings<'_>>
-        ensures docs { (contents : Contents self.now) → IfSome result (λ p. docs_left p ≡ map (λ x. x.doc) (postings_held contents.schema contents.fields term.now)) }
-        ensures counts { (contents : Contents self.now) → IfSome result (λ p. counts_left p ≡ map (λ x. if has_freq (record_option_of option) then x.count else 1) (postings_held contents.schema contents.fields term.now)) }
-        ensures none { (contents : Contents self.now) → IfNone result (postings_held contents.schema contents.fields term.now ≡ []) }
+        ensures docs { (contents : Contents self.now)
+            → IfSome result (λ p. docs_left p
+            ≡ map (λ x. x.doc) (postings_held contents.schema contents.fields term.now)) }
+        ensures counts { (contents : Contents self.now)
+            → IfSome result (λ p. counts_left p
+            ≡ map (λ x. if has_freq (record_option_of option) then x.count else 1)
+            (postings_held contents.schema contents.fields term.now)) }
+        ensures none { (contents : Contents self.now)
+            → IfNone result (postings_held contents.schema contents.fields term.now ≡ []) }
         ensures decoded { IfSome result (λ p. blocks_decoded p ≡ 1) }
         ensures within { (contents : Contents self.now)
             → IfSome result (λ p. AllByRecursion (λ doc. doc < contents.num_docs) (docs_left p)) }

@@ -10,11 +10,13 @@ ghost use Rattle.layouts.specs.InvertedIndexes.{AreGiven, AreIndexed, IndexedFie
 
 /// States that fields with given postings have these for every term, and none for a term that has none.
 pub fn given_postings_are_held()
-    ensures { (given : List ℕ → List Posting) (schema : Schema) (fields : List IndexedField) (t : List ℕ) → AreGiven given schema fields → postings_held schema fields t ≡ given t }
+    ensures { (given : List ℕ → List Posting) (schema : Schema) (fields : List IndexedField) (t : List ℕ)
+        → AreGiven given schema fields → postings_held schema fields t ≡ given t }
 {}
 
 /// States that fields that documents were indexed into have for every term the documents that hold it, with its counts
 /// and positions in them.
 pub fn indexed_postings_are_held()
-    ensures { (schema : Schema) (analyze : Analyzer) (docs : List Document) (fields : List IndexedField) (t : List ℕ) → AreIndexed schema analyze docs fields → postings_held schema fields t ≡ postings schema analyze t docs }
+    ensures { (schema : Schema) (analyze : Analyzer) (docs : List Document) (fields : List IndexedField) (t : List ℕ)
+        → AreIndexed schema analyze docs fields → postings_held schema fields t ≡ postings schema analyze t docs }
 {}

@@ -34,7 +34,8 @@ pub(crate) fn open_term<'a>(
     asked: IndexRecordOption,
 ) -> SegmentPostings<'a>
     requires { ∥ ((ps : List Posting) × HasTerm (record_option_of option) doc_freq postings.now positions.now ps) ∥₁ }
-    ensures entries { (ps : List Posting) → HasTerm (record_option_of option) doc_freq postings.now positions.now ps → entries_left result ≡ map (entry_as (record_option_of asked)) ps }
+    ensures entries { (ps : List Posting) → HasTerm (record_option_of option) doc_freq postings.now positions.now ps
+        → entries_left result ≡ map (entry_as (record_option_of asked)) ps }
     ensures decoded { cursor_blocks_decoded result ≡ 1 }
     ensures doc_freq { cursor_doc_freq result ≡ doc_freq }
     ensures skips { (ps : List Posting)
@@ -59,9 +60,14 @@ pub(crate) fn open_term_blocks<'a>(
     option: IndexRecordOption,
     asked: IndexRecordOption,
 ) -> BlockSegmentPostings<'a>
-    requires { ∥ ((ps : List Posting) × (positions : List ℕ) × HasTerm (record_option_of option) doc_freq postings.now positions ps) ∥₁ }
-    ensures docs { (ps : List Posting) (positions : List ℕ) → HasTerm (record_option_of option) doc_freq postings.now positions ps → docs_left result ≡ map (λ p. p.doc) ps }
-    ensures counts { (ps : List Posting) (positions : List ℕ) → HasTerm (record_option_of option) doc_freq postings.now positions ps → counts_left result ≡ map (λ p. if has_freq (record_option_of asked) then p.count else 1) ps }
+    requires { ∥ ((ps : List Posting) × (positions : List ℕ)
+        × HasTerm (record_option_of option) doc_freq postings.now positions ps) ∥₁ }
+    ensures docs { (ps : List Posting) (positions : List ℕ)
+        → HasTerm (record_option_of option) doc_freq postings.now positions ps
+        → docs_left result ≡ map (λ p. p.doc) ps }
+    ensures counts { (ps : List Posting) (positions : List ℕ)
+        → HasTerm (record_option_of option) doc_freq postings.now positions ps
+        → counts_left result ≡ map (λ p. if has_freq (record_option_of asked) then p.count else 1) ps }
     ensures decoded { blocks_decoded result ≡ 1 }
     ensures doc_freq { doc_freq_of result ≡ doc_freq }
     ensures skips { (ps : List Posting) (positions : List ℕ)

@@ -22,9 +22,13 @@ pub(crate) fn take_fields(
     lengths: SectionLengths,
     kinds: &[FieldKind],
 ) -> Result<Vec<FieldIndex>, Fault>
-    ensures ok { IfOk result (λ told. (fs : List FieldTerms) × IsSection section.now lengths.postings lengths.positions (map (λ k. k.field) kinds.now) fs × AreTold fields_start fs told.items) }
+    ensures ok { IfOk result (λ told. (fs : List FieldTerms)
+        × IsSection section.now lengths.postings lengths.positions (map (λ k. k.field) kinds.now) fs
+        × AreTold fields_start fs told.items) }
     ensures kinds { IfOk result (λ told. map (λ i. i.kind) told.items ≡ kinds.now) }
-    ensures err { IfErr result (λ fault. fault ≢ faults.OutOfMemory → (fault ≡ faults.Damaged None) × ((fs : List FieldTerms) → IsSection section.now lengths.postings lengths.positions (map (λ k. k.field) kinds.now) fs → ⊥)) }
+    ensures err { IfErr result (λ fault. fault ≢ faults.OutOfMemory → (fault ≡ faults.Damaged None)
+        × ((fs : List FieldTerms)
+        → IsSection section.now lengths.postings lengths.positions (map (λ k. k.field) kinds.now) fs → ⊥)) }
 {
     if section.first() != Some(&0) {
         return Err(Fault::Damaged(None));
@@ -54,7 +58,8 @@ pub(crate) fn take_fields(
 
 /// Whether `place` is the end of all three sections.
 fn is_end(section: &[u8], place: TermStart, lengths: SectionLengths) -> bool
-    ensures { IsTrue result ↔ (place ≡ record { entry = length section.now; postings = lengths.postings; positions = lengths.positions }) }
+    ensures { IsTrue result
+        ↔ (place ≡ record { entry = length section.now; postings = lengths.postings; positions = lengths.positions }) }
 {
     place.entry == section.len()
         && place.postings == lengths.postings

@@ -122,7 +122,8 @@ impl<'a> TermDictionary<'a> {
         start: &[u8],
         end: Option<&[u8]>,
     ) -> Result<TermRange<'a>, AllocError>
-        ensures { IfOk result (λ range. range ≡ ahead (between start.now (option_map (λ key. key.now) end.entry) self.now)) }
+        ensures { IfOk result (λ range. range
+            ≡ ahead (between start.now (option_map (λ key. key.now) end.entry) self.now)) }
     {
         let first = self.first_from(start);
         let last = self.end_from(end).max(first);

@@ -25,8 +25,12 @@ fn take_term<'a>(
     before: Option<&'a [u8]>,
 ) -> Result<(TermEntry<'a>, TermStart), Fault>
     requires { place.entry ≤ length section.now }
-    ensures ok { IfOk result (λ p. AreRead section.now place lengths.postings lengths.positions (option_map (λ k. k.now) before.entry) (entry_of p.0 ∷ []) p.1) }
-    ensures err { IfErr result (λ fault. (fault ≡ faults.Damaged None) × ((t : Told) (rest : List ℕ) → AreTerms section.now place lengths.postings lengths.positions (option_map (λ k. k.now) before.entry) (t ∷ []) rest → ⊥)) }
+    ensures ok { IfOk result (λ p. AreRead section.now place lengths.postings lengths.positions
+        (option_map (λ k. k.now) before.entry) (entry_of p.0 ∷ []) p.1) }
+    ensures err { IfErr result (λ fault. (fault ≡ faults.Damaged None)
+        × ((t : Told) (rest : List ℕ)
+        → AreTerms section.now place lengths.postings lengths.positions (option_map (λ k. k.now) before.entry) (t
+        ∷ []) rest → ⊥)) }
 {
     let (entry, rest) = take_entry(&section[place.entry..])?;
     if !is_above(before, entry.key) {
@@ -53,8 +57,11 @@ fn place_behind(
     entry: &TermEntry<'_>,
     lengths: SectionLengths,
 ) -> Result<TermStart, Fault>
-    ensures ok { IfOk result (λ b. EndsWithin entry_end place (entry_of entry.now) lengths.postings lengths.positions b) }
-    ensures err { IfErr result (λ fault. (fault ≡ faults.Damaged None) × (EntryFits (entry_of entry.now) → place.postings + entry.now.postings_len ≤ lengths.postings → place.positions + entry.now.positions_len ≤ lengths.positions → ⊥)) }
+    ensures ok { IfOk result (λ b. EndsWithin entry_end place (entry_of entry.now) lengths.postings lengths.positions
+        b) }
+    ensures err { IfErr result (λ fault. (fault ≡ faults.Damaged None)
+        × (EntryFits (entry_of entry.now) → place.postings + entry.now.postings_len ≤ lengths.postings
+        → place.positions + entry.now.positions_len ≤ lengths.positions → ⊥)) }
 {
     if entry.doc_freq == 0 || entry.doc_freq > u64::from(u32::MAX) {
         return Err(Fault::Damaged(None));
@@ -90,8 +97,12 @@ pub(crate) fn take_terms(
     requires entry { place.entry ≤ length section.now }
     requires postings { place.postings ≤ lengths.postings }
     requires positions { place.positions ≤ lengths.positions }
-    ensures ok { IfOk result (λ p. (ts : List Told) × (length ts ≡ num_terms) × AreRead section.now place lengths.postings lengths.positions None ts p.1 × (p.0.items ≡ starts_from place ts)) }
-    ensures err { IfErr result (λ fault. fault ≢ faults.OutOfMemory → (fault ≡ faults.Damaged None) × ((ts : List Told) (rest : List ℕ) → length ts ≡ num_terms → AreTerms section.now place lengths.postings lengths.positions None ts rest → ⊥)) }
+    ensures ok { IfOk result (λ p. (ts : List Told) × (length ts ≡ num_terms)
+        × AreRead section.now place lengths.postings lengths.positions None ts p.1
+        × (p.0.items ≡ starts_from place ts)) }
+    ensures err { IfErr result (λ fault. fault ≢ faults.OutOfMemory → (fault ≡ faults.Damaged None)
+        × ((ts : List Told) (rest : List ℕ) → length ts ≡ num_terms
+        → AreTerms section.now place lengths.postings lengths.positions None ts rest → ⊥)) }
 {
     let mut starts = Vec::new(alloc);
     let mut end = place;

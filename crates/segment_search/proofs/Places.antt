@@ -42,4 +42,3 @@ pub all_at : {X : Type 0} (P : X → Type 0) (xs : List X) (i : ℕ) (x : X) →
 all_at P [] i x h l e = absurd (omega (arith, l))
 all_at P (y ∷ xs) zero x h l e = subst P (sym e) h.0
 all_at P (y ∷ xs) (suc i) x h l e = all_at P xs i x h.1 (omega (arith, l)) e
-

@@ -41,7 +41,8 @@ pub(crate) fn best_documents<'a, S: Statistics>(
         → AllZip (StandsFor schema analyze) docs segments.now
         → tree_fault schema (S.similarity statistics.now).weight 1 (query_of query.now) ≡ None
         → IfOk result (λ best. map place_at best.items ≡ best_places limit
-        (places_from schema analyze (S.similarity statistics.now) (query_of query.now) 0 (flagged_each docs alive.now))) }
+        (places_from schema analyze (S.similarity statistics.now) (query_of query.now) 0
+        (flagged_each docs alive.now))) }
     ensures found { IfOk result (λ best. AllByRecursion (IsFound (length alive.now)) best.items) }
 {
     let readers = readers_of(alloc, segments, alive)?;

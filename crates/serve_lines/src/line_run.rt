@@ -80,7 +80,8 @@ fn serve_line<R: BufRead, W: Write, S: Service>(
     ensures turns { OnOk result (turns.new < turns.old) }
     ensures lasts { S.lasts service.new ≡ S.lasts service.old }
     ensures served { IfOk result (λ more.
-        ServesLine S.answer S.after S.leaves (IsTrue (S.lasts service.old)) (S.stands service.old) (S.stands service.new)
+        ServesLine S.answer S.after S.leaves (IsTrue (S.lasts service.old)) (S.stands service.old)
+        (S.stands service.new)
         more (R.remaining reader.old) (R.remaining reader.new) (W.contents writer.old) (W.contents writer.new)) }
 {
     if !read_line(reader, writer, line, turns)? {

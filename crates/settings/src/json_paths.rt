@@ -23,7 +23,8 @@ pub(crate) fn path_term(
     json: &Json,
     keys: &[&str],
 ) -> Result<Option<Term>, AllocError>
-    ensures { IfOk result (λ found. found ≡ definitions.path_term (map (λ k. k.now) keys.now) field expand_dots (view json.now)) }
+    ensures { IfOk result (λ found. found
+        ≡ definitions.path_term (map (λ k. k.now) keys.now) field expand_dots (view json.now)) }
 {
     if !has_only_beside(json, &["field", "path", "value"], keys) {
         return Ok(None);
@@ -43,7 +44,8 @@ pub(crate) fn path_term(
 
 /// Reads the keys of a path; there must be at least one.
 fn read_path<'a>(alloc: Global, json: &'a Json) -> Result<Option<Vec<&'a str>>, AllocError>
-    ensures { IfOk result (λ found. option_map (λ path. map (λ k. k.now) path.items) found ≡ definitions.path_in (view json.now)) }
+    ensures { IfOk result (λ found. option_map (λ path. map (λ k. k.now) path.items) found
+        ≡ definitions.path_in (view json.now)) }
 {
     let Json::Array(items) = json else {
         return Ok(None);
@@ -59,7 +61,8 @@ fn read_path<'a>(alloc: Global, json: &'a Json) -> Result<Option<Vec<&'a str>>, 
 
 /// Reads each of `items` as a key.
 fn read_each_key<'a>(alloc: Global, items: &'a [Json]) -> Result<Option<Vec<&'a str>>, AllocError>
-    ensures { IfOk result (λ found. option_map (λ path. map (λ k. k.now) path.items) found ≡ each definitions.key_in (items_view items.now)) }
+    ensures { IfOk result (λ found. option_map (λ path. map (λ k. k.now) path.items) found
+        ≡ each definitions.key_in (items_view items.now)) }
 {
     let mut path = Vec::with_capacity(alloc, items.len())?;
     for item in items {
@@ -136,7 +139,8 @@ fn date_in(value: &Json) -> Option<DateTime>
 
 /// Appends a value of eight bytes to the term `start`.
 fn fast_leaf<T: FastValue>(start: Term, value: T) -> Result<Term, AllocError>
-    ensures { IfOk result (λ term. option_map (λ payload. start ++ (type_code T.kind ++ payload)) (value_bytes T.kind (T.value value)) ≡ Some term) }
+    ensures { IfOk result (λ term. option_map (λ payload. start ++ (type_code T.kind ++ payload))
+        (value_bytes T.kind (T.value value)) ≡ Some term) }
 {
     let mut term = start;
     term.append_type_and_fast_value(value)?;

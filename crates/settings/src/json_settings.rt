@@ -21,7 +21,8 @@ impl Settings {
     /// Reads settings from a JSON object. An absent key has its default.
     pub fn from_json_value(alloc: Global, schema: &Schema, json: &Json) -> Result<Settings, Fault>
         ensures ok { IfOk result (λ settings. definitions.settings_in schema.now (view json.now) ≡ Some settings) }
-        ensures err { IfErr result (λ fault. fault ≢ faults.OutOfMemory → (fault ≡ faults.BadSettings) × (definitions.settings_in schema.now (view json.now) ≡ None)) }
+        ensures err { IfErr result (λ fault. fault ≢ faults.OutOfMemory → (fault ≡ faults.BadSettings)
+            × (definitions.settings_in schema.now (view json.now) ≡ None)) }
     {
         if !has_only_settings(json) {
             return Err(Fault::BadSettings);
@@ -47,7 +48,8 @@ impl Settings {
     #[tactic(auto, using(definitions::proofs::SettingsReadBack::settings_back))]
     pub fn to_json_value(&self, alloc: Global, schema: &Schema) -> Result<Json, AllocError>
         ensures value { IfOk result (λ json. view json ≡ definitions.settings_data schema.now self.now) }
-        ensures read_back { IfOk result (λ json. definitions.weighs_named schema.now self.now ≡ true → definitions.settings_in schema.now (view json) ≡ Some self.now) }
+        ensures read_back { IfOk result (λ json. definitions.weighs_named schema.now self.now ≡ true
+            → definitions.settings_in schema.now (view json) ≡ Some self.now) }
     {
         self.keys_to_json(alloc, schema)
     }
@@ -126,7 +128,8 @@ fn weights_or_none(
     schema: &Schema,
     json: &Json,
 ) -> Result<Option<Vec<(Term, u64)>>, AllocError>
-    ensures { IfOk result (λ found. option_map (λ weights. weights.items) found ≡ keys.at_or [] (keys.list_of (definitions.weight_in schema.now)) (codes "weights") (view json.now)) }
+    ensures { IfOk result (λ found. option_map (λ weights. weights.items) found
+        ≡ keys.at_or [] (keys.list_of (definitions.weight_in schema.now)) (codes "weights") (view json.now)) }
 {
     match json.get("weights") {
         Some(weights) => read_weights(alloc, schema, weights),
@@ -140,7 +143,8 @@ fn read_weights(
     schema: &Schema,
     json: &Json,
 ) -> Result<Option<Vec<(Term, u64)>>, AllocError>
-    ensures { IfOk result (λ found. option_map (λ weights. weights.items) found ≡ keys.list_of (definitions.weight_in schema.now) (view json.now)) }
+    ensures { IfOk result (λ found. option_map (λ weights. weights.items) found
+        ≡ keys.list_of (definitions.weight_in schema.now) (view json.now)) }
 {
     match json {
         Json::Array(items) => read_each_weight(alloc, schema, items.as_slice()),
@@ -154,7 +158,8 @@ fn read_each_weight(
     schema: &Schema,
     items: &[Json],
 ) -> Result<Option<Vec<(Term, u64)>>, AllocError>
-    ensures { IfOk result (λ found. option_map (λ weights. weights.items) found ≡ keys.each (definitions.weight_in schema.now) (items_view items.now)) }
+    ensures { IfOk result (λ found. option_map (λ weights. weights.items) found
+        ≡ keys.each (definitions.weight_in schema.now) (items_view items.now)) }
 {
     let mut weights = Vec::with_capacity(alloc, items.len())?;
     for item in items {
@@ -191,7 +196,8 @@ fn read_weight(
 
 /// Reads the norms of settings; all 1 if the key is absent.
 fn norms_or_ones(alloc: Global, json: &Json) -> Result<Option<Vec<u32>>, AllocError>
-    ensures { IfOk result (λ found. option_map (λ norms. norms.items) found ≡ keys.at_or default_settings.norms (keys.list_of definitions.norm_in) (codes "norms") (view json.now)) }
+    ensures { IfOk result (λ found. option_map (λ norms. norms.items) found
+        ≡ keys.at_or default_settings.norms (keys.list_of definitions.norm_in) (codes "norms") (view json.now)) }
 {
     match json.get("norms") {
         Some(norms) => read_norms(alloc, norms),
@@ -201,7 +207,8 @@ fn norms_or_ones(alloc: Global, json: &Json) -> Result<Option<Vec<u32>>, AllocEr
 
 /// Reads norms from an array.
 fn read_norms(alloc: Global, json: &Json) -> Result<Option<Vec<u32>>, AllocError>
-    ensures { IfOk result (λ found. option_map (λ norms. norms.items) found ≡ keys.list_of definitions.norm_in (view json.now)) }
+    ensures { IfOk result (λ found. option_map (λ norms. norms.items) found
+        ≡ keys.list_of definitions.norm_in (view json.now)) }
 {
     match json {
         Json::Array(items) => read_each_norm(alloc, items.as_slice()),
@@ -211,7 +218,8 @@ fn read_norms(alloc: Global, json: &Json) -> Result<Option<Vec<u32>>, AllocError
 
 /// Reads each of `items` as a norm.
 fn read_each_norm(alloc: Global, items: &[Json]) -> Result<Option<Vec<u32>>, AllocError>
-    ensures { IfOk result (λ found. option_map (λ norms. norms.items) found ≡ keys.each definitions.norm_in (items_view items.now)) }
+    ensures { IfOk result (λ found. option_map (λ norms. norms.items) found
+        ≡ keys.each definitions.norm_in (items_view items.now)) }
 {
     let mut norms = Vec::with_capacity(alloc, items.len())?;
     for item in items {

@@ -23,7 +23,8 @@ use values_json::{read_address, read_bytes, read_date, read_facet};
 /// there is a path of keys, too, and a date is at a key of its own.
 pub fn read_term(alloc: Global, schema: &Schema, json: &Json) -> Result<Term, Fault>
     ensures ok { IfOk result (λ term. definitions.term_in schema.now (view json.now) ≡ Some term) }
-    ensures err { IfErr result (λ fault. fault ≢ faults.OutOfMemory → (fault ≡ faults.BadTerm) × (definitions.term_in schema.now (view json.now) ≡ None)) }
+    ensures err { IfErr result (λ fault. fault ≢ faults.OutOfMemory → (fault ≡ faults.BadTerm)
+        × (definitions.term_in schema.now (view json.now) ≡ None)) }
 {
     term_beside(alloc, schema, json, &[])?.ok_or(Fault::BadTerm)
 }
@@ -35,7 +36,8 @@ pub fn term_beside(
     json: &Json,
     keys: &[&str],
 ) -> Result<Option<Term>, AllocError>
-    ensures { IfOk result (λ found. found ≡ definitions.term_beside (map (λ k. k.now) keys.now) schema.now (view json.now)) }
+    ensures { IfOk result (λ found. found
+        ≡ definitions.term_beside (map (λ k. k.now) keys.now) schema.now (view json.now)) }
 {
     let Some(name) = text_at(json, "field") else {
         return Ok(None);
@@ -58,7 +60,8 @@ fn plain_term(
     json: &Json,
     keys: &[&str],
 ) -> Result<Option<Term>, AllocError>
-    ensures { IfOk result (λ found. found ≡ definitions.plain_term (map (λ k. k.now) keys.now) field (kind_of kind) (view json.now)) }
+    ensures { IfOk result (λ found. found
+        ≡ definitions.plain_term (map (λ k. k.now) keys.now) field (kind_of kind) (view json.now)) }
 {
     match value_beside(json, keys) {
         Some(value) => value_term(alloc, field, kind, value),
@@ -68,7 +71,8 @@ fn plain_term(
 
 /// Returns the value of an object with the keys `field`, `value` and maybe `keys`, but no others.
 fn value_beside<'a>(json: &'a Json, keys: &[&str]) -> Option<&'a Json>
-    ensures { option_map (λ v. view v.now) result ≡ only_if (has_only (codes "field" ∷ codes "value" ∷ map (λ k. k.now) keys.now) (view json.now)) (get (codes "value") (view json.now)) }
+    ensures { option_map (λ v. view v.now) result ≡ only_if (has_only (codes "field" ∷ codes "value"
+        ∷ map (λ k. k.now) keys.now) (view json.now)) (get (codes "value") (view json.now)) }
 {
     if !has_only_beside(json, &["field", "value"], keys) {
         return None;

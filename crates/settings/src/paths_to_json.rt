@@ -22,7 +22,8 @@ use values_json::{Leaf, leaf_to_json};
 
 /// Writes a term of a JSON field from its value bytes: the path, U+0000 and a value.
 pub(crate) fn path_term_to_json(alloc: Global, name: &str, bytes: &[u8]) -> Result<Json, AllocError>
-    ensures { IfOk result (λ json. view json ≡ object_of ((codes "field", string name.now) ∷ value_members json_kind bytes.now)) }
+    ensures { IfOk result (λ json. view json ≡ object_of ((codes "field", string name.now)
+        ∷ value_members json_kind bytes.now)) }
 {
     let (path, leaf) = split_path(bytes);
     let path = path_to_json(alloc, path)?;

@@ -57,8 +57,12 @@ impl Settings {
         weights: Vec<(Term, u64)>,
         norms: Vec<u32>,
     ) -> Result<Settings, Fault>
-        ensures ok { IfOk result (λ settings. (settings ≡ settings_of docs_per_segment block_size cache_blocks default_weight weights.items norms.items) × (definitions.is_settings settings ≡ true)) }
-        ensures err { IfErr result (λ fault. fault ≢ faults.OutOfMemory → (fault ≡ faults.BadSettings) × (definitions.is_settings (settings_of docs_per_segment block_size cache_blocks default_weight weights.items norms.items) ≡ false)) }
+        ensures ok { IfOk result (λ settings. (settings
+            ≡ settings_of docs_per_segment block_size cache_blocks default_weight weights.items norms.items)
+            × (definitions.is_settings settings ≡ true)) }
+        ensures err { IfErr result (λ fault. fault ≢ faults.OutOfMemory → (fault ≡ faults.BadSettings)
+            × (definitions.is_settings (settings_of docs_per_segment block_size cache_blocks default_weight
+            weights.items norms.items) ≡ false)) }
     {
         if !are_sizes(docs_per_segment, block_size)
             || default_weight > MAX_SCORE
@@ -181,8 +185,10 @@ fn note_weight(
 ) -> Result<(), Fault>
     ensures fits { OnOk result (nat_le weight max_score ≡ true) }
     ensures first { OnOk result (get_by_bytes weight_by_term.old term.now ≡ None) }
-    ensures noted { OnOk result ((t : List ℕ) → get_by_bytes weight_by_term.new t ≡ update bytes_eq (get_by_bytes weight_by_term.old) term.now (Some weight) t) }
-    ensures err { IfErr result (λ fault. fault ≢ faults.OutOfMemory → (fault ≡ faults.BadSettings) × ((nat_le weight max_score && not (is_some (get_by_bytes weight_by_term.old term.now))) ≡ false)) }
+    ensures noted { OnOk result ((t : List ℕ) → get_by_bytes weight_by_term.new t
+        ≡ update bytes_eq (get_by_bytes weight_by_term.old) term.now (Some weight) t) }
+    ensures err { IfErr result (λ fault. fault ≢ faults.OutOfMemory → (fault ≡ faults.BadSettings)
+        × ((nat_le weight max_score && not (is_some (get_by_bytes weight_by_term.old term.now))) ≡ false)) }
 {
     if weight > MAX_SCORE {
         return Err(Fault::BadSettings);
@@ -196,8 +202,10 @@ fn note_weight(
 
 /// Maps each term to its weight; `BadSettings` for a weight above the greatest score, or two of one term.
 fn weights_by_term(alloc: Global, weights: &[(Term, u64)]) -> Result<HashMap<Vec<u8>, u64>, Fault>
-    ensures ok { IfOk result (λ map. WeighsTerms map weights.now × (list_all (λ w. nat_le w.1 max_score) weights.now ≡ true) × (definitions.weighs_once weights.now ≡ true)) }
-    ensures err { IfErr result (λ fault. fault ≢ faults.OutOfMemory → (fault ≡ faults.BadSettings) × ((list_all (λ w. nat_le w.1 max_score) weights.now && definitions.weighs_once weights.now) ≡ false)) }
+    ensures ok { IfOk result (λ map. WeighsTerms map weights.now
+        × (list_all (λ w. nat_le w.1 max_score) weights.now ≡ true) × (definitions.weighs_once weights.now ≡ true)) }
+    ensures err { IfErr result (λ fault. fault ≢ faults.OutOfMemory → (fault ≡ faults.BadSettings)
+        × ((list_all (λ w. nat_le w.1 max_score) weights.now && definitions.weighs_once weights.now) ≡ false)) }
 {
     let mut weight_by_term = HashMap::with_capacity(alloc, weights.len())?;
     for (term, weight) in weights {

@@ -21,7 +21,8 @@ pub(crate) fn leaf_of_bytes(
     kind: Type,
     bytes: &[u8],
 ) -> Result<Option<Leaf>, AllocError>
-    ensures { IfOk result (λ found. option_map_or value_of found values.null ≡ value_of_bytes (kind_of kind) bytes.now) }
+    ensures { IfOk result (λ found. option_map_or value_of found values.null
+        ≡ value_of_bytes (kind_of kind) bytes.now) }
 {
     match kind {
         Type::Str => Ok(text_of_bytes(alloc, bytes)?.map(Leaf::Str)),
@@ -38,7 +39,8 @@ pub(crate) fn leaf_of_bytes(
 
 /// Decodes a text, if `bytes` are one.
 fn text_of_bytes(alloc: Global, bytes: &[u8]) -> Result<Option<String>, AllocError>
-    ensures { IfOk result (λ found. option_map (λ text. string_bytes text) found ≡ only_if (is_utf8 bytes.now) (Some bytes.now)) }
+    ensures { IfOk result (λ found. option_map (λ text. string_bytes text) found
+        ≡ only_if (is_utf8 bytes.now) (Some bytes.now)) }
 {
     match str::from_utf8(bytes) {
         Ok(text) => Ok(Some(String::from_str(alloc, text)?)),

@@ -39,7 +39,8 @@ fn plain_term_to_json(
     kind: Type,
     bytes: &[u8],
 ) -> Result<Json, AllocError>
-    ensures { IfOk result (λ json. view json ≡ object_of ((codes "field", string name.now) ∷ (codes "value", printed (value_of_bytes (kind_of kind) bytes.now)) ∷ [])) }
+    ensures { IfOk result (λ json. view json ≡ object_of ((codes "field", string name.now)
+        ∷ (codes "value", printed (value_of_bytes (kind_of kind) bytes.now)) ∷ [])) }
 {
     let value = value_to_json(alloc, kind, bytes)?;
     json!(in alloc; {"field": name, "value": value})

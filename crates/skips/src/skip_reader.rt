@@ -75,8 +75,11 @@ impl<'a> Model for SkipReader<'a> {
 impl<'a> SkipReader<'a> {
     /// Opens skip entries that are known to be in their layout, at the first block.
     pub fn new(bytes: &'a [u8], doc_freq: u32, recorded: Recorded) -> SkipReader<'a>
-        requires { ∥ ((entries : List SkipEntry) × AreSkips recorded.counts recorded.positions (doc_freq / block_len) bytes.now entries) ∥₁ }
-        ensures { (entries : List SkipEntry) → AreSkips recorded.counts recorded.positions (doc_freq / block_len) bytes.now entries → result ≡ begun recorded.counts recorded.positions doc_freq entries }
+        requires { ∥ ((entries : List SkipEntry)
+            × AreSkips recorded.counts recorded.positions (doc_freq / block_len) bytes.now entries) ∥₁ }
+        ensures { (entries : List SkipEntry)
+            → AreSkips recorded.counts recorded.positions (doc_freq / block_len) bytes.now entries
+            → result ≡ begun recorded.counts recorded.positions doc_freq entries }
     {
         SkipReader {
             bytes,
@@ -90,9 +93,14 @@ impl<'a> SkipReader<'a> {
 
     /// Opens the skip entries of `doc_freq` documents, at the first block; other bytes are `Damaged`.
     pub fn open(bytes: &'a [u8], doc_freq: u32, recorded: Recorded) -> Result<SkipReader<'a>, Fault>
-        ensures ok { IfOk result (λ reader. AreSkips recorded.counts recorded.positions (doc_freq / block_len) bytes.now reader.left × (reader ≡ begun recorded.counts recorded.positions doc_freq reader.left)) }
-        ensures one { IfOk result (λ reader. (entries : List SkipEntry) → AreSkips recorded.counts recorded.positions (doc_freq / block_len) bytes.now entries → entries ≡ reader.left) }
-        ensures err { IfErr result (λ fault. (fault ≡ faults.Damaged None) × ((entries : List SkipEntry) → AreSkips recorded.counts recorded.positions (doc_freq / block_len) bytes.now entries → ⊥)) }
+        ensures ok { IfOk result (λ reader. AreSkips recorded.counts recorded.positions (doc_freq / block_len)
+            bytes.now reader.left × (reader ≡ begun recorded.counts recorded.positions doc_freq reader.left)) }
+        ensures one { IfOk result (λ reader. (entries : List SkipEntry)
+            → AreSkips recorded.counts recorded.positions (doc_freq / block_len) bytes.now entries
+            → entries ≡ reader.left) }
+        ensures err { IfErr result (λ fault. (fault ≡ faults.Damaged None)
+            × ((entries : List SkipEntry)
+            → AreSkips recorded.counts recorded.positions (doc_freq / block_len) bytes.now entries → ⊥)) }
     {
         if !are_skips(recorded, bytes, doc_freq / COMPRESSION_BLOCK_SIZE as u32) {
             return Err(Fault::Damaged(None));
@@ -116,8 +124,11 @@ impl<'a> SkipReader<'a> {
 
     /// Moves to the first block of another term, whose postings record as much.
     pub fn reset(&mut self, bytes: &'a [u8], doc_freq: u32)
-        requires { ∥ ((entries : List SkipEntry) × AreSkips self.old.counts self.old.positions (doc_freq / block_len) bytes.now entries) ∥₁ }
-        ensures { (entries : List SkipEntry) → AreSkips self.old.counts self.old.positions (doc_freq / block_len) bytes.now entries → self.new ≡ begun self.old.counts self.old.positions doc_freq entries }
+        requires { ∥ ((entries : List SkipEntry)
+            × AreSkips self.old.counts self.old.positions (doc_freq / block_len) bytes.now entries) ∥₁ }
+        ensures { (entries : List SkipEntry)
+            → AreSkips self.old.counts self.old.positions (doc_freq / block_len) bytes.now entries
+            → self.new ≡ begun self.old.counts self.old.positions doc_freq entries }
     {
         *self = SkipReader::new(bytes, doc_freq, self.recorded);
     }
@@ -213,7 +224,8 @@ fn take_u8(bytes: &[u8]) -> Result<(u8, &[u8]), Fault>
 /// Decodes a byte where it is `recorded`, else 0.
 fn take_u8_where(recorded: bool, bytes: &[u8]) -> Result<(u8, &[u8]), Fault>
     ensures ok { IfOk result (λ p. take_where recorded take_byte bytes.now ≡ Some (p.0, p.1.now)) }
-    ensures err { IfErr result (λ fault. (fault ≡ faults.Damaged None) × (take_where recorded take_byte bytes.now ≡ None)) }
+    ensures err { IfErr result (λ fault. (fault ≡ faults.Damaged None)
+        × (take_where recorded take_byte bytes.now ≡ None)) }
 {
     if !recorded {
         return Ok((0, bytes));
@@ -224,7 +236,8 @@ fn take_u8_where(recorded: bool, bytes: &[u8]) -> Result<(u8, &[u8]), Fault>
 /// Decodes four bytes where they are `recorded`, else 0.
 fn take_u32_where(recorded: bool, bytes: &[u8]) -> Result<(u32, &[u8]), Fault>
     ensures ok { IfOk result (λ p. take_where recorded take_u32 bytes.now ≡ Some (p.0, p.1.now)) }
-    ensures err { IfErr result (λ fault. (fault ≡ faults.Damaged None) × (take_where recorded take_u32 bytes.now ≡ None)) }
+    ensures err { IfErr result (λ fault. (fault ≡ faults.Damaged None)
+        × (take_where recorded take_u32 bytes.now ≡ None)) }
 {
     if !recorded {
         return Ok((0, bytes));
@@ -234,8 +247,10 @@ fn take_u32_where(recorded: bool, bytes: &[u8]) -> Result<(u32, &[u8]), Fault>
 
 /// Decodes the first entry; returns it, and the bytes after it.
 fn take_entry(recorded: Recorded, bytes: &[u8]) -> Result<(Entry, &[u8]), Fault>
-    ensures ok { IfOk result (λ p. take_entry recorded.counts recorded.positions bytes.now ≡ Some (entry_of p.0, p.1.now)) }
-    ensures err { IfErr result (λ fault. (fault ≡ faults.Damaged None) × (take_entry recorded.counts recorded.positions bytes.now ≡ None)) }
+    ensures ok { IfOk result (λ p. take_entry recorded.counts recorded.positions bytes.now
+        ≡ Some (entry_of p.0, p.1.now)) }
+    ensures err { IfErr result (λ fault. (fault ≡ faults.Damaged None)
+        × (take_entry recorded.counts recorded.positions bytes.now ≡ None)) }
 {
     let (last_doc, rest) = take_u32(bytes)?;
     let (doc_width, rest) = take_u8(rest)?;

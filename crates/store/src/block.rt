@@ -62,7 +62,8 @@ pub(crate) fn is_block(bytes: &[u8], count: u32) -> bool
 
 /// Opens the block at the checkpoint `reach`, and checks it.
 pub(crate) fn open_block(whole: &Bytes, reach: &Checkpoint) -> Result<Bytes, Fault>
-    requires within { (reach.now.byte_range.start ≤ reach.now.byte_range.end) × (reach.now.byte_range.end ≤ length whole.now) }
+    requires within { (reach.now.byte_range.start ≤ reach.now.byte_range.end)
+        × (reach.now.byte_range.end ≤ length whole.now) }
     requires docs { reach.now.doc_range.start ≤ reach.now.doc_range.end }
     ensures ok { IfOk result (IsOpenBlock (block_in whole.now reach.now)) }
     ensures err { IfErr result (λ fault. IsDamage fault (IsBadBlock (block_in whole.now reach.now))) }
@@ -80,7 +81,8 @@ pub(crate) fn slot_range(block: &[u8], count: u32, at: u32) -> Range<usize>
     requires block { IsBlockOf count block.now }
     requires at { at < count }
     ensures within { (result.start ≤ result.end) × (result.end ≤ length block.now) }
-    ensures slot { (docs : List (List ℕ)) → length docs ≡ count → IsBlock docs block.now → slice_range block.now result.start result.end ≡ slice_index_or docs at [] }
+    ensures slot { (docs : List (List ℕ)) → length docs ≡ count → IsBlock docs block.now
+        → slice_range block.now result.start result.end ≡ slice_index_or docs at [] }
 {
     let starts = block.len() - 4 - 4 * count as usize;
     let place = starts + 4 * at as usize;

@@ -106,16 +106,20 @@ impl BlockCache {
         at: usize,
         reach: &Checkpoint,
     ) -> Result<Bytes, Fault>
-        requires within { (reach.now.byte_range.start ≤ reach.now.byte_range.end) × (reach.now.byte_range.end ≤ length whole.now) }
+        requires within { (reach.now.byte_range.start ≤ reach.now.byte_range.end)
+            × (reach.now.byte_range.end ≤ length whole.now) }
         requires docs { reach.now.doc_range.start ≤ reach.now.doc_range.end }
         requires room { HasRoom self.old }
-        requires kept { (bytes : List ℕ) → lookup (nat_eq at) (entries_of self.old) ≡ Some bytes → IsOpenBlock (block_in whole.now reach.now) bytes }
+        requires kept { (bytes : List ℕ) → lookup (nat_eq at) (entries_of self.old) ≡ Some bytes
+            → IsOpenBlock (block_in whole.now reach.now) bytes }
         ensures ok { IfOk result (IsOpenBlock (block_in whole.now reach.now)) }
         ensures err { IfErr result (λ fault. IsDamage fault (IsBadBlock (block_in whole.now reach.now))) }
         ensures kept { OnOk result (kept_of self.new ≡ opened at (looked_up at (kept_of self.old))) }
         ensures missed { OnErr result (kept_of self.new ≡ looked_up at (kept_of self.old)) }
-        ensures entries { OnOk result ((e : ℕ × List ℕ) → Contains (entries_of self.new) e → Contains (entries_of self.old) e ⊎ ((e.0 ≡ at) × IsOpenBlock (block_in whole.now reach.now) e.1)) }
-        ensures no_more { OnErr result ((e : ℕ × List ℕ) → Contains (entries_of self.new) e → Contains (entries_of self.old) e) }
+        ensures entries { OnOk result ((e : ℕ × List ℕ) → Contains (entries_of self.new) e
+            → Contains (entries_of self.old) e ⊎ ((e.0 ≡ at) × IsOpenBlock (block_in whole.now reach.now) e.1)) }
+        ensures no_more { OnErr result ((e : ℕ × List ℕ) → Contains (entries_of self.new) e
+            → Contains (entries_of self.old) e) }
         ensures room { HasRoom self.new }
     {
         if let Some(block) = self.find(at)? {

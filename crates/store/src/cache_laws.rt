@@ -6,7 +6,8 @@ ghost use Rattle.store.specs.declared.cache_stats.CacheStats.{CacheStats as Stat
 
 /// Each look-up is a hit or a miss, while the counts fit.
 pub fn look_ups_are_counted()
-    ensures { (at : ℕ) (k : Kept) → k.hits + 1 < 2 ^ 64 → k.misses + 1 < 2 ^ 64 → (looked_up at k).hits + (looked_up at k).misses ≡ k.hits + k.misses + 1 }
+    ensures { (at : ℕ) (k : Kept) → k.hits + 1 < 2 ^ 64 → k.misses + 1 < 2 ^ 64
+        → (looked_up at k).hits + (looked_up at k).misses ≡ k.hits + k.misses + 1 }
 {}
 
 /// Counts are added in any order, and in any groups.

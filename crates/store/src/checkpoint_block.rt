@@ -90,7 +90,8 @@ impl CheckpointBlock {
     /// Decodes a group that replaces the checkpoints; returns the bytes after it. A failed call leaves no checkpoints.
     pub fn deserialize<'a>(&mut self, bytes: &'a [u8]) -> Result<&'a [u8], Fault>
         ensures ok { IfOk result (λ rest. IsGroup self.new × (bytes.now ≡ group_bytes self.new ++ rest.now)) }
-        ensures err { IfErr result (λ fault. IsDamage fault ((cs : List Reach) (rest : List ℕ) → IsGroup cs → bytes.now ≡ group_bytes cs ++ rest → ⊥)) }
+        ensures err { IfErr result (λ fault. IsDamage fault ((cs : List Reach) (rest : List ℕ) → IsGroup cs
+            → bytes.now ≡ group_bytes cs ++ rest → ⊥)) }
         ensures emptied { OnErr result (self.new ≡ []) }
     {
         self.checkpoints.clear();

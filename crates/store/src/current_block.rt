@@ -42,10 +42,12 @@ pub(crate) fn open_current(
     at: usize,
     reach: &Checkpoint,
 ) -> Result<Bytes, Fault>
-    requires within { (reach.now.byte_range.start ≤ reach.now.byte_range.end) × (reach.now.byte_range.end ≤ length whole.now) }
+    requires within { (reach.now.byte_range.start ≤ reach.now.byte_range.end)
+        × (reach.now.byte_range.end ≤ length whole.now) }
     requires docs { reach.now.doc_range.start ≤ reach.now.doc_range.end }
     requires room { HasRoom cache.old }
-    requires kept { (bytes : List ℕ) → lookup (nat_eq at) (entries_of cache.old) ≡ Some bytes → IsOpenBlock (block_in whole.now reach.now) bytes }
+    requires kept { (bytes : List ℕ) → lookup (nat_eq at) (entries_of cache.old) ≡ Some bytes
+        → IsOpenBlock (block_in whole.now reach.now) bytes }
     requires current { IsTriedAt at (block_in whole.now reach.now) current.old }
     ensures ok { IfOk result (IsOpenBlock (block_in whole.now reach.now)) }
     ensures err { IfErr result (λ fault. IsDamage fault (IsBadBlock (block_in whole.now reach.now))) }
@@ -53,7 +55,8 @@ pub(crate) fn open_current(
     ensures tried { IsTriedAt at (block_in whole.now reach.now) current.new }
     ensures kept { OnOk result (IsWalked at (stand current.old) (kept_of cache.old) (kept_of cache.new)) }
     ensures missed { OnErr result (IsRefusedWalk at (stand current.old) (kept_of cache.old) (kept_of cache.new)) }
-    ensures entries { (e : ℕ × List ℕ) → Contains (entries_of cache.new) e → Contains (entries_of cache.old) e ⊎ ((e.0 ≡ at) × IsOpenBlock (block_in whole.now reach.now) e.1) }
+    ensures entries { (e : ℕ × List ℕ) → Contains (entries_of cache.new) e → Contains (entries_of cache.old) e
+        ⊎ ((e.0 ≡ at) × IsOpenBlock (block_in whole.now reach.now) e.1) }
     ensures room { HasRoom cache.new }
 {
     if let Some(open) = current {

@@ -22,8 +22,11 @@ impl StoreWriter {
     /// Adds the pairs of stored fields of `doc`. A refused call changes nothing.
     pub fn store(&mut self, alloc: Global, doc: &CompactDoc, schema: &Schema) -> Result<(), Fault>
         ensures ok { OnOk result (self.new ≡ stored self.old (document_bytes (stored_pairs schema.now doc.now))) }
-        ensures within { OnOk result (passes_limit self.old (length (document_bytes (stored_pairs schema.now doc.now))) ≡ false) }
-        ensures err { IfErr result (λ fault. (fault ≡ faults.OutOfMemory) ⊎ ((fault ≡ faults.Limit) × (passes_limit self.old (length (document_bytes (stored_pairs schema.now doc.now))) ≡ true))) }
+        ensures within { OnOk result (passes_limit self.old (length (document_bytes (stored_pairs schema.now doc.now)))
+            ≡ false) }
+        ensures err { IfErr result (λ fault. (fault ≡ faults.OutOfMemory)
+            ⊎ ((fault ≡ faults.Limit)
+            × (passes_limit self.old (length (document_bytes (stored_pairs schema.now doc.now))) ≡ true))) }
         ensures unchanged { OnErr result (self.new ≡ self.old) }
     {
         let bytes = doc.serialize(alloc, schema)?;
@@ -37,11 +40,14 @@ impl StoreReader {
     pub fn get(&mut self, alloc: Global, doc: u32) -> Result<CompactDoc, Fault>
         ensures ok { IfOk result (λ read. HasDocument self.old.blocks doc read) }
         ensures err { IfErr result (λ fault. IsGetFault self.old.blocks doc fault) }
-        ensures slot { (slots : List (List ℕ)) → Hold self.old.blocks slots → IfOk result (λ read. read_document (slice_index_or slots doc []) ≡ Some read) }
-        ensures refused { (slots : List (List ℕ)) → Hold self.old.blocks slots → IfErr result (λ fault. IsUnread slots doc fault) }
+        ensures slot { (slots : List (List ℕ)) → Hold self.old.blocks slots
+            → IfOk result (λ read. read_document (slice_index_or slots doc []) ≡ Some read) }
+        ensures refused { (slots : List (List ℕ)) → Hold self.old.blocks slots
+            → IfErr result (λ fault. IsUnread slots doc fault) }
         ensures blocks { self.new.blocks ≡ self.old.blocks }
         ensures current { self.new.current ≡ self.old.current }
-        ensures kept { OnOk result (self.new.kept ≡ opened (block_number self.old.blocks doc) (looked_up (block_number self.old.blocks doc) self.old.kept)) }
+        ensures kept { OnOk result (self.new.kept
+            ≡ opened (block_number self.old.blocks doc) (looked_up (block_number self.old.blocks doc) self.old.kept)) }
         ensures missed { doc < count_of self.old.blocks
             → IfErr result (IsRefusedGet self.old.blocks doc self.old.kept self.new.kept) }
         ensures past { count_of self.old.blocks ≤ doc → self.new ≡ self.old }

@@ -60,7 +60,8 @@ impl DocStoreFooter {
     /// Decodes a footer of the version that is read; returns it, and the bytes after it.
     pub fn deserialize(bytes: &[u8]) -> Result<(DocStoreFooter, &[u8]), Fault>
         ensures ok { IfOk result (λ p. bytes.now ≡ footer_bytes p.0.offset ++ p.1.now) }
-        ensures err { IfErr result (λ fault. (fault ≡ faults.Damaged None) × ((at : ℕ) (rest : List ℕ) → at < 2 ^ 64 → bytes.now ≡ footer_bytes at ++ rest → ⊥)) }
+        ensures err { IfErr result (λ fault. (fault ≡ faults.Damaged None)
+            × ((at : ℕ) (rest : List ℕ) → at < 2 ^ 64 → bytes.now ≡ footer_bytes at ++ rest → ⊥)) }
     {
         take_footer(bytes)
     }
@@ -68,7 +69,8 @@ impl DocStoreFooter {
     /// Decodes the footer at the end of `file`; returns it, and the bytes before it.
     pub fn extract_footer(file: &[u8]) -> Result<(DocStoreFooter, &[u8]), Fault>
         ensures ok { IfOk result (λ p. file.now ≡ p.1.now ++ footer_bytes p.0.offset) }
-        ensures err { IfErr result (λ fault. (fault ≡ faults.Damaged None) × ((at : ℕ) (body : List ℕ) → at < 2 ^ 64 → file.now ≡ body ++ footer_bytes at → ⊥)) }
+        ensures err { IfErr result (λ fault. (fault ≡ faults.Damaged None)
+            × ((at : ℕ) (body : List ℕ) → at < 2 ^ 64 → file.now ≡ body ++ footer_bytes at → ⊥)) }
     {
         if file.len() < DocStoreFooter::LEN {
             return Err(Fault::Damaged(None));

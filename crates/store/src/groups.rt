@@ -36,7 +36,9 @@ fn take_extents<'a>(
     first_byte: usize,
     bytes: &'a [u8],
 ) -> Result<&'a [u8], Fault>
-    ensures ok { IfOk result (λ rest. (cs : List Reach) × (take_extents count first_doc first_byte bytes.now ≡ Some (cs, rest.now)) × (out.new.items ≡ out.old.items ++ cs)) }
+    ensures ok { IfOk result (λ rest. (cs : List Reach)
+        × (take_extents count first_doc first_byte bytes.now ≡ Some (cs, rest.now))
+        × (out.new.items ≡ out.old.items ++ cs)) }
     ensures err { IfErr result (λ fault. IsDamage fault (take_extents count first_doc first_byte bytes.now ≡ None)) }
 {
     let mut left = count;
@@ -56,7 +58,8 @@ fn take_extents<'a>(
 
 /// Decodes the checkpoints of a group, appending them to `out`; returns the bytes after the group.
 pub(crate) fn take_group<'a>(out: &mut Vec<Checkpoint>, bytes: &'a [u8]) -> Result<&'a [u8], Fault>
-    ensures ok { IfOk result (λ rest. (cs : List Reach) × (take_group bytes.now ≡ Some (cs, rest.now)) × (out.new.items ≡ out.old.items ++ cs)) }
+    ensures ok { IfOk result (λ rest. (cs : List Reach) × (take_group bytes.now ≡ Some (cs, rest.now))
+        × (out.new.items ≡ out.old.items ++ cs)) }
     ensures err { IfErr result (λ fault. IsDamage fault (take_group bytes.now ≡ None)) }
 {
     let (count, rest) = take_vint(bytes)?;

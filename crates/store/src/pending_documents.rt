@@ -26,8 +26,10 @@ impl Parts {
     /// Adds a pending document. A failed call changes nothing.
     pub(crate) fn add(&mut self, doc: &[u8]) -> Result<(), AllocError>
         requires { (bs : List Block) × (ds : List (List ℕ)) × Stand self.old bs ds × (length (concat ds) < 2 ^ 32) }
-        ensures ok { (bs : List Block) (ds : List (List ℕ)) → Stand self.old bs ds → OnOk result (Stand self.new bs (ds ++ doc.now ∷ [])) }
-        ensures err { (bs : List Block) (ds : List (List ℕ)) → Stand self.old bs ds → OnErr result (Stand self.new bs ds) }
+        ensures ok { (bs : List Block) (ds : List (List ℕ)) → Stand self.old bs ds
+            → OnOk result (Stand self.new bs (ds ++ doc.now ∷ [])) }
+        ensures err { (bs : List Block) (ds : List (List ℕ)) → Stand self.old bs ds
+            → OnErr result (Stand self.new bs ds) }
     {
         let start = (self.out.len() - self.first_byte) as u32;
         self.starts.reserve(1)?;
@@ -39,7 +41,8 @@ impl Parts {
     /// Removes the last pending document.
     pub(crate) fn remove_last(&mut self)
         requires { (bs : List Block) × (ds : List (List ℕ)) × (doc : List ℕ) × Stand self.old bs (ds ++ doc ∷ []) }
-        ensures { (bs : List Block) (ds : List (List ℕ)) (doc : List ℕ) → Stand self.old bs (ds ++ doc ∷ []) → Stand self.new bs ds }
+        ensures { (bs : List Block) (ds : List (List ℕ)) (doc : List ℕ) → Stand self.old bs (ds ++ doc ∷ [])
+            → Stand self.new bs ds }
     {
         let last = self.starts.len() - 1;
         let end = self.first_byte + self.starts[last] as usize;
@@ -49,9 +52,12 @@ impl Parts {
 
     /// Makes a block of the pending documents. A failed call changes nothing.
     pub(crate) fn close_block(&mut self) -> Result<(), AllocError>
-        requires { (bs : List Block) × (ds : List (List ℕ)) × Stand self.old bs ds × (count_of bs + length ds ≤ max_docs) }
-        ensures ok { (bs : List Block) (ds : List (List ℕ)) → Stand self.old bs ds → OnOk result (Stand self.new (bs ++ closed ds ∷ []) []) }
-        ensures err { (bs : List Block) (ds : List (List ℕ)) → Stand self.old bs ds → OnErr result (Stand self.new bs ds) }
+        requires { (bs : List Block) × (ds : List (List ℕ)) × Stand self.old bs ds
+            × (count_of bs + length ds ≤ max_docs) }
+        ensures ok { (bs : List Block) (ds : List (List ℕ)) → Stand self.old bs ds
+            → OnOk result (Stand self.new (bs ++ closed ds ∷ []) []) }
+        ensures err { (bs : List Block) (ds : List (List ℕ)) → Stand self.old bs ds
+            → OnErr result (Stand self.new bs ds) }
     {
         self.checkpoints.reserve(1)?;
         put_block_end(&mut self.out, &self.starts)?;

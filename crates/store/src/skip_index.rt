@@ -51,8 +51,10 @@ fn lowest_layer(bytes: &[u8]) -> Result<&[u8], Fault>
 
 /// Decodes the checkpoints of a layer, appending them to `out`.
 fn take_layer(out: &mut Vec<Checkpoint>, bytes: &[u8]) -> Result<(), Fault>
-    ensures ok { (cs : List Reach) → IsGroup cs → bytes.now ≡ layer_bytes cs → OnOk result (out.new.items ≡ out.old.items ++ cs) }
-    ensures err { IfErr result (λ fault. IsDamage fault ((cs : List Reach) → IsGroup cs → bytes.now ≡ layer_bytes cs → ⊥)) }
+    ensures ok { (cs : List Reach) → IsGroup cs → bytes.now ≡ layer_bytes cs
+        → OnOk result (out.new.items ≡ out.old.items ++ cs) }
+    ensures err { IfErr result (λ fault. IsDamage fault ((cs : List Reach) → IsGroup cs → bytes.now ≡ layer_bytes cs
+        → ⊥)) }
 {
     let mut rest = bytes;
     while rest.len() > 0 {
@@ -184,7 +186,8 @@ impl SkipIndex {
 
     /// Returns the block of `doc`: its index, and its checkpoint.
     pub(crate) fn find_block(&self, doc: u32) -> Option<(usize, &Checkpoint)>
-        ensures some { IfSome result (λ p. (p.0 ≡ position_or_len (passes doc) self.now) × (slice_get self.now p.0 ≡ Some p.1.now)) }
+        ensures some { IfSome result (λ p. (p.0 ≡ position_or_len (passes doc) self.now)
+            × (slice_get self.now p.0 ≡ Some p.1.now)) }
         ensures none { IfNone result (slice_get self.now (position_or_len (passes doc) self.now) ≡ None) }
     {
         let at = self.block_of(doc);

@@ -93,7 +93,8 @@ fn put_layers(
 
 /// Appends the number of `lengths`, and then these.
 fn put_lengths(out: &mut Vec<u8>, lengths: &[usize]) -> Result<(), AllocError>
-    ensures { OnOk result (out.new.items ≡ out.old.items ++ (vint_bytes (length lengths.now) ++ flat_map vint_bytes lengths.now)) }
+    ensures { OnOk result (out.new.items
+        ≡ out.old.items ++ (vint_bytes (length lengths.now) ++ flat_map vint_bytes lengths.now)) }
 {
     put_vint(out, lengths.len() as u64)?;
     for length in lengths {

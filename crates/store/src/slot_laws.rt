@@ -7,15 +7,19 @@ ghost use Rattle.store.specs.Writing.{AreWritten, HoldsSlots, Written, blocks_of
 
 /// A document that passes no limit appends a slot, whatever the block size.
 pub fn documents_append_slots()
-    ensures { (w : Written) (slots : List (List ℕ)) (doc : List ℕ) → AreWritten w.block_size w.blocks w.pending → HoldsSlots w slots → passes_limit w (length doc) ≡ false → HoldsSlots (stored w doc) (slots ++ doc ∷ []) }
+    ensures { (w : Written) (slots : List (List ℕ)) (doc : List ℕ) → AreWritten w.block_size w.blocks w.pending
+        → HoldsSlots w slots → passes_limit w (length doc) ≡ false → HoldsSlots (stored w doc) (slots ++ doc ∷ []) }
 {}
 
 /// Stacking a store appends its slots, in whatever blocks they are.
 pub fn stacked_stores_append_slots()
-    ensures { (w : Written) (slots more : List (List ℕ)) (blocks : List Block) → AreWritten w.block_size w.blocks w.pending → HoldsSlots w slots → Hold blocks more → HoldsSlots (stacked w blocks) (slots ++ more) }
+    ensures { (w : Written) (slots more : List (List ℕ)) (blocks : List Block)
+        → AreWritten w.block_size w.blocks w.pending → HoldsSlots w slots → Hold blocks more
+        → HoldsSlots (stacked w blocks) (slots ++ more) }
 {}
 
 /// The blocks that are closed in the end hold the slots.
 pub fn closed_stores_hold_slots()
-    ensures { (w : Written) (slots : List (List ℕ)) → AreWritten w.block_size w.blocks w.pending → HoldsSlots w slots → AreBlocks (blocks_of w) × Hold (blocks_of w) slots }
+    ensures { (w : Written) (slots : List (List ℕ)) → AreWritten w.block_size w.blocks w.pending → HoldsSlots w slots
+        → AreBlocks (blocks_of w) × Hold (blocks_of w) slots }
 {}

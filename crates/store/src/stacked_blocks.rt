@@ -41,8 +41,10 @@ fn put_shifted(
 impl Parts {
     /// Ends the block of any pending documents, which stay pending; returns the documents and bytes of the blocks then.
     fn put_pending(&mut self) -> Result<(u32, usize), AllocError>
-        requires { (bs : List Block) × (ds : List (List ℕ)) × Stand self.old bs ds × (count_of bs + length ds ≤ max_docs) }
-        ensures ok { (bs : List Block) (ds : List (List ℕ)) → Stand self.old bs ds → IfOk result (λ ends. IsShut self.new (blocks_of (written bs ds 0)) ends) }
+        requires { (bs : List Block) × (ds : List (List ℕ)) × Stand self.old bs ds
+            × (count_of bs + length ds ≤ max_docs) }
+        ensures ok { (bs : List Block) (ds : List (List ℕ)) → Stand self.old bs ds
+            → IfOk result (λ ends. IsShut self.new (blocks_of (written bs ds 0)) ends) }
         ensures kept { IsKeptIn self.old self.new }
     {
         if self.starts.len() == 0 {
@@ -60,10 +62,13 @@ impl Parts {
 
     /// Makes a block of the pending documents, and appends the blocks of `bytes` with the checkpoints `reaches`.
     fn append(&mut self, bytes: &[u8], reaches: &[Checkpoint]) -> Result<(), AllocError>
-        requires stands { (bs : List Block) × (ds : List (List ℕ)) × Stand self.old bs ds × (count_of bs + length ds + doc_end 0 reaches.now ≤ max_docs) }
+        requires stands { (bs : List Block) × (ds : List (List ℕ)) × Stand self.old bs ds
+            × (count_of bs + length ds + doc_end 0 reaches.now ≤ max_docs) }
         requires run { Adjoin 0 0 reaches.now }
         requires covers { byte_end 0 reaches.now ≤ length bytes.now }
-        ensures ok { (bs : List Block) (ds : List (List ℕ)) (more : List Block) → Stand self.old bs ds → reaches.now ≡ checkpoints 0 0 more → bytes.now ≡ data_of more → OnOk result (Stand self.new (blocks_of (written bs ds 0) ++ more) []) }
+        ensures ok { (bs : List Block) (ds : List (List ℕ)) (more : List Block) → Stand self.old bs ds
+            → reaches.now ≡ checkpoints 0 0 more → bytes.now ≡ data_of more
+            → OnOk result (Stand self.new (blocks_of (written bs ds 0) ++ more) []) }
         ensures kept { OnErr result (IsKeptIn self.old self.new) }
     {
         let (docs, end) = self.put_pending()?;
@@ -78,11 +83,15 @@ impl Parts {
 
     /// Like `append`, but a failed call changes nothing.
     pub(crate) fn stack(&mut self, bytes: &[u8], reaches: &[Checkpoint]) -> Result<(), AllocError>
-        requires stands { (bs : List Block) × (ds : List (List ℕ)) × Stand self.old bs ds × (count_of bs + length ds + doc_end 0 reaches.now ≤ max_docs) }
+        requires stands { (bs : List Block) × (ds : List (List ℕ)) × Stand self.old bs ds
+            × (count_of bs + length ds + doc_end 0 reaches.now ≤ max_docs) }
         requires run { Adjoin 0 0 reaches.now }
         requires covers { byte_end 0 reaches.now ≤ length bytes.now }
-        ensures ok { (bs : List Block) (ds : List (List ℕ)) (more : List Block) → Stand self.old bs ds → reaches.now ≡ checkpoints 0 0 more → bytes.now ≡ data_of more → OnOk result (Stand self.new (blocks_of (written bs ds 0) ++ more) []) }
-        ensures err { (bs : List Block) (ds : List (List ℕ)) → Stand self.old bs ds → OnErr result (Stand self.new bs ds) }
+        ensures ok { (bs : List Block) (ds : List (List ℕ)) (more : List Block) → Stand self.old bs ds
+            → reaches.now ≡ checkpoints 0 0 more → bytes.now ≡ data_of more
+            → OnOk result (Stand self.new (blocks_of (written bs ds 0) ++ more) []) }
+        ensures err { (bs : List Block) (ds : List (List ℕ)) → Stand self.old bs ds
+            → OnErr result (Stand self.new bs ds) }
     {
         let len = self.out.len();
         let blocks = self.checkpoints.len();

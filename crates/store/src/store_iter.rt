@@ -24,8 +24,10 @@ impl<'a> StoreIter<'a> {
 
     /// Returns the next document that is due.
     fn due(&self) -> Option<u32>
-        ensures first { IsFirst (is_due (count_of (reader_of self.now).blocks) (flags_of self.now)) (place_of self.now) result }
-        ensures within { IfSome result (λ doc. (doc < count_of (reader_of self.now).blocks) × (count_of (reader_of self.now).blocks < 2 ^ 32)) }
+        ensures first { IsFirst (is_due (count_of (reader_of self.now).blocks) (flags_of self.now)) (place_of self.now)
+            result }
+        ensures within { IfSome result (λ doc. (doc < count_of (reader_of self.now).blocks)
+            × (count_of (reader_of self.now).blocks < 2 ^ 32)) }
     {
         let doc = match self.alive {
             Some(alive) => alive.first_alive_from(self.doc)?,

@@ -68,7 +68,8 @@ fn open_index(alloc: Global, file: &[u8]) -> Result<(usize, SkipIndex), Fault>
 fn slot_of(block: Bytes, reach: &Checkpoint, doc: u32) -> Bytes
     requires block { IsBlockOf (reach.now.doc_range.end - reach.now.doc_range.start) block }
     requires doc { (reach.now.doc_range.start ≤ doc) × (doc < reach.now.doc_range.end) }
-    ensures { (docs : List (List ℕ)) → length docs ≡ reach.now.doc_range.end - reach.now.doc_range.start → IsBlock docs block → result ≡ slice_index_or docs (doc - reach.now.doc_range.start) [] }
+    ensures { (docs : List (List ℕ)) → length docs ≡ reach.now.doc_range.end - reach.now.doc_range.start
+        → IsBlock docs block → result ≡ slice_index_or docs (doc - reach.now.doc_range.start) [] }
 {
     let count = reach.doc_range.end - reach.doc_range.start;
     let range = slot_range(block.as_slice(), count, doc - reach.doc_range.start);
@@ -127,12 +128,16 @@ impl StoreReader {
     pub fn get_document_bytes(&mut self, doc: u32) -> Result<Bytes, Fault>
         ensures ok { IfOk result (HasSlot self.old.blocks doc) }
         ensures err { IfErr result (IsSlotFault self.old.blocks doc) }
-        ensures slot { (slots : List (List ℕ)) → Hold self.old.blocks slots → IfOk result (λ bytes. bytes ≡ slice_index_or slots doc []) }
-        ensures refused { (slots : List (List ℕ)) → Hold self.old.blocks slots → IfErr result (λ fault. IsPast fault doc (length slots)) }
+        ensures slot { (slots : List (List ℕ)) → Hold self.old.blocks slots
+            → IfOk result (λ bytes. bytes ≡ slice_index_or slots doc []) }
+        ensures refused { (slots : List (List ℕ)) → Hold self.old.blocks slots
+            → IfErr result (λ fault. IsPast fault doc (length slots)) }
         ensures blocks { self.new.blocks ≡ self.old.blocks }
         ensures current { self.new.current ≡ self.old.current }
-        ensures kept { OnOk result (self.new.kept ≡ opened (block_number self.old.blocks doc) (looked_up (block_number self.old.blocks doc) self.old.kept)) }
-        ensures missed { doc < count_of self.old.blocks → OnErr result (self.new.kept ≡ looked_up (block_number self.old.blocks doc) self.old.kept) }
+        ensures kept { OnOk result (self.new.kept
+            ≡ opened (block_number self.old.blocks doc) (looked_up (block_number self.old.blocks doc) self.old.kept)) }
+        ensures missed { doc < count_of self.old.blocks
+            → OnErr result (self.new.kept ≡ looked_up (block_number self.old.blocks doc) self.old.kept) }
         ensures past { count_of self.old.blocks ≤ doc → self.new ≡ self.old }
     {
         let Some((at, reach)) = self.index.find_block(doc) else {
@@ -147,8 +152,10 @@ impl StoreReader {
     pub fn read_document_bytes(&self, doc: u32) -> Result<Bytes, Fault>
         ensures ok { IfOk result (HasSlot self.now.blocks doc) }
         ensures err { IfErr result (IsSlotFault self.now.blocks doc) }
-        ensures slot { (slots : List (List ℕ)) → Hold self.now.blocks slots → IfOk result (λ bytes. bytes ≡ slice_index_or slots doc []) }
-        ensures refused { (slots : List (List ℕ)) → Hold self.now.blocks slots → IfErr result (λ fault. IsPast fault doc (length slots)) }
+        ensures slot { (slots : List (List ℕ)) → Hold self.now.blocks slots
+            → IfOk result (λ bytes. bytes ≡ slice_index_or slots doc []) }
+        ensures refused { (slots : List (List ℕ)) → Hold self.now.blocks slots
+            → IfErr result (λ fault. IsPast fault doc (length slots)) }
     {
         let Some((_, reach)) = self.index.find_block(doc) else {
             return Err(Fault::InvalidArgument);

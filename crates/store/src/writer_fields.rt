@@ -20,7 +20,8 @@ pub(crate) struct Parts {
 /// Appends `starts`, and how many they are. A failed call leaves the bytes that were there.
 fn put_starts(out: &mut Vec<u8>, starts: &[u32]) -> Result<(), AllocError>
     requires { length starts.now < 2 ^ 32 }
-    ensures ok { OnOk result (out.new.items ≡ out.old.items ++ (flat_map u32_bytes starts.now ++ u32_bytes (length starts.now))) }
+    ensures ok { OnOk result (out.new.items
+        ≡ out.old.items ++ (flat_map u32_bytes starts.now ++ u32_bytes (length starts.now))) }
     ensures kept { take (length out.old.items) out.new.items ≡ out.old.items }
 {
     for start in starts {
@@ -33,7 +34,8 @@ fn put_starts(out: &mut Vec<u8>, starts: &[u32]) -> Result<(), AllocError>
 /// Appends the `starts` of documents, and how many they are. A failed call changes nothing.
 pub(crate) fn put_block_end(out: &mut Vec<u8>, starts: &[u32]) -> Result<(), AllocError>
     requires { length starts.now < 2 ^ 32 }
-    ensures ok { OnOk result (out.new.items ≡ out.old.items ++ (flat_map u32_bytes starts.now ++ u32_bytes (length starts.now))) }
+    ensures ok { OnOk result (out.new.items
+        ≡ out.old.items ++ (flat_map u32_bytes starts.now ++ u32_bytes (length starts.now))) }
     ensures err { OnErr result (out.new.items ≡ out.old.items) }
 {
     let before = out.len();

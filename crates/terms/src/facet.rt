@@ -53,7 +53,8 @@ impl Facet {
     /// a first slash, one that ends in an escaping backslash and one with U+0000 are `FacetParseError`.
     pub fn from_text(alloc: Global, path: &str) -> Result<Facet, Fault>
         ensures ok { IfOk result (λ facet. facet_of_path path.now ≡ Some facet) }
-        ensures err { IfErr result (λ fault. fault ≢ faults.OutOfMemory → (fault ≡ faults.FacetParseError) × (facet_of_path path.now ≡ None)) }
+        ensures err { IfErr result (λ fault. fault ≢ faults.OutOfMemory → (fault ≡ faults.FacetParseError)
+            × (facet_of_path path.now ≡ None)) }
     {
         let Some(steps) = after_slash(path) else {
             return Err(Fault::FacetParseError);
@@ -68,7 +69,8 @@ impl Facet {
     /// Makes the facet with the steps of `path`; without steps it is the root. U+0000 in a step is `FacetParseError`.
     pub fn from_path(alloc: Global, path: &[&str]) -> Result<Facet, Fault>
         ensures ok { IfOk result (λ facet. facet_of_steps (map (λ step. step.now) path.now) ≡ Some facet) }
-        ensures err { IfErr result (λ fault. fault ≢ faults.OutOfMemory → (fault ≡ faults.FacetParseError) × (facet_of_steps (map (λ step. step.now) path.now) ≡ None)) }
+        ensures err { IfErr result (λ fault. fault ≢ faults.OutOfMemory → (fault ≡ faults.FacetParseError)
+            × (facet_of_steps (map (λ step. step.now) path.now) ≡ None)) }
     {
         if any_has_separator(path) {
             return Err(Fault::FacetParseError);
@@ -143,7 +145,8 @@ fn joined_steps(alloc: Global, path: &[&str]) -> Result<String, AllocError>
 
 /// Whether `text` begins with the steps of `start` and has more.
 fn is_below(text: &[u8], start: &[u8]) -> bool
-    ensures { result ≡ (nat_lt (length (steps_of start.now)) (length (steps_of text.now)) && starts_with bytes_eq (steps_of text.now) (steps_of start.now)) }
+    ensures { result ≡ (nat_lt (length (steps_of start.now)) (length (steps_of text.now)) && starts_with bytes_eq
+        (steps_of text.now) (steps_of start.now)) }
 {
     match text.strip_prefix(start) {
         Some(rest) => !rest.is_empty() && rest[0] == FACET_SEP_BYTE,
@@ -154,7 +157,8 @@ fn is_below(text: &[u8], start: &[u8]) -> bool
 /// Parses the path after its first slash; returns its steps, separated by U+0000.
 fn encoded_steps(alloc: Global, path: &str) -> Result<String, Fault>
     ensures ok { IfOk result (λ text. option_map encoded (steps_from false path.now) ≡ Some (string_bytes text)) }
-    ensures err { IfErr result (λ fault. fault ≢ faults.OutOfMemory → (fault ≡ faults.FacetParseError) × (steps_from false path.now ≡ None)) }
+    ensures err { IfErr result (λ fault. fault ≢ faults.OutOfMemory → (fault ≡ faults.FacetParseError)
+        × (steps_from false path.now ≡ None)) }
 {
     let bytes = step_bytes(alloc, path)?;
     Ok(String::from_utf8(bytes).unwrap())
@@ -163,7 +167,8 @@ fn encoded_steps(alloc: Global, path: &str) -> Result<String, Fault>
 /// Returns the bytes of `encoded_steps`.
 fn step_bytes(alloc: Global, path: &str) -> Result<Vec<u8>, Fault>
     ensures ok { IfOk result (λ bytes. option_map encoded (steps_from false path.now) ≡ Some bytes.items) }
-    ensures err { IfErr result (λ fault. fault ≢ faults.OutOfMemory → (fault ≡ faults.FacetParseError) × (steps_from false path.now ≡ None)) }
+    ensures err { IfErr result (λ fault. fault ≢ faults.OutOfMemory → (fault ≡ faults.FacetParseError)
+        × (steps_from false path.now ≡ None)) }
 {
     let mut bytes = Vec::with_capacity(alloc, path.len())?;
     let mut escaped = false;
@@ -184,7 +189,8 @@ fn step_bytes(alloc: Global, path: &str) -> Result<Vec<u8>, Fault>
 /// Converts a byte of a path that isn't an escaping backslash to a byte of the encoded steps.
 fn step_byte(byte: u8, escaped: bool) -> u8
     requires { escaped ≡ false → byte ≢ 92 }
-    ensures { (rest : List ℕ) → option_map encoded (steps_from escaped (byte ∷ rest)) ≡ option_map (λ steps. result ∷ steps) (option_map encoded (steps_from false rest)) }
+    ensures { (rest : List ℕ) → option_map encoded (steps_from escaped (byte ∷ rest))
+        ≡ option_map (λ steps. result ∷ steps) (option_map encoded (steps_from false rest)) }
 {
     if !escaped && byte == b'/' {
         return FACET_SEP_BYTE;

@@ -43,7 +43,8 @@ pub(crate) fn push_keys(
     keys: &[&str],
     expand_dots: bool,
 ) -> Result<(), AllocError>
-    ensures { OnOk result (bytes.new.items ≡ bytes.old.items ++ path_of_keys expand_dots (map (λ key. key.now) keys.now)) }
+    ensures { OnOk result (bytes.new.items
+        ≡ bytes.old.items ++ path_of_keys expand_dots (map (λ key. key.now) keys.now)) }
 {
     for (i, key) in keys.iter().enumerate() {
         if i > 0 {
@@ -67,7 +68,8 @@ fn push_key(bytes: &mut Vec<u8>, key: &str, expand_dots: bool) -> Result<(), All
 /// Converts a byte of a path text that isn't an escaping backslash to a byte of the path.
 fn path_byte(byte: u8, escaped: bool, expand_dots: bool) -> u8
     requires { escaped ≡ false → byte ≢ 92 }
-    ensures { (rest : List ℕ) → path_of_keys expand_dots (keys_from escaped (byte ∷ rest)) ≡ result ∷ path_of_keys expand_dots (keys_from false rest) }
+    ensures { (rest : List ℕ) → path_of_keys expand_dots (keys_from escaped (byte ∷ rest)) ≡ result
+        ∷ path_of_keys expand_dots (keys_from false rest) }
 {
     if !escaped && byte == b'.' {
         return KEY_SEP;

@@ -82,7 +82,8 @@ pub fn push_json_path(
     keys: &[&str],
     expand_dots: bool,
 ) -> Result<(), AllocError>
-    ensures { OnOk result (bytes.new.items ≡ bytes.old.items ++ json_term field (path_of_keys expand_dots (map (λ key. key.now) keys.now)) []) }
+    ensures { OnOk result (bytes.new.items
+        ≡ bytes.old.items ++ json_term field (path_of_keys expand_dots (map (λ key. key.now) keys.now)) []) }
 {
     push_term_header(bytes, field, Type::Json)?;
     push_keys(bytes, keys, expand_dots)?;
@@ -180,7 +181,8 @@ impl Term {
         keys: &[&str],
         expand_dots: bool,
     ) -> Result<Term, AllocError>
-        ensures { IfOk result (λ term. term ≡ json_term field (path_of_keys expand_dots (map (λ key. key.now) keys.now)) []) }
+        ensures { IfOk result (λ term. term
+            ≡ json_term field (path_of_keys expand_dots (map (λ key. key.now) keys.now)) []) }
     {
         let mut bytes = Vec::new(alloc);
         push_json_path(&mut bytes, field, keys, expand_dots)?;
@@ -220,7 +222,8 @@ impl Term {
     /// Appends a u64, an i64, a bool or a `DateTime` as the value at a path of a JSON field: the code of its type and
     /// eight bytes. A whole number of a document that fits i64 is an i64 there.
     pub fn append_type_and_fast_value<T: FastValue>(&mut self, value: T) -> Result<(), AllocError>
-        ensures ok { OnOk result (option_map (λ payload. self.old ++ (type_code T.kind ++ payload)) (value_bytes T.kind (T.value value)) ≡ Some self.new) }
+        ensures ok { OnOk result (option_map (λ payload. self.old ++ (type_code T.kind ++ payload))
+            (value_bytes T.kind (T.value value)) ≡ Some self.new) }
         ensures unchanged { OnErr result (self.new ≡ self.old) }
     {
         self.append_type_and_bytes(T::to_type(), &value.to_u64().to_be_bytes())
@@ -264,7 +267,8 @@ impl Term {
         field: Field,
         value: T,
     ) -> Result<Term, AllocError>
-        ensures { IfOk result (λ term. option_map (term_bytes field T.kind) (value_bytes T.kind (T.value value)) ≡ Some term) }
+        ensures { IfOk result (λ term. option_map (term_bytes field T.kind) (value_bytes T.kind (T.value value))
+            ≡ Some term) }
     {
         let payload = value.to_u64().to_be_bytes();
         let bytes = bytes_of(alloc, field, T::to_type(), &payload)?;

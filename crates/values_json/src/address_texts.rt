@@ -50,7 +50,8 @@ fn groups_text(alloc: Global, address: u128) -> Result<String, AllocError>
 /// Appends the group of `address` that has `shift` bits below it.
 fn push_group(text: &mut String, address: u128, shift: u32) -> Result<(), AllocError>
     requires { shift < 128 }
-    ensures { OnOk result (string_bytes text.new ≡ string_bytes text.old ++ digits 16 false (address / 2 ^ shift % 2 ^ 16)) }
+    ensures { OnOk result (string_bytes text.new
+        ≡ string_bytes text.old ++ digits 16 false (address / 2 ^ shift % 2 ^ 16)) }
 {
     let group = ((address >> shift) % (1 << 16)) as u16;
     write!(text, "{group:x}")

@@ -13,7 +13,8 @@ use std::alloc::{AllocError, Global};
 /// Decodes a text in standard base64; any other text is `InvalidBase64`.
 pub fn read_bytes(alloc: Global, text: &str) -> Result<Vec<u8>, Fault>
     ensures ok { IfOk result (λ bytes. decoded_of standard text.now ≡ Some bytes.items) }
-    ensures err { IfErr result (λ fault. fault ≢ faults.OutOfMemory → (fault ≡ faults.InvalidBase64) × (decoded_of standard text.now ≡ None)) }
+    ensures err { IfErr result (λ fault. fault ≢ faults.OutOfMemory → (fault ≡ faults.InvalidBase64)
+        × (decoded_of standard text.now ≡ None)) }
 {
     match STANDARD.decode(alloc, text.as_bytes()) {
         Ok(bytes) => Ok(bytes),

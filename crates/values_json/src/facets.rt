@@ -11,7 +11,8 @@ use terms::Facet;
 /// Reads the facet of a path; any other text is `ParseError`.
 pub fn read_facet(alloc: Global, text: &str) -> Result<Facet, Fault>
     ensures ok { IfOk result (λ facet. facet_of_path text.now ≡ Some facet) }
-    ensures err { IfErr result (λ fault. fault ≢ faults.OutOfMemory → (fault ≡ faults.ParseError) × (facet_of_path text.now ≡ None)) }
+    ensures err { IfErr result (λ fault. fault ≢ faults.OutOfMemory → (fault ≡ faults.ParseError)
+        × (facet_of_path text.now ≡ None)) }
 {
     match Facet::from_text(alloc, text) {
         Ok(facet) => Ok(facet),

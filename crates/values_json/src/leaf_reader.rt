@@ -31,7 +31,8 @@ pub fn read_leaf(alloc: Global, kind: Type, coerce: bool, json: &Json) -> Result
     requires leaf { kind_of kind ≡ json_kind → as_object (view json.now) ≡ None }
     requires whole { coerce ≡ true → has_float (view json.now) ≡ false }
     ensures ok { IfOk result (λ leaf. read_kind (kind_of kind) coerce (view json.now) ≡ Ok (value_of leaf)) }
-    ensures err { IfErr result (λ fault. fault ≢ faults.OutOfMemory → read_kind (kind_of kind) coerce (view json.now) ≡ Err fault) }
+    ensures err { IfErr result (λ fault. fault ≢ faults.OutOfMemory
+        → read_kind (kind_of kind) coerce (view json.now) ≡ Err fault) }
 {
     match kind {
         Type::Str => read_text(alloc, coerce, json),
@@ -50,7 +51,8 @@ pub fn read_leaf(alloc: Global, kind: Type, coerce: bool, json: &Json) -> Result
 fn read_text(alloc: Global, coerce: bool, json: &Json) -> Result<Leaf, Fault>
     requires { coerce ≡ true → has_float (view json.now) ≡ false }
     ensures ok { IfOk result (λ leaf. read_kind text_kind coerce (view json.now) ≡ Ok (value_of leaf)) }
-    ensures err { IfErr result (λ fault. fault ≢ faults.OutOfMemory → read_kind text_kind coerce (view json.now) ≡ Err fault) }
+    ensures err { IfErr result (λ fault. fault ≢ faults.OutOfMemory
+        → read_kind text_kind coerce (view json.now) ≡ Err fault) }
 {
     match json {
         Json::String(text) => Ok(Leaf::Str(String::from_str(alloc, text.as_str())?)),
@@ -62,8 +64,10 @@ fn read_text(alloc: Global, coerce: bool, json: &Json) -> Result<Leaf, Fault>
 /// Returns the JSON text of a value if the field coerces.
 fn coerced_text(alloc: Global, coerce: bool, json: &Json) -> Result<Leaf, Fault>
     requires { coerce ≡ true → has_float (view json.now) ≡ false }
-    ensures ok { IfOk result (λ leaf. if_coerced coerce (Ok (values.str (compact_text (view json.now)))) ≡ Ok (value_of leaf)) }
-    ensures err { IfErr result (λ fault. fault ≢ faults.OutOfMemory → if_coerced coerce (Ok (values.str (compact_text (view json.now)))) ≡ Err fault) }
+    ensures ok { IfOk result (λ leaf. if_coerced coerce (Ok (values.str (compact_text (view json.now))))
+        ≡ Ok (value_of leaf)) }
+    ensures err { IfErr result (λ fault. fault ≢ faults.OutOfMemory
+        → if_coerced coerce (Ok (values.str (compact_text (view json.now)))) ≡ Err fault) }
 {
     if !coerce {
         return Err(Fault::TypeError);
@@ -106,7 +110,8 @@ fn read_bool(coerce: bool, json: &Json) -> Result<Leaf, Fault>
 
 /// Reads the date of a text. A whole number from -2^63 below 2^63 stays a number.
 fn read_date_or_number(json: &Json) -> Result<Leaf, Fault>
-    ensures { (coerce : Bool) → result_map_both value_of (λ fault. fault) result ≡ read_kind date_kind coerce (view json.now) }
+    ensures { (coerce : Bool) → result_map_both value_of (λ fault. fault) result
+        ≡ read_kind date_kind coerce (view json.now) }
 {
     match json {
         Json::String(text) => read_date(text.as_str()).map(Leaf::Date),
@@ -117,8 +122,10 @@ fn read_date_or_number(json: &Json) -> Result<Leaf, Fault>
 
 /// Reads the facet of a path.
 fn read_facet_path(alloc: Global, json: &Json) -> Result<Leaf, Fault>
-    ensures ok { (coerce : Bool) → IfOk result (λ leaf. read_kind facet_kind coerce (view json.now) ≡ Ok (value_of leaf)) }
-    ensures err { (coerce : Bool) → IfErr result (λ fault. fault ≢ faults.OutOfMemory → read_kind facet_kind coerce (view json.now) ≡ Err fault) }
+    ensures ok { (coerce : Bool) → IfOk result (λ leaf. read_kind facet_kind coerce (view json.now)
+        ≡ Ok (value_of leaf)) }
+    ensures err { (coerce : Bool) → IfErr result (λ fault. fault ≢ faults.OutOfMemory
+        → read_kind facet_kind coerce (view json.now) ≡ Err fault) }
 {
     match json {
         Json::String(text) => read_facet(alloc, text.as_str()).map(Leaf::Facet),
@@ -128,8 +135,10 @@ fn read_facet_path(alloc: Global, json: &Json) -> Result<Leaf, Fault>
 
 /// Reads the byte string of a text in standard base64.
 fn read_base64(alloc: Global, json: &Json) -> Result<Leaf, Fault>
-    ensures ok { (coerce : Bool) → IfOk result (λ leaf. read_kind bytes_kind coerce (view json.now) ≡ Ok (value_of leaf)) }
-    ensures err { (coerce : Bool) → IfErr result (λ fault. fault ≢ faults.OutOfMemory → read_kind bytes_kind coerce (view json.now) ≡ Err fault) }
+    ensures ok { (coerce : Bool) → IfOk result (λ leaf. read_kind bytes_kind coerce (view json.now)
+        ≡ Ok (value_of leaf)) }
+    ensures err { (coerce : Bool) → IfErr result (λ fault. fault ≢ faults.OutOfMemory
+        → read_kind bytes_kind coerce (view json.now) ≡ Err fault) }
 {
     match json {
         Json::String(text) => read_bytes(alloc, text.as_str()).map(Leaf::Bytes),
@@ -139,7 +148,8 @@ fn read_base64(alloc: Global, json: &Json) -> Result<Leaf, Fault>
 
 /// Reads the IP address in a text.
 fn read_ip_addr(json: &Json) -> Result<Leaf, Fault>
-    ensures { (coerce : Bool) → result_map_both value_of (λ fault. fault) result ≡ read_kind ip_addr_kind coerce (view json.now) }
+    ensures { (coerce : Bool) → result_map_both value_of (λ fault. fault) result
+        ≡ read_kind ip_addr_kind coerce (view json.now) }
 {
     let Json::String(text) = json else {
         return Err(Fault::TypeError);

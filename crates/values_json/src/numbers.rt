@@ -33,7 +33,8 @@ pub fn read_i64_text(text: &str) -> Result<i64, Fault>
 
 /// Reads the bool in `text`: `true` or `false`. Other texts are `ParseError`.
 pub fn read_bool_text(text: &str) -> Result<bool, Fault>
-    ensures { result_map_both values.bool (λ fault. fault) result ≡ reading.or_parse_error (reading.bool_text text.now) }
+    ensures { result_map_both values.bool (λ fault. fault) result
+        ≡ reading.or_parse_error (reading.bool_text text.now) }
 {
     match text {
         "true" => Ok(true),

@@ -9,8 +9,11 @@ ghost use Rattle.definitions.specs.Sinks.{fed};
 
 /// The documents that have a term, each with its count and positions.
 pub fn postings_list_documents()
-    ensures sea { postings books raw_and_default (title_term "sea") three_books ≡ record { doc = 0; count = 1; positions = 2 ∷ [] } ∷ record { doc = 1; count = 2; positions = 0 ∷ 1 ∷ [] } ∷ [] }
-    ensures year { postings books raw_and_default (year_term 1952) three_books ≡ record { doc = 0; count = 1; positions = [] } ∷ record { doc = 2; count = 1; positions = [] } ∷ [] }
+    ensures sea { postings books raw_and_default (title_term "sea") three_books
+        ≡ record { doc = 0; count = 1; positions = 2 ∷ [] } ∷ record { doc = 1; count = 2; positions = 0 ∷ 1 ∷ [] }
+        ∷ [] }
+    ensures year { postings books raw_and_default (year_term 1952) three_books
+        ≡ record { doc = 0; count = 1; positions = [] } ∷ record { doc = 2; count = 1; positions = [] } ∷ [] }
     ensures nothing { postings books raw_and_default (title_term "x") three_books ≡ [] }
 {}
 
@@ -25,7 +28,8 @@ pub fn full_blocks_have_a_bound()
 
 /// 128 documents fill a block, and what is left is a block of its own.
 pub fn documents_stand_in_blocks()
-    ensures lengths { map length (blocks books raw_and_default (year_term 1) (replicate 130 (book "a" 1))) ≡ 128 ∷ 2 ∷ [] }
+    ensures lengths { map length (blocks books raw_and_default (year_term 1) (replicate 130 (book "a" 1))) ≡ 128 ∷ 2
+        ∷ [] }
     ensures pairs { blocks books raw_and_default (title_term "sea") three_books ≡ ((3, 1) ∷ (3, 2) ∷ []) ∷ [] }
     ensures none { blocks books raw_and_default (title_term "x") three_books ≡ [] }
 {}
@@ -38,7 +42,8 @@ pub fn bounds_have_scores()
 
 /// A sink takes what is above its threshold as it then stands, and no tie.
 pub fn sinks_take_what_is_above()
-    ensures rising { fed (λ (s : List ℕ). pos (head_or 0 s)) (λ s p. p.1 ∷ s) [] ((0, 3) ∷ (1, 3) ∷ (2, 2) ∷ (3, 4) ∷ []) ≡ 4 ∷ 3 ∷ [] }
+    ensures rising { fed (λ (s : List ℕ). pos (head_or 0 s)) (λ s p. p.1 ∷ s) [] ((0, 3) ∷ (1, 3) ∷ (2, 2) ∷ (3, 4)
+        ∷ []) ≡ 4 ∷ 3 ∷ [] }
     ensures from_zero { fed (λ (s : List ℕ). negsuc 0) (λ s p. p.1 ∷ s) [] ((0, 3) ∷ (1, 0) ∷ []) ≡ 0 ∷ 3 ∷ [] }
     ensures none { fed (λ (s : List ℕ). pos 3) (λ s p. p.1 ∷ s) [] ((0, 3) ∷ (1, 0) ∷ []) ≡ [] }
 {}

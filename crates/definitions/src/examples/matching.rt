@@ -12,7 +12,8 @@ ghost use Rattle.definitions.specs.Values.{facet};
 
 /// What must not match takes documents away, and by itself finds none.
 pub fn forbidden_clauses_take_away()
-    ensures one { best 10 three_books (bool_of (clause must (word "sea") (clause must_not (word "wind") no_clauses))) ≡ hit old_sea 30 ∷ [] }
+    ensures one { best 10 three_books (bool_of (clause must (word "sea") (clause must_not (word "wind") no_clauses)))
+        ≡ hit old_sea 30 ∷ [] }
     ensures alone { best 10 three_books (bool_of (clause must_not (word "sea") no_clauses)) ≡ [] }
     ensures none { count_in three_books (bool_of (clause must_not (word "sea") no_clauses)) ≡ 0 }
 {}
@@ -27,7 +28,8 @@ pub fn enough_clauses_match()
 
 /// Beside a clause that must match, should clauses only add to the score.
 pub fn should_clauses_are_free_beside_a_must()
-    ensures { best 10 three_books (bool_of (clause must (word "sea") (clause should (word "wind") no_clauses))) ≡ hit sea_wind 70 ∷ hit old_sea 30 ∷ [] }
+    ensures { best 10 three_books (bool_of (clause must (word "sea") (clause should (word "wind") no_clauses)))
+        ≡ hit sea_wind 70 ∷ hit old_sea 30 ∷ [] }
 {}
 
 /// Without clauses nothing matches.
@@ -40,7 +42,8 @@ pub fn no_clause_finds_nothing()
 pub fn all_and_none()
     ensures all { count_in three_books all ≡ 3 }
     ensures none { count_in three_books empty ≡ 0 }
-    ensures all_but_some { best 10 three_books (bool_of (clause must all (clause must_not (word "sea") no_clauses))) ≡ hit wind 1 ∷ [] }
+    ensures all_but_some { best 10 three_books (bool_of (clause must all (clause must_not (word "sea") no_clauses)))
+        ≡ hit wind 1 ∷ [] }
 {}
 
 /// A number is found whole, and a field's terms are its own.
@@ -53,20 +56,26 @@ pub fn terms_are_of_their_field()
 
 /// A word and a phrase that both must match.
 pub fn a_word_and_a_phrase()
-    ensures { count_in (titled ("hello happy tax" ∷ []) ∷ titled ("hello" ∷ []) ∷ titled ("hello" ∷ []) ∷ titled ("happy tax" ∷ []) ∷ []) (bool_of (clause must (word "hello") (clause must (words ("happy" ∷ "tax" ∷ []) 0) no_clauses))) ≡ 1 }
+    ensures { count_in (titled ("hello happy tax" ∷ []) ∷ titled ("hello" ∷ []) ∷ titled ("hello" ∷ [])
+        ∷ titled ("happy tax" ∷ []) ∷ []) (bool_of (clause must (word "hello") (clause must (words ("happy" ∷ "tax"
+        ∷ []) 0) no_clauses))) ≡ 1 }
 {}
 
 /// Of four words at least so many.
 pub fn so_many_words_of_four()
-    ensures two { filter (λ doc. matches books raw_and_default doc (boolean (shoulds (map word ("a" ∷ "c" ∷ "z" ∷ "i" ∷ []))) 2)) letters ≡ titled ("a b c" ∷ []) ∷ titled ("a c e" ∷ []) ∷ titled ("c i b" ∷ []) ∷ [] }
-    ensures three { filter (λ doc. matches books raw_and_default doc (boolean (shoulds (map word ("a" ∷ "b" ∷ "c" ∷ "e" ∷ []))) 3)) letters ≡ titled ("a b c" ∷ []) ∷ titled ("a c e" ∷ []) ∷ [] }
+    ensures two { filter (λ doc. matches books raw_and_default doc (boolean (shoulds (map word ("a" ∷ "c" ∷ "z" ∷ "i"
+        ∷ []))) 2)) letters ≡ titled ("a b c" ∷ []) ∷ titled ("a c e" ∷ []) ∷ titled ("c i b" ∷ []) ∷ [] }
+    ensures three { filter (λ doc. matches books raw_and_default doc (boolean (shoulds (map word ("a" ∷ "b" ∷ "c" ∷ "e"
+        ∷ []))) 3)) letters ≡ titled ("a b c" ∷ []) ∷ titled ("a c e" ∷ []) ∷ [] }
     ensures more_than_there_are { count_in letters (boolean (shoulds (map word ("a" ∷ "b" ∷ []))) 3) ≡ 0 }
 {}
 
 /// In a field without an indexing nothing is found, and facets need no option.
 pub fn fields_are_found_where_they_are_indexed()
-    ensures text { holds (record (text_entry "title") { indexed = false } ∷ []) raw_and_default (title_term "sea") sea_wind ≡ false }
-    ensures facet { holds (bare "data" facet_kind ∷ []) raw_and_default (term_bytes 0 facet_kind (codes "a")) ((0, facet (codes "a" ∷ [])) ∷ []) ≡ true }
+    ensures text { holds (record (text_entry "title") { indexed = false }
+        ∷ []) raw_and_default (title_term "sea") sea_wind ≡ false }
+    ensures facet { holds (bare "data" facet_kind
+        ∷ []) raw_and_default (term_bytes 0 facet_kind (codes "a")) ((0, facet (codes "a" ∷ [])) ∷ []) ≡ true }
 {}
 
 /// Where no minimum is given it is 1 if all clauses are should clauses, and else 0.
@@ -82,5 +91,6 @@ pub fn a_minimum_is_of_should_clauses()
     ensures must_with_min { count_in three_books (boolean (clause must (word "sea") no_clauses) 1) ≡ 0 }
     ensures not_alone_min_0 { count_in three_books (boolean (clause must_not (word "x") no_clauses) 0) ≡ 0 }
     ensures none_min_0 { count_in three_books (boolean no_clauses 0) ≡ 0 }
-    ensures should_with_not { count_in three_books (bool_of (clause should (word "sea") (clause must_not (word "x") no_clauses))) ≡ 2 }
+    ensures should_with_not { count_in three_books (bool_of (clause should (word "sea")
+        (clause must_not (word "x") no_clauses))) ≡ 2 }
 {}

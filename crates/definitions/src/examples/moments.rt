@@ -7,7 +7,8 @@ ghost use Rattle.definitions.specs.Moments.{Elapses, LeavesOnly};
 
 /// A crash at any moment from the old value to the new one leaves only images that are named.
 pub fn every_moment_counts()
-    ensures all { LeavesOnly (λ n. n) left_between 3 5 (λ image. (image ≡ 3 ∷ []) ⊎ (image ≡ 4 ∷ []) ⊎ (image ≡ 5 ∷ [])) }
+    ensures all { LeavesOnly (λ n. n) left_between 3 5 (λ image. (image ≡ 3 ∷ []) ⊎ (image ≡ 4 ∷ [])
+        ⊎ (image ≡ 5 ∷ [])) }
     ensures without_the_first { ¬ LeavesOnly (λ n. n) left_between 3 5 (λ image. (image ≡ 4 ∷ []) ⊎ (image ≡ 5 ∷ [])) }
     ensures without_the_middle { ¬ LeavesOnly (λ n. n) left_between 3 5 (λ image. (image ≡ 3 ∷ []) ⊎ (image ≡ 5 ∷ [])) }
     ensures without_the_last { ¬ LeavesOnly (λ n. n) left_between 3 5 (λ image. (image ≡ 3 ∷ []) ⊎ (image ≡ 4 ∷ [])) }

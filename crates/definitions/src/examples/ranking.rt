@@ -12,7 +12,15 @@ ghost use Rattle.definitions.specs.Values.{str, u64};
 
 /// A document that has the word twice stands before one that has it once.
 pub fn a_term_ranks_by_its_count()
-    ensures hits { best 10 three_books (word "sea") ≡ (40, (codes "title", str (codes "sea sea wind") ∷ []) ∷ (codes "year", u64 1987 ∷ []) ∷ []) ∷ (30, (codes "title", str (codes "the old sea") ∷ []) ∷ (codes "year", u64 1952 ∷ []) ∷ []) ∷ [] }
+    ensures hits { best 10 three_books (word "sea") ≡ (
+      40,
+      (codes "title", str (codes "sea sea wind") ∷ [])
+          ∷ (codes "year", u64 1987 ∷ []) ∷ [],
+    ) ∷ (
+      30,
+      (codes "title", str (codes "the old sea") ∷ [])
+          ∷ (codes "year", u64 1952 ∷ []) ∷ [],
+    ) ∷ [] }
     ensures count { count_in three_books (word "sea") ≡ 2 }
 {}
 
@@ -24,16 +32,21 @@ pub fn scores_add_up()
 
 /// Where every weight is 0 all scores are, and documents keep the order of addition.
 pub fn equal_scores_keep_the_order_of_addition()
-    ensures { scan books raw_and_default (weighing 0) three_books sea_or_wind 3 ≡ hit old_sea 0 ∷ hit sea_wind 0 ∷ hit wind 0 ∷ [] }
+    ensures { scan books raw_and_default (weighing 0) three_books sea_or_wind 3 ≡ hit old_sea 0 ∷ hit sea_wind 0
+        ∷ hit wind 0 ∷ [] }
 {}
 
 /// The best of two counts, and of the other so many thousandths.
 pub fn the_best_query_counts()
-    ensures alone { best 10 three_books (best_of (word "sea" ∷ word "wind" ∷ []) 0) ≡ hit sea_wind 40 ∷ hit old_sea 30 ∷ hit wind 30 ∷ [] }
-    ensures half { best 10 three_books (best_of (word "sea" ∷ word "wind" ∷ []) 500) ≡ hit sea_wind 55 ∷ hit old_sea 30 ∷ hit wind 30 ∷ [] }
-    ensures whole { best 10 three_books (best_of (word "sea" ∷ word "wind" ∷ []) 1000) ≡ best 10 three_books sea_or_wind }
+    ensures alone { best 10 three_books (best_of (word "sea" ∷ word "wind" ∷ []) 0) ≡ hit sea_wind 40 ∷ hit old_sea 30
+        ∷ hit wind 30 ∷ [] }
+    ensures half { best 10 three_books (best_of (word "sea" ∷ word "wind" ∷ []) 500) ≡ hit sea_wind 55 ∷ hit old_sea 30
+        ∷ hit wind 30 ∷ [] }
+    ensures whole { best 10 three_books (best_of (word "sea" ∷ word "wind" ∷ []) 1000)
+        ≡ best 10 three_books sea_or_wind }
     ensures three { best 1 three_books (best_of (word "sea" ∷ word "wind" ∷ all ∷ []) 333) ≡ hit sea_wind 50 ∷ [] }
-    ensures boosted { best 1 three_books (boost (pos 3) (best_of (word "sea" ∷ word "wind" ∷ []) 333)) ≡ hit sea_wind 149 ∷ [] }
+    ensures boosted { best 1 three_books (boost (pos 3) (best_of (word "sea" ∷ word "wind" ∷ []) 333))
+        ≡ hit sea_wind 149 ∷ [] }
     ensures rounded { best 1 three_books (best_of (word "sea" ∷ word "wind" ∷ []) 50) ≡ hit sea_wind 41 ∷ [] }
 {}
 
@@ -50,7 +63,8 @@ pub fn constants_replace_and_boosts_multiply()
     ensures both { best 1 three_books (boost (pos 3) (const_score (pos 7) (word "sea"))) ≡ hit old_sea 21 ∷ [] }
     ensures twice { best 1 three_books (boost (pos 3) (boost (pos 2) (word "sea"))) ≡ hit sea_wind 240 ∷ [] }
     ensures negative { best 1 three_books (boost (negsuc 2) (word "sea")) ≡ hit old_sea 0 ∷ [] }
-    ensures of_a_whole_part { scan books raw_and_default (weighing 61) three_books (boost (pos 2) (word "sea")) 10 ≡ hit sea_wind 80 ∷ hit old_sea 60 ∷ [] }
+    ensures of_a_whole_part { scan books raw_and_default (weighing 61) three_books (boost (pos 2) (word "sea")) 10
+        ≡ hit sea_wind 80 ∷ hit old_sea 60 ∷ [] }
 {}
 
 /// The query for all documents earns a point times the boosts above it.
@@ -61,9 +75,12 @@ pub fn all_documents_earn_a_point()
 
 /// The norm is that of the length in the term's own field.
 pub fn long_texts_earn_less()
-    ensures words { scan books raw_and_default (record { weight = λ t. 60; norms = range_with_len 0 256 }) three_books (word "wind") 10 ≡ hit wind 30 ∷ hit sea_wind 15 ∷ [] }
-    ensures values { scan books raw_and_default (record { weight = λ t. 60; norms = range_with_len 0 256 }) three_books (of_year 1987) 10 ≡ hit sea_wind 30 ∷ [] }
-    ensures unknown { length_id (record (text_entry "title") { fieldnorms = false } ∷ []) raw_and_default 0 sea_wind ≡ 1 }
+    ensures words { scan books raw_and_default (record { weight = λ t. 60; norms = range_with_len 0 256 }) three_books
+        (word "wind") 10 ≡ hit wind 30 ∷ hit sea_wind 15 ∷ [] }
+    ensures values { scan books raw_and_default (record { weight = λ t. 60; norms = range_with_len 0 256 }) three_books
+        (of_year 1987) 10 ≡ hit sea_wind 30 ∷ [] }
+    ensures unknown { length_id (record (text_entry "title") { fieldnorms = false } ∷ []) raw_and_default 0 sea_wind
+        ≡ 1 }
 {}
 
 /// A query that doesn't read counts takes each for 1.

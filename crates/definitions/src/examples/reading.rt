@@ -18,7 +18,8 @@ pub fn documents_are_objects()
     ensures array { read_json books (codes "[1]") ≡ Err faults.NotAnObject }
     ensures no_json { read_json books (codes "{\"year\":") ≡ Err faults.NotAnObject }
     ensures no_field { read_json books (codes "{\"x\":1.5}") ≡ Ok [] }
-    ensures found { best 10 (committed (after_calls 2 (add_json (codes "{\"x\":1.5}") ∷ commit_pending ∷ []) nothing_yet)) all ≡ (1, []) ∷ [] }
+    ensures found { best 10 (committed (after_calls 2 (add_json (codes "{\"x\":1.5}") ∷ commit_pending
+        ∷ []) nothing_yet)) all ≡ (1, []) ∷ [] }
 {}
 
 /// An array gives a value for each element, also none.
@@ -43,9 +44,12 @@ pub fn numbers_are_in_range()
     ensures text { read_json books (codes "{\"year\":\"1952\"}") ≡ Err faults.TypeError }
     ensures float { read_json books (codes "{\"year\":1.5}") ≡ Err faults.FloatValue }
     ensures null_value { read_json books (codes "{\"year\":null}") ≡ Err faults.TypeError }
-    ensures signed { read_json (data_of i64_kind) (codes "{\"data\":[-9223372036854775808,5]}") ≡ Ok ((0, i64 (negsuc (2 ^ 63 - 1))) ∷ (0, i64 (pos 5)) ∷ []) }
-    ensures signed_too_great { read_json (data_of i64_kind) (codes "{\"data\":9223372036854775808}") ≡ Err faults.OverflowError }
-    ensures greatest { read_json (data_of u64_kind) (codes "{\"data\":18446744073709551615}") ≡ Ok ((0, u64 (2 ^ 64 - 1)) ∷ []) }
+    ensures signed { read_json (data_of i64_kind) (codes "{\"data\":[-9223372036854775808,5]}")
+        ≡ Ok ((0, i64 (negsuc (2 ^ 63 - 1))) ∷ (0, i64 (pos 5)) ∷ []) }
+    ensures signed_too_great { read_json (data_of i64_kind) (codes "{\"data\":9223372036854775808}")
+        ≡ Err faults.OverflowError }
+    ensures greatest { read_json (data_of u64_kind) (codes "{\"data\":18446744073709551615}")
+        ≡ Ok ((0, u64 (2 ^ 64 - 1)) ∷ []) }
     ensures too_great { read_json (data_of u64_kind) (codes "{\"data\":18446744073709551616}") ≡ Err faults.FloatValue }
 {}
 
@@ -53,17 +57,23 @@ pub fn numbers_are_in_range()
 pub fn texts_are_coerced_to_numbers()
     ensures plus { read_json (coercing_data u64_kind) (codes "{\"data\":\"+5\"}") ≡ Ok ((0, u64 5) ∷ []) }
     ensures minus { read_json (coercing_data u64_kind) (codes "{\"data\":\"-5\"}") ≡ Err faults.ParseError }
-    ensures signed { read_json (coercing_data i64_kind) (codes "{\"data\":[\"-5\",\"+5\",\"05\"]}") ≡ Ok ((0, i64 (negsuc 4)) ∷ (0, i64 (pos 5)) ∷ (0, i64 (pos 5)) ∷ []) }
+    ensures signed { read_json (coercing_data i64_kind) (codes "{\"data\":[\"-5\",\"+5\",\"05\"]}")
+        ≡ Ok ((0, i64 (negsuc 4)) ∷ (0, i64 (pos 5)) ∷ (0, i64 (pos 5)) ∷ []) }
     ensures no_digit { read_json (coercing_data u64_kind) (codes "{\"data\":\"+\"}") ≡ Err faults.ParseError }
-    ensures too_great { read_json (coercing_data u64_kind) (codes "{\"data\":\"18446744073709551616\"}") ≡ Err faults.ParseError }
-    ensures least { read_json (coercing_data i64_kind) (codes "{\"data\":\"-9223372036854775808\"}") ≡ Ok ((0, i64 (negsuc (2 ^ 63 - 1))) ∷ []) }
-    ensures below_the_least { read_json (coercing_data i64_kind) (codes "{\"data\":\"-9223372036854775809\"}") ≡ Err faults.ParseError }
+    ensures too_great { read_json (coercing_data u64_kind) (codes "{\"data\":\"18446744073709551616\"}")
+        ≡ Err faults.ParseError }
+    ensures least { read_json (coercing_data i64_kind) (codes "{\"data\":\"-9223372036854775808\"}")
+        ≡ Ok ((0, i64 (negsuc (2 ^ 63 - 1))) ∷ []) }
+    ensures below_the_least { read_json (coercing_data i64_kind) (codes "{\"data\":\"-9223372036854775809\"}")
+        ≡ Err faults.ParseError }
 {}
 
 /// A text field that coerces reads what is no text as its JSON.
 pub fn texts_are_coerced_from_json()
-    ensures null_value { read_json (coercing_data text_kind) (codes "{\"data\":null}") ≡ Ok ((0, str (codes "null")) ∷ []) }
-    ensures others { read_json (coercing_data text_kind) (codes "{\"data\":[true,-7,\"a\"]}") ≡ Ok ((0, str (codes "true")) ∷ (0, str (codes "-7")) ∷ (0, str (codes "a")) ∷ []) }
+    ensures null_value { read_json (coercing_data text_kind) (codes "{\"data\":null}")
+        ≡ Ok ((0, str (codes "null")) ∷ []) }
+    ensures others { read_json (coercing_data text_kind) (codes "{\"data\":[true,-7,\"a\"]}")
+        ≡ Ok ((0, str (codes "true")) ∷ (0, str (codes "-7")) ∷ (0, str (codes "a")) ∷ []) }
     ensures float { read_json (coercing_data text_kind) (codes "{\"data\":1.5}") ≡ Err faults.FloatValue }
     ensures object { read_json (coercing_data text_kind) (codes "{\"data\":{}}") ≡ Err faults.TypeError }
     ensures not_coerced { read_json (data_of text_kind) (codes "{\"data\":null}") ≡ Err faults.TypeError }
@@ -71,7 +81,8 @@ pub fn texts_are_coerced_from_json()
 
 /// Truth values, and where the field coerces their texts.
 pub fn flags_are_read()
-    ensures both { read_json (data_of bool_kind) (codes "{\"data\":[true,false]}") ≡ Ok ((0, bool true) ∷ (0, bool false) ∷ []) }
+    ensures both { read_json (data_of bool_kind) (codes "{\"data\":[true,false]}")
+        ≡ Ok ((0, bool true) ∷ (0, bool false) ∷ []) }
     ensures text { read_json (data_of bool_kind) (codes "{\"data\":\"true\"}") ≡ Err faults.TypeError }
     ensures coerced { read_json (coercing_data bool_kind) (codes "{\"data\":\"false\"}") ≡ Ok ((0, bool false) ∷ []) }
     ensures other_text { read_json (coercing_data bool_kind) (codes "{\"data\":\"True\"}") ≡ Err faults.ParseError }
@@ -80,24 +91,28 @@ pub fn flags_are_read()
 
 /// Bytes are base64.
 pub fn bytes_are_base64()
-    ensures text { read_json (data_of bytes_kind) (codes "{\"data\":\"dGhpcyBpcyBhIHRlc3Q=\"}") ≡ Ok ((0, bytes (codes "this is a test")) ∷ []) }
+    ensures text { read_json (data_of bytes_kind) (codes "{\"data\":\"dGhpcyBpcyBhIHRlc3Q=\"}")
+        ≡ Ok ((0, bytes (codes "this is a test")) ∷ []) }
     ensures number { read_json (data_of bytes_kind) (codes "{\"data\":521}") ≡ Err faults.TypeError }
     ensures no_base64 { read_json (data_of bytes_kind) (codes "{\"data\":\"-\"}") ≡ Err faults.InvalidBase64 }
 {}
 
 /// Dates are timestamps within 64 bits of nanoseconds, and a whole number stays one.
 pub fn dates_are_timestamps()
-    ensures date { read_json (data_of date_kind) (codes "{\"data\":\"2024-05-01T12:00:00.75Z\"}") ≡ Ok ((0, date (pos 1714564800750000000)) ∷ []) }
+    ensures date { read_json (data_of date_kind) (codes "{\"data\":\"2024-05-01T12:00:00.75Z\"}")
+        ≡ Ok ((0, date (pos 1714564800750000000)) ∷ []) }
     ensures number { read_json (data_of date_kind) (codes "{\"data\":5}") ≡ Ok ((0, i64 (pos 5)) ∷ []) }
     ensures not_indexable { document_json (data_of date_kind) (codes "{\"data\":5}") ≡ Err faults.NotIndexable }
     ensures no_date { read_json (data_of date_kind) (codes "{\"data\":\"sea\"}") ≡ Err faults.ParseError }
-    ensures too_late { read_json (data_of date_kind) (codes "{\"data\":\"2263-01-01T00:00:00Z\"}") ≡ Err faults.OverflowError }
+    ensures too_late { read_json (data_of date_kind) (codes "{\"data\":\"2263-01-01T00:00:00Z\"}")
+        ≡ Err faults.OverflowError }
     ensures flag { read_json (data_of date_kind) (codes "{\"data\":true}") ≡ Err faults.TypeError }
 {}
 
 /// Facets and addresses are texts.
 pub fn facets_and_addresses_are_texts()
-    ensures facet { read_json (data_of facet_kind) (codes "{\"data\":\"/a/b\"}") ≡ Ok ((0, facet (codes "a" ∷ codes "b" ∷ [])) ∷ []) }
+    ensures facet { read_json (data_of facet_kind) (codes "{\"data\":\"/a/b\"}")
+        ≡ Ok ((0, facet (codes "a" ∷ codes "b" ∷ [])) ∷ []) }
     ensures no_slash { read_json (data_of facet_kind) (codes "{\"data\":\"a\"}") ≡ Err faults.ParseError }
     ensures zero { read_json (data_of facet_kind) (codes "{\"data\":\"/a\\u0000\"}") ≡ Err faults.ParseError }
     ensures address { read_json (data_of ip_addr_kind) (codes "{\"data\":\"::1\"}") ≡ Ok ((0, ip_addr 1) ∷ []) }
@@ -107,8 +122,15 @@ pub fn facets_and_addresses_are_texts()
 
 /// A JSON field takes objects, whose whole numbers are signed where they fit.
 pub fn json_fields_take_objects()
-    ensures object { read_json json_data (codes "{\"data\":{\"b\":[1,-2,null],\"a\":18446744073709551615}}") ≡ Ok ((0, object (member (codes "a") (u64 (2 ^ 64 - 1)) (member (codes "b") (array (value (i64 (pos 1)) (value (i64 (negsuc 1)) (value null no_values)))) no_members))) ∷ []) }
-    ensures array_of_objects { read_json json_data (codes "{\"data\":[{},{\"a\":\"x\"}]}") ≡ Ok ((0, object no_members) ∷ (0, one_member "a" (str (codes "x"))) ∷ []) }
+    ensures object { read_json json_data (codes "{\"data\":{\"b\":[1,-2,null],\"a\":18446744073709551615}}")
+        ≡ Ok ((
+          0,
+          object (member (codes "a") (u64 (2 ^ 64 - 1))
+              (member (codes "b") (array (value (i64 (pos 1)) (value (i64 (negsuc 1)) (value null no_values)))) no_members)),
+        )
+        ∷ []) }
+    ensures array_of_objects { read_json json_data (codes "{\"data\":[{},{\"a\":\"x\"}]}")
+        ≡ Ok ((0, object no_members) ∷ (0, one_member "a" (str (codes "x"))) ∷ []) }
     ensures text { read_json json_data (codes "{\"data\":\"x\"}") ≡ Err faults.TypeError }
     ensures float_within { read_json json_data (codes "{\"data\":{\"a\":[{\"b\":0.5}]}}") ≡ Err faults.FloatValue }
 {}

@@ -17,10 +17,15 @@ ghost use Rattle.definitions.specs.Values.{array, bool, bytes, date, facet, i64,
 pub fn terms_have_a_field_a_kind_and_a_value()
     ensures title { hex (title_term "sea") ≡ codes "0000000073736561" }
     ensures year { hex (year_term 1952) ≡ codes "000000017500000000000007a0" }
-    ensures flag { option_map (λ payload. hex (term_bytes 258 bool_kind payload)) (value_bytes bool_kind (bool true)) ≡ Some (codes "000001026f0000000000000001") }
-    ensures address { option_map (λ payload. hex (term_bytes 0 ip_addr_kind payload)) (value_bytes ip_addr_kind (ip_addr (mapped 16909060))) ≡ Some (codes "000000007000000000000000000000ffff01020304") }
-    ensures bytes { option_map (λ payload. hex (term_bytes 0 bytes_kind payload)) (value_bytes bytes_kind (bytes (0 ∷ 255 ∷ []))) ≡ Some (codes "000000006200ff") }
-    ensures facet { option_map (λ payload. hex (term_bytes 0 facet_kind payload)) (value_bytes facet_kind (facet (codes "a" ∷ codes "b" ∷ []))) ≡ Some (codes "0000000068610062") }
+    ensures flag { option_map (λ payload. hex (term_bytes 258 bool_kind payload)) (value_bytes bool_kind (bool true))
+        ≡ Some (codes "000001026f0000000000000001") }
+    ensures address { option_map (λ payload. hex (term_bytes 0 ip_addr_kind payload))
+        (value_bytes ip_addr_kind (ip_addr (mapped 16909060)))
+        ≡ Some (codes "000000007000000000000000000000ffff01020304") }
+    ensures bytes { option_map (λ payload. hex (term_bytes 0 bytes_kind payload)) (value_bytes bytes_kind (bytes (0
+        ∷ 255 ∷ []))) ≡ Some (codes "000000006200ff") }
+    ensures facet { option_map (λ payload. hex (term_bytes 0 facet_kind payload))
+        (value_bytes facet_kind (facet (codes "a" ∷ codes "b" ∷ []))) ≡ Some (codes "0000000068610062") }
     ensures other_kind { value_bytes u64_kind (i64 (pos 5)) ≡ None }
 {}
 
@@ -42,16 +47,21 @@ pub fn dates_are_cut_to_seconds()
 
 /// A date finds the dates of its second, and the stored date keeps its fraction.
 pub fn dates_find_their_second()
-    ensures found { holds (data_of date_kind) raw_and_default (date_term (pos 1714564800250000000)) ((0, date (pos 1714564800750000000)) ∷ []) ≡ true }
-    ensures next_second { holds (data_of date_kind) raw_and_default (date_term (pos 1714564801000000000)) ((0, date (pos 1714564800750000000)) ∷ []) ≡ false }
-    ensures stored { stored_values (data_of date_kind) ((0, date (pos 1714564800750000000)) ∷ []) ≡ (codes "data", date (pos 1714564800750000000) ∷ []) ∷ [] }
+    ensures found { holds (data_of date_kind) raw_and_default (date_term (pos 1714564800250000000))
+        ((0, date (pos 1714564800750000000)) ∷ []) ≡ true }
+    ensures next_second { holds (data_of date_kind) raw_and_default (date_term (pos 1714564801000000000))
+        ((0, date (pos 1714564800750000000)) ∷ []) ≡ false }
+    ensures stored { stored_values (data_of date_kind) ((0, date (pos 1714564800750000000)) ∷ [])
+        ≡ (codes "data", date (pos 1714564800750000000) ∷ []) ∷ [] }
 {}
 
 /// A facet gives the terms of all its first steps, also of none.
 pub fn facets_give_their_first_steps()
-    ensures two_steps { map (λ p. hex p.0) (facet_terms 0 (facet (codes "a" ∷ codes "b" ∷ []))) ≡ codes "0000000068" ∷ codes "000000006861" ∷ codes "0000000068610062" ∷ [] }
+    ensures two_steps { map (λ p. hex p.0) (facet_terms 0 (facet (codes "a" ∷ codes "b" ∷ []))) ≡ codes "0000000068"
+        ∷ codes "000000006861" ∷ codes "0000000068610062" ∷ [] }
     ensures root { map (λ p. hex p.0) (facet_terms 0 (facet root)) ≡ codes "0000000068" ∷ codes "0000000068" ∷ [] }
-    ensures always_indexed { length (terms_of (bare "data" facet_kind ∷ []) raw_and_default ((0, facet (codes "a" ∷ [])) ∷ [])) ≡ 2 }
+    ensures always_indexed { length (terms_of (bare "data" facet_kind
+        ∷ []) raw_and_default ((0, facet (codes "a" ∷ [])) ∷ [])) ≡ 2 }
 {}
 
 /// Keys are joined by a byte 1, also empty ones, and a dot parts keys where the field says so.
@@ -62,29 +72,39 @@ pub fn keys_are_joined()
     ensures empty_first { hex (path_of_keys false ([] ∷ codes "a" ∷ [])) ≡ codes "0161" }
     ensures empty_last { hex (path_of_keys false (codes "a" ∷ [] ∷ [])) ≡ codes "6101" }
     ensures empty_alone { path_of_keys false ([] ∷ []) ≡ [] }
-    ensures dots_in_a_document { map (λ l. hex l.0) (leaves true [] (one_member "a.b" (bool true))) ≡ codes "610162" ∷ [] }
+    ensures dots_in_a_document { map (λ l. hex l.0) (leaves true [] (one_member "a.b" (bool true))) ≡ codes "610162"
+        ∷ [] }
 {}
 
 /// A JSON term has the path, a byte 0, and the leaf's kind and value.
 pub fn json_terms_have_a_path()
     ensures text { json_hex (one_member "a" (str (codes "x"))) ≡ codes "000000006a61007378" ∷ [] }
-    ensures below_an_empty_key { json_hex (one_member "" (one_member "a" (str (codes "x")))) ≡ codes "000000006a0161007378" ∷ [] }
+    ensures below_an_empty_key { json_hex (one_member "" (one_member "a" (str (codes "x"))))
+        ≡ codes "000000006a0161007378" ∷ [] }
     ensures number { json_hex (one_member "a" (u64 5)) ≡ codes "000000006a6100698000000000000005" ∷ [] }
     ensures great_number { json_hex (one_member "a" (u64 (2 ^ 63))) ≡ codes "000000006a6100758000000000000000" ∷ [] }
     ensures negative { json_hex (one_member "a" (i64 (negsuc 0))) ≡ codes "000000006a6100697fffffffffffffff" ∷ [] }
     ensures flag { json_hex (one_member "a" (bool false)) ≡ codes "000000006a61006f0000000000000000" ∷ [] }
     ensures no_value { json_hex (one_member "a" null) ≡ [] }
-    ensures array { json_hex (one_member "a" (array (value (bool true) (value (array (value (str (codes "x")) no_values)) no_values)))) ≡ codes "000000006a61007378" ∷ codes "000000006a61006f0000000000000001" ∷ [] }
+    ensures array { json_hex (one_member "a" (array (value (bool true)
+        (value (array (value (str (codes "x")) no_values)) no_values)))) ≡ codes "000000006a61007378"
+        ∷ codes "000000006a61006f0000000000000001" ∷ [] }
 {}
 
 /// Under a key with a byte 0 nothing is found, and what stands beside it is.
 pub fn keys_with_a_zero_are_left_out()
-    ensures { map (λ l. l.0) (leaves false [] (object (member (97 ∷ 0 ∷ []) (one_member "b" (bool true)) (member (codes "c") (bool true) no_members)))) ≡ codes "c" ∷ [] }
+    ensures { map (λ l. l.0) (leaves false [] (object (member (97 ∷ 0
+        ∷ []) (one_member "b" (bool true)) (member (codes "c") (bool true) no_members)))) ≡ codes "c" ∷ [] }
 {}
 
 /// The texts on one path stand in one row, and each path has its own.
 pub fn paths_have_places_of_their_own()
-    ensures { map (λ p. p.1) (terms_of json_data raw_and_default ((0, object (member (codes "a") (array (value (str (codes "x y")) (value (str (codes "z")) no_values))) (member (codes "b") (str (codes "w")) no_members))) ∷ [])) ≡ 0 ∷ 1 ∷ 3 ∷ 0 ∷ [] }
+    ensures { map (λ p. p.1) (terms_of json_data raw_and_default
+        ((
+          0,
+          object (member (codes "a") (array (value (str (codes "x y")) (value (str (codes "z")) no_values)))
+              (member (codes "b") (str (codes "w")) no_members)),
+        ) ∷ [])) ≡ 0 ∷ 1 ∷ 3 ∷ 0 ∷ [] }
 {}
 
 /// A term tells its field, its kind and whether it is of a text.

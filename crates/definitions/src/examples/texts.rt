@@ -12,8 +12,11 @@ ghost use Rattle.definitions.specs.Values.{array, no_values, pre_tok_str, str, u
 
 /// Letters, digits and characters past ASCII make words, which are lowered and numbered.
 pub fn words_are_lowered_and_numbered()
-    ensures words { default_tokens (codes "The old, OLD sea-7!") ≡ one_token 0 (codes "the") ∷ one_token 1 (codes "old") ∷ one_token 2 (codes "old") ∷ one_token 3 (codes "sea") ∷ one_token 4 (codes "7") ∷ [] }
-    ensures past_ascii { default_tokens (codes "A" ++ (195 ∷ 132 ∷ codes "B c")) ≡ one_token 0 (codes "a" ++ (195 ∷ 132 ∷ codes "b")) ∷ one_token 1 (codes "c") ∷ [] }
+    ensures words { default_tokens (codes "The old, OLD sea-7!") ≡ one_token 0 (codes "the")
+        ∷ one_token 1 (codes "old") ∷ one_token 2 (codes "old") ∷ one_token 3 (codes "sea") ∷ one_token 4 (codes "7")
+        ∷ [] }
+    ensures past_ascii { default_tokens (codes "A" ++ (195 ∷ 132 ∷ codes "B c"))
+        ≡ one_token 0 (codes "a" ++ (195 ∷ 132 ∷ codes "b")) ∷ one_token 1 (codes "c") ∷ [] }
     ensures no_word { default_tokens (codes " .- ") ≡ [] }
     ensures whole { raw (codes "The Old") ≡ one_token 0 (codes "The Old") ∷ [] }
     ensures whole_empty { raw [] ≡ one_token 0 [] ∷ [] }
@@ -21,23 +24,29 @@ pub fn words_are_lowered_and_numbered()
 
 /// A word over 40 bytes takes a number and gives no token.
 pub fn long_words_take_a_number()
-    ensures longer { default_tokens (codes "one " ++ (replicate 41 97 ++ codes " Two")) ≡ one_token 0 (codes "one") ∷ one_token 2 (codes "two") ∷ [] }
+    ensures longer { default_tokens (codes "one " ++ (replicate 41 97 ++ codes " Two")) ≡ one_token 0 (codes "one")
+        ∷ one_token 2 (codes "two") ∷ [] }
     ensures longest { length (default_tokens (codes "one " ++ (replicate 40 97 ++ codes " Two"))) ≡ 3 }
 {}
 
 /// An analyzer goes by its name, and another name gives no token.
 pub fn analyzers_go_by_name()
     ensures raw { raw_and_default (codes "raw") (codes "Old Sea") ≡ one_token 0 (codes "Old Sea") ∷ [] }
-    ensures default { raw_and_default (codes "default") (codes "Old Sea") ≡ one_token 0 (codes "old") ∷ one_token 1 (codes "sea") ∷ [] }
+    ensures default { raw_and_default (codes "default") (codes "Old Sea") ≡ one_token 0 (codes "old")
+        ∷ one_token 1 (codes "sea") ∷ [] }
     ensures other { raw_and_default (codes "other") (codes "Old Sea") ≡ [] }
-    ensures known { map is_raw_or_default (codes "raw" ∷ codes "default" ∷ codes "other" ∷ []) ≡ true ∷ true ∷ false ∷ [] }
+    ensures known { map is_raw_or_default (codes "raw" ∷ codes "default" ∷ codes "other" ∷ []) ≡ true ∷ true ∷ false
+        ∷ [] }
 {}
 
 /// A text with tokens of its own is found by them alone.
 pub fn own_tokens_are_taken()
-    ensures own { holds books raw_and_default (title_term "Sea") ((0, pre_tok_str (codes "wind") (one_token 0 (codes "Sea") ∷ [])) ∷ []) ≡ true }
-    ensures text { holds books raw_and_default (title_term "wind") ((0, pre_tok_str (codes "wind") (one_token 0 (codes "Sea") ∷ [])) ∷ []) ≡ false }
-    ensures stored { stored_values books ((0, pre_tok_str (codes "wind") (one_token 0 (codes "Sea") ∷ [])) ∷ []) ≡ (codes "title", str (codes "wind") ∷ []) ∷ [] }
+    ensures own { holds books raw_and_default (title_term "Sea")
+        ((0, pre_tok_str (codes "wind") (one_token 0 (codes "Sea") ∷ [])) ∷ []) ≡ true }
+    ensures text { holds books raw_and_default (title_term "wind")
+        ((0, pre_tok_str (codes "wind") (one_token 0 (codes "Sea") ∷ [])) ∷ []) ≡ false }
+    ensures stored { stored_values books ((0, pre_tok_str (codes "wind") (one_token 0 (codes "Sea") ∷ [])) ∷ [])
+        ≡ (codes "title", str (codes "wind") ∷ []) ∷ [] }
 {}
 
 /// A text field's length is its number of tokens, another's its number of values.
@@ -55,7 +64,8 @@ pub fn lengths_have_ids()
     ensures exact { fieldnorm_to_id 42 ≡ 41 }
     ensures greatest { fieldnorm_to_id 4294967295 ≡ 255 }
     ensures small { map fieldnorm_to_id (0 ∷ 1 ∷ 23 ∷ 24 ∷ 39 ∷ 40 ∷ []) ≡ 0 ∷ 1 ∷ 23 ∷ 24 ∷ 39 ∷ 40 ∷ [] }
-    ensures lengths { map id_to_fieldnorm (0 ∷ 23 ∷ 24 ∷ 40 ∷ 41 ∷ 48 ∷ 255 ∷ []) ≡ 0 ∷ 23 ∷ 24 ∷ 40 ∷ 42 ∷ 56 ∷ 2013265944 ∷ [] }
+    ensures lengths { map id_to_fieldnorm (0 ∷ 23 ∷ 24 ∷ 40 ∷ 41 ∷ 48 ∷ 255 ∷ []) ≡ 0 ∷ 23 ∷ 24 ∷ 40 ∷ 42 ∷ 56
+        ∷ 2013265944 ∷ [] }
 {}
 
 /// Which fields keep their length.
@@ -73,16 +83,29 @@ pub fn texts_have_counts_and_positions()
     ensures positions { positions_of books raw_and_default (title_term "sea") sea_wind ≡ 0 ∷ 1 ∷ [] }
     ensures number_count { count_of books raw_and_default (year_term 1) ((1, u64 1) ∷ (1, u64 1) ∷ []) ≡ 1 }
     ensures number_positions { positions_of books raw_and_default (year_term 1) ((1, u64 1) ∷ (1, u64 1) ∷ []) ≡ [] }
-    ensures number_in_json { count_of json_data raw_and_default (json_term 0 (codes "a") (codes "i" ++ signed_bytes (pos 5))) ((0, one_member "a" (array (value (u64 5) (value (u64 5) no_values)))) ∷ []) ≡ 1 }
-    ensures number_in_json_positions { positions_of json_data raw_and_default (json_term 0 (codes "a") (codes "i" ++ signed_bytes (pos 5))) ((0, one_member "a" (array (value (u64 5) (value (u64 5) no_values)))) ∷ []) ≡ [] }
-    ensures text_in_json { count_of json_data raw_and_default (json_term 0 (codes "a") (codes "sx")) ((0, one_member "a" (str (codes "x x"))) ∷ []) ≡ 2 }
-    ensures documents_only { count_of (record (text_entry "title") { record_option = basic } ∷ []) raw_and_default (title_term "sea") sea_wind ≡ 1 }
-    ensures counts_only { count_of (record (text_entry "title") { record_option = with_freqs } ∷ []) raw_and_default (title_term "sea") sea_wind ≡ 2 }
-    ensures no_positions { positions_of (record (text_entry "title") { record_option = with_freqs } ∷ []) raw_and_default (title_term "sea") sea_wind ≡ [] }
+    ensures number_in_json { count_of json_data raw_and_default
+        (json_term 0 (codes "a") (codes "i" ++ signed_bytes (pos 5)))
+        ((0, one_member "a" (array (value (u64 5) (value (u64 5) no_values)))) ∷ []) ≡ 1 }
+    ensures number_in_json_positions { positions_of json_data raw_and_default
+        (json_term 0 (codes "a") (codes "i" ++ signed_bytes (pos 5)))
+        ((0, one_member "a" (array (value (u64 5) (value (u64 5) no_values)))) ∷ []) ≡ [] }
+    ensures text_in_json { count_of json_data raw_and_default (json_term 0 (codes "a") (codes "sx"))
+        ((0, one_member "a" (str (codes "x x"))) ∷ []) ≡ 2 }
+    ensures documents_only { count_of (record (text_entry "title") { record_option = basic }
+        ∷ []) raw_and_default (title_term "sea") sea_wind ≡ 1 }
+    ensures counts_only { count_of (record (text_entry "title") { record_option = with_freqs }
+        ∷ []) raw_and_default (title_term "sea") sea_wind ≡ 2 }
+    ensures no_positions { positions_of (record (text_entry "title") { record_option = with_freqs }
+        ∷ []) raw_and_default (title_term "sea") sea_wind ≡ [] }
 {}
 
 /// Positions ascend in whatever order tokens come, and repeats are kept.
 pub fn positions_ascend()
     ensures sorted { ascending (3 ∷ 1 ∷ 2 ∷ 1 ∷ []) ≡ 1 ∷ 1 ∷ 2 ∷ 3 ∷ [] }
-    ensures found { positions_of books raw_and_default (title_term "a") ((0, pre_tok_str [] (one_token 0 (codes "a") ∷ record { position = 0; position_length = 9; text = codes "b" } ∷ one_token 0 (codes "a") ∷ one_token 1 (codes "a") ∷ [])) ∷ (0, str (codes "a")) ∷ []) ≡ 0 ∷ 0 ∷ 1 ∷ 10 ∷ [] }
+    ensures found { positions_of books raw_and_default (title_term "a") ((
+      0,
+      pre_tok_str [] (one_token 0 (codes "a")
+          ∷ record { position = 0; position_length = 9; text = codes "b" } ∷ one_token 0 (codes "a")
+          ∷ one_token 1 (codes "a") ∷ []),
+    ) ∷ (0, str (codes "a")) ∷ []) ≡ 0 ∷ 0 ∷ 1 ∷ 10 ∷ [] }
 {}

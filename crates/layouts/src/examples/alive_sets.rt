@@ -20,6 +20,7 @@ pub fn flags_are_bits_of_a_word()
 /// A word has 64 flags; the next flag begins another word.
 pub fn words_have_64_flags()
     ensures full { alive_bytes (replicate 64 true) ≡ 64 ∷ 0 ∷ 0 ∷ 0 ∷ replicate 8 0xff }
-    ensures more { alive_bytes (replicate 64 false ++ (true ∷ [])) ≡ 65 ∷ 0 ∷ 0 ∷ 0 ∷ replicate 8 0 ++ (1 ∷ replicate 7 0) }
+    ensures more { alive_bytes (replicate 64 false ++ (true ∷ [])) ≡ 65 ∷ 0 ∷ 0 ∷ 0
+        ∷ replicate 8 0 ++ (1 ∷ replicate 7 0) }
     ensures words { alive_words (replicate 129 true) ≡ 0xffff_ffff_ffff_ffff ∷ 0xffff_ffff_ffff_ffff ∷ 1 ∷ [] }
 {}

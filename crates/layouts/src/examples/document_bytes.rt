@@ -36,20 +36,26 @@ pub fn nested_values_have_bytes()
     ensures empty_array { hex (value_bytes (array no_values)) ≡ codes "0c80" }
     ensures array { hex (value_bytes (array (value (bool true) (value null no_values)))) ≡ codes "0c8209010b" }
     ensures empty_object { hex (value_bytes (object no_members)) ≡ codes "0d80" }
-    ensures object { hex (value_bytes (object (member (codes "a") null (member [] (str (codes "x")) no_members)))) ≡ codes "0d8281610b80008178" }
-    ensures equal_keys { hex (value_bytes (object (member (codes "a") null (member (codes "a") null no_members)))) ≡ codes "0d8281610b81610b" }
-    ensures nested { hex (value_bytes (array (value (object (member (codes "a") (array no_values) no_members)) no_values))) ≡ codes "0c810d8181610c80" }
+    ensures object { hex (value_bytes (object (member (codes "a") null (member [] (str (codes "x")) no_members))))
+        ≡ codes "0d8281610b80008178" }
+    ensures equal_keys { hex (value_bytes (object (member (codes "a") null (member (codes "a") null no_members))))
+        ≡ codes "0d8281610b81610b" }
+    ensures nested { hex (value_bytes (array (value (object (member (codes "a") (array no_values) no_members))
+        no_values))) ≡ codes "0c810d8181610c80" }
 {}
 
 /// A pre-tokenised text is encoded as its text, at any depth.
 pub fn pre_tokenised_texts_are_texts()
-    ensures alone { hex (value_bytes (pre_tok_str (codes "sea") (record { position = 3; position_length = 1; text = codes "s" } ∷ []))) ≡ codes "0083736561" }
-    ensures inside { hex (value_bytes (array (value (pre_tok_str (codes "sea") []) no_values))) ≡ codes "0c810083736561" }
+    ensures alone { hex (value_bytes (pre_tok_str (codes "sea")
+        (record { position = 3; position_length = 1; text = codes "s" } ∷ []))) ≡ codes "0083736561" }
+    ensures inside { hex (value_bytes (array (value (pre_tok_str (codes "sea") []) no_values)))
+        ≡ codes "0c810083736561" }
 {}
 
 /// A document begins with the number of its pairs.
 pub fn documents_have_bytes()
-    ensures title_and_year { hex (document_bytes ((0, str (codes "c")) ∷ (1, u64 7) ∷ [])) ≡ codes "820000000000816301000000010700000000000000" }
+    ensures title_and_year { hex (document_bytes ((0, str (codes "c")) ∷ (1, u64 7) ∷ []))
+        ≡ codes "820000000000816301000000010700000000000000" }
     ensures empty { hex (document_bytes []) ≡ codes "80" }
     ensures greatest_field { hex (pair_bytes (4294967295, null)) ≡ codes "ffffffff0b" }
 {}

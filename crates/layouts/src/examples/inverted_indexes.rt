@@ -18,7 +18,8 @@ pub fn terms_record_what_their_fields_do()
     ensures text { option_of_term books (term_of_key books 0 (codes "sea")) ≡ with_freqs_and_positions }
     ensures number { option_of_term books (term_of_key books 1 (to_be_bytes w64 1952)) ≡ basic }
     ensures text_in_json { option_of_term json_data (json_term 0 (codes "a") (codes "sx")) ≡ with_freqs_and_positions }
-    ensures number_in_json { option_of_term json_data (json_term 0 (codes "a") (codes "i" ++ to_be_bytes w64 7)) ≡ basic }
+    ensures number_in_json { option_of_term json_data (json_term 0 (codes "a") (codes "i" ++ to_be_bytes w64 7))
+        ≡ basic }
     ensures no_field { option_of_term books (term_bytes 2 text_kind (codes "sea")) ≡ basic }
 {}
 
@@ -33,15 +34,21 @@ pub fn fields_have_tokens()
 
 /// The terms section of the books.
 pub fn fields_have_bytes()
-    ensures titles { hex (field_terms_bytes (field_terms titles)) ≡ codes "00000000070000000000000084836f6c64818282837365618284848374686581828284" ++ codes "77696e64828483" }
-    ensures years { hex (field_terms_bytes (field_terms years)) ≡ codes "010000000300000000000000828800000000000007a08282808800000000000007c3818180" }
-    ensures terms { all_terms books (years ∷ []) ≡ (0 ∷ 0 ∷ 0 ∷ 1 ∷ codes "u" ++ to_be_bytes w64 1952) ∷ (0 ∷ 0 ∷ 0 ∷ 1 ∷ codes "u" ++ to_be_bytes w64 1987) ∷ [] }
+    ensures titles { hex (field_terms_bytes (field_terms titles))
+        ≡ codes "00000000070000000000000084836f6c64818282837365618284848374686581828284" ++ codes "77696e64828483" }
+    ensures years { hex (field_terms_bytes (field_terms years))
+        ≡ codes "010000000300000000000000828800000000000007a08282808800000000000007c3818180" }
+    ensures terms { all_terms books (years ∷ []) ≡ (0 ∷ 0 ∷ 0 ∷ 1 ∷ codes "u" ++ to_be_bytes w64 1952)
+        ∷ (0 ∷ 0 ∷ 0 ∷ 1 ∷ codes "u" ++ to_be_bytes w64 1987) ∷ [] }
 {}
 
 /// The postings of a term are those that the documents have.
 pub fn postings_are_of_documents()
-    ensures sea { postings books raw_and_default (term_of_key books 0 (codes "sea")) (old_sea ∷ sea_wind ∷ wind ∷ []) ≡ posting 0 1 (2 ∷ []) ∷ posting 1 2 (0 ∷ 1 ∷ []) ∷ [] }
-    ensures year { postings books raw_and_default (term_of_key books 1 (to_be_bytes w64 1952)) (old_sea ∷ sea_wind ∷ wind ∷ []) ≡ posting 0 1 [] ∷ posting 2 1 [] ∷ [] }
-    ensures sea_bytes { postings_bytes with_freqs_and_positions (3 ∷ 3 ∷ 1 ∷ []) (0 ∷ 1 ∷ []) (1 ∷ 2 ∷ []) ≡ 0x80 ∷ 0x80 ∷ 0x80 ∷ 0x81 ∷ [] }
+    ensures sea { postings books raw_and_default (term_of_key books 0 (codes "sea")) (old_sea ∷ sea_wind ∷ wind ∷ [])
+        ≡ posting 0 1 (2 ∷ []) ∷ posting 1 2 (0 ∷ 1 ∷ []) ∷ [] }
+    ensures year { postings books raw_and_default (term_of_key books 1 (to_be_bytes w64 1952)) (old_sea ∷ sea_wind
+        ∷ wind ∷ []) ≡ posting 0 1 [] ∷ posting 2 1 [] ∷ [] }
+    ensures sea_bytes { postings_bytes with_freqs_and_positions (3 ∷ 3 ∷ 1 ∷ []) (0 ∷ 1 ∷ []) (1 ∷ 2 ∷ []) ≡ 0x80
+        ∷ 0x80 ∷ 0x80 ∷ 0x81 ∷ [] }
     ensures year_bytes { postings_bytes basic [] (0 ∷ 2 ∷ []) (1 ∷ 1 ∷ []) ≡ 0x80 ∷ 0x81 ∷ [] }
 {}

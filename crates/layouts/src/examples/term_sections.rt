@@ -9,16 +9,39 @@ ghost use Rattle.layouts.specs.TermSections.{entry_of_term, field_terms_bytes, p
 
 /// A term is its value bytes, and then its number of documents, of bytes of postings and of bytes of positions.
 pub fn terms_have_bytes()
-    ensures word { hex (entry_of_term (codes "sea", record { doc_freq = 2; postings_len = 4; positions_len = 4 })) ≡ codes "83736561828484" }
-    ensures number { hex (entry_of_term (to_be_bytes w64 1952, record { doc_freq = 2; postings_len = 2; positions_len = 0 })) ≡ codes "8800000000000007a0828280" }
-    ensures empty { hex (entry_of_term ([], record { doc_freq = 300; postings_len = 1; positions_len = 0 })) ≡ codes "802c828180" }
+    ensures word { hex (entry_of_term (codes "sea", record { doc_freq = 2; postings_len = 4; positions_len = 4 }))
+        ≡ codes "83736561828484" }
+    ensures number { hex (entry_of_term (
+      to_be_bytes w64 1952,
+      record
+          { doc_freq = 2; postings_len = 2; positions_len = 0 },
+    )) ≡ codes "8800000000000007a0828280" }
+    ensures empty { hex (entry_of_term ([], record { doc_freq = 300; postings_len = 1; positions_len = 0 }))
+        ≡ codes "802c828180" }
 {}
 
 /// Three documents: `the old sea` of 1952, `sea sea wind` of 1987 and `wind` of 1952.
 pub fn fields_have_bytes()
-    ensures title { hex (field_terms_bytes (record { field = 0; num_tokens = 7; terms = (codes "old", record { doc_freq = 1; postings_len = 2; positions_len = 2 }) ∷ (codes "sea", record { doc_freq = 2; postings_len = 4; positions_len = 4 }) ∷ (codes "the", record { doc_freq = 1; postings_len = 2; positions_len = 2 }) ∷ (codes "wind", record { doc_freq = 2; postings_len = 4; positions_len = 3 }) ∷ [] })) ≡ codes "00000000070000000000000084836f6c64818282837365618284848374686581828284" ++ codes "77696e64828483" }
-    ensures year { hex (field_terms_bytes (record { field = 1; num_tokens = 3; terms = (to_be_bytes w64 1952, record { doc_freq = 2; postings_len = 2; positions_len = 0 }) ∷ (to_be_bytes w64 1987, record { doc_freq = 1; postings_len = 1; positions_len = 0 }) ∷ [] })) ≡ codes "010000000300000000000000828800000000000007a08282808800000000000007c3818180" }
-    ensures none { hex (terms_bytes (record { field = 2; num_tokens = 0; terms = [] } ∷ [])) ≡ codes "0002000000000000000000000080" }
+    ensures title { hex (field_terms_bytes (record {
+      field = 0;
+      num_tokens = 7;
+      terms =
+          (codes "old", record { doc_freq = 1; postings_len = 2; positions_len = 2 })
+          ∷ (codes "sea", record { doc_freq = 2; postings_len = 4; positions_len = 4 })
+          ∷ (codes "the", record { doc_freq = 1; postings_len = 2; positions_len = 2 })
+          ∷ (codes "wind", record { doc_freq = 2; postings_len = 4; positions_len = 3 }) ∷ [];
+    }))
+        ≡ codes "00000000070000000000000084836f6c64818282837365618284848374686581828284" ++ codes "77696e64828483" }
+    ensures year { hex (field_terms_bytes (record {
+      field = 1;
+      num_tokens = 3;
+      terms =
+          (to_be_bytes w64 1952, record { doc_freq = 2; postings_len = 2; positions_len = 0 })
+          ∷ (to_be_bytes w64 1987, record { doc_freq = 1; postings_len = 1; positions_len = 0 }) ∷ [];
+    }))
+        ≡ codes "010000000300000000000000828800000000000007a08282808800000000000007c3818180" }
+    ensures none { hex (terms_bytes (record { field = 2; num_tokens = 0; terms = [] } ∷ []))
+        ≡ codes "0002000000000000000000000080" }
     ensures no_field { terms_bytes [] ≡ 0 ∷ [] }
 {}
 

@@ -11,17 +11,21 @@ ghost use Rattle.segment_definitions.specs.SegmentFiles.{AreBodies, AreMade, IsG
 /// A file of three records: nothing, a group of one document, and that group without it. After the closed gate there
 /// may be any bytes.
 pub fn a_file_leaves_groups()
-    ensures lists { IsRecordFile [] default_settings raw_and_default (records (bare_body ∷ bare_bodies) ++ 0 ∷ 165 ∷ []) ([] ∷ (([] ∷ []) ∷ []) ∷ ([] ∷ []) ∷ []) }
+    ensures lists { IsRecordFile [] default_settings raw_and_default (records (bare_body ∷ bare_bodies) ++ 0 ∷ 165
+        ∷ []) ([] ∷ (([] ∷ []) ∷ []) ∷ ([] ∷ []) ∷ []) }
     ensures first { IsRecordFile [] default_settings raw_and_default (records (bare_body ∷ []) ++ 0 ∷ []) ([] ∷ []) }
-    ensures last { LeavesGroups [] default_settings raw_and_default (records (bare_body ∷ bare_bodies) ++ 0 ∷ 165 ∷ []) ([] ∷ []) }
-    ensures another { ¬ LeavesGroups [] default_settings raw_and_default (records (bare_body ∷ bare_bodies) ++ 0 ∷ 165 ∷ []) (([] ∷ []) ∷ []) }
+    ensures last { LeavesGroups [] default_settings raw_and_default (records (bare_body ∷ bare_bodies) ++ 0 ∷ 165
+        ∷ []) ([] ∷ []) }
+    ensures another { ¬ LeavesGroups [] default_settings raw_and_default (records (bare_body ∷ bare_bodies) ++ 0 ∷ 165
+        ∷ []) (([] ∷ []) ∷ []) }
 {}
 
 /// A kept segment is one of the list just before, and not of an earlier one.
 pub fn kept_segments_are_of_the_list_before()
     ensures left { AreMade HasByteEach [] replacing_bodies (one_byte 10 ∷ one_byte 11 ∷ one_byte 11 ∷ []) }
     ensures earlier { ¬ AreMade HasByteEach [] replacing_bodies (one_byte 10 ∷ one_byte 11 ∷ one_byte 10 ∷ []) }
-    ensures nothing_before { (lists : List (List Member)) → ¬ AreMade HasByteEach [] (segments_body (kept 0 ∷ []) ((true ∷ []) ∷ []) ∷ []) lists }
+    ensures nothing_before { (lists : List (List Member))
+        → ¬ AreMade HasByteEach [] (segments_body (kept 0 ∷ []) ((true ∷ []) ∷ []) ∷ []) lists }
     ensures one_each { ¬ AreMade HasByteEach [] replacing_bodies (one_byte 10 ∷ one_byte 11 ∷ []) }
 {}
 
@@ -34,7 +38,8 @@ pub fn groups_are_of_the_living()
 
 /// A body that lists documents is damage, and so is a record that is cut.
 pub fn other_bodies_are_damaged()
-    ensures byte_3 { IsDamaged TakesSegments (records (bare_body ∷ []) ++ 165 ∷ (sized_body (3 ∷ replicate 8 0) ++ 0 ∷ [])) 37 }
+    ensures byte_3 { IsDamaged TakesSegments (records (bare_body ∷ []) ++ 165
+        ∷ (sized_body (3 ∷ replicate 8 0) ++ 0 ∷ [])) 37 }
     ensures cut { IsDamaged TakesSegments (records (bare_body ∷ []) ++ 165 ∷ []) 37 }
     ensures whole { (place : ℕ) → ¬ IsDamaged TakesSegments (records (bare_body ∷ bare_bodies) ++ 0 ∷ 165 ∷ []) place }
 {}
