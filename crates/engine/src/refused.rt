@@ -5,6 +5,7 @@ ghost use Rattle.std.specs.Prelude.{◌≡◌};
 use definitions::Fault;
 
 /// The error of an index that isn't made or opened, with what was handed in.
+#[derive(Drop)]
 pub struct Refused<D, A> {
     /// The error.
     pub fault: Fault,

@@ -14,8 +14,8 @@ ghost use Rattle.serde_json.specs.View.{items_view, view};
 
 use crate::json_booleans::{push_clauses, read_minimum};
 use crate::json_phrases::{read_phrase_prefix_query, read_phrase_query};
-use crate::json_terms::read_term_query;
 use crate::query_forms::{Form, form_at};
+use crate::term_queries::read_term_query;
 use definitions::Fault;
 use query_trees::{
     AllQuery, AnyQuery, BoostQuery, ConstScoreQuery, DisjunctionMaxQuery, EmptyQuery, Occur,

@@ -6,10 +6,10 @@ mod checks;
 mod json_booleans;
 mod json_phrases;
 mod json_queries;
-mod json_terms;
 mod node_tests;
 mod query_forms;
 mod refusal_laws;
+mod term_queries;
 mod term_tests;
 
 pub use checks::check_query;

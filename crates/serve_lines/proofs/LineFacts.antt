@@ -9,7 +9,7 @@ use Rattle.std.proofs.KnownBytes.{Consumes-trans}
 use Rattle.definitions.specs.Lines.{max_line_len, lines_of}
 use Rattle.std.specs.List.{onto_first}
 use Rattle.definitions.specs.declared.fault.Fault.TheVariants as faults
-use Rattle.serve_lines.specs.declared.line.LineBuffer.{LineBuffer}
+use Rattle.serve_lines.specs.declared.line_buffer.LineBuffer.{LineBuffer}
 use Rattle.serve_lines.specs.Reading.{HasNoNewline, Holds, TakesLine}
 use Rattle.definitions.specs.Replying.{line_refusal}
 

@@ -2,9 +2,9 @@
 use Rattle.std.specs.Prelude.{◌≡◌, ◌≢◌, ℕ, ◌<◌, Bool, true, false, Option, None, Some, List, [], ◌∷◌, ◌++◌, length, All}
 use Rattle.std.specs.Io.KnownBytes.{Consumes, IsAtEnd, Keeps}
 use Rattle.definitions.specs.Lines.{max_line_len, lines_of}
-use Rattle.serve_lines.specs.declared.line.Keeping.{Keeping}
-use Rattle.serve_lines.specs.declared.line.Keeping.TheVariants as keeping
-use Rattle.serve_lines.specs.declared.line.LineBuffer.{LineBuffer}
+use Rattle.serve_lines.specs.declared.line_buffer.Keeping.{Keeping}
+use Rattle.serve_lines.specs.declared.line_buffer.Keeping.TheVariants as keeping
+use Rattle.serve_lines.specs.declared.line_buffer.LineBuffer.{LineBuffer}
 use Rattle.serve_lines.specs.declared.line_reader.Chunk.{Chunk}
 use Rattle.serve_lines.specs.declared.line_reader.Chunk.TheVariants as chunk
 

@@ -2,7 +2,7 @@
 //! written.
 #![tactic(auto)]
 
-mod line;
+mod line_buffer;
 mod line_reader;
 mod line_run;
 mod service;

@@ -6,7 +6,7 @@ ghost use Rattle.common.specs.declared.run_fault.RunFault.TheVariants as run_fau
 ghost use Rattle.serve_lines.specs.Reading.{MovesChunk, TakesLine};
 
 use crate::RunFault;
-use crate::line::LineBuffer;
+use crate::line_buffer::LineBuffer;
 use memchr::memchr;
 use std::io;
 use std::io::{BufRead, ErrorKind, Write};

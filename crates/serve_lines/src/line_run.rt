@@ -8,7 +8,7 @@ ghost use Rattle.serve_lines.specs.Reading.{Holds};
 ghost use Rattle.definitions.specs.Replying.{output_line, Writes};
 ghost use Rattle.serve_lines.specs.Serving.{ServesAll, ServesLine, WritesAnswer};
 
-use crate::line::LineBuffer;
+use crate::line_buffer::LineBuffer;
 use crate::line_reader::{flush, read_line};
 use crate::{RunFault, Service};
 use std::alloc::Global;

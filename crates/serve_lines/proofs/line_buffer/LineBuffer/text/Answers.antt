@@ -3,7 +3,7 @@ use Rattle.std.specs.Str.{IsUtf8}
 use Rattle.definitions.specs.Lines.{max_line_len}
 use Rattle.serve_lines.specs.Reading.{IsKept}
 use Rattle.serve_lines.proofs.LineFacts.{line_refusal-text, line_refusal-bytes}
-use Rattle.serve_lines.proofs.line.LineBuffer.text.Goals as goal
+use Rattle.serve_lines.proofs.line_buffer.LineBuffer.text.Goals as goal
 
 pub returns-in-Ok-clause-ok : goal.returns-in-Ok-clause-ok
 returns-in-Ok-clause-ok c seen held =
