@@ -1,4 +1,4 @@
-//! The library as a program calls it: README shows this function.
+//! The library as a program calls it.
 
 use common::{MemoryDevice, RawAndDefault, Score};
 use definitions::Fault;
