@@ -37,6 +37,8 @@ pub fn run<R: BufRead, W: Write, D: Device + Drop, A: Analyzer + Drop>(
 }
 
 /// Answers the lines of `reader` one by one, until it ends.
+/// The kind of its fault and the 2^48 looks at the reader are in clauses of private functions of `serve_lines` and in
+/// tests: an `Err` may come from any reader, and no relation says which side failed.
 pub fn run_session<R: BufRead, W: Write, D: Device + Drop, A: Analyzer + Drop>(
     reader: &mut R,
     writer: &mut W,

@@ -26,6 +26,7 @@ use std::alloc::{AllocError, Global};
 use term_scorer::Similarity;
 
 /// The documents where a phrase occurs, each with its places, their number and its score.
+/// Without a weight each score is 1, and the number is still reported.
 #[derive(Drop)]
 pub struct PhraseScorer<'a, S: Positioned> {
     intersection_docset: Intersection<S>,

@@ -47,6 +47,7 @@ fn first_behind(table: &[Cost], passed: usize, position: u32) -> usize
 }
 
 /// Returns the least cost of reaching `position` from a neighbour in `table`; entries from `behind` on are after it.
+/// It is cut at `most`, the slop plus 1, so no sum passes 64 bits, whatever the number of terms.
 #[inline]
 fn cost_at(table: &[Cost], behind: usize, position: u32, most: u64) -> u64
     requires most { most ≤ 4294967296 }

@@ -31,6 +31,7 @@ pub(crate) fn read_positions<P: Postings>(postings: &mut P, output: &mut Vec<u32
 }
 
 /// Counts those of `places` at which, shifted by `moved`, `suffix` occurs in `doc`; none if it hasn't `doc`.
+/// The position of the whole terms plus `moved` is compared, so the positions of the suffix are left as they are read.
 #[inline]
 fn count_suffix<P: Postings>(
     suffix: &mut P,

@@ -27,6 +27,9 @@ pub(crate) const MANY_PLACES: usize = 16384;
 
 /// Rows that suffixes follow, the index of the current one, and how many documents to take next; guesses for a search
 /// of rows, the places of all rows, and buffers for those of one row and for the positions of one suffix.
+/// A window has at most 128 documents at first, later up to 4096, and 16 after a seek past its rows: each suffix is
+/// walked over all in a row, since thousands that move for each document would mostly be looked at for nothing.
+/// Guesses are checked; rows closer together than guessed are passed by halves.
 #[derive(Drop)]
 pub(crate) struct Window {
     pub(crate) rows: Vec<Row>,

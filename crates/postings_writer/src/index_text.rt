@@ -49,6 +49,7 @@ fn below_limit(n: usize) -> Result<u32, Fault>
 #[derive(Clone, Copy, Debug)]
 pub struct IndexedText {
     /// The number of its tokens that were kept, or 4294967295 if they are more.
+    /// The cap changes no length id: from 2013265944 on each is 255.
     pub num_tokens: u32,
     /// The start of the next text, or 2147483648 if that is less.
     pub next_start: u32,

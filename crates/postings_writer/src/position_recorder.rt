@@ -57,6 +57,7 @@ fn take_number(bytes: &[u8]) -> (u32, &[u8])
 }
 
 /// The documents of a term, and its positions in each.
+/// Those of a document are sorted when the term is written, so they may be recorded in any order.
 #[derive(Drop)]
 pub struct TfAndPositionRecorder {
     bytes: Vec<u8>,

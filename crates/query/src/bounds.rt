@@ -35,6 +35,8 @@ pub(crate) fn natural(factor: Score) -> u64
 }
 
 /// Returns a bound of the scores of `query` without a boost; `None` if it is above `MAX_SCORE`.
+/// It leaves out the boosts above `query`; `times` multiplies by their product, in 128 bits. Each node is checked by
+/// itself, with its own bound, so it is computed again for each node above, of which a path has at most 64.
 #[cycle(bound)]
 #[tactic(auto, using(crate::proofs::ScaledBounds::within_range))]
 pub(crate) fn bound<S: Statistics>(statistics: &S, query: &AnyQuery) -> Option<u64>

@@ -16,6 +16,8 @@ use std::marker::Model;
 use terms::{Field, Term};
 
 /// A query for documents that hold terms of one field at the distances of their offsets.
+/// Only the order of the offsets is kept, equal ones as they were given, also of a phrase in JSON: no match depends on
+/// another order.
 #[derive(Drop)]
 pub struct PhraseQuery {
     phrase_terms: Vec<(usize, Term)>,

@@ -161,6 +161,7 @@ impl<S: Scorer + Drop, C: ScoreCombiner> BufferedUnionScorer<S, C> {
 
 impl<S: Scorer + Drop, C: ScoreCombiner> BufferedUnionScorer<S, C> {
     /// Converts the remaining documents, each with its score, to a list.
+    /// Takes the union by value: a walk over a borrowed one would store the state of the cursor for each document.
     pub fn into_list(self, alloc: Global) -> Result<ListScorer, AllocError>
         ensures { IfOk result (λ list. pairs_of (⟦<ListScorer as DocSet>⟧.entries list)
             ≡ pairs_of (⟦<BufferedUnionScorer<S, C> as DocSet>⟧.entries self)) }

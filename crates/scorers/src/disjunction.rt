@@ -13,6 +13,8 @@ use common::{DocId, Score, TERMINATED};
 use docsets::{DocSet, ScoreCombiner, Scorer, combine_at, lead};
 
 /// The documents that at least `minimum` scorers have, with what a combiner makes of their scores.
+/// There is no heap: the members are walked once for each document. A member alone on the least document moves to the
+/// least of the others, until two are on one.
 #[derive(Drop)]
 pub struct Disjunction<S: Scorer, C: ScoreCombiner> {
     docsets: Vec<S>,

@@ -11,6 +11,7 @@ use docsets::{DocSet, Scorer};
 use std::cmp::Ordering;
 
 /// A scorer that keeps its current document. Of two, the one whose document is less is the greater.
+/// So a heap of the greatest would have the least document on top. As a scorer it may be a member of a union.
 #[derive(Drop)]
 pub struct ScorerWrapper<S: Scorer> {
     scorer: S,

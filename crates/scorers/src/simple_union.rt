@@ -18,6 +18,8 @@ use std::alloc::{AllocError, Global};
 
 /// The documents of several cursors, each once, with their scores added up. It is the union to choose if seeks pass
 /// most documents.
+/// Positions are gathered in buffers of its own and counted before the output is touched, since how a member appends
+/// isn't known.
 #[derive(Drop)]
 pub struct SimpleUnion<S: DocSet> {
     docsets: Vec<S>,
@@ -49,6 +51,7 @@ impl<S: Postings + Drop> SimpleUnion<S> {
 
 impl<S: DocSet> SimpleUnion<S> {
     /// Returns the union of `docsets`, without counts and positions.
+    /// Allocates nothing; reports counts of 0 and no positions.
     pub fn without_positions(docsets: Vec<S>) -> SimpleUnion<S>
         requires { greatest_sum (map S.entries docsets.items) ≤ max_score }
         ensures { ⟦<SimpleUnion<S> as DocSet>⟧.entries result

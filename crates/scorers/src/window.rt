@@ -75,6 +75,8 @@ pub(crate) fn clear_below<C: ScoreCombiner>(
 }
 
 /// Moves the documents of `scorer` below `horizon` into the window.
+/// The bit and the slot of a document are cleared when it is passed, so a posting is added without a test of whether
+/// the document is new: a branch, which would be mispredicted on dense lists.
 pub(crate) fn collect<S: Scorer, C: ScoreCombiner>(
     scorer: &mut S,
     start: DocId,

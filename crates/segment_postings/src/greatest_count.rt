@@ -7,6 +7,7 @@ use skips::{BlockInfo, SkipReader};
 
 /// Returns an upper bound of the counts from the block of `skips` on: for full blocks the greatest counts in their
 /// entries or, if an entry has none, the sums of their counts; for the rest the number of positions that are left.
+/// It may be above the greatest count, never above the number of positions of the term.
 pub(crate) fn greatest_count(skips: SkipReader<'_>, num_positions: u128) -> u32
     ensures above { (counts : List ℕ) → TellCounts num_positions skips.entry counts
         → (i : ℕ) → slice_index counts i ≤ result }

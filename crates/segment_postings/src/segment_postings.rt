@@ -20,6 +20,8 @@ use skips::Recorded;
 use std::alloc::AllocError;
 
 /// A cursor over the documents that have a term, borrowed from their bytes.
+/// The contracts of `advance`, `seek` and `seek_danger` say which block and index they reached; that of `fill_buffer`
+/// only which documents remain, as a search that counts blocks has no use for it.
 #[derive(Drop)]
 pub struct SegmentPostings<'a> {
     blocks: BlockSegmentPostings<'a>,

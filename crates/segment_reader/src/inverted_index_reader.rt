@@ -41,6 +41,8 @@ use terms::{Field, Term, Type};
 
 /// The terms of all indexed fields of a segment, with their postings. The sections are shared, and no part of
 /// them is copied.
+/// Its `Contents` are known to whoever opened it: for sections from the writer, the fields of the documents; for other
+/// bytes, only that there are some.
 #[derive(Drop)]
 pub struct InvertedIndexReader {
     terms: Bytes,
@@ -275,6 +277,7 @@ impl InvertedIndexReader {
 
     /// Returns the postings of the term of `field` with these value bytes, whose info is known, with as much as
     /// `option` asks for. The first block is decoded.
+    /// In a JSON field the value bytes say whether counts are recorded.
     pub fn read_postings_from_terminfo(
         &self,
         field: Field,

@@ -11,6 +11,7 @@ use std::marker::Model;
 
 /// Terms by their value bytes, in ascending order, each with where its postings are. The range begins before the first
 /// of them, and `advance` moves it to the next.
+/// What memory it takes is taken when it is made, so no move is refused.
 #[derive(Drop)]
 pub struct TermRange<'a> {
     section: &'a [u8],

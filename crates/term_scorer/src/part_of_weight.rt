@@ -5,6 +5,7 @@ ghost use Rattle.definitions.specs.Scoring.{part};
 
 /// Returns the part of `weight` that `count` scores with `norm`. Divides in 128 bits if the weight times the count
 /// doesn't fit in 64.
+/// The compiler divides in 32 bits where both fit. No table is filled when a term is opened.
 #[inline]
 pub(crate) fn part_of_weight(weight: u64, count: u32, norm: u32) -> u64
     ensures { result ≡ part weight count norm }

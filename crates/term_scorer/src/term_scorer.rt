@@ -19,6 +19,8 @@ use segment_postings::SegmentPostings;
 use std::alloc::{AllocError, Global};
 
 /// The documents of a term, each with the score of its count and its length.
+/// The postings, some two kilobytes, are held by value and moved once or twice: for a box, memory would be taken for
+/// each term, which may be refused. The norms are borrowed, so the similarity is four words.
 #[derive(Drop)]
 pub struct TermScorer<'a> {
     postings: SegmentPostings<'a>,
