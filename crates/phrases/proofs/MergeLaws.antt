@@ -1,5 +1,6 @@
 -- Laws of positions that two terms share.
 use Rattle.std.proofs.Common.{[], ◌++◌, ◌+◌, ◌<◌, ◌==◌, ◌||◌, ◌∙◌, ◌∷◌, ◌≡◌, ◌≢◌, ◌≤◌, Bool, List, ap, arith, drop, false, filter, get_or, if◌then◌else◌, le-leb, length, nat_le, nat_lt, refl, set, subst, sym, take, true, ℕ}
+use mir.Val.{bool_byte as from_bool}
 use Rattle.std.proofs.lemmas.Bool.{lt-leb, true≢false}
 use Rattle.std.proofs.lemmas.Bool.Decides.{nat_tests}
 use Rattle.std.proofs.lemmas.List.{append_assoc, drop-set-lt, drop_all, drop_more, set-get_or, take-set, take_more_set}

@@ -6,8 +6,7 @@ use Rattle.docsets.specs.EntryLaws.{Rising-lower}
 use Rattle.docsets.proofs.EntryLaws.{from-in, from-out, most-drop, most-from}
 use Rattle.definitions.proofs.Lists.{by_order as by_place}
 use Rattle.docsets.proofs.MemberLaws.{entries_at-kept}
-use Rattle.phrases.specs.PrefixEntries.{continued_by, prefixed}
-use Rattle.phrases.specs.PrefixEntry.{counted, follows, most_suffix_positions}
+use Rattle.phrases.specs.PrefixEntries.{continued_by, counted, follows, most_suffix_positions, prefixed}
 
 prefixed-none : (moved : ℕ) (ess : List (List Entry)) (e : Entry) (es : List Entry) → follows moved ess e ≡ 0 → prefixed moved ess (e ∷ es) ≡ prefixed moved ess es
 prefixed-none moved ess e es none = ap (λ n. if nat_lt 0 n then counted e n ∷ prefixed moved ess es else prefixed moved ess es) none

@@ -6,8 +6,7 @@ use Rattle.docsets.specs.Entries.{AreSingle, Entry, first, first_positions, most
 use Rattle.definitions.specs.Postings.{terminated}
 use Rattle.intersections.specs.Columns.{HaveOneColumn}
 use Rattle.phrases.specs.Places.{Ascends}
-use Rattle.phrases.specs.PrefixEntries.{continued, continued_by}
-use Rattle.phrases.specs.PrefixEntry.{most_suffix_positions}
+use Rattle.phrases.specs.PrefixEntries.{continued, continued_by, most_suffix_positions}
 use Rattle.phrases.specs.MergeLaws.{ascends-from}
 
 -- the positions on which a cursor of one term stands ascend

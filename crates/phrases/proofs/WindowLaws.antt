@@ -11,7 +11,7 @@ use Rattle.docsets.specs.Members.{entries_at}
 use Rattle.phrases.specs.Places.{Ascends, Rises}
 use Rattle.phrases.specs.PrefixEntries.{continued_by, prefixed}
 use Rattle.phrases.proofs.PrefixEntryLaws.{Rising-first, most-rest, prefixed-cut}
-use Rattle.phrases.specs.PrefixEntry.{most_suffix_positions}
+use Rattle.phrases.specs.PrefixEntries.{most_suffix_positions}
 use Rattle.phrases.specs.PrefixWindows.{IsFollowing}
 use Rattle.phrases.specs.Rows.{AreRows, IsRow, added, docs_of, end_of, most_count, places_in, row_entries, row_entry, uncounted}
 use Rattle.phrases.specs.Windows.{IsWindow, left_in}

@@ -10,7 +10,6 @@ pub mod Windows
 pub mod PrefixWindows
 pub mod Standings
 pub mod Blocks
-pub mod PrefixEntry
 -- Laws that clauses and proofs of types must name.
 pub mod MergeLaws
 pub mod PlaceLaws

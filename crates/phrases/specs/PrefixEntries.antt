@@ -1,6 +1,6 @@
 -- Entries of phrase prefixes: documents where terms follow a phrase.
-use Rattle.std.specs.Prelude.{[], ◌+◌, ◌∷◌, List, filter, if◌then◌else◌, length, nat_lt, sum_by, ℕ}
-use Rattle.docsets.specs.Entries.{Entry, single}
+use Rattle.std.specs.Prelude.{[], ◌+◌, ◌∷◌, List, filter, if◌then◌else◌, length, max, nat_lt, sum_by, ℕ}
+use Rattle.docsets.specs.Entries.{Entry, most_positions, single}
 use Rattle.docsets.specs.Members.{entries_at}
 use Rattle.phrases.specs.Places.{has, places_of}
 
@@ -21,3 +21,16 @@ prefixed moved ess (e ∷ es) = let n = continued_by moved (single e.positions) 
 abbrev pub one_term : ℕ → List Entry → List Entry
 one_term score [] = []
 one_term score (e ∷ es) = let places = places_of 0 (single e.positions ∷ []) in record { doc = e.doc; score = score; count = length places; positions = places ∷ [] } ∷ one_term score es
+
+-- how often suffixes follow an entry
+abbrev pub follows : ℕ → List (List Entry) → Entry → ℕ
+follows moved ess e = continued_by moved (single e.positions) (entries_at e.doc ess)
+
+-- an entry with another count
+abbrev pub counted : Entry → ℕ → Entry
+counted e n = record e { count = n }
+
+-- the greatest number of positions that an entry of some list has
+abbrev pub most_suffix_positions : List (List Entry) → ℕ
+most_suffix_positions [] = 0
+most_suffix_positions (es ∷ ess) = max (most_positions es) (most_suffix_positions ess)

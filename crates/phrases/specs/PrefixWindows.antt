@@ -2,7 +2,7 @@
 use Rattle.std.specs.Prelude.{◌<◌, ◌≤◌, List, ℕ}
 use Rattle.docsets.specs.Entries.{Entry, first, most_positions}
 use Rattle.definitions.specs.Postings.{terminated}
-use Rattle.phrases.specs.PrefixEntry.{most_suffix_positions}
+use Rattle.phrases.specs.PrefixEntries.{most_suffix_positions}
 use Rattle.phrases.specs.Windows.{IsWindow, left_in}
 use Rattle.phrases.specs.declared.window.Window.{Window}
 

@@ -4,8 +4,7 @@ ghost use Rattle.std.specs.Prelude.{◌++◌, ◌<◌, ◌≡◌, ◌≤◌, IfO
 ghost use Rattle.docsets.specs.Entries.{Rising, first, first_count, most_positions};
 ghost use Rattle.docsets.specs.EntryLaws.{Rising-prop};
 ghost use Rattle.definitions.specs.Postings.{terminated};
-ghost use Rattle.phrases.specs.PrefixEntry.{most_suffix_positions};
-ghost use Rattle.phrases.specs.PrefixEntries.{prefixed};
+ghost use Rattle.phrases.specs.PrefixEntries.{most_suffix_positions, prefixed};
 ghost use Rattle.phrases.specs.PrefixWindows.{IsFollowing};
 ghost use Rattle.phrases.specs.PrefixWindowsLaws.{IsFollowing-prop};
 ghost use Rattle.phrases.specs.Windows.{left_in};

@@ -3,8 +3,7 @@
 ghost use Rattle.std.specs.Prelude.{◌++◌, ◌<◌, ◌≡◌, ◌≤◌, length, map, ℕ};
 ghost use Rattle.docsets.specs.Entries.{IsRest, Rising, first, most_positions};
 ghost use Rattle.definitions.specs.Postings.{terminated};
-ghost use Rattle.phrases.specs.PrefixEntries.{prefixed};
-ghost use Rattle.phrases.specs.PrefixEntry.{most_suffix_positions};
+ghost use Rattle.phrases.specs.PrefixEntries.{most_suffix_positions, prefixed};
 ghost use Rattle.phrases.specs.Windows.{IsWindow, left_in};
 
 use crate::next_rows::{keep_followed, take_rows};

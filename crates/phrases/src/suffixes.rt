@@ -5,8 +5,7 @@ ghost use Rattle.docsets.specs.Entries.{first, first_positions, from, most_posit
 ghost use Rattle.definitions.specs.Postings.{terminated};
 ghost use Rattle.docsets.specs.Members.{entries_of};
 ghost use Rattle.phrases.specs.Places.{Ascends, Rises};
-ghost use Rattle.phrases.specs.PrefixEntries.{continued_by};
-ghost use Rattle.phrases.specs.PrefixEntry.{most_suffix_positions};
+ghost use Rattle.phrases.specs.PrefixEntries.{continued_by, most_suffix_positions};
 ghost use Rattle.phrases.specs.Rows.{AreRows, IsRow, added, added_one, docs_of, end_of, most_count};
 
 use crate::row::Row;

@@ -1,5 +1,5 @@
 use Rattle.std.proofs.Common.{map, take, ◌≤◌}
-use Rattle.phrases.specs.PrefixEntry.{most_suffix_positions}
+use Rattle.phrases.specs.PrefixEntries.{most_suffix_positions}
 use Rattle.phrases.proofs.phrase_prefix_scorer.most_of_suffixes.Given as goal
 
 -- no document so far has more

@@ -1,7 +1,7 @@
 use Rattle.std.proofs.Common.{ap, arith, filter, map, nat_lt, ◌++◌, ◌∙◌}
 use Rattle.phrases.specs.PrefixEntries.{prefixed}
 use Rattle.phrases.proofs.PrefixEntryLaws.{most_suffix-cut}
-use Rattle.phrases.specs.PrefixEntry.{most_suffix_positions}
+use Rattle.phrases.specs.PrefixEntries.{most_suffix_positions}
 use Rattle.phrases.specs.Rows.{added, docs_of, end_of, row_entries}
 use Rattle.phrases.proofs.WindowLaws.{IsTaken, taken-later, taken-rises, window-same}
 use Rattle.phrases.proofs.suffix_windows.fill_window.Given.{Over}

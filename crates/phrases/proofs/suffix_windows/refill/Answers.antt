@@ -4,7 +4,7 @@ use Rattle.docsets.proofs.EntryLaws.{none_left}
 use Rattle.phrases.proofs.PhraseEntryLaws.{IsRest-on}
 use Rattle.phrases.specs.PrefixEntries.{prefixed}
 use Rattle.phrases.proofs.PrefixEntryLaws.{most-rest}
-use Rattle.phrases.specs.PrefixEntry.{most_suffix_positions}
+use Rattle.phrases.specs.PrefixEntries.{most_suffix_positions}
 use Rattle.phrases.specs.Windows.{left_in}
 use Rattle.phrases.proofs.WindowLaws.{rising-front, window-fewer}
 use Rattle.phrases.proofs.suffix_windows.refill.Goals as goal

@@ -1,8 +1,7 @@
 use Rattle.std.proofs.Common.{length, map, ◌++◌, ◌-◌, ◌≡◌, ◌≤◌, ℕ}
 use Rattle.docsets.specs.Entries.{IsRest, first}
 use Rattle.definitions.specs.Postings.{terminated}
-use Rattle.phrases.specs.PrefixEntries.{prefixed}
-use Rattle.phrases.specs.PrefixEntry.{most_suffix_positions}
+use Rattle.phrases.specs.PrefixEntries.{most_suffix_positions, prefixed}
 use Rattle.phrases.specs.Windows.{IsWindow, left_in}
 use Rattle.phrases.proofs.suffix_windows.refill.Given as goal
 

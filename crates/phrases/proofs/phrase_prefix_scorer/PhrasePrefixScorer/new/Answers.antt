@@ -2,7 +2,7 @@ use Rattle.std.proofs.Common.{List, length, map, subst, sym, ◌++◌}
 use Rattle.docsets.specs.Entries.{Entry, Rising, most_positions}
 use Rattle.phrases.specs.PrefixEntries.{prefixed}
 use Rattle.phrases.proofs.PrefixEntryLaws.{Rising-prefixed}
-use Rattle.phrases.specs.PrefixEntry.{most_suffix_positions}
+use Rattle.phrases.specs.PrefixEntries.{most_suffix_positions}
 use Rattle.phrases.specs.Windows.{IsWindow, left_in}
 use Rattle.phrases.proofs.WindowLaws.{refilled, window-fewer}
 use Rattle.phrases.proofs.phrase_prefix_scorer.PhrasePrefixScorer.new.Given.{Over}

@@ -1,8 +1,7 @@
 use Rattle.std.proofs.Common.{ap, drop, length, map, subst, sym, ◌++◌, ◌∙◌, ◌≡◌}
 use Rattle.docsets.specs.Entries.{Rising, most_positions}
 use Rattle.docsets.proofs.EntryLaws.{Rising-drop}
-use Rattle.phrases.specs.PrefixEntries.{prefixed}
-use Rattle.phrases.specs.PrefixEntry.{most_suffix_positions}
+use Rattle.phrases.specs.PrefixEntries.{most_suffix_positions, prefixed}
 use Rattle.phrases.specs.Windows.{left_in}
 use Rattle.phrases.proofs.WindowLaws.{drop-both, prefix-ends, refilled}
 use Rattle.phrases.proofs.phrase_prefix_scorer.PhrasePrefixScorerDocSet.advance.Given.{Over}

@@ -5,7 +5,7 @@ use Rattle.docsets.specs.EntryLaws.{Rising-from}
 use Rattle.docsets.proofs.ScoredEntryLaws.{IsRest-along}
 use Rattle.phrases.specs.PrefixEntries.{prefixed}
 use Rattle.phrases.proofs.PrefixEntryLaws.{from-prefixed, most-rest}
-use Rattle.phrases.specs.PrefixEntry.{most_suffix_positions}
+use Rattle.phrases.specs.PrefixEntries.{most_suffix_positions}
 use Rattle.phrases.specs.Windows.{IsWindow, left_in}
 use Rattle.phrases.proofs.WindowLaws.{from-append, refilled, rising-front, window-fewer}
 use Rattle.phrases.proofs.phrase_prefix_scorer.PhrasePrefixScorerDocSet.seek.Given.{Over}
