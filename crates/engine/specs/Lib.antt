@@ -2,3 +2,4 @@
 pub mod Files
 pub mod Indexes
 pub mod Merges
+pub mod Writes

@@ -1,12 +1,13 @@
 //! The commit of an index.
 
-ghost use Rattle.std.specs.Prelude.{◌<◌, ◌^◌, ◌≡◌, ◌≢◌, IfErr, IsErrOf, IsTrue, Ok, OnOk, Some};
+ghost use Rattle.std.specs.Prelude.{◌<◌, ◌^◌, ◌≡◌, ◌≢◌, IfErr, IsErrOf, Ok, OnOk};
 ghost use Rattle.definitions.specs.Calls as calls;
 ghost use Rattle.definitions.specs.Disk.{HasCause};
 ghost use Rattle.definitions.specs.declared.fault.Fault.TheVariants as faults;
 ghost use Rattle.index_file.specs.Outcomes.{CountsNoOther};
 ghost use Rattle.index_state.specs.Standing.{status_of};
-ghost use Rattle.engine.specs.Indexes.{AppendsRecord, CommitPasses, CrashLeavesEither, IndexRests, IndexStands, KeepsFile, KeepsMaking, device_of, gate_of};
+ghost use Rattle.engine.specs.Indexes.{CommitPasses, IndexStands, KeepsFile, KeepsMaking, device_of, gate_of};
+ghost use Rattle.engine.specs.Writes.{Writes};
 
 use crate::index::Index;
 use common::{Analyzer, Device};
@@ -19,12 +20,9 @@ impl<D: Device + Drop, A: Analyzer + Drop> Index<D, A> {
     /// alive. `Limit`, like out of memory, closes the writer; after `Device` the index is closed, and the file may have
     /// either list.
     pub fn commit(&mut self) -> Result<(), Fault>
-        ensures left { (c : calls.Configuration) (x : calls.Index) → IndexStands A.analyze self.old c x
-            → (y : calls.Index) × calls.Leaves c x calls.commit_pending result y
-            × IndexStands A.analyze self.new c y }
-        ensures exact { (c : calls.Configuration) (x : calls.Index) → IndexStands A.analyze self.old c x
-            → IfErr result (λ fault. fault ≢ faults.OutOfMemory → fault ≢ faults.Device → fault ≢ faults.Limit
-            → calls.call_fault c x calls.commit_pending ≡ Some fault) }
+        ensures writes { (c : calls.Configuration) (x : calls.Index) → IndexStands A.analyze self.old c x
+            → Writes A.analyze c x calls.commit_pending (calls.after c x.state calls.commit_pending).groups
+            self.old self.new result }
         ensures made { KeepsMaking self.old self.new }
 
         ensures honest { D.honest (device_of self.new) ≡ D.honest (device_of self.old) }
@@ -35,20 +33,6 @@ impl<D: Device + Drop, A: Analyzer + Drop> Index<D, A> {
             → CommitPasses A.analyze self.old self.new (calls.after c x.state calls.commit_pending).groups }
         ensures short { OnOk result (gate_of self.new < 2 ^ 63) }
         ensures kept { IfErr result (λ fault. fault ≢ faults.Device → KeepsFile self.old self.new) }
-
-        // One record, also if nothing is pending.
-        ensures appended { (c : calls.Configuration) (x : calls.Index) → IndexStands A.analyze self.old c x
-            → IsTrue (D.honest (device_of self.old))
-            → OnOk result (AppendsRecord A.analyze self.old self.new
-            (calls.after c x.state calls.commit_pending).groups) }
-        ensures rests { (c : calls.Configuration) (x : calls.Index) → IndexStands A.analyze self.old c x
-            → IsTrue (D.honest (device_of self.old)) → IndexRests self.old
-            → OnOk result (IndexRests self.new) }
-        // A crash at any moment of the call leaves a file of the groups before it or after it.
-        ensures any_moment { (c : calls.Configuration) (x : calls.Index) → IndexStands A.analyze self.old c x
-            → IsTrue (D.honest (device_of self.old)) → IndexRests self.old
-            → CrashLeavesEither A.analyze self.old self.new x.state.groups
-            (calls.after c x.state calls.commit_pending).groups }
     {
         let prepared = self.index_state.prepare()?;
         match self.file.append(prepared.frame()) {

@@ -1,13 +1,14 @@
 //! Merges of an index.
 
-ghost use Rattle.std.specs.Prelude.{◌<◌, ◌^◌, ◌≡◌, ◌≢◌, IfErr, IsErrOf, IsTrue, OnOk, Some};
+ghost use Rattle.std.specs.Prelude.{◌<◌, ◌^◌, ◌≡◌, ◌≢◌, IfErr, IsErrOf, OnOk};
 ghost use Rattle.definitions.specs.Calls as calls;
 ghost use Rattle.definitions.specs.Disk.{HasCause};
 ghost use Rattle.definitions.specs.State.{merged};
 ghost use Rattle.definitions.specs.declared.fault.Fault.TheVariants as faults;
 ghost use Rattle.index_file.specs.Outcomes.{CountsNoOther};
-ghost use Rattle.engine.specs.Indexes.{AppendsRecord, CrashLeavesEither, IndexRests, IndexStands, KeepsFile, KeepsMaking, device_of, gate_of};
+ghost use Rattle.engine.specs.Indexes.{IndexStands, KeepsFile, KeepsMaking, device_of, gate_of};
 ghost use Rattle.engine.specs.Merges.{MergePasses};
+ghost use Rattle.engine.specs.Writes.{Writes};
 
 use crate::index::Index;
 use common::{Analyzer, Device};
@@ -21,12 +22,9 @@ impl<D: Device + Drop, A: Analyzer + Drop> Index<D, A> {
     /// and pending deletions cover the merged documents. `BadRange` if the range names no segment, or more than there
     /// are. After `Device` the index is closed, and the file may have either list; other errors change nothing.
     pub fn merge(&mut self, range: Range<usize>) -> Result<(), Fault>
-        ensures left { (c : calls.Configuration) (x : calls.Index) → IndexStands A.analyze self.old c x
-            → (y : calls.Index) × calls.Leaves c x (calls.merge_range range.start range.end) result y
-            × IndexStands A.analyze self.new c y }
-        ensures exact { (c : calls.Configuration) (x : calls.Index) → IndexStands A.analyze self.old c x
-            → IfErr result (λ fault. fault ≢ faults.OutOfMemory → fault ≢ faults.Device → fault ≢ faults.Limit
-            → calls.call_fault c x (calls.merge_range range.start range.end) ≡ Some fault) }
+        ensures writes { (c : calls.Configuration) (x : calls.Index) → IndexStands A.analyze self.old c x
+            → Writes A.analyze c x (calls.merge_range range.start range.end) (merged range.start range.end x.state.groups)
+            self.old self.new result }
         ensures made { KeepsMaking self.old self.new }
 
         ensures honest { D.honest (device_of self.new) ≡ D.honest (device_of self.old) }
@@ -36,19 +34,6 @@ impl<D: Device + Drop, A: Analyzer + Drop> Index<D, A> {
             → IsErrOf result faults.Limit → MergePasses A.analyze self.old range.start range.end x.state.groups }
         ensures short { OnOk result (gate_of self.new < 2 ^ 63) }
         ensures kept { IfErr result (λ fault. fault ≢ faults.Device → KeepsFile self.old self.new) }
-
-        // One record, whose groups are joined.
-        ensures appended { (c : calls.Configuration) (x : calls.Index) → IndexStands A.analyze self.old c x
-            → IsTrue (D.honest (device_of self.old))
-            → OnOk result (AppendsRecord A.analyze self.old self.new (merged range.start range.end x.state.groups)) }
-        ensures rests { (c : calls.Configuration) (x : calls.Index) → IndexStands A.analyze self.old c x
-            → IsTrue (D.honest (device_of self.old)) → IndexRests self.old
-            → OnOk result (IndexRests self.new) }
-        // A crash at any moment of the call leaves a file of the groups before it, or of those that are joined.
-        ensures any_moment { (c : calls.Configuration) (x : calls.Index) → IndexStands A.analyze self.old c x
-            → IsTrue (D.honest (device_of self.old)) → IndexRests self.old
-            → CrashLeavesEither A.analyze self.old self.new x.state.groups
-            (merged range.start range.end x.state.groups) }
     {
         let prepared = self.index_state.prepare_merge(range.start, range.end)?;
         match self.file.append(prepared.frame()) {

@@ -102,17 +102,17 @@ pub returns-in-Merge-clause-answered : goal.returns-in-Merge-clause-answered
 returns-in-Merge-clause-answered g c k x s =
     let call = calls.merge_range c.in-Merge.from c.in-Merge.to in
     subst (λ r. Answers g.A.Analyzer.analyze c.merge.new.self k x (index_request_of r) c.answer_change-in-Merge.result) (sym c.in-Merge.is)
-    (change_answers g.A.Analyzer.analyze c.merge.new.self k x (requests.merge_groups c.in-Merge.from c.in-Merge.to) call c.merge.result c.answer_change-in-Merge.result refl refl (c.merge.ensures.left k x s) (write_refused c.merge.result (λ fault. calls.call_fault k x call ≡ Some fault) (c.merge.ensures.exact k x s)) c.answer_change-in-Merge.ensures.text c.answer_change-in-Merge.ensures.on)
+    (change_answers g.A.Analyzer.analyze c.merge.new.self k x (requests.merge_groups c.in-Merge.from c.in-Merge.to) call c.merge.result c.answer_change-in-Merge.result refl refl ((c.merge.ensures.writes k x s).left) (write_refused c.merge.result (λ fault. calls.call_fault k x call ≡ Some fault) ((c.merge.ensures.writes k x s).exact)) c.answer_change-in-Merge.ensures.text c.answer_change-in-Merge.ensures.on)
 
 pub returns-in-Merge-clause-kept : goal.returns-in-Merge-clause-kept
-returns-in-Merge-clause-kept g c k x s = write_kept (KeepsFile c.args.index.now c.merge.new.self) (IndexStands g.A.Analyzer.analyze c.merge.new.self k) (calls.merge_range c.in-Merge.from c.in-Merge.to) c.merge.result c.answer_change-in-Merge.result k x refl (c.merge.ensures.left k x s) c.merge.ensures.kept c.answer_change-in-Merge.ensures.on
+returns-in-Merge-clause-kept g c k x s = write_kept (KeepsFile c.args.index.now c.merge.new.self) (IndexStands g.A.Analyzer.analyze c.merge.new.self k) (calls.merge_range c.in-Merge.from c.in-Merge.to) c.merge.result c.answer_change-in-Merge.result k x refl ((c.merge.ensures.writes k x s).left) c.merge.ensures.kept c.answer_change-in-Merge.ensures.on
 
 pub returns-in-Merge-clause-rests : goal.returns-in-Merge-clause-rests
 returns-in-Merge-clause-rests g c k x s is =
     let new = c.merge.new.self in
     let call = calls.merge_range c.in-Merge.from c.in-Merge.to in
     subst (λ r. OnOk c.answer_change-in-Merge.result (IsInFile new ((steps.index_step k x (index_request_of r)).1))) (sym c.in-Merge.is)
-    (written_in_file g.A.Analyzer.analyze c.args.index.now new (requests.merge_groups c.in-Merge.from c.in-Merge.to) call c.merge.result c.answer_change-in-Merge.result k x refl (c.merge.ensures.left k x s) (write_refused c.merge.result (λ fault. calls.call_fault k x call ≡ Some fault) (c.merge.ensures.exact k x s)) c.merge.ensures.made c.merge.ensures.honest c.merge.ensures.kept (c.merge.ensures.rests k x s) c.answer_change-in-Merge.ensures.on is)
+    (written_in_file g.A.Analyzer.analyze c.args.index.now new (requests.merge_groups c.in-Merge.from c.in-Merge.to) call c.merge.result c.answer_change-in-Merge.result k x refl ((c.merge.ensures.writes k x s).left) (write_refused c.merge.result (λ fault. calls.call_fault k x call ≡ Some fault) ((c.merge.ensures.writes k x s).exact)) c.merge.ensures.made c.merge.ensures.honest c.merge.ensures.kept ((c.merge.ensures.writes k x s).rests) c.answer_change-in-Merge.ensures.on is)
 
 pub returns-in-Merge-clause-failures : goal.returns-in-Merge-clause-failures
 returns-in-Merge-clause-failures g c k x s =
@@ -126,23 +126,23 @@ returns-in-Merge-clause-limit g c k x s limit =
 
 pub returns-in-Merge-clause-left : goal.returns-in-Merge-clause-left
 returns-in-Merge-clause-left g c k x s =
-    reply_stops g.A.Analyzer.analyze c.merge.new.self k x c.args.index.now (calls.merge_range c.in-Merge.from c.in-Merge.to) c.merge.result c.answer_change-in-Merge.result c.answer_change-in-Merge.ensures.same (c.merge.ensures.left k x s) c.merge.ensures.kept
+    reply_stops g.A.Analyzer.analyze c.merge.new.self k x c.args.index.now (calls.merge_range c.in-Merge.from c.in-Merge.to) c.merge.result c.answer_change-in-Merge.result c.answer_change-in-Merge.ensures.same ((c.merge.ensures.writes k x s).left) c.merge.ensures.kept
 
 -- ---- a commit
 
 pub returns-in-Commit-clause-answered : goal.returns-in-Commit-clause-answered
 returns-in-Commit-clause-answered g c k x s =
     subst (λ r. Answers g.A.Analyzer.analyze c.commit.new.self k x (index_request_of r) c.answer_change-in-Commit.result) (sym c.in-Commit.is)
-    (change_answers g.A.Analyzer.analyze c.commit.new.self k x requests.commit_all calls.commit_pending c.commit.result c.answer_change-in-Commit.result refl refl (c.commit.ensures.left k x s) (write_refused c.commit.result (λ fault. calls.call_fault k x calls.commit_pending ≡ Some fault) (c.commit.ensures.exact k x s)) c.answer_change-in-Commit.ensures.text c.answer_change-in-Commit.ensures.on)
+    (change_answers g.A.Analyzer.analyze c.commit.new.self k x requests.commit_all calls.commit_pending c.commit.result c.answer_change-in-Commit.result refl refl ((c.commit.ensures.writes k x s).left) (write_refused c.commit.result (λ fault. calls.call_fault k x calls.commit_pending ≡ Some fault) ((c.commit.ensures.writes k x s).exact)) c.answer_change-in-Commit.ensures.text c.answer_change-in-Commit.ensures.on)
 
 pub returns-in-Commit-clause-kept : goal.returns-in-Commit-clause-kept
-returns-in-Commit-clause-kept g c k x s = write_kept (KeepsFile c.args.index.now c.commit.new.self) (IndexStands g.A.Analyzer.analyze c.commit.new.self k) calls.commit_pending c.commit.result c.answer_change-in-Commit.result k x refl (c.commit.ensures.left k x s) c.commit.ensures.kept c.answer_change-in-Commit.ensures.on
+returns-in-Commit-clause-kept g c k x s = write_kept (KeepsFile c.args.index.now c.commit.new.self) (IndexStands g.A.Analyzer.analyze c.commit.new.self k) calls.commit_pending c.commit.result c.answer_change-in-Commit.result k x refl ((c.commit.ensures.writes k x s).left) c.commit.ensures.kept c.answer_change-in-Commit.ensures.on
 
 pub returns-in-Commit-clause-rests : goal.returns-in-Commit-clause-rests
 returns-in-Commit-clause-rests g c k x s is =
     let new = c.commit.new.self in
     subst (λ r. OnOk c.answer_change-in-Commit.result (IsInFile new ((steps.index_step k x (index_request_of r)).1))) (sym c.in-Commit.is)
-    (written_in_file g.A.Analyzer.analyze c.args.index.now new requests.commit_all calls.commit_pending c.commit.result c.answer_change-in-Commit.result k x refl (c.commit.ensures.left k x s) (write_refused c.commit.result (λ fault. calls.call_fault k x calls.commit_pending ≡ Some fault) (c.commit.ensures.exact k x s)) c.commit.ensures.made c.commit.ensures.honest c.commit.ensures.kept (c.commit.ensures.rests k x s) c.answer_change-in-Commit.ensures.on is)
+    (written_in_file g.A.Analyzer.analyze c.args.index.now new requests.commit_all calls.commit_pending c.commit.result c.answer_change-in-Commit.result k x refl ((c.commit.ensures.writes k x s).left) (write_refused c.commit.result (λ fault. calls.call_fault k x calls.commit_pending ≡ Some fault) ((c.commit.ensures.writes k x s).exact)) c.commit.ensures.made c.commit.ensures.honest c.commit.ensures.kept ((c.commit.ensures.writes k x s).rests) c.answer_change-in-Commit.ensures.on is)
 
 pub returns-in-Commit-clause-failures : goal.returns-in-Commit-clause-failures
 returns-in-Commit-clause-failures g c k x s =
@@ -156,7 +156,7 @@ returns-in-Commit-clause-limit g c k x s limit =
 
 pub returns-in-Commit-clause-left : goal.returns-in-Commit-clause-left
 returns-in-Commit-clause-left g c k x s =
-    reply_stops g.A.Analyzer.analyze c.commit.new.self k x c.args.index.now calls.commit_pending c.commit.result c.answer_change-in-Commit.result c.answer_change-in-Commit.ensures.same (c.commit.ensures.left k x s) c.commit.ensures.kept
+    reply_stops g.A.Analyzer.analyze c.commit.new.self k x c.args.index.now calls.commit_pending c.commit.result c.answer_change-in-Commit.result c.answer_change-in-Commit.ensures.same ((c.commit.ensures.writes k x s).left) c.commit.ensures.kept
 
 -- ---- a search
 

@@ -13,99 +13,119 @@ use Rattle.engine.specs.Files.{BodiesLeave}
 use Rattle.engine.specs.Indexes.{device_of, gate_of}
 use Rattle.engine.proofs.index.Index.commit.Goals as goal
 
-pub returns-in_err-prepared-clause-left : goal.returns-in_err-prepared-clause-left
-returns-in_err-prepared-clause-left g c k x s =
-    let fault = c.in_err-prepared.field-0.0 in
-    subst (λ r. (y : calls.Index) × calls.Leaves k x calls.commit_pending r y × Stands g.A.Analyzer.analyze c.prepare.new.self k y) (err_same c.from_residual.result fault c.from_residual.ensures.1) (c.in_err-prepared.ensures.left k x s)
+pub returns-in_err-prepared-clause-writes : goal.returns-in_err-prepared-clause-writes
+returns-in_err-prepared-clause-writes g c k x s = record {
+  left = (
+      let fault = c.in_err-prepared.field-0.0 in
+      subst (λ r. (y : calls.Index) × calls.Leaves k x calls.commit_pending r y × Stands g.A.Analyzer.analyze c.prepare.new.self k y) (err_same c.from_residual.result fault c.from_residual.ensures.1) (c.in_err-prepared.ensures.left k x s));
+  exact = (
+      let fault = c.in_err-prepared.field-0.0 in
+      err_has c.from_residual.result fault (λ f. f ≢ faults.OutOfMemory → f ≢ faults.Device → f ≢ faults.Limit → calls.call_fault k x calls.commit_pending ≡ Some f) c.from_residual.ensures.1
+      (λ memory device limit. c.in_err-prepared.ensures.exact k x s memory limit));
+  appended = λ h. rw (sym (err_same c.from_residual.result c.in_err-prepared.field-0.0 c.from_residual.ensures.1)) tt;
+  rests = λ h rests. rw (sym (err_same c.from_residual.result c.in_err-prepared.field-0.0 c.from_residual.ensures.1)) tt;
+  any_moment = λ h rests. (
+      let d = g.D.Device in
+      let old = c.args.self.now in
+      let index_state = old.index_state in
+      let analyze = g.A.Analyzer.analyze in
+      let device = device_of old in
+      let says = rests_say index_state.schema index_state.settings (analyze index_state.analyzer) (members_of index_state) x.state.groups (d.content device) (d.unsynced device) (gate_of old) rests (stands_groups analyze index_state k x s) in
+      record {
+        first = rests.bodies;
+        second = rests.bodies;
+        says_one = says;
+        says_other = inl says;
+        images = resting d.moment d.left_since d.content d.unsynced device (gate_of old) rests.bodies rests.bodies rests.at_rest rests.synced (λ image left. g.met.D.Device.only_now device image h left);
+      });
+}
 
-pub returns-in_err-prepared-clause-exact : goal.returns-in_err-prepared-clause-exact
-returns-in_err-prepared-clause-exact g c k x s =
-    let fault = c.in_err-prepared.field-0.0 in
-    err_has c.from_residual.result fault (λ f. f ≢ faults.OutOfMemory → f ≢ faults.Device → f ≢ faults.Limit → calls.call_fault k x calls.commit_pending ≡ Some f) c.from_residual.ensures.1
-    (λ memory device limit. c.in_err-prepared.ensures.exact k x s memory limit)
+pub returns-in-Ok-clause-writes : goal.returns-in-Ok-clause-writes
+returns-in-Ok-clause-writes g c k x s = record {
+  left = (
+      let call = calls.commit_pending in
+      let ready = c.in_ok-prepared.ensures.taken k x s in
+      let after = calls.after k x.state call in
+      let taken = commit_taken k x (ap (λ status. calls.status_fault status false) ready) in
+      (record { state = after; status = calls.ready }, subst (λ status. calls.Leaves k x call (Ok tt) (record { state = after; status = status })) ready (calls.answered taken), c.install.ensures.left k x (c.in_ok-prepared.ensures.prepared k x s)));
+  exact = tt;
+  appended = λ h bodies rest. (
+      let old = c.args.self.now.index_state in
+      let mid = c.prepare.new.self in
+      let p = c.in_ok-prepared.prepared in
+      let w = commit_written g.A.Analyzer.analyze old mid p k x c.prepare.ensures.made s (c.in_ok-prepared.ensures.prepared k x s) c.in_ok-prepared.ensures.flagged (c.in_ok-prepared.ensures.body k x s) in
+      (w.body, (members_with mid p, w.makes, w.are_groups), c.in-Ok.ensures.appended bodies w.body h (c.frame.ensures ∙ w.framed) rest));
+  rests = λ h rests. (
+      let old = c.args.self.now.index_state in
+      let mid = c.prepare.new.self in
+      let new = c.install.new.self in
+      let p = c.in_ok-prepared.prepared in
+      let w = commit_written g.A.Analyzer.analyze old mid p k x c.prepare.ensures.made s (c.in_ok-prepared.ensures.prepared k x s) c.in_ok-prepared.ensures.flagged (c.in_ok-prepared.ensures.body k x s) in
+      let bodies = rests.bodies ++ w.body ∷ [] in
+      let leave : BodiesLeave old.schema old.settings bodies (members_with mid p) = leave_next old.schema old.settings rests.bodies (members_of old) (members_with mid p) w.body rests.leave w.makes in
+      let schema : new.schema ≡ old.schema = c.install.ensures.made.schema ∙ c.prepare.ensures.made.schema in
+      let settings : new.settings ≡ old.settings = c.install.ensures.made.settings ∙ c.prepare.ensures.made.settings in
+      record {
+        bodies = bodies;
+        at_rest = c.in-Ok.ensures.appended rests.bodies w.body h (c.frame.ensures ∙ w.framed) rests.at_rest;
+        leave = leave_same old.schema new.schema old.settings new.settings bodies (members_with mid p) (members_of new) schema settings c.install.ensures.members leave;
+        synced = c.in-Ok.ensures.unsynced h;
+      });
+  any_moment = λ h rests. (
+      let d = g.D.Device in
+      let analyze = g.A.Analyzer.analyze in
+      let old = c.args.self.now.index_state in
+      let mid = c.prepare.new.self in
+      let device = device_of c.args.self.now in
+      let p = c.in_ok-prepared.prepared in
+      let w = commit_written analyze old mid p k x c.prepare.ensures.made s (c.in_ok-prepared.ensures.prepared k x s) c.in_ok-prepared.ensures.flagged (c.in_ok-prepared.ensures.body k x s) in
+      record {
+        first = rests.bodies;
+        second = rests.bodies ++ w.body ∷ [];
+        says_one = rests_say old.schema old.settings (analyze old.analyzer) (members_of old) x.state.groups (d.content device) (d.unsynced device) (gate_of c.args.self.now) rests (stands_groups analyze old k x s);
+        says_other = inr (record { members = members_with mid p; leave = leave_next old.schema old.settings rests.bodies (members_of old) (members_with mid p) w.body rests.leave w.makes; are_groups = w.are_groups });
+        images = c.append.ensures.any_moment rests.bodies w.body h (c.frame.ensures ∙ w.framed) rests.at_rest rests.synced;
+      });
+}
 
-pub returns-in_err-prepared-clause-any_moment : goal.returns-in_err-prepared-clause-any_moment
-returns-in_err-prepared-clause-any_moment g c k x s h rests =
-    let d = g.D.Device in
-    let old = c.args.self.now in
-    let index_state = old.index_state in
-    let analyze = g.A.Analyzer.analyze in
-    let device = device_of old in
-    let says = rests_say index_state.schema index_state.settings (analyze index_state.analyzer) (members_of index_state) x.state.groups (d.content device) (d.unsynced device) (gate_of old) rests (stands_groups analyze index_state k x s) in
-    record {
-      first = rests.bodies;
-      second = rests.bodies;
-      says_one = says;
-      says_other = inl says;
-      images = resting d.moment d.left_since d.content d.unsynced device (gate_of old) rests.bodies rests.bodies rests.at_rest rests.synced (λ image left. g.met.D.Device.only_now device image h left);
-    }
-
-pub returns-in-Ok-clause-left : goal.returns-in-Ok-clause-left
-returns-in-Ok-clause-left g c k x s =
-    let call = calls.commit_pending in
-    let ready = c.in_ok-prepared.ensures.taken k x s in
-    let after = calls.after k x.state call in
-    let taken = commit_taken k x (ap (λ status. calls.status_fault status false) ready) in
-    (record { state = after; status = calls.ready }, subst (λ status. calls.Leaves k x call (Ok tt) (record { state = after; status = status })) ready (calls.answered taken), c.install.ensures.left k x (c.in_ok-prepared.ensures.prepared k x s))
-
-pub returns-in-Ok-clause-appended : goal.returns-in-Ok-clause-appended
-returns-in-Ok-clause-appended g c k x s h bodies rest =
-    let old = c.args.self.now.index_state in
-    let mid = c.prepare.new.self in
-    let p = c.in_ok-prepared.prepared in
-    let w = commit_written g.A.Analyzer.analyze old mid p k x c.prepare.ensures.made s (c.in_ok-prepared.ensures.prepared k x s) c.in_ok-prepared.ensures.flagged (c.in_ok-prepared.ensures.body k x s) in
-    (w.body, (members_with mid p, w.makes, w.are_groups), c.in-Ok.ensures.appended bodies w.body h (c.frame.ensures ∙ w.framed) rest)
-
-pub returns-in-Ok-clause-rests : goal.returns-in-Ok-clause-rests
-returns-in-Ok-clause-rests g c k x s h rests =
-    let old = c.args.self.now.index_state in
-    let mid = c.prepare.new.self in
-    let new = c.install.new.self in
-    let p = c.in_ok-prepared.prepared in
-    let w = commit_written g.A.Analyzer.analyze old mid p k x c.prepare.ensures.made s (c.in_ok-prepared.ensures.prepared k x s) c.in_ok-prepared.ensures.flagged (c.in_ok-prepared.ensures.body k x s) in
-    let bodies = rests.bodies ++ w.body ∷ [] in
-    let leave : BodiesLeave old.schema old.settings bodies (members_with mid p) = leave_next old.schema old.settings rests.bodies (members_of old) (members_with mid p) w.body rests.leave w.makes in
-    let schema : new.schema ≡ old.schema = c.install.ensures.made.schema ∙ c.prepare.ensures.made.schema in
-    let settings : new.settings ≡ old.settings = c.install.ensures.made.settings ∙ c.prepare.ensures.made.settings in
-    record {
-      bodies = bodies;
-      at_rest = c.in-Ok.ensures.appended rests.bodies w.body h (c.frame.ensures ∙ w.framed) rests.at_rest;
-      leave = leave_same old.schema new.schema old.settings new.settings bodies (members_with mid p) (members_of new) schema settings c.install.ensures.members leave;
-      synced = c.in-Ok.ensures.unsynced h;
-    }
-
-pub returns-in-Ok-clause-any_moment : goal.returns-in-Ok-clause-any_moment
-returns-in-Ok-clause-any_moment g c k x s h rests =
-    let d = g.D.Device in
-    let analyze = g.A.Analyzer.analyze in
-    let old = c.args.self.now.index_state in
-    let mid = c.prepare.new.self in
-    let device = device_of c.args.self.now in
-    let p = c.in_ok-prepared.prepared in
-    let w = commit_written analyze old mid p k x c.prepare.ensures.made s (c.in_ok-prepared.ensures.prepared k x s) c.in_ok-prepared.ensures.flagged (c.in_ok-prepared.ensures.body k x s) in
-    record {
-      first = rests.bodies;
-      second = rests.bodies ++ w.body ∷ [];
-      says_one = rests_say old.schema old.settings (analyze old.analyzer) (members_of old) x.state.groups (d.content device) (d.unsynced device) (gate_of c.args.self.now) rests (stands_groups analyze old k x s);
-      says_other = inr (record { members = members_with mid p; leave = leave_next old.schema old.settings rests.bodies (members_of old) (members_with mid p) w.body rests.leave w.makes; are_groups = w.are_groups });
-      images = c.append.ensures.any_moment rests.bodies w.body h (c.frame.ensures ∙ w.framed) rests.at_rest rests.synced;
-    }
-
-pub returns-in-Err-clause-left : goal.returns-in-Err-clause-left
-returns-in-Err-clause-left g c k x s =
-    let call = calls.commit_pending in
-    let analyze = g.A.Analyzer.analyze in
-    let ready = c.in_ok-prepared.ensures.taken k x s in
-    let taken = commit_taken k x (ap (λ status. calls.status_fault status false) ready) in
-    let stopped = c.stop.ensures.left k _ (c.in_ok-prepared.ensures.stopped k x s) in
-    let fault = c.in-Err.fault in
-    let left : (status : calls.Status) → (f : Fault) → calls.Leaves k x call (Err f) (record { state = x.state; status = status }) → fault ≡ f → status_of c.status_after.result ≡ status → (y : calls.Index) × calls.Leaves k x call (Err fault) y × Stands analyze c.stop.new.self k y =
-    λ status f leaves is same. (record { state = x.state; status = status }, subst (λ e. calls.Leaves k x call (Err e) (record { state = x.state; status = status })) (sym is) leaves, subst (λ t. Stands analyze c.stop.new.self k (record { state = x.state; status = t })) same stopped) in
-    let after : (f : Fault) → fault ≡ f → status_of c.status_after.result ≡ status_left f = λ f is. c.status_after.ensures ∙ ap status_left is in
-    elim c.in-Err.ensures.fault [
-      | inl device ↦ left calls.closed faults.Device (calls.device_failed taken refl) device (after faults.Device device)
-      | inr limit ↦ left calls.writer_closed faults.Limit (calls.half_written faults.Limit calls.limit_met taken refl) limit (after faults.Limit limit)
-    ]
+pub returns-in-Err-clause-writes : goal.returns-in-Err-clause-writes
+returns-in-Err-clause-writes g c k x s = record {
+  left = (
+      let call = calls.commit_pending in
+      let analyze = g.A.Analyzer.analyze in
+      let ready = c.in_ok-prepared.ensures.taken k x s in
+      let taken = commit_taken k x (ap (λ status. calls.status_fault status false) ready) in
+      let stopped = c.stop.ensures.left k _ (c.in_ok-prepared.ensures.stopped k x s) in
+      let fault = c.in-Err.fault in
+      let left : (status : calls.Status) → (f : Fault) → calls.Leaves k x call (Err f) (record { state = x.state; status = status }) → fault ≡ f → status_of c.status_after.result ≡ status → (y : calls.Index) × calls.Leaves k x call (Err fault) y × Stands analyze c.stop.new.self k y =
+      λ status f leaves is same. (record { state = x.state; status = status }, subst (λ e. calls.Leaves k x call (Err e) (record { state = x.state; status = status })) (sym is) leaves, subst (λ t. Stands analyze c.stop.new.self k (record { state = x.state; status = t })) same stopped) in
+      let after : (f : Fault) → fault ≡ f → status_of c.status_after.result ≡ status_left f = λ f is. c.status_after.ensures ∙ ap status_left is in
+      elim c.in-Err.ensures.fault [
+        | inl device ↦ left calls.closed faults.Device (calls.device_failed taken refl) device (after faults.Device device)
+        | inr limit ↦ left calls.writer_closed faults.Limit (calls.half_written faults.Limit calls.limit_met taken refl) limit (after faults.Limit limit)
+      ]);
+  exact = (λ memory device limit. elim c.in-Err.ensures.fault [
+    | inl failed ↦ absurd (device failed)
+    | inr met ↦ absurd (limit met)
+  ]);
+  appended = λ h. tt;
+  rests = λ h rests. tt;
+  any_moment = λ h rests. (
+      let d = g.D.Device in
+      let analyze = g.A.Analyzer.analyze in
+      let old = c.args.self.now.index_state in
+      let mid = c.prepare.new.self in
+      let device = device_of c.args.self.now in
+      let p = c.in_ok-prepared.prepared in
+      let w = commit_written analyze old mid p k x c.prepare.ensures.made s (c.in_ok-prepared.ensures.prepared k x s) c.in_ok-prepared.ensures.flagged (c.in_ok-prepared.ensures.body k x s) in
+      record {
+        first = rests.bodies;
+        second = rests.bodies ++ w.body ∷ [];
+        says_one = rests_say old.schema old.settings (analyze old.analyzer) (members_of old) x.state.groups (d.content device) (d.unsynced device) (gate_of c.args.self.now) rests (stands_groups analyze old k x s);
+        says_other = inr (record { members = members_with mid p; leave = leave_next old.schema old.settings rests.bodies (members_of old) (members_with mid p) w.body rests.leave w.makes; are_groups = w.are_groups });
+        images = c.append.ensures.any_moment rests.bodies w.body h (c.frame.ensures ∙ w.framed) rests.at_rest rests.synced;
+      });
+}
 
 pub returns-in-Err-clause-limit : goal.returns-in-Err-clause-limit
 returns-in-Err-clause-limit g c k x s limit =
@@ -114,20 +134,3 @@ returns-in-Err-clause-limit g c k x s limit =
     let p = c.in_ok-prepared.prepared in
     let w = commit_written g.A.Analyzer.analyze old mid p k x c.prepare.ensures.made s (c.in_ok-prepared.ensures.prepared k x s) c.in_ok-prepared.ensures.flagged (c.in_ok-prepared.ensures.body k x s) in
     inr (inr (w.body, (members_with mid p, w.makes, w.are_groups), subst (λ (bytes : List ℕ). 2 ^ 63 < gate_of c.args.self.now + 1 + length bytes) (c.frame.ensures ∙ w.framed) (c.append.ensures.limit.0 (c.in-Err.is ∙ limit))))
-
-pub returns-in-Err-clause-any_moment : goal.returns-in-Err-clause-any_moment
-returns-in-Err-clause-any_moment g c k x s h rests =
-    let d = g.D.Device in
-    let analyze = g.A.Analyzer.analyze in
-    let old = c.args.self.now.index_state in
-    let mid = c.prepare.new.self in
-    let device = device_of c.args.self.now in
-    let p = c.in_ok-prepared.prepared in
-    let w = commit_written analyze old mid p k x c.prepare.ensures.made s (c.in_ok-prepared.ensures.prepared k x s) c.in_ok-prepared.ensures.flagged (c.in_ok-prepared.ensures.body k x s) in
-    record {
-      first = rests.bodies;
-      second = rests.bodies ++ w.body ∷ [];
-      says_one = rests_say old.schema old.settings (analyze old.analyzer) (members_of old) x.state.groups (d.content device) (d.unsynced device) (gate_of c.args.self.now) rests (stands_groups analyze old k x s);
-      says_other = inr (record { members = members_with mid p; leave = leave_next old.schema old.settings rests.bodies (members_of old) (members_with mid p) w.body rests.leave w.makes; are_groups = w.are_groups });
-      images = c.append.ensures.any_moment rests.bodies w.body h (c.frame.ensures ∙ w.framed) rests.at_rest rests.synced;
-    }

@@ -12,103 +12,103 @@ use Rattle.engine.specs.Files.{BodiesLeave}
 use Rattle.engine.specs.Indexes.{device_of, gate_of}
 use Rattle.engine.proofs.index.Index.merge.Goals as goal
 
-pub returns-in_err-prepared-clause-left : goal.returns-in_err-prepared-clause-left
-returns-in_err-prepared-clause-left g c k x s =
-    let call = calls.merge_range c.args.range.start c.args.range.end in
-    let fault = c.in_err-prepared.field-0.0 in
-    (x, subst (λ r. calls.Leaves k x call r x) (err_same c.from_residual.result fault c.from_residual.ensures.1) (c.in_err-prepared.ensures.left k x s), s)
+pub returns-in_err-prepared-clause-writes : goal.returns-in_err-prepared-clause-writes
+returns-in_err-prepared-clause-writes g c k x s = record {
+  left = (
+      let call = calls.merge_range c.args.range.start c.args.range.end in
+      let fault = c.in_err-prepared.field-0.0 in
+      (x, subst (λ r. calls.Leaves k x call r x) (err_same c.from_residual.result fault c.from_residual.ensures.1) (c.in_err-prepared.ensures.left k x s), s));
+  exact = (
+      let fault = c.in_err-prepared.field-0.0 in
+      err_has c.from_residual.result fault (λ f. f ≢ faults.OutOfMemory → f ≢ faults.Device → f ≢ faults.Limit → calls.call_fault k x (calls.merge_range c.args.range.start c.args.range.end) ≡ Some f) c.from_residual.ensures.1
+      (λ memory device limit. c.in_err-prepared.ensures.exact k x s memory limit));
+  appended = λ h. rw (sym (err_same c.from_residual.result c.in_err-prepared.field-0.0 c.from_residual.ensures.1)) tt;
+  rests = λ h rests. rw (sym (err_same c.from_residual.result c.in_err-prepared.field-0.0 c.from_residual.ensures.1)) tt;
+  any_moment = λ h rests. (
+      let d = g.D.Device in
+      let old = c.args.self.now in
+      let index_state = old.index_state in
+      let analyze = g.A.Analyzer.analyze in
+      let device = device_of old in
+      let says = rests_say index_state.schema index_state.settings (analyze index_state.analyzer) (members_of index_state) x.state.groups (d.content device) (d.unsynced device) (gate_of old) rests (stands_groups analyze index_state k x s) in
+      record {
+        first = rests.bodies;
+        second = rests.bodies;
+        says_one = says;
+        says_other = inl says;
+        images = resting d.moment d.left_since d.content d.unsynced device (gate_of old) rests.bodies rests.bodies rests.at_rest rests.synced (λ image left. g.met.D.Device.only_now device image h left);
+      });
+}
 
-pub returns-in_err-prepared-clause-exact : goal.returns-in_err-prepared-clause-exact
-returns-in_err-prepared-clause-exact g c k x s =
-    let fault = c.in_err-prepared.field-0.0 in
-    err_has c.from_residual.result fault (λ f. f ≢ faults.OutOfMemory → f ≢ faults.Device → f ≢ faults.Limit → calls.call_fault k x (calls.merge_range c.args.range.start c.args.range.end) ≡ Some f) c.from_residual.ensures.1
-    (λ memory device limit. c.in_err-prepared.ensures.exact k x s memory limit)
-
-pub returns-in_err-prepared-clause-any_moment : goal.returns-in_err-prepared-clause-any_moment
-returns-in_err-prepared-clause-any_moment g c k x s h rests =
-    let d = g.D.Device in
-    let old = c.args.self.now in
-    let index_state = old.index_state in
-    let analyze = g.A.Analyzer.analyze in
-    let device = device_of old in
-    let says = rests_say index_state.schema index_state.settings (analyze index_state.analyzer) (members_of index_state) x.state.groups (d.content device) (d.unsynced device) (gate_of old) rests (stands_groups analyze index_state k x s) in
-    record {
-      first = rests.bodies;
-      second = rests.bodies;
-      says_one = says;
-      says_other = inl says;
-      images = resting d.moment d.left_since d.content d.unsynced device (gate_of old) rests.bodies rests.bodies rests.at_rest rests.synced (λ image left. g.met.D.Device.only_now device image h left);
-    }
-
-pub returns-in-Ok-clause-left : goal.returns-in-Ok-clause-left
-returns-in-Ok-clause-left g c k x s =
-    let from = c.args.range.start in
-    let to = c.args.range.end in
-    let call = calls.merge_range from to in
-    (record { state = calls.after k x.state call; status = x.status }, calls.answered (c.in_ok-prepared.ensures.taken k x s), c.install_merge.ensures.left k x from to s (c.in_ok-prepared.ensures.joins k x s))
-
-pub returns-in-Ok-clause-appended : goal.returns-in-Ok-clause-appended
-returns-in-Ok-clause-appended g c k x s h bodies rest =
-    let old = c.args.self.now.index_state in
-    let p = c.in_ok-prepared.prepared in
-    let w = merge_written g.A.Analyzer.analyze old p k x c.args.range.start c.args.range.end s (c.in_ok-prepared.ensures.joins k x s) (c.in_ok-prepared.ensures.body k x s) in
-    (w.body, (members_merged old p, w.makes, w.are_groups), c.in-Ok.ensures.appended bodies w.body h (c.frame.ensures ∙ w.framed) rest)
-
-pub returns-in-Ok-clause-rests : goal.returns-in-Ok-clause-rests
-returns-in-Ok-clause-rests g c k x s h rests =
-    let old = c.args.self.now.index_state in
-    let new = c.install_merge.new.self in
-    let p = c.in_ok-prepared.prepared in
-    let w = merge_written g.A.Analyzer.analyze old p k x c.args.range.start c.args.range.end s (c.in_ok-prepared.ensures.joins k x s) (c.in_ok-prepared.ensures.body k x s) in
-    let bodies = rests.bodies ++ w.body ∷ [] in
-    let leave : BodiesLeave old.schema old.settings bodies (members_merged old p) = leave_next old.schema old.settings rests.bodies (members_of old) (members_merged old p) w.body rests.leave w.makes in
-    record {
-      bodies = bodies;
-      at_rest = c.in-Ok.ensures.appended rests.bodies w.body h (c.frame.ensures ∙ w.framed) rests.at_rest;
-      leave = leave_same old.schema new.schema old.settings new.settings bodies (members_merged old p) (members_of new) c.install_merge.ensures.made.schema c.install_merge.ensures.made.settings c.install_merge.ensures.members leave;
-      synced = c.in-Ok.ensures.unsynced h;
-    }
-
-pub returns-in-Ok-clause-any_moment : goal.returns-in-Ok-clause-any_moment
-returns-in-Ok-clause-any_moment g c k x s h rests =
-    let d = g.D.Device in
-    let analyze = g.A.Analyzer.analyze in
-    let old = c.args.self.now.index_state in
-    let device = device_of c.args.self.now in
-    let p = c.in_ok-prepared.prepared in
-    let w = merge_written analyze old p k x c.args.range.start c.args.range.end s (c.in_ok-prepared.ensures.joins k x s) (c.in_ok-prepared.ensures.body k x s) in
-    record {
-      first = rests.bodies;
-      second = rests.bodies ++ w.body ∷ [];
-      says_one = rests_say old.schema old.settings (analyze old.analyzer) (members_of old) x.state.groups (d.content device) (d.unsynced device) (gate_of c.args.self.now) rests (stands_groups analyze old k x s);
-      says_other = inr (record { members = members_merged old p; leave = leave_next old.schema old.settings rests.bodies (members_of old) (members_merged old p) w.body rests.leave w.makes; are_groups = w.are_groups });
-      images = c.append.ensures.any_moment rests.bodies w.body h (c.frame.ensures ∙ w.framed) rests.at_rest rests.synced;
-    }
+pub returns-in-Ok-clause-writes : goal.returns-in-Ok-clause-writes
+returns-in-Ok-clause-writes g c k x s = record {
+  left = (
+      let from = c.args.range.start in
+      let to = c.args.range.end in
+      let call = calls.merge_range from to in
+      (record { state = calls.after k x.state call; status = x.status }, calls.answered (c.in_ok-prepared.ensures.taken k x s), c.install_merge.ensures.left k x from to s (c.in_ok-prepared.ensures.joins k x s)));
+  exact = tt;
+  appended = λ h bodies rest. (
+      let old = c.args.self.now.index_state in
+      let p = c.in_ok-prepared.prepared in
+      let w = merge_written g.A.Analyzer.analyze old p k x c.args.range.start c.args.range.end s (c.in_ok-prepared.ensures.joins k x s) (c.in_ok-prepared.ensures.body k x s) in
+      (w.body, (members_merged old p, w.makes, w.are_groups), c.in-Ok.ensures.appended bodies w.body h (c.frame.ensures ∙ w.framed) rest));
+  rests = λ h rests. (
+      let old = c.args.self.now.index_state in
+      let new = c.install_merge.new.self in
+      let p = c.in_ok-prepared.prepared in
+      let w = merge_written g.A.Analyzer.analyze old p k x c.args.range.start c.args.range.end s (c.in_ok-prepared.ensures.joins k x s) (c.in_ok-prepared.ensures.body k x s) in
+      let bodies = rests.bodies ++ w.body ∷ [] in
+      let leave : BodiesLeave old.schema old.settings bodies (members_merged old p) = leave_next old.schema old.settings rests.bodies (members_of old) (members_merged old p) w.body rests.leave w.makes in
+      record {
+        bodies = bodies;
+        at_rest = c.in-Ok.ensures.appended rests.bodies w.body h (c.frame.ensures ∙ w.framed) rests.at_rest;
+        leave = leave_same old.schema new.schema old.settings new.settings bodies (members_merged old p) (members_of new) c.install_merge.ensures.made.schema c.install_merge.ensures.made.settings c.install_merge.ensures.members leave;
+        synced = c.in-Ok.ensures.unsynced h;
+      });
+  any_moment = λ h rests. (
+      let d = g.D.Device in
+      let analyze = g.A.Analyzer.analyze in
+      let old = c.args.self.now.index_state in
+      let device = device_of c.args.self.now in
+      let p = c.in_ok-prepared.prepared in
+      let w = merge_written analyze old p k x c.args.range.start c.args.range.end s (c.in_ok-prepared.ensures.joins k x s) (c.in_ok-prepared.ensures.body k x s) in
+      record {
+        first = rests.bodies;
+        second = rests.bodies ++ w.body ∷ [];
+        says_one = rests_say old.schema old.settings (analyze old.analyzer) (members_of old) x.state.groups (d.content device) (d.unsynced device) (gate_of c.args.self.now) rests (stands_groups analyze old k x s);
+        says_other = inr (record { members = members_merged old p; leave = leave_next old.schema old.settings rests.bodies (members_of old) (members_merged old p) w.body rests.leave w.makes; are_groups = w.are_groups });
+        images = c.append.ensures.any_moment rests.bodies w.body h (c.frame.ensures ∙ w.framed) rests.at_rest rests.synced;
+      });
+}
 
 pub returns-in_err-prepared-clause-limit : goal.returns-in_err-prepared-clause-limit
 returns-in_err-prepared-clause-limit g c k x s = limit_told c.from_residual.result c.in_err-prepared.field-0.0 _ c.from_residual.ensures.1 (λ limit. inl (c.in_err-prepared.ensures.limit k x s limit))
 
-pub returns-in-Device-clause-left : goal.returns-in-Device-clause-left
-returns-in-Device-clause-left g c k x s =
-    let y : calls.Index = record { state = x.state; status = calls.closed } in
-    let call = calls.merge_range c.args.range.start c.args.range.end in
-    (y, subst (λ e. calls.Leaves k x call (Err e) y) (sym c.in-Device.is) (calls.device_failed (c.in_ok-prepared.ensures.taken k x s) refl), c.stop.ensures.left k x s)
-
-pub returns-in-Device-clause-any_moment : goal.returns-in-Device-clause-any_moment
-returns-in-Device-clause-any_moment g c k x s h rests =
-    let d = g.D.Device in
-    let analyze = g.A.Analyzer.analyze in
-    let old = c.args.self.now.index_state in
-    let device = device_of c.args.self.now in
-    let p = c.in_ok-prepared.prepared in
-    let w = merge_written analyze old p k x c.args.range.start c.args.range.end s (c.in_ok-prepared.ensures.joins k x s) (c.in_ok-prepared.ensures.body k x s) in
-    record {
-      first = rests.bodies;
-      second = rests.bodies ++ w.body ∷ [];
-      says_one = rests_say old.schema old.settings (analyze old.analyzer) (members_of old) x.state.groups (d.content device) (d.unsynced device) (gate_of c.args.self.now) rests (stands_groups analyze old k x s);
-      says_other = inr (record { members = members_merged old p; leave = leave_next old.schema old.settings rests.bodies (members_of old) (members_merged old p) w.body rests.leave w.makes; are_groups = w.are_groups });
-      images = c.append.ensures.any_moment rests.bodies w.body h (c.frame.ensures ∙ w.framed) rests.at_rest rests.synced;
-    }
+pub returns-in-Device-clause-writes : goal.returns-in-Device-clause-writes
+returns-in-Device-clause-writes g c k x s = record {
+  left = (
+      let y : calls.Index = record { state = x.state; status = calls.closed } in
+      let call = calls.merge_range c.args.range.start c.args.range.end in
+      (y, subst (λ e. calls.Leaves k x call (Err e) y) (sym c.in-Device.is) (calls.device_failed (c.in_ok-prepared.ensures.taken k x s) refl), c.stop.ensures.left k x s));
+  exact = (λ memory device limit. absurd (device c.in-Device.is));
+  appended = λ h. tt;
+  rests = λ h rests. tt;
+  any_moment = λ h rests. (
+      let d = g.D.Device in
+      let analyze = g.A.Analyzer.analyze in
+      let old = c.args.self.now.index_state in
+      let device = device_of c.args.self.now in
+      let p = c.in_ok-prepared.prepared in
+      let w = merge_written analyze old p k x c.args.range.start c.args.range.end s (c.in_ok-prepared.ensures.joins k x s) (c.in_ok-prepared.ensures.body k x s) in
+      record {
+        first = rests.bodies;
+        second = rests.bodies ++ w.body ∷ [];
+        says_one = rests_say old.schema old.settings (analyze old.analyzer) (members_of old) x.state.groups (d.content device) (d.unsynced device) (gate_of c.args.self.now) rests (stands_groups analyze old k x s);
+        says_other = inr (record { members = members_merged old p; leave = leave_next old.schema old.settings rests.bodies (members_of old) (members_merged old p) w.body rests.leave w.makes; are_groups = w.are_groups });
+        images = c.append.ensures.any_moment rests.bodies w.body h (c.frame.ensures ∙ w.framed) rests.at_rest rests.synced;
+      });
+}
 
 pub returns : goal.returns
 returns g c =
@@ -127,8 +127,21 @@ returns g c =
     ] in
     let unchanged = c.in-Err.ensures.unchanged (ap Err limit) in
     record {
-      left = λ k x s. (x, subst (λ e. calls.Leaves k x call (Err e) x) (sym limit) (calls.limit_refused (c.in_ok-prepared.ensures.taken k x s) refl), s);
-      exact = λ k x s memory failed other. absurd (other limit);
+      writes = λ k x s. record {
+        left = (x, subst (λ e. calls.Leaves k x call (Err e) x) (sym limit) (calls.limit_refused (c.in_ok-prepared.ensures.taken k x s) refl), s);
+        exact = λ memory failed other. absurd (other limit);
+        appended = λ h. tt;
+        rests = λ h rests. tt;
+        any_moment = λ h rests. (
+            let w = merge_written analyze old p k x from to s (c.in_ok-prepared.ensures.joins k x s) (c.in_ok-prepared.ensures.body k x s) in
+            record {
+              first = rests.bodies;
+              second = rests.bodies ++ w.body ∷ [];
+              says_one = rests_say old.schema old.settings (analyze old.analyzer) (members_of old) x.state.groups (d.content device) (d.unsynced device) (gate_of c.args.self.now) rests (stands_groups analyze old k x s);
+              says_other = inr (record { members = members_merged old p; leave = leave_next old.schema old.settings rests.bodies (members_of old) (members_merged old p) w.body rests.leave w.makes; are_groups = w.are_groups });
+              images = c.append.ensures.any_moment rests.bodies w.body h (c.frame.ensures ∙ w.framed) rests.at_rest rests.synced;
+            });
+      };
       made = search;
       honest = c.append.ensures.honest;
       cause = c.in-Err.ensures.cause;
@@ -138,15 +151,4 @@ returns g c =
           inr (w.body, (members_merged old p, w.makes, w.are_groups), subst (λ (bytes : List ℕ). 2 ^ 63 < gate_of c.args.self.now + 1 + length bytes) (c.frame.ensures ∙ w.framed) (c.append.ensures.limit.0 (c.in-Err.is ∙ met))));
       short = tt;
       kept = λ other. (unchanged.0, unchanged.1, refl);
-      appended = λ k x s h. tt;
-      rests = λ k x s h rests. tt;
-      any_moment = λ k x s h rests. (
-          let w = merge_written analyze old p k x from to s (c.in_ok-prepared.ensures.joins k x s) (c.in_ok-prepared.ensures.body k x s) in
-          record {
-            first = rests.bodies;
-            second = rests.bodies ++ w.body ∷ [];
-            says_one = rests_say old.schema old.settings (analyze old.analyzer) (members_of old) x.state.groups (d.content device) (d.unsynced device) (gate_of c.args.self.now) rests (stands_groups analyze old k x s);
-            says_other = inr (record { members = members_merged old p; leave = leave_next old.schema old.settings rests.bodies (members_of old) (members_merged old p) w.body rests.leave w.makes; are_groups = w.are_groups });
-            images = c.append.ensures.any_moment rests.bodies w.body h (c.frame.ensures ∙ w.framed) rests.at_rest rests.synced;
-          });
     }
