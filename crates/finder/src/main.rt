@@ -24,7 +24,7 @@ fn main(rt: HostRuntime) -> ExitCode {
 /// Adds two titles, and prints those with the word `sea`.
 fn find(rt: &HostRuntime) -> Result<(), Fault> {
     let alloc = rt.alloc();
-    let mut index = open_or_create(rt)?;
+    let mut index = create(rt)?;
     index.add_json(r#"{"title":"the old sea"}"#)?;
     index.add_json(r#"{"title":"sea sea wind"}"#)?;
     index.commit()?;
@@ -37,19 +37,15 @@ fn find(rt: &HostRuntime) -> Result<(), Fault> {
     Ok(())
 }
 
-/// Opens the index of the file; creates one without documents where there is none yet.
-fn open_or_create(rt: &HostRuntime) -> Result<Index<FileDevice, RawAndDefault>, Fault> {
+/// Creates an index without documents in the file, which must hold none yet.
+fn create(rt: &HostRuntime) -> Result<Index<FileDevice, RawAndDefault>, Fault> {
     let alloc = rt.alloc();
-    match Index::open(alloc, FileDevice::open(rt, PATH)?, RawAndDefault) {
-        Err(refused) if refused.fault == Fault::NoIndex => {
-            let mut builder = Schema::builder(alloc);
-            builder.add_text_field("title", TEXT | STORED)?;
-            let (schema, settings) = (builder.build(), Settings::default(alloc)?);
-            let created = Index::create(alloc, refused.device, refused.analyzer, schema, settings);
-            Ok(created?)
-        }
-        opened => Ok(opened?),
-    }
+    let mut builder = Schema::builder(alloc);
+    builder.add_text_field("title", TEXT | STORED)?;
+    let settings = Settings::default(alloc)?;
+    let device = FileDevice::open(rt, PATH)?;
+    let index = Index::create(alloc, device, RawAndDefault, builder.build(), settings)?;
+    Ok(index)
 }
 
 /// Prints the score and the title of `hit`.
