@@ -13,7 +13,7 @@ use Rattle.definitions.specs.Making.{are_analyzed, making_fault}
 use Rattle.definitions.specs.Replies.{ok_reply}
 use Rattle.definitions.specs.SchemaGrammar.{schema_in}
 use Rattle.definitions.specs.Settings.{Settings}
-use Rattle.definitions.specs.Step.{Analysis, Held, Session, Stage, answer_reply, answering, call_in, call_step, configuration_of, created, file_of, fresh_index, held_by, if_empty, in_index, index_of, index_step, is_ready, no_file, no_index, only_asks, opened, refused_or, refusing, reopened, settings_sent, stage_step, step, unless_ready, with_schema, with_settings}
+use Rattle.definitions.specs.Step.{Analysis, Held, Session, Stage, answer_reply, answering, call_in, call_step, configuration_of, created, file_of, fresh_index, held_by, if_empty, in_index, index_of, index_step, is_ready, no_file, no_index, only_asks, opened, other_bytes, refused_or, refusing, reopened, settings_sent, stage_step, step, unless_ready, with_schema, with_settings}
 use Rattle.definitions.specs.TermGrammar.{term_in}
 use Rattle.definitions.proofs.ReplyTexts.{hits_float}
 use Rattle.definitions.specs.declared.fault.Fault.{Fault}
@@ -101,6 +101,7 @@ either_float false one other h k = k
 opened_float : (knows : List ℕ → Bool) (held : Held) → has_float ((opened knows held).0) ≡ false
 opened_float knows no_file = refl
 opened_float knows (file_of schema settings groups) = either_float (are_analyzed knows schema) (ok_reply, index_of schema settings (reopened groups)) (refusing faults.UnknownTokenizer (no_index (file_of schema settings groups))) refl refl
+opened_float knows (other_bytes bytes fault) = refl
 
 with_settings_float : (knows : List ℕ → Bool) (stage : Stage) (schema : Schema) (settings : Result Settings Fault) → has_float ((with_settings knows stage schema settings).0) ≡ false
 with_settings_float knows stage schema (Ok settings) = created_float knows schema settings (held_by stage)

@@ -47,7 +47,11 @@ pub record IsPartly (old asked new : List ℕ) : Type 0 where
 abbrev pub IsEither : {T : Type 0} → T → T → T → Type 0
 IsEither first second x = (x ≡ first) ⊎ (x ≡ second)
 
+-- a number of failures rose, or can't rise
+abbrev pub Rose : ℕ → ℕ → Type 0
+Rose before now = (before < now) ⊎ (before ≡ 2 ^ 64 - 1)
+
 -- the number of failures doesn't fall, and `Device` is answered only where it rose or can't rise
 pub record HasCause {T : Type 0} (before now : ℕ) (result : Result T Fault) : Type 0 where
   pub later : before ≤ now
-  pub cause : IsErrOf result faults.Device → (before < now) ⊎ (before ≡ 2 ^ 64 - 1)
+  pub cause : IsErrOf result faults.Device → Rose before now

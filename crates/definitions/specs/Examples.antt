@@ -1,5 +1,5 @@
 -- The data of the worked examples: books with a title and a year, queries over them, and calls.
-use Rattle.std.specs.Prelude.{[], ◌%◌, ◌++◌, ◌+◌, ◌/◌, ◌∷◌, List, codes, false, flat_map, if◌then◌else◌, map, nat_lt, pos, replicate, suc, true, zero, ℕ, ℤ}
+use Rattle.std.specs.Prelude.{[], ◌%◌, ◌++◌, ◌+◌, ◌/◌, ◌∷◌, List, codes, false, flat_map, if◌then◌else◌, length, map, nat_lt, negsuc, pos, replicate, slice_index, suc, take, true, zero, ℕ, ℤ}
 use Rattle.std.specs.List.{enumerate_from}
 use Rattle.std.specs.Int.{to_be_bytes, w64}
 use Rattle.definitions.specs.Analyzers.{raw_and_default}
@@ -7,9 +7,10 @@ use Rattle.definitions.specs.Calls.{Call, Configuration, add_document, after, co
 use Rattle.definitions.specs.Indexing.{terms_of}
 use Rattle.definitions.specs.Query.{Clauses, Queries, Query, Terms, all, boolean, boost, clause, default_minimum, disjunction_max, must, no_clauses, no_queries, phrase, phrase_prefix, query, should, term}
 use Rattle.definitions.specs.Refusing.{all_expansions}
-use Rattle.definitions.specs.Scanning.{Hit, scan, scan_count}
+use Rattle.definitions.specs.Scanning.{Hit, insert_ranked, scan, scan_count}
 use Rattle.definitions.specs.Schema.{Entry, Kind, Schema, basic, date_kind, has_lengths, json_kind, text_kind, u64_kind, with_freqs_and_positions}
-use Rattle.definitions.specs.Scoring.{Similarity}
+use Rattle.definitions.specs.Scoring.{Similarity, max_score}
+use Rattle.definitions.specs.Sinks.{ScoredBlocks}
 use Rattle.definitions.specs.State.{State, nothing_yet}
 use Rattle.definitions.specs.Stored.{stored_values}
 use Rattle.definitions.specs.Terms.{signed_bytes, term_bytes, whole_seconds}
@@ -212,3 +213,18 @@ of_three_books docs_in_segment = after_calls docs_in_segment (add_and_commit thr
 abbrev pub head_or : ℕ → List ℕ → ℕ
 head_or n [] = n
 head_or n (m ∷ ms) = m
+
+-- ---- counted work
+
+-- the best k scores, as a sink that keeps them takes one more
+abbrev pub keep_best : ℕ → List ℕ → ℕ × ℕ → List ℕ
+keep_best k kept p = take k (insert_ranked (λ n. n) p.1 kept)
+
+-- what it is told of is above this: nothing is left out until it has k, and nothing taken where k is 0
+abbrev pub best_threshold : ℕ → List ℕ → ℤ
+best_threshold zero kept = pos max_score
+best_threshold (suc k) kept = if nat_lt (length kept) (suc k) then negsuc 0 else pos (slice_index kept k)
+
+-- documents 0 to 127 with score 40, and 128 to 383 with score 30, in blocks whose bounds have these scores
+abbrev pub falling_blocks : ScoredBlocks
+falling_blocks = (40, enumerate_from 0 (replicate 128 40)) ∷ (30, enumerate_from 128 (replicate 128 30)) ∷ (30, enumerate_from 256 (replicate 128 30)) ∷ []

@@ -35,13 +35,25 @@ module _ {State : Type 0} (answer : State → List ℕ → List ℕ) (after : St
   abbrev pub state_after : State → List ℕ → State
   state_after s line = if is_none (line_refusal line) then after s line else s
 
-  -- out is the replies to the lines in turn, up to the first fault that stops; what follows that is free
+-- whether a line meets a limit in a state, and whether a failure was counted while the lines were answered
+module _ {State : Type 0} (meets : State → List ℕ → Type 0) (Failed : Type 0) where
+  -- why a line may be replied by a fault that stops: memory may be wanting at any line, but a limit is met by what a text
+  -- asks, and a text's call meets a failure
+  pub record HasReason (s : State) (line : List ℕ) (fault : Fault) : Type 0 where
+    pub stops : IsTrue (stops fault)
+    pub limit : fault ≡ faults.Limit → (line_refusal line ≡ None) × meets s line
+    pub device : fault ≡ faults.Device → (line_refusal line ≡ None) × Failed
+
+module _ {State : Type 0} (answer : State → List ℕ → List ℕ) (after : State → List ℕ → State)
+    (meets : State → List ℕ → Type 0) (Failed : Type 0) where
+  -- out is the replies to the lines in turn, up to the first fault that stops, which has its reason; what follows that is
+  -- free
   abbrev pub AreReplies : State → List (List ℕ) → List ℕ → Type 0
   AreReplies s [] out = out ≡ []
   AreReplies s (line ∷ lines) out =
-      ((rest : List ℕ) × (out ≡ output_line (reply_to s line) ++ rest)
-      × AreReplies (state_after s line) lines rest)
-      ⊎ ((fault : Fault) × IsTrue (stops fault) × (rest : List ℕ) × (out ≡ output_line (reply_text fault) ++ rest))
+      ((rest : List ℕ) × (out ≡ output_line (reply_to answer after s line) ++ rest)
+      × AreReplies (state_after answer after s line) lines rest)
+      ⊎ ((fault : Fault) × HasReason meets Failed s line fault × (rest : List ℕ) × (out ≡ output_line (reply_text fault) ++ rest))
 
   -- the writer's bytes grow by such replies
   abbrev pub Writes : State → List (List ℕ) → Option (List ℕ) → Option (List ℕ) → Type 0

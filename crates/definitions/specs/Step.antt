@@ -26,10 +26,12 @@ pub record Analysis : Type 0 where
   pub knows : List ℕ → Bool
   pub analyze : Analyzer
 
--- what a device holds: no byte, or the file of an index with the groups that its last record leaves
+-- What a device holds: no byte, or the file of an index with the groups that its last record leaves, or other bytes, with
+-- why no index is opened from them.
 pub data Held : Type 0 where
   no_file : Held
   file_of : Schema → Settings → List (List Document) → Held
+  other_bytes : List ℕ → Fault → Held
 
 -- what stands on the device: no index, or one that is made of a schema and settings
 pub data Stage : Type 0 where
@@ -112,15 +114,17 @@ held_by (index_of schema settings x) = file_of schema settings x.state.groups
 abbrev pub if_empty : Held → Option Fault
 if_empty no_file = None
 if_empty (file_of schema settings groups) = Some faults.NotEmpty
+if_empty (other_bytes bytes fault) = Some faults.NotEmpty
 
 -- an index without documents
 abbrev pub created : (List ℕ → Bool) → Schema → Settings → Held → json.Data × Stage
 created knows schema settings held = refused_or (option_or (making_fault knows schema settings) (if_empty held)) (no_index held) (ok_reply, index_of schema settings fresh_index)
 
--- the index of the file
+-- the index of the file, or why there is none
 abbrev pub opened : (List ℕ → Bool) → Held → json.Data × Stage
 opened knows no_file = refusing faults.NoIndex (no_index no_file)
 opened knows (file_of schema settings groups) = if are_analyzed knows schema then (ok_reply, index_of schema settings (reopened groups)) else refusing faults.UnknownTokenizer (no_index (file_of schema settings groups))
+opened knows (other_bytes bytes fault) = refusing fault (no_index (other_bytes bytes fault))
 
 -- the settings that are sent, or where none are the defaults
 abbrev pub settings_sent : Schema → Option json.Data → Result Settings Fault

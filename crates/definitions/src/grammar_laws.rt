@@ -53,10 +53,10 @@ pub fn some_lines_are_refused_unread()
         × (state_after answer_of after_line session line ≡ after_line session line) }
 {}
 
-/// The answers to lines are replies to them, as the relation of all replies has them.
+/// The answers to lines are replies to them, as the relation of all replies has them, where no fault stops.
 pub fn answers_are_replies()
-    ensures { (session : Session) (lines : List (List ℕ))
-        → AreReplies answer_of after_line session lines (flat_map output_line (answers_to session lines)) }
+    ensures { (session : Session) (lines : List (List ℕ)) → AreReplies answer_of after_line (λ s line. ⊥) ⊥ session lines
+        (flat_map output_line (answers_to session lines)) }
 {}
 
 /// A request of which a call is read does what that call does, and replies so.

@@ -4,11 +4,12 @@ ghost use Rattle.std.specs.Prelude.{◌++◌, ◌-◌, ◌≡◌, ◌≢◌, ◌
 ghost use Rattle.std.specs.List.{AllByRecursion};
 ghost use Rattle.definitions.specs.Analyzers.{Analyzer};
 ghost use Rattle.definitions.specs.Calls.{Call, Configuration};
-ghost use Rattle.definitions.specs.HistoryLaws.{HasRange, SameList, after_all, documents_within, with_segments_of, without_merges};
+ghost use Rattle.definitions.specs.HistoryLaws.{HasRange, SameList, WeighAlike, after_all, documents_within, list_after, with_segments_of, without_merges};
 ghost use Rattle.definitions.specs.Query.{Query};
 ghost use Rattle.definitions.specs.Scanning.{scan, scan_count};
 ghost use Rattle.definitions.specs.Schema.{Schema};
 ghost use Rattle.definitions.specs.Scoring.{Similarity};
+ghost use Rattle.definitions.specs.Settings.{Settings, similarity_of};
 ghost use Rattle.definitions.specs.State.{State, after_add, after_commit, after_delete, after_merge, committed, deleted_terms, is_left, living, marked, num_segments};
 ghost use Rattle.definitions.specs.Values.{Document};
 
@@ -90,4 +91,22 @@ pub fn merges_and_segment_sizes_do_not_matter()
         → AllByRecursion HasRange calls → AllByRecursion HasRange others → without_merges calls ≡ without_merges others
         → (s t : State) → SameList s t
         → SameList (after_all (with_segments_of m c) s calls) (after_all (with_segments_of n c) t others) }
+{}
+
+/// Histories answer alike that leave one list, where schema, analyzer, weights and norms are equal: with the same hits,
+/// their scores and stored values, and the same counts. The sizes of segments, of blocks and of the cache don't matter, and
+/// neither do merges: such histories leave one list.
+pub fn whole_histories_answer_alike()
+    ensures hits { (schema : Schema) (analyze : Analyzer) (a b : Settings) (calls others : List Call) → WeighAlike a b
+        → list_after schema analyze a calls ≡ list_after schema analyze b others → (q : Query) (k : ℕ)
+        → scan schema analyze (similarity_of a) (list_after schema analyze a calls) q k
+        ≡ scan schema analyze (similarity_of b) (list_after schema analyze b others) q k }
+    ensures counts { (schema : Schema) (analyze : Analyzer) (a b : Settings) (calls others : List Call) → WeighAlike a b
+        → list_after schema analyze a calls ≡ list_after schema analyze b others → (q : Query)
+        → scan_count schema analyze (list_after schema analyze a calls) q
+        ≡ scan_count schema analyze (list_after schema analyze b others) q }
+    ensures merges { (schema : Schema) (analyze : Analyzer) (a b : Settings) (calls others : List Call) → WeighAlike a b
+        → 1 ≤ a.docs_per_segment → 1 ≤ b.docs_per_segment
+        → AllByRecursion HasRange calls → AllByRecursion HasRange others → without_merges calls ≡ without_merges others
+        → list_after schema analyze a calls ≡ list_after schema analyze b others }
 {}

@@ -3,9 +3,9 @@
 ghost use Rattle.std.specs.Prelude.{[], ◌++◌, ◌∷◌, ◌≡◌, List, length, map, negsuc, pos, replicate, ℕ};
 ghost use Rattle.definitions.specs.Analyzers.{raw_and_default};
 ghost use Rattle.definitions.specs.Blocks.{blocks, bound_of, bound_score};
-ghost use Rattle.definitions.specs.Examples.{book, books, head_or, three_books, title_term, year_term};
+ghost use Rattle.definitions.specs.Examples.{best_threshold, book, books, falling_blocks, head_or, keep_best, three_books, title_term, year_term};
 ghost use Rattle.definitions.specs.Postings.{postings};
-ghost use Rattle.definitions.specs.Sinks.{fed};
+ghost use Rattle.definitions.specs.Sinks.{blocks_above, fed, later_blocks_above};
 
 /// The documents that have a term, each with its count and positions.
 pub fn postings_list_documents()
@@ -46,4 +46,14 @@ pub fn sinks_take_what_is_above()
         ∷ []) ≡ 4 ∷ 3 ∷ [] }
     ensures from_zero { fed (λ (s : List ℕ). negsuc 0) (λ s p. p.1 ∷ s) [] ((0, 3) ∷ (1, 0) ∷ []) ≡ 0 ∷ 3 ∷ [] }
     ensures none { fed (λ (s : List ℕ). pos 3) (λ s p. p.1 ∷ s) [] ((0, 3) ∷ (1, 0) ∷ []) ≡ [] }
+{}
+
+/// A walk that keeps the best k needs the blocks after the first whose bounds are above the threshold as it then stands.
+pub fn blocks_above_the_threshold_are_counted()
+    ensures no_hit { later_blocks_above (best_threshold 0) (keep_best 0) [] falling_blocks ≡ 0 }
+    ensures one { later_blocks_above (best_threshold 1) (keep_best 1) [] falling_blocks ≡ 0 }
+    ensures full { later_blocks_above (best_threshold 128) (keep_best 128) [] falling_blocks ≡ 0 }
+    ensures one_more { later_blocks_above (best_threshold 129) (keep_best 129) [] falling_blocks ≡ 1 }
+    ensures empty { blocks_above (best_threshold 1) (keep_best 1) [] ((40, []) ∷ []) ≡ 0 }
+    ensures none { later_blocks_above (best_threshold 1) (keep_best 1) [] [] ≡ 0 }
 {}

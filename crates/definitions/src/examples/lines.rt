@@ -1,14 +1,14 @@
 //! Worked lines: what is sent, and what is replied.
 #![tactic(auto, unfolding(crate::proofs::OnLiterals::definitions_on_literals))]
 
-ghost use Rattle.std.specs.Prelude.{[], ◌++◌, ◌∷◌, ◌≡◌, None, codes, false, map, true};
+ghost use Rattle.std.specs.Prelude.{[], ⊤, ◌++◌, ◌∷◌, ◌≡◌, None, Some, codes, false, map, true};
 ghost use Rattle.definitions.specs.Analyzers.{is_raw_or_default};
 ghost use Rattle.definitions.specs.Calls.{closed, ready, writer_closed};
 ghost use Rattle.definitions.specs.Examples.{of_three_books, old_sea, sea_wind, wind};
-ghost use Rattle.definitions.specs.LineExamples.{after_lines, book_schema, book_session, empty_session, opened_session, reply, session_with, three_book_lines, three_books_session, title_line, unindexed_session};
-ghost use Rattle.definitions.specs.Replying.{AreReplies, answers_to, stops};
+ghost use Rattle.definitions.specs.LineExamples.{after_lines, book_schema, book_session, empty_session, opened_session, reply, session_on, session_with, three_book_lines, three_books_session, title_line, unindexed_session};
+ghost use Rattle.definitions.specs.Replying.{AreReplies, HasReason, answers_to, stops};
 ghost use Rattle.definitions.specs.Settings.{default_settings};
-ghost use Rattle.definitions.specs.Step.{after_line, answer_of, file_of, fresh_index, held_by, index_of, opened};
+ghost use Rattle.definitions.specs.Step.{after_line, answer_of, file_of, fresh_index, held_by, index_of, no_index, opened, other_bytes};
 ghost use Rattle.definitions.specs.declared.fault.Fault.TheVariants as faults;
 
 /// A device holds the groups of its index, and an index that is opened has them again; a new one has none.
@@ -33,8 +33,20 @@ pub fn three_faults_stop()
 
 /// Without a line nothing is written, and no line stays without a reply.
 pub fn each_line_has_a_reply()
-    ensures no_line { ¬ AreReplies answer_of after_line book_session [] (10 ∷ []) }
-    ensures no_reply { ¬ AreReplies answer_of after_line book_session ([] ∷ []) [] }
+    ensures no_line { ¬ AreReplies answer_of after_line (λ s line. ⊤) ⊤ book_session [] (10 ∷ []) }
+    ensures no_reply { ¬ AreReplies answer_of after_line (λ s line. ⊤) ⊤ book_session ([] ∷ []) [] }
+{}
+
+/// Memory may be wanting at any line; `Limit` and `Device` are the replies to a text alone, and not without a limit that it
+/// meets, or a failure.
+pub fn faults_that_stop_have_reasons()
+    ensures memory { HasReason (λ s line. ⊥) ⊥ book_session (255 ∷ []) faults.OutOfMemory }
+    ensures limit { ¬ HasReason (λ s line. ⊥) ⊤ book_session [] faults.Limit }
+    ensures device { ¬ HasReason (λ s line. ⊤) ⊥ book_session [] faults.Device }
+    ensures unread_limit { ¬ HasReason (λ s line. ⊤) ⊤ book_session (255 ∷ []) faults.Limit }
+    ensures unread_device { ¬ HasReason (λ s line. ⊤) ⊤ book_session (255 ∷ []) faults.Device }
+    ensures text_limit { HasReason (λ s line. ⊤) ⊥ book_session [] faults.Limit }
+    ensures refusal { ¬ HasReason (λ s line. ⊤) ⊤ book_session [] faults.NotOpen }
 {}
 
 /// Three books are added and committed, then searched and counted.
@@ -216,6 +228,17 @@ pub fn an_index_is_opened_again()
         ∷ [])) (codes "{\"op\":\"open\"}" ∷ codes "{\"op\":\"commit\"}"
         ∷ codes "{\"op\":\"count\",\"query\":{\"q\":\"term\",\"field\":\"title\",\"value\":\"sea\"}}" ∷ [])
         ≡ codes "{\"ok\":true}" ∷ codes "{\"ok\":true}" ∷ codes "{\"count\":2}" ∷ [] }
+{}
+
+/// Over bytes that are no file of an index nothing is made or opened, and they stay.
+pub fn other_bytes_stay()
+    ensures refused { answers_to (session_on (other_bytes (97 ∷ []) faults.NoIndex)) (codes "{\"op\":\"open\"}" ∷ title_line
+        ∷ codes "{\"op\":\"commit\"}" ∷ []) ≡ codes "{\"error\":\"NoIndex\"}" ∷ codes "{\"error\":\"NotEmpty\"}"
+        ∷ codes "{\"error\":\"NotOpen\"}" ∷ [] }
+    ensures damaged { answers_to (session_on (other_bytes (165 ∷ []) (faults.Damaged (Some 0)))) (codes
+        "{\"op\":\"open\"}" ∷ []) ≡ codes "{\"error\":\"Damaged\"}" ∷ [] }
+    ensures kept { (after_lines (session_on (other_bytes (97 ∷ []) faults.NoIndex)) (codes "{\"op\":\"open\"}"
+        ∷ title_line ∷ [])).stage ≡ no_index (other_bytes (97 ∷ []) faults.NoIndex) }
 {}
 
 /// What is refused when an index is to be made, in this order.
