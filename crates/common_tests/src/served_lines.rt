@@ -1,6 +1,6 @@
 //! What no clause says: that a run goes through, and what it does where its reader or writer fails.
 
-ghost use Rattle.std.specs.Prelude.{◌≡◌, ◌==◌, ◌%◌, ◌+◌, ℕ, ◌++◌, codes, if◌then◌else◌, true};
+ghost use Rattle.std.specs.Prelude.{◌≡◌, ◌==◌, ◌%◌, ◌+◌, ◌-◌, ◌^◌, ℕ, ◌++◌, codes, if◌then◌else◌, true};
 
 use definitions::Fault;
 use serve_lines::{RunFault, Service, run, run_within};
@@ -16,6 +16,7 @@ use std::test::Fail;
 struct Echo {
     alloc: Global,
     answered: u64,
+    failures: u64,
 }
 
 impl Service for Echo {
@@ -27,12 +28,17 @@ impl Service for Echo {
 
     ghost after = { λ answered _. answered + 1 };
 
-    ghost leaves = { λ answered left. left ≡ answered };
+    ghost leaves = { λ answered line left. left ≡ answered };
+
+    ghost meets = { λ echo answered line. answered ≡ 2 ^ 64 - 1 };
+
+    ghost failed = { λ echo. echo.failures };
 
     ghost lasts = { λ _. true };
 
     fn reply(&mut self, line: &str) -> Result<CowStr<'static>, Fault> {
         if line == "fail" {
+            self.failures = self.failures.saturating_add(1);
             return Err(Fault::Device);
         }
         let mark = if self.answered % 2 == 0 { "+" } else { "-" };
@@ -142,7 +148,7 @@ impl Write for Screen<'_> {
 }
 
 fn make_echo(alloc: Global) -> Echo {
-    Echo { alloc, answered: 0 }
+    Echo { alloc, answered: 0, failures: 0 }
 }
 
 /// What a run over an input writes, if it goes through.

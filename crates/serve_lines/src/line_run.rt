@@ -1,12 +1,13 @@
 //! The run over the lines of an input.
 
-ghost use Rattle.std.specs.Prelude.{◌≡◌, ℕ, ◌<◌, ◌^◌, List, OnOk, IfErr, IfOk, IfSome, IsTrue};
+ghost use Rattle.std.specs.Prelude.{◌≡◌, ℕ, ◌<◌, ◌≤◌, ◌^◌, List, OnOk, IfErr, IfOk, IfSome, IsTrue};
 ghost use Rattle.std.specs.Io.KnownBytes.{Appends};
 ghost use Rattle.common.specs.declared.run_fault.RunFault.TheVariants as run_faults;
+ghost use Rattle.definitions.specs.Disk.{Rose};
 ghost use Rattle.definitions.specs.Lines.{lines_of};
 ghost use Rattle.serve_lines.specs.Reading.{Holds};
 ghost use Rattle.definitions.specs.Replying.{output_line, Writes};
-ghost use Rattle.serve_lines.specs.Serving.{ServesAll, ServesLine, WritesAnswer};
+ghost use Rattle.serve_lines.specs.Serving.{MeetsLimit, ServesAll, ServesLine, WritesAnswer};
 
 use crate::line_buffer::LineBuffer;
 use crate::line_reader::{flush, read_line};
@@ -28,12 +29,14 @@ pub fn run<R: BufRead, W: Write, S: Service>(
     // Where the reader's bytes are known, the replies to its lines are written.
     ensures replies { (s : S.State) → S.stands service.old s
         → OnOk result (IfSome (R.remaining reader.old) (λ input.
-        Writes S.answer S.after s (lines_of input) (W.contents writer.old) (W.contents writer.new))) }
+        Writes S.answer S.after (MeetsLimit S.stands S.meets) (Rose (S.failed service.old) (S.failed service.new)) s
+        (lines_of input) (W.contents writer.old) (W.contents writer.new))) }
     // The service stands for the state after all lines, unless that of `Device` is among the replies, or that of
     // another fault that stops where it doesn't last.
     ensures stands { (s : S.State) → S.stands service.old s
         → OnOk result (IfSome (R.remaining reader.old) (λ input.
-        ServesAll S.answer S.after S.leaves (IsTrue (S.lasts service.old)) (S.stands service.new) s (lines_of input)
+        ServesAll S.answer S.after S.leaves (IsTrue (S.lasts service.old)) (MeetsLimit S.stands S.meets)
+        (Rose (S.failed service.old) (S.failed service.new)) (S.stands service.new) s (lines_of input)
         (W.contents writer.old) (W.contents writer.new))) }
 {
     run_within(alloc, reader, writer, service, most_turns())
@@ -56,10 +59,12 @@ pub fn run_within<R: BufRead, W: Write, S: Service>(
 ) -> Result<(), RunFault>
     ensures replies { (s : S.State) → S.stands service.old s
         → OnOk result (IfSome (R.remaining reader.old) (λ input.
-        Writes S.answer S.after s (lines_of input) (W.contents writer.old) (W.contents writer.new))) }
+        Writes S.answer S.after (MeetsLimit S.stands S.meets) (Rose (S.failed service.old) (S.failed service.new)) s
+        (lines_of input) (W.contents writer.old) (W.contents writer.new))) }
     ensures stands { (s : S.State) → S.stands service.old s
         → OnOk result (IfSome (R.remaining reader.old) (λ input.
-        ServesAll S.answer S.after S.leaves (IsTrue (S.lasts service.old)) (S.stands service.new) s (lines_of input)
+        ServesAll S.answer S.after S.leaves (IsTrue (S.lasts service.old)) (MeetsLimit S.stands S.meets)
+        (Rose (S.failed service.old) (S.failed service.new)) (S.stands service.new) s (lines_of input)
         (W.contents writer.old) (W.contents writer.new))) }
 {
     let mut line = LineBuffer::new(alloc);
@@ -79,9 +84,10 @@ fn serve_line<R: BufRead, W: Write, S: Service>(
 ) -> Result<bool, RunFault>
     ensures turns { OnOk result (turns.new < turns.old) }
     ensures lasts { S.lasts service.new ≡ S.lasts service.old }
+    ensures later { S.failed service.old ≤ S.failed service.new }
     ensures served { IfOk result (λ more.
-        ServesLine S.answer S.after S.leaves (IsTrue (S.lasts service.old)) (S.stands service.old)
-        (S.stands service.new)
+        ServesLine S.answer S.after S.leaves (IsTrue (S.lasts service.old)) (MeetsLimit S.stands S.meets)
+        (Rose (S.failed service.old) (S.failed service.new)) (S.stands service.old) (S.stands service.new)
         more (R.remaining reader.old) (R.remaining reader.new) (W.contents writer.old) (W.contents writer.new)) }
 {
     if !read_line(reader, writer, line, turns)? {
@@ -99,8 +105,10 @@ fn answer_line<W: Write, S: Service>(
 ) -> Result<(), RunFault>
     ensures fault { IfErr result (λ fault. fault ≡ run_faults.WriteFault) }
     ensures lasts { S.lasts service.new ≡ S.lasts service.old }
+    ensures later { S.failed service.old ≤ S.failed service.new }
     ensures answered { (seen : List ℕ) → Holds line.now seen
         → OnOk result (WritesAnswer S.answer S.after S.leaves (IsTrue (S.lasts service.old))
+        (MeetsLimit S.stands S.meets) (Rose (S.failed service.old) (S.failed service.new))
         (S.stands service.old) (S.stands service.new) seen (W.contents writer.old) (W.contents writer.new)) }
 {
     match line.text() {

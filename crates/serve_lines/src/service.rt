@@ -1,7 +1,8 @@
 //! Services that answer the lines.
 
-ghost use Rattle.std.specs.Prelude.{◌≡◌, ◌≢◌, Bool, ℕ, List, IsTrue, IfOk, IfErr, OnOk};
+ghost use Rattle.std.specs.Prelude.{◌≡◌, ◌≢◌, ◌≤◌, Bool, ℕ, List, IsErrOf, IsTrue, IfOk, IfErr, OnOk};
 ghost use Rattle.std.specs.Cow.{cow_str_bytes};
+ghost use Rattle.definitions.specs.Disk.{Rose};
 ghost use Rattle.definitions.specs.Replying.{stops};
 ghost use Rattle.definitions.specs.declared.fault.Fault.TheVariants as faults;
 
@@ -22,8 +23,14 @@ pub trait Service {
     // The state after a text.
     ghost after: { State → List ℕ → State };
 
-    // What a fault that stops, other than `Device`, may leave of a state.
-    ghost leaves: { State → State → Type 0 };
+    // What a text, answered by a fault that stops, other than `Device`, may leave of a state.
+    ghost leaves: { State → List ℕ → State → Type 0 };
+
+    // Whether a text meets a limit of the service, as it stands for the state.
+    ghost meets: { Self → State → List ℕ → Type 0 };
+
+    // The number of failures of what the service stands on.
+    ghost failed: { Self → ℕ };
 
     // Whether the service stands for what such a fault leaves. No call changes this.
     ghost lasts: { Self → Bool };
@@ -35,7 +42,12 @@ pub trait Service {
         ensures state { (s : State) → stands self.old s
             → OnOk result (stands self.new (after s line.now)) }
         ensures left { (s : State) → stands self.old s → IsTrue (lasts self.old)
-            → IfErr result (λ fault. fault ≢ faults.Device → (t : State) × leaves s t × stands self.new t) }
+            → IfErr result (λ fault. fault ≢ faults.Device → (t : State) × leaves s line.now t × stands self.new t) }
+        ensures limit { (s : State) → stands self.old s
+            → IsErrOf result faults.Limit → meets self.old s line.now }
+        ensures device { (s : State) → stands self.old s
+            → IsErrOf result faults.Device → Rose (failed self.old) (failed self.new) }
+        ensures later { failed self.old ≤ failed self.new }
         ensures lasts { lasts self.new ≡ lasts self.old }
         ensures err { IfErr result (λ fault. IsTrue (stops fault)) };
 }
