@@ -9,6 +9,7 @@ mod bit_set;
 mod bit_words;
 mod device;
 mod file_device;
+mod fuse_device;
 mod has_len;
 mod memory_device;
 mod number;
@@ -28,6 +29,7 @@ pub use bit_set::BitSet;
 pub use definitions::Fault;
 pub use device::Device;
 pub use file_device::FileDevice;
+pub use fuse_device::FuseDevice;
 pub use has_len::HasLen;
 pub use memory_device::MemoryDevice;
 pub use number::{
