@@ -1,6 +1,6 @@
 -- The disk that calls make, one call further.
-use Rattle.std.proofs.Common.{[], ◌++◌, ◌<◌, ◌∙◌, ◌≡◌, ◌∷◌, List, ap, get_or, length, subst, sym, ℕ}
-use Rattle.std.proofs.lemmas.List.Sums.{fold_push}
+use Rattle.std.proofs.Common.{[], ◌++◌, ◌+◌, ◌<◌, ◌∙◌, ◌≡◌, ◌∷◌, List, ap, get_or, length, subst, sym, take, ℕ}
+use Rattle.std.proofs.lemmas.List.Sums.{fold_more, fold_push}
 use Rattle.definitions.specs.Disk.{IsImage}
 use Rattle.definitions.proofs.CallImages.{cut-remains, settled-remains, write-remains}
 use Rattle.common.specs.Calls.{Disk, IsWithin, after_call, disk_after}
@@ -10,6 +10,10 @@ use Rattle.common.specs.declared.memory_device.Call.TheVariants.{Cut, Sync, Writ
 -- one call more is made on the disk that those before it made
 pub disk_after_push : (calls new : List Call) (call : Call) → new ≡ calls ++ call ∷ [] → disk_after new ≡ after_call (disk_after calls) call
 disk_after_push calls new call more = ap disk_after more ∙ fold_push after_call _ calls call
+
+-- the disk after the calls up to one is that call made on the disk before it
+pub disk_after_more : (calls : List Call) (i : ℕ) (call : Call) → i < length calls → get_or calls i call ≡ call → disk_after (take (i + 1) calls) ≡ after_call (disk_after (take i calls)) call
+disk_after_more calls i call below is = fold_more after_call _ calls i call below ∙ ap (after_call (disk_after (take i calls))) is
 
 -- what a read gives after a call is an image, where it is bytes
 call-remains : (was : Disk) (call : Call) → IsWithin (length was.content) call → IsImage was.content was.unsynced was.content → ((i : ℕ) → get_or (after_call was call).content i 0 < 256)

@@ -1,6 +1,6 @@
 -- The calls that a device in memory keeps, and the disk that they make.
-use Rattle.std.specs.Prelude.{[], ◌≤◌, List, fold, length, take, ℕ}
-use Rattle.definitions.specs.Disk.{IsImage, Unsynced, overwritten, settled, shortened, written}
+use Rattle.std.specs.Prelude.{[], ◌<◌, ◌≡◌, ◌≤◌, ◌⊎◌, List, fold, length, slice_index, take, ℕ}
+use Rattle.definitions.specs.Disk.{IsImage, IsInRange, Unsynced, overwritten, settled, shortened, written}
 use Rattle.common.specs.declared.memory_device.Call.{Call}
 use Rattle.common.specs.declared.memory_device.Call.TheVariants.{Cut, Sync, Write}
 
@@ -36,3 +36,13 @@ IsWithin len Sync = Unit {0}
 -- a crash after some of the calls, at least so many, may leave this
 abbrev pub LeftSince : List Call → ℕ → List ℕ → Type 0
 LeftSince calls t image = (k : ℕ) × (t ≤ k) × (k ≤ length calls) × IsImage (content_after (take k calls)) (unsynced_after (take k calls)) image
+
+-- after a crash any byte may stand at this place
+abbrev pub MayHoldAny : Unsynced → ℕ → Type 0
+MayHoldAny unsynced i = (unsynced.least ≤ i) ⊎ IsInRange unsynced.ranges i
+
+-- what a crash leaves where one byte stands wherever any may: of so many bytes, and the rest as before
+pub record IsFilled (content : List ℕ) (unsynced : Unsynced) (fill len : ℕ) (image : List ℕ) : Type 0 where
+  pub long : length image ≡ len
+  pub filled : (i : ℕ) → i < len → MayHoldAny unsynced i → slice_index image i ≡ fill
+  pub kept : (i : ℕ) → i < len → ¬ MayHoldAny unsynced i → slice_index image i ≡ slice_index content i

@@ -11,7 +11,8 @@ use std::alloc::Global;
 /// A device: the bytes of a file, with a count of its failures.
 ///
 /// The contracts say what an honest device reads, and what a crash of it may leave. They say nothing about the bytes of
-/// other devices.
+/// other devices. A call that failed may have been done or not, and the contracts allow both: whichever a read then
+/// returns, a crash may leave it.
 pub trait Device {
     // Whether the other members hold of the device. No call changes this.
     ghost honest: { Self → Bool };

@@ -1,10 +1,10 @@
 //! Devices in memory.
 
-ghost use Rattle.std.specs.Prelude.{[], ◌++◌, ◌<◌, ◌∷◌, ◌≡◌, ◌≤◌, IfErr, IsErrOf, OnErr, OnOk, length, slice_index, take, true, ℕ};
+ghost use Rattle.std.specs.Prelude.{[], ◌++◌, ◌<◌, ◌∷◌, ◌≡◌, ◌≤◌, ◌↔◌, IfErr, IfOk, IsErrOf, IsTrue, OnErr, OnOk, length, slice_index, take, true, ℕ};
 ghost use Rattle.definitions.specs.declared.fault.Fault.TheVariants as faults;
-ghost use Rattle.definitions.specs.Disk.{HasCause, IsImage, overwritten, settled, shortened, written};
+ghost use Rattle.definitions.specs.Disk.{HasCause, IsImage, IsInRange, overwritten, settled, shortened, written};
 ghost use Rattle.definitions.specs.Moments.{Elapses};
-ghost use Rattle.common.specs.Calls.{IsWithin, LeftSince, after_call, content_after, disk_after, unsynced_after};
+ghost use Rattle.common.specs.Calls.{Disk, IsFilled, IsWithin, LeftSince, MayHoldAny, after_call, content_after, disk_after, unsynced_after};
 
 use crate::device::Device;
 use definitions::Fault;
@@ -16,7 +16,11 @@ pub struct MemoryDevice {
     alloc: Global,
     bytes: Vec<u8>,
     calls: Vec<Call>,
+    least: usize,
+    greatest: usize,
     failed: u64,
+    ghost least_is: { least ≡ (unsynced_after calls.items).least },
+    ghost greatest_is: { greatest ≡ (unsynced_after calls.items).greatest },
     ghost same: { content_after calls.items ≡ bytes.items },
     ghost remains: { IsImage bytes.items (unsynced_after calls.items) bytes.items },
 }
@@ -30,6 +34,8 @@ pub(crate) enum Call {
 }
 
 impl MemoryDevice {
+    ghost use Rattle.common.specs.MemoryDevices.{content_of, unsynced_of};
+
     /// Makes a device without bytes.
     pub fn new(alloc: Global) -> Self
         ensures honest { ⟦<MemoryDevice as Device>⟧.honest result ≡ true }
@@ -41,8 +47,49 @@ impl MemoryDevice {
             alloc,
             bytes: Vec::new(alloc),
             calls: Vec::new(alloc),
+            least: 0,
+            greatest: 0,
             failed: 0,
         }
+    }
+
+    /// Returns the least and the greatest length that a crash may leave.
+    pub fn crash_lens(&self) -> (usize, usize)
+        ensures least { result.0 ≡ (unsynced_of self.now).least }
+        ensures greatest { result.1 ≡ (unsynced_of self.now).greatest }
+        ensures ordered { result.0 ≤ result.1 }
+    {
+        (self.least, self.greatest)
+    }
+
+    /// Returns what a crash may leave: an image of `len` bytes, in which each byte that may hold anything is `fill`.
+    ///
+    /// Those are the bytes that were written since the last successful sync, and all past the least length since then.
+    /// A call that failed changes nothing here. Another device may have done it, and then these are among its images too.
+    pub fn crash(&self, alloc: Global, len: usize, fill: u8) -> Result<Vec<u8>, AllocError>
+        requires no_shorter { (unsynced_of self.now).least ≤ len }
+        requires no_longer { len ≤ (unsynced_of self.now).greatest }
+        ensures filled { IfOk result (λ image.
+            IsFilled (content_of self.now) (unsynced_of self.now) fill len image.items) }
+        ensures image { IfOk result (λ image.
+            IsImage (content_of self.now) (unsynced_of self.now) image.items) }
+    {
+        let mut image = Vec::with_capacity(alloc, len)?;
+        for i in 0..len {
+            image.push(self.crashed_byte(i, fill))?;
+        }
+        Ok(image)
+    }
+
+    // Returns the byte that a crash leaves at index `i`: `fill` where any may stand.
+    fn crashed_byte(&self, i: usize, fill: u8) -> u8
+        ensures filled { MayHoldAny (unsynced_of self.now) i → result ≡ fill }
+        ensures kept { ¬ MayHoldAny (unsynced_of self.now) i → result ≡ slice_index (content_of self.now) i }
+    {
+        if i >= self.least || is_written(&self.calls, i) {
+            return fill;
+        }
+        self.bytes[i]
     }
 
     // Makes and records a call, or counts a failure.
@@ -57,10 +104,34 @@ impl MemoryDevice {
             (LeftSince self.old.calls.items) (LeftSince self.new.calls.items)
             (IsImage self.new.bytes.items (unsynced_after self.new.calls.items)) }
     {
-        match record_call(&mut self.bytes, &mut self.calls, call) {
+        let (least, greatest) = (&mut self.least, &mut self.greatest);
+        match record_call(&mut self.bytes, &mut self.calls, least, greatest, call) {
             Ok(()) => Ok(()),
             Err(_) => fail(&mut self.failed),
         }
+    }
+}
+
+// Whether a call since the last sync wrote a byte at index `i`.
+fn is_written(calls: &[Call], i: usize) -> bool
+    ensures { IsTrue result ↔ IsInRange (unsynced_after calls.now).ranges i }
+{
+    let mut written = false;
+    for call in calls {
+        written = is_written_after(written, call, i);
+    }
+    written
+}
+
+// Whether that is so after a call, if it `was` before.
+fn is_written_after(was: bool, call: &Call, i: usize) -> bool
+    ensures { (disk : Disk) → IsTrue was ↔ IsInRange disk.unsynced.ranges i
+        → IsTrue result ↔ IsInRange (after_call disk call.now).unsynced.ranges i }
+{
+    match call {
+        Call::Write { at, bytes } => was || (*at <= i && i - *at < bytes.len()),
+        Call::Cut { .. } => was,
+        Call::Sync => false,
     }
 }
 
@@ -74,20 +145,43 @@ fn fail(failed: &mut u64) -> Result<(), Fault>
 }
 
 // Makes and records a call, or changes nothing.
-fn record_call(bytes: &mut Vec<u8>, calls: &mut Vec<Call>, call: Call) -> Result<(), AllocError>
+fn record_call(
+    bytes: &mut Vec<u8>,
+    calls: &mut Vec<Call>,
+    least: &mut usize,
+    greatest: &mut usize,
+    call: Call,
+) -> Result<(), AllocError>
     requires { IsWithin (length bytes.old.items) call }
     ensures bytes { content_after calls.old.items ≡ bytes.old.items
         → OnOk result (bytes.new.items ≡ (after_call (disk_after calls.old.items) call).content) }
     ensures calls { OnOk result (calls.new.items ≡ calls.old.items ++ call ∷ []) }
+    ensures least { content_after calls.old.items ≡ bytes.old.items
+        → least.old ≡ (unsynced_after calls.old.items).least
+        → OnOk result (least.new ≡ (after_call (disk_after calls.old.items) call).unsynced.least) }
+    ensures greatest { content_after calls.old.items ≡ bytes.old.items
+        → greatest.old ≡ (unsynced_after calls.old.items).greatest → length bytes.old.items ≤ greatest.old
+        → OnOk result (greatest.new ≡ (after_call (disk_after calls.old.items) call).unsynced.greatest) }
     ensures bytes_err { OnErr result (bytes.new.items ≡ bytes.old.items) }
     ensures calls_err { OnErr result (calls.new.items ≡ calls.old.items) }
+    ensures least_err { OnErr result (least.new ≡ least.old) }
+    ensures greatest_err { OnErr result (greatest.new ≡ greatest.old) }
     ensures fits { OnOk result ((i : ℕ) → slice_index bytes.new.items i < 256) }
 {
     calls.reserve(1)?;
     match &call {
-        Call::Write { at, bytes: written } => overwrite(bytes, *at, written)?,
-        Call::Cut { len } => bytes.truncate(*len),
-        Call::Sync => {}
+        Call::Write { at, bytes: written } => {
+            overwrite(bytes, *at, written)?;
+            *greatest = (*greatest).max(bytes.len());
+        }
+        Call::Cut { len } => {
+            bytes.truncate(*len);
+            *least = (*least).min(*len);
+        }
+        Call::Sync => {
+            *least = bytes.len();
+            *greatest = bytes.len();
+        }
     }
     // There is room for it.
     calls.push(call)?;

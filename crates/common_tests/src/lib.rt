@@ -9,6 +9,8 @@ mod bit_sets;
 #[cfg(test)]
 mod fault_texts;
 #[cfg(test)]
+mod fuse_devices;
+#[cfg(test)]
 mod memory_devices;
 #[cfg(test)]
 mod option_flags;

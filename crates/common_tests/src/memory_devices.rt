@@ -1,4 +1,4 @@
-//! What no clause says: that the calls of a device in memory go through.
+//! What no clause says: that the calls of a device in memory go through, and its crashes.
 
 use common::{Device, MemoryDevice, cut_synced, write_synced};
 use definitions::Fault;
@@ -83,5 +83,53 @@ fn steps_are_held(alloc: Global) -> Result<bool, Fault> {
 #[test]
 fn steps_are_read(rt: HostRuntime) -> Result<(), Fail> {
     assert!(rt; steps_are_held(rt.alloc())?);
+    Ok(())
+}
+
+/// Whether crashes leave `ab?` and `ab??` with `fill`, once `XY` is written at 2 after a sync of `abc`.
+fn crashes_are_filled(alloc: Global, fill: u8) -> Result<bool, Fault> {
+    let mut device = MemoryDevice::new(alloc);
+    write_synced(&mut device, 0, b"abc")?;
+    device.write_at(2, b"XY")?;
+    let (least, greatest) = device.crash_lens();
+    let shortest = device.crash(alloc, least, fill)?;
+    let longest = device.crash(alloc, greatest, fill)?;
+    Ok(
+        shortest.as_slice() == [b'a', b'b', fill].as_slice()
+            && longest.as_slice() == [b'a', b'b', fill, fill].as_slice(),
+    )
+}
+
+#[test]
+fn crashes_leave_images(rt: HostRuntime) -> Result<(), Fail> {
+    assert!(rt;
+        crashes_are_filled(rt.alloc(), 0x00)?
+            && crashes_are_filled(rt.alloc(), 0xa5)?
+            && crashes_are_filled(rt.alloc(), 0xff)?
+    );
+    Ok(())
+}
+
+/// Whether a crash leaves the length and the bytes of before a cut, and nothing else after a sync.
+fn cuts_are_undone_by_crashes(alloc: Global) -> Result<bool, Fault> {
+    let mut device = MemoryDevice::new(alloc);
+    write_synced(&mut device, 0, b"abc")?;
+    device.cut(1)?;
+    let (least, greatest) = device.crash_lens();
+    let longest = device.crash(alloc, greatest, b'?')?;
+    device.sync()?;
+    let (synced, _) = device.crash_lens();
+    let after = device.crash(alloc, synced, b'?')?;
+    Ok(
+        least == 1
+            && longest.as_slice() == b"a??".as_slice()
+            && after.as_slice() == b"a".as_slice()
+            && device.crash_lens() == (1, 1),
+    )
+}
+
+#[test]
+fn cuts_may_be_undone(rt: HostRuntime) -> Result<(), Fail> {
+    assert!(rt; cuts_are_undone_by_crashes(rt.alloc())?);
     Ok(())
 }
