@@ -10,7 +10,9 @@ use crate::device::Device;
 use definitions::Fault;
 use std::alloc::Global;
 
-/// A device with a fuse: the k-th call and all later ones fail and do nothing. A call before is one of the device inside.
+/// A device with a fuse: its k-th call and all later ones fail and do nothing.
+///
+/// A call before these is one of the device inside. `failures` is no call.
 #[derive(Drop)]
 pub struct FuseDevice<D> {
     device: D,
@@ -42,7 +44,7 @@ impl<D: Device> FuseDevice<D> {
         self.device
     }
 
-    /// Returns the number of calls that were made, failed ones too, saturating. `failures` is no call.
+    /// Returns the number of calls that were made, failed ones too, saturating.
     pub fn calls(&self) -> u64
         ensures { result ≡ calls_of self.now }
     {
