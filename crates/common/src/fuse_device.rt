@@ -122,10 +122,11 @@ impl<D: Device> Device for FuseDevice<D> {
         ensures content { IsTrue (D.honest (inner_of self.old))
             → OnOk result (D.content (inner_of self.new) ≡ overwritten at bytes.now (D.content (inner_of self.old))) }
         ensures partly { IsTrue (D.honest (inner_of self.old))
-            → OnErr result (IsPartly (D.content (inner_of self.old)) (overwritten at bytes.now (D.content (inner_of self.old)))
-            (D.content (inner_of self.new))) }
+            → OnErr result (IsPartly (D.content (inner_of self.old))
+            (overwritten at bytes.now (D.content (inner_of self.old))) (D.content (inner_of self.new))) }
         ensures unsynced { IsTrue (D.honest (inner_of self.old))
-            → OnOk result (D.unsynced (inner_of self.new) ≡ written at (length bytes.now) (D.unsynced (inner_of self.old))) }
+            → OnOk result (D.unsynced (inner_of self.new)
+            ≡ written at (length bytes.now) (D.unsynced (inner_of self.old))) }
         ensures unsynced_err { IsTrue (D.honest (inner_of self.old))
             → OnErr result (IsEither (D.unsynced (inner_of self.old))
             (written at (length bytes.now) (D.unsynced (inner_of self.old))) (D.unsynced (inner_of self.new))) }

@@ -65,7 +65,7 @@ impl MemoryDevice {
     /// Returns what a crash may leave: an image of `len` bytes, in which each byte that may hold anything is `fill`.
     ///
     /// Those are the bytes that were written since the last successful sync, and all past the least length since then.
-    /// A call that failed changes nothing here. Another device may have done it, and then these are among its images too.
+    /// A call that failed changes nothing here; where a device may have done it, these are among its images too.
     pub fn crash(&self, alloc: Global, len: usize, fill: u8) -> Result<Vec<u8>, AllocError>
         requires no_shorter { (unsynced_of self.now).least ≤ len }
         requires no_longer { len ≤ (unsynced_of self.now).greatest }
