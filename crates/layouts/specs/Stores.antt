@@ -1,6 +1,7 @@
 -- Stores: the documents' bytes in blocks, a skip index with a checkpoint for each block, and a footer.
 use Rattle.std.specs.Prelude.{[], ◌++◌, ◌+◌, ◌-◌, ◌<◌, ◌^◌, ◌∷◌, ◌≡◌, ◌≤◌, All, List, false, flat_map, length, map, nat_le, replicate, slice_index, suc, sum_by, true, zero, ℕ}
 use Rattle.std.specs.List.{concat}
+use Rattle.std.specs.declared.ops.Range.{Range}
 use Rattle.definitions.specs.NumberCodes.{u32_bytes, u64_bytes, vint_bytes}
 use Rattle.definitions.specs.State.{pieces}
 use Rattle.layouts.specs.declared.checkpoint.Checkpoint.{Checkpoint}
@@ -79,14 +80,19 @@ abbrev pub group_bytes : List Checkpoint → List ℕ
 group_bytes [] = vint_bytes 0
 group_bytes (c ∷ cs) = vint_bytes (length (c ∷ cs)) ++ vint_bytes c.doc_range.start ++ vint_bytes c.byte_range.start ++ flat_map extent_bytes (c ∷ cs)
 
--- a group's documents and bytes as one checkpoint
-abbrev pub whole_of : List Checkpoint → List Checkpoint
-whole_of [] = []
-whole_of (c ∷ cs) = record { doc_range = record { start = c.doc_range.start; end = doc_end c.doc_range.end cs }; byte_range = record { start = c.byte_range.start; end = byte_end c.byte_range.end cs } } ∷ []
+-- the documents of a group: from the first one's start to the last one's end
+abbrev pub group_docs : List Checkpoint → Range ℕ
+group_docs [] = record { start = 0; end = 0 }
+group_docs (c ∷ cs) = record { start = c.doc_range.start; end = doc_end c.doc_range.end cs }
 
--- the layer above: one checkpoint for each group
+-- a checkpoint for each group, the first at a given byte: the group's documents, and the bytes where it stands
+abbrev pub group_checkpoints : ℕ → List (List Checkpoint) → List Checkpoint
+group_checkpoints at [] = []
+group_checkpoints at (g ∷ gs) = record { doc_range = group_docs g; byte_range = record { start = at; end = at + length (group_bytes g) } } ∷ group_checkpoints (at + length (group_bytes g)) gs
+
+-- the layer above: where each group of a layer stands in it
 abbrev pub above : List Checkpoint → List Checkpoint
-above cs = flat_map whole_of (pieces group_len cs)
+above cs = group_checkpoints 0 (pieces group_len cs)
 
 -- the layers from the top to the lowest, which is given; the top has one group. The fuel is at least the number of checkpoints.
 abbrev pub layers_within : ℕ → List Checkpoint → List (List Checkpoint)

@@ -2,9 +2,10 @@
 use Rattle.std.proofs.Common.{ℕ, zero, suc, List, [], ◌∷◌, ◌++◌, ◌≡◌, ◌≤◌, ◌<◌, ◌+◌, ◌-◌, ◌*◌, ◌/◌, Bool, true, false, map, nat_le, refl, sym, ap, ap₂, ◌∙◌, arith, append_assoc, append-nil, length, take, drop, get_or, flat_map, length-append, min}
 use Rattle.std.proofs.lemmas.Bool.Decides.{nat_tests}
 use Rattle.std.proofs.lemmas.List.{length-drop, take_all, drop_all}
+use Rattle.std.specs.declared.ops.Range.{Range}
 use Rattle.definitions.specs.NumberCodes.{vint_bytes}
 use Rattle.definitions.specs.State.{groups_of, pieces}
-use Rattle.layouts.specs.Stores.{above, byte_end, doc_end, group_bytes, layer_bytes, layers, layers_within, skip_index_bytes, whole_of}
+use Rattle.layouts.specs.Stores.{above, doc_end, group_bytes, group_checkpoints, group_docs, layer_bytes, layers, layers_within, skip_index_bytes}
 use Rattle.layouts.specs.declared.checkpoint.Checkpoint.{Checkpoint}
 use Rattle.store.specs.Spelling.{layer_lengths, layers_bytes}
 
@@ -50,53 +51,56 @@ layer_put out new whole cs group after left some g a put =
 
 -- ---- the layer above
 
-pub above_more : (cs : List Checkpoint) → 0 < length cs → above cs ≡ whole_of (take 8 cs) ++ above (drop 8 cs)
-above_more cs some = ap (flat_map whole_of) (pieces_more cs some)
+-- the layer above the groups from a byte of a layer on
+abbrev pub above_from : ℕ → List Checkpoint → List Checkpoint
+above_from at cs = group_checkpoints at (pieces 8 cs)
 
-pub above_put : (out new whole : List Checkpoint) (cs group after : List Checkpoint) (c : Checkpoint) → out ++ above cs ≡ whole → 0 < length cs → group ≡ take (min (length cs) 8) cs → after ≡ drop (min (length cs) 8) cs → whole_of group ≡ c ∷ [] → new ≡ out ++ c ∷ [] → new ++ above after ≡ whole
-above_put out new whole cs group after c left some g a one put =
-    ap₂ (λ xs ds. xs ++ above ds) put (a ∙ drop_few cs)
-    ∙ append_assoc out (c ∷ []) (above (drop 8 cs))
-    ∙ ap (λ ds. out ++ (ds ++ above (drop 8 cs))) (sym one ∙ ap whole_of (g ∙ take_few cs))
-    ∙ ap (λ xs. out ++ xs) (sym (above_more cs some))
+pub above_more : (at : ℕ) (cs : List Checkpoint) → 0 < length cs → above_from at cs ≡ record { doc_range = group_docs (take 8 cs); byte_range = record { start = at; end = at + length (group_bytes (take 8 cs)) } } ∷ above_from (at + length (group_bytes (take 8 cs))) (drop 8 cs)
+above_more at cs some = ap (group_checkpoints at) (pieces_more cs some)
+
+-- one group of a layer is put, and where it stands
+pub above_put : (b0 b1 : List ℕ) (docs : Range ℕ) (out new whole : List Checkpoint) (cs group after : List Checkpoint) → out ++ above_from (length b0) cs ≡ whole → 0 < length cs → group ≡ take (min (length cs) 8) cs → after ≡ drop (min (length cs) 8) cs → b1 ≡ b0 ++ group_bytes group → docs ≡ group_docs group → new ≡ out ++ record { doc_range = docs; byte_range = record { start = length b0; end = length b1 } } ∷ [] → new ++ above_from (length b1) after ≡ whole
+above_put b0 b1 docs out new whole cs group after left some g a spelled of_docs put =
+    let same : group ≡ take 8 cs = g ∙ take_few cs in
+    let ends : length b1 ≡ length b0 + length (group_bytes (take 8 cs)) = ap length spelled ∙ length-append b0 (group_bytes group) ∙ ap (λ ds. length b0 + length (group_bytes ds)) same in
+    let from : Range ℕ → ℕ → List Checkpoint = λ ds n. record { doc_range = ds; byte_range = record { start = length b0; end = n } } ∷ above_from n (drop 8 cs) in
+    ap₂ (λ xs ds. xs ++ above_from (length b1) ds) put (a ∙ drop_few cs)
+    ∙ append_assoc out (record { doc_range = docs; byte_range = record { start = length b0; end = length b1 } } ∷ []) (above_from (length b1) (drop 8 cs))
+    ∙ ap₂ (λ ds n. out ++ from ds n) (of_docs ∙ ap group_docs same) ends
+    ∙ ap (λ xs. out ++ xs) (sym (above_more (length b0) cs some))
     ∙ left
 
-pub above_none : (cs : List Checkpoint) → length cs ≡ 0 → above cs ≡ []
-above_none [] none = refl
-above_none (c ∷ cs) none = absurd (omega arith)
+pub above_none : (at : ℕ) (cs : List Checkpoint) → length cs ≡ 0 → above_from at cs ≡ []
+above_none at [] none = refl
+above_none at (c ∷ cs) none = absurd (omega arith)
 
 -- a run ends where its last one does
-pub ends_last : (cs : List Checkpoint) (c d : Checkpoint) → (doc_end c.doc_range.end cs ≡ (get_or (c ∷ cs) (length cs) d).doc_range.end) × (byte_end c.byte_range.end cs ≡ (get_or (c ∷ cs) (length cs) d).byte_range.end)
-ends_last [] c d = (refl, refl)
+ends_last : (cs : List Checkpoint) (c d : Checkpoint) → doc_end c.doc_range.end cs ≡ (get_or (c ∷ cs) (length cs) d).doc_range.end
+ends_last [] c d = refl
 ends_last (e ∷ cs) c d = ends_last cs e d
 
 -- as the code reads it
-pub whole_read : (group : List Checkpoint) (d : Checkpoint) → 0 < length group → whole_of group ≡ record { doc_range = record { start = (get_or group 0 d).doc_range.start; end = (get_or group (length group - 1) d).doc_range.end }; byte_range = record { start = (get_or group 0 d).byte_range.start; end = (get_or group (length group - 1) d).byte_range.end } } ∷ []
-whole_read [] d some = absurd (omega arith)
-whole_read (c ∷ cs) d some =
-    let ends = ends_last cs c d in
-    let at : length cs ≡ length (c ∷ cs) - 1 = omega arith in
-    let of : ℕ → ℕ → List Checkpoint = λ m n. record { doc_range = record { start = c.doc_range.start; end = m }; byte_range = record { start = c.byte_range.start; end = n } } ∷ [] in
-    ap₂ of (ends.0 ∙ ap (λ n. (get_or (c ∷ cs) n d).doc_range.end) at) (ends.1 ∙ ap (λ n. (get_or (c ∷ cs) n d).byte_range.end) at)
-
-whole_one : (cs : List Checkpoint) → 0 < length cs → length (whole_of cs) ≡ 1
-whole_one [] some = absurd (omega arith)
-whole_one (c ∷ cs) some = refl
+pub docs_read : (group : List Checkpoint) (c d : Checkpoint) → 0 < length group → record { start = (get_or group 0 c).doc_range.start; end = (get_or group (length group - 1) d).doc_range.end } ≡ group_docs group
+docs_read [] c d some = absurd (omega arith)
+docs_read (e ∷ cs) c d some =
+    let at : length (e ∷ cs) - 1 ≡ length cs = omega arith in
+    let of : ℕ → Range ℕ = λ n. record { start = e.doc_range.start; end = n } in
+    ap of (ap (λ n. (get_or (e ∷ cs) n d).doc_range.end) at ∙ sym (ends_last cs e d))
 
 -- a layer above is at most an eighth, rounded up
-above_within : (fuel : ℕ) (cs : List Checkpoint) → length cs ≤ fuel → 8 * length (above cs) ≤ length cs + 7
-above_within fuel [] few = omega arith
-above_within zero (c ∷ cs) few = absurd (omega arith)
-above_within (suc fuel) (c ∷ cs) few =
+above_within : (fuel at : ℕ) (cs : List Checkpoint) → length cs ≤ fuel → 8 * length (above_from at cs) ≤ length cs + 7
+above_within fuel at [] few = omega arith
+above_within zero at (c ∷ cs) few = absurd (omega arith)
+above_within (suc fuel) at (c ∷ cs) few =
     let all : List Checkpoint = c ∷ cs in
     let left = length-drop 8 all in
-    let later = above_within fuel (drop 8 all) (omega (arith, left)) in
-    let one : length (whole_of (take 8 all)) ≡ 1 = refl in
-    let e : length (above all) ≡ length (whole_of (take 8 all)) + length (above (drop 8 all)) = ap length (above_more all (omega arith)) ∙ length-append (whole_of (take 8 all)) (above (drop 8 all)) in
+    let next : ℕ = at + length (group_bytes (take 8 all)) in
+    let later = above_within fuel next (drop 8 all) (omega (arith, left)) in
+    let e : length (above_from at all) ≡ suc (length (above_from next (drop 8 all))) = ap length (above_more at all (omega arith)) in
     omega (arith, left)
 
 pub above_fewer : (cs : List Checkpoint) → 8 < length cs → length (above cs) < length cs
-above_fewer cs many = (let within = above_within (length cs) cs (omega arith) in omega arith)
+above_fewer cs many = (let within = above_within (length cs) 0 cs (omega arith) in omega arith)
 
 -- ---- all layers
 

@@ -1,12 +1,12 @@
 //! A group of checkpoints, as layers of a skip index hold them.
 
 ghost use Rattle.std.specs.Prelude.{◌++◌, ◌<◌, ◌≡◌, ◌∷◌, [], IfErr, IfOk, IfSome, List, OnErr, OnOk, Some, is_some, length, nat_lt, slice_get, ℕ};
-ghost use Rattle.layouts.specs.Stores.{group_bytes, whole_of};
+ghost use Rattle.layouts.specs.Stores.{group_bytes, group_docs};
 ghost use Rattle.layouts.specs.declared.checkpoint.Checkpoint.{Checkpoint as Reach};
 ghost use Rattle.store.specs.TakenGroups.{IsDamage, IsGroup};
 
 use crate::groups::{put_group, take_group};
-use crate::skip_index_builder::whole_of;
+use crate::skip_index_builder::group_docs;
 use definitions::Fault;
 use layouts::Checkpoint;
 use std::alloc::{AllocError, Global};
@@ -40,13 +40,13 @@ impl CheckpointBlock {
 
     /// Returns the documents from the first checkpoint's first one to the last one's end.
     pub fn doc_interval(&self) -> Option<Range<u32>>
-        ensures some { IfSome result (λ docs. (c : Reach) × (whole_of self.now ≡ c ∷ []) × (docs ≡ c.doc_range)) }
+        ensures some { IfSome result (λ docs. docs ≡ group_docs self.now) }
         ensures variant { is_some result ≡ nat_lt 0 (length self.now) }
     {
         if self.checkpoints.is_empty() {
             return None;
         }
-        Some(whole_of(&self.checkpoints).doc_range)
+        Some(group_docs(&self.checkpoints))
     }
 
     /// Appends a checkpoint.

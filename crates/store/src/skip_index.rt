@@ -156,6 +156,7 @@ impl SkipIndex {
     }
 
     /// Returns the first checkpoint whose documents end past `target`, by binary search.
+    /// It looks in the lowest layer alone, which is kept decoded; the upper ones are checked by `open`, and not kept.
     pub fn seek(&self, target: u32) -> Option<&Checkpoint>
         ensures { option_copied result ≡ find (passes target) self.now }
     {

@@ -2,7 +2,7 @@
 
 ghost use Rattle.std.specs.Prelude.{◌++◌, ◌+◌, ◌<◌, ◌≡◌, ◌≤◌, ◌^◌, ◌∷◌, [], IfErr, IfOk, List, None, OnErr, OnOk, Some, flat_map, length, ℕ};
 ghost use Rattle.definitions.specs.NumberCodes.{vint_bytes};
-ghost use Rattle.layouts.specs.Stores.{above, layer_bytes, layers, skip_index_bytes, whole_of};
+ghost use Rattle.layouts.specs.Stores.{above, group_docs, layer_bytes, layers, skip_index_bytes};
 ghost use Rattle.store.specs.Spelling.{layer_lengths, layers_bytes};
 
 use crate::groups::put_group;
@@ -10,63 +10,41 @@ use common::put_vint;
 use layouts::Checkpoint;
 use std::alloc::{AllocError, Global};
 use std::marker::Model;
+use std::ops::Range;
 
 /// How many checkpoints a group has.
 const GROUP_LEN: usize = 8;
 
-/// Appends the groups of `layer`.
-fn put_layer(out: &mut Vec<u8>, layer: &[Checkpoint]) -> Result<(), AllocError>
-    ensures { OnOk result (out.new.items ≡ out.old.items ++ layer_bytes layer.now) }
-{
-    let mut rest = layer;
-    while rest.len() > 0 {
-        let (group, after) = rest.split_at(rest.len().min(GROUP_LEN));
-        put_group(out, group)?;
-        rest = after;
-    }
-    Ok(())
-}
-
-/// Returns the documents and bytes of `group` as one checkpoint.
-pub(crate) fn whole_of(group: &[Checkpoint]) -> Checkpoint
+/// Returns the documents of `group`, from the first one's start to the last one's end.
+pub(crate) fn group_docs(group: &[Checkpoint]) -> Range<u32>
     requires { 0 < length group.now }
-    ensures { whole_of group.now ≡ result ∷ [] }
+    ensures { result ≡ group_docs group.now }
 {
-    let first = &group[0];
-    let last = &group[group.len() - 1];
-    Checkpoint {
-        doc_range: first.doc_range.start..last.doc_range.end,
-        byte_range: first.byte_range.start..last.byte_range.end,
-    }
+    group[0].doc_range.start..group[group.len() - 1].doc_range.end
 }
 
-/// Returns the layer above `layer`: one checkpoint for each group.
-fn layer_above(alloc: Global, layer: &[Checkpoint]) -> Result<Vec<Checkpoint>, AllocError>
-    ensures { IfOk result (λ higher. higher.items ≡ above layer.now) }
+/// Returns the bytes of `layer`, and the layer above: where each group stands in these bytes.
+fn encode_layer(
+    alloc: Global,
+    layer: &[Checkpoint],
+) -> Result<(Vec<u8>, Vec<Checkpoint>), AllocError>
+    ensures bytes { IfOk result (λ p. p.0.items ≡ layer_bytes layer.now) }
+    ensures higher { IfOk result (λ p. p.1.items ≡ above layer.now) }
 {
+    let mut bytes = Vec::new(alloc);
     let mut higher = Vec::new(alloc);
     let mut rest = layer;
     while rest.len() > 0 {
         let (group, after) = rest.split_at(rest.len().min(GROUP_LEN));
-        higher.push(whole_of(group))?;
+        let start = bytes.len();
+        put_group(&mut bytes, group)?;
+        higher.push(Checkpoint {
+            doc_range: group_docs(group),
+            byte_range: start..bytes.len(),
+        })?;
         rest = after;
     }
-    Ok(higher)
-}
-
-/// Appends `layer` to `body`, and its length to `lengths`.
-fn put_one_layer(
-    lengths: &mut Vec<usize>,
-    body: &mut Vec<u8>,
-    layer: &[Checkpoint],
-) -> Result<(), AllocError>
-    ensures lengths { OnOk result (lengths.new.items ≡ lengths.old.items ++ length (layer_bytes layer.now) ∷ []) }
-    ensures body { OnOk result (body.new.items ≡ body.old.items ++ layer_bytes layer.now) }
-{
-    let before = body.len();
-    put_layer(body, layer)?;
-    lengths.push(body.len() - before)?;
-    Ok(())
+    Ok((bytes, higher))
 }
 
 /// Appends `layer` and the layers above it, from the top, and the length of each.
@@ -82,12 +60,12 @@ fn put_layers(
     if layer.is_empty() {
         return Ok(());
     }
-    if layer.len() <= GROUP_LEN {
-        return put_one_layer(lengths, body, layer);
+    let (bytes, higher) = encode_layer(alloc, layer)?;
+    if layer.len() > GROUP_LEN {
+        put_layers(alloc, lengths, body, &higher)?;
     }
-    let higher = layer_above(alloc, layer)?;
-    put_layers(alloc, lengths, body, &higher)?;
-    put_one_layer(lengths, body, layer)?;
+    lengths.push(bytes.len())?;
+    body.extend_from_slice(&bytes)?;
     Ok(())
 }
 

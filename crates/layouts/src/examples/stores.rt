@@ -49,11 +49,14 @@ pub fn groups_have_bytes()
         ∷ record { count = 2; bytes = replicate 24 0 } ∷ [])) ≡ 0x82 ∷ 0x83 ∷ 0x89 ∷ 0x81 ∷ 0x90 ∷ 0x82 ∷ 0x98 ∷ [] }
 {}
 
-/// A checkpoint of an upper layer ends where the last block of its group does: nine blocks of a byte and a document.
+/// A checkpoint of an upper layer has the bytes where its group stands in the layer below.
+/// Each block here has a byte and a document.
 pub fn upper_layers_have_bytes()
-    ensures { skip_index_bytes (checkpoints 0 0 (replicate 9 (record { count = 1; bytes = 7 ∷ [] }))) ≡ 0x82 ∷ 0x87
-        ∷ 0x98 ∷ 0x82 ∷ 0x80 ∷ 0x80 ∷ 0x88 ∷ 0x88 ∷ 0x81 ∷ 0x81 ∷ 0x88 ∷ 0x80 ∷ 0x80 ∷ replicate 16 0x81 ++ 0x81 ∷ 0x88
-        ∷ 0x88 ∷ 0x81 ∷ 0x81 ∷ [] }
+    ensures eight { skip_index_bytes (checkpoints 0 0 (replicate 8 (record { count = 1; bytes = 7 ∷ [] }))) ≡ 0x81
+        ∷ 0x93 ∷ 0x88 ∷ 0x80 ∷ 0x80 ∷ replicate 16 0x81 }
+    ensures nine { skip_index_bytes (checkpoints 0 0 (replicate 9 (record { count = 1; bytes = 7 ∷ [] }))) ≡ 0x82
+        ∷ 0x87 ∷ 0x98 ∷ 0x82 ∷ 0x80 ∷ 0x80 ∷ 0x88 ∷ 0x93 ∷ 0x81 ∷ 0x85 ∷ 0x88 ∷ 0x80 ∷ 0x80 ∷ replicate 16 0x81 ++ 0x81
+        ∷ 0x88 ∷ 0x88 ∷ 0x81 ∷ 0x81 ∷ [] }
 {}
 
 /// Blocks of 3, 1, 2, 2 and 2 documents lie where their sizes say.
