@@ -52,9 +52,7 @@ impl Window {
         ensures none { IfOk result (λ window. left_in window ≡ []) }
         ensures room { IfOk result (λ window. IsWindow window most_places most_positions) }
     {
-        let Some(places_room) = most_places.checked_add(MANY_PLACES) else {
-            return Err(AllocError);
-        };
+        let places_room = most_places.saturating_add(MANY_PLACES);
         Ok(Window {
             rows: Vec::with_capacity(alloc, MOST_ROWS)?,
             row: 0,

@@ -37,7 +37,7 @@ impl<S: Postings + Drop> SimpleUnion<S> {
         ensures { IfOk result (λ union. ⟦<SimpleUnion<S> as DocSet>⟧.entries union
             ≡ at_least 1 (uniting true) (map S.entries docsets.items)) }
     {
-        let most = most_together(&docsets)?;
+        let most = most_together(&docsets);
         let positions = PositionRoom::new(alloc, most)?;
         let mut docsets = docsets;
         let doc = seek_any(&mut docsets, 0);

@@ -1,6 +1,6 @@
 //! Counts and positions of several cursors over postings together, in one document.
 
-ghost use Rattle.std.specs.Prelude.{◌++◌, ◌+◌, ◌<◌, ◌≡◌, ◌≤◌, IfOk, OnErr, OnOk, is_some, length, map, sum, vec_capacity};
+ghost use Rattle.std.specs.Prelude.{◌++◌, ◌+◌, ◌<◌, ◌≡◌, ◌≤◌, IfOk, OnErr, OnOk, is_some, length, map, min, sum, vec_capacity};
 ghost use Rattle.docsets.specs.Entries.{first, highest};
 ghost use Rattle.definitions.specs.Postings.{terminated};
 ghost use Rattle.docsets.specs.Distinct.{distinct};
@@ -23,7 +23,8 @@ pub(crate) struct PositionRoom {
 impl PositionRoom {
     /// Allocates room for `most` positions in each.
     pub(crate) fn new(alloc: Global, most: usize) -> Result<PositionRoom, AllocError>
-        ensures { IfOk result (λ room. (vec_capacity room.one ≡ most) × (vec_capacity room.all ≡ most)) }
+        ensures room { IfOk result (λ room. (vec_capacity room.one ≡ most) × (vec_capacity room.all ≡ most)) }
+        ensures fits { IfOk result (λ room. most < 9223372036854775808) }
     {
         let one = Vec::with_capacity(alloc, most)?;
         let all = Vec::with_capacity(alloc, most)?;
@@ -150,16 +151,14 @@ pub(crate) fn append_united<P: Postings>(
     Ok(())
 }
 
-/// Returns an upper bound of the number of positions that `docsets` together have in a document.
-pub(crate) fn most_together<P: Postings>(docsets: &Vec<P>) -> Result<usize, AllocError>
-    ensures { IfOk result (λ most. most_sum (map P.entries docsets.now.items) ≤ most) }
+/// Returns an upper bound of the number of positions that `docsets` together have in a document; the greatest number
+/// if that many don't fit it, and then no room is granted.
+pub(crate) fn most_together<P: Postings>(docsets: &Vec<P>) -> usize
+    ensures { min (most_sum (map P.entries docsets.now.items)) 18446744073709551615 ≤ result }
 {
     let mut most = 0usize;
     for i in 0..docsets.len() {
-        let Some(more) = most.checked_add(docsets[i].most_positions()) else {
-            return Err(AllocError);
-        };
-        most = more;
+        most = most.saturating_add(docsets[i].most_positions());
     }
-    Ok(most)
+    most
 }

@@ -1,4 +1,4 @@
-use Rattle.std.proofs.Common.{[], ap, arith, drop, map, sym, ◌+◌, ◌∙◌, ◌∷◌, ◌≤◌}
+use Rattle.std.proofs.Common.{[], ap, arith, drop, map, min, sym, ◌+◌, ◌∙◌, ◌∷◌, ◌≤◌}
 use Rattle.std.proofs.lemmas.List.{drop_more, get_or-map, length-map}
 use Rattle.scorers.specs.Uniting.{most_sum}
 use Rattle.scorers.proofs.united_positions.most_together.Goals as goal
@@ -13,6 +13,6 @@ loop-i-preserved g c =
     let parts = ap most_sum (drop_more all c.loop-i.i [] (omega (arith, long)) ∙ ap (λ es. es ∷ drop (c.loop-i.i + 1) all) here) in
     let so_far = c.loop-i.invariant in
     let bound = c.most_positions.ensures in
-    let sum = c.in-Some.ensures.1 in
-    let goal : most_sum all ≤ c.in-Some.more + most_sum (drop (c.loop-i.i + 1) all) = omega (arith, parts, so_far, bound, sum) in
+    let sum = c.saturating_add-most.ensures in
+    let goal : min (most_sum all) 18446744073709551615 ≤ c.saturating_add-most.result + most_sum (drop (c.loop-i.i + 1) all) = omega (arith, parts, so_far, bound, sum) in
     goal

@@ -12,13 +12,14 @@ invariant_of-result g c =
     let moved = c.seek_any-doc.ensures.moved in
     let less = most_sum-cut 0 (map entries c.args.docsets.items) in
     let same = ap most_sum moved in
-    let bound = c.in_ok-most.ensures in
-    let room = c.in_ok-positions.ensures in
+    let bound = c.most_together-most.ensures in
+    let room = c.in_ok-positions.ensures.room in
+    let fits = c.in_ok-positions.ensures.fits in
     let one = room.0 in
     let all = room.1 in
     record {
       together = together-first entries g.met.S.DocSet.rising true c.args.docsets.items (map entries c.seek_any-doc.new.docsets.items) c.seek_any-doc.result c.requires.scores (λ e. c.requires.counts) moved c.seek_any-doc.ensures.least;
-      room = (omega (arith, less, same, bound, one), omega (arith, less, same, bound, all));
+      room = (omega (arith, less, same, bound, fits, one), omega (arith, less, same, bound, fits, all));
     }
 
 pub returns : goal.returns
