@@ -1,5 +1,5 @@
 -- The three sections of a segment that tell of terms: the terms themselves, their postings, and their positions.
-use Rattle.std.specs.Prelude.{[], ◌<◌, ◌^◌, ◌≡◌, Bool, List, bytes_eq, false, filter, flat_map, if◌then◌else◌, length, map, slice_get, sum_by, true, ℕ}
+use Rattle.std.specs.Prelude.{[], ◌<◌, ◌^◌, ◌≡◌, ◌≤◌, Bool, List, bytes_eq, false, filter, flat_map, if◌then◌else◌, length, map, slice_get, sum_by, true, ℕ}
 use Rattle.std.specs.List.{AllByRecursion, enumerate_from, list_any}
 use Rattle.std.specs.Option.{option_map_or}
 use Rattle.definitions.specs.Analyzers.{Analyzer}
@@ -78,9 +78,10 @@ num_tokens f = sum_by (λ (t : IndexedTerm). sum_by (λ p. p.count) t.postings) 
 abbrev pub field_terms : IndexedField → FieldTerms
 field_terms f = record { field = f.field; num_tokens = num_tokens f; terms = map lengths_of f.terms }
 
--- the terms of a field ascend, and each has its bytes
+-- the terms of a field ascend, are no more than a u32 can count, and each has its bytes
 pub record IsField (schema : Schema) (num_docs : ℕ) (norms : List (ℕ × List ℕ)) (f : IndexedField) : Type 0 where
   pub ascend : TermsAscend (map (λ t. t.key) f.terms)
+  pub few : length f.terms ≤ 4294967295
   pub tokens_fit : num_tokens f < 2 ^ 64
   pub each : AllByRecursion (λ t. IsTerm (option_of_term schema (term_of_key schema f.field t.key)) num_docs (field_ids norms f.field) t) f.terms
 

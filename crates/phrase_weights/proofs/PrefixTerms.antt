@@ -102,26 +102,20 @@ taken_filter {X} s g P up down (suc n) (x ∷ xs) all = go (g x) (s x) refl refl
 pub first_suffixes : (p : List ℕ) (n : ℕ) (terms : List Placed) → HaveBytes (take n (between p (prefix_end p) terms)) → take n (filter (λ (d : Placed). starts_with nat_eq d.0 p) terms) ≡ take n (between p (prefix_end p) terms)
 first_suffixes p n terms bytes = taken_filter (λ (d : Placed). starts_with nat_eq d.0 p) (λ (d : Placed). is_between p d.0) (λ (d : Placed). (i : ℕ) → slice_index d.0 i < 256) (λ d is. begins_between p d.0 is) (λ d small is. between_begins p d.0 small is) n terms bytes
 
--- fewer pass a test than one that all of them pass
-fewer_filtered : {X : Type 0} (s g : X → Bool) → ((x : X) → s x ≡ true → g x ≡ true) → (xs : List X) → length (filter s xs) ≤ length (filter g xs)
-fewer_filtered s g up [] = omega arith
-fewer_filtered {X} s g up (x ∷ xs) = go (s x) (g x) refl refl (fewer_filtered s g up xs)
+-- no more terms begin with a prefix than a dictionary has
+fewer_filtered : {X : Type 0} (f : X → Bool) (xs : List X) → length (filter f xs) ≤ length xs
+fewer_filtered f [] = omega arith
+fewer_filtered {X} f (x ∷ xs) = go (f x) (fewer_filtered f xs)
   where
-    go : (a b : Bool) → s x ≡ a → g x ≡ b → length (filter s xs) ≤ length (filter g xs)
-        → length (if a then x ∷ filter s xs else filter s xs) ≤ length (if b then x ∷ filter g xs else filter g xs)
-    go true true there also rest = omega (arith, rest)
-    go true false there lost rest = absurd (true≢false (sym (up x there) ∙ lost))
-    go false true fails also rest = omega (arith, rest)
-    go false false fails lost rest = rest
+    go : (b : Bool) → length (filter f xs) ≤ length xs → length (if b then x ∷ filter f xs else filter f xs) ≤ length (x ∷ xs)
+    go true rest = omega (arith, rest)
+    go false rest = omega (arith, rest)
 
--- no more terms begin with a prefix than a range up to its end has
-pub few_suffixes : (field own_field most : ℕ) (p payload : List ℕ) (terms : List Placed) (range : Walked) (index own : Reader) → range ≡ ahead (between p (prefix_end p) terms) → terms ≡ dictionary_in index field → index ≡ own → field ≡ own_field → p ≡ payload → length range.rest ≤ most → length (filter (λ (d : Placed). starts_with nat_eq d.0 payload) (dictionary_in own own_field)) ≤ most
-few_suffixes field own_field most p payload terms range index own is own_terms lent same bytes_are few =
-    let fewer = fewer_filtered (λ (d : Placed). starts_with nat_eq d.0 p) (λ (d : Placed). is_between p d.0) (λ d begins. begins_between p d.0 begins) terms in
-    let size = ap (λ (w : Walked). length w.rest) is in
-    let there = own_terms ∙ ap (λ i. dictionary_in i field) lent ∙ ap (dictionary_in own) same in
-    let moved = ap (λ q. length (filter (λ (d : Placed). starts_with nat_eq d.0 q) terms)) bytes_are ∙ ap (λ ds. length (filter (λ (d : Placed). starts_with nat_eq d.0 payload) ds)) there in
-    omega (arith, fewer, size, moved, few)
+pub few_suffixes : (field own_field most : ℕ) (payload : List ℕ) (terms : List Placed) (index own : Reader) → terms ≡ dictionary_in index field → index ≡ own → field ≡ own_field → length terms ≤ most → length (filter (λ (d : Placed). starts_with nat_eq d.0 payload) (dictionary_in own own_field)) ≤ most
+few_suffixes field own_field most payload terms index own own_terms lent same few =
+    let fewer = fewer_filtered (λ (d : Placed). starts_with nat_eq d.0 payload) (dictionary_in own own_field) in
+    let long = ap length (own_terms ∙ ap (λ i. dictionary_in i field) lent ∙ ap (dictionary_in own) same) in
+    omega (arith, fewer, long, few)
 
 -- ---- each term of a dictionary is found in it
 

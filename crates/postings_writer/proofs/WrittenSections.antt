@@ -165,6 +165,7 @@ module _ (schema : Schema) (w : Writer) (num_docs : ℕ) (norms : List (ℕ × L
   field_stands : (f : IndexedField) → IsStanding schema norms os f → IsField schema num_docs norms f
   field_stands f is = record {
     ascend = is.is.ascend;
+    few = is.is.few;
     tokens_fit = is.is.tokens_fit;
     each = all_then (IsTermOf is.entry (field_ids norms f.field) (places_in f.field is.entry os)) (λ (t : IndexedTerm). IsTerm (option_of_term schema (term_of_key schema f.field t.key)) num_docs (field_ids norms f.field) t) f.terms
         (λ t term. subst (λ o. IsTerm o num_docs (field_ids norms f.field) t) (sym (option_is f.field is.entry t.key is.at)) (term_stands num_docs is.entry (field_ids norms f.field) (places_in f.field is.entry os) t (λ key. more_docs w.num_docs num_docs (places_in f.field is.entry os key) le (places_stand schema w os (term_bytes f.field is.entry.kind key) stands)) term))

@@ -41,6 +41,7 @@ module _ (schema : Schema) (num_docs : ℕ) (norms : List (ℕ × List ℕ)) (ms
   field_stands : (f : IndexedField) → IsMergedField schema norms ms all f → IsField schema num_docs norms f
   field_stands f is = record {
     ascend = is.is.ascend;
+    few = is.is.few;
     tokens_fit = is.is.tokens_fit;
     each = all_then (IsTermGiven is.entry (field_ids norms f.field) (λ key. merged_in f.field key ms all)) (λ (t : IndexedTerm). IsTerm (option_of_term schema (term_of_key schema f.field t.key)) num_docs (field_ids norms f.field) t) f.terms (λ t term. term_stands f.field is.entry t is.at term) is.is.each;
   }

@@ -90,6 +90,7 @@ titles_are : IsField books 3 (norms_of books raw_and_default three_books) titles
 unfolding definitions_on_literals vint_bytes postings_bytes
 titles_are = record {
   ascend = (refl, (refl, (refl, tt)));
+  few = omega arith;
   tokens_fit = omega arith;
   each = (
     record { some = omega arith; each = (one_posting 0 1 (omega arith) (omega arith), tt); postings_are = record { posted = record { same = refl; ascending = (omega arith, tt); docs_fit = (omega arith, tt); counts_fit = ((omega arith, omega arith), tt); alone = λ e. (refl, tt); sums_fit = λ e. tt }; whole = refl }; positions_are = a_rest (1 ∷ []) (0x81 ∷ []) (omega arith) (omega arith, tt) refl },
@@ -107,6 +108,7 @@ years_are : IsField books 3 (norms_of books raw_and_default three_books) years
 unfolding definitions_on_literals vint_bytes postings_bytes
 years_are = record {
   ascend = (refl, tt);
+  few = omega arith;
   tokens_fit = omega arith;
   each = (
     record { some = omega arith; each = (year_posting 0 (omega arith), (year_posting 2 (omega arith), tt)); postings_are = record { posted = record { same = refl; ascending = (omega arith, (omega arith, tt)); docs_fit = (omega arith, (omega arith, tt)); counts_fit = ((omega arith, omega arith), ((omega arith, omega arith), tt)); alone = λ e. (refl, (refl, tt)); sums_fit = λ e. absurd (true≢false (sym e)) }; whole = refl }; positions_are = refl },

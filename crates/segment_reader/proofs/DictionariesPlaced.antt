@@ -62,6 +62,10 @@ keys_placed : (p q : ℕ) (xs : List IndexedTerm) → map (λ (t : Placed). t.0)
 keys_placed p q [] = refl
 keys_placed p q (x ∷ xs) = ap (λ keys. x.key ∷ keys) (keys_placed (p + length x.postings_bytes) (q + length x.positions_bytes) xs)
 
+length_placed : (p q : ℕ) (xs : List IndexedTerm) → length (placed_from p q xs) ≡ length xs
+length_placed p q [] = refl
+length_placed p q (x ∷ xs) = ap suc (length_placed (p + length x.postings_bytes) (q + length x.positions_bytes) xs)
+
 placed_within : (p q first second : ℕ) (xs : List IndexedTerm) → p + length (postings_of xs) ≤ first → q + length (positions_of xs) ≤ second → AllByRecursion (λ (t : Placed). EndsBy first second t.1) (placed_from p q xs)
 placed_within p q first second [] a b = tt
 placed_within p q first second (x ∷ xs) a b =
@@ -77,13 +81,15 @@ placed_fit p q first second (x ∷ xs) a b fits within =
     (record { docs = fits.0.few; postings = omega (arith, a, c); positions = omega (arith, b, d) }, placed_fit (p + length x.postings_bytes) (q + length x.positions_bytes) first second xs a b fits.1 within.1)
 
 dictionary_within : (schema : Schema) (num_docs : ℕ) (norms : List (ℕ × List ℕ)) (p q first second field : ℕ) (fields : List IndexedField) → first < 2 ^ 63 → second < 2 ^ 63 → AllByRecursion (IsField schema num_docs norms) fields → AllByRecursion FieldFits (map field_terms fields) → p + length (all_postings fields) ≤ first → q + length (all_positions fields) ≤ second → IsDictionaryWithin first second (dictionary_of p q field fields)
-dictionary_within schema num_docs norms p q first second field [] a b each fits c d = record { is = record { ascend = tt; fit = tt }; within = tt }
+dictionary_within schema num_docs norms p q first second field [] a b each fits c d = record { is = record { ascend = tt; few = omega arith; fit = tt }; within = tt }
 dictionary_within schema num_docs norms p q first second field (f ∷ fields) a b each fits c d =
     let e = length-append (postings_of f.terms) (all_postings fields) in
     let g = length-append (positions_of f.terms) (all_positions fields) in
     let ends = placed_within p q first second f.terms (omega (arith, c, e)) (omega (arith, d, g)) in
+    let long = length_placed p q f.terms in
+    let few = each.0.few in
     let own : IsDictionaryWithin first second (placed_from p q f.terms) = record {
-      is = record { ascend = subst TermsAscend (sym (keys_placed p q f.terms)) each.0.ascend; fit = placed_fit p q first second f.terms a b fits.0.fit ends };
+      is = record { ascend = subst TermsAscend (sym (keys_placed p q f.terms)) each.0.ascend; few = omega (arith, long, few); fit = placed_fit p q first second f.terms a b fits.0.fit ends };
       within = ends;
     } in
     go (f.field == field) own (dictionary_within schema num_docs norms (p + postings_len f) (q + positions_len f) first second field fields a b each.1 fits.1 (omega (arith, c, e)) (omega (arith, d, g)))

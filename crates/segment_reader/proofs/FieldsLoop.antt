@@ -44,7 +44,9 @@ same_terms section at p q first second (t ∷ ts) (u ∷ us) rest after short a 
 pub same_field : (section : List ℕ) (at : TermStart) (p q : ℕ) (f g : FieldTerms) (end last : TermStart) → length section < 2 ^ 63 → f.field < 2 ^ 32 → f.field ≡ g.field → IsReadField section at p q f end → IsReadField section at p q g last → f ≡ g
 same_field section at p q f g end last short small same a b =
     let there = b.header.spelled ∙ ap (λ k. header_bytes k g.num_tokens (length g.terms) ++ drop (first_in at g).entry section) (sym same) in
-    let one = same_header (drop at.entry section) f.field f.num_tokens (length f.terms) g.num_tokens (length g.terms) (drop (first_in at f).entry section) (drop (first_in at g).entry section) small a.header.tokens_fit a.header.terms_fit b.header.tokens_fit b.header.terms_fit a.header.spelled there in
+    let few = a.header.terms_fit in
+    let few_2 = b.header.terms_fit in
+    let one = same_header (drop at.entry section) f.field f.num_tokens (length f.terms) g.num_tokens (length g.terms) (drop (first_in at f).entry section) (drop (first_in at g).entry section) small a.header.tokens_fit (omega (arith, few)) b.header.tokens_fit (omega (arith, few_2)) a.header.spelled there in
     let long : length (header_of g) ≡ length (header_of f) = ap (λ k. length (header_bytes k g.num_tokens (length g.terms))) (sym same) ∙ ap (λ k. length (header_bytes f.field k (length g.terms))) (sym one.0) ∙ ap (λ k. length (header_bytes f.field f.num_tokens k)) (sym one.1) in
     let first : first_in at g ≡ first_in at f = ap (λ k. record { entry = at.entry + k; postings = at.postings; positions = at.positions }) long in
     let terms = same_terms section (first_in at f) p q None None f.terms g.terms (drop end.entry section) (drop last.entry section) short a.read.terms (subst (λ s. AreTerms section s p q None g.terms (drop last.entry section)) first b.read.terms) one.1 in

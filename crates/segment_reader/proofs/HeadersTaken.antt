@@ -60,6 +60,12 @@ no_terms bs field number n after later small taken second none tokens terms rest
     let apart : ◌≡◌ {A = Option (ℕ × List ℕ)} None (Some (terms, rest)) = sym none ∙ terms_there bs field number n after later small taken second tokens terms rest few_tokens few_terms is in
     absurd cc
 
+pub many_terms : (bs : List ℕ) (field number n own : ℕ) (after later behind : List ℕ) → field < 2 ^ 32 → take_u32 bs ≡ Some (number, after) → take_u64 after ≡ Some (n, later) → take_vint later ≡ Some (own, behind) → 4294967295 < own → (tokens terms : ℕ) (rest : List ℕ) → tokens < 2 ^ 64 → terms ≤ 4294967295 → bs ≡ header_bytes field tokens terms ++ rest → ⊥
+many_terms bs field number n own after later behind small taken second third many tokens terms rest few_tokens few_terms is =
+    let there = terms_there bs field number n after later small taken second tokens terms rest few_tokens (omega (arith, few_terms)) is in
+    let same = ap (number_in 0) (sym third ∙ there) in
+    absurd (omega (arith, same, many, few_terms))
+
 -- ---- what is taken is there
 
 pub spelled_as : (bs : List ℕ) (field tokens terms : ℕ) (after later rest : List ℕ) → AreBytes bs → take_u32 bs ≡ Some (field, after) → take_u64 after ≡ Some (tokens, later) → take_vint later ≡ Some (terms, rest) → (tokens < 2 ^ 64) × (terms < 2 ^ 64) × (bs ≡ header_bytes field tokens terms ++ rest)
@@ -76,7 +82,7 @@ rest_long section at field tokens terms rest within is =
     let long = ap length is in
     omega (arith, within, long, length-append (header_bytes field tokens terms) rest, length-drop at section)
 
-pub header_read : (section : List ℕ) (at field tokens terms : ℕ) (rest : List ℕ) → at ≤ length section → tokens < 2 ^ 64 → terms < 2 ^ 64 → drop at section ≡ header_bytes field tokens terms ++ rest → IsHeader section at field tokens terms (length section - length rest)
+pub header_read : (section : List ℕ) (at field tokens terms : ℕ) (rest : List ℕ) → at ≤ length section → tokens < 2 ^ 64 → terms ≤ 4294967295 → drop at section ≡ header_bytes field tokens terms ++ rest → IsHeader section at field tokens terms (length section - length rest)
 header_read section at field tokens terms rest within few_tokens few_terms is =
     let long = rest_long section at field tokens terms rest within is in
     let n = length (header_bytes field tokens terms) in
@@ -105,7 +111,9 @@ same_header bs field tokens terms tokens2 terms2 rest rest2 small a b c d is is2
 pub same_first : (section : List ℕ) (at : TermStart) (p q field tokens terms first : ℕ) (f : FieldTerms) (rest : List ℕ) → field < 2 ^ 32 → IsHeader section at.entry field tokens terms first → f.field ≡ field → IsField section at p q f rest → (length f.terms ≡ terms) × (first_in at f ≡ record { entry = first; postings = at.postings; positions = at.positions })
 same_first section at p q field tokens terms first f rest small header same there =
     let spelled = there.header.spelled ∙ ap (λ k. header_bytes k f.num_tokens (length f.terms) ++ drop (first_in at f).entry section) same in
-    let one = same_header (drop at.entry section) field f.num_tokens (length f.terms) tokens terms (drop (first_in at f).entry section) (drop first section) small there.header.tokens_fit there.header.terms_fit header.tokens_fit header.terms_fit spelled header.spelled in
+    let few = there.header.terms_fit in
+    let few_2 = header.terms_fit in
+    let one = same_header (drop at.entry section) field f.num_tokens (length f.terms) tokens terms (drop (first_in at f).entry section) (drop first section) small there.header.tokens_fit (omega (arith, few)) header.tokens_fit (omega (arith, few_2)) spelled header.spelled in
     let long : length (header_of f) ≡ length (header_bytes field tokens terms) = ap (λ k. length (header_bytes k f.num_tokens (length f.terms))) same ∙ ap (λ k. length (header_bytes field k (length f.terms))) one.0 ∙ ap (λ k. length (header_bytes field tokens k)) one.1 in
     let entry : at.entry + length (header_of f) ≡ first = ap (λ k. at.entry + k) long ∙ sym header.end_is in
     (one.1, ap (λ k. record { entry = k; postings = at.postings; positions = at.positions }) entry)
@@ -115,7 +123,7 @@ not_there section at p q field tokens terms first small header none f rest same 
     let one = same_first section at p q field tokens terms first f rest small header same there in
     none f.terms rest one.0 (subst (λ s. AreTerms section s p q None f.terms rest) one.1 there.terms)
 
-pub no_header : (section : List ℕ) (at : TermStart) (p q field : ℕ) → ((tokens terms : ℕ) (rest : List ℕ) → tokens < 2 ^ 64 → terms < 2 ^ 64 → drop at.entry section ≡ header_bytes field tokens terms ++ rest → ⊥) → (f : FieldTerms) (rest : List ℕ) → f.field ≡ field → IsField section at p q f rest → ⊥
+pub no_header : (section : List ℕ) (at : TermStart) (p q field : ℕ) → ((tokens terms : ℕ) (rest : List ℕ) → tokens < 2 ^ 64 → terms ≤ 4294967295 → drop at.entry section ≡ header_bytes field tokens terms ++ rest → ⊥) → (f : FieldTerms) (rest : List ℕ) → f.field ≡ field → IsField section at p q f rest → ⊥
 no_header section at p q field none f rest same there = none f.num_tokens (length f.terms) (drop (first_in at f).entry section) there.header.tokens_fit there.header.terms_fit (there.header.spelled ∙ ap (λ k. header_bytes k f.num_tokens (length f.terms) ++ drop (first_in at f).entry section) same)
 
 -- a field that was read

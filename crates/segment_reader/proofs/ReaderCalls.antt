@@ -1,5 +1,5 @@
 -- What the calls of a reader find.
-use Rattle.std.proofs.Common.{[], Bool, Bor, IfSome, List, None, Option, Some, ap, arith, cond, find, map, option_map, refl, subst, sym, true, false, ◌+◌, ◌<◌, ◌==◌, ◌≡◌, ◌∙◌, ◌∷◌, ◌^◌, ℕ}
+use Rattle.std.proofs.Common.{[], Bool, Bor, IfSome, List, None, Option, Some, ap, arith, cond, find, length, map, option_map, refl, subst, sym, true, false, ◌+◌, ◌<◌, ◌==◌, ◌≡◌, ◌≤◌, ◌∙◌, ◌∷◌, ◌^◌, ℕ}
 use Rattle.std.proofs.Math.Logic.{∥∥₁_elim, ∥∥₁_map}
 use Rattle.std.proofs.Props.{props}
 use Rattle.std.specs.Option.{option_map_or}
@@ -34,6 +34,14 @@ dictionary_is r field contents =
     let is = contents.is in
     let docs = is.docs_few in
     dictionary_found contents.schema contents.num_docs contents.norms contents.fields r.sections is.terms_short is.postings_short is.positions_short (omega (arith, docs)) is.sections r.indexes field is.told
+
+-- which has no more terms than a u32 can count
+pub few_terms : (r : Reader) (field : ℕ) → ∥ Contents r ∥₁ → length (dictionary_in r field) ≤ 4294967295
+few_terms r field known = ∥∥₁_elim known (let few : IsProp (length (dictionary_in r field) ≤ 4294967295) = hlevel props in few) (λ contents.
+    let is = contents.is in
+    let docs = is.docs_few in
+    let dictionary = is_dictionary contents.schema contents.num_docs contents.norms contents.fields r.sections is.terms_short is.postings_short is.positions_short (omega (arith, docs)) is.sections field in
+    subst (λ ts. length ts ≤ 4294967295) (sym (dictionary_is r field contents)) dictionary.is.few)
 
 pub field_dictionary : (r : Reader) (field : ℕ) (i : FieldIndex) → index_in field r.indexes ≡ Some i → Contents r → IsDictionary (terms_at r.sections.terms i.starts.items)
 field_dictionary r field i found contents =

@@ -1,6 +1,6 @@
 -- Sections that were read and checked are as they are defined.
 use Rattle.std.proofs.Common.{[], List, None, Option, Some, ap, ap₂, append-nil, append_assoc, arith, drop, flat_map, length, length-drop, map, refl, subst, sym, take, unwrap_or, ◌++◌, ◌+◌, ◌<◌, ◌≡◌, ◌≤◌, ◌∙◌, ◌∷◌, ◌^◌, ℕ}
-use Rattle.std.proofs.lemmas.List.{drop-drop, drop_all, length-take-le, take-append-drop}
+use Rattle.std.proofs.lemmas.List.{drop-drop, drop_all, length-map, length-take-le, take-append-drop}
 use Rattle.std.specs.List.{AllByRecursion}
 use Rattle.std.specs.Prelude.{slice_get}
 use Rattle.definitions.proofs.Ranking.{All_weaker}
@@ -86,8 +86,12 @@ field_read : (schema : Schema) (num_docs : ℕ) (norms : List (ℕ × List ℕ))
 field_read schema num_docs norms s at end p q f i xs known read tokens told checked =
     let fit = read.header.tokens_fit in
     let count = checked.tokens_are in
+    let few = read.header.terms_fit in
+    let many = ap length told in
+    let long = length-map xs lengths_of in
     record {
       ascend = subst TermsAscend (ap (map (λ (t : Told). t.0)) (sym told) ∙ keys_told xs) read.read.terms.ascend;
+      few = omega (arith, few, many, long);
       tokens_fit = omega (arith, fit, tokens, count);
       each = All_weaker (λ (x : IndexedTerm). IsTerm (option_in i.kind x.key) num_docs (field_ids norms i.kind.field) x) (λ (x : IndexedTerm). IsTerm (option_of_term schema (term_of_key schema i.kind.field x.key)) num_docs (field_ids norms i.kind.field) x) (λ x term. subst (λ option. IsTerm option num_docs (field_ids norms i.kind.field) x) (same_option schema i.kind x.key known) term) xs checked.each;
     }

@@ -1,5 +1,6 @@
 -- Sections as they are defined are read.
 use Rattle.std.proofs.Common.{[], Bool, List, ap, append-nil, arith, drop, flat_map, length, length-append, map, refl, subst, sym, ◌+◌, ◌-◌, ◌<◌, ◌≡◌, ◌≤◌, ◌∙◌, ◌∷◌, ◌^◌, ℕ}
+use Rattle.std.proofs.lemmas.List.{length-map}
 use Rattle.std.specs.List.{AllByRecursion}
 use Rattle.std.specs.Prelude.{slice_get}
 use Rattle.definitions.specs.Postings.{Posting}
@@ -46,6 +47,7 @@ fields_fit schema n norms (f ∷ fields) few first second each =
     let b = length-append (positions_of f.terms) (all_positions fields) in
     let here : FieldFits (field_terms f) = record {
       ascend = subst TermsAscend (sym (keys_told f.terms)) each.0.ascend;
+      few = (let many = length-map f.terms lengths_of in let fit = each.0.few in omega (arith, many, fit));
       tokens_fit = each.0.tokens_fit;
       fit = entries_fit (λ key. option_of_term schema (term_of_key schema f.field key)) n (field_ids norms f.field) f.terms few (omega (arith, first, a)) (omega (arith, second, b)) each.0.each;
     } in

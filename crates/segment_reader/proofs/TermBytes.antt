@@ -1,10 +1,8 @@
 -- The bytes of terms and of fields, one after another, and where they end.
-use Rattle.std.proofs.Common.{[], List, ap, append_assoc, arith, drop, false, flat_map, length, length-append, length-drop, map, refl, sym, true, ◌++◌, ◌+◌, ◌<◌, ◌≡◌, ◌≤◌, ◌∙◌, ◌∷◌, ◌^◌, Bool, nat_lt, ℕ}
+use Rattle.std.proofs.Common.{[], List, ap, append_assoc, arith, drop, flat_map, length, length-append, length-drop, map, refl, sym, ◌++◌, ◌+◌, ◌<◌, ◌≡◌, ◌≤◌, ◌∙◌, ◌∷◌, ◌^◌, ℕ}
 use Rattle.std.proofs.Math.Seq.{drop-append_seam}
 use Rattle.std.proofs.lemmas.List.{drop-drop}
-use Rattle.std.proofs.lemmas.Bool.Decides.{nat_tests}
 use Rattle.std.specs.List.{AllByRecursion}
-use Rattle.common.proofs.VintDigits.{vint_high, vint_low}
 use Rattle.definitions.specs.NumberCodes.{sized_bytes, vint_bytes}
 use Rattle.layouts.specs.InvertedIndexes.{IndexedField, IndexedTerm, field_terms, lengths_of}
 use Rattle.layouts.specs.TermSections.{FieldTerms, TermsAscend, entry_of_term, field_terms_bytes}
@@ -84,25 +82,10 @@ fields_grow at (f ∷ fs) =
 
 -- ---- fields as they stand
 
--- a number takes at least a byte
-vint_some : (n : ℕ) → 0 < length (vint_bytes n)
-vint_some n = go (nat_lt n 128) refl
-  where
-    go : (b : Bool) → nat_lt n 128 ≡ b → 0 < length (vint_bytes n)
-    go true e = (let h : n < 128 = grind (arith, nat_tests) in omega (arith, ap length (vint_low n h)))
-    go false e = (let h : 128 ≤ n = grind (arith, nat_tests) in omega (arith, ap length (vint_high n h)))
-
--- a term takes at least a byte
-terms_few : (ts : List Told) → length ts ≤ length (flat_map entry_of_term ts)
-terms_few [] = omega arith
-terms_few (t ∷ ts) =
-    let b = vint_bytes t.1.positions_len in
-    let a = sized_bytes t.0 ++ vint_bytes t.1.doc_freq ++ vint_bytes t.1.postings_len in
-    omega (arith, terms_few ts, vint_some t.1.positions_len, length-append a b, length-append (entry_of_term t) (flat_map entry_of_term ts))
-
--- ascending terms, whose numbers fit
+-- ascending terms, no more than a u32 can count, whose numbers fit
 pub record FieldFits (f : FieldTerms) : Type 0 where
   pub ascend : TermsAscend (map (λ (t : Told). t.0) f.terms)
+  pub few : length f.terms ≤ 4294967295
   pub tokens_fit : f.num_tokens < 2 ^ 64
   pub fit : AllByRecursion EntryFits f.terms
 
@@ -118,7 +101,7 @@ field_stands section at p q f rest short within fits is first second =
       header = record {
         spelled = parts ∙ ap (λ xs. h ++ xs) (sym terms);
         tokens_fit = fits.tokens_fit;
-        terms_fit = omega (arith, short, long, terms_few f.terms);
+        terms_fit = fits.few;
         end_is = refl;
         within = omega (arith, long);
       };

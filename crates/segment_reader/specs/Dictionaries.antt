@@ -1,5 +1,5 @@
 -- Dictionaries: the terms of a field, and where their postings stand.
-use Rattle.std.specs.Prelude.{[], ◌+◌, ◌<◌, ◌^◌, ◌∷◌, List, None, Option, Some, map, ℕ}
+use Rattle.std.specs.Prelude.{[], ◌+◌, ◌<◌, ◌^◌, ◌∷◌, ◌≤◌, List, None, Option, Some, length, map, ℕ}
 use Rattle.std.specs.List.{AllByRecursion}
 use Rattle.layouts.specs.TermSections.{TermLengths, TermsAscend}
 use Rattle.segment_reader.specs.TakenTerms.{entry_at}
@@ -54,7 +54,8 @@ onto (t ∷ ts) = record { here = Some t; rest = ts }
 abbrev pub advanced : Walked → Walked
 advanced w = onto w.rest
 
--- ascending terms, whose numbers fit
+-- ascending terms, no more than a u32 can count, whose numbers fit
 pub record IsDictionary (terms : List Placed) : Type 0 where
   pub ascend : TermsAscend (map (λ t. t.0) terms)
+  pub few : length terms ≤ 4294967295
   pub fit : AllByRecursion (λ t. InfoFits t.1) terms

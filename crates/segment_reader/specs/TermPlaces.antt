@@ -78,7 +78,7 @@ field_end at f = end_of (first_in at f) f.terms
 pub record IsHeader (section : List ℕ) (at field num_tokens num_terms end : ℕ) : Type 0 where
   pub spelled : drop at section ≡ header_bytes field num_tokens num_terms ++ drop end section
   pub tokens_fit : num_tokens < 2 ^ 64
-  pub terms_fit : num_terms < 2 ^ 64
+  pub terms_fit : num_terms ≤ 4294967295
   pub end_is : end ≡ at + length (header_bytes field num_tokens num_terms)
   pub within : end ≤ length section
 

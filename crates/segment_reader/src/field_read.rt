@@ -19,12 +19,12 @@ struct Header {
     first: usize,
 }
 
-/// Decodes the header of `field` at offset `place` of the section of terms.
+/// Decodes the header of `field` at offset `place` of the section of terms; it has at most 4294967295 terms.
 fn take_header(section: &[u8], place: usize, field: u32) -> Result<Header, Fault>
     requires { place ≤ length section.now }
     ensures ok { IfOk result (λ h. IsHeader section.now place field h.num_tokens h.num_terms h.first) }
     ensures err { IfErr result (λ fault. (fault ≡ faults.Damaged None)
-        × ((num_tokens num_terms : ℕ) (rest : List ℕ) → num_tokens < 2 ^ 64 → num_terms < 2 ^ 64
+        × ((num_tokens num_terms : ℕ) (rest : List ℕ) → num_tokens < 2 ^ 64 → num_terms ≤ 4294967295
         → drop place section.now ≡ header_bytes field num_tokens num_terms ++ rest → ⊥)) }
 {
     let (number, rest) = take_u32(&section[place..])?;
@@ -33,6 +33,9 @@ fn take_header(section: &[u8], place: usize, field: u32) -> Result<Header, Fault
     }
     let (num_tokens, rest) = take_u64(rest)?;
     let (num_terms, rest) = take_vint(rest)?;
+    if num_terms > u64::from(u32::MAX) {
+        return Err(Fault::Damaged(None));
+    }
     Ok(Header {
         num_tokens,
         num_terms,

@@ -165,9 +165,10 @@ impl InvertedIndexReader {
         index_of(&self.indexes, field.field_id())
     }
 
-    /// Returns the terms of `field`; none if it isn't indexed.
+    /// Returns the terms of `field`, at most 4294967295; none if it isn't indexed.
     pub fn terms(&self, field: Field) -> TermDictionary<'_>
         ensures own { result ≡ dictionary_in self.now field }
+        ensures few { length result ≤ 4294967295 }
         ensures ok { (contents : Contents self.now) → result ≡ dictionary_of 0 0 field contents.fields }
     {
         match self.index_of(field) {

@@ -13,12 +13,9 @@ loop-left-preserved c =
     let many = length-append c.loop-left.read.items (c.read_suffix.result ∷ []) in
     let counted = c.loop-left.invariant.3 in
     let items = ap length c.in_ok-push.ensures.items in
-    let some = c.loop-left-test.true in
-    let spread = c.loop-left.invariant.4 in
-    let stepped_one = ap length here in (
+    let some = c.loop-left-test.true in (
       λ contents. read_more contents.fields c.args.field c.loop-left.read.items c.push.new.self.items c.read_suffix.result _ _ _ (c.key.result.now, c.value.result.now) c.in_ok-push.ensures.items first (c.read_suffix.ensures.found contents) (c.loop-left.invariant.0 contents),
       λ rest. c.loop-left.invariant.1 (bytes_more _ _ (c.key.result.now, c.value.result.now) first c.read_suffix.ensures.bytes rest),
       (subst (AllByRecursion (λ (d : Placed). info_in d.0 (dictionary_in c.args.index.now c.args.field) ≡ Some d.1)) here c.loop-left.invariant.2).1,
       omega (arith, many, counted, items, some),
-      omega (arith, many, items, spread, stepped_one),
     )

@@ -12,7 +12,6 @@ invariant-loop-left l =
     × (HaveBytes (take l.left l.range.rest) → HaveBytes (take l.fn.max_expansions l.fn.range.rest))
     × AllByRecursion (λ d. info_in d.0 (dictionary_in l.fn.index l.fn.field) ≡ Some d.1) l.range.rest
     × (length l.read.items + l.left ≡ l.fn.max_expansions)
-    × (length l.read.items + length l.range.rest ≡ length l.fn.range.rest)
 
 abbrev pub decreases-loop-left : goal.decreases-loop-left
 decreases-loop-left l = l.left

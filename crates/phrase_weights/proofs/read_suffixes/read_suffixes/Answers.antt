@@ -1,4 +1,4 @@
-use Rattle.std.proofs.Common.{IfOk, map, take, subst, ◌≡◌}
+use Rattle.std.proofs.Common.{IfOk, arith, map, take, subst, ◌≡◌}
 use Rattle.std.proofs.lemmas.Result.{IfOk-weaker}
 use Rattle.segment_reader.specs.Readers.{Contents}
 use Rattle.definitions.specs.Terms.{field_of, payload_of}
@@ -18,4 +18,5 @@ returns-clause-found c contents =
 
 pub returns-clause-all : goal.returns-clause-all
 returns-clause-all c most =
-    IfOk-weaker c.read_range.result _ _ (λ read few. few_suffixes c.field-field.result (field_of c.args.prefix.now) c.args.max_expansions c.serialized_value_bytes.result.now (payload_of c.args.prefix.now) c.terms-terms.result c.in_ok-range.range c.inverted_index-index.result.now (index_of c.args.reader.now) c.in_ok-range.ensures c.terms-terms.ensures.own c.inverted_index-index.ensures c.field-field.ensures c.serialized_value_bytes.ensures few) (c.read_range.ensures.all most)
+    let few = c.terms-terms.ensures.few in
+    IfOk-weaker c.read_range.result _ _ (λ read given. few_suffixes c.field-field.result (field_of c.args.prefix.now) c.args.max_expansions (payload_of c.args.prefix.now) c.terms-terms.result c.inverted_index-index.result.now (index_of c.args.reader.now) c.terms-terms.ensures.own c.inverted_index-index.ensures c.field-field.ensures (omega (arith, few, most))) c.read_range.ensures.few
