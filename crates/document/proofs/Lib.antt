@@ -5,6 +5,7 @@ pub mod DocumentHeaps
 pub mod LeafPairs
 pub mod BinaryForm
 pub mod StoredPairs
+pub mod Shallow
 pub mod StoredLengths
 pub mod SameDocuments
 pub mod ReadingSteps

@@ -3,3 +3,4 @@ pub mod DocumentHeaps
 pub mod IndexedKinds
 pub mod JsonRead
 pub mod NamedDocs
+pub mod Shallow

@@ -1,10 +1,11 @@
 //! Which documents can be indexed.
 
-ghost use Rattle.std.specs.Prelude.{◌≡◌, Some, nat_le, option_map, slice_get};
+ghost use Rattle.std.specs.Prelude.{◌≡◌, IsTrue, Some, nat_le, option_map, slice_get};
 ghost use Rattle.definitions.specs.Indexable.{has_foreign_leaf, have_foreign_leaf, is_indexable, is_indexable_value, is_of_kind, members_have_foreign_leaf};
 ghost use Rattle.definitions.specs.Json.{only_if};
 ghost use Rattle.definitions.specs.Values.{members_nesting, nesting, values_nesting};
 ghost use Rattle.document.specs.IndexedKinds.{indexed_kind};
+ghost use Rattle.document.specs.Shallow.{IsShallow};
 ghost use Rattle.document_values.specs.Shown.{value_of};
 ghost use Rattle.layouts.specs.DocumentReading.{to_members, to_values};
 ghost use Rattle.terms.specs.Kinds.{kind_of};
@@ -18,7 +19,8 @@ impl CompactDoc {
     /// Whether each value can be indexed. None may nest more than 128 deep; those of an indexed field are of
     /// its type; and those of an indexed JSON field hold no facet, byte string, address or pre-tokenised text.
     pub fn indexable(&self, schema: &Schema) -> bool
-        ensures { result ≡ is_indexable schema.now self.now }
+        ensures value { result ≡ is_indexable schema.now self.now }
+        ensures nests { IsTrue result → IsShallow self.now }
     {
         for (field, value) in self.field_values() {
             if !is_indexable_value(schema, field, value) {

@@ -2,11 +2,10 @@
 
 ghost use Rattle.std.specs.Prelude.{◌++◌, ◌+◌, ◌≡◌, ◌≤◌, IfOk, OnOk, Some, flat_map, length, true};
 ghost use Rattle.std.specs.List.{AllByRecursion};
-ghost use Rattle.definitions.specs.Indexable.{max_nesting};
 ghost use Rattle.definitions.specs.Schema as schemas;
 ghost use Rattle.definitions.specs.Schema.{field_has};
 ghost use Rattle.definitions.specs.Stored.{stored_pairs};
-ghost use Rattle.definitions.specs.Values.{nesting};
+ghost use Rattle.document.specs.Shallow.{IsShallow};
 ghost use Rattle.document_values.specs.Docs.{IsGoodPair};
 ghost use Rattle.document_values.specs.Held.{held_pairs};
 ghost use Rattle.layouts.specs.DocumentReading.{deepest, read_document};
@@ -21,11 +20,11 @@ use terms::Field;
 
 impl CompactDoc {
     /// Encodes the pairs of stored fields in the binary form, pre-tokenised texts as texts. `deserialize` decodes the
-    /// document of these pairs where no value nests more than 128 deep.
+    /// document of these pairs. No value may nest more than 128 deep.
     pub fn serialize(&self, alloc: Global, schema: &Schema) -> Result<Vec<u8>, AllocError>
+        requires nests { IsShallow self.now }
         ensures bytes { IfOk result (λ bytes. bytes.items ≡ document_bytes (stored_pairs schema.now self.now)) }
-        ensures read_back { AllByRecursion (λ p. nesting p.1 ≤ max_nesting) self.now
-            → read_document (document_bytes (stored_pairs schema.now self.now))
+        ensures read_back { read_document (document_bytes (stored_pairs schema.now self.now))
             ≡ Some (stored_pairs schema.now self.now) }
     {
         let count = self.stored_count(schema);

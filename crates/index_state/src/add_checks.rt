@@ -4,6 +4,7 @@ ghost use Rattle.std.specs.Prelude.{◌+◌, ◌<◌, ◌^◌, ◌≡◌, ◌≤
 ghost use Rattle.std.specs.Result.{result_err};
 ghost use Rattle.definitions.specs.Calls.{document_given};
 ghost use Rattle.definitions.specs.declared.fault.Fault.TheVariants as faults;
+ghost use Rattle.document.specs.Shallow.{IsShallow};
 ghost use Rattle.index_state.specs.Given.{IsGiven};
 ghost use Rattle.segment_definitions.specs.Slots.{slot};
 
@@ -16,6 +17,7 @@ use std::alloc::Global;
 pub(crate) fn check_document(schema: &Schema, doc: &CompactDoc) -> Result<(), Fault>
     ensures fault { result_err result ≡ result_err (document_given schema.now doc.now) }
     ensures given { OnOk result (IsGiven schema.now doc.now) }
+    ensures nests { OnOk result (IsShallow doc.now) }
     ensures err { IfErr result (λ fault. (fault ≡ faults.UnknownField) ⊎ (fault ≡ faults.NotIndexable)) }
 {
     if has_unknown_field(schema, doc) {
@@ -27,13 +29,15 @@ pub(crate) fn check_document(schema: &Schema, doc: &CompactDoc) -> Result<(), Fa
     Ok(())
 }
 
-/// Checks that `doc` can be stored; `Limit` if its slot is too long beside a block.
+/// Checks that `doc` can be stored; `Limit` if its slot is too long beside a block. No value may nest more than 128
+/// deep.
 pub(crate) fn check_slot(
     alloc: Global,
     schema: &Schema,
     block_size: u32,
     doc: &CompactDoc,
 ) -> Result<(), Fault>
+    requires nests { IsShallow doc.now }
     ensures ok { OnOk result (block_size + length (slot schema.now doc.now) + 8 < 2 ^ 32) }
     ensures err { IfErr result (λ fault. (fault ≡ faults.OutOfMemory)
         ⊎ ((fault ≡ faults.Limit) × (2 ^ 32 ≤ block_size + length (slot schema.now doc.now) + 8))) }

@@ -10,11 +10,13 @@ use Rattle.definitions.specs.Schema.{Schema, field_has, is_indexed}
 use Rattle.definitions.specs.Stored.{plain, plain_members, plain_values, stored_pairs}
 use Rattle.definitions.specs.Values.{AreMembers, AreValues, Document, IsDocument, IsValue, Members, Value, Values, array, bool, bytes, date, facet, i64, ip_addr, member, members_nesting, nesting, no_members, no_values, null, object, pre_tok_str, str, u64, value, values_nesting}
 use Rattle.definitions.specs.declared.fault.Fault.TheVariants as faults
+use Rattle.document.specs.Shallow.{IsShallow}
 use Rattle.document_values.specs.Docs.{IsGoodPair}
 use Rattle.document_values.specs.Held.{AreSized, AreSizedMembers, IsSized}
 use Rattle.layouts.specs.DocumentBytes.{document_bytes, members_bytes, members_count, pair_bytes, value_bytes, values_bytes, values_count}
 use Rattle.layouts.specs.DocumentReading.{read_document}
 use Rattle.document.proofs.BinaryForm.{count_plain, document_back, members_plain}
+use Rattle.document.proofs.Shallow.{both, indexable_shallow}
 use Rattle.document.proofs.StoredPairs.{pair_not_stored, pair_stored, plain_bytes}
 
 -- ---- a value whose bytes are few
@@ -123,9 +125,9 @@ taken_tests schema doc given = go (has_unknown_field schema doc) (is_indexable s
     go false true a b e = (a, b)
     go false false a b e = absurd (let no : ⊥ = cc in no)
 
-both : (x y : Bool) → (x && y) ≡ true → (x ≡ true) × (y ≡ true)
-both true y e = (refl, e)
-both false y e = absurd (let no : ⊥ = cc in no)
+-- a document that an add takes nests no deeper than documents are read
+pub taken_shallow : (schema : Schema) (doc : Document) → document_given schema doc ≡ Ok doc → IsShallow doc
+taken_shallow schema doc given = indexable_shallow schema doc (taken_tests schema doc given).1
 
 neither : (x y : Bool) → (x || y) ≡ false → (x ≡ false) × (y ≡ false)
 neither true y e = absurd (let no : ⊥ = cc in no)

@@ -3,6 +3,7 @@
 ghost use Rattle.std.specs.Prelude.{[], ◌<◌, ◌≡◌, ◌≤◌, ◌⊎◌, IfErr, IfOk, List, OnErr, OnOk, Some, false, length, true, slice_index_or, ℕ};
 ghost use Rattle.definitions.specs.Stored.{stored_pairs};
 ghost use Rattle.definitions.specs.declared.fault.Fault.TheVariants as faults;
+ghost use Rattle.document.specs.Shallow.{IsShallow};
 ghost use Rattle.layouts.specs.DocumentReading.{read_document};
 ghost use Rattle.layouts.specs.DocumentBytes.{document_bytes};
 ghost use Rattle.layouts.specs.Stores.{Hold};
@@ -19,8 +20,10 @@ use schema::Schema;
 use std::alloc::Global;
 
 impl StoreWriter {
-    /// Adds the pairs of stored fields of `doc`. A refused call changes nothing.
+    /// Adds the pairs of stored fields of `doc`, of which no value may nest more than 128 deep. Their slot reads back as
+    /// the document of these pairs. A refused call changes nothing.
     pub fn store(&mut self, alloc: Global, doc: &CompactDoc, schema: &Schema) -> Result<(), Fault>
+        requires nests { IsShallow doc.now }
         ensures ok { OnOk result (self.new ≡ stored self.old (document_bytes (stored_pairs schema.now doc.now))) }
         ensures within { OnOk result (passes_limit self.old (length (document_bytes (stored_pairs schema.now doc.now)))
             ≡ false) }
@@ -28,6 +31,8 @@ impl StoreWriter {
             ⊎ ((fault ≡ faults.Limit)
             × (passes_limit self.old (length (document_bytes (stored_pairs schema.now doc.now))) ≡ true))) }
         ensures unchanged { OnErr result (self.new ≡ self.old) }
+        ensures read_back { read_document (document_bytes (stored_pairs schema.now doc.now))
+            ≡ Some (stored_pairs schema.now doc.now) }
     {
         let bytes = doc.serialize(alloc, schema)?;
         self.store_bytes(bytes.as_slice())

@@ -3,9 +3,13 @@ use Rattle.std.proofs.lemmas.Result.{err_from_is_err_and}
 use Rattle.segment_definitions.specs.Segments.{IsTaken}
 use Rattle.segment_definitions.specs.Slots.{slot, slots}
 use Rattle.segment.proofs.Adding.{all_more, docs_counted, passes_store, sized_kept, slots_more, stays_within}
+use Rattle.segment.proofs.StoredBack.{taken_shallow}
 use Rattle.store.proofs.SlotLaws.{slot_appended}
 use Rattle.store.specs.Writing.{HoldsSlots, Written, stored}
 use Rattle.segment.proofs.segment_writer.SegmentWriter.add.Goals as goal
+
+pub store-requires : goal.store-requires
+store-requires g c = record { nests = taken_shallow c.args.schema.now c.args.doc.now c.requires.taken.1 }
 
 pub returns-then-num_docs-ge-TERMINATED-clause-err : goal.returns-then-num_docs-ge-TERMINATED-clause-err
 returns-then-num_docs-ge-TERMINATED-clause-err g c block_size docs h =
