@@ -1,7 +1,9 @@
 //! The steps in which documents become a segment that is open, each by itself.
 
-ghost use Rattle.std.specs.Prelude.{List, OnOk, ℕ};
+ghost use Rattle.std.specs.Prelude.{IsTrue, List, OnOk, ℕ};
+ghost use Rattle.std.specs.List.{AllByRecursion};
 ghost use Rattle.definitions.specs.Values.{Document};
+ghost use Rattle.document.specs.Shallow.{IsShallow};
 ghost use Rattle.segment.specs.Writers.{HasWritten};
 
 use crate::segments::count_tokens;
@@ -98,6 +100,18 @@ fn indexing(
     nanos_since(rt, begun)
 }
 
+/// Whether each document can be indexed, which is tested before any is stored.
+fn all_indexable(schema: &Schema, docs: &[CompactDoc]) -> bool
+    ensures { IsTrue result → AllByRecursion IsShallow docs.now }
+{
+    for doc in docs {
+        if !doc.indexable(schema) {
+            return false;
+        }
+    }
+    true
+}
+
 /// How long their stored values take to be put into a store.
 fn storing(
     rt: &HostRuntime,
@@ -105,6 +119,9 @@ fn storing(
     schema: &Schema,
     docs: &[CompactDoc],
 ) -> Result<u128, Fault> {
+    if !all_indexable(schema, docs) {
+        return Err(Fault::NotIndexable);
+    }
     let mut store = StoreWriter::new(alloc, BLOCK_SIZE);
     let begun = now(rt)?;
     for doc in docs {

@@ -2,6 +2,7 @@
 
 use crate::shown_values::{owned_value, shown, value_list};
 use case_lines::{Arguments, Refusal, document_of_values, flag, hex, number, pair, text};
+use definitions::Fault;
 use document::{CompactDoc, CompactDocValue, CompactDocs, OwnedValue, put_value, take_value};
 use schema::{Field, Schema};
 use serde_json::Value;
@@ -41,7 +42,7 @@ fn answer_on_document(
         "first" => first(alloc, &doc, field(arguments)?),
         "all" => Ok(value_list(alloc, doc.get_all(field(arguments)?))?),
         "length" => Ok(pair(alloc, number(doc.len() as u64), flag(doc.is_empty()))?),
-        "written" => Ok(hex(alloc, &doc.serialize(alloc, schema)?)?),
+        "written" => Ok(hex(alloc, &written(alloc, schema, &doc)?)?),
         "indexable" => Ok(flag(doc.indexable(schema))),
         _ => answer_on_copies(alloc, schema, operation, arguments, &doc),
     }
@@ -63,6 +64,14 @@ fn answer_on_copies(
         "same" => Ok(flag(*doc == document(alloc, schema, arguments, 1)?)),
         _ => Err(Refusal::NotAsked),
     }
+}
+
+/// The bytes of a document's stored values; a document that can't be indexed has none.
+fn written(alloc: Global, schema: &Schema, doc: &CompactDoc) -> Result<Vec<u8>, Refusal> {
+    if !doc.indexable(schema) {
+        return Err(Refusal::Fault(Fault::NotIndexable));
+    }
+    Ok(doc.serialize(alloc, schema)?)
 }
 
 /// The second argument, a field by its number.
@@ -157,7 +166,7 @@ fn reads_back(alloc: Global, schema: &Schema, doc: &CompactDoc) -> Result<Value,
         return Ok(flag(false));
     };
     let again = CompactDoc::from_json_object(alloc, schema, &json)?;
-    Ok(flag(again.serialize(alloc, schema)? == doc.serialize(alloc, schema)?))
+    Ok(flag(written(alloc, schema, &again)? == written(alloc, schema, doc)?))
 }
 
 /// The names of a document's fields, each with its values.

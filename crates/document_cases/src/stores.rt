@@ -3,6 +3,7 @@
 use crate::documents::values;
 use crate::{checkpoints, mixed_stores};
 use case_lines::{Arguments, Refusal, bytes_of_digits, hex, number, pair, text};
+use definitions::Fault;
 use document::CompactDoc;
 use schema::Schema;
 use serde_json::Value;
@@ -69,6 +70,9 @@ fn of_documents(alloc: Global, schema: &Schema, arguments: &Arguments) -> Result
     let mut writer = StoreWriter::new(alloc, block_size(arguments)?);
     for json in arguments.list(0)? {
         let doc = CompactDoc::from_json_object(alloc, schema, json)?;
+        if !doc.indexable(schema) {
+            return Err(Refusal::Fault(Fault::NotIndexable));
+        }
         writer.store(alloc, &doc, schema)?;
     }
     Ok(writer.close(alloc)?)
