@@ -16,7 +16,8 @@ use settings::Statistics;
 use std::alloc::Global;
 use tree_scorers::{SegmentScorers, scorer_of};
 
-/// Checks that `query` is accepted, as `check_query` does. An accepted query has a scorer in every segment.
+/// Checks that `query` is accepted, as `check_query` does. It takes no memory. An accepted query has a scorer in every
+/// segment.
 #[tactic(auto, using(crate::proofs::Accepting::accepts, crate::proofs::Accepting::passes))]
 pub fn accept_query<S: Statistics>(
     schema: &Schema,
@@ -25,6 +26,7 @@ pub fn accept_query<S: Statistics>(
 ) -> Result<(), Fault>
     ensures fault { result_err result
         ≡ refusal schema.now (S.similarity statistics.now).weight (query_of query.now) }
+    ensures own { IfErr result (λ fault. fault ≢ faults.OutOfMemory) }
     ensures passed { OnOk result
         (tree_fault schema.now (S.similarity statistics.now).weight 1 (query_of query.now) ≡ None) }
     ensures accepted { OnOk result (IsAccepted (S.similarity statistics.now).weight 1 (query_of query.now)) }
@@ -48,6 +50,8 @@ pub fn accepted_scorer<S: Statistics, F: SegmentScorers>(
         refusal schema.now (S.similarity statistics.now).weight (query_of query.now) ≡ None) }
     ensures refused { IfErr result (λ fault. fault ≢ faults.OutOfMemory
         → refusal schema.now (S.similarity statistics.now).weight (query_of query.now) ≡ Some fault) }
+    ensures own { IfErr result (λ fault. fault ≡ faults.OutOfMemory
+        → refusal schema.now (S.similarity statistics.now).weight (query_of query.now) ≡ None) }
 {
     accept_query(schema, statistics, query)?;
     Ok(scorer_of(alloc, forms, query, 1)?)

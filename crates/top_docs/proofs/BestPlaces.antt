@@ -1,6 +1,7 @@
 -- The best places, from the best items.
 use Rattle.std.proofs.Common.{[], Bool, List, None, Some, ap, arith, drop, filter, if◌then◌else◌, map, length, refl, slice_get, slice_index_or, subst, suc, sym, take, true, zero, false, ◌+◌, ◌++◌, ◌<◌, ◌∙◌, ◌∷◌, ◌≡◌, ◌≤◌, ℕ}
 use Rattle.std.proofs.lemmas.List.{append-nil, append_assoc, map-append, take-map}
+use Rattle.std.proofs.lemmas.Option.{get_or_from_slice_get, slice_get_within}
 use Rattle.docsets.specs.Entries.{Entry, Rising}
 use Rattle.definitions.proofs.Ranking.{All-ranked, All_take, map-ranked}
 use Rattle.definitions.specs.Alive.{Segment}
@@ -65,14 +66,13 @@ all_best P k xs ys h more = All_take P k (ranked (λ m. m.0) (xs ++ ys)) (All-ra
     all_both P (x ∷ xs) ys h more = (h.0, all_both P xs ys h.1 more)
 
 -- a cursor's living documents are of their segment, with scores in range
-pub living_found : (ord n low : ℕ) (flags : List Bool) (es : List Entry) → ord < n → Rising low es → AllByRecursion (IsFound n) (living_items ord flags es)
-living_found ord n low flags [] l rises = tt
-living_found ord n low flags (e ∷ es) l rises =
-    let rest = living_found ord n (e.doc + 1) flags es l rises.3 in
-    elim (slice_index_or flags e.doc false) as (λ b. AllByRecursion (IsFound n) (map (λ e. (e.score, record { segment_ord = ord; doc_id = e.doc })) (if b then e ∷ filter (λ e. slice_index_or flags e.doc false) es else filter (λ e. slice_index_or flags e.doc false) es))) [
-      | true ↦ ((l, rises.2), rest)
-      | false ↦ rest
-    ]
+pub living_found : (ord low : ℕ) (sets : List (List Bool)) (flags : List Bool) (es : List Entry) → slice_get sets ord ≡ Some flags → Rising low es → AllByRecursion (IsFound sets) (living_items ord flags es)
+living_found ord low sets flags [] at rises = tt
+living_found ord low sets flags (e ∷ es) at rises = go (slice_index_or flags e.doc false) refl (living_found ord (e.doc + 1) sets flags es at rises.3)
+  where
+    go : (b : Bool) → slice_index_or flags e.doc false ≡ b → AllByRecursion (IsFound sets) (living_items ord flags es) → AllByRecursion (IsFound sets) (map (λ e. (e.score, record { segment_ord = ord; doc_id = e.doc })) (if b then e ∷ filter (λ e. slice_index_or flags e.doc false) es else filter (λ e. slice_index_or flags e.doc false) es))
+    go true alive rest = ((slice_get_within sets ord flags at, rises.2, ap (λ set. slice_index_or set e.doc false) (get_or_from_slice_get sets ord flags [] at) ∙ alive), rest)
+    go false dead rest = rest
 
 -- ---- segments, one by one
 

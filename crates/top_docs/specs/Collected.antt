@@ -1,5 +1,5 @@
 -- Documents of segments with their scores, as they are collected.
-use Rattle.std.specs.Prelude.{◌<◌, ◌≤◌, Bool, List, false, filter, map, slice_index_or, ℕ}
+use Rattle.std.specs.Prelude.{[], ◌<◌, ◌≡◌, ◌≤◌, Bool, List, false, filter, length, map, slice_index_or, true, ℕ}
 use Rattle.docsets.specs.Entries.{Entry}
 use Rattle.definitions.specs.Scoring.{max_score}
 use Rattle.segment_reader.specs.declared.doc_address.DocAddress.{DocAddress}
@@ -18,6 +18,6 @@ place_at item = record { segment = item.1.segment_ord; doc = item.1.doc_id; scor
 abbrev pub best_places : ℕ → List Place → List Place
 best_places limit places = best_by (λ p. p.score) limit places
 
--- a document with its score, of one of so many segments
-abbrev pub IsFound : ℕ → ℕ × DocAddress → Type 0
-IsFound num_segments item = (item.1.segment_ord < num_segments) × (item.0 ≤ max_score)
+-- a document with its score, one that is alive by the flags of the segments
+abbrev pub IsFound : List (List Bool) → ℕ × DocAddress → Type 0
+IsFound sets item = (item.1.segment_ord < length sets) × (item.0 ≤ max_score) × (slice_index_or (slice_index_or sets item.1.segment_ord []) item.1.doc_id false ≡ true)

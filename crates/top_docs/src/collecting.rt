@@ -1,6 +1,6 @@
 //! The collection of a segment's living documents into the best.
 
-ghost use Rattle.std.specs.Prelude.{[], ◌++◌, ◌<◌, ◌≡◌, OnOk, false, slice_index_or, ℕ};
+ghost use Rattle.std.specs.Prelude.{[], ◌++◌, ◌<◌, ◌≡◌, Bool, List, OnOk, Some, false, slice_get, slice_index_or};
 ghost use Rattle.std.specs.List.{AllByRecursion};
 ghost use Rattle.docsets.specs.Entries.{first, first_score, from};
 ghost use Rattle.definitions.specs.Postings.{terminated};
@@ -29,8 +29,9 @@ pub(crate) fn collect_any<A: Scorer + Drop, T: Scorer + Drop, P: Scorer + Drop, 
     requires within { from (max_doc_of reader.now) (⟦<AnyScorer<A, T, P, X> as DocSet>⟧.entries scorer) ≡ [] }
     ensures best { OnOk result (best_of top.new ≡ best_items (limit_of top.old) (best_of top.old
         ++ living_items segment_ord (flags_in reader.now) (⟦<AnyScorer<A, T, P, X> as DocSet>⟧.entries scorer))) }
-    ensures found { (n : ℕ) → segment_ord < n → AllByRecursion (IsFound n) (best_of top.old)
-        → OnOk result (AllByRecursion (IsFound n) (best_of top.new)) }
+    ensures found { (sets : List (List Bool)) → slice_get sets segment_ord ≡ Some (flags_in reader.now)
+        → AllByRecursion (IsFound sets) (best_of top.old)
+        → OnOk result (AllByRecursion (IsFound sets) (best_of top.new)) }
     ensures limit { limit_of top.new ≡ limit_of top.old }
 {
     match scorer {
@@ -54,8 +55,9 @@ fn collect_leaf<A: Scorer + Drop, T: Scorer + Drop, P: Scorer + Drop, X: Scorer 
     ensures best { OnOk result (best_of top.new ≡ best_items (limit_of top.old) (best_of top.old
         ++ living_items segment_ord (flags_in reader.now)
         (⟦<Leaf<A, T, P, X, ListScorer> as DocSet>⟧.entries scorer))) }
-    ensures found { (n : ℕ) → segment_ord < n → AllByRecursion (IsFound n) (best_of top.old)
-        → OnOk result (AllByRecursion (IsFound n) (best_of top.new)) }
+    ensures found { (sets : List (List Bool)) → slice_get sets segment_ord ≡ Some (flags_in reader.now)
+        → AllByRecursion (IsFound sets) (best_of top.old)
+        → OnOk result (AllByRecursion (IsFound sets) (best_of top.new)) }
     ensures limit { limit_of top.new ≡ limit_of top.old }
 {
     match scorer {
@@ -77,8 +79,9 @@ fn collect_living<S: Scorer + Drop>(
     requires within { from (max_doc_of reader.now) (S.entries scorer) ≡ [] }
     ensures best { OnOk result (best_of top.new ≡ best_items (limit_of top.old)
         (best_of top.old ++ living_items segment_ord (flags_in reader.now) (S.entries scorer))) }
-    ensures found { (n : ℕ) → segment_ord < n → AllByRecursion (IsFound n) (best_of top.old)
-        → OnOk result (AllByRecursion (IsFound n) (best_of top.new)) }
+    ensures found { (sets : List (List Bool)) → slice_get sets segment_ord ≡ Some (flags_in reader.now)
+        → AllByRecursion (IsFound sets) (best_of top.old)
+        → OnOk result (AllByRecursion (IsFound sets) (best_of top.new)) }
     ensures limit { limit_of top.new ≡ limit_of top.old }
 {
     let mut scorer = scorer;

@@ -1,6 +1,6 @@
 //! The best documents of several segments that match a query.
 
-ghost use Rattle.std.specs.Prelude.{◌++◌, ◌<◌, ◌≡◌, ◌≤◌, IfOk, List, None, OnOk, length, map, ℕ};
+ghost use Rattle.std.specs.Prelude.{◌++◌, ◌≡◌, ◌≤◌, Bool, IfOk, List, None, OnOk, Some, length, map, slice_get};
 ghost use Rattle.std.specs.List.{AllByRecursion, AllZip};
 ghost use Rattle.definitions.specs.Alive.{Segment};
 ghost use Rattle.definitions.specs.Analyzers.{Analyzer};
@@ -8,7 +8,7 @@ ghost use Rattle.definitions.specs.Refusing.{tree_fault};
 ghost use Rattle.definitions.specs.Schema.{Schema};
 ghost use Rattle.query_trees.specs.Queries.{query_of};
 ghost use Rattle.reader_scorers.specs.Scored.{segment_scored, weights_of};
-ghost use Rattle.scorer_answers.specs.Rows.{HasRows};
+ghost use Rattle.scorer_answers.specs.Rows.{HasRows, flags_in};
 ghost use Rattle.segment_definitions.specs.Found.{places_from, places_in};
 ghost use Rattle.top_docs.specs.Collected.{IsFound, best_places, place_at};
 ghost use Rattle.top_n_computer.specs.Best.{best_of, limit_of};
@@ -38,7 +38,7 @@ pub fn top_docs<'a, W: LeafWeights<'a>>(
         → tree_fault schema (W.similarity weights.now).weight 1 (query_of query.now) ≡ None
         → IfOk result (λ best. map place_at best.items ≡ best_places limit
         (places_from schema analyze (W.similarity weights.now) (query_of query.now) 0 rows)) }
-    ensures found { IfOk result (λ best. AllByRecursion (IsFound (length readers.now)) best.items) }
+    ensures found { IfOk result (λ best. AllByRecursion (IsFound (map flags_in readers.now)) best.items) }
 {
     let mut top = TopNComputer::new(alloc, limit);
     for (segment_ord, reader) in readers.iter().enumerate() {
@@ -65,8 +65,9 @@ fn collect_segment<'a, W: LeafWeights<'a>>(
         → OnOk result (map place_at (best_of top.new) ≡ best_places (limit_of top.old) (map place_at (best_of top.old)
         ++ places_in schema analyze (W.similarity (weights_of scorers.now)) (query_of query.now) segment_ord
         rows)) }
-    ensures found { (n : ℕ) → segment_ord < n → AllByRecursion (IsFound n) (best_of top.old)
-        → OnOk result (AllByRecursion (IsFound n) (best_of top.new)) }
+    ensures found { (sets : List (List Bool)) → slice_get sets segment_ord ≡ Some (flags_in reader.now)
+        → AllByRecursion (IsFound sets) (best_of top.old)
+        → OnOk result (AllByRecursion (IsFound sets) (best_of top.new)) }
     ensures limit { limit_of top.new ≡ limit_of top.old }
 {
     let scorer = scorer_of(alloc, scorers, query, 1)?;

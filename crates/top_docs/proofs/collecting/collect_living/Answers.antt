@@ -73,4 +73,4 @@ returns-clause-found g c =
     let ord = c.args.segment_ord in
     let flags = flags_in c.args.reader.now in
     let is = returns-clause-best g c in
-    λ n l found. subst (AllByRecursion (IsFound n)) (sym is) (all_best (IsFound n) (limit_of c.args.top.now) (best_of c.args.top.now) (living_items ord flags (g.S.DocSet.entries c.args.scorer)) found (living_found ord n 0 flags (g.S.DocSet.entries c.args.scorer) l (g.met.S.DocSet.rising c.args.scorer)))
+    λ sets there found. subst (AllByRecursion (IsFound sets)) (sym is) (all_best (IsFound sets) (limit_of c.args.top.now) (best_of c.args.top.now) (living_items ord flags (g.S.DocSet.entries c.args.scorer)) found (living_found ord 0 sets flags (g.S.DocSet.entries c.args.scorer) there (g.met.S.DocSet.rising c.args.scorer)))

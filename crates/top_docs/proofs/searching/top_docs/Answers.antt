@@ -1,7 +1,7 @@
-use Rattle.std.proofs.Common.{ap, arith, drop, length, map, refl, subst, sym, ◌+◌, ◌++◌, ◌∙◌, ◌≡◌}
-use Rattle.std.proofs.lemmas.Option.{slice_get_read}
+use Rattle.std.proofs.Common.{ap, arith, drop, length, map, option_map, refl, subst, sym, ◌+◌, ◌++◌, ◌∙◌, ◌≡◌}
+use Rattle.std.proofs.lemmas.Option.{slice_get-map, slice_get_read}
 use Rattle.std.proofs.lemmas.Result.{IfOk-weaker}
-use Rattle.scorer_answers.specs.Rows.{HasRows}
+use Rattle.scorer_answers.specs.Rows.{HasRows, flags_in}
 use Rattle.query_trees.specs.Queries.{query_of}
 use Rattle.definitions.specs.Refusing.{tree_fault}
 use Rattle.segment_definitions.specs.Found.{places_from, places_in}
@@ -26,17 +26,16 @@ loop-segment_ord-preserved g c =
     let inv = c.loop-segment_ord.invariant in
     let limit = c.collect_segment.ensures.limit in
     let weights = c.new-scorers.ensures.weights in
-    let inside = c.loop-segment_ord-test.true in
+    let at = slice_get_read c.args.readers.now (length c.args.readers.now) i c.index-readers-segment_ord.result refl c.loop-segment_ord-test.true c.index-readers-segment_ord.is in
     record {
       best = λ schema analyze rows zip passes.
-          let at = slice_get_read c.args.readers.now (length c.args.readers.now) i c.index-readers-segment_ord.result refl inside c.index-readers-segment_ord.is in
           let next = next_zip (HasRows schema analyze) rows c.args.readers.now i c.index-readers-segment_ord.result zip at in
           let told : map place_at (best_of new) ≡ best_places (limit_of old) (map place_at (best_of old) ++ places_in schema analyze sim q i next.0) = c.in_ok-collect_segment.ensures.best schema analyze next.0 next.1 (ap (λ w. tree_fault schema (g.W.LeafWeights.similarity w).weight 1 q) weights ∙ passes) ∙ ap (λ w. best_places (limit_of old) (map place_at (best_of old) ++ places_in schema analyze (g.W.LeafWeights.similarity w) q i next.0)) weights in
           ap (λ l. best_places l (map place_at (best_of new) ++ places_from schema analyze sim q (i + 1) (drop (i + 1) rows))) limit
           ∙ after_segment schema analyze sim q (limit_of old) i next.0 (drop i rows) (drop (i + 1) rows) (map place_at (best_of old)) (map place_at (best_of new)) (places_from schema analyze sim q 0 rows) next.2 told (inv.best schema analyze rows zip passes)
           ∙ ap (λ l. best_places l (places_from schema analyze sim q 0 rows)) (sym limit);
       limit = limit ∙ inv.limit;
-      found = c.in_ok-collect_segment.ensures.found (length c.args.readers.now) inside inv.found;
+      found = c.in_ok-collect_segment.ensures.found (map flags_in c.args.readers.now) (slice_get-map flags_in c.args.readers.now i ∙ ap (option_map flags_in) at) inv.found;
     }
 
 -- src/searching.rt:27:1
