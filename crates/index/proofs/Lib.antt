@@ -4,5 +4,6 @@ pub mod Causes
 pub mod IndexFiles
 pub mod Answering
 pub mod Stages
+pub mod KeptDevices
 pub mod Leavings
 pub mod SessionSteps

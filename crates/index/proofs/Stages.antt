@@ -1,5 +1,5 @@
 -- What stands after an index was made or opened.
-use Rattle.std.proofs.Common.{[], Bool, Err, IfErr, IfOk, IsTrue, List, None, Ok, OnOk, Option, Result, Some, ap, ap₂, arith, cond, false, inl, inr, refl, subst, sym, true, true≢false, ◌∙◌, ◌≡◌, ◌≢◌, ◌⊎◌, ℕ}
+use Rattle.std.proofs.Common.{[], Bool, Err, IfErr, IfOk, IsTrue, List, None, Ok, OnOk, Option, Result, Some, ap, ap₂, arith, cond, false, inl, inr, refl, subst, sym, true, true≢false, ◌∙◌, ◌∷◌, ◌≡◌, ◌≢◌, ◌⊎◌, ℕ}
 use Rattle.common.specs.declared.device.Device as devices
 use Rattle.definitions.specs.Analyzers.{Analyzer}
 use Rattle.definitions.specs.Calls as calls
@@ -18,10 +18,11 @@ use Rattle.definitions.specs.declared.fault.Fault.{Fault}
 use Rattle.definitions.specs.declared.fault.Fault.TheVariants as faults
 use Rattle.definitions.proofs.ReplyTexts.{error_text, ok_text}
 use Rattle.index_file.specs.Kept.{IsKept}
+use Rattle.index_file.specs.Outcomes.{IsRefusal}
 use Rattle.std.specs.List.{AllZip}
 use Rattle.engine.specs.Files.{IsCreateRefusal, IsFileOf, IsOpenRefusal, LeavesMembers}
 use Rattle.segment_definitions.specs.SegmentBodies.{Member}
-use Rattle.segment_definitions.specs.SegmentFiles.{IsGroup}
+use Rattle.segment_definitions.specs.SegmentFiles.{IsGroup, TakesSegments}
 use Rattle.engine.specs.Indexes.{IndexRests, IndexStands, IsOpened, analyzer_after, analyzer_of, device_after, device_of, ending_of, gate_of, members_of, schema_of, settings_of}
 use Rattle.index.specs.Replying.{change_text}
 use Rattle.index.specs.Sessions.{HasHeld, HasStage, IsIndex, IsSpare, IsStage, LeavesStage, analysis_of, analyzer_on, device_on, left_by, parts_on, stage_after}
@@ -34,7 +35,9 @@ use Rattle.index.proofs.Causes.{error_in, making_goes_on}
 use Rattle.index_file.proofs.Faults.{is_limit}
 use Rattle.engine.proofs.Commits.{stands_groups}
 use Rattle.engine.proofs.FileSayings.{file_is_index, file_is_whole, no_bytes, of_its_groups, rests_say}
-use Rattle.layouts.specs.RecordFiles.{IsNoIndex}
+use Rattle.layouts.proofs.FilesOfRecords.{files_are_indexes, files_are_whole, one_damage}
+use Rattle.layouts.specs.RecordFiles.{IsDamaged, IsFile, IsNoIndex}
+use Rattle.segment_definitions.proofs.OneList.{bodies_taken}
 use Rattle.serde_json.specs.Data as json
 
 -- ---- what a device holds
@@ -43,15 +46,34 @@ module _ {D : Type 0} (honest : D → Bool) (content : D → List ℕ) (cut : An
   pub held_honest : (device : D) (held : steps.Held) → HasHeld honest content cut device held → IsTrue (honest device)
   held_honest device steps.no_file h = h.0
   held_honest device (steps.file_of s u d) h = h.0
+  held_honest device (steps.other_bytes bytes fault) h = h.0
 
   -- a device that is as it was holds what it held
   pub held_kept : (old new : D) (held : steps.Held) → HasHeld honest content cut old held → honest new ≡ honest old → content new ≡ content old → HasHeld honest content cut new held
   held_kept old new steps.no_file h same is = (subst (λ (b : Bool). IsTrue b) (sym same) h.0, is ∙ h.1)
   held_kept old new (steps.file_of s u d) h same is = (subst (λ (b : Bool). IsTrue b) (sym same) h.0, subst (λ (l : List ℕ). IsFileOf s u cut d l) (sym is) h.1)
+  held_kept old new (steps.other_bytes bytes fault) h same is = (subst (λ (b : Bool). IsTrue b) (sym same) h.0, is ∙ h.1, h.2, h.3)
 
 -- no byte is no index
 no_index_yet : IsNoIndex []
 no_index_yet = inl (omega arith)
+
+-- what isn't opened is refused in one way
+damage_begins : (bytes : List ℕ) (place : ℕ) → IsDamaged TakesSegments bytes place → ¬ IsNoIndex bytes
+damage_begins bytes place damaged = damaged.begins
+
+pub one_refusal : (bytes : List ℕ) (first second : Fault) → IsRefusal TakesSegments bytes first → IsRefusal TakesSegments bytes second → first ≡ second
+one_refusal bytes first second (inl (is, none)) (inl (also, still)) = is ∙ sym also
+one_refusal bytes first second (inl (is, none)) (inr (place, also, damaged)) = absurd (damage_begins bytes place damaged none)
+one_refusal bytes first second (inr (place, is, damaged)) (inl (also, none)) = absurd (damage_begins bytes place damaged none)
+one_refusal bytes first second (inr (place, is, damaged)) (inr (other, also, broken)) =
+    is ∙ ap (λ (n : ℕ). faults.Damaged (Some n)) (one_damage TakesSegments bytes place other damaged broken) ∙ sym also
+
+-- and a file of segments isn't refused
+file_unrefused : (s : Schema) (u : Settings) (ms : List Member) (bytes : List ℕ) (fault : Fault) → LeavesMembers s u ms bytes → ¬ IsRefusal TakesSegments bytes fault
+file_unrefused s u ms bytes fault (bodies, file, l) (inl (is, none)) = files_are_indexes l.first l.later bytes (subst (λ bs. IsFile bs bytes) l.are file) none
+file_unrefused s u ms bytes fault (bodies, file, l) (inr (place, is, damaged)) =
+    files_are_whole TakesSegments (l.first ∷ l.later) bytes place (subst (λ bs. IsFile bs bytes) l.are file) (bodies_taken l.first l.later (s, u, l.lists, l.made, l.follow)) damaged
 
 -- ---- an index is made or opened
 
@@ -81,6 +103,7 @@ module _ {D A : Type 0} (d : devices.Ghosts D) (knows : A → List ℕ → Bool)
       → (schema_of index ≡ s) × (settings_of index ≡ u) → analyzer_of index ≡ analyzer → (IsTrue (d.honest device) → IndexRests index)
       → LeavesStage knows analyze a held (Some (Standing index)) (Ok tt) (steps.created a.knows s u held)
   made_stage a device analyzer (steps.file_of t v e) s u index spare none empty stands of by rests = absurd (no_bytes spare.1.1.0 (d.content device) spare.1.1.1 (empty spare.1.0))
+  made_stage a device analyzer (steps.other_bytes bytes fault) s u index spare none empty stands of by rests = absurd (spare.1.2 (sym spare.1.1 ∙ empty spare.1.0))
   made_stage a device analyzer steps.no_file s u index spare none empty stands of by rests =
       let fault : making_fault a.knows s u ≡ None = subst (λ (b : steps.Analysis). making_fault b.knows s u ≡ None) (sym spare.0) none in
       let step : steps.created a.knows s u steps.no_file ≡ (ok_reply, steps.index_of s u steps.fresh_index) = ap (λ (o : Option Fault). steps.refused_or (option_or o None) (steps.no_index steps.no_file) (ok_reply, steps.index_of s u steps.fresh_index)) fault in
@@ -119,6 +142,9 @@ module _ {D A : Type 0} (d : devices.Ghosts D) (knows : A → List ℕ → Bool)
       not_empty (steps.file_of t v e) has none is =
           ap (λ (o : Option Fault). steps.refused_or (option_or o (Some faults.NotEmpty)) (steps.no_index (steps.file_of t v e)) (ok_reply, steps.index_of s u steps.fresh_index)) none
           ∙ ap (λ (f : Fault). steps.refusing f (steps.no_index (steps.file_of t v e))) (sym is)
+      not_empty (steps.other_bytes bytes fault) has none is =
+          ap (λ (o : Option Fault). steps.refused_or (option_or o (Some faults.NotEmpty)) (steps.no_index (steps.other_bytes bytes fault)) (ok_reply, steps.index_of s u steps.fresh_index)) none
+          ∙ ap (λ (f : Fault). steps.refusing f (steps.no_index (steps.other_bytes bytes fault))) (sym is)
 
       step : stops r.fault ≡ false → (h : steps.Held) → HasHeld d.honest d.content a.analyze device h → (r.fault ≡ faults.OutOfMemory) ⊎ (making_fault (knows analyzer) s u ≡ Some r.fault) ⊎ ((making_fault (knows analyzer) s u ≡ None) × IsCreateRefusal r.fault) → steps.created a.knows s u h ≡ steps.refusing r.fault (steps.no_index h)
       step on h has (inl memory) = absurd (going_on r.fault faults.OutOfMemory on refl memory)
@@ -131,6 +157,8 @@ module _ {D A : Type 0} (d : devices.Ghosts D) (knows : A → List ℕ → Bool)
       → IsOpened analyze (analyze analyzer) device index → are_analyzed (knows analyzer) (schema_of index) ≡ true → analyzer_of index ≡ analyzer
       → LeavesStage knows analyze a held (Some (Standing index)) (Ok tt) (steps.opened a.knows held)
   opened_stage a device analyzer steps.no_file index spare opened known by = let file = opened.file spare.1.0 in absurd (no_bytes file.0 (d.content device) file.1 spare.1.1)
+  opened_stage a device analyzer (steps.other_bytes bytes fault) index spare opened known by =
+      absurd (file_unrefused (schema_of index) (settings_of index) (members_of index) bytes fault (subst (LeavesMembers (schema_of index) (settings_of index) (members_of index)) spare.1.1 (opened.file spare.1.0)) spare.1.3)
   opened_stage a device analyzer (steps.file_of s u e) index spare opened known by =
       let is = of_its_groups (schema_of index) s (settings_of index) u a.analyze (members_of index) e (d.content device) (opened.file spare.1.0) spare.1.1 in
       let cut : a.analyze ≡ analyze analyzer = ap (λ (b : steps.Analysis). b.analyze) spare.0 in
@@ -181,6 +209,9 @@ module _ {D A : Type 0} (d : devices.Ghosts D) (knows : A → List ℕ → Bool)
       step on (steps.file_of s u e) has (inr (inr (inl (inl (is, none))))) = absurd (file_is_index s u a.analyze e (d.content device) has.1 none)
       step on (steps.file_of s u e) has (inr (inr (inl (inr (place, is, damaged))))) = absurd (file_is_whole s u a.analyze e (d.content device) place has.1 damaged)
       step on (steps.file_of s u e) has (inr (inr (inr (is, (t, v, f, file, lacks))))) = unknown s t u v e f has.1 file lacks is
+      step on (steps.other_bytes bytes fault) has (inr (inr (inl refusal))) =
+          ap (λ (g : Fault). steps.refusing g (steps.no_index (steps.other_bytes bytes fault))) (one_refusal bytes fault r.fault has.3 (subst (λ (l : List ℕ). IsRefusal TakesSegments l r.fault) has.1 refusal))
+      step on (steps.other_bytes bytes fault) has (inr (inr (inr (is, (t, v, f, file, lacks))))) = absurd (file_unrefused t v f bytes fault (subst (LeavesMembers t v f) has.1 file) has.3)
 
   -- what a call that makes an index leaves
   pub create_left : (a : steps.Analysis) (device : D) (analyzer : A) (held : steps.Held) (s : Schema) (u : Settings) (outcome : Result (Index D A d) (Refused D A)) → IsSpare d.honest d.content knows analyze a device analyzer held
@@ -244,6 +275,14 @@ stage_failures {d = d} old device outcome same cause =
 -- it is as honest as it was
 pub stage_honest : {D A : Type 0} {d : devices.Ghosts D} (old device : D) (outcome : Result (Index D A d) (Refused D A)) → device ≡ old → d.honest (device_after outcome) ≡ d.honest device → d.honest (device_on (stage_after outcome)) ≡ d.honest old
 stage_honest {d = d} old device outcome same honest = ap d.honest (stage_device outcome) ∙ honest ∙ ap d.honest same
+
+-- and as it was after an error that isn't `Device`
+pub stage_kept : {D A : Type 0} {d : devices.Ghosts D} (old device : D) (outcome : Result (Index D A d) (Refused D A)) → device ≡ old
+    → (IsTrue (d.honest device) → IfErr outcome (λ r. r.fault ≢ faults.Device → IsKept d.moment d.left_since d.content d.unsynced device r.device)) → IsTrue (d.honest old)
+    → IfErr (ending_of outcome) (λ fault. fault ≢ faults.Device → IsKept d.moment d.left_since d.content d.unsynced old (device_on (stage_after outcome)))
+stage_kept old device (Ok index) same kept honest = tt
+stage_kept {d = d} old device (Err r) same kept honest =
+    subst (λ e. r.fault ≢ faults.Device → IsKept d.moment d.left_since d.content d.unsynced e r.device) same (kept (subst (λ e. IsTrue (d.honest e)) (sym same) honest))
 
 -- device and analyzer are handed back
 pub handed_back : {D A : Type 0} {d : devices.Ghosts D} (o : Option (Stage D A d)) (stage : Stage D A d) (parts : D × A) → o ≡ Some stage → parts.0 ≡ device_on stage → parts.1 ≡ analyzer_on stage → parts_on o ≡ Some parts

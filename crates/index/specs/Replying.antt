@@ -1,5 +1,5 @@
 -- What is replied to requests of an index.
-use Rattle.std.specs.Prelude.{[], ⊤, ◌++◌, ◌∷◌, ◌≡◌, ◌⊎◌, Err, IfOk, List, Ok, OnOk, Option, Result, Some, codes, false, ℕ}
+use Rattle.std.specs.Prelude.{[], ⊤, ◌++◌, ◌∷◌, ◌≡◌, ◌≢◌, ◌⊎◌, Bool, Err, IfOk, List, Ok, OnOk, Option, Result, Some, codes, false, true, ℕ}
 use Rattle.std.specs.Cow.{cow_str_bytes}
 use Rattle.std.specs.declared.borrow.CowStr.{CowStr}
 use Rattle.common.specs.declared.device.Device as devices
@@ -12,6 +12,7 @@ use Rattle.definitions.specs.Requests as requests
 use Rattle.definitions.specs.Step as steps
 use Rattle.definitions.specs.Values.{Document}
 use Rattle.definitions.specs.declared.fault.Fault.{Fault}
+use Rattle.definitions.specs.declared.fault.Fault.TheVariants as faults
 use Rattle.engine.specs.Indexes.{CommitPasses, IndexStands, KeepsFile, PassesLimit, open_of}
 use Rattle.engine.specs.Merges.{MergePasses}
 use Rattle.engine.specs.declared.index.Index.{Index}
@@ -36,6 +37,19 @@ pub record Answers {D A Z : Type 0} {d : devices.Ghosts D} (analyze : A → Anal
 -- the request is answered as a change is, and the index stands for what comes after
 abbrev pub TakesChange : {D A : Type 0} {d : devices.Ghosts D} → (A → Analyzer) → Index D A d → calls.Configuration → calls.Index → requests.Request → Type 0
 TakesChange analyze new c x r = ((steps.index_step c x r).0 ≡ ok_reply) × IndexStands analyze new c ((steps.index_step c x r).1)
+
+-- whether a request may write to the device: it makes or opens an index, or commits or merges
+abbrev pub may_write : Option requests.Request → Bool
+may_write (Some (requests.create_index schema settings)) = true
+may_write (Some requests.open_index) = true
+may_write (Some requests.commit_all) = true
+may_write (Some (requests.merge_groups from to)) = true
+may_write _ = false
+
+-- a reply after which the device is as it was: it isn't that such a request was done, and the device didn't fail
+abbrev pub IsUnwritten : {Z : Type 0} → Option requests.Request → Result (CowStr Z) Fault → Type 0
+IsUnwritten asked (Ok text) = may_write asked ≡ true → cow_str_bytes text ≢ codes "{\"ok\":true}"
+IsUnwritten asked (Err fault) = fault ≢ faults.Device
 
 -- an index without its writer
 abbrev pub closed_writer : calls.Index → calls.Index

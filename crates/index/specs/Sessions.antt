@@ -16,19 +16,25 @@ use Rattle.definitions.specs.declared.fault.Fault.{Fault}
 use Rattle.definitions.specs.declared.fault.Fault.TheVariants as faults
 use Rattle.engine.specs.Files.{IsFileOf}
 use Rattle.engine.specs.Indexes.{IndexStands, IsInFile, analyzer_of, device_of, ending_of, schema_of, settings_of}
+use Rattle.index_file.specs.Kept.{IsKept}
+use Rattle.index_file.specs.Outcomes.{IsRefusal}
 use Rattle.index.specs.Replying.{GoesOn, IndexMeets, change_text, closed_writer}
 use Rattle.engine.specs.declared.index.Index.{Index}
 use Rattle.engine.specs.declared.refused.Refused.{Refused}
 use Rattle.index.specs.declared.session.Session.{Session}
 use Rattle.index.specs.declared.stage.Stage.{Stage}
 use Rattle.index.specs.declared.stage.Stage.TheVariants.{Spare, Standing}
+use Rattle.segment_definitions.specs.SegmentFiles.{TakesSegments}
 use Rattle.serde_json.specs.Data as json
 
--- an honest device that holds this: its file is of these groups, as this analyzer cuts texts
+-- an honest device that holds this: no byte, or a file of these groups, as this analyzer cuts texts, or these bytes, from
+-- which no index is opened: they are none, or damaged
 abbrev pub HasHeld : {D : Type 0} → (D → Bool) → (D → List ℕ) → Analyzer → D → steps.Held → Type 0
 HasHeld honest content analyze device steps.no_file = IsTrue (honest device) × (content device ≡ [])
 HasHeld honest content analyze device (steps.file_of schema settings groups) =
     IsTrue (honest device) × IsFileOf schema settings analyze groups (content device)
+HasHeld honest content analyze device (steps.other_bytes bytes fault) =
+    IsTrue (honest device) × (content device ≡ bytes) × (bytes ≢ []) × IsRefusal TakesSegments bytes fault
 
 -- what an analyzer knows, and how it cuts a text
 abbrev pub analysis_of : {A : Type 0} → (A → List ℕ → Bool) → (A → Analyzer) → A → steps.Analysis
@@ -102,6 +108,11 @@ module _ {D A : Type 0} {d : devices.Ghosts D} where
   honest_on None = false
   honest_on (Some stage) = d.honest (device_on stage)
 
+  -- the device of what stands is as it was: so are its bytes, and what a crash may leave of them
+  abbrev pub KeepsDevice : Option (Stage D A d) → Option (Stage D A d) → Type 0
+  KeepsDevice (Some old) (Some new) = IsKept d.moment d.left_since d.content d.unsynced (device_on old) (device_on new)
+  KeepsDevice _ _ = ⊥
+
   -- the analyzer of what stands
   abbrev pub analyzer_on : Stage D A d → A
   analyzer_on (Spare device analyzer) = analyzer
@@ -138,6 +149,11 @@ failures_of session = failures_on session.stage
 -- whether that device is honest
 abbrev pub honest_of : {D A : Type 0} {d : devices.Ghosts D} {a : analyzers.Ghosts A} → Session D A d a → Bool
 honest_of session = honest_on session.stage
+
+-- that device is as it was
+abbrev pub KeepsDeviceOf :
+    {D A : Type 0} {d : devices.Ghosts D} {a : analyzers.Ghosts A} → Session D A d a → Session D A d a → Type 0
+KeepsDeviceOf old new = KeepsDevice old.stage new.stage
 
 -- the device and the analyzer of a session
 abbrev pub parts_of :

@@ -11,7 +11,7 @@ ghost use Rattle.definitions.specs.Scanning as scanning;
 ghost use Rattle.definitions.specs.Step as steps;
 ghost use Rattle.definitions.specs.declared.fault.Fault.TheVariants as faults;
 ghost use Rattle.index.specs.AskedRequests.{index_request_of};
-ghost use Rattle.index.specs.Replying.{Answers, GoesOn, IndexMeets, OnlyStops, TakesChange, change_text};
+ghost use Rattle.index.specs.Replying.{Answers, GoesOn, IndexMeets, IsUnwritten, OnlyStops, TakesChange, change_text};
 ghost use Rattle.engine.specs.Indexes.{IndexStands, IsInFile, KeepsFile, KeepsMaking, device_of};
 ghost use Rattle.segment_search.specs.Hits.{hit_of, scored};
 ghost use Rattle.definitions.specs.Replying.{stops};
@@ -53,6 +53,7 @@ pub(crate) fn answer<D: Device + Drop, A: Analyzer + Drop>(
     ensures limit { (c : calls.Configuration) (x : calls.Index) → IndexStands A.analyze index.old c x
         → IsErrOf result faults.Limit
         → IndexMeets A.analyze index.old index.new c x (Some (index_request_of request.entry)) }
+    ensures file { IsUnwritten (Some (index_request_of request.entry)) result → KeepsFile index.old index.new }
 {
     match request {
         IndexRequest::Add(doc) => answer_change(index.add_value(doc)),

@@ -1,12 +1,13 @@
 //! A session: lines of JSON that make requests to the index of a device.
 
-ghost use Rattle.std.specs.Prelude.{◌≡◌, IfErr, IfOk, IsErrOf, IsTrue, Some, false, is_some, option_map, true};
+ghost use Rattle.std.specs.Prelude.{◌≡◌, ◌≢◌, IfErr, IfOk, IsErrOf, IsTrue, Some, false, is_some, option_map, true};
 ghost use Rattle.definitions.specs.Calls as calls;
 ghost use Rattle.definitions.specs.Disk.{HasCause};
 ghost use Rattle.definitions.specs.Requests as requests;
 ghost use Rattle.definitions.specs.Step as steps;
 ghost use Rattle.definitions.specs.declared.fault.Fault.TheVariants as faults;
 ghost use Rattle.index.specs.AskedRequests.{index_request_of, request_of};
+ghost use Rattle.index.specs.Replying.{IsUnwritten};
 ghost use Rattle.engine.specs.Indexes.{IndexStands, IsInFile, analyzer_of, device_of, schema_of, settings_of};
 ghost use Rattle.definitions.specs.Replying.{stops};
 ghost use Rattle.serde_json.specs.Read.{read};
@@ -104,7 +105,7 @@ impl<D: Device + Drop, A: Analyzer + Drop> Service for Session<D, A> {
 }
 
 impl<D: Device + Drop, A: Analyzer + Drop> Session<D, A> {
-    ghost use Rattle.index.specs.Sessions.{LeavesStage, Replies, StandsFor, failures_of, honest_of};
+    ghost use Rattle.index.specs.Sessions.{KeepsDeviceOf, LeavesStage, Replies, StandsFor, failures_of, honest_of};
 
     /// Answers the request in `line`.
     pub(crate) fn answer_line(&mut self, line: &str) -> Result<CowStr<'static>, Fault>
@@ -112,6 +113,9 @@ impl<D: Device + Drop, A: Analyzer + Drop> Session<D, A> {
             → Replies self.old self.new s (steps.line_request line.now) result }
         ensures honest { honest_of self.new ≡ honest_of self.old }
         ensures err { IfErr result (λ fault. IsTrue (stops fault)) }
+        ensures kept { IsTrue (honest_of self.old)
+            → IsUnwritten (steps.line_request line.now) result
+            → KeepsDeviceOf self.old self.new }
     {
         match parse_line(self.alloc, line)? {
             Some(json) => self.answer_value(&json),
@@ -125,6 +129,9 @@ impl<D: Device + Drop, A: Analyzer + Drop> Session<D, A> {
             → Replies self.old self.new s (requests.request_in (view json.now)) result }
         ensures honest { honest_of self.new ≡ honest_of self.old }
         ensures err { IfErr result (λ fault. IsTrue (stops fault)) }
+        ensures kept { IsTrue (honest_of self.old)
+            → IsUnwritten (requests.request_in (view json.now)) result
+            → KeepsDeviceOf self.old self.new }
     {
         match request_in(json) {
             Some(request) => self.answer(request),
@@ -138,6 +145,9 @@ impl<D: Device + Drop, A: Analyzer + Drop> Session<D, A> {
             → Replies self.old self.new s (Some (request_of request.entry)) result }
         ensures honest { honest_of self.new ≡ honest_of self.old }
         ensures err { IfErr result (λ fault. IsTrue (stops fault)) }
+        ensures kept { IsTrue (honest_of self.old)
+            → IsUnwritten (Some (request_of request.entry)) result
+            → KeepsDeviceOf self.old self.new }
     {
         match request {
             Request::Create(schema, settings) => self.create(schema, settings),
@@ -153,6 +163,10 @@ impl<D: Device + Drop, A: Analyzer + Drop> Session<D, A> {
             (Some (requests.create_index (view schema.now) (option_map (λ d. view d.now) settings.entry))) result }
         ensures honest { honest_of self.new ≡ honest_of self.old }
         ensures err { IfErr result (λ fault. IsTrue (stops fault)) }
+        ensures kept { IsTrue (honest_of self.old)
+            → IsUnwritten
+            (Some (requests.create_index (view schema.now) (option_map (λ d. view d.now) settings.entry))) result
+            → KeepsDeviceOf self.old self.new }
     {
         if self.has_ready_index() {
             return Ok(CowStr::Borrowed(Fault::AlreadyOpen.reply()));
@@ -169,6 +183,9 @@ impl<D: Device + Drop, A: Analyzer + Drop> Session<D, A> {
             → Replies self.old self.new s (Some requests.open_index) result }
         ensures honest { honest_of self.new ≡ honest_of self.old }
         ensures err { IfErr result (λ fault. IsTrue (stops fault)) }
+        ensures kept { IsTrue (honest_of self.old)
+            → IsUnwritten (Some requests.open_index) result
+            → KeepsDeviceOf self.old self.new }
     {
         if self.has_ready_index() {
             return Ok(CowStr::Borrowed(Fault::AlreadyOpen.reply()));
@@ -182,6 +199,9 @@ impl<D: Device + Drop, A: Analyzer + Drop> Session<D, A> {
             → Replies self.old self.new s (Some (index_request_of request.entry)) result }
         ensures honest { honest_of self.new ≡ honest_of self.old }
         ensures err { IfErr result (λ fault. IsTrue (stops fault)) }
+        ensures kept { IsTrue (honest_of self.old)
+            → IsUnwritten (Some (index_request_of request.entry)) result
+            → KeepsDeviceOf self.old self.new }
     {
         match &mut self.stage {
             Some(Stage::Standing(index)) => answer(index, request),
@@ -198,6 +218,8 @@ impl<D: Device + Drop, A: Analyzer + Drop> Session<D, A> {
         ensures honest { honest_of self.new ≡ honest_of self.old }
         ensures failures { HasCause (failures_of self.old) (failures_of self.new) result }
         ensures limit { ¬ IsErrOf result faults.Limit }
+        ensures kept { IsTrue (honest_of self.old)
+            → IfErr result (λ fault. fault ≢ faults.Device → KeepsDeviceOf self.old self.new) }
     {
         let Some(stage) = self.stage.take() else {
             unreachable!();
@@ -216,6 +238,8 @@ impl<D: Device + Drop, A: Analyzer + Drop> Session<D, A> {
         ensures failures { HasCause (failures_of self.old) (failures_of self.new) result }
         ensures limit { (s : steps.Session) → StandsFor self.old s → steps.is_ready s.stage ≡ false
             → ¬ IsErrOf result faults.Limit }
+        ensures kept { IsTrue (honest_of self.old)
+            → IfErr result (λ fault. fault ≢ faults.Device → KeepsDeviceOf self.old self.new) }
     {
         let Some(stage) = self.stage.take() else {
             unreachable!();

@@ -7,7 +7,8 @@ ghost use Rattle.definitions.specs.Disk.{HasCause};
 ghost use Rattle.definitions.specs.Lines.{lines_of};
 ghost use Rattle.definitions.specs.Step as steps;
 ghost use Rattle.definitions.specs.declared.fault.Fault.TheVariants as faults;
-ghost use Rattle.index.specs.Sessions.{HasHeld, IsLeft, MeetsLimitIn, StandsFor, analysis_of, failures_of, honest_of, session_on};
+ghost use Rattle.index.specs.Replying.{IsUnwritten};
+ghost use Rattle.index.specs.Sessions.{HasHeld, IsLeft, KeepsDeviceOf, MeetsLimitIn, StandsFor, analysis_of, failures_of, honest_of, session_on};
 ghost use Rattle.definitions.specs.Replying.{Writes, stops};
 ghost use Rattle.serve_lines.specs.Serving.{ServesAll};
 
@@ -26,7 +27,8 @@ pub fn run<R: BufRead, W: Write, D: Device + Drop, A: Analyzer + Drop>(
     device: D,
     analyzer: A,
 ) -> Result<(), RunFault>
-    // Of an honest device that holds no byte, or an index's file, the replies follow from that and from the lines.
+    // Of an honest device that holds no byte, an index's file, or bytes that are no index or a damaged one, the replies
+    // follow from that and from the lines.
     ensures { (held : steps.Held) → HasHeld D.honest D.content (A.analyze analyzer) device held
         → OnOk result (IfSome (R.remaining reader.old) (λ input.
         Writes steps.answer_of steps.after_line (session_on (analysis_of A.knows_name A.analyze analyzer) held)
@@ -79,6 +81,10 @@ pub fn reply<D: Device + Drop, A: Analyzer + Drop>(
     ensures left { (s : steps.Session) → StandsFor session.old s → IsTrue (honest_of session.old)
         → IfErr result (λ fault. fault ≢ faults.Device → (t : steps.Session) × IsLeft s t × StandsFor session.new t) }
     ensures honest { honest_of session.new ≡ honest_of session.old }
+    // Whatever an honest device holds, no reply changes it but `Device`, and that an index was made, opened, committed or
+    // merged.
+    ensures kept { IsTrue (honest_of session.old)
+        → IsUnwritten (steps.line_request line.now) result → KeepsDeviceOf session.old session.new }
 {
     session.answer_line(line)
 }

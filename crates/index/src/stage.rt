@@ -1,9 +1,10 @@
 //! The stage of a session: a device without an index, or with one. An index is created or opened in place of the other.
 
-ghost use Rattle.std.specs.Prelude.{◌≡◌, IsErrOf, IsTrue, Some, false};
+ghost use Rattle.std.specs.Prelude.{◌≡◌, ◌≢◌, IfErr, IsErrOf, IsTrue, Some, false};
 ghost use Rattle.definitions.specs.Disk.{HasCause};
 ghost use Rattle.definitions.specs.Step as steps;
 ghost use Rattle.definitions.specs.declared.fault.Fault.TheVariants as faults;
+ghost use Rattle.index_file.specs.Kept.{IsKept};
 ghost use Rattle.index_state.specs.Standing.{status_of};
 ghost use Rattle.index.specs.Sessions.{IsSpare, IsStage, LeavesStage, analyzer_on, device_on, left_by};
 
@@ -49,6 +50,8 @@ impl<D: Device + Drop, A: Analyzer + Drop> Stage<D, A> {
         ensures honest { D.honest (device_on result.0) ≡ D.honest (device_on self) }
         ensures failures { HasCause (D.failed (device_on self)) (D.failed (device_on result.0)) result.1 }
         ensures limit { ¬ IsErrOf result.1 faults.Limit }
+        ensures kept { IsTrue (D.honest (device_on self)) → IfErr result.1 (λ fault. fault ≢ faults.Device
+            → IsKept D.moment D.left_since D.content D.unsynced (device_on self) (device_on result.0)) }
     {
         let (device, analyzer) = self.into_device();
         leave(Index::create(alloc, device, analyzer, schema, settings))
@@ -64,6 +67,8 @@ impl<D: Device + Drop, A: Analyzer + Drop> Stage<D, A> {
         ensures failures { HasCause (D.failed (device_on self)) (D.failed (device_on result.0)) result.1 }
         ensures limit { (a : steps.Analysis) (s : steps.Stage) → IsStage A.knows_name A.analyze a self s
             → steps.is_ready s ≡ false → ¬ IsErrOf result.1 faults.Limit }
+        ensures kept { IsTrue (D.honest (device_on self)) → IfErr result.1 (λ fault. fault ≢ faults.Device
+            → IsKept D.moment D.left_since D.content D.unsynced (device_on self) (device_on result.0)) }
     {
         let (device, analyzer) = self.into_device();
         leave(Index::open(alloc, device, analyzer))

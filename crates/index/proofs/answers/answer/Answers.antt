@@ -6,10 +6,11 @@ use Rattle.definitions.specs.Step as steps
 use Rattle.definitions.specs.declared.fault.Fault.TheVariants as faults
 use Rattle.engine.specs.Indexes.{IndexStands, IsInFile, KeepsFile, device_of}
 use Rattle.index.specs.AskedRequests.{index_request_of}
-use Rattle.index.specs.Replying.{Answers, IndexMeets, OnlyStops}
+use Rattle.index.specs.Replying.{Answers, IndexMeets, IsUnwritten, OnlyStops}
 use Rattle.index.proofs.Answering.{add_refused, change_answers, taken_answers, write_kept, write_refused}
 use Rattle.index.proofs.Causes.{add_cause, any_answer, change_is_memory, memory_cause, memory_no_limit, met_limit, same_cause, same_error}
 use Rattle.index.proofs.IndexFiles.{counted_still, in_file_still, searched_still, step_status, written_in_file}
+use Rattle.index.proofs.KeptDevices.{unwritten_file}
 use Rattle.index.proofs.Leavings.{after_error, any_error, error_of_change, reply_stops}
 use Rattle.serde_json.specs.View.{view}
 use Rattle.index.proofs.answers.answer.Goals as goal
@@ -215,3 +216,15 @@ pub returns-in-Count-clause-left : goal.returns-in-Count-clause-left
 returns-in-Count-clause-left g c k x s =
     let index = c.args.index.now in
     any_error c.count.result (OnlyStops g.A.Analyzer.analyze index index k x) (record { file = (refl, refl, refl); stands = inl s })
+
+-- ---- the file
+
+pub returns-in-Merge-clause-file : goal.returns-in-Merge-clause-file
+returns-in-Merge-clause-file g c unwritten =
+    unwritten_file c.args.index.now c.merge.new.self (Some (requests.merge_groups c.in-Merge.from c.in-Merge.to)) c.merge.result c.answer_change-in-Merge.result refl c.answer_change-in-Merge.ensures.text c.answer_change-in-Merge.ensures.on c.answer_change-in-Merge.ensures.same c.merge.ensures.kept
+    (subst (λ r. IsUnwritten (Some (index_request_of r)) c.answer_change-in-Merge.result) c.in-Merge.is unwritten)
+
+pub returns-in-Commit-clause-file : goal.returns-in-Commit-clause-file
+returns-in-Commit-clause-file g c unwritten =
+    unwritten_file c.args.index.now c.commit.new.self (Some requests.commit_all) c.commit.result c.answer_change-in-Commit.result refl c.answer_change-in-Commit.ensures.text c.answer_change-in-Commit.ensures.on c.answer_change-in-Commit.ensures.same c.commit.ensures.kept
+    (subst (λ r. IsUnwritten (Some (index_request_of r)) c.answer_change-in-Commit.result) c.in-Commit.is unwritten)

@@ -1,6 +1,8 @@
 use Rattle.std.proofs.Common.{None, Some, ap, option_map, subst, sym, ◌∙◌}
 use Rattle.definitions.specs.Step as steps
 use Rattle.index.specs.Sessions.{Replies}
+use Rattle.index.specs.Replying.{IsUnwritten}
+use Rattle.index.proofs.KeptDevices.{same_kept}
 use Rattle.index.proofs.SessionSteps.{line_asks, memory_reply, unasked_reply}
 use Rattle.serde_json.specs.View.{view}
 use Rattle.index.proofs.session.Session.answer_line.Goals as goal
@@ -16,3 +18,14 @@ returns-in-Some-clause-answered g c s h =
 pub returns-in-None-clause-answered : goal.returns-in-None-clause-answered
 returns-in-None-clause-answered g c s h =
     unasked_reply s c.args.self.now (steps.line_request c.args.line.now) _ (sym (line_asks c.args.line.now None (ap (option_map view) (sym c.in-None.is) ∙ c.in_ok-json.ensures))) h c.reply.ensures
+
+pub returns-in_err-json-clause-kept : goal.returns-in_err-json-clause-kept
+returns-in_err-json-clause-kept g c honest unwritten = same_kept g.met.D.Device.only_now c.args.self.now.stage honest
+
+pub returns-in-Some-clause-kept : goal.returns-in-Some-clause-kept
+returns-in-Some-clause-kept g c honest unwritten =
+    let asks = line_asks c.args.line.now (Some (view c.in-Some.json)) (ap (option_map view) (sym c.in-Some.is) ∙ c.in_ok-json.ensures) in
+    c.answer_value.ensures.kept honest (subst (λ q. IsUnwritten q c.answer_value.result) asks unwritten)
+
+pub returns-in-None-clause-kept : goal.returns-in-None-clause-kept
+returns-in-None-clause-kept g c honest unwritten = same_kept g.met.D.Device.only_now c.args.self.now.stage honest

@@ -1,6 +1,8 @@
 use Rattle.std.proofs.Common.{ap, option_map, subst, sym, ◌∙◌}
 use Rattle.index.specs.AskedRequests.{request_of}
 use Rattle.index.specs.Sessions.{Replies}
+use Rattle.index.specs.Replying.{IsUnwritten}
+use Rattle.index.proofs.KeptDevices.{same_kept}
 use Rattle.index.proofs.SessionSteps.{unasked_reply}
 use Rattle.index.proofs.session.Session.answer_value.Goals as goal
 
@@ -10,3 +12,10 @@ returns-in-Some-clause-answered g c s h =
 
 pub returns-in-None-clause-answered : goal.returns-in-None-clause-answered
 returns-in-None-clause-answered g c s h = unasked_reply s c.args.self.now _ _ (ap (option_map request_of) (sym c.in-None.is) ∙ c.request_in.ensures) h c.reply.ensures
+
+pub returns-in-Some-clause-kept : goal.returns-in-Some-clause-kept
+returns-in-Some-clause-kept g c honest unwritten =
+    c.answer.ensures.kept honest (subst (λ q. IsUnwritten q c.answer.result) (sym (ap (option_map request_of) (sym c.in-Some.is) ∙ c.request_in.ensures)) unwritten)
+
+pub returns-in-None-clause-kept : goal.returns-in-None-clause-kept
+returns-in-None-clause-kept g c honest unwritten = same_kept g.met.D.Device.only_now c.args.self.now.stage honest

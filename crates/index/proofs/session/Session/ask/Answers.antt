@@ -1,7 +1,8 @@
 use Rattle.std.proofs.Common.{Some, ap, refl, subst, sym, ◌∙◌}
 use Rattle.definitions.specs.declared.fault.Fault.TheVariants as faults
 use Rattle.index.specs.AskedRequests.{index_request_of}
-use Rattle.index.specs.Sessions.{HasStage, honest_on}
+use Rattle.index.specs.Sessions.{HasStage, KeepsDevice, honest_on}
+use Rattle.index.proofs.KeptDevices.{index_kept, same_kept}
 use Rattle.index.proofs.SessionSteps.{index_reply, none_asked, refused_reply, same_stage}
 use Rattle.index.proofs.session.Session.ask.Goals as goal
 
@@ -23,3 +24,10 @@ returns-in-Some-Standing-clause-honest g c = c.answer.ensures.honest ∙ sym (ap
 
 pub returns-in-Some-Spare-clause-honest : goal.returns-in-Some-Spare-clause-honest
 returns-in-Some-Spare-clause-honest g c = ap honest_on (sym c.in-Some-Spare.is)
+
+pub returns-in-Some-Standing-clause-kept : goal.returns-in-Some-Standing-clause-kept
+returns-in-Some-Standing-clause-kept g c honest unwritten =
+    index_kept g.met.D.Device.only_now c.in-Some-Standing.index c.answer.new.index c.args.self.now.stage _ (c.in-Some-Standing.is ∙ ap Some c.in-Some-Standing.field-0-is) refl (c.answer.ensures.file unwritten).0 honest
+
+pub returns-in-Some-Spare-clause-kept : goal.returns-in-Some-Spare-clause-kept
+returns-in-Some-Spare-clause-kept g c honest unwritten = subst (KeepsDevice c.args.self.now.stage) c.in-Some-Spare.is (same_kept g.met.D.Device.only_now c.args.self.now.stage honest)

@@ -1,10 +1,12 @@
-use Rattle.std.proofs.Common.{false, option_map, refl, sym, true, ◌≡◌}
+use Rattle.std.proofs.Common.{Some, false, option_map, refl, sym, true, ◌≡◌}
 use Rattle.definitions.specs.Requests as requests
 use Rattle.definitions.specs.Step as steps
 use Rattle.definitions.specs.declared.fault.Fault.TheVariants as faults
 use Rattle.definitions.specs.Replying.{stops}
+use Rattle.index.specs.Sessions.{KeepsDeviceOf}
 use Rattle.index.proofs.Answering.{going_on}
 use Rattle.index.proofs.Causes.{stop_is_memory, unread_goes_on}
+use Rattle.index.proofs.KeptDevices.{same_kept, unwritten_change}
 use Rattle.index.proofs.SessionSteps.{already_made, created_step, on_map, refused_reply, replied, unread_step}
 use Rattle.serde_json.specs.View.{view}
 use Rattle.index.proofs.session.Session.create.Goals as goal
@@ -35,3 +37,14 @@ returns-in-Ok-clause-answered g c s h =
     let not_ready : steps.is_ready s.stage ≡ false = sym (c.if-has_ready_index.ensures s h) in
     replied s c.args.self.now c.make.new.self c.make.result c.answer_change.result _ (requests.create_index d more) not_ready (created_step s d more _ _ not_ready c.in-Ok.ensures.ok.0 c.in-Ok.ensures.ok.1) (c.make.ensures.left s h not_ready)
     c.answer_change.ensures.text c.answer_change.ensures.on c.answer_change.ensures.same c.make.ensures.honest c.make.ensures.failures c.make.ensures.limit
+
+pub returns-then-has_ready_index-clause-kept : goal.returns-then-has_ready_index-clause-kept
+returns-then-has_ready_index-clause-kept g c honest unwritten = same_kept g.met.D.Device.only_now c.args.self.now.stage honest
+
+pub returns-in-Err-clause-kept : goal.returns-in-Err-clause-kept
+returns-in-Err-clause-kept g c honest unwritten = same_kept g.met.D.Device.only_now c.args.self.now.stage honest
+
+pub returns-in-Ok-clause-kept : goal.returns-in-Ok-clause-kept
+returns-in-Ok-clause-kept g c honest unwritten =
+    unwritten_change (Some (requests.create_index (view c.args.schema.now) (option_map (λ x. view x.now) c.args.settings))) c.make.result c.answer_change.result (KeepsDeviceOf c.args.self.now c.make.new.self) refl
+    c.answer_change.ensures.text c.answer_change.ensures.on c.answer_change.ensures.same (c.make.ensures.kept honest) unwritten

@@ -1,7 +1,9 @@
-use Rattle.std.proofs.Common.{false, sym, true, ◌≡◌}
+use Rattle.std.proofs.Common.{Some, false, refl, sym, true, ◌≡◌}
 use Rattle.definitions.specs.Requests as requests
 use Rattle.definitions.specs.Step as steps
 use Rattle.definitions.specs.declared.fault.Fault.TheVariants as faults
+use Rattle.index.specs.Sessions.{KeepsDeviceOf}
+use Rattle.index.proofs.KeptDevices.{same_kept, unwritten_change}
 use Rattle.index.proofs.SessionSteps.{already_opened, opened_step, refused_reply, replied}
 use Rattle.index.proofs.session.Session.open.Goals as goal
 
@@ -15,3 +17,11 @@ returns-clause-answered g c s h =
     let not_ready : steps.is_ready s.stage ≡ false = sym (c.if-has_ready_index.ensures s h) in
     replied s c.args.self.now c.reopen.new.self c.reopen.result c.answer_change.result (steps.opened s.analysis.knows (steps.held_by s.stage)) requests.open_index not_ready (opened_step s not_ready) (c.reopen.ensures.left s h not_ready)
     c.answer_change.ensures.text c.answer_change.ensures.on c.answer_change.ensures.same c.reopen.ensures.honest c.reopen.ensures.failures (c.reopen.ensures.limit s h not_ready)
+
+pub returns-then-has_ready_index-clause-kept : goal.returns-then-has_ready_index-clause-kept
+returns-then-has_ready_index-clause-kept g c honest unwritten = same_kept g.met.D.Device.only_now c.args.self.now.stage honest
+
+pub returns-clause-kept : goal.returns-clause-kept
+returns-clause-kept g c honest unwritten =
+    unwritten_change (Some requests.open_index) c.reopen.result c.answer_change.result (KeepsDeviceOf c.args.self.now c.reopen.new.self) refl
+    c.answer_change.ensures.text c.answer_change.ensures.on c.answer_change.ensures.same (c.reopen.ensures.kept honest) unwritten

@@ -1,10 +1,11 @@
-use Rattle.std.proofs.Common.{Some, subst, sym, ◌≡◌}
+use Rattle.std.proofs.Common.{IfErr, Some, subst, sym, ◌≡◌, ◌≢◌}
 use Rattle.definitions.specs.Disk.{HasCause}
 use Rattle.definitions.specs.Step as steps
 use Rattle.definitions.specs.declared.fault.Fault.TheVariants as faults
 use Rattle.std.specs.Prelude.{IsErrOf}
+use Rattle.index_file.specs.Kept.{IsKept}
 use Rattle.index.specs.Sessions.{LeavesStage, device_on}
-use Rattle.index.proofs.Stages.{create_left, made_no_limit, stage_failures, stage_honest}
+use Rattle.index.proofs.Stages.{create_left, made_no_limit, stage_failures, stage_honest, stage_kept}
 use Rattle.index.proofs.stage.Stage.create.Goals as goal
 
 pub returns-clause-left : goal.returns-clause-left
@@ -31,3 +32,10 @@ pub returns-clause-limit : goal.returns-clause-limit
 returns-clause-limit g c =
     subst (λ r. ¬ IsErrOf r.1 faults.Limit) (sym c.leave.ensures)
     (made_no_limit (g.A.Analyzer.knows_name c.into_device-device.result.1) c.args.schema c.args.settings c.create.result c.create.ensures.exact)
+
+pub returns-clause-kept : goal.returns-clause-kept
+returns-clause-kept g c honest =
+    let d = g.D.Device in
+    let old = device_on c.args.self in
+    subst (λ r. IfErr r.1 (λ fault. fault ≢ faults.Device → IsKept d.moment d.left_since d.content d.unsynced old (device_on r.0))) (sym c.leave.ensures)
+    (stage_kept old c.into_device-device.result.0 c.create.result c.into_device-device.ensures.device c.create.ensures.kept honest)

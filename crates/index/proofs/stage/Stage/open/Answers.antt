@@ -1,10 +1,11 @@
-use Rattle.std.proofs.Common.{Some, subst, sym, ◌≡◌}
+use Rattle.std.proofs.Common.{IfErr, Some, subst, sym, ◌≡◌, ◌≢◌}
 use Rattle.definitions.specs.Disk.{HasCause}
 use Rattle.definitions.specs.Step as steps
 use Rattle.definitions.specs.declared.fault.Fault.TheVariants as faults
 use Rattle.std.specs.Prelude.{IsErrOf}
+use Rattle.index_file.specs.Kept.{IsKept}
 use Rattle.index.specs.Sessions.{LeavesStage, device_on}
-use Rattle.index.proofs.Stages.{held_honest, open_left, opened_no_limit, stage_failures, stage_honest}
+use Rattle.index.proofs.Stages.{held_honest, open_left, opened_no_limit, stage_failures, stage_honest, stage_kept}
 use Rattle.index.proofs.stage.Stage.open.Goals as goal
 
 pub returns-clause-left : goal.returns-clause-left
@@ -34,3 +35,10 @@ returns-clause-limit g c a s h not_ready =
     let spare = c.into_device-device.ensures.spare a s h not_ready in
     subst (λ r. ¬ IsErrOf r.1 faults.Limit) (sym c.leave.ensures)
     (opened_no_limit (g.A.Analyzer.knows_name c.into_device-device.result.1) (d.content device) c.open.result (c.open.ensures.refused (held_honest d.honest d.content a.analyze device (steps.held_by s) spare.1)))
+
+pub returns-clause-kept : goal.returns-clause-kept
+returns-clause-kept g c honest =
+    let d = g.D.Device in
+    let old = device_on c.args.self in
+    subst (λ r. IfErr r.1 (λ fault. fault ≢ faults.Device → IsKept d.moment d.left_since d.content d.unsynced old (device_on r.0))) (sym c.leave.ensures)
+    (stage_kept old c.into_device-device.result.0 c.open.result c.into_device-device.ensures.device c.open.ensures.kept honest)
