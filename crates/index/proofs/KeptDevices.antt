@@ -44,11 +44,3 @@ module _ {D A : Type 0} {d : devices.Ghosts D} (only_now : (device : D) (image :
   index_kept old new before after was is same honest =
       subst (λ o. KeepsDevice o after) (sym was) (subst (λ o. KeepsDevice (Some (Standing old)) o) (sym is)
       (subst (λ e. IsKept d.moment d.left_since d.content d.unsynced (device_of old) e) (sym same) (still d only_now (device_of old) (subst (λ o. IsTrue (honest_on o)) was honest))))
-
--- an index was to be made or opened on the device of what stood
-pub stage_kept_in : {D A : Type 0} {d : devices.Ghosts D} (old new : Stage D A d) (before after : Option (Stage D A d)) (change : Result ⊤ Fault) → before ≡ Some old → after ≡ Some new
-    → (IsTrue (d.honest (device_on old)) → IfErr change (λ fault. fault ≢ faults.Device → IsKept d.moment d.left_since d.content d.unsynced (device_on old) (device_on new)))
-    → IsTrue (honest_on before) → IfErr change (λ fault. fault ≢ faults.Device → KeepsDevice before after)
-stage_kept_in old new before after change was is kept honest =
-    subst (λ o. IfErr change (λ fault. fault ≢ faults.Device → KeepsDevice o after)) (sym was)
-    (subst (λ o. IfErr change (λ fault. fault ≢ faults.Device → KeepsDevice (Some old) o)) (sym is) (kept (subst (λ o. IsTrue (honest_on o)) was honest)))
