@@ -138,6 +138,8 @@ fn find<D: Device + Drop, A: Analyzer + Drop>(
     ensures err { (c : calls.Configuration) (x : calls.Index) → IndexStands A.analyze index.old c x
         → IfErr result (λ fault. fault ≢ faults.OutOfMemory
         → steps.index_step c x (requests.search_docs (view query.now) k) ≡ steps.refusing fault x) }
+    ensures own { (c : calls.Configuration) (x : calls.Index) → IndexStands A.analyze index.old c x
+        → IfErr result (λ fault. fault ≡ faults.OutOfMemory → calls.status_fault x.status true ≡ None) }
     ensures goes_on { (c : calls.Configuration) (x : calls.Index) → IndexStands A.analyze index.old c x
         → IfErr result (λ fault. fault ≢ faults.OutOfMemory → stops fault ≡ false) }
     ensures left { (c : calls.Configuration) (x : calls.Index) → IndexStands A.analyze index.old c x
@@ -161,6 +163,8 @@ fn find_count<D: Device + Drop, A: Analyzer + Drop>(
     ensures err { (c : calls.Configuration) (x : calls.Index) → IndexStands A.analyze index.now c x
         → IfErr result (λ fault. fault ≢ faults.OutOfMemory
         → steps.index_step c x (requests.count_docs (view query.now)) ≡ steps.refusing fault x) }
+    ensures own { (c : calls.Configuration) (x : calls.Index) → IndexStands A.analyze index.now c x
+        → IfErr result (λ fault. fault ≡ faults.OutOfMemory → calls.status_fault x.status true ≡ None) }
     ensures goes_on { (c : calls.Configuration) (x : calls.Index) → IndexStands A.analyze index.now c x
         → IfErr result (λ fault. fault ≢ faults.OutOfMemory → stops fault ≡ false) }
 {

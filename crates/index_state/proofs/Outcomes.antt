@@ -59,6 +59,10 @@ commit_taken c x none = own_refuses c x calls.commit_pending none
 pub memory_is_no_limit : (fault : Fault) → fault ≡ faults.OutOfMemory → fault ≡ faults.Limit → ⊥
 memory_is_no_limit fault memory limit = let e : faults.OutOfMemory ≡ faults.Limit = sym memory ∙ limit in cc
 
+-- nor is a closed index
+pub closed_is_no_memory : faults.Closed ≢ faults.OutOfMemory
+closed_is_no_memory e = cc
+
 -- what holds of no limit
 pub err_no_limit : {T : Type 0} (r : Result T Fault) (fault : Fault) (P : Type 0) → IsErrAnd r (λ e. e ≡ fault) → (fault ≡ faults.Limit → ⊥) → IfErr r (λ e. e ≡ faults.Limit → P)
 err_no_limit r fault P is other = err_has r fault (λ e. e ≡ faults.Limit → P) is (λ limit. absurd (other limit))

@@ -5,7 +5,9 @@ ghost use Rattle.std.specs.List.{AllByRecursion, AllByRecursion-prop, AllZip};
 ghost use Rattle.std.specs.Result.{result_err};
 ghost use Rattle.definitions.specs.Alive.{live_groups};
 ghost use Rattle.definitions.specs.Calls as calls;
+ghost use Rattle.definitions.specs.Refusing.{refusal};
 ghost use Rattle.definitions.specs.Scanning as scanning;
+ghost use Rattle.definitions.specs.Settings.{similarity_of};
 ghost use Rattle.definitions.specs.State as states;
 ghost use Rattle.definitions.specs.Step.{configuration_of, fresh_index, reopened};
 ghost use Rattle.definitions.specs.Values.{Document};
@@ -187,8 +189,9 @@ impl<A: Analyzer + Drop> IndexState<A> {
 
     /// Checks that searches are answered.
     pub fn check_open(&self) -> Result<(), Fault>
-        ensures { (c : calls.Configuration) (x : calls.Index) → Stands A.analyze self.now c x
+        ensures value { (c : calls.Configuration) (x : calls.Index) → Stands A.analyze self.now c x
             → result_err result ≡ calls.status_fault x.status true }
+        ensures fault { IfErr result (λ fault. fault ≡ faults.Closed) }
     {
         match self.status {
             Status::Ready | Status::WriterClosed => Ok(()),
@@ -393,6 +396,12 @@ impl<A: Analyzer + Drop> IndexState<A> {
         ensures err { (c : calls.Configuration) (x : calls.Index) → Stands A.analyze self.old c x
             → IfErr result (λ fault. fault ≢ faults.OutOfMemory
             → calls.call_fault c x (calls.search_best (query_of query.now) limit) ≡ Some fault) }
+        ensures faults { IfErr result (λ fault. (fault ≡ faults.Closed) ⊎ (fault ≡ faults.OutOfMemory)
+            ⊎ (fault ≡ faults.Damaged None) ⊎ (refusal (schema_of self.old)
+            (similarity_of (settings_of self.old)).weight (query_of query.now) ≡ Some fault)) }
+        ensures own { (c : calls.Configuration) (x : calls.Index) → Stands A.analyze self.old c x
+            → IfErr result (λ fault. fault ≡ faults.OutOfMemory
+            → calls.call_fault c x (calls.search_best (query_of query.now) limit) ≡ None) }
         ensures left { (c : calls.Configuration) (x : calls.Index) → Stands A.analyze self.old c x
             → Stands A.analyze self.new c x }
         ensures made { IsMadeAlike self.old self.new }
@@ -419,6 +428,12 @@ impl<A: Analyzer + Drop> IndexState<A> {
         ensures err { (c : calls.Configuration) (x : calls.Index) → Stands A.analyze self.now c x
             → IfErr result (λ fault. fault ≢ faults.OutOfMemory
             → calls.call_fault c x (calls.count_all (query_of query.now)) ≡ Some fault) }
+        ensures faults { IfErr result (λ fault. (fault ≡ faults.Closed) ⊎ (fault ≡ faults.OutOfMemory)
+            ⊎ (refusal (schema_of self.now) (similarity_of (settings_of self.now)).weight (query_of query.now)
+            ≡ Some fault)) }
+        ensures own { (c : calls.Configuration) (x : calls.Index) → Stands A.analyze self.now c x
+            → IfErr result (λ fault. fault ≡ faults.OutOfMemory
+            → calls.call_fault c x (calls.count_all (query_of query.now)) ≡ None) }
     {
         self.check_open()?;
         count(

@@ -109,20 +109,20 @@ module _ (schema : Schema) (analyze : Analyzer) where
 
   module _ (docs : List (List Document)) (segments : List code.Segment) (sets : List (List Bool)) (stands : AllZip (StandsFor schema analyze) docs segments) (flagged_are : AreFlagged segments sets) where
     -- what is shown of documents is what is shown of their places
-    each_shown : (best : List (ℕ × DocAddress)) → AllByRecursion (IsFound (length sets)) best → map (shown_of schema docs) best ≡ map scored (map (shown_at schema (flagged_each docs sets)) (map place_at best))
+    each_shown : (best : List (ℕ × DocAddress)) → AllByRecursion (IsFound sets) best → map (shown_of schema docs) best ≡ map scored (map (shown_at schema (flagged_each docs sets)) (map place_at best))
     each_shown [] found = refl
     each_shown (m ∷ best) found =
         let same = each_document docs segments sets m.1.segment_ord m.1.doc_id stands flagged_are found.0.0 in
         ap₂ (λ (doc : Document) (hits : List (ℤ × Named)). scored (m.0, stored_values schema doc) ∷ hits) (sym same) (each_shown best found.1)
 
     -- there are such documents
-    each_within : (best : List (ℕ × DocAddress)) → AllByRecursion (IsFound (length sets)) best → AllByRecursion (IsThere (flagged_each docs sets)) (map place_at best) → AllByRecursion (IsWithin docs) best
+    each_within : (best : List (ℕ × DocAddress)) → AllByRecursion (IsFound sets) best → AllByRecursion (IsThere (flagged_each docs sets)) (map place_at best) → AllByRecursion (IsWithin docs) best
     each_within [] found there = tt
     each_within (m ∷ best) found there =
         let same = each_length docs segments sets m.1.segment_ord stands flagged_are found.0.0 in
         (subst (λ n. m.1.doc_id < n) same there.0, each_within best found.1 there.1)
 
-    module _ (sim : Similarity) (q : Query) (k : ℕ) (best : List (ℕ × DocAddress)) (found : AllByRecursion (IsFound (length sets)) best) (is : map place_at best ≡ best_places k (places_from schema analyze sim q 0 (flagged_each docs sets))) where
+    module _ (sim : Similarity) (q : Query) (k : ℕ) (best : List (ℕ × DocAddress)) (found : AllByRecursion (IsFound sets) best) (is : map place_at best ≡ best_places k (places_from schema analyze sim q 0 (flagged_each docs sets))) where
       -- the best documents, shown, are a scan of the living ones
       pub best_scanned : map (shown_of schema docs) best ≡ map scored (scan schema analyze sim (live (flagged_each docs sets)) q k)
       best_scanned = each_shown best found ∙ ap (λ ps. map scored (map (shown_at schema (flagged_each docs sets)) ps)) is ∙ ap (map scored) (best_is_scan schema analyze sim q (flagged_each docs sets) k)

@@ -1,15 +1,24 @@
 -- Hits that are read from segments.
-use Rattle.std.proofs.Common.{[], ◌++◌, ◌+◌, ◌<◌, ◌∙◌, ◌∷◌, ◌≡◌, ◌≤◌, ◌⊎◌, List, Some, ap, ap₂, arith, drop, drop-cons, get_or, inl, inr, length, map, option_map, refl, set, slice_get, suc, sym, zero, ℕ}
-use Rattle.std.proofs.lemmas.List.{append_assoc, map-append}
+use Rattle.std.proofs.Common.{[], ◌++◌, ◌+◌, ◌<◌, ◌∙◌, ◌∷◌, ◌≡◌, ◌≤◌, ◌⊎◌, Bool, List, None, Some, ap, ap₂, arith, drop, drop-cons, false, get_or, inl, inr, length, map, option_map, refl, set, slice_get, subst, suc, sym, true, true≢false, zero, ℕ}
+use Rattle.std.proofs.Math.Logic.{∥∥₁_elim}
+use Rattle.std.proofs.Props.{props}
+use Rattle.std.proofs.lemmas.List.{append_assoc, get_or-map, length-map, map-append}
 use Rattle.std.specs.List.{AllByRecursion, AllZip}
 use Rattle.definitions.specs.Analyzers.{Analyzer}
 use Rattle.definitions.specs.Schema.{Schema}
 use Rattle.definitions.specs.Values.{Document}
 use Rattle.definitions.specs.declared.fault.Fault.{Fault}
 use Rattle.definitions.specs.declared.fault.Fault.TheVariants as faults
-use Rattle.segment.specs.Opened.{IsOpened, StandsFor, bytes_of, num_docs_of}
+use Rattle.segment.specs.Opened.{IsOpened, StandsFor, blocks_of, bytes_of, num_docs_of}
+use Rattle.segment.specs.SlotDocuments.{IsDocumentFault}
 use Rattle.segment.specs.declared.segment.Segment as code
-use Rattle.segment_search.specs.Hits.{KeepsSegments}
+use Rattle.segment_reader.specs.declared.doc_address.DocAddress.{DocAddress}
+use Rattle.segment_search.proofs.Flagging.{flagged_within}
+use Rattle.segment_search.specs.Flags.{AreFlagged}
+use Rattle.segment_search.specs.Hits.{IsHeld, KeepsSegments}
+use Rattle.store.proofs.Opened.{count_is}
+use Rattle.store.specs.Writing.{count_of}
+use Rattle.top_docs.specs.Collected.{IsFound}
 
 -- what stands for the element at a place
 pub stands_at : {X Y : Type 0} (R : X → Y → Type 0) (none : X) (other : Y) (xs : List X) (ys : List Y) (i : ℕ) → AllZip R xs ys → i < length ys → R (get_or xs i none) (get_or ys i other)
@@ -74,6 +83,59 @@ kept_then one two three first second = record {
 pub not_past : (fault : Fault) (doc count : ℕ) → doc < count → ((fault ≡ faults.OutOfMemory) × (doc < count)) ⊎ ((fault ≡ faults.InvalidArgument) × (count ≤ doc)) → fault ≡ faults.OutOfMemory
 not_past fault doc count l (inl memory) = memory.0
 not_past fault doc count l (inr past) = let none = past.1 in absurd (omega (arith, l, none))
+
+-- what reading a document that is there is refused by
+pub slot_faults : (schema : Schema) (s : code.Segment) (doc : ℕ) (fault : Fault) → doc < count_of (blocks_of s) → IsDocumentFault schema (blocks_of s) doc fault → (fault ≡ faults.OutOfMemory) ⊎ (fault ≡ faults.Damaged None)
+slot_faults schema s doc fault l (inl memory) = inl memory
+slot_faults schema s doc fault l (inr (inl (inl memory))) = inl memory.0
+slot_faults schema s doc fault l (inr (inl (inr (inl past)))) = let none = past.1 in absurd (omega (arith, l, none))
+slot_faults schema s doc fault l (inr (inl (inr (inr bad)))) = inr bad.0
+slot_faults schema s doc fault l (inr (inr none)) = inr none.0
+
+-- ---- places of documents that are there
+
+-- what holds of all holds of the one at a place
+pub one_at : {Y : Type 0} (P : Y → Type 0) (other : Y) (ys : List Y) (i : ℕ) → AllByRecursion P ys → i < length ys → P (get_or ys i other)
+one_at P other [] i h l = absurd (omega (arith, l))
+one_at P other (z ∷ ys) zero h l = h.0
+one_at P other (z ∷ ys) (suc i) h l = one_at P other ys i h.1 (omega (arith, l))
+
+-- a document of an opened segment is in its store
+pub stored_at : (segments : List code.Segment) (i doc : ℕ) (other : code.Segment) → ∥ ((schema : Schema) × AllByRecursion (IsOpened schema) segments) ∥₁ → i < length segments → doc < get_or (map num_docs_of segments) i 0 → doc < count_of (blocks_of (get_or segments i other))
+stored_at segments i doc other opened inside l =
+    let s = get_or segments i other in
+    let counted : count_of (blocks_of s) ≡ num_docs_of s = ∥∥₁_elim opened (hlevel props) (λ o. (let one : IsOpened o.0 s = one_at (IsOpened o.0) other segments i o.1 inside in sym (count_is (blocks_of s)) ∙ one.counted)) in
+    let held : doc < num_docs_of s = subst (λ n. doc < n) (get_or-map num_docs_of segments i other 0 inside) l in
+    omega (arith, counted, held)
+
+-- one is there in as many segments of as many documents
+pub held_kept : (old new : List code.Segment) (m : ℕ × DocAddress) → map num_docs_of new ≡ map num_docs_of old → IsHeld old m → IsHeld new m
+held_kept old new m same h =
+    let long = length-map new num_docs_of in
+    let as_long = length-map old num_docs_of in
+    let counted = ap length same in
+    let inside = h.0 in
+    (omega (arith, long, as_long, counted, inside), h.1, subst (λ counts. m.1.doc_id < get_or counts m.1.segment_ord 0) (sym same) h.2)
+
+flag_there : (flags : List Bool) (j : ℕ) → get_or flags j false ≡ true → j < length flags
+flag_there [] j e = absurd (true≢false (sym e))
+flag_there (flag ∷ flags) zero e = omega arith
+flag_there (flag ∷ flags) (suc j) e = let rest = flag_there flags j e in omega (arith, rest)
+
+flags_counted : (segments : List code.Segment) (sets : List (List Bool)) (i : ℕ) → AreFlagged segments sets → i < length sets → length (get_or sets i []) ≡ get_or (map num_docs_of segments) i 0
+flags_counted segments [] i h l = absurd (omega (arith, l))
+flags_counted [] (flags ∷ sets) i h l = absurd h
+flags_counted (s ∷ segments) (flags ∷ sets) zero h l = h.0
+flags_counted (s ∷ segments) (flags ∷ sets) (suc i) h l = flags_counted segments sets i h.1 (omega (arith, l))
+
+-- a living document is there
+pub held_alive : (segments : List code.Segment) (sets : List (List Bool)) → AreFlagged segments sets → (m : ℕ × DocAddress) → IsFound sets m → IsHeld segments m
+held_alive segments sets flagged m found =
+    let few = flagged_within segments sets flagged in
+    let inside = found.0 in
+    (omega (arith, few, inside), found.1, subst (λ n. m.1.doc_id < n) (flags_counted segments sets m.1.segment_ord flagged found.0) (flag_there (get_or sets m.1.segment_ord []) m.1.doc_id found.2))
+
+-- ---- hits, one after the other
 
 -- a hit more, of the next document that is left
 pub read_next : {X Y Z : Type 0} (f : X → Z) (g : Y → Z) (hits new : List X) (best : List Y) (i : ℕ) (h : X) (other : Y) (all : List Z) → new ≡ hits ++ h ∷ [] → f h ≡ g (get_or best i other) → i < length best → map f hits ++ map g (drop i best) ≡ all → map f new ++ map g (drop (i + 1) best) ≡ all

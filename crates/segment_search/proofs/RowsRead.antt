@@ -1,12 +1,14 @@
 -- The rows that readers of segments have.
-use Rattle.std.proofs.Common.{[], ◌++◌, ◌<◌, ◌∙◌, ◌∷◌, ◌≡◌, Bool, List, Option, Some, ap, arith, get_or, length, refl, replicate, subst, suc, sym, take, true, zero, ℕ}
+use Rattle.std.proofs.Common.{[], ◌++◌, ◌<◌, ◌∙◌, ◌∷◌, ◌≡◌, Bool, List, Option, Some, ap, ap₂, arith, get_or, length, map, refl, replicate, subst, suc, sym, take, true, zero, ℕ}
+use Rattle.std.proofs.Math.Seq.{take-suc}
+use Rattle.std.proofs.lemmas.List.{map-append}
 use Rattle.std.specs.List.{AllZip}
 use Rattle.std.specs.Option.{option_map_or}
 use Rattle.definitions.specs.Analyzers.{Analyzer}
 use Rattle.definitions.specs.Merging.{documents_in, flags_of}
 use Rattle.definitions.specs.Schema.{Schema}
 use Rattle.definitions.specs.Values.{Document}
-use Rattle.scorer_answers.specs.Rows.{HasRows}
+use Rattle.scorer_answers.specs.Rows.{HasRows, flags_in}
 use Rattle.segment.proofs.Opening.{one_segment}
 use Rattle.segment.specs.Opened.{StandsFor, num_docs_of}
 use Rattle.segment.specs.declared.segment.Segment as code
@@ -56,6 +58,14 @@ rows_read schema analyze (ds ∷ docs) (x ∷ segments) (flags ∷ sets) (y ∷ 
 rows_read schema analyze (ds ∷ docs) (x ∷ segments) (flags ∷ sets) [] (suc i) s set r h f l a b reads alive g = absurd g
 rows_read schema analyze (ds ∷ docs) (x ∷ segments) (flags ∷ sets) (y ∷ rs) (suc i) s set r h f l a b reads alive g =
     (g.0, rows_read schema analyze docs segments sets rs i s set r h.1 f.1 (omega (arith, l)) a b reads alive g.1)
+
+-- the flags of the readers so far, and of one more
+pub flags_read : (sets : List (List Bool)) (rs : List SegmentReader) (i : ℕ) (set : List Bool) (r : SegmentReader) → i < length sets → set ≡ get_or sets i set → readers.alive_in r ≡ Some set → map flags_in rs ≡ take i sets → map flags_in (rs ++ r ∷ []) ≡ take (suc i) sets
+flags_read sets rs i set r l is alive so_far =
+    map-append flags_in rs (r ∷ [])
+    ∙ ap₂ (λ before (own : Option (List Bool)). before ++ option_map_or (λ fs. fs) own (replicate (readers.max_doc_of r) true) ∷ []) so_far alive
+    ∙ ap (λ one. take i sets ++ one ∷ []) is
+    ∙ sym (take-suc sets i set l)
 
 -- one element more is taken
 pub take_next : {X : Type 0} (xs : List X) (i : ℕ) → i < length xs → length (take (suc i) xs) ≡ suc (length (take i xs))

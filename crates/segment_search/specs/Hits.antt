@@ -1,9 +1,10 @@
 -- Hits, and the documents that they are of.
-use Rattle.std.specs.Prelude.{[], ◌<◌, ◌≡◌, List, length, map, pos, slice_index_or, ℕ, ℤ}
+use Rattle.std.specs.Prelude.{[], ◌<◌, ◌≡◌, ◌≤◌, List, length, map, pos, slice_index_or, ℕ, ℤ}
 use Rattle.std.specs.List.{AllByRecursion, AllZip}
 use Rattle.definitions.specs.Analyzers.{Analyzer}
 use Rattle.definitions.specs.Scanning as scanning
 use Rattle.definitions.specs.Schema.{Schema}
+use Rattle.definitions.specs.Scoring.{max_score}
 use Rattle.definitions.specs.Stored.{Named, stored_values}
 use Rattle.definitions.specs.Values.{Document}
 use Rattle.segment_reader.specs.declared.doc_address.DocAddress.{DocAddress}
@@ -26,6 +27,10 @@ document_at docs address = slice_index_or (slice_index_or docs address.segment_o
 -- what is shown of a document with its score
 abbrev pub shown_of : Schema → List (List Document) → ℕ × DocAddress → ℤ × Named
 shown_of schema docs m = (pos m.0, stored_values schema (document_at docs m.1))
+
+-- a document of one of the segments, with its score
+abbrev pub IsHeld : List code.Segment → ℕ × DocAddress → Type 0
+IsHeld segments m = (m.1.segment_ord < length segments) × (m.0 ≤ max_score) × (m.1.doc_id < slice_index_or (map num_docs_of segments) m.1.segment_ord 0)
 
 -- there is such a document
 abbrev pub IsWithin : List (List Document) → ℕ × DocAddress → Type 0

@@ -43,7 +43,7 @@ pub(crate) fn best_documents<'a, S: Statistics>(
         → IfOk result (λ best. map place_at best.items ≡ best_places limit
         (places_from schema analyze (S.similarity statistics.now) (query_of query.now) 0
         (flagged_each docs alive.now))) }
-    ensures found { IfOk result (λ best. AllByRecursion (IsFound (length alive.now)) best.items) }
+    ensures found { IfOk result (λ best. AllByRecursion (IsFound alive.now) best.items) }
 {
     let readers = readers_of(alloc, segments, alive)?;
     let weights = IndexWeights::new(statistics);

@@ -1,13 +1,13 @@
 //! Documents that were found, with what is stored of them.
 
-ghost use Rattle.std.specs.Prelude.{◌≡◌, IfErr, IfOk, List, length, map};
+ghost use Rattle.std.specs.Prelude.{◌≡◌, ◌⊎◌, IfErr, IfOk, List, None, map};
 ghost use Rattle.std.specs.List.{AllByRecursion, AllZip};
 ghost use Rattle.definitions.specs.Analyzers.{Analyzer};
+ghost use Rattle.definitions.specs.Schema as schemas;
 ghost use Rattle.definitions.specs.Values.{Document};
 ghost use Rattle.definitions.specs.declared.fault.Fault.TheVariants as faults;
-ghost use Rattle.segment.specs.Opened.{StandsFor};
-ghost use Rattle.segment_search.specs.Hits.{IsWithin, KeepsSegments, hit_of, shown_of};
-ghost use Rattle.top_docs.specs.Collected.{IsFound};
+ghost use Rattle.segment.specs.Opened.{IsOpened, StandsFor};
+ghost use Rattle.segment_search.specs.Hits.{IsHeld, IsWithin, KeepsSegments, hit_of, shown_of};
 
 use common::Score;
 use definitions::Fault;
@@ -34,7 +34,8 @@ pub(crate) fn read_hits(
     segments: &mut [Segment],
     best: &[(u64, DocAddress)],
 ) -> Result<Vec<Hit>, Fault>
-    requires { AllByRecursion (IsFound (length segments.old)) best.now }
+    requires opened { ∥ ((schema : schemas.Schema) × AllByRecursion (IsOpened schema) segments.old) ∥₁ }
+    requires held { AllByRecursion (IsHeld segments.old) best.now }
     ensures hits { (analyze : Analyzer) (docs : List (List Document))
         → AllZip (StandsFor schema.now analyze) docs segments.old
         → IfOk result (λ hits. map hit_of hits.items ≡ map (shown_of schema.now docs) best.now) }
@@ -42,6 +43,7 @@ pub(crate) fn read_hits(
         → AllZip (StandsFor schema.now analyze) docs segments.old
         → AllByRecursion (IsWithin docs) best.now
         → IfErr result (λ fault. fault ≡ faults.OutOfMemory) }
+    ensures faults { IfErr result (λ fault. (fault ≡ faults.OutOfMemory) ⊎ (fault ≡ faults.Damaged None)) }
     ensures kept { KeepsSegments segments.old segments.new }
 {
     let mut hits = Vec::with_capacity(alloc, best.len())?;
@@ -59,7 +61,8 @@ fn read_hit(
     score: u64,
     address: DocAddress,
 ) -> Result<Hit, Fault>
-    requires { IsFound (length segments.old) (score, address) }
+    requires opened { ∥ ((schema : schemas.Schema) × AllByRecursion (IsOpened schema) segments.old) ∥₁ }
+    requires held { IsHeld segments.old (score, address) }
     ensures hit { (analyze : Analyzer) (docs : List (List Document))
         → AllZip (StandsFor schema.now analyze) docs segments.old
         → IfOk result (λ hit. hit_of hit ≡ shown_of schema.now docs (score, address)) }
@@ -67,6 +70,7 @@ fn read_hit(
         → AllZip (StandsFor schema.now analyze) docs segments.old
         → IsWithin docs (score, address)
         → IfErr result (λ fault. fault ≡ faults.OutOfMemory) }
+    ensures faults { IfErr result (λ fault. (fault ≡ faults.OutOfMemory) ⊎ (fault ≡ faults.Damaged None)) }
     ensures kept { KeepsSegments segments.old segments.new }
 {
     let segment = &mut segments[address.segment_ord as usize];

@@ -3,9 +3,11 @@
 
 mod best_documents;
 mod counted_documents;
+mod counting;
 mod hits;
 mod readers;
 mod searching;
 
+pub use counting::count;
 pub use hits::Hit;
-pub use searching::{count, search};
+pub use searching::search;

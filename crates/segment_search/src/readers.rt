@@ -1,11 +1,11 @@
 //! Segments as queries see them.
 
-ghost use Rattle.std.specs.Prelude.{◌≡◌, IfOk, List, length};
+ghost use Rattle.std.specs.Prelude.{◌≡◌, IfOk, List, length, map};
 ghost use Rattle.std.specs.List.{AllByRecursion, AllZip};
 ghost use Rattle.definitions.specs.Analyzers.{Analyzer};
 ghost use Rattle.definitions.specs.Schema.{Schema};
 ghost use Rattle.definitions.specs.Values.{Document};
-ghost use Rattle.scorer_answers.specs.Rows.{HasRows};
+ghost use Rattle.scorer_answers.specs.Rows.{HasRows, flags_in};
 ghost use Rattle.segment.specs.Opened.{IsOpened, StandsFor};
 ghost use Rattle.segment_search.specs.Flags.{AreFlagged, flagged_each};
 
@@ -25,6 +25,7 @@ pub(crate) fn readers_of<'a>(
     ensures rows { (schema : Schema) (analyze : Analyzer) (docs : List (List Document))
         → AllZip (StandsFor schema analyze) docs segments.now
         → IfOk result (λ readers. AllZip (HasRows schema analyze) (flagged_each docs alive.now) readers.items) }
+    ensures flags { IfOk result (λ readers. map flags_in readers.items ≡ alive.now) }
     ensures len { IfOk result (λ readers. length readers.items ≡ length alive.now) }
 {
     let mut readers = Vec::with_capacity(alloc, alive.len())?;

@@ -1,6 +1,6 @@
 //! Searches over segments.
 
-ghost use Rattle.std.specs.Prelude.{◌<◌, ◌^◌, ◌≡◌, ◌≢◌, IfErr, IfOk, List, None, Some, length, map};
+ghost use Rattle.std.specs.Prelude.{◌<◌, ◌^◌, ◌≡◌, ◌≢◌, ◌⊎◌, IfErr, IfOk, List, None, Some, length, map};
 ghost use Rattle.std.specs.List.{AllByRecursion, AllZip};
 ghost use Rattle.definitions.specs.Alive.{live};
 ghost use Rattle.definitions.specs.Analyzers.{Analyzer};
@@ -15,7 +15,6 @@ ghost use Rattle.segment_search.specs.Flags.{AreFlagged, flagged_each};
 ghost use Rattle.segment_search.specs.Hits.{KeepsSegments, hit_of, scored};
 
 use crate::best_documents::best_documents;
-use crate::counted_documents::counted_documents;
 use crate::hits::{Hit, read_hits};
 use accepted_queries::accept_query;
 use common::AliveBitSet;
@@ -51,35 +50,14 @@ pub fn search<S: Statistics>(
         → AllZip (StandsFor schema.now analyze) docs segments.old
         → IfErr result (λ fault. fault ≢ faults.OutOfMemory
         → refusal schema.now (S.similarity statistics.now).weight (query_of query.now) ≡ Some fault) }
+    ensures faults { IfErr result (λ fault. (fault ≡ faults.OutOfMemory) ⊎ (fault ≡ faults.Damaged None)
+        ⊎ (refusal schema.now (S.similarity statistics.now).weight (query_of query.now) ≡ Some fault)) }
+    ensures own { IfErr result (λ fault. fault ≡ faults.OutOfMemory
+        → refusal schema.now (S.similarity statistics.now).weight (query_of query.now) ≡ None) }
     ensures flagged { AreFlagged segments.new alive.now }
     ensures kept { KeepsSegments segments.old segments.new }
 {
     accept_query(schema, statistics, query)?;
     let best = best_documents(alloc, segments, alive, statistics, query, limit)?;
     read_hits(alloc, schema, segments, &best)
-}
-
-/// Counts the living documents of the first segments that match `query`. Each of these segments has its set in `alive`.
-pub fn count<S: Statistics>(
-    alloc: Global,
-    schema: &Schema,
-    segments: &[Segment],
-    alive: &[AliveBitSet],
-    statistics: &S,
-    query: &AnyQuery,
-) -> Result<u64, Fault>
-    requires opened { ∥ ((schema : schemas.Schema) × AllByRecursion (IsOpened schema) segments.now) ∥₁ }
-    requires flagged { AreFlagged segments.now alive.now }
-    requires few { length alive.now < 2 ^ 32 }
-    ensures ok { (analyze : Analyzer) (docs : List (List Document))
-        → AllZip (StandsFor schema.now analyze) docs segments.now
-        → IfOk result (λ count. count ≡ scanning.scan_count schema.now analyze
-        (live (flagged_each docs alive.now)) (query_of query.now)) }
-    ensures accepted { IfOk result (λ count.
-        refusal schema.now (S.similarity statistics.now).weight (query_of query.now) ≡ None) }
-    ensures refused { IfErr result (λ fault. fault ≢ faults.OutOfMemory
-        → refusal schema.now (S.similarity statistics.now).weight (query_of query.now) ≡ Some fault) }
-{
-    accept_query(schema, statistics, query)?;
-    Ok(counted_documents(alloc, segments, alive, statistics, query)?)
 }

@@ -1,4 +1,4 @@
-use Rattle.std.proofs.Common.{false, None, Some, true, subst, sym, ◌≡◌, ◌≢◌}
+use Rattle.std.proofs.Common.{false, None, Some, true, true≢false, subst, sym, ◌≡◌, ◌≢◌}
 use Rattle.std.specs.Result.{result_err}
 use Rattle.definitions.specs.QueryGrammar.{query_in}
 use Rattle.definitions.specs.Calls as calls
@@ -81,3 +81,20 @@ returns-clause-goes_on g c k x s =
     (λ fault. fault ≢ faults.OutOfMemory → stops fault ≡ false)
     (λ fault refused other. call_goes_on k x call fault (refused other))
     (c.count.ensures.err k x s)
+
+pub returns-in_err-check_open-clause-own : goal.returns-in_err-check_open-clause-own
+returns-in_err-check_open-clause-own g c k x s =
+    let fault = c.in_err-check_open.field-0.0 in
+    let closed : calls.status_fault x.status true ≡ Some fault = sym (c.check_open.ensures k x s) ∙ ap result_err c.in_err-check_open.was in
+    err_has c.from_residual.result fault (λ e. e ≡ faults.OutOfMemory → calls.status_fault x.status true ≡ None) c.from_residual.ensures.1
+    (λ memory. absurd (true≢false (sym (ap stops memory) ∙ status_goes_on x.status true fault closed)))
+
+pub returns-in_err-query-clause-own : goal.returns-in_err-query-clause-own
+returns-in_err-query-clause-own g c k x s =
+    let ready : calls.status_fault x.status true ≡ None = sym (c.check_open.ensures k x s) ∙ ap result_err c.in_ok-check_open.was in
+    err_has c.from_residual-in_err-query.result c.in_err-query.field-0.0 (λ e. e ≡ faults.OutOfMemory → calls.status_fault x.status true ≡ None) c.from_residual-in_err-query.ensures.1 (λ memory. ready)
+
+pub returns-clause-own : goal.returns-clause-own
+returns-clause-own g c k x s =
+    let ready : calls.status_fault x.status true ≡ None = sym (c.check_open.ensures k x s) ∙ ap result_err c.in_ok-check_open.was in
+    err_weaker c.count.result _ _ (λ fault told memory. ready) (c.count.ensures.own k x s)

@@ -1,12 +1,12 @@
-use Rattle.std.proofs.Common.{[], List, ap, arith, length, rules, subst, suc, sym, take, ◌+◌, ◌++◌, ◌<◌, ◌∙◌, ◌∷◌, ◌≡◌}
+use Rattle.std.proofs.Common.{[], List, ap, arith, length, map, rules, subst, suc, sym, take, ◌+◌, ◌++◌, ◌<◌, ◌∙◌, ◌∷◌, ◌≡◌}
 use Rattle.std.proofs.Math.Logic.{∥∥₁_map}
 use Rattle.std.proofs.lemmas.List.{length-append}
 use Rattle.std.specs.List.{AllZip}
-use Rattle.scorer_answers.specs.Rows.{HasRows}
+use Rattle.scorer_answers.specs.Rows.{HasRows, flags_in}
 use Rattle.segment.specs.Opened.{IsOpened}
 use Rattle.segment_search.proofs.Flagging.{flagged_at, flagged_within}
 use Rattle.segment_search.proofs.Places.{all_at}
-use Rattle.segment_search.proofs.RowsRead.{rows_read, take_next}
+use Rattle.segment_search.proofs.RowsRead.{flags_read, rows_read, take_next}
 use Rattle.segment_search.specs.Flags.{flagged_each}
 use Rattle.segment_reader.specs.declared.segment_reader.SegmentReader.{SegmentReader}
 use Rattle.segment_search.proofs.readers.readers_of.Goals as goal
@@ -53,6 +53,10 @@ loop-place-preserved c =
           let read = rows_read schema analyze docs segments sets l.readers.items l.place c.index-segments-place.result set c.reader.result stands c.requires.flagged there c.index-segments-place.is c.index-alive-place.is (c.reader.ensures.stands schema analyze) c.reader.ensures.alive (l.invariant.rows schema analyze docs stands) in
           subst (λ (rs : List SegmentReader). AllZip (HasRows schema analyze) (flagged_each docs (take (l.place + 1) sets)) rs) (sym pushed)
           (subst (λ n. AllZip (HasRows schema analyze) (flagged_each docs (take n sets)) (l.readers.items ++ c.reader.result ∷ [])) next read);
+      flags =
+          ap (map flags_in) pushed
+          ∙ flags_read sets l.readers.items l.place set c.reader.result there c.index-alive-place.is c.reader.ensures.alive l.invariant.flags
+          ∙ ap (λ n. take n sets) next;
       len =
           let so_far = l.invariant.len in
           let long = take_next sets l.place there in

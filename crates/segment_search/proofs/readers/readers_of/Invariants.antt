@@ -1,9 +1,9 @@
-use Rattle.std.proofs.Common.{List, length, take, ◌≡◌}
+use Rattle.std.proofs.Common.{List, length, map, take, ◌≡◌}
 use Rattle.std.specs.List.{AllZip}
 use Rattle.definitions.specs.Analyzers.{Analyzer}
 use Rattle.definitions.specs.Schema.{Schema}
 use Rattle.definitions.specs.Values.{Document}
-use Rattle.scorer_answers.specs.Rows.{HasRows}
+use Rattle.scorer_answers.specs.Rows.{HasRows, flags_in}
 use Rattle.segment.specs.Opened.{StandsFor}
 use Rattle.segment_search.specs.Flags.{flagged_each}
 use Rattle.segment_search.proofs.readers.readers_of.Given as goal
@@ -12,5 +12,6 @@ use Rattle.segment_search.proofs.readers.readers_of.Given as goal
 abbrev pub invariant-loop-place : goal.invariant-loop-place
 invariant-loop-place l = record {
   rows : (schema : Schema) (analyze : Analyzer) (docs : List (List Document)) → AllZip (StandsFor schema analyze) docs l.segments → AllZip (HasRows schema analyze) (flagged_each docs (take l.place l.alive)) l.readers.items;
+  flags : map flags_in l.readers.items ≡ take l.place l.alive;
   len : length l.readers.items ≡ length (take l.place l.alive);
 }

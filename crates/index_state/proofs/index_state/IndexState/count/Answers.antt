@@ -1,4 +1,4 @@
-use Rattle.std.proofs.Common.{Some, ap, subst, sym, ◌∙◌, ◌≡◌, ◌≢◌}
+use Rattle.std.proofs.Common.{None, Some, ap, inr, subst, sym, ◌∙◌, ◌≡◌, ◌≢◌}
 use Rattle.std.proofs.Math.Logic.{∥∥₁_map}
 use Rattle.std.specs.List.{AllByRecursion, AllZip}
 use Rattle.std.specs.Result.{result_err}
@@ -9,7 +9,7 @@ use Rattle.definitions.specs.State as states
 use Rattle.definitions.specs.declared.fault.Fault.TheVariants as faults
 use Rattle.query_trees.specs.Queries.{query_of}
 use Rattle.segment.specs.Opened.{IsOpened, StandsFor}
-use Rattle.index_state.proofs.Outcomes.{err_has, own_refuses, status_refuses}
+use Rattle.index_state.proofs.Outcomes.{closed_is_no_memory, err_has, own_refuses, status_refuses}
 use Rattle.definitions.proofs.Lists.{err_map}
 use Rattle.index_state.proofs.Searching.{live_committed, ok_both, query_refused, query_taken}
 use Rattle.index_state.specs.Flags.{flagged_each}
@@ -20,7 +20,7 @@ returns-in_err-check_open-clause-err g c k x s =
     let call = calls.count_all (query_of c.args.query.now) in
     let fault = c.in_err-check_open.field-0.0 in
     err_has c.from_residual.result fault (λ f. f ≢ faults.OutOfMemory → calls.call_fault k x call ≡ Some f) c.from_residual.ensures.1
-    (λ other. status_refuses k x call fault (sym (c.check_open.ensures k x s) ∙ ap result_err c.in_err-check_open.was))
+    (λ other. status_refuses k x call fault (sym (c.check_open.ensures.value k x s) ∙ ap result_err c.in_err-check_open.was))
 
 pub count-requires-clause-opened : goal.count-requires-clause-opened
 count-requires-clause-opened g c =
@@ -33,7 +33,7 @@ returns-clause-ok g c k x s =
     let analyze = g.A.Analyzer.analyze index.analyzer in
     let q = query_of c.args.query.now in
     let call = calls.count_all q in
-    let ready = sym (c.check_open.ensures k x s) ∙ ap result_err c.in_ok-check_open.was in
+    let ready = sym (c.check_open.ensures.value k x s) ∙ ap result_err c.in_ok-check_open.was in
     let stands = subst (AllZip (StandsFor index.schema analyze) s.docs) (sym c.deref.ensures.value) s.segments in
     let seen = ap (λ sets. live (flagged_each s.docs sets)) c.deref-2.ensures.value ∙ live_committed g.A.Analyzer.analyze index k x s in
     ok_both c.count.result _ _ _
@@ -48,5 +48,22 @@ returns-clause-err g c k x s =
     let index = c.args.self.now in
     let q = query_of c.args.query.now in
     let call = calls.count_all q in
-    let ready = sym (c.check_open.ensures k x s) ∙ ap result_err c.in_ok-check_open.was in
+    let ready = sym (c.check_open.ensures.value k x s) ∙ ap result_err c.in_ok-check_open.was in
     err_map c.count.result _ _ (λ fault told other. own_refuses k x call ready ∙ query_refused g.A.Analyzer.analyze index k x s q fault (told other)) c.count.ensures.refused
+
+pub returns-in_err-check_open-clause-own : goal.returns-in_err-check_open-clause-own
+returns-in_err-check_open-clause-own g c k x s =
+    let call = calls.count_all (query_of c.args.query.now) in
+    err_has c.from_residual.result c.in_err-check_open.field-0.0 (λ f. f ≡ faults.OutOfMemory → calls.call_fault k x call ≡ None) c.from_residual.ensures.1
+    (λ memory. absurd (closed_is_no_memory (sym c.in_err-check_open.ensures.fault ∙ memory)))
+
+pub returns-clause-faults : goal.returns-clause-faults
+returns-clause-faults g c = err_map c.count.result _ _ (λ fault told. inr told) c.count.ensures.faults
+
+pub returns-clause-own : goal.returns-clause-own
+returns-clause-own g c k x s =
+    let index = c.args.self.now in
+    let q = query_of c.args.query.now in
+    let call = calls.count_all q in
+    let ready = sym (c.check_open.ensures.value k x s) ∙ ap result_err c.in_ok-check_open.was in
+    err_map c.count.result _ _ (λ fault told memory. own_refuses k x call ready ∙ query_taken g.A.Analyzer.analyze index k x s q (told memory)) c.count.ensures.own

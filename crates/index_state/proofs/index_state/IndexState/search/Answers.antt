@@ -1,4 +1,4 @@
-use Rattle.std.proofs.Common.{Some, ap, map, refl, subst, sym, ◌∙◌, ◌≡◌, ◌≢◌}
+use Rattle.std.proofs.Common.{None, Some, ap, inr, map, refl, subst, sym, ◌∙◌, ◌≡◌, ◌≢◌}
 use Rattle.std.proofs.Math.Logic.{∥∥₁_map}
 use Rattle.std.specs.List.{AllByRecursion, AllZip, zip}
 use Rattle.std.specs.Result.{result_err}
@@ -10,7 +10,7 @@ use Rattle.definitions.specs.State as states
 use Rattle.definitions.specs.declared.fault.Fault.TheVariants as faults
 use Rattle.query_trees.specs.Queries.{query_of}
 use Rattle.segment.specs.Opened.{IsOpened, StandsFor, bytes_of}
-use Rattle.index_state.proofs.Outcomes.{err_has, own_refuses, status_refuses}
+use Rattle.index_state.proofs.Outcomes.{closed_is_no_memory, err_has, own_refuses, status_refuses}
 use Rattle.definitions.proofs.Lists.{err_map}
 use Rattle.index_state.proofs.Searching.{live_committed, ok_both, query_refused, query_taken, segments_held}
 use Rattle.index_state.proofs.Standings.{stands_with}
@@ -23,7 +23,7 @@ returns-in_err-check_open-clause-err g c k x s =
     let call = calls.search_best (query_of c.args.query.now) c.args.limit in
     let fault = c.in_err-check_open.field-0.0 in
     err_has c.from_residual.result fault (λ f. f ≢ faults.OutOfMemory → calls.call_fault k x call ≡ Some f) c.from_residual.ensures.1
-    (λ other. status_refuses k x call fault (sym (c.check_open.ensures k x s) ∙ ap result_err c.in_err-check_open.was))
+    (λ other. status_refuses k x call fault (sym (c.check_open.ensures.value k x s) ∙ ap result_err c.in_err-check_open.was))
 
 pub search-requires-clause-opened : goal.search-requires-clause-opened
 search-requires-clause-opened g c =
@@ -48,7 +48,7 @@ returns-clause-ok g c k x s =
     let analyze = g.A.Analyzer.analyze index.analyzer in
     let q = query_of c.args.query.now in
     let call = calls.search_best q c.args.limit in
-    let ready = sym (c.check_open.ensures k x s) ∙ ap result_err c.in_ok-check_open.was in
+    let ready = sym (c.check_open.ensures.value k x s) ∙ ap result_err c.in_ok-check_open.was in
     let stands = subst (AllZip (StandsFor index.schema analyze) s.docs) (sym c.deref_mut.ensures.value) s.segments in
     let seen = ap (λ sets. live (flagged_each s.docs sets)) c.deref.ensures.value ∙ live_committed g.A.Analyzer.analyze index k x s in
     ok_both c.search.result _ _ _
@@ -65,7 +65,7 @@ returns-clause-err g c k x s =
     let analyze = g.A.Analyzer.analyze index.analyzer in
     let q = query_of c.args.query.now in
     let call = calls.search_best q c.args.limit in
-    let ready = sym (c.check_open.ensures k x s) ∙ ap result_err c.in_ok-check_open.was in
+    let ready = sym (c.check_open.ensures.value k x s) ∙ ap result_err c.in_ok-check_open.was in
     let stands = subst (AllZip (StandsFor index.schema analyze) s.docs) (sym c.deref_mut.ensures.value) s.segments in
     err_map c.search.result _ _ (λ fault told other. own_refuses k x call ready ∙ query_refused g.A.Analyzer.analyze index k x s q fault (told other)) (c.search.ensures.refused analyze s.docs stands)
 
@@ -85,3 +85,20 @@ returns-clause-members g c =
     let kept = c.search.ensures.kept in
     let held = segments_held index.segments c.deref_mut.result.now c.search.new.segments c.deref_mut.ensures.len kept in
     ap (λ bs. zip bs index.alive.items) (ap (map bytes_of) held ∙ kept.bytes ∙ ap (map bytes_of) c.deref_mut.ensures.value)
+
+pub returns-in_err-check_open-clause-own : goal.returns-in_err-check_open-clause-own
+returns-in_err-check_open-clause-own g c k x s =
+    let call = calls.search_best (query_of c.args.query.now) c.args.limit in
+    err_has c.from_residual.result c.in_err-check_open.field-0.0 (λ f. f ≡ faults.OutOfMemory → calls.call_fault k x call ≡ None) c.from_residual.ensures.1
+    (λ memory. absurd (closed_is_no_memory (sym c.in_err-check_open.ensures.fault ∙ memory)))
+
+pub returns-clause-faults : goal.returns-clause-faults
+returns-clause-faults g c = err_map c.search.result _ _ (λ fault told. inr told) c.search.ensures.faults
+
+pub returns-clause-own : goal.returns-clause-own
+returns-clause-own g c k x s =
+    let index = c.args.self.now in
+    let q = query_of c.args.query.now in
+    let call = calls.search_best q c.args.limit in
+    let ready = sym (c.check_open.ensures.value k x s) ∙ ap result_err c.in_ok-check_open.was in
+    err_map c.search.result _ _ (λ fault told memory. own_refuses k x call ready ∙ query_taken g.A.Analyzer.analyze index k x s q (told memory)) c.search.ensures.own
