@@ -161,7 +161,7 @@ deletion_left analyze new c x term (Err fault) (y, left, stands) = subst (IndexS
 -- ---- a merge or a commit
 
 -- an index whose writer refuses nothing was ready
-ready_then : (status : calls.Status) (own : Option Fault) → option_or (calls.status_fault status false) own ≡ None → status ≡ calls.ready
+pub ready_then : (status : calls.Status) (own : Option Fault) → option_or (calls.status_fault status false) own ≡ None → status ≡ calls.ready
 ready_then calls.ready own h = refl
 ready_then calls.writer_closed own h = absurd (none≢some (sym h))
 ready_then calls.closed own h = absurd (none≢some (sym h))

@@ -30,7 +30,7 @@ ok_is_no_error t fault e = cc
 none_is_no_fault : (fault : Fault) → None ≡ Some fault → ⊥
 none_is_no_fault fault e = cc
 
-limit_no_memory : faults.Limit ≢ faults.OutOfMemory
+pub limit_no_memory : faults.Limit ≢ faults.OutOfMemory
 limit_no_memory e = true≢false (ap is_limit e)
 
 -- ---- what doesn't stop

@@ -7,3 +7,4 @@ pub mod Stages
 pub mod KeptDevices
 pub mod Leavings
 pub mod SessionSteps
+pub mod RunReplies

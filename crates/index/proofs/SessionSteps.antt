@@ -25,7 +25,7 @@ use Rattle.definitions.specs.State.{State}
 use Rattle.engine.specs.Indexes.{IndexStands, IsInFile, KeepsFile, KeepsMaking, device_of}
 use Rattle.index.specs.AskedRequests.{index_request_of}
 use Rattle.index.specs.Replying.{Answers, GoesOn, IndexMeets, OnlyStops, change_text}
-use Rattle.index.specs.Sessions.{HasHeld, HasStage, IsIndex, IsKnown, IsLeft, LeavesStage, MeetsLimit, Replies, StandsFor, analysis_of, failures_of, failures_on, honest_of, honest_on}
+use Rattle.index.specs.Sessions.{HasHeld, HasStage, IsIndex, IsKnown, IsLeft, LeavesStage, MayDrop, MeetsLimit, Replies, StandsFor, analysis_of, failures_of, failures_on, honest_of, honest_on}
 use Rattle.engine.specs.declared.index.Index.{Index}
 use Rattle.index.specs.declared.requests.IndexRequest.{IndexRequest}
 use Rattle.index.specs.declared.requests.IndexRequest.TheVariants.{Add, Commit, Count, Delete, Merge, Search}
@@ -34,7 +34,7 @@ use Rattle.index.specs.declared.stage.Stage.TheVariants.{Spare, Standing}
 use Rattle.definitions.proofs.Lists.{err_map as err_weaker}
 use Rattle.index.proofs.Causes.{memory_cause, memory_no_limit, same_cause, same_error}
 use Rattle.index.proofs.IndexFiles.{step_status}
-use Rattle.index.proofs.Leavings.{error_of_change, index_left}
+use Rattle.index.proofs.Leavings.{error_of_change, index_left, memory_stays}
 use Rattle.index.proofs.Stages.{held_kept}
 use Rattle.serde_json.specs.Read.{read}
 use Rattle.serde_json.specs.View.{view}
@@ -128,14 +128,14 @@ on_three (Err e) P Q R S p q s f = tt
 module _ {D A Z : Type 0} {d : devices.Ghosts D} {a : analyzers.Ghosts A} where
   -- the reply to a change
   pub replied : (s : steps.Session) (old new : Session D A d a) (change : Result ⊤ Fault) (result : Result (CowStr Z) Fault) (p : json.Data × steps.Stage) (r : requests.Request) → steps.is_ready s.stage ≡ false → steps.stage_step s.analysis s.stage r ≡ p → LeavesStage a.knows_name a.analyze s.analysis (steps.held_by s.stage) new.stage change p → IfOk result (λ text. cow_str_bytes text ≡ change_text change) → OnOk result (GoesOn change)
-      → IfErr result (λ e. change ≡ Err e) → honest_of new ≡ honest_of old → HasCause (failures_of old) (failures_of new) change → ¬ IsErrOf change faults.Limit → Replies old new s (Some r) result
-  replied s old new change result p r not_ready is leaves told on same honest failures no_limit = record {
+      → IfErr result (λ e. change ≡ Err e) → honest_of new ≡ honest_of old → HasCause (failures_of old) (failures_of new) change → ¬ IsErrOf change faults.Limit → MayDrop (Some r) → Replies old new s (Some r) result
+  replied s old new change result p r not_ready is leaves told on same honest failures no_limit drops = record {
     text = text result told on;
     state = state result on;
     honest = honest;
-    left = λ _. error_of_change change result (λ fault. fault ≢ faults.Device → (t : steps.Session) × IsLeft s t × StandsFor new t) same
-        (err_weaker change (λ fault. fault ≢ faults.Device → HasStage a.knows_name a.analyze s.analysis new.stage (steps.no_index (steps.held_by s.stage))) (λ fault. fault ≢ faults.Device → (t : steps.Session) × IsLeft s t × StandsFor new t)
-        (λ fault spare other. (record s { stage = steps.no_index (steps.held_by s.stage) }, (refl, inr (inr (not_ready, refl))), spare other)) leaves.spare);
+    left = λ _. error_of_change change result (λ fault. fault ≢ faults.Device → (t : steps.Session) × IsLeft s (Some r) fault t × StandsFor new t) same
+        (err_weaker change (λ fault. fault ≢ faults.Device → HasStage a.knows_name a.analyze s.analysis new.stage (steps.no_index (steps.held_by s.stage))) (λ fault. fault ≢ faults.Device → (t : steps.Session) × IsLeft s (Some r) fault t × StandsFor new t)
+        (λ fault spare other. (record s { stage = steps.no_index (steps.held_by s.stage) }, (refl, inr (inr (drops, not_ready, refl))), spare other)) leaves.spare);
     failures = same_cause (failures_of old) (failures_of new) change result same failures;
     limit = λ limit. absurd (no_limit (same_error change result faults.Limit same limit));
   }
@@ -164,7 +164,7 @@ module _ {D A Z : Type 0} {d : devices.Ghosts D} {a : analyzers.Ghosts A} where
     honest = refl;
     failures = memory_cause {T = CowStr Z} (failures_of session) (Err e) memory;
     limit = λ limit. absurd (memory_no_limit {T = CowStr Z} (Err e) memory limit);
-    left = λ _ other. (s, (refl, inl refl), stands);
+    left = λ _ other. (s, (refl, inl (memory_stays (Some r) e memory, refl)), stands);
   }
 
   -- the same of a session with the same stage
@@ -175,7 +175,7 @@ module _ {D A Z : Type 0} {d : devices.Ghosts D} {a : analyzers.Ghosts A} where
     honest = subst (λ t. honest_on t ≡ honest_of old) (sym same) replies.honest;
     failures = subst (λ t. HasCause (failures_of old) (failures_on t) result) (sym same) replies.failures;
     limit = λ met. subst (λ t. MeetsLimit a.analyze s.analysis old.stage t s.stage o) (sym same) (replies.limit met);
-    left = subst (λ o. IsTrue (honest_of old) → IfErr result (λ fault. fault ≢ faults.Device → (t : steps.Session) × IsLeft s t × HasStage a.knows_name a.analyze t.analysis o t.stage)) (sym same) replies.left;
+    left = subst (λ stage. IsTrue (honest_of old) → IfErr result (λ fault. fault ≢ faults.Device → (t : steps.Session) × IsLeft s o fault t × HasStage a.knows_name a.analyze t.analysis stage t.stage)) (sym same) replies.left;
   }
 
   -- the reply where nothing is asked for
@@ -200,7 +200,7 @@ module _ {D A Z : Type 0} {d : devices.Ghosts D} {a : analyzers.Ghosts A} where
     honest = refl;
     failures = memory_cause {T = CowStr Z} (failures_of session) (Err e) memory;
     limit = λ limit. absurd (memory_no_limit {T = CowStr Z} (Err e) memory limit);
-    left = λ _ other. (s, (refl, inl refl), stands);
+    left = λ _ other. (s, (refl, inl (memory_stays o e memory, refl)), stands);
   }
 
   -- what is asked of the index that stands
@@ -210,7 +210,7 @@ module _ {D A Z : Type 0} {d : devices.Ghosts D} {a : analyzers.Ghosts A} where
       → ((c : calls.Configuration) (x : calls.Index) → IndexStands a.analyze old c x → OnOk result ((x.status ≡ calls.ready) ⊎ KeepsFile old new))
       → ((c : calls.Configuration) (x : calls.Index) → IndexStands a.analyze old c x → IsInFile old x → OnOk result (IsInFile new ((steps.index_step c x (index_request_of r)).1)))
       → d.honest (device_of new) ≡ d.honest (device_of old)
-      → ((c : calls.Configuration) (x : calls.Index) → IndexStands a.analyze old c x → IfErr result (λ fault. fault ≢ faults.Device → OnlyStops a.analyze old new c x))
+      → ((c : calls.Configuration) (x : calls.Index) → IndexStands a.analyze old c x → IfErr result (λ fault. fault ≢ faults.Device → OnlyStops a.analyze old new c x (index_request_of r) fault))
       → ((c : calls.Configuration) (x : calls.Index) → IndexStands a.analyze old c x → HasCause (d.failed (device_of old)) (d.failed (device_of new)) result)
       → ((c : calls.Configuration) (x : calls.Index) → IndexStands a.analyze old c x → IsErrOf result faults.Limit → IndexMeets a.analyze old new c x (Some (index_request_of r)))
       → Replies before after s (Some (index_request_of r)) result
@@ -240,8 +240,8 @@ module _ {D A Z : Type 0} {d : devices.Ghosts D} {a : analyzers.Ghosts A} where
                   known = known_after d.honest d.content s.analysis.analyze (device_of old) (device_of new) c fields numbers x r (elim still [ inl ready ↦ inl ready | inr file ↦ inr file.0 ]) index.known;
                 })));
             honest = ap honest_on is ∙ honest ∙ sym (ap honest_on was);
-            left = λ is_honest. err_weaker result (λ fault. fault ≢ faults.Device → OnlyStops a.analyze old new c x) (λ fault. fault ≢ faults.Device → (t : steps.Session) × IsLeft s t × StandsFor after t)
-                (λ fault stops other. index_left s after old new fields numbers x same is index made (subst (λ o. IsTrue (honest_on o)) was is_honest) (stops other)) (left c x index.stands);
+            left = λ is_honest. err_weaker result (λ fault. fault ≢ faults.Device → OnlyStops a.analyze old new c x (index_request_of r) fault) (λ fault. fault ≢ faults.Device → (t : steps.Session) × IsLeft s (Some (index_request_of r)) fault t × StandsFor after t)
+                (λ fault stops other. index_left s after old new fields numbers x (index_request_of r) fault same is index made (subst (λ o. IsTrue (honest_on o)) was is_honest) (stops other)) (left c x index.stands);
             failures = subst (λ o. HasCause (failures_on o) (failures_on after.stage) result) (sym was) (subst (λ o. HasCause (d.failed (device_of old)) (failures_on o) result) (sym is) (failures c x index.stands));
             limit = λ met. subst (λ o. MeetsLimit a.analyze s.analysis o after.stage s.stage (Some (index_request_of r))) (sym was) (subst (λ o. MeetsLimit a.analyze s.analysis (Some (Standing old)) o s.stage (Some (index_request_of r))) (sym is) (subst (λ t. MeetsLimit a.analyze s.analysis (Some (Standing old)) (Some (Standing new)) t (Some (index_request_of r))) (sym same) (limit c x index.stands met)));
           }

@@ -1,5 +1,5 @@
 -- What is replied to requests of an index.
-use Rattle.std.specs.Prelude.{[], ⊤, ◌++◌, ◌∷◌, ◌≡◌, ◌≢◌, ◌⊎◌, Bool, Err, IfOk, List, Ok, OnOk, Option, Result, Some, codes, false, true, ℕ}
+use Rattle.std.specs.Prelude.{Bool, Err, IfOk, List, None, Ok, OnOk, Option, Result, Some, [], codes, false, length, true, ℕ, ⊤, ◌++◌, ◌+◌, ◌^◌, ◌∷◌, ◌≡◌, ◌≢◌, ◌≤◌, ◌⊎◌}
 use Rattle.std.specs.Cow.{cow_str_bytes}
 use Rattle.std.specs.declared.borrow.CowStr.{CowStr}
 use Rattle.common.specs.declared.device.Device as devices
@@ -9,14 +9,18 @@ use Rattle.definitions.specs.FaultNames.{reply_text}
 use Rattle.definitions.specs.Reading.{read_data}
 use Rattle.definitions.specs.Replies.{ok_reply, reply_of}
 use Rattle.definitions.specs.Requests as requests
+use Rattle.definitions.specs.Schema.{Schema}
+use Rattle.definitions.specs.Settings.{Settings}
 use Rattle.definitions.specs.Step as steps
 use Rattle.definitions.specs.Values.{Document}
 use Rattle.definitions.specs.declared.fault.Fault.{Fault}
 use Rattle.definitions.specs.declared.fault.Fault.TheVariants as faults
-use Rattle.engine.specs.Indexes.{CommitPasses, IndexStands, KeepsFile, PassesLimit, open_of}
+use Rattle.engine.specs.Indexes.{CommitPasses, IndexStands, KeepsFile, PassesLimit, open_of, settings_of}
 use Rattle.engine.specs.Merges.{MergePasses}
 use Rattle.engine.specs.declared.index.Index.{Index}
 use Rattle.definitions.specs.Replying.{stops}
+use Rattle.segment_definitions.specs.Slots.{slot}
+use Rattle.serde_json.specs.Data as json
 
 -- the reply to a change
 abbrev pub change_text : Result ⊤ Fault → List ℕ
@@ -55,11 +59,31 @@ IsUnwritten asked (Err fault) = fault ≢ faults.Device
 abbrev pub closed_writer : calls.Index → calls.Index
 closed_writer x = record { state = x.state; status = calls.writer_closed }
 
--- device and gate are as they were; what stood stands, or its writer is closed
+-- a value is a document whose slot is too long beside a block
+abbrev pub HasLongSlot : Schema → Settings → json.Data → Type 0
+HasLongSlot schema settings value =
+    (doc : Document) × (read_data schema value ≡ Ok doc)
+    × (2 ^ 32 ≤ settings.block_size + length (slot schema doc) + 8)
+
+-- after this fault what stood may stand: a limit that a commit meets closes the writer
+abbrev pub MayStay : Option requests.Request → Fault → Type 0
+MayStay asked fault = fault ≡ faults.Limit → asked ≢ Some requests.commit_all
+
+-- what is asked may close the writer of an index: a commit that isn't refused, or such an add, of a document whose slot
+-- isn't too long
+abbrev pub MayClose : calls.Configuration → Settings → calls.Index → Option requests.Request → Type 0
+MayClose c settings x (Some (requests.add_doc value)) =
+    (calls.call_fault c x (calls.add_value value) ≡ None) × ¬ HasLongSlot c.schema settings value
+MayClose c settings x (Some requests.commit_all) = calls.call_fault c x calls.commit_pending ≡ None
+MayClose c settings x _ = ⊥
+
+-- device and gate are as they were; what stood stands, or its writer is closed, where what was asked may leave that
 pub record OnlyStops {D A : Type 0} {d : devices.Ghosts D} (analyze : A → Analyzer) (old new : Index D A d)
-    (c : calls.Configuration) (x : calls.Index) : Type 0 where
+    (c : calls.Configuration) (x : calls.Index) (r : requests.Request) (fault : Fault) : Type 0 where
   pub file : KeepsFile old new
-  pub stands : IndexStands analyze new c x ⊎ IndexStands analyze new c (closed_writer x)
+  pub stands :
+      (MayStay (Some r) fault × IndexStands analyze new c x)
+      ⊎ (MayClose c (settings_of old) x (Some r) × IndexStands analyze new c (closed_writer x))
 
 -- an add, a merge or a commit meets a limit: documents of a segment pass one, or the merge or the commit does
 abbrev pub IndexMeets : {D A : Type 0} {d : devices.Ghosts D} → (A → Analyzer) → Index D A d → Index D A d → calls.Configuration → calls.Index → Option requests.Request → Type 0

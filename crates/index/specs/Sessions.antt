@@ -10,6 +10,7 @@ use Rattle.definitions.specs.Disk.{HasCause}
 use Rattle.definitions.specs.Replies.{reply_of}
 use Rattle.definitions.specs.Requests as requests
 use Rattle.definitions.specs.Schema.{Schema}
+use Rattle.definitions.specs.SchemaGrammar.{schema_in}
 use Rattle.definitions.specs.Settings.{Settings}
 use Rattle.definitions.specs.Step as steps
 use Rattle.definitions.specs.declared.fault.Fault.{Fault}
@@ -18,7 +19,7 @@ use Rattle.engine.specs.Files.{IsFileOf}
 use Rattle.engine.specs.Indexes.{IndexStands, IsInFile, analyzer_of, device_of, ending_of, schema_of, settings_of}
 use Rattle.index_file.specs.Kept.{IsKept}
 use Rattle.index_file.specs.Outcomes.{IsRefusal}
-use Rattle.index.specs.Replying.{GoesOn, IndexMeets, change_text, closed_writer}
+use Rattle.index.specs.Replying.{GoesOn, IndexMeets, MayClose, MayStay, change_text, closed_writer}
 use Rattle.engine.specs.declared.index.Index.{Index}
 use Rattle.engine.specs.declared.refused.Refused.{Refused}
 use Rattle.index.specs.declared.session.Session.{Session}
@@ -165,21 +166,49 @@ abbrev pub MeetsLimitIn :
     {D A : Type 0} {d : devices.Ghosts D} {a : analyzers.Ghosts A} → Session D A d a → Session D A d a → steps.Session → Option requests.Request → Type 0
 MeetsLimitIn {a = a} old new s asked = MeetsLimit a.analyze s.analysis old.stage new.stage s.stage asked
 
--- what stands with its writer closed, if it has one
-abbrev pub without_writer : steps.Stage → steps.Stage
-without_writer (steps.no_index held) = steps.no_index held
-without_writer (steps.index_of schema settings x) = steps.index_of schema settings (closed_writer x)
+-- a line meets a limit in what stands, whatever stands after it
+abbrev pub MeetsLimitAt :
+    {D A : Type 0} {d : devices.Ghosts D} {a : analyzers.Ghosts A} → Session D A d a → steps.Session → List ℕ → Type 0
+MeetsLimitAt {D} {A} {d} {a} session s line =
+    (new : Session D A d a) × MeetsLimitIn session new s (steps.line_request line)
 
--- what want of memory or a limit may leave of what stands: all of it, an index with its writer closed, or, where none was
--- ready, no index over the same file
-abbrev pub IsLeftStage : steps.Stage → steps.Stage → Type 0
-IsLeftStage old new =
-    (new ≡ old) ⊎ (new ≡ without_writer old)
-    ⊎ ((steps.is_ready old ≡ false) × (new ≡ steps.no_index (steps.held_by old)))
+-- some session over such a device and with such an analyzer stands for this, and meets a limit by a line
+abbrev pub CanMeetLimit :
+    {D A : Type 0} → devices.Ghosts D → analyzers.Ghosts A → steps.Session → List ℕ → Type 0
+CanMeetLimit {D} {A} d a s line =
+    (session : Session D A d a) × StandsFor session s × MeetsLimitAt session s line
+
+-- what is asked may leave no index where none is ready: one is to be opened, or made of a schema and settings that are
+-- read
+abbrev pub MayDrop : Option requests.Request → Type 0
+MayDrop (Some (requests.create_index value more)) =
+    (schema : Schema) × (schema_in value ≡ Ok schema)
+    × (settings : Settings) × (steps.settings_sent schema more ≡ Ok settings)
+MayDrop (Some requests.open_index) = ⊤
+MayDrop _ = ⊥
+
+-- the writer of what stood is closed, which what was asked may do
+abbrev pub ClosesWriter : Analyzer → Option requests.Request → steps.Stage → steps.Stage → Type 0
+ClosesWriter analyze asked (steps.no_index held) new = ⊥
+ClosesWriter analyze asked (steps.index_of schema settings x) new =
+    MayClose (steps.configuration_of schema analyze settings) settings x asked
+    × (new ≡ steps.index_of schema settings (closed_writer x))
+
+-- what want of memory or a limit leaves of what stood, by what was asked: all of it, an index with its writer closed, or,
+-- where none was ready, no index over the same file
+abbrev pub IsLeftStage : Analyzer → Option requests.Request → Fault → steps.Stage → steps.Stage → Type 0
+IsLeftStage analyze asked fault old new =
+    (MayStay asked fault × (new ≡ old)) ⊎ ClosesWriter analyze asked old new
+    ⊎ (MayDrop asked × (steps.is_ready old ≡ false) × (new ≡ steps.no_index (steps.held_by old)))
 
 -- and of a session
-abbrev pub IsLeft : steps.Session → steps.Session → Type 0
-IsLeft s t = (t.analysis ≡ s.analysis) × IsLeftStage s.stage t.stage
+abbrev pub IsLeft : steps.Session → Option requests.Request → Fault → steps.Session → Type 0
+IsLeft s asked fault t =
+    (t.analysis ≡ s.analysis) × IsLeftStage s.analysis.analyze asked fault s.stage t.stage
+
+-- what a fault that stops, met by a line, leaves of a session
+abbrev pub IsLeftBy : steps.Session → List ℕ → steps.Session → Type 0
+IsLeftBy s line t = (fault : Fault) × IsLeft s (steps.line_request line) fault t
 
 -- the reply to what was asked is the definitions', and the session stands for what comes after; `Device` has its cause,
 -- and `Limit` is the answer to an add, a merge or a commit that meets one; over an honest device the session stands for what
@@ -193,4 +222,5 @@ pub record Replies {D A Z : Type 0} {d : devices.Ghosts D} {a : analyzers.Ghosts
   pub limit : IsErrOf result faults.Limit → MeetsLimitIn old new s asked
   pub left :
       IsTrue (honest_of old)
-      → IfErr result (λ fault. fault ≢ faults.Device → (t : steps.Session) × IsLeft s t × StandsFor new t)
+      → IfErr result (λ fault. fault ≢ faults.Device
+      → (t : steps.Session) × IsLeft s asked fault t × StandsFor new t)

@@ -1,6 +1,6 @@
 //! The replies to requests to the session's index.
 
-ghost use Rattle.std.specs.Prelude.{◌≡◌, ◌≢◌, ◌⊎◌, Err, IfErr, IfOk, IsErrOf, IsTrue, List, OnErr, OnOk, Some, false, map};
+ghost use Rattle.std.specs.Prelude.{◌≡◌, ◌≢◌, ◌≤◌, ◌⊎◌, Err, IfErr, IfOk, IsErrOf, IsTrue, List, OnErr, OnOk, Some, false, map};
 ghost use Rattle.std.specs.Cow.{cow_str_bytes};
 ghost use Rattle.definitions.specs.Calls as calls;
 ghost use Rattle.definitions.specs.Disk.{HasCause};
@@ -47,7 +47,9 @@ pub(crate) fn answer<D: Device + Drop, A: Analyzer + Drop>(
     ensures err { IfErr result (λ fault. IsTrue (stops fault)) }
     ensures honest { D.honest (device_of index.new) ≡ D.honest (device_of index.old) }
     ensures left { (c : calls.Configuration) (x : calls.Index) → IndexStands A.analyze index.old c x
-        → IfErr result (λ fault. fault ≢ faults.Device → OnlyStops A.analyze index.old index.new c x) }
+        → IfErr result (λ fault. fault ≢ faults.Device
+        → OnlyStops A.analyze index.old index.new c x (index_request_of request.entry) fault) }
+    ensures later { D.failed (device_of index.old) ≤ D.failed (device_of index.new) }
     ensures failures { (c : calls.Configuration) (x : calls.Index) → IndexStands A.analyze index.old c x
         → HasCause (D.failed (device_of index.old)) (D.failed (device_of index.new)) result }
     ensures limit { (c : calls.Configuration) (x : calls.Index) → IndexStands A.analyze index.old c x

@@ -1,6 +1,6 @@
 //! A session: lines of JSON that make requests to the index of a device.
 
-ghost use Rattle.std.specs.Prelude.{◌≡◌, ◌≢◌, IfErr, IfOk, IsErrOf, IsTrue, Some, false, is_some, option_map, true};
+ghost use Rattle.std.specs.Prelude.{IfErr, IfOk, IsErrOf, IsTrue, Some, false, is_some, option_map, true, ◌≡◌, ◌≢◌, ◌≤◌};
 ghost use Rattle.definitions.specs.Calls as calls;
 ghost use Rattle.definitions.specs.Disk.{HasCause};
 ghost use Rattle.definitions.specs.Requests as requests;
@@ -85,7 +85,7 @@ impl<D: Device + Drop, A: Analyzer + Drop> Session<D, A> {
 
 impl<D: Device + Drop, A: Analyzer + Drop> Service for Session<D, A> {
     ghost use Rattle.definitions.specs.Step as steps;
-    ghost use Rattle.index.specs.Sessions.{IsLeft, StandsFor, honest_of};
+    ghost use Rattle.index.specs.Sessions.{IsLeftBy, MeetsLimitAt, StandsFor, failures_of, honest_of};
 
     ghost State = { steps.Session };
 
@@ -95,7 +95,11 @@ impl<D: Device + Drop, A: Analyzer + Drop> Service for Session<D, A> {
 
     ghost after = { steps.after_line };
 
-    ghost leaves = { IsLeft };
+    ghost leaves = { IsLeftBy };
+
+    ghost meets = { MeetsLimitAt };
+
+    ghost failed = { failures_of };
 
     ghost lasts = { honest_of };
 
@@ -112,6 +116,7 @@ impl<D: Device + Drop, A: Analyzer + Drop> Session<D, A> {
         ensures answered { (s : steps.Session) → StandsFor self.old s
             → Replies self.old self.new s (steps.line_request line.now) result }
         ensures honest { honest_of self.new ≡ honest_of self.old }
+        ensures later { failures_of self.old ≤ failures_of self.new }
         ensures err { IfErr result (λ fault. IsTrue (stops fault)) }
         ensures kept { IsTrue (honest_of self.old)
             → IsUnwritten (steps.line_request line.now) result
@@ -128,6 +133,7 @@ impl<D: Device + Drop, A: Analyzer + Drop> Session<D, A> {
         ensures answered { (s : steps.Session) → StandsFor self.old s
             → Replies self.old self.new s (requests.request_in (view json.now)) result }
         ensures honest { honest_of self.new ≡ honest_of self.old }
+        ensures later { failures_of self.old ≤ failures_of self.new }
         ensures err { IfErr result (λ fault. IsTrue (stops fault)) }
         ensures kept { IsTrue (honest_of self.old)
             → IsUnwritten (requests.request_in (view json.now)) result
@@ -144,6 +150,7 @@ impl<D: Device + Drop, A: Analyzer + Drop> Session<D, A> {
         ensures answered { (s : steps.Session) → StandsFor self.old s
             → Replies self.old self.new s (Some (request_of request.entry)) result }
         ensures honest { honest_of self.new ≡ honest_of self.old }
+        ensures later { failures_of self.old ≤ failures_of self.new }
         ensures err { IfErr result (λ fault. IsTrue (stops fault)) }
         ensures kept { IsTrue (honest_of self.old)
             → IsUnwritten (Some (request_of request.entry)) result
@@ -162,6 +169,7 @@ impl<D: Device + Drop, A: Analyzer + Drop> Session<D, A> {
             → Replies self.old self.new s
             (Some (requests.create_index (view schema.now) (option_map (λ d. view d.now) settings.entry))) result }
         ensures honest { honest_of self.new ≡ honest_of self.old }
+        ensures later { failures_of self.old ≤ failures_of self.new }
         ensures err { IfErr result (λ fault. IsTrue (stops fault)) }
         ensures kept { IsTrue (honest_of self.old)
             → IsUnwritten
@@ -182,6 +190,7 @@ impl<D: Device + Drop, A: Analyzer + Drop> Session<D, A> {
         ensures answered { (s : steps.Session) → StandsFor self.old s
             → Replies self.old self.new s (Some requests.open_index) result }
         ensures honest { honest_of self.new ≡ honest_of self.old }
+        ensures later { failures_of self.old ≤ failures_of self.new }
         ensures err { IfErr result (λ fault. IsTrue (stops fault)) }
         ensures kept { IsTrue (honest_of self.old)
             → IsUnwritten (Some requests.open_index) result
@@ -198,6 +207,7 @@ impl<D: Device + Drop, A: Analyzer + Drop> Session<D, A> {
         ensures answered { (s : steps.Session) → StandsFor self.old s
             → Replies self.old self.new s (Some (index_request_of request.entry)) result }
         ensures honest { honest_of self.new ≡ honest_of self.old }
+        ensures later { failures_of self.old ≤ failures_of self.new }
         ensures err { IfErr result (λ fault. IsTrue (stops fault)) }
         ensures kept { IsTrue (honest_of self.old)
             → IsUnwritten (Some (index_request_of request.entry)) result

@@ -1,14 +1,14 @@
 //! The run over the lines of an input, each answered by a session. Its functions aren't beside a struct with a ghost
 //! field, since what their contracts cite names the session.
 
-ghost use Rattle.std.specs.Prelude.{◌≡◌, ◌≢◌, IfErr, IfOk, IfSome, IsErrOf, IsTrue, OnOk};
+ghost use Rattle.std.specs.Prelude.{◌≡◌, ◌≢◌, ◌≤◌, IfErr, IfOk, IfSome, IsErrOf, IsTrue, OnOk};
 ghost use Rattle.std.specs.Cow.{cow_str_bytes};
-ghost use Rattle.definitions.specs.Disk.{HasCause};
+ghost use Rattle.definitions.specs.Disk.{HasCause, Rose};
 ghost use Rattle.definitions.specs.Lines.{lines_of};
 ghost use Rattle.definitions.specs.Step as steps;
 ghost use Rattle.definitions.specs.declared.fault.Fault.TheVariants as faults;
 ghost use Rattle.index.specs.Replying.{IsUnwritten};
-ghost use Rattle.index.specs.Sessions.{HasHeld, IsLeft, KeepsDeviceOf, MeetsLimitIn, StandsFor, analysis_of, failures_of, honest_of, session_on};
+ghost use Rattle.index.specs.Sessions.{CanMeetLimit, HasHeld, IsLeft, IsLeftBy, KeepsDeviceOf, MeetsLimitIn, StandsFor, analysis_of, failures_of, honest_of, session_on};
 ghost use Rattle.definitions.specs.Replying.{Writes, stops};
 ghost use Rattle.serve_lines.specs.Serving.{ServesAll};
 
@@ -31,7 +31,9 @@ pub fn run<R: BufRead, W: Write, D: Device + Drop, A: Analyzer + Drop>(
     // follow from that and from the lines.
     ensures { (held : steps.Held) → HasHeld D.honest D.content (A.analyze analyzer) device held
         → OnOk result (IfSome (R.remaining reader.old) (λ input.
-        Writes steps.answer_of steps.after_line (session_on (analysis_of A.knows_name A.analyze analyzer) held)
+        Writes steps.answer_of steps.after_line (CanMeetLimit D.Device A.Analyzer)
+        ((after : D) × Rose (D.failed device) (D.failed after))
+        (session_on (analysis_of A.knows_name A.analyze analyzer) held)
         (lines_of input) (W.contents writer.old) (W.contents writer.new))) }
 {
     let mut session = Session::new(alloc, device, analyzer);
@@ -46,16 +48,20 @@ pub fn run_session<R: BufRead, W: Write, D: Device + Drop, A: Analyzer + Drop>(
     writer: &mut W,
     session: &mut Session<D, A>,
 ) -> Result<(), RunFault>
-    // Where the reader's bytes are known, the replies to its lines are written.
+    // Where the reader's bytes are known, the replies to its lines are written, up to a fault that stops: `Device` only
+    // if the session's device failed, `Limit` only where some session that stands for the state meets one by the line.
     ensures replies { (s : steps.Session) → StandsFor session.old s
         → OnOk result (IfSome (R.remaining reader.old) (λ input.
-        Writes steps.answer_of steps.after_line s (lines_of input) (W.contents writer.old) (W.contents writer.new))) }
+        Writes steps.answer_of steps.after_line (CanMeetLimit D.Device A.Analyzer)
+        (Rose (failures_of session.old) (failures_of session.new)) s
+        (lines_of input) (W.contents writer.old) (W.contents writer.new))) }
     // Unless the reply of `Device` is among them, the session stands for what comes after all lines, over an honest
     // device also after out of memory or a limit; so the file has what is committed then.
     ensures stands { (s : steps.Session) → StandsFor session.old s
         → OnOk result (IfSome (R.remaining reader.old) (λ input.
-        ServesAll steps.answer_of steps.after_line IsLeft (IsTrue (honest_of session.old)) (StandsFor session.new) s
-        (lines_of input) (W.contents writer.old) (W.contents writer.new))) }
+        ServesAll steps.answer_of steps.after_line IsLeftBy (IsTrue (honest_of session.old))
+        (CanMeetLimit D.Device A.Analyzer) (Rose (failures_of session.old) (failures_of session.new))
+        (StandsFor session.new) s (lines_of input) (W.contents writer.old) (W.contents writer.new))) }
 {
     serve_lines::run(session.alloc, reader, writer, session)
 }
@@ -71,7 +77,6 @@ pub fn reply<D: Device + Drop, A: Analyzer + Drop>(
         → IfOk result (λ text. cow_str_bytes text ≡ steps.answer_of s line.now) }
     ensures state { (s : steps.Session) → StandsFor session.old s
         → OnOk result (StandsFor session.new (steps.after_line s line.now)) }
-
     ensures failures { (s : steps.Session) → StandsFor session.old s
         → HasCause (failures_of session.old) (failures_of session.new) result }
     ensures limit { (s : steps.Session) → StandsFor session.old s → IsErrOf result faults.Limit
@@ -79,8 +84,10 @@ pub fn reply<D: Device + Drop, A: Analyzer + Drop>(
     ensures err { IfErr result (λ fault. IsTrue (stops fault)) }
     // Over an honest device what is committed stays, and stays in the file.
     ensures left { (s : steps.Session) → StandsFor session.old s → IsTrue (honest_of session.old)
-        → IfErr result (λ fault. fault ≢ faults.Device → (t : steps.Session) × IsLeft s t × StandsFor session.new t) }
+        → IfErr result (λ fault. fault ≢ faults.Device → (t : steps.Session)
+        × IsLeft s (steps.line_request line.now) fault t × StandsFor session.new t) }
     ensures honest { honest_of session.new ≡ honest_of session.old }
+    ensures later { failures_of session.old ≤ failures_of session.new }
     // Whatever an honest device holds, no reply changes it but `Device`, and that an index was made, opened, committed or
     // merged.
     ensures kept { IsTrue (honest_of session.old)

@@ -1,4 +1,4 @@
-use Rattle.std.proofs.Common.{OnOk, Some, ap, inl, inr, refl, subst, sym, ◌≡◌, ◌≢◌, ◌⊎◌}
+use Rattle.std.proofs.Common.{IfErr, None, OnOk, Some, ap, inl, inr, refl, subst, sym, true≢false, ◌≡◌, ◌≢◌, ◌⊎◌}
 use Rattle.definitions.specs.Calls as calls
 use Rattle.definitions.specs.Disk.{HasCause}
 use Rattle.definitions.specs.Requests as requests
@@ -11,7 +11,7 @@ use Rattle.index.proofs.Answering.{add_refused, change_answers, taken_answers, w
 use Rattle.index.proofs.Causes.{add_cause, any_answer, change_is_memory, memory_cause, memory_no_limit, met_limit, same_cause, same_error}
 use Rattle.index.proofs.IndexFiles.{counted_still, in_file_still, searched_still, step_status, written_in_file}
 use Rattle.index.proofs.KeptDevices.{unwritten_file}
-use Rattle.index.proofs.Leavings.{after_error, any_error, error_of_change, reply_stops}
+use Rattle.index.proofs.Leavings.{add_closes, after_any, after_error, any_error, error_of_change, other_stays, reply_stops, unless_commit}
 use Rattle.serde_json.specs.View.{view}
 use Rattle.index.proofs.answers.answer.Goals as goal
 
@@ -51,9 +51,15 @@ returns-in-Add-clause-honest g c = ap g.D.Device.honest c.add_value.ensures.file
 
 pub returns-in-Add-clause-left : goal.returns-in-Add-clause-left
 returns-in-Add-clause-left g c k x s =
+    let analyze = g.A.Analyzer.analyze in
     let old = c.args.index.now in
     let new = c.add_value.new.self in
-    reply_stops g.A.Analyzer.analyze new k x old (calls.add_value (view c.in-Add.doc.now)) c.add_value.result c.answer_change.result c.answer_change.ensures.same (c.add_value.ensures.left k x s) (any_error c.add_value.result (KeepsFile old new) c.add_value.ensures.file)
+    let value = view c.in-Add.doc.now in
+    let r = requests.add_doc value in
+    subst (λ r. IfErr c.answer_change.result (λ fault. fault ≢ faults.Device → OnlyStops analyze old new k x (index_request_of r) fault)) (sym c.in-Add.is)
+    (reply_stops analyze new k x old r (calls.add_value value) c.add_value.result c.answer_change.result (λ f _. unless_commit r f (λ e. let same = e in cc))
+    (λ accepted _. add_closes analyze new k x old value c.add_value.result s (λ doc. c.add_value.ensures.long k x doc s) accepted)
+    c.answer_change.ensures.same (c.add_value.ensures.left k x s) (any_error c.add_value.result (λ _. KeepsFile old new) (λ _. c.add_value.ensures.file)))
 
 -- ---- a deletion
 
@@ -94,8 +100,12 @@ pub returns-in-Delete-clause-left : goal.returns-in-Delete-clause-left
 returns-in-Delete-clause-left g c k x s =
     let old = c.args.index.now in
     let new = c.delete.new.index in
-    error_of_change c.delete.result c.answer_change-in-Delete.result (λ fault. fault ≢ faults.Device → OnlyStops g.A.Analyzer.analyze old new k x) c.answer_change-in-Delete.ensures.same
-    (after_error c.delete.result (IndexStands g.A.Analyzer.analyze new k x) (OnlyStops g.A.Analyzer.analyze old new k x) (λ stands. record { file = c.delete.ensures.file; stands = inl stands }) (c.delete.ensures.left k x s))
+    let analyze = g.A.Analyzer.analyze in
+    let r = requests.delete_docs (view c.in-Delete.term.now) in
+    subst (λ r. IfErr c.answer_change-in-Delete.result (λ fault. fault ≢ faults.Device → OnlyStops analyze old new k x (index_request_of r) fault)) (sym c.in-Delete.is)
+    (error_of_change c.delete.result c.answer_change-in-Delete.result (λ fault. fault ≢ faults.Device → OnlyStops analyze old new k x r fault) c.answer_change-in-Delete.ensures.same
+    (after_error c.delete.result (IndexStands analyze new k x) (OnlyStops analyze old new k x r)
+    (λ fault stands. record { file = c.delete.ensures.file; stands = inl (unless_commit r fault (λ e. let same = e in cc), stands) }) (c.delete.ensures.left k x s)))
 
 -- ---- a merge
 
@@ -127,7 +137,13 @@ returns-in-Merge-clause-limit g c k x s limit =
 
 pub returns-in-Merge-clause-left : goal.returns-in-Merge-clause-left
 returns-in-Merge-clause-left g c k x s =
-    reply_stops g.A.Analyzer.analyze c.merge.new.self k x c.args.index.now (calls.merge_range c.in-Merge.from c.in-Merge.to) c.merge.result c.answer_change-in-Merge.result c.answer_change-in-Merge.ensures.same ((c.merge.ensures.writes k x s).left) c.merge.ensures.kept
+    let analyze = g.A.Analyzer.analyze in
+    let old = c.args.index.now in
+    let new = c.merge.new.self in
+    let r = requests.merge_groups c.in-Merge.from c.in-Merge.to in
+    subst (λ r. IfErr c.answer_change-in-Merge.result (λ fault. fault ≢ faults.Device → OnlyStops analyze old new k x (index_request_of r) fault)) (sym c.in-Merge.is)
+    (reply_stops analyze new k x old r (calls.merge_range c.in-Merge.from c.in-Merge.to) c.merge.result c.answer_change-in-Merge.result (λ f _. unless_commit r f (λ e. let same = e in cc)) (λ _ adds _. absurd (true≢false (sym adds)))
+    c.answer_change-in-Merge.ensures.same ((c.merge.ensures.writes k x s).left) c.merge.ensures.kept)
 
 -- ---- a commit
 
@@ -157,7 +173,14 @@ returns-in-Commit-clause-limit g c k x s limit =
 
 pub returns-in-Commit-clause-left : goal.returns-in-Commit-clause-left
 returns-in-Commit-clause-left g c k x s =
-    reply_stops g.A.Analyzer.analyze c.commit.new.self k x c.args.index.now calls.commit_pending c.commit.result c.answer_change-in-Commit.result c.answer_change-in-Commit.ensures.same ((c.commit.ensures.writes k x s).left) c.commit.ensures.kept
+    let analyze = g.A.Analyzer.analyze in
+    let old = c.args.index.now in
+    let new = c.commit.new.self in
+    let r = requests.commit_all in
+    subst (λ r. IfErr c.answer_change-in-Commit.result (λ fault. fault ≢ faults.Device → OnlyStops analyze old new k x (index_request_of r) fault)) (sym c.in-Commit.is)
+    (reply_stops analyze new k x old r calls.commit_pending c.commit.result c.answer_change-in-Commit.result (λ f h. elim h [ inl other ↦ other_stays (Some r) f other | inr adds ↦ absurd (true≢false (sym adds)) ])
+    (λ accepted _ _. after_any c.commit.result (calls.call_fault k x calls.commit_pending ≡ None) accepted)
+    c.answer_change-in-Commit.ensures.same ((c.commit.ensures.writes k x s).left) c.commit.ensures.kept)
 
 -- ---- a search
 
@@ -188,7 +211,13 @@ pub returns-in-Search-clause-honest : goal.returns-in-Search-clause-honest
 returns-in-Search-clause-honest g c = ap g.D.Device.honest c.search.ensures.file.0
 
 pub returns-in-Search-clause-left : goal.returns-in-Search-clause-left
-returns-in-Search-clause-left g c k x s = any_error c.search.result (OnlyStops g.A.Analyzer.analyze c.args.index.now c.search.new.index k x) (record { file = c.search.ensures.file; stands = inl (c.search.ensures.left k x s) })
+returns-in-Search-clause-left g c k x s =
+    let analyze = g.A.Analyzer.analyze in
+    let old = c.args.index.now in
+    let new = c.search.new.index in
+    let r = requests.search_docs (view c.in-Search.query.now) c.in-Search.k in
+    subst (λ r. IfErr c.search.result (λ fault. fault ≢ faults.Device → OnlyStops analyze old new k x (index_request_of r) fault)) (sym c.in-Search.is)
+    (any_error c.search.result (OnlyStops analyze old new k x r) (λ fault. record { file = c.search.ensures.file; stands = inl (unless_commit r fault (λ e. let same = e in cc), c.search.ensures.left k x s) }))
 
 -- ---- a count
 
@@ -214,8 +243,11 @@ returns-in-Count-clause-limit g c k x s limit = absurd (memory_no_limit c.count.
 
 pub returns-in-Count-clause-left : goal.returns-in-Count-clause-left
 returns-in-Count-clause-left g c k x s =
+    let analyze = g.A.Analyzer.analyze in
     let index = c.args.index.now in
-    any_error c.count.result (OnlyStops g.A.Analyzer.analyze index index k x) (record { file = (refl, refl, refl); stands = inl s })
+    let r = requests.count_docs (view c.in-Count.query.now) in
+    subst (λ r. IfErr c.count.result (λ fault. fault ≢ faults.Device → OnlyStops analyze index index k x (index_request_of r) fault)) (sym c.in-Count.is)
+    (any_error c.count.result (OnlyStops analyze index index k x r) (λ fault. record { file = (refl, refl, refl); stands = inl (unless_commit r fault (λ e. let same = e in cc), s) }))
 
 -- ---- the file
 

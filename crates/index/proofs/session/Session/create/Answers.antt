@@ -36,7 +36,7 @@ returns-in-Ok-clause-answered g c s h =
     let more = option_map (λ x. view x.now) c.args.settings in
     let not_ready : steps.is_ready s.stage ≡ false = sym (c.if-has_ready_index.ensures s h) in
     replied s c.args.self.now c.make.new.self c.make.result c.answer_change.result _ (requests.create_index d more) not_ready (created_step s d more _ _ not_ready c.in-Ok.ensures.ok.0 c.in-Ok.ensures.ok.1) (c.make.ensures.left s h not_ready)
-    c.answer_change.ensures.text c.answer_change.ensures.on c.answer_change.ensures.same c.make.ensures.honest c.make.ensures.failures c.make.ensures.limit
+    c.answer_change.ensures.text c.answer_change.ensures.on c.answer_change.ensures.same c.make.ensures.honest c.make.ensures.failures c.make.ensures.limit (_, c.in-Ok.ensures.ok.0, _, c.in-Ok.ensures.ok.1)
 
 pub returns-then-has_ready_index-clause-kept : goal.returns-then-has_ready_index-clause-kept
 returns-then-has_ready_index-clause-kept g c honest unwritten = same_kept g.met.D.Device.only_now c.args.self.now.stage honest

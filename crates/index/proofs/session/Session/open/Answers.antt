@@ -16,7 +16,7 @@ pub returns-clause-answered : goal.returns-clause-answered
 returns-clause-answered g c s h =
     let not_ready : steps.is_ready s.stage ≡ false = sym (c.if-has_ready_index.ensures s h) in
     replied s c.args.self.now c.reopen.new.self c.reopen.result c.answer_change.result (steps.opened s.analysis.knows (steps.held_by s.stage)) requests.open_index not_ready (opened_step s not_ready) (c.reopen.ensures.left s h not_ready)
-    c.answer_change.ensures.text c.answer_change.ensures.on c.answer_change.ensures.same c.reopen.ensures.honest c.reopen.ensures.failures (c.reopen.ensures.limit s h not_ready)
+    c.answer_change.ensures.text c.answer_change.ensures.on c.answer_change.ensures.same c.reopen.ensures.honest c.reopen.ensures.failures (c.reopen.ensures.limit s h not_ready) tt
 
 pub returns-then-has_ready_index-clause-kept : goal.returns-then-has_ready_index-clause-kept
 returns-then-has_ready_index-clause-kept g c honest unwritten = same_kept g.met.D.Device.only_now c.args.self.now.stage honest
