@@ -4,3 +4,4 @@ pub mod Commits
 pub mod Adding
 pub mod Readings
 pub mod Merges
+pub mod LeastCommit

@@ -7,18 +7,19 @@ use Rattle.definitions.specs.Analyzers.{Analyzer}
 use Rattle.definitions.specs.Calls as calls
 use Rattle.definitions.specs.Schema.{Schema}
 use Rattle.definitions.specs.Settings.{Settings}
+use Rattle.definitions.specs.State.{State}
 use Rattle.definitions.specs.Step.{configuration_of, reopened}
 use Rattle.definitions.specs.Values.{Document}
 use Rattle.definitions.specs.declared.fault.Fault.{Fault}
 use Rattle.layouts.specs.RecordFiles.{IsAtRest}
 use Rattle.index_file.specs.Frames.{frame_bytes}
+use Rattle.index_state.specs.Records.{RecordsCall}
 use Rattle.index_state.specs.Standing as collections
 use Rattle.engine.specs.Files.{LeavesEither, LeavesMembers, Rests}
 use Rattle.engine.specs.declared.index.Index.{Index}
 use Rattle.engine.specs.declared.refused.Refused.{Refused}
-use Rattle.segment_definitions.specs.SegmentBodies.{Makes, Member}
+use Rattle.segment_definitions.specs.SegmentBodies.{Member}
 use Rattle.segment_definitions.specs.SegmentFiles.{IsGroup}
-use Rattle.segment_definitions.specs.Segments.{IsSegment}
 
 module _ {D A : Type 0} {d : devices.Ghosts D} where
   -- ---- what it is made of
@@ -90,30 +91,26 @@ module _ {D A : Type 0} {d : devices.Ghosts D} where
   abbrev pub IsInFile : Index D A d → calls.Index → Type 0
   IsInFile index x = IsTrue (d.honest (device_of index)) → x.status ≡ calls.ready → IndexRests index
 
-  -- the body of a record that makes of the segments of the index others, of which these documents stand in groups
-  abbrev pub IsBodyOf : (A → Analyzer) → Index D A d → List (List Document) → List ℕ → Type 0
-  IsBodyOf analyze index groups body =
-      (after : List Member) × Makes (IsSegment (schema_of index)) (members_of index) after body
-      × AllZip (IsGroup (schema_of index) (analyze (analyzer_of index))) after groups
-
-  -- a file with nothing after its closed gate has one record more, and that record makes these groups
-  abbrev pub AppendsRecord : (A → Analyzer) → Index D A d → Index D A d → List (List Document) → Type 0
-  AppendsRecord analyze old new groups =
+  -- a file with nothing after its closed gate has one record more: that of the call, which makes the segments that are
+  -- committed then
+  abbrev pub AppendsRecord : calls.Configuration → State → calls.Call → Index D A d → Index D A d → Type 0
+  AppendsRecord c s call old new =
       (bodies : List (List ℕ)) → IsAtRest (d.content (device_of old)) (gate_of old) bodies
-      → (body : List ℕ) × IsBodyOf analyze old groups body
+      → (body : List ℕ) × RecordsCall c s call (members_of old) (members_of new) body
       × IsAtRest (d.content (device_of new)) (gate_of new) (bodies ++ body ∷ [])
 
-  -- with a record that makes these groups the file would pass 2^63 bytes
-  abbrev pub PassesFile : (A → Analyzer) → Index D A d → List (List Document) → Type 0
-  PassesFile analyze index groups =
-      (body : List ℕ) × IsBodyOf analyze index groups body × (2 ^ 63 < gate_of index + 1 + length (frame_bytes body))
+  -- with the record of the call the file would pass 2^63 bytes
+  abbrev pub PassesFile : calls.Configuration → State → calls.Call → Index D A d → Type 0
+  PassesFile c s call index =
+      (after : List Member) × (body : List ℕ) × RecordsCall c s call (members_of index) after body
+      × (2 ^ 63 < gate_of index + 1 + length (frame_bytes body))
 
-  -- a limit that a commit meets: in the documents of the segment that isn't full, in how many segments there are
-  -- afterwards, or in the bytes of the file
-  abbrev pub CommitPasses : (A → Analyzer) → Index D A d → Index D A d → List (List Document) → Type 0
-  CommitPasses analyze old new groups =
-      PassesLimit analyze old (open_of old) ⊎ (2 ^ 32 ≤ collections.num_written new.index_state)
-      ⊎ PassesFile analyze old groups
+  -- a limit that a commit meets: in the documents of the segment that isn't full, in how many groups there are afterwards,
+  -- or in the bytes of the file
+  abbrev pub CommitPasses : (A → Analyzer) → calls.Configuration → State → Index D A d → Type 0
+  CommitPasses analyze c s index =
+      PassesLimit analyze index (open_of index) ⊎ (2 ^ 32 ≤ length (calls.after c s calls.commit_pending).groups)
+      ⊎ PassesFile c s calls.commit_pending index
 
   -- a crash at any moment from the old index to the new one leaves a file of the one or the other groups
   abbrev pub CrashLeavesEither : (A → Analyzer) → Index D A d → Index D A d → List (List Document) → List (List Document) → Type 0

@@ -1,27 +1,29 @@
 -- What a call leaves that appends one record to the file of an index.
-use Rattle.std.specs.Prelude.{⊤, ◌≡◌, ◌≢◌, IfErr, IsTrue, List, OnOk, Result, Some}
+use Rattle.std.specs.Prelude.{⊤, ◌≡◌, ◌≢◌, IfErr, IsTrue, List, OnOk, Result, Some, ℕ}
 use Rattle.common.specs.declared.device.Device as devices
 use Rattle.definitions.specs.Analyzers.{Analyzer}
 use Rattle.definitions.specs.Calls as calls
-use Rattle.definitions.specs.Values.{Document}
 use Rattle.definitions.specs.declared.fault.Fault.{Fault}
 use Rattle.definitions.specs.declared.fault.Fault.TheVariants as faults
-use Rattle.engine.specs.Indexes.{AppendsRecord, CrashLeavesEither, IndexRests, IndexStands, device_of}
+use Rattle.index_state.specs.Records.{RecordsCall}
+use Rattle.engine.specs.Indexes.{AppendsRecord, CrashLeavesEither, IndexRests, IndexStands, device_of, members_of}
 use Rattle.engine.specs.declared.index.Index.{Index}
 
 module _ {D A : Type 0} {d : devices.Ghosts D} where
-  -- of an index that stood for x, after a call whose record makes these groups
+  -- of an index that stood for x, after a call that writes a record
   pub record Writes (analyze : A → Analyzer) (c : calls.Configuration) (x : calls.Index) (call : calls.Call)
-      (groups : List (List Document)) (old new : Index D A d) (result : Result ⊤ Fault) : Type 0 where
+      (old new : Index D A d) (result : Result ⊤ Fault) : Type 0 where
     -- it stands for what the definitions let the call leave
     pub left : (y : calls.Index) × calls.Leaves c x call result y × IndexStands analyze new c y
     -- what it is refused with is the definitions' refusal, unless memory, the device or a limit is why
     pub exact : IfErr result (λ fault. fault ≢ faults.OutOfMemory → fault ≢ faults.Device → fault ≢ faults.Limit
         → calls.call_fault c x call ≡ Some fault)
-    -- on an honest device its file has one record more, and that record makes the groups
-    pub appended : IsTrue (d.honest (device_of old)) → OnOk result (AppendsRecord analyze old new groups)
+    -- the segments that are committed are those that the body of its record makes
+    pub recorded : OnOk result ((body : List ℕ) × RecordsCall c x.state call (members_of old) (members_of new) body)
+    -- on an honest device its file has this record more
+    pub appended : IsTrue (d.honest (device_of old)) → OnOk result (AppendsRecord c x.state call old new)
     -- a file that rests rests again
     pub rests : IsTrue (d.honest (device_of old)) → IndexRests old → OnOk result (IndexRests new)
-    -- a crash at any moment of the call leaves a file of the groups before it or of these
+    -- a crash at any moment of the call leaves a file of the groups before it or of those after it
     pub any_moment : IsTrue (d.honest (device_of old)) → IndexRests old
-        → CrashLeavesEither analyze old new x.state.groups groups
+        → CrashLeavesEither analyze old new x.state.groups (calls.after c x.state call).groups

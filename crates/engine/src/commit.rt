@@ -21,16 +21,14 @@ impl<D: Device + Drop, A: Analyzer + Drop> Index<D, A> {
     /// either list.
     pub fn commit(&mut self) -> Result<(), Fault>
         ensures writes { (c : calls.Configuration) (x : calls.Index) → IndexStands A.analyze self.old c x
-            → Writes A.analyze c x calls.commit_pending (calls.after c x.state calls.commit_pending).groups
-            self.old self.new result }
+            → Writes A.analyze c x calls.commit_pending self.old self.new result }
         ensures made { KeepsMaking self.old self.new }
 
         ensures honest { D.honest (device_of self.new) ≡ D.honest (device_of self.old) }
         ensures cause { HasCause (D.failed (device_of self.old)) (D.failed (device_of self.new)) result }
         ensures counted { CountsNoOther (D.failed (device_of self.old)) (D.failed (device_of self.new)) result }
         ensures limit { (c : calls.Configuration) (x : calls.Index) → IndexStands A.analyze self.old c x
-            → IsErrOf result faults.Limit
-            → CommitPasses A.analyze self.old self.new (calls.after c x.state calls.commit_pending).groups }
+            → IsErrOf result faults.Limit → CommitPasses A.analyze c x.state self.old }
         ensures short { OnOk result (gate_of self.new < 2 ^ 63) }
         ensures kept { IfErr result (λ fault. fault ≢ faults.Device → KeepsFile self.old self.new) }
     {

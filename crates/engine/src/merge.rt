@@ -3,7 +3,6 @@
 ghost use Rattle.std.specs.Prelude.{◌<◌, ◌^◌, ◌≡◌, ◌≢◌, IfErr, IsErrOf, OnOk};
 ghost use Rattle.definitions.specs.Calls as calls;
 ghost use Rattle.definitions.specs.Disk.{HasCause};
-ghost use Rattle.definitions.specs.State.{merged};
 ghost use Rattle.definitions.specs.declared.fault.Fault.TheVariants as faults;
 ghost use Rattle.index_file.specs.Outcomes.{CountsNoOther};
 ghost use Rattle.engine.specs.Indexes.{IndexStands, KeepsFile, KeepsMaking, device_of, gate_of};
@@ -23,15 +22,15 @@ impl<D: Device + Drop, A: Analyzer + Drop> Index<D, A> {
     /// are. After `Device` the index is closed, and the file may have either list; other errors change nothing.
     pub fn merge(&mut self, range: Range<usize>) -> Result<(), Fault>
         ensures writes { (c : calls.Configuration) (x : calls.Index) → IndexStands A.analyze self.old c x
-            → Writes A.analyze c x (calls.merge_range range.start range.end) (merged range.start range.end x.state.groups)
-            self.old self.new result }
+            → Writes A.analyze c x (calls.merge_range range.start range.end) self.old self.new result }
         ensures made { KeepsMaking self.old self.new }
 
         ensures honest { D.honest (device_of self.new) ≡ D.honest (device_of self.old) }
         ensures cause { HasCause (D.failed (device_of self.old)) (D.failed (device_of self.new)) result }
         ensures counted { CountsNoOther (D.failed (device_of self.old)) (D.failed (device_of self.new)) result }
         ensures limit { (c : calls.Configuration) (x : calls.Index) → IndexStands A.analyze self.old c x
-            → IsErrOf result faults.Limit → MergePasses A.analyze self.old range.start range.end x.state.groups }
+            → IsErrOf result faults.Limit
+            → MergePasses A.analyze c x.state range.start range.end self.old }
         ensures short { OnOk result (gate_of self.new < 2 ^ 63) }
         ensures kept { IfErr result (λ fault. fault ≢ faults.Device → KeepsFile self.old self.new) }
     {

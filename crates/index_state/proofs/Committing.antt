@@ -9,6 +9,7 @@ use Rattle.definitions.specs.Calls as calls
 use Rattle.definitions.specs.Recorded.{holds}
 use Rattle.definitions.specs.Schema.{Schema}
 use Rattle.definitions.specs.State as states
+use Rattle.definitions.specs.State.{Pending}
 use Rattle.definitions.specs.Step.{configuration_of, reopened}
 use Rattle.definitions.specs.Values.{Document}
 use Rattle.definitions.specs.declared.fault.Fault.{Fault}
@@ -30,6 +31,7 @@ use Rattle.index_state.specs.Bodies.{next_parts}
 use Rattle.index_state.specs.Commits.{IsPrepared}
 use Rattle.index_state.specs.Deletions.{IsSmall, numbered, term_of}
 use Rattle.index_state.specs.Flags.{AreFlagged, flagged_each, members}
+use Rattle.index_state.specs.Records.{IsCommitBody}
 use Rattle.index_state.specs.Standing.{IsMadeAlike, IsWaiting, Stands, status_of}
 use Rattle.index_state.specs.declared.deletions.Deletion.{Deletion}
 use Rattle.index_state.specs.declared.index_state.IndexState.{IndexState}
@@ -137,15 +139,16 @@ refused_left analyze old c x s r fault is refuses =
     err_has r fault (λ f. (y : calls.Index) × calls.Leaves c x calls.commit_pending (Err f) y × Stands analyze old c y) is
     (x, calls.refused fault (status_refuses c x calls.commit_pending fault refuses), s)
 
--- the frame of a commit is that of a body that makes the members after it
-pub commit_body : (schema : Schema) (frame : List ℕ) (segments others : List code.Segment) (alive sets same : List (List Bool)) (k : ℕ) (before : List Member)
+-- the frame of a commit is that of a body that makes the members after it, and says what a commit's body says
+pub commit_body : (schema : Schema) (analyze : Analyzer) (n : ℕ) (pending : List Pending) (frame : List ℕ) (segments others : List code.Segment) (alive sets same : List (List Bool)) (k : ℕ) (before : List Member)
     → others ≡ segments → same ≡ sets → k ≡ length alive → frame ≡ frame_bytes (segments_body (next_parts k (map bytes_of others)) same)
     → AllByRecursion (IsOpened schema) segments → AreFlagged segments sets → length alive ≤ length segments → length sets ≡ length segments → length segments < 2 ^ 32 → members segments alive ≡ before
-    → (body : List ℕ) × (frame ≡ frame_bytes body) × Makes (IsSegment schema) before (members segments sets) body
-commit_body schema frame segments others alive sets same k before e1 e2 e3 framed opened flagged few each small olds =
+    → IsCommitBody schema analyze n pending (members segments alive) (members segments sets) (segments_body (next_parts (length alive) (map bytes_of segments)) sets)
+    → (body : List ℕ) × (frame ≡ frame_bytes body) × Makes (IsSegment schema) before (members segments sets) body × IsCommitBody schema analyze n pending before (members segments sets) body
+commit_body schema analyze n pending frame segments others alive sets same k before e1 e2 e3 framed opened flagged few each small olds says =
     let body = segments_body (next_parts (length alive) (map bytes_of segments)) sets in
     let is : frame ≡ frame_bytes body = framed ∙ ap₂ (λ (ss : List code.Segment) (fs : List (List Bool)). frame_bytes (segments_body (next_parts k (map bytes_of ss)) fs)) e1 e2 ∙ ap (λ n. frame_bytes (segments_body (next_parts n (map bytes_of segments)) sets)) e3 in
-    (body, is, subst (λ ms. Makes (IsSegment schema) ms (members segments sets) body) olds (commit_makes schema segments alive sets opened flagged few each small))
+    (body, is, subst (λ ms. Makes (IsSegment schema) ms (members segments sets) body) olds (commit_makes schema segments alive sets opened flagged few each small), subst (λ ms. IsCommitBody schema analyze n pending ms (members segments sets) body) olds says)
 
 -- what is there when nothing waits
 pub first_stands : {A : Type 0} (analyze : A → Analyzer) (index : IndexState A) (docs groups : List (List Document)) → index.status ≡ status.Ready → 0 < index.settings.docs_per_segment

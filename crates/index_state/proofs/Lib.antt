@@ -15,3 +15,5 @@ pub mod LongSlots
 pub mod MergedLists
 pub mod MergeMade
 pub mod MergedGroups
+pub mod PendingPieces
+pub mod RecordsMade

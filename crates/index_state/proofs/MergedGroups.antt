@@ -253,10 +253,11 @@ module _ {A : Type 0} (analyze : A → Analyzer) (old new : IndexState A) (alike
 
 -- ---- the body
 
--- the frame of a merge is that of a body that makes the members after it
+-- the body of a merge makes the members after it, and is of the segments that stay and the new one
 pub merge_body : (schema : Schema) (segments news : List code.Segment) (alive sets : List (List Bool)) (from to count : ℕ) → from < to → to ≤ length alive → length alive < 2 ^ 32 → count ≡ length alive → length news ≤ 1
     → AllByRecursion (IsOpened schema) segments → AllByRecursion (IsOpened schema) news → AreFlagged segments alive → sets ≡ replaced from to (map all_alive news) alive
     → Makes (IsSegment schema) (members segments alive) (replaced from to (map alive_member news) (members segments alive)) (segments_body (merged_parts count from to (map bytes_of news)) sets)
+    × (segments_body (merged_parts count from to (map bytes_of news)) sets ≡ segments_body (merged_parts (length (members segments alive)) from to (map (λ m. m.0) (map alive_member news))) (map (λ m. m.1) (replaced from to (map alive_member news) (members segments alive))))
 merge_body schema segments news alive sets from to count l m few counted one opened new flagged are =
     let bytes = map bytes_of segments in
     let before = members segments alive in
@@ -272,7 +273,7 @@ merge_body schema segments news alive sets from to count l m few counted one ope
     map_replaced (λ (q : Member). q.1) from to fresh before ∙ ap₂ (replaced from to) (alive_flags news) (zip_flags bytes alive inside) ∙ sym are in
     let body : segments_body (merged_parts (length before) from to (map (λ (q : Member). q.0) fresh)) (map (λ (q : Member). q.1) (replaced from to fresh before)) ≡ segments_body (merged_parts count from to (map bytes_of news)) sets =
     ap₂ segments_body (ap₂ (λ k bs. merged_parts k from to bs) (same ∙ sym counted) (alive_bytes news)) flags in
-    subst (Makes (IsSegment schema) before (replaced from to fresh before)) body makes
+    (subst (Makes (IsSegment schema) before (replaced from to fresh before)) body makes, sym body)
 
 -- ---- groups
 

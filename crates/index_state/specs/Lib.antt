@@ -8,5 +8,6 @@ pub mod Parts
 pub mod Standing
 pub mod Commits
 pub mod Merges
+pub mod Records
 -- Laws that clauses and proofs of types must name.
 pub mod GivenLaws

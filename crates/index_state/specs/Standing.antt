@@ -88,10 +88,6 @@ module _ {A : Type 0} where
   abbrev pub open_of : IndexState A → List Document
   open_of index = index.open
 
-  -- how many segments there are, those that wait too
-  abbrev pub num_written : IndexState A → ℕ
-  num_written index = length index.segments.items
-
   -- a segment of these documents passes a limit
   abbrev pub PassesLimit : (A → Analyzer) → IndexState A → List Document → Type 0
   PassesLimit analyze index docs = DocumentsPass index.schema (analyze index.analyzer) index.settings.block_size docs

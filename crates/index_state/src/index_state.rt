@@ -74,7 +74,8 @@ pub struct IndexState<A> {
 
 impl<A: Analyzer + Drop> IndexState<A> {
     ghost use Rattle.index_state.specs.Commits.{AreSets, IsPrepared, frame_in, members_with, sets_in};
-    ghost use Rattle.index_state.specs.Standing.{HasLongSlot, IsMadeAlike, PassesLimit, Stands, alive_of, alloc_of, analyzer_of, committed_of, members_of, num_written, open_of, schema_of, settings_of, state_of, status_of};
+    ghost use Rattle.index_state.specs.Records.{IsCommitBody};
+    ghost use Rattle.index_state.specs.Standing.{HasLongSlot, IsMadeAlike, PassesLimit, Stands, alive_of, alloc_of, analyzer_of, committed_of, members_of, open_of, schema_of, settings_of, state_of, status_of};
 
     /// Returns an index without documents.
     pub fn new(alloc: Global, analyzer: A, schema: Schema, settings: Settings) -> IndexState<A>
@@ -315,11 +316,14 @@ impl<A: Analyzer + Drop> IndexState<A> {
             → calls.call_fault c x calls.commit_pending ≡ Some fault) }
         ensures fault { IfErr result (λ fault. (fault ≡ faults.OutOfMemory) ⊎ (fault ≡ faults.Limit)
             ⊎ (fault ≡ faults.WriterClosed) ⊎ (fault ≡ faults.Closed)) }
-        ensures limit { IfErr result (λ fault. fault ≡ faults.Limit
-            → PassesLimit A.analyze self.old (open_of self.old) ⊎ (2 ^ 32 ≤ num_written self.new)) }
+        ensures limit { (c : calls.Configuration) (x : calls.Index) → Stands A.analyze self.old c x
+            → IfErr result (λ fault. fault ≡ faults.Limit → PassesLimit A.analyze self.old (open_of self.old)
+            ⊎ (2 ^ 32 ≤ length (calls.after c x.state calls.commit_pending).groups)) }
         ensures body { (c : calls.Configuration) (x : calls.Index) → Stands A.analyze self.old c x
             → IfOk result (λ prepared. (body : List ℕ) × (frame_in prepared ≡ frame_bytes body)
-            × Makes (IsSegment c.schema) (members_of self.old) (members_with self.new prepared) body) }
+            × Makes (IsSegment c.schema) (members_of self.old) (members_with self.new prepared) body
+            × IsCommitBody c.schema c.analyze c.docs_per_segment x.state.pending
+            (members_of self.old) (members_with self.new prepared) body) }
         ensures flagged { IfOk result (λ prepared. AreSets self.new (sets_in prepared)) }
         ensures few { IfOk result (λ prepared. length (sets_in prepared) < 2 ^ 32) }
         ensures made { IsMadeAlike self.old self.new }

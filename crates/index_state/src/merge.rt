@@ -21,6 +21,7 @@ use segment::{Segment, merge_lists};
 
 impl<A: Analyzer + Drop> IndexState<A> {
     ghost use Rattle.index_state.specs.Merges.{Joins, MergePasses, Replaces, joined_groups, members_merged, merge_frame_in};
+    ghost use Rattle.index_state.specs.Records.{IsMergeBody};
     ghost use Rattle.index_state.specs.Standing.{IsMadeAlike, Stands, alive_of, analyzer_of, members_of, schema_of};
 
     /// Prepares a merge of the committed segments `from..to`: makes what it writes and installs, in memory, and
@@ -43,7 +44,9 @@ impl<A: Analyzer + Drop> IndexState<A> {
             → MergePasses A.analyze self.now from to x.state.groups) }
         ensures body { (c : calls.Configuration) (x : calls.Index) → Stands A.analyze self.now c x
             → IfOk result (λ prepared. (body : List ℕ) × (merge_frame_in prepared ≡ frame_bytes body)
-            × Makes (IsSegment c.schema) (members_of self.now) (members_merged self.now prepared) body) }
+            × Makes (IsSegment c.schema) (members_of self.now) (members_merged self.now prepared) body
+            × IsMergeBody c.schema c.analyze from to x.state.groups
+            (members_of self.now) (members_merged self.now prepared) body) }
     {
         self.check_writer()?;
         check_range(from, to, self.alive.len())?;

@@ -7,8 +7,9 @@ use Rattle.index_file.proofs.CallByCall.{resting}
 use Rattle.index_state.proofs.Outcomes.{commit_taken, err_has, err_same}
 use Rattle.index_state.specs.Commits.{members_with}
 use Rattle.index_state.specs.Standing.{Stands, members_of, status_of}
-use Rattle.engine.proofs.Commits.{commit_written, stands_groups}
+use Rattle.engine.proofs.Commits.{commit_written, records_same, stands_groups}
 use Rattle.engine.proofs.FileSayings.{leave_next, leave_same, rests_say}
+use Rattle.engine.proofs.Merges.{limit_told}
 use Rattle.engine.specs.Files.{BodiesLeave}
 use Rattle.engine.specs.Indexes.{device_of, gate_of}
 use Rattle.engine.proofs.index.Index.commit.Goals as goal
@@ -22,6 +23,7 @@ returns-in_err-prepared-clause-writes g c k x s = record {
       let fault = c.in_err-prepared.field-0.0 in
       err_has c.from_residual.result fault (λ f. f ≢ faults.OutOfMemory → f ≢ faults.Device → f ≢ faults.Limit → calls.call_fault k x calls.commit_pending ≡ Some f) c.from_residual.ensures.1
       (λ memory device limit. c.in_err-prepared.ensures.exact k x s memory limit));
+  recorded = rw (sym (err_same c.from_residual.result c.in_err-prepared.field-0.0 c.from_residual.ensures.1)) tt;
   appended = λ h. rw (sym (err_same c.from_residual.result c.in_err-prepared.field-0.0 c.from_residual.ensures.1)) tt;
   rests = λ h rests. rw (sym (err_same c.from_residual.result c.in_err-prepared.field-0.0 c.from_residual.ensures.1)) tt;
   any_moment = λ h rests. (
@@ -49,12 +51,18 @@ returns-in-Ok-clause-writes g c k x s = record {
       let taken = commit_taken k x (ap (λ status. calls.status_fault status false) ready) in
       (record { state = after; status = calls.ready }, subst (λ status. calls.Leaves k x call (Ok tt) (record { state = after; status = status })) ready (calls.answered taken), c.install.ensures.left k x (c.in_ok-prepared.ensures.prepared k x s)));
   exact = tt;
+  recorded = (
+      let old = c.args.self.now.index_state in
+      let mid = c.prepare.new.self in
+      let p = c.in_ok-prepared.prepared in
+      let w = commit_written g.A.Analyzer.analyze old mid p k x c.prepare.ensures.made s (c.in_ok-prepared.ensures.prepared k x s) c.in_ok-prepared.ensures.flagged (c.in_ok-prepared.ensures.body k x s) in
+      (w.body, records_same k x.state calls.commit_pending (members_of old) (members_with mid p) (members_of c.install.new.self) w.body c.install.ensures.members w.records));
   appended = λ h bodies rest. (
       let old = c.args.self.now.index_state in
       let mid = c.prepare.new.self in
       let p = c.in_ok-prepared.prepared in
       let w = commit_written g.A.Analyzer.analyze old mid p k x c.prepare.ensures.made s (c.in_ok-prepared.ensures.prepared k x s) c.in_ok-prepared.ensures.flagged (c.in_ok-prepared.ensures.body k x s) in
-      (w.body, (members_with mid p, w.makes, w.are_groups), c.in-Ok.ensures.appended bodies w.body h (c.frame.ensures ∙ w.framed) rest));
+      (w.body, records_same k x.state calls.commit_pending (members_of old) (members_with mid p) (members_of c.install.new.self) w.body c.install.ensures.members w.records, c.in-Ok.ensures.appended bodies w.body h (c.frame.ensures ∙ w.framed) rest));
   rests = λ h rests. (
       let old = c.args.self.now.index_state in
       let mid = c.prepare.new.self in
@@ -108,6 +116,7 @@ returns-in-Err-clause-writes g c k x s = record {
     | inl failed ↦ absurd (device failed)
     | inr met ↦ absurd (limit met)
   ]);
+  recorded = tt;
   appended = λ h. tt;
   rests = λ h rests. tt;
   any_moment = λ h rests. (
@@ -127,10 +136,18 @@ returns-in-Err-clause-writes g c k x s = record {
       });
 }
 
+pub returns-in_err-prepared-clause-limit : goal.returns-in_err-prepared-clause-limit
+returns-in_err-prepared-clause-limit g c k x s =
+    limit_told c.from_residual.result c.in_err-prepared.field-0.0 _ c.from_residual.ensures.1
+    (λ limit. elim (c.in_err-prepared.ensures.limit k x s limit) [
+      | inl passes ↦ inl passes
+      | inr many ↦ inr (inl many)
+    ])
+
 pub returns-in-Err-clause-limit : goal.returns-in-Err-clause-limit
 returns-in-Err-clause-limit g c k x s limit =
     let old = c.args.self.now.index_state in
     let mid = c.prepare.new.self in
     let p = c.in_ok-prepared.prepared in
     let w = commit_written g.A.Analyzer.analyze old mid p k x c.prepare.ensures.made s (c.in_ok-prepared.ensures.prepared k x s) c.in_ok-prepared.ensures.flagged (c.in_ok-prepared.ensures.body k x s) in
-    inr (inr (w.body, (members_with mid p, w.makes, w.are_groups), subst (λ (bytes : List ℕ). 2 ^ 63 < gate_of c.args.self.now + 1 + length bytes) (c.frame.ensures ∙ w.framed) (c.append.ensures.limit.0 (c.in-Err.is ∙ limit))))
+    inr (inr (members_with mid p, w.body, w.records, subst (λ (bytes : List ℕ). 2 ^ 63 < gate_of c.args.self.now + 1 + length bytes) (c.frame.ensures ∙ w.framed) (c.append.ensures.limit.0 (c.in-Err.is ∙ limit))))

@@ -5,7 +5,7 @@ use Rattle.index_file.proofs.CallByCall.{resting}
 use Rattle.index_state.proofs.Outcomes.{err_has, err_same}
 use Rattle.index_state.specs.Merges.{members_merged}
 use Rattle.index_state.specs.Standing.{members_of}
-use Rattle.engine.proofs.Commits.{stands_groups}
+use Rattle.engine.proofs.Commits.{records_same, stands_groups}
 use Rattle.engine.proofs.FileSayings.{leave_next, leave_same, rests_say}
 use Rattle.engine.proofs.Merges.{limit_told, merge_written}
 use Rattle.engine.specs.Files.{BodiesLeave}
@@ -22,6 +22,7 @@ returns-in_err-prepared-clause-writes g c k x s = record {
       let fault = c.in_err-prepared.field-0.0 in
       err_has c.from_residual.result fault (λ f. f ≢ faults.OutOfMemory → f ≢ faults.Device → f ≢ faults.Limit → calls.call_fault k x (calls.merge_range c.args.range.start c.args.range.end) ≡ Some f) c.from_residual.ensures.1
       (λ memory device limit. c.in_err-prepared.ensures.exact k x s memory limit));
+  recorded = rw (sym (err_same c.from_residual.result c.in_err-prepared.field-0.0 c.from_residual.ensures.1)) tt;
   appended = λ h. rw (sym (err_same c.from_residual.result c.in_err-prepared.field-0.0 c.from_residual.ensures.1)) tt;
   rests = λ h rests. rw (sym (err_same c.from_residual.result c.in_err-prepared.field-0.0 c.from_residual.ensures.1)) tt;
   any_moment = λ h rests. (
@@ -48,11 +49,16 @@ returns-in-Ok-clause-writes g c k x s = record {
       let call = calls.merge_range from to in
       (record { state = calls.after k x.state call; status = x.status }, calls.answered (c.in_ok-prepared.ensures.taken k x s), c.install_merge.ensures.left k x from to s (c.in_ok-prepared.ensures.joins k x s)));
   exact = tt;
+  recorded = (
+      let old = c.args.self.now.index_state in
+      let p = c.in_ok-prepared.prepared in
+      let w = merge_written g.A.Analyzer.analyze old p k x c.args.range.start c.args.range.end s (c.in_ok-prepared.ensures.joins k x s) (c.in_ok-prepared.ensures.body k x s) in
+      (w.body, records_same k x.state (calls.merge_range c.args.range.start c.args.range.end) (members_of old) (members_merged old p) (members_of c.install_merge.new.self) w.body c.install_merge.ensures.members w.records));
   appended = λ h bodies rest. (
       let old = c.args.self.now.index_state in
       let p = c.in_ok-prepared.prepared in
       let w = merge_written g.A.Analyzer.analyze old p k x c.args.range.start c.args.range.end s (c.in_ok-prepared.ensures.joins k x s) (c.in_ok-prepared.ensures.body k x s) in
-      (w.body, (members_merged old p, w.makes, w.are_groups), c.in-Ok.ensures.appended bodies w.body h (c.frame.ensures ∙ w.framed) rest));
+      (w.body, records_same k x.state (calls.merge_range c.args.range.start c.args.range.end) (members_of old) (members_merged old p) (members_of c.install_merge.new.self) w.body c.install_merge.ensures.members w.records, c.in-Ok.ensures.appended bodies w.body h (c.frame.ensures ∙ w.framed) rest));
   rests = λ h rests. (
       let old = c.args.self.now.index_state in
       let new = c.install_merge.new.self in
@@ -92,6 +98,7 @@ returns-in-Device-clause-writes g c k x s = record {
       let call = calls.merge_range c.args.range.start c.args.range.end in
       (y, subst (λ e. calls.Leaves k x call (Err e) y) (sym c.in-Device.is) (calls.device_failed (c.in_ok-prepared.ensures.taken k x s) refl), c.stop.ensures.left k x s));
   exact = (λ memory device limit. absurd (device c.in-Device.is));
+  recorded = tt;
   appended = λ h. tt;
   rests = λ h rests. tt;
   any_moment = λ h rests. (
@@ -130,6 +137,7 @@ returns g c =
       writes = λ k x s. record {
         left = (x, subst (λ e. calls.Leaves k x call (Err e) x) (sym limit) (calls.limit_refused (c.in_ok-prepared.ensures.taken k x s) refl), s);
         exact = λ memory failed other. absurd (other limit);
+        recorded = tt;
         appended = λ h. tt;
         rests = λ h rests. tt;
         any_moment = λ h rests. (
@@ -148,7 +156,7 @@ returns g c =
       counted = c.in-Err.ensures.counted;
       limit = λ k x s met. (
           let w = merge_written analyze old p k x from to s (c.in_ok-prepared.ensures.joins k x s) (c.in_ok-prepared.ensures.body k x s) in
-          inr (w.body, (members_merged old p, w.makes, w.are_groups), subst (λ (bytes : List ℕ). 2 ^ 63 < gate_of c.args.self.now + 1 + length bytes) (c.frame.ensures ∙ w.framed) (c.append.ensures.limit.0 (c.in-Err.is ∙ met))));
+          inr (members_merged old p, w.body, w.records, subst (λ (bytes : List ℕ). 2 ^ 63 < gate_of c.args.self.now + 1 + length bytes) (c.frame.ensures ∙ w.framed) (c.append.ensures.limit.0 (c.in-Err.is ∙ met))));
       short = tt;
       kept = λ other. (unchanged.0, unchanged.1, refl);
     }

@@ -1,4 +1,4 @@
-use Rattle.std.proofs.Common.{List, ap, arith, false, inl, inr, length, refl, subst, sym, ◌++◌, ◌∙◌, ◌<◌, ◌^◌, ◌≡◌, ℕ}
+use Rattle.std.proofs.Common.{List, ap, arith, drop, false, inl, inr, length, map, refl, subst, sym, ◌++◌, ◌∙◌, ◌<◌, ◌^◌, ◌≡◌, ◌≤◌, ℕ}
 use Rattle.std.proofs.Math.Logic.{∥∥₁_map}
 use Rattle.std.specs.List.{AllByRecursion, AllZip}
 use Rattle.std.specs.Result.{result_err}
@@ -11,11 +11,15 @@ use Rattle.index_state.proofs.Committing.{commit_body, groups_more, half_left, n
 use Rattle.segment_search.proofs.Flagging.{flagged_within}
 use Rattle.index_state.proofs.Outcomes.{commit_taken, ready_of, writer_is_not_ready}
 use Rattle.segment_search.proofs.Places.{zip_length}
+use Rattle.index_state.proofs.RecordsMade.{commit_says, groups_written}
 use Rattle.index_state.proofs.Standings.{opened_each, sets_within, stands_stopped}
+use Rattle.index_state.specs.Deletions.{numbered}
 use Rattle.index_state.specs.Flags.{AreFlagged, members}
+use Rattle.index_state.specs.Records.{IsCommitBody}
 use Rattle.index_state.specs.Standing.{members_of, status_of}
 use Rattle.segment_definitions.specs.SegmentBodies.{Makes}
 use Rattle.segment_definitions.specs.Segments.{IsSegment}
+use Rattle.segment_definitions.specs.Waiting.{Waits}
 use Rattle.index_state.proofs.index_state.IndexState.prepare.Goals as goal
 
 pub returns-in_err-check_writer-clause-left : goal.returns-in_err-check_writer-clause-left
@@ -118,6 +122,27 @@ returns-clause-body g c k x s =
     let most = c.if-len-gt-MAX_SEGMENTS.false in
     let len = c.len.ensures ∙ mid.segments.ok.0 in
     let small : length segments < 2 ^ 32 = omega (arith, most, len) in
-    let made : (body : List ℕ) × (c.in_ok-frame.frame ≡ frame_bytes body) × Makes (IsSegment old.schema) (members_of old) (members segments sets) body =
-    commit_body old.schema c.in_ok-frame.frame segments c.deref-4.result.now mid.alive.items sets c.deref-5.result.now c.len-2.result (members_of old) c.deref-4.ensures.value c.deref-5.ensures.value (c.len-2.ensures ∙ mid.alive.ok.0) c.in_ok-frame.ensures opened flagged few each small c.close_open.ensures.members in
-    subst (λ (m : calls.Configuration). (body : List ℕ) × (c.in_ok-frame.frame ≡ frame_bytes body) × Makes (IsSegment m.schema) (members_of old) (members segments sets) body) (sym s.made) made
+    let same = c.close_open.ensures.same in
+    let none = ap (λ status. calls.status_fault status false) s.status ∙ sym c.check_writer.ensures.value ∙ ap result_err c.in_ok-check_writer.was in
+    let w = (s.waits (ready_of x.status none)).waits in
+    let n = old.settings.docs_per_segment in
+    let dels = map (numbered n) old.deletions.items in
+    let held = sets_within old.schema analyze s.docs old.segments.items old.alive.items s.segments old.flagged in
+    let held' = subst (λ fs. length fs ≤ length s.docs) (sym same.0) held in
+    let waits = subst (λ fs. Waits n x.state.pending (drop (length fs) s.docs) old.open dels) (sym same.0) w in
+    let says = commit_says old.schema analyze n x.state.pending s.docs old.open dels segments mid.alive.items sets closed.0 held' few each waits in
+    let made : (body : List ℕ) × (c.in_ok-frame.frame ≡ frame_bytes body) × Makes (IsSegment old.schema) (members_of old) (members segments sets) body × IsCommitBody old.schema analyze n x.state.pending (members_of old) (members segments sets) body =
+    commit_body old.schema analyze n x.state.pending c.in_ok-frame.frame segments c.deref-4.result.now mid.alive.items sets c.deref-5.result.now c.len-2.result (members_of old) c.deref-4.ensures.value c.deref-5.ensures.value (c.len-2.ensures ∙ mid.alive.ok.0) c.in_ok-frame.ensures opened flagged few each small c.close_open.ensures.members says in
+    subst (λ (m : calls.Configuration). (body : List ℕ) × (c.in_ok-frame.frame ≡ frame_bytes body) × Makes (IsSegment m.schema) (members_of old) (members segments sets) body × IsCommitBody m.schema m.analyze m.docs_per_segment x.state.pending (members_of old) (members segments sets) body) (sym s.made) made
+
+pub returns-then-len-gt-MAX_SEGMENTS-clause-limit : goal.returns-then-len-gt-MAX_SEGMENTS-clause-limit
+returns-then-len-gt-MAX_SEGMENTS-clause-limit g c k x s is =
+    let old = c.args.self.now in
+    let mid = c.close_open.new.self in
+    let none = ap (λ status. calls.status_fault status false) s.status ∙ sym c.check_writer.ensures.value ∙ ap result_err c.in_ok-check_writer.was in
+    let few = sets_within old.schema (g.A.Analyzer.analyze old.analyzer) s.docs old.segments.items old.alive.items s.segments old.flagged in
+    let closed = c.in_ok-close_open.ensures.closed s.docs s.segments in
+    let count = groups_written g.A.Analyzer.analyze old k x s mid.segments.items (ready_of x.status none) few closed.0 in
+    let most = c.if-len-gt-MAX_SEGMENTS.true in
+    let len = c.len.ensures ∙ mid.segments.ok.0 in
+    inr (omega (arith, count, most, len))

@@ -9,7 +9,9 @@ use Rattle.index_state.proofs.MergedGroups.{few_new, merge_body, merge_refused, 
 use Rattle.index_state.proofs.Outcomes.{err_has, memory_is_no_limit, status_refuses}
 use Rattle.index_state.proofs.Standings.{opened_each}
 use Rattle.index_state.specs.Bodies.{merged_parts}
-use Rattle.index_state.specs.Merges.{MergePasses, alive_member, all_alive, replaced}
+use Rattle.index_state.proofs.RecordsMade.{new_alive}
+use Rattle.index_state.specs.Merges.{MergePasses, alive_member, all_alive, joined_groups, replaced}
+use Rattle.index_state.specs.Records.{IsMergeBody}
 use Rattle.index_state.specs.Standing.{members_of}
 use Rattle.segment_definitions.specs.SegmentBodies.{Makes, segments_body}
 use Rattle.segment_definitions.specs.Segments.{IsSegment}
@@ -144,5 +146,14 @@ returns-clause-body g c k x s =
     let body = segments_body (merged_parts c.len-2.result from to (map bytes_of (option_to_list o))) sets in
     let framed : c.in_ok-frame.frame ≡ frame_bytes body = c.in_ok-frame.ensures ∙ ap (λ fs. frame_bytes (segments_body (merged_parts c.len-2.result from to (map bytes_of (option_to_list o))) fs)) c.deref-2.ensures.value in
     let opened = opened_each index.schema (g.A.Analyzer.analyze index.analyzer) s.docs segments s.segments in
-    let makes = merge_body index.schema segments (option_to_list o) alive sets from to c.len-2.result within.0 (omega (arith, inside, count)) index.few counted (few_new o) opened (new_opened index.schema o c.in_ok-segment.ensures.opened) index.flagged are in
-    subst (λ (m : calls.Configuration). (b : List ℕ) × (c.in_ok-frame.frame ≡ frame_bytes b) × Makes (IsSegment m.schema) (members_of index) (replaced from to (map alive_member (option_to_list o)) (members_of index)) b) (sym s.made) (body, framed, makes)
+    let made = merge_body index.schema segments (option_to_list o) alive sets from to c.len-2.result within.0 (omega (arith, inside, count)) index.few counted (few_new o) opened (new_opened index.schema o c.in_ok-segment.ensures.opened) index.flagged are in
+    let cut = g.A.Analyzer.analyze index.analyzer in
+    let before = members_of index in
+    let after = replaced from to (map alive_member (option_to_list o)) before in
+    let says : IsMergeBody index.schema cut from to x.state.groups before after body = record {
+      news = map alive_member (option_to_list o);
+      new = new_alive index.schema cut o (joined_groups from to x.state.groups) (c.in_ok-segment.ensures.of k x s);
+      list = refl;
+      whole = made.1;
+    } in
+    subst (λ (m : calls.Configuration). (b : List ℕ) × (c.in_ok-frame.frame ≡ frame_bytes b) × Makes (IsSegment m.schema) before after b × IsMergeBody m.schema m.analyze from to x.state.groups before after b) (sym s.made) (body, framed, made.0, says)

@@ -1,0 +1,109 @@
+-- What the bodies of a commit and of a merge say.
+use Rattle.std.proofs.Common.{[], ◌++◌, ◌+◌, ◌∙◌, ◌∷◌, ◌≡◌, ◌≤◌, Bool, List, None, Option, Some, ap, ap₂, arith, drop, length, length-append, map, refl, replicate, subst, sym, take, true, ℕ}
+use Rattle.std.specs.Prelude.{MatchOption, option_to_list}
+use Rattle.std.proofs.lemmas.List.{drop-append-le, length-drop, length-map, take-append-drop}
+use Rattle.std.specs.List.{AllZip, zip}
+use Rattle.definitions.specs.Analyzers.{Analyzer}
+use Rattle.definitions.specs.Calls as calls
+use Rattle.definitions.specs.Recorded.{holds}
+use Rattle.definitions.specs.Schema.{Schema}
+use Rattle.definitions.specs.State.{Pending, as_group, deleted_terms, living}
+use Rattle.definitions.specs.State as states
+use Rattle.definitions.specs.Values.{Document}
+use Rattle.segment.specs.Opened.{StandsFor, bytes_of}
+use Rattle.segment.specs.declared.segment.Segment as code
+use Rattle.segment_definitions.proofs.Commits.{commit_groups}
+use Rattle.segment_definitions.specs.Rows.{left_rows}
+use Rattle.segment_definitions.specs.SegmentBodies.{Member, segments_body, fresh}
+use Rattle.segment_definitions.specs.Segments.{IsSegmentOf}
+use Rattle.segment_definitions.specs.Waiting.{Numbered, Waits, pending_rows}
+use Rattle.segment_search.proofs.Places.{zip_length}
+use Rattle.segment_search.proofs.RowsRead.{docs_counted}
+use Rattle.index_state.proofs.BodyMade.{drop-bytes, length-zip, zip_flags}
+use Rattle.index_state.proofs.EachFlagged.{length-each}
+use Rattle.index_state.proofs.MergedGroups.{none_stands}
+use Rattle.index_state.proofs.MergedLists.{zip_drop}
+use Rattle.index_state.proofs.PendingPieces.{length-pending, pieces_waiting}
+use Rattle.index_state.specs.Bodies.{kept_from, next_parts}
+use Rattle.index_state.specs.Deletions.{numbered}
+use Rattle.index_state.specs.Flags.{flagged_each, members}
+use Rattle.index_state.specs.Merges.{alive_member}
+use Rattle.index_state.specs.Records.{IsAlive, IsCommitBody}
+use Rattle.index_state.specs.Standing.{Stands}
+use Rattle.index_state.specs.declared.index_state.IndexState.{IndexState}
+
+-- ---- a commit
+
+bytes_are : (schema : Schema) (analyze : Analyzer) (docs : List (List Document)) (segments : List code.Segment) → AllZip (StandsFor schema analyze) docs segments → AllZip (IsSegmentOf schema analyze) docs (map bytes_of segments)
+bytes_are schema analyze [] [] h = tt
+bytes_are schema analyze [] (s ∷ segments) h = absurd h
+bytes_are schema analyze (ds ∷ docs) [] h = absurd h
+bytes_are schema analyze (ds ∷ docs) (s ∷ segments) h = (h.0.bytes_are, bytes_are schema analyze docs segments h.1)
+
+-- the bytes of the first members
+zip_bytes : (segs : List (List ℕ)) (sets : List (List Bool)) → length sets ≤ length segs → map (λ (m : Member). m.0) (zip segs sets) ≡ take (length sets) segs
+zip_bytes [] [] l = refl
+zip_bytes [] (flags ∷ sets) l = absurd (omega (arith, l))
+zip_bytes (b ∷ segs) [] l = refl
+zip_bytes (b ∷ segs) (flags ∷ sets) l = ap (λ bs. b ∷ bs) (zip_bytes segs sets (omega (arith, l)))
+
+-- and of all
+all_bytes : (segs : List (List ℕ)) (sets : List (List Bool)) → length sets ≡ length segs → map (λ (m : Member). m.0) (zip segs sets) ≡ segs
+all_bytes [] [] e = refl
+all_bytes [] (flags ∷ sets) e = absurd (omega (arith, e))
+all_bytes (b ∷ segs) [] e = absurd (omega (arith, e))
+all_bytes (b ∷ segs) (flags ∷ sets) e = ap (λ bs. b ∷ bs) (all_bytes segs sets (omega (arith, e)))
+
+-- behind the members before, the body of a commit has the segments of what waits
+pub commit_says : (schema : Schema) (analyze : Analyzer) (n : ℕ) (pending : List Pending) (docs : List (List Document)) (last : List Document) (dels : List Numbered) (segments : List code.Segment) (alive sets : List (List Bool))
+    → AllZip (StandsFor schema analyze) (docs ++ as_group last) segments → length alive ≤ length docs → length alive ≤ length segments → length sets ≡ length segments → Waits n pending (drop (length alive) docs) last dels
+    → IsCommitBody schema analyze n pending (members segments alive) (members segments sets) (segments_body (next_parts (length alive) (map bytes_of segments)) sets)
+commit_says schema analyze n pending docs last dels segments alive sets stand few within each w =
+    let bytes = map bytes_of segments in
+    let k = length alive in
+    let long = length-map segments bytes_of in
+    let inside : length alive ≤ length bytes = omega (arith, within, long) in
+    let whole : length sets ≡ length bytes = omega (arith, each, long) in
+    let are = pieces_waiting n pending (drop k docs) last dels w ∙ sym (drop-append-le k docs (as_group last) few) in
+    let later = bytes_are schema analyze (drop k (docs ++ as_group last)) (drop k segments) (zip_drop (StandsFor schema analyze) (docs ++ as_group last) segments k stand) in
+    record {
+      news = drop k bytes;
+      new = subst (λ ds. AllZip (IsSegmentOf schema analyze) ds (drop k bytes)) (sym are) (subst (AllZip (IsSegmentOf schema analyze) (drop k (docs ++ as_group last))) (drop-bytes k segments) later);
+      segments = all_bytes bytes sets whole ∙ sym (take-append-drop k bytes) ∙ ap (λ bs. bs ++ drop k bytes) (sym (zip_bytes bytes alive inside));
+      whole = ap₂ (λ (i : ℕ) (fs : List (List Bool)). segments_body (kept_from 0 i ++ map fresh (drop k bytes)) fs) (sym (length-zip bytes alive inside)) (sym (zip_flags bytes sets (omega (arith, whole))));
+    }
+
+-- after a commit there are as many groups as segments
+pub groups_written : {A : Type 0} (analyze : A → Analyzer) (old : IndexState A) (c : calls.Configuration) (x : calls.Index) (s : Stands analyze old c x) (segments : List code.Segment)
+    → x.status ≡ calls.ready → length old.alive.items ≤ length s.docs → AllZip (StandsFor old.schema (analyze old.analyzer)) (s.docs ++ as_group old.open) segments
+    → length (calls.after c x.state calls.commit_pending).groups ≡ length segments
+groups_written analyze old c x s segments ready few stand =
+    let w = (s.waits ready).waits in
+    let n = old.settings.docs_per_segment in
+    let cut = analyze old.analyzer in
+    let has = holds old.schema cut in
+    let k = length old.alive.items in
+    let full = drop k s.docs in
+    let dels = map (numbered n) old.deletions.items in
+    let rows = flagged_each s.docs old.alive.items in
+    let lefts = map (left_rows has (deleted_terms x.state.pending)) rows in
+    let more = pending_rows has dels n 0 (full ++ as_group old.open) in
+    let groups = commit_groups old.schema cut n x.state rows full old.open dels s.groups w.docs w.long w.short w.deletions in
+    let all = length-map (lefts ++ more) living in
+    let both = length-append lefts more in
+    let first = length-map rows (left_rows has (deleted_terms x.state.pending)) in
+    let flagged = length-each s.docs old.alive.items few in
+    let behind = length-pending has dels n 0 (full ++ as_group old.open) in
+    let parts = length-append full (as_group old.open) in
+    let rest = length-drop k s.docs in
+    let docs = length-append s.docs (as_group old.open) in
+    let each = zip_length (StandsFor old.schema cut) (s.docs ++ as_group old.open) segments stand in
+    let count : length (states.after_commit old.schema cut n x.state).groups ≡ length segments = ap length groups ∙ omega (arith, all, both, first, flagged, behind, parts, rest, docs, each, few) in
+    subst (λ (m : calls.Configuration). length (calls.after m x.state calls.commit_pending).groups ≡ length segments) (sym s.made) count
+
+-- ---- a merge
+
+pub new_alive : (schema : Schema) (analyze : Analyzer) (o : Option code.Segment) (docs : List Document) → MatchOption o (docs ≡ []) (StandsFor schema analyze docs) → AllZip (IsAlive schema analyze) (as_group docs) (map alive_member (option_to_list o))
+new_alive schema analyze None docs none = subst (λ ds. AllZip (IsAlive schema analyze) (as_group ds) []) (sym none) tt
+new_alive schema analyze (Some s) [] stands = absurd (none_stands schema analyze s stands)
+new_alive schema analyze (Some s) (doc ∷ docs) stands = ((stands.bytes_are, ap (λ n. replicate n true) (sym (docs_counted schema analyze (doc ∷ docs) s stands))), tt)
