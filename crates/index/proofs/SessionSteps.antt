@@ -174,7 +174,7 @@ module _ {D A Z : Type 0} {d : devices.Ghosts D} {a : analyzers.Ghosts A} where
     state = subst (λ t. OnOk result (HasStage a.knows_name a.analyze ((steps.step s o).1.analysis) t ((steps.step s o).1.stage))) (sym same) replies.state;
     honest = subst (λ t. honest_on t ≡ honest_of old) (sym same) replies.honest;
     failures = subst (λ t. HasCause (failures_of old) (failures_on t) result) (sym same) replies.failures;
-    limit = λ met. subst (λ t. MeetsLimit a.analyze s.analysis old.stage t s.stage o) (sym same) (replies.limit met);
+    limit = replies.limit;
     left = subst (λ stage. IsTrue (honest_of old) → IfErr result (λ fault. fault ≢ faults.Device → (t : steps.Session) × IsLeft s o fault t × HasStage a.knows_name a.analyze t.analysis stage t.stage)) (sym same) replies.left;
   }
 
@@ -212,7 +212,7 @@ module _ {D A Z : Type 0} {d : devices.Ghosts D} {a : analyzers.Ghosts A} where
       → d.honest (device_of new) ≡ d.honest (device_of old)
       → ((c : calls.Configuration) (x : calls.Index) → IndexStands a.analyze old c x → IfErr result (λ fault. fault ≢ faults.Device → OnlyStops a.analyze old new c x (index_request_of r) fault))
       → ((c : calls.Configuration) (x : calls.Index) → IndexStands a.analyze old c x → HasCause (d.failed (device_of old)) (d.failed (device_of new)) result)
-      → ((c : calls.Configuration) (x : calls.Index) → IndexStands a.analyze old c x → IsErrOf result faults.Limit → IndexMeets a.analyze old new c x (Some (index_request_of r)))
+      → ((c : calls.Configuration) (x : calls.Index) → IndexStands a.analyze old c x → IsErrOf result faults.Limit → IndexMeets a.analyze old c x (Some (index_request_of r)))
       → Replies before after s (Some (index_request_of r)) result
   index_reply s before after old new r result was is stands answered made kept rests honest left failures limit =
       at s.stage refl (subst (λ o. HasStage a.knows_name a.analyze s.analysis o s.stage) was stands)
@@ -243,7 +243,7 @@ module _ {D A Z : Type 0} {d : devices.Ghosts D} {a : analyzers.Ghosts A} where
             left = λ is_honest. err_weaker result (λ fault. fault ≢ faults.Device → OnlyStops a.analyze old new c x (index_request_of r) fault) (λ fault. fault ≢ faults.Device → (t : steps.Session) × IsLeft s (Some (index_request_of r)) fault t × StandsFor after t)
                 (λ fault stops other. index_left s after old new fields numbers x (index_request_of r) fault same is index made (subst (λ o. IsTrue (honest_on o)) was is_honest) (stops other)) (left c x index.stands);
             failures = subst (λ o. HasCause (failures_on o) (failures_on after.stage) result) (sym was) (subst (λ o. HasCause (d.failed (device_of old)) (failures_on o) result) (sym is) (failures c x index.stands));
-            limit = λ met. subst (λ o. MeetsLimit a.analyze s.analysis o after.stage s.stage (Some (index_request_of r))) (sym was) (subst (λ o. MeetsLimit a.analyze s.analysis (Some (Standing old)) o s.stage (Some (index_request_of r))) (sym is) (subst (λ t. MeetsLimit a.analyze s.analysis (Some (Standing old)) (Some (Standing new)) t (Some (index_request_of r))) (sym same) (limit c x index.stands met)));
+            limit = λ met. subst (λ o. MeetsLimit a.analyze s.analysis o s.stage (Some (index_request_of r))) (sym was) (subst (λ t. MeetsLimit a.analyze s.analysis (Some (Standing old)) t (Some (index_request_of r))) (sym same) (limit c x index.stands met));
           }
 
 -- none stands to be asked

@@ -86,8 +86,8 @@ pub record OnlyStops {D A : Type 0} {d : devices.Ghosts D} (analyze : A → Anal
       ⊎ (MayClose c (settings_of old) x (Some r) × IndexStands analyze new c (closed_writer x))
 
 -- an add, a merge or a commit meets a limit: documents of a segment pass one, or the merge or the commit does
-abbrev pub IndexMeets : {D A : Type 0} {d : devices.Ghosts D} → (A → Analyzer) → Index D A d → Index D A d → calls.Configuration → calls.Index → Option requests.Request → Type 0
-IndexMeets analyze old new c x (Some (requests.add_doc value)) = (doc : Document) × (read_data c.schema value ≡ Ok doc) × PassesLimit analyze old (open_of old ++ doc ∷ [])
-IndexMeets analyze old new c x (Some (requests.merge_groups from to)) = MergePasses analyze old from to x.state.groups
-IndexMeets analyze old new c x (Some requests.commit_all) = CommitPasses analyze old new (calls.after c x.state calls.commit_pending).groups
-IndexMeets analyze old new c x _ = ⊥
+abbrev pub IndexMeets : {D A : Type 0} {d : devices.Ghosts D} → (A → Analyzer) → Index D A d → calls.Configuration → calls.Index → Option requests.Request → Type 0
+IndexMeets analyze index c x (Some (requests.add_doc value)) = (doc : Document) × (read_data c.schema value ≡ Ok doc) × PassesLimit analyze index (open_of index ++ doc ∷ [])
+IndexMeets analyze index c x (Some (requests.merge_groups from to)) = MergePasses analyze c x.state from to index
+IndexMeets analyze index c x (Some requests.commit_all) = CommitPasses analyze c x.state index
+IndexMeets analyze index c x _ = ⊥

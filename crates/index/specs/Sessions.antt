@@ -124,10 +124,10 @@ module _ {D A : Type 0} {d : devices.Ghosts D} where
   parts_on stage = option_map (λ s. (device_on s, analyzer_on s)) stage
 
   -- an add, a merge or a commit of the index that stands meets a limit
-  abbrev pub MeetsLimit : (A → Analyzer) → steps.Analysis → Option (Stage D A d) → Option (Stage D A d) → steps.Stage → Option requests.Request → Type 0
-  MeetsLimit analyze a (Some (Standing old)) (Some (Standing new)) (steps.index_of schema settings x) asked =
-      IndexMeets analyze old new (steps.configuration_of schema a.analyze settings) x asked
-  MeetsLimit analyze a _ _ _ _ = ⊥
+  abbrev pub MeetsLimit : (A → Analyzer) → steps.Analysis → Option (Stage D A d) → steps.Stage → Option requests.Request → Type 0
+  MeetsLimit analyze a (Some (Standing index)) (steps.index_of schema settings x) asked =
+      IndexMeets analyze index (steps.configuration_of schema a.analyze settings) x asked
+  MeetsLimit analyze a _ _ _ = ⊥
 
   -- what stands after an index was to be made or opened
   abbrev pub stage_after : Result (Index D A d) (Refused D A) → Stage D A d
@@ -163,14 +163,13 @@ parts_of session = parts_on session.stage
 
 -- an add, a merge or a commit meets a limit in what stands
 abbrev pub MeetsLimitIn :
-    {D A : Type 0} {d : devices.Ghosts D} {a : analyzers.Ghosts A} → Session D A d a → Session D A d a → steps.Session → Option requests.Request → Type 0
-MeetsLimitIn {a = a} old new s asked = MeetsLimit a.analyze s.analysis old.stage new.stage s.stage asked
+    {D A : Type 0} {d : devices.Ghosts D} {a : analyzers.Ghosts A} → Session D A d a → steps.Session → Option requests.Request → Type 0
+MeetsLimitIn {a = a} session s asked = MeetsLimit a.analyze s.analysis session.stage s.stage asked
 
--- a line meets a limit in what stands, whatever stands after it
+-- a line meets a limit in what stands
 abbrev pub MeetsLimitAt :
     {D A : Type 0} {d : devices.Ghosts D} {a : analyzers.Ghosts A} → Session D A d a → steps.Session → List ℕ → Type 0
-MeetsLimitAt {D} {A} {d} {a} session s line =
-    (new : Session D A d a) × MeetsLimitIn session new s (steps.line_request line)
+MeetsLimitAt session s line = MeetsLimitIn session s (steps.line_request line)
 
 -- some session over such a device and with such an analyzer stands for this, and meets a limit by a line
 abbrev pub CanMeetLimit :
@@ -219,7 +218,7 @@ pub record Replies {D A Z : Type 0} {d : devices.Ghosts D} {a : analyzers.Ghosts
   pub state : OnOk result (StandsFor new ((steps.step s asked).1))
   pub honest : honest_of new ≡ honest_of old
   pub failures : HasCause (failures_of old) (failures_of new) result
-  pub limit : IsErrOf result faults.Limit → MeetsLimitIn old new s asked
+  pub limit : IsErrOf result faults.Limit → MeetsLimitIn old s asked
   pub left :
       IsTrue (honest_of old)
       → IfErr result (λ fault. fault ≢ faults.Device

@@ -53,8 +53,7 @@ pub(crate) fn answer<D: Device + Drop, A: Analyzer + Drop>(
     ensures failures { (c : calls.Configuration) (x : calls.Index) → IndexStands A.analyze index.old c x
         → HasCause (D.failed (device_of index.old)) (D.failed (device_of index.new)) result }
     ensures limit { (c : calls.Configuration) (x : calls.Index) → IndexStands A.analyze index.old c x
-        → IsErrOf result faults.Limit
-        → IndexMeets A.analyze index.old index.new c x (Some (index_request_of request.entry)) }
+        → IsErrOf result faults.Limit → IndexMeets A.analyze index.old c x (Some (index_request_of request.entry)) }
     ensures file { IsUnwritten (Some (index_request_of request.entry)) result → KeepsFile index.old index.new }
 {
     match request {

@@ -80,7 +80,7 @@ pub fn reply<D: Device + Drop, A: Analyzer + Drop>(
     ensures failures { (s : steps.Session) → StandsFor session.old s
         → HasCause (failures_of session.old) (failures_of session.new) result }
     ensures limit { (s : steps.Session) → StandsFor session.old s → IsErrOf result faults.Limit
-        → MeetsLimitIn session.old session.new s (steps.line_request line.now) }
+        → MeetsLimitIn session.old s (steps.line_request line.now) }
     ensures err { IfErr result (λ fault. IsTrue (stops fault)) }
     // Over an honest device what is committed stays, and stays in the file.
     ensures left { (s : steps.Session) → StandsFor session.old s → IsTrue (honest_of session.old)

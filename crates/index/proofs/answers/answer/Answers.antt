@@ -43,7 +43,7 @@ returns-in-Add-clause-failures g c k x s =
 
 pub returns-in-Add-clause-limit : goal.returns-in-Add-clause-limit
 returns-in-Add-clause-limit g c k x s limit =
-    subst (λ r. IndexMeets g.A.Analyzer.analyze c.args.index.now c.add_value.new.self k x (Some (index_request_of r))) (sym c.in-Add.is)
+    subst (λ r. IndexMeets g.A.Analyzer.analyze c.args.index.now k x (Some (index_request_of r))) (sym c.in-Add.is)
     (met_limit c.add_value.result _ (c.add_value.ensures.limit k x s) (same_error c.add_value.result c.answer_change.result faults.Limit c.answer_change.ensures.same limit))
 
 pub returns-in-Add-clause-honest : goal.returns-in-Add-clause-honest
@@ -132,7 +132,7 @@ returns-in-Merge-clause-failures g c k x s =
 
 pub returns-in-Merge-clause-limit : goal.returns-in-Merge-clause-limit
 returns-in-Merge-clause-limit g c k x s limit =
-    subst (λ r. IndexMeets g.A.Analyzer.analyze c.args.index.now c.merge.new.self k x (Some (index_request_of r))) (sym c.in-Merge.is)
+    subst (λ r. IndexMeets g.A.Analyzer.analyze c.args.index.now k x (Some (index_request_of r))) (sym c.in-Merge.is)
     (c.merge.ensures.limit k x s (same_error c.merge.result c.answer_change-in-Merge.result faults.Limit c.answer_change-in-Merge.ensures.same limit))
 
 pub returns-in-Merge-clause-left : goal.returns-in-Merge-clause-left
@@ -168,7 +168,7 @@ returns-in-Commit-clause-failures g c k x s =
 
 pub returns-in-Commit-clause-limit : goal.returns-in-Commit-clause-limit
 returns-in-Commit-clause-limit g c k x s limit =
-    subst (λ r. IndexMeets g.A.Analyzer.analyze c.args.index.now c.commit.new.self k x (Some (index_request_of r))) (sym c.in-Commit.is)
+    subst (λ r. IndexMeets g.A.Analyzer.analyze c.args.index.now k x (Some (index_request_of r))) (sym c.in-Commit.is)
     (c.commit.ensures.limit k x s (same_error c.commit.result c.answer_change-in-Commit.result faults.Limit c.answer_change-in-Commit.ensures.same limit))
 
 pub returns-in-Commit-clause-left : goal.returns-in-Commit-clause-left

@@ -20,7 +20,7 @@ returns-clause-left g c s h honest =
     ((c.answer_line.ensures.answered s h).left honest)
 
 pub returns-clause-limit : goal.returns-clause-limit
-returns-clause-limit g c s h limit = (c.answer_line.new.self, (c.answer_line.ensures.answered s h).limit limit)
+returns-clause-limit g c s h = (c.answer_line.ensures.answered s h).limit
 
 pub returns-clause-device : goal.returns-clause-device
 returns-clause-device g c s h = (c.answer_line.ensures.answered s h).failures.cause
