@@ -62,6 +62,13 @@ abbrev pub IsOpenRefusal : (List ℕ → Bool) → List ℕ → Fault → Type 0
 IsOpenRefusal knows bytes fault =
     IsRefusal TakesSegments bytes fault ⊎ ((fault ≡ faults.UnknownTokenizer) × HasUnknown knows bytes)
 
+-- what an open is refused by, whatever the device does: the device, want of memory, no index, damage at a gate, or a
+-- tokenizer that isn't known
+abbrev pub IsOpenFault : Fault → Type 0
+IsOpenFault fault =
+    (fault ≡ faults.Device) ⊎ (fault ≡ faults.OutOfMemory) ⊎ (fault ≡ faults.NoIndex)
+    ⊎ ((gate : ℕ) × (fault ≡ faults.Damaged (Some gate))) ⊎ (fault ≡ faults.UnknownTokenizer)
+
 -- what the file of a device refuses of an index that could be made
 abbrev pub IsCreateRefusal : Fault → Type 0
 IsCreateRefusal fault = (fault ≡ faults.Device) ⊎ (fault ≡ faults.NotEmpty)

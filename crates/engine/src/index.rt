@@ -13,7 +13,7 @@ ghost use Rattle.layouts.specs.RecordFiles.{IsFresh, IsOneOf};
 ghost use Rattle.index_file.specs.Kept.{IsKept, LeavesNow};
 ghost use Rattle.index_file.specs.Outcomes.{CountsNoOther};
 ghost use Rattle.index_state.specs.Standing.{status_of};
-ghost use Rattle.engine.specs.Files.{IsCreateRefusal, IsOpenRefusal, is_first};
+ghost use Rattle.engine.specs.Files.{IsCreateRefusal, IsOpenFault, IsOpenRefusal, is_first};
 ghost use Rattle.engine.specs.Indexes.{IndexRests, IndexStands, IsOpened, alloc_of, analyzer_after, analyzer_of, device_after, device_of, ending_of, members_of, schema_of, settings_of};
 
 use crate::open_file::{open_file, read_file};
@@ -106,6 +106,7 @@ impl<D: Device + Drop, A: Analyzer + Drop> Index<D, A> {
         ensures refused { IsTrue (D.honest device) → IfErr result (λ r.
             (r.fault ≡ faults.Device) ⊎ (r.fault ≡ faults.OutOfMemory)
             ⊎ IsOpenRefusal (A.knows_name analyzer) (D.content device) r.fault) }
+        ensures faults { IfErr result (λ r. IsOpenFault r.fault) }
 
         ensures honest { D.honest (device_after result) ≡ D.honest device }
         ensures analyzer { analyzer_after result ≡ analyzer }

@@ -11,7 +11,7 @@ ghost use Rattle.definitions.specs.declared.fault.Fault.TheVariants as faults;
 ghost use Rattle.layouts.specs.RecordFiles.{EndsAt, IsAtRest, IsFresh, IsOneOf};
 ghost use Rattle.index_file.specs.Kept.{IsKept, LeavesNow};
 ghost use Rattle.index_file.specs.Outcomes.{CountsNoOther};
-ghost use Rattle.engine.specs.Files.{IsOpenRefusal, is_first};
+ghost use Rattle.engine.specs.Files.{IsOpenFault, IsOpenRefusal, is_first};
 ghost use Rattle.engine.specs.Indexes.{IndexStands, analyzer_after, device_after, device_of, ending_of, gate_of, members_of, schema_of, settings_of};
 ghost use Rattle.index_file.specs.Lists.{IsListed, LeavesList, member_of};
 ghost use Rattle.segment_definitions.specs.SegmentFiles.{IsGroup};
@@ -49,6 +49,7 @@ pub(crate) fn read_file<D: Device, A: Analyzer>(
         → IfErr result (λ fault.
         (fault ≡ faults.Device) ⊎ (fault ≡ faults.OutOfMemory)
         ⊎ IsOpenRefusal (A.knows_name analyzer.now) (D.content device.new) fault) }
+    ensures faults { IfErr result IsOpenFault }
 {
     let bytes = device.read(alloc)?;
     let file = IndexFile::open(alloc, Bytes::from_vec(bytes)?)?;

@@ -7,7 +7,7 @@ use Rattle.index_file.specs.Outcomes.{IsRefusal}
 use Rattle.index_state.proofs.Parted.{leaves_few}
 use Rattle.engine.proofs.FileSayings.{list_leaves}
 use Rattle.engine.proofs.Readings.{read_kept}
-use Rattle.engine.specs.Files.{IsOpenRefusal}
+use Rattle.engine.specs.Files.{IsOpenFault, IsOpenRefusal}
 use Rattle.index_file.specs.Lists.{LeavesList, member_of}
 use Rattle.segment_definitions.specs.SegmentFiles.{TakesSegments}
 use Rattle.engine.proofs.open_file.read_file.Goals as goal
@@ -21,6 +21,23 @@ returns-in_err-file-clause-refused g c h =
     (elim c.in_err-file.ensures.err [
       | inl memory ↦ inr (inl memory)
       | inr refusal ↦ inr (inr (inl (subst (λ (l : List ℕ). IsRefusal TakesSegments l fault) same refusal)))
+    ])
+
+pub returns-in_err-file-clause-faults : goal.returns-in_err-file-clause-faults
+returns-in_err-file-clause-faults g c =
+    err_has c.from_residual-in_err-file.result c.in_err-file.field-0.0 IsOpenFault c.from_residual-in_err-file.ensures.1
+    (elim c.in_err-file.ensures.err [
+      | inl memory ↦ inr (inl memory)
+      | inr (inl none) ↦ inr (inr (inl none.0))
+      | inr (inr damage) ↦ inr (inr (inr (inl (damage.0, damage.1))))
+    ])
+
+pub returns-in_err-bytes-clause-faults : goal.returns-in_err-bytes-clause-faults
+returns-in_err-bytes-clause-faults g c =
+    err_has c.from_residual.result c.in_err-bytes.field-0.0 IsOpenFault c.from_residual.ensures.1
+    (elim c.in_err-bytes.ensures.fault [
+      | inl failed ↦ inl failed
+      | inr memory ↦ inr (inl memory)
     ])
 
 pub returns-then-not-are_analyzed-clause-refused : goal.returns-then-not-are_analyzed-clause-refused

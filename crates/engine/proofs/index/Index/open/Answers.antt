@@ -11,7 +11,7 @@ use Rattle.index_file.proofs.ErrorsKept.{caused_later}
 use Rattle.index_file.proofs.Openings.{err_both, err_map, ok_three, ok_two, ok_under}
 use Rattle.index_file.specs.Kept.{IsKept, LeavesNow}
 use Rattle.engine.proofs.FileSayings.{leave_same, list_leaves}
-use Rattle.engine.specs.Files.{IsOpenRefusal, is_first}
+use Rattle.engine.specs.Files.{IsOpenFault, IsOpenRefusal, is_first}
 use Rattle.engine.specs.Indexes.{IndexStands, IsOpened, device_after, device_of, ending_of, gate_of, members_of, schema_of, settings_of}
 use Rattle.index_file.specs.Lists.{member_of}
 use Rattle.segment_definitions.specs.SegmentBodies.{Member}
@@ -109,3 +109,11 @@ returns-in-Err-clause-refused g c h =
     let fault = c.in-Err.fault in
     let knows = g.A.Analyzer.knows_name c.args.analyzer in
     subst (λ (content : List ℕ). (fault ≡ faults.Device) ⊎ (fault ≡ faults.OutOfMemory) ⊎ IsOpenRefusal knows content fault) (c.read_file.ensures.kept h).content_kept (c.in-Err.ensures.refused h)
+
+pub returns-in-Ok-clause-faults : goal.returns-in-Ok-clause-faults
+returns-in-Ok-clause-faults g c =
+    err_map c.open_file.result (λ r. (r.fault ≡ faults.Device) ⊎ (r.fault ≡ faults.OutOfMemory)) (λ r. IsOpenFault r.fault) c.open_file.ensures.refused
+    (λ r refused. elim refused [
+      | inl failed ↦ inl failed
+      | inr memory ↦ inr (inl memory)
+    ])
