@@ -148,7 +148,11 @@ impl Write for Screen<'_> {
 }
 
 fn make_echo(alloc: Global) -> Echo {
-    Echo { alloc, answered: 0, failures: 0 }
+    Echo {
+        alloc,
+        answered: 0,
+        failures: 0,
+    }
 }
 
 /// What a run over an input writes, if it goes through.

@@ -78,7 +78,7 @@ new_is analyze [] h = absurd h
 new_is analyze (b ∷ []) h = ap (λ bytes. bytes ∷ []) (least_segment analyze b h.0)
 new_is analyze (b ∷ c ∷ news) h = absurd h.1
 
-one_flag : (flags : List Bool) → length flags ≡ 1 → (flag : Bool) × (flags ≡ flag ∷ [])
+one_flag : (flags : List Bool) → length flags ≡ 1 → (flag : Bool) × (flags ∷ [] ≡ (flag ∷ []) ∷ [])
 one_flag [] e = absurd (omega (arith, e))
 one_flag (flag ∷ []) e = (flag, refl)
 one_flag (flag ∷ other ∷ flags) e = absurd (omega (arith, e))
@@ -91,8 +91,7 @@ flags_are : (after : List Member) → map (λ (m : Member). m.0) after ≡ bare_
 flags_are [] e all = absurd (let n = ap length e in omega (arith, n))
 flags_are ((bytes, flags) ∷ []) e all =
     let same : bytes ≡ bare_segment = cc in
-    let flag = one_flag flags (one_document (length flags) all.0.1 (subst (IsSegment [] (length flags)) same all.0.0)) in
-    (flag.0, ap (λ fs. fs ∷ []) flag.1)
+    one_flag flags (one_document (length flags) all.0.1 (subst (IsSegment [] (length flags)) same all.0.0))
 flags_are (m ∷ k ∷ after) e all = absurd (let n = ap length e in omega (arith, n))
 
 least_body : (analyze : Analyzer) (n : ℕ) (after : List Member) (body : List ℕ) → 0 < n → Makes (IsSegment []) [] after body → IsCommitBody [] analyze n (added [] ∷ []) [] after body
