@@ -1,6 +1,6 @@
 //! The replies to requests to the session's index.
 
-ghost use Rattle.std.specs.Prelude.{◌≡◌, ◌≢◌, ◌≤◌, ◌⊎◌, Err, IfErr, IfOk, IsErrOf, IsTrue, List, OnErr, OnOk, Some, false, map};
+ghost use Rattle.std.specs.Prelude.{◌≡◌, ◌≢◌, ◌≤◌, ◌⊎◌, Err, IfErr, IfOk, IsErrOf, IsTrue, List, None, OnErr, OnOk, Some, false, map, true};
 ghost use Rattle.std.specs.Cow.{cow_str_bytes};
 ghost use Rattle.definitions.specs.Calls as calls;
 ghost use Rattle.definitions.specs.Disk.{HasCause};
