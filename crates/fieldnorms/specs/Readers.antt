@@ -1,5 +1,5 @@
 -- What readers of length ids stand for, and how the ids of a field are taken.
-use Rattle.std.specs.Prelude.{[], ◌+◌, ◌==◌, ◌∷◌, List, Option, drop, replicate, take, zip, ℕ}
+use Rattle.std.specs.Prelude.{[], ◌+◌, ◌<◌, ◌==◌, ◌^◌, ◌∷◌, List, Option, drop, length, replicate, slice_index, take, zip, ℕ}
 use Rattle.fieldnorms.specs.declared.reader.Norms.{Norms}
 use Rattle.fieldnorms.specs.declared.reader.Norms.TheVariants.{Constant, Ids}
 use Rattle.definitions.specs.Json.{only_if, ◌>>=◌}
@@ -9,6 +9,11 @@ use Rattle.definitions.specs.NumberCodes.{take_count, take_u32}
 abbrev pub ids_in : Norms → List ℕ
 ids_in (Constant num_docs id) = replicate num_docs id
 ids_in (Ids ids) = ids.now
+
+-- what a reader's ids are: fewer than 2^32, and each one of 256
+pub record AreLengthIds (ids : List ℕ) : Type 0 where
+  pub few : length ids < 2 ^ 32
+  pub each : (doc : ℕ) → slice_index ids doc < 256
 
 -- the ids of a field, where it stands first, and the rest
 abbrev pub take_ids : ℕ → ℕ → List ℕ → Option (List ℕ × List ℕ)

@@ -21,15 +21,15 @@ enum Norms<'a> {
 }
 
 impl<'a> Model for FieldNormReader<'a> {
-    ghost use Rattle.std.specs.Prelude.{List, length, ◌<◌, ◌^◌, ℕ};
+    ghost use Rattle.std.specs.Prelude.{List, ℕ};
 
     ghost Value = { List ℕ };
 
-    ghost use Rattle.fieldnorms.specs.Readers.{ids_in};
+    ghost use Rattle.fieldnorms.specs.Readers.{AreLengthIds, ids_in};
 
     ghost view = { λ r. ids_in r.norms };
 
-    ghost invariant = { λ r. length (ids_in r.norms) < 2 ^ 32 };
+    ghost invariant = { λ r. AreLengthIds (ids_in r.norms) };
 }
 
 impl<'a> FieldNormReader<'a> {
