@@ -3,7 +3,7 @@
 use case_lines::{Arguments, Refusal, bytes_of_digits, hex, number, pair, text};
 use common::{Device, MemoryDevice};
 use definitions::Fault;
-use index_file::{Frame, RecordFile, finish_frame, start_frame};
+use index_file::{RecordFile, finish_frame, start_frame};
 use serde_json::Value;
 use std::alloc::Global;
 
@@ -46,7 +46,7 @@ fn file(alloc: Global, arguments: &Arguments) -> Result<Value, Refusal> {
     let mut gates = Vec::new(alloc);
     gates.push(number(file.gate as u64))?;
     for body in rest {
-        file.append(&Frame::copied(alloc, &framed(alloc, body)?)?)?;
+        file.append(&framed(alloc, body)?)?;
         gates.push(number(file.gate as u64))?;
     }
     let mut device = file.into_device();

@@ -2,7 +2,6 @@
 pub mod Results
 pub mod Scanned
 pub mod Images
-pub mod PieceByPiece
 pub mod CallByCall
 -- Lemmas behind the body of the first record.
 pub mod MadeTexts
@@ -11,7 +10,6 @@ pub mod PlainData
 pub mod PartsBack
 pub mod SetsBack
 pub mod BodiesBack
-pub mod BodyPieces
 pub mod PlacesFollow
 pub mod FilesCut
 -- Lemmas behind what makes and opens an index.

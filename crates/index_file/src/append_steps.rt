@@ -9,8 +9,7 @@ ghost use Rattle.index_file.specs.Frames.{frame_bytes};
 ghost use Rattle.index_file.specs.Kept.{IsKept, LeavesNow};
 ghost use Rattle.index_file.specs.Outcomes.{CountsNoOther};
 
-use crate::frame::{Frame, OPEN};
-use crate::pieces::write_frame;
+use crate::frame::OPEN;
 use common::{Device, cut_synced, write_synced};
 use definitions::Fault;
 use std::alloc::Global;
@@ -53,7 +52,7 @@ pub(crate) fn settle_file<D: Device>(device: &mut D, gate: usize) -> Result<(), 
 pub(crate) fn append_record<D: Device>(
     device: &mut D,
     gate: usize,
-    frame: &Frame,
+    frame: &[u8],
 ) -> Result<(), Fault>
     requires inside { IsTrue (D.honest device.old) → gate < length (D.content device.old) }
     requires room { gate + 1 + length frame.now ≤ 2 ^ 63 }
@@ -75,7 +74,7 @@ pub(crate) fn append_record<D: Device>(
         → D.unsynced device.old ≡ settled (length (D.content device.old))
         → LeavesOnly D.moment D.left_since device.old device.new (IsOneOf bodies (bodies ++ body ∷ [])) }
 {
-    write_frame(device, gate + 1, frame)?;
+    write_synced(device, gate + 1, frame)?;
     write_synced(device, gate, &[OPEN])
 }
 
@@ -105,9 +104,8 @@ pub(crate) fn create_file<D: Device>(
         → (D.content device.old ≢ []) ⊎ IsErrOf result faults.OutOfMemory
         → IsKept D.moment D.left_since D.content D.unsynced device.old device.new }
 {
-    let frame = Frame::copied(alloc, frame)?;
     lay_gate(alloc, device)?;
-    append_record(device, 0, &frame)
+    append_record(device, 0, frame)
 }
 
 /// Writes a closed gate to an empty device.

@@ -10,7 +10,6 @@ ghost use Rattle.index_file.specs.Kept.{IsKept, LeavesNow};
 ghost use Rattle.index_file.specs.Outcomes.{CountsNoOther};
 
 use crate::append_steps::{append_record, create_file, settle_file};
-use crate::frame::Frame;
 use common::Device;
 use definitions::Fault;
 use std::alloc::Global;
@@ -29,8 +28,8 @@ pub struct RecordFile<D: Device> {
 impl<D: Device> RecordFile<D> {
     ghost use Rattle.index_file.specs.HandedBack.{device_after, ending_of};
 
-    /// Creates a file of one record, given as its `frame`, on an empty device. The memory that this takes is for a copy
-    /// of the frame, and the device's, to read.
+    /// Creates a file of one record, given as its `frame`, on an empty device. The memory that this takes is the
+    /// device's, to read.
     pub fn create(alloc: Global, device: D, frame: &[u8]) -> Result<RecordFile<D>, (Fault, D)>
         ensures fault { IfErr result (λ refusal.
             (refusal.0 ≡ faults.Device) ⊎ (refusal.0 ≡ faults.OutOfMemory) ⊎ (refusal.0 ≡ faults.NotEmpty)) }
@@ -110,7 +109,7 @@ impl<D: Device> RecordFile<D> {
     /// Appends a record, given as its `frame`. It takes no memory.
     ///
     /// After `Device` nothing is known of the closed gate: the file must be read again.
-    pub fn append(&mut self, frame: &Frame) -> Result<(), Fault>
+    pub fn append(&mut self, frame: &[u8]) -> Result<(), Fault>
         ensures fault { IfErr result (λ fault. (fault ≡ faults.Device) ⊎ (fault ≡ faults.Limit)) }
         ensures limit { IsErrOf result faults.Limit ↔ (2 ^ 63 < self.old.gate + 1 + length frame.now) }
         ensures unchanged { IsErrOf result faults.Limit

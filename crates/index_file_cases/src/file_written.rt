@@ -1,12 +1,9 @@
 //! Files, written record by record.
 
-use bytes::Bytes;
 use case_lines::{Arguments, Refusal, bytes_of_digits, hex, number, pair};
 use common::{AliveBitSet, Device, MemoryDevice};
 use definitions::Fault;
-use index_file::{
-    Frame, RecordFile, SegmentsBodyWriter, finish_frame, put_first_body, start_frame,
-};
+use index_file::{RecordFile, SegmentsBodyWriter, finish_frame, put_first_body, start_frame};
 use schema::Schema;
 use serde_json::Value;
 use settings::Settings;
@@ -43,7 +40,7 @@ fn first_frame(alloc: Global, made: &Value) -> Result<Vec<u8>, Refusal> {
 }
 
 /// The frame of a later record.
-fn frame_of(alloc: Global, body: &Value) -> Result<Frame, Refusal> {
+fn frame_of(alloc: Global, body: &Value) -> Result<Vec<u8>, Refusal> {
     let parts = list_at(body, 0)?;
     let sets = alive_sets(alloc, list_at(body, 1)?)?;
     let num_segments = u32::try_from(parts.len()).ok().ok_or(Refusal::NotAsked)?;
@@ -52,14 +49,14 @@ fn frame_of(alloc: Global, body: &Value) -> Result<Frame, Refusal> {
         put_part(alloc, &mut body, part)?;
     }
     body.put_sets(&sets)?;
-    Ok(Frame::of_body(alloc, body.finish()?)?)
+    Ok(body.finish()?)
 }
 
 /// Appends a part to a body.
 fn put_part(alloc: Global, body: &mut SegmentsBodyWriter, part: &Value) -> Result<(), Refusal> {
     match part.as_u64() {
         Some(place) => body.put_kept(u32::try_from(place).ok().ok_or(Refusal::NotAsked)?)?,
-        None => body.put_fresh(Bytes::from_vec(bytes_of_digits(alloc, part)?)?)?,
+        None => body.put_fresh(&bytes_of_digits(alloc, part)?)?,
     }
     Ok(())
 }

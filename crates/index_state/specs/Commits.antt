@@ -18,7 +18,7 @@ sets_in prepared = prepared.alive.items
 
 -- its frame
 abbrev pub frame_in : Prepared → List ℕ
-frame_in prepared = prepared.frame
+frame_in prepared = prepared.frame.items
 
 -- the members with these alive sets
 abbrev pub members_with : {A : Type 0} → IndexState A → Prepared → List Member

@@ -32,7 +32,7 @@ range_fault from to count = if nat_le to from || nat_lt count to then Some fault
 
 -- its frame
 abbrev pub merge_frame_in : PreparedMerge → List ℕ
-merge_frame_in prepared = prepared.frame
+merge_frame_in prepared = prepared.frame.items
 
 -- its new segment, or none
 abbrev pub new_in : PreparedMerge → List code.Segment

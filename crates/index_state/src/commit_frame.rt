@@ -8,7 +8,7 @@ ghost use Rattle.index_state.specs.Bodies.{kept_from, next_parts};
 ghost use Rattle.segment_definitions.specs.SegmentBodies.{fresh, part_bytes, segments_body};
 
 use common::AliveBitSet;
-use index_file::{Frame, SegmentsBodyWriter};
+use index_file::SegmentsBodyWriter;
 use segment::Segment;
 use std::alloc::{AllocError, Global};
 
@@ -19,16 +19,16 @@ pub(crate) fn commit_frame(
     segments: &[Segment],
     num_committed: usize,
     alive: &[AliveBitSet],
-) -> Result<Frame, AllocError>
+) -> Result<Vec<u8>, AllocError>
     requires few { length segments.now < 2 ^ 32 }
     requires within { num_committed ≤ length segments.now }
-    ensures { IfOk result (λ frame. frame
+    ensures { IfOk result (λ frame. frame.items
         ≡ frame_bytes (segments_body (next_parts num_committed (map bytes_of segments.now)) alive.now)) }
 {
     let mut body = SegmentsBodyWriter::begin(alloc, segments.len() as u32)?;
     put_kept(&mut body, 0, num_committed)?;
     put_fresh(&mut body, &segments[num_committed..])?;
-    framed(alloc, body, alive)
+    framed(body, alive)
 }
 
 /// Encodes the kept segments `from..to`, by index.
@@ -47,7 +47,7 @@ pub(crate) fn put_kept(
     Ok(())
 }
 
-/// Encodes new segments inline; their bytes are shared.
+/// Encodes new segments inline.
 pub(crate) fn put_fresh(
     body: &mut SegmentsBodyWriter,
     segments: &[Segment],
@@ -55,20 +55,16 @@ pub(crate) fn put_fresh(
     ensures { OnOk result (body.new ≡ body.old ++ flat_map part_bytes (map fresh (map bytes_of segments.now))) }
 {
     for segment in segments {
-        body.put_fresh(segment.to_bytes()?)?;
+        body.put_fresh(segment.to_bytes()?.as_slice())?;
     }
     Ok(())
 }
 
 /// Appends the alive sets to the body of a record, and frames it.
-pub(crate) fn framed(
-    alloc: Global,
-    body: SegmentsBodyWriter,
-    alive: &[AliveBitSet],
-) -> Result<Frame, AllocError>
-    ensures { IfOk result (λ frame. frame ≡ frame_bytes (body ++ flat_map alive_bytes alive.now)) }
+pub(crate) fn framed(body: SegmentsBodyWriter, alive: &[AliveBitSet]) -> Result<Vec<u8>, AllocError>
+    ensures { IfOk result (λ frame. frame.items ≡ frame_bytes (body ++ flat_map alive_bytes alive.now)) }
 {
     let mut body = body;
     body.put_sets(alive)?;
-    Frame::of_body(alloc, body.finish()?)
+    body.finish()
 }

@@ -8,7 +8,7 @@ ghost use Rattle.segment_definitions.specs.SegmentBodies.{segments_body};
 
 use crate::commit_frame::{framed, put_fresh, put_kept};
 use common::AliveBitSet;
-use index_file::{Frame, SegmentsBodyWriter};
+use index_file::SegmentsBodyWriter;
 use segment::Segment;
 use std::alloc::{AllocError, Global};
 
@@ -21,11 +21,11 @@ pub(crate) fn merge_frame(
     to: usize,
     segment: &Option<Segment>,
     alive: &[AliveBitSet],
-) -> Result<Frame, AllocError>
+) -> Result<Vec<u8>, AllocError>
     requires some { from < to }
     requires within { to ≤ num_committed }
     requires few { num_committed < 2 ^ 32 }
-    ensures { IfOk result (λ frame. frame ≡ frame_bytes (segments_body
+    ensures { IfOk result (λ frame. frame.items ≡ frame_bytes (segments_body
         (merged_parts num_committed from to (map bytes_of (option_to_list segment.now))) alive.now)) }
 {
     let fresh = segment.as_slice();
@@ -34,5 +34,5 @@ pub(crate) fn merge_frame(
     put_kept(&mut body, 0, from)?;
     put_fresh(&mut body, fresh)?;
     put_kept(&mut body, to, num_committed)?;
-    framed(alloc, body, alive)
+    framed(body, alive)
 }

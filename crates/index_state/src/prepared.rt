@@ -4,19 +4,18 @@ ghost use Rattle.std.specs.Prelude.{◌≡◌};
 ghost use Rattle.index_state.specs.Commits.{frame_in};
 
 use common::AliveBitSet;
-use index_file::Frame;
 
 /// A prepared commit: what it writes and then installs.
 #[derive(Drop)]
 pub struct Prepared {
-    pub(crate) frame: Frame,
+    pub(crate) frame: Vec<u8>,
     // One for each segment, the new ones too.
     pub(crate) alive: Vec<AliveBitSet>,
 }
 
 impl Prepared {
     /// Returns the frame of the commit's record.
-    pub fn frame(&self) -> &Frame
+    pub fn frame(&self) -> &[u8]
         ensures { result.now ≡ frame_in self.now }
     {
         &self.frame

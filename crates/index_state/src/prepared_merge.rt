@@ -4,13 +4,12 @@ ghost use Rattle.std.specs.Prelude.{◌≡◌};
 ghost use Rattle.index_state.specs.Merges.{merge_frame_in};
 
 use common::AliveBitSet;
-use index_file::Frame;
 use segment::Segment;
 
 /// A prepared merge: what it writes and then installs.
 #[derive(Drop)]
 pub struct PreparedMerge {
-    pub(crate) frame: Frame,
+    pub(crate) frame: Vec<u8>,
     // Replaces the committed segments `from..to`; none if no document is alive.
     pub(crate) segment: Option<Segment>,
     pub(crate) from: usize,
@@ -21,7 +20,7 @@ pub struct PreparedMerge {
 
 impl PreparedMerge {
     /// Returns the frame of the merge's record.
-    pub fn frame(&self) -> &Frame
+    pub fn frame(&self) -> &[u8]
         ensures { result.now ≡ merge_frame_in self.now }
     {
         &self.frame

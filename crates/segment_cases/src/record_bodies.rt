@@ -1,7 +1,6 @@
 //! Bodies of segments. A part is a number, the place of a kept segment, or the hexadecimal digits of a new one; an alive
 //! set is a text of a `1` for each document that is alive and a `0` for each that isn't.
 
-use bytes::Bytes;
 use case_lines::{Arguments, Refusal, bytes_of_digits, flag, hex, number, pair, text};
 use common::AliveBitSet;
 use definitions::Fault;
@@ -17,31 +16,22 @@ pub(crate) fn put(alloc: Global, arguments: &Arguments) -> Result<Value, Refusal
     let num_segments = u32::try_from(parts.len()).ok().ok_or(Refusal::NotAsked)?;
     let mut body = SegmentsBodyWriter::begin(alloc, num_segments)?;
     for part in &parts {
-        put_part(alloc, &mut body, part)?;
+        put_part(&mut body, part)?;
     }
     body.put_sets(&sets)?;
-    Ok(hex(alloc, &joined(alloc, &body.finish()?)?)?)
+    let frame = body.finish()?;
+    // The body is behind its length, and before the closed gate.
+    let (_, framed) = frame.split_at_checked(8).ok_or(Refusal::NotAsked)?;
+    let (_, bytes) = framed.split_last().ok_or(Refusal::NotAsked)?;
+    Ok(hex(alloc, bytes)?)
 }
 
 /// Appends a part to a body.
-fn put_part(
-    alloc: Global,
-    body: &mut SegmentsBodyWriter,
-    part: &Part<'_>,
-) -> Result<(), AllocError> {
+fn put_part(body: &mut SegmentsBodyWriter, part: &Part<'_>) -> Result<(), AllocError> {
     match *part {
         Part::Kept(place) => body.put_kept(place),
-        Part::Fresh(segment) => body.put_fresh(Bytes::copy_from_slice(alloc, segment)?),
+        Part::Fresh(segment) => body.put_fresh(segment),
     }
-}
-
-/// Pieces, one behind another.
-fn joined(alloc: Global, pieces: &[Bytes]) -> Result<Vec<u8>, AllocError> {
-    let mut bytes = Vec::new(alloc);
-    for piece in pieces {
-        bytes.extend_from_slice(piece.as_slice())?;
-    }
-    Ok(bytes)
 }
 
 /// The parts and the alive sets of a body.

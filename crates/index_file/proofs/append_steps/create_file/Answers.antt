@@ -13,12 +13,10 @@ returns-clause-at_rest g c body h framed =
     let new = c.append_record.new.device in
     let h' : IsTrue (d.honest mid) = subst (λ (b : Bool). IsTrue b) (sym c.in_ok-lay_gate.ensures.honest) h in
     let rest : IsAtRest (d.content mid) 0 [] = subst (λ (l : List ℕ). IsAtRest l 0 []) (sym (c.in_ok-lay_gate.ensures.content h)) gate_at_rest in
-    let copy = c.in_ok-frame.frame in
-    let same : copy ≡ c.args.frame.now = c.in_ok-frame.ensures in
-    let long : 0 + length copy ≡ length c.args.frame.now = omega (arith, ap length same) in
-    OnOk-map c.append_record.result (IsAtRest (d.content new) (0 + length copy) (body ∷ [])) (IsAtRest (d.content new) (length c.args.frame.now) (body ∷ []))
-    (λ is. subst (λ (n : ℕ). IsAtRest (d.content new) n (body ∷ [])) long is)
-    (c.append_record.ensures.appended [] body h' (same ∙ framed) rest)
+    let zero_more : 0 + length c.args.frame.now ≡ length c.args.frame.now = omega arith in
+    OnOk-map c.append_record.result (IsAtRest (d.content new) (0 + length c.args.frame.now) (body ∷ [])) (IsAtRest (d.content new) (length c.args.frame.now) (body ∷ []))
+    (λ is. subst (λ (n : ℕ). IsAtRest (d.content new) n (body ∷ [])) zero_more is)
+    (c.append_record.ensures.appended [] body h' framed rest)
 
 pub returns-clause-any_moment : goal.returns-clause-any_moment
 returns-clause-any_moment g c takes body h framed taken here =
@@ -29,4 +27,4 @@ returns-clause-any_moment g c takes body h framed taken here =
     let rest : IsAtRest (d.content mid) 0 [] = subst (λ (l : List ℕ). IsAtRest l 0 []) (sym is_at) gate_at_rest in
     let synced : d.unsynced mid ≡ settled (length (d.content mid)) = c.in_ok-lay_gate.ensures.unsynced h ∙ ap (λ (l : List ℕ). settled (length l)) (sym is_at) in
     creating d.moment d.left_since d.content d.unsynced takes c.args.device.now mid c.append_record.new.device body taken (c.in_ok-lay_gate.ensures.any_moment takes h here)
-    (c.append_record.ensures.any_moment [] body h' (c.in_ok-frame.ensures ∙ framed) rest synced)
+    (c.append_record.ensures.any_moment [] body h' framed rest synced)

@@ -131,9 +131,9 @@ returns-clause-body g c k x s =
     let held' = subst (λ fs. length fs ≤ length s.docs) (sym same.0) held in
     let waits = subst (λ fs. Waits n x.state.pending (drop (length fs) s.docs) old.open dels) (sym same.0) w in
     let says = commit_says old.schema analyze n x.state.pending s.docs old.open dels segments mid.alive.items sets closed.0 held' few each waits in
-    let made : (body : List ℕ) × (c.in_ok-frame.frame ≡ frame_bytes body) × Makes (IsSegment old.schema) (members_of old) (members segments sets) body × IsCommitBody old.schema analyze n x.state.pending (members_of old) (members segments sets) body =
-    commit_body old.schema analyze n x.state.pending c.in_ok-frame.frame segments c.deref-4.result.now mid.alive.items sets c.deref-5.result.now c.len-2.result (members_of old) c.deref-4.ensures.value c.deref-5.ensures.value (c.len-2.ensures ∙ mid.alive.ok.0) c.in_ok-frame.ensures opened flagged few each small c.close_open.ensures.members says in
-    subst (λ (m : calls.Configuration). (body : List ℕ) × (c.in_ok-frame.frame ≡ frame_bytes body) × Makes (IsSegment m.schema) (members_of old) (members segments sets) body × IsCommitBody m.schema m.analyze m.docs_per_segment x.state.pending (members_of old) (members segments sets) body) (sym s.made) made
+    let made : (body : List ℕ) × (c.in_ok-frame.frame.items ≡ frame_bytes body) × Makes (IsSegment old.schema) (members_of old) (members segments sets) body × IsCommitBody old.schema analyze n x.state.pending (members_of old) (members segments sets) body =
+    commit_body old.schema analyze n x.state.pending c.in_ok-frame.frame.items segments c.deref-4.result.now mid.alive.items sets c.deref-5.result.now c.len-2.result (members_of old) c.deref-4.ensures.value c.deref-5.ensures.value (c.len-2.ensures ∙ mid.alive.ok.0) c.in_ok-frame.ensures opened flagged few each small c.close_open.ensures.members says in
+    subst (λ (m : calls.Configuration). (body : List ℕ) × (c.in_ok-frame.frame.items ≡ frame_bytes body) × Makes (IsSegment m.schema) (members_of old) (members segments sets) body × IsCommitBody m.schema m.analyze m.docs_per_segment x.state.pending (members_of old) (members segments sets) body) (sym s.made) made
 
 pub returns-then-len-gt-MAX_SEGMENTS-clause-limit : goal.returns-then-len-gt-MAX_SEGMENTS-clause-limit
 returns-then-len-gt-MAX_SEGMENTS-clause-limit g c k x s is =

@@ -144,7 +144,7 @@ returns-clause-body g c k x s =
     let counted = c.len-2.ensures ∙ index.alive.ok.0 in
     let are = c.in_ok-alive.ensures ∙ ap (replaced from to (map all_alive (option_to_list o))) c.deref.ensures.value in
     let body = segments_body (merged_parts c.len-2.result from to (map bytes_of (option_to_list o))) sets in
-    let framed : c.in_ok-frame.frame ≡ frame_bytes body = c.in_ok-frame.ensures ∙ ap (λ fs. frame_bytes (segments_body (merged_parts c.len-2.result from to (map bytes_of (option_to_list o))) fs)) c.deref-2.ensures.value in
+    let framed : c.in_ok-frame.frame.items ≡ frame_bytes body = c.in_ok-frame.ensures ∙ ap (λ fs. frame_bytes (segments_body (merged_parts c.len-2.result from to (map bytes_of (option_to_list o))) fs)) c.deref-2.ensures.value in
     let opened = opened_each index.schema (g.A.Analyzer.analyze index.analyzer) s.docs segments s.segments in
     let made = merge_body index.schema segments (option_to_list o) alive sets from to c.len-2.result within.0 (omega (arith, inside, count)) index.few counted (few_new o) opened (new_opened index.schema o c.in_ok-segment.ensures.opened) index.flagged are in
     let cut = g.A.Analyzer.analyze index.analyzer in
@@ -156,4 +156,4 @@ returns-clause-body g c k x s =
       list = refl;
       whole = made.1;
     } in
-    subst (λ (m : calls.Configuration). (b : List ℕ) × (c.in_ok-frame.frame ≡ frame_bytes b) × Makes (IsSegment m.schema) before after b × IsMergeBody m.schema m.analyze from to x.state.groups before after b) (sym s.made) (body, framed, made.0, says)
+    subst (λ (m : calls.Configuration). (b : List ℕ) × (c.in_ok-frame.frame.items ≡ frame_bytes b) × Makes (IsSegment m.schema) before after b × IsMergeBody m.schema m.analyze from to x.state.groups before after b) (sym s.made) (body, framed, made.0, says)
