@@ -2,8 +2,10 @@
 use Rattle.std.proofs.Common.{[], Bool, List, ap, arith, cond, drop, false, get_or, length, nat_lt, refl, suc, sum, sym, take, true, zero, ◌*◌, ◌+◌, ◌/◌, ◌%◌, ◌<◌, ◌≡◌, ◌≤◌, ◌∙◌, ◌∷◌, ℕ}
 use Rattle.std.proofs.lemmas.Bool.Decides.{nat_tests}
 use Rattle.std.proofs.lemmas.List.{drop-drop}
-use Rattle.segment_postings.proofs.Passing.{stops_here, sum_of_more}
-use Rattle.segment_postings.specs.Reading.{Ascends, HasPassed, StandsIn, below, counts_at, docs_at}
+use Rattle.definitions.specs.Postings.{terminated}
+use Rattle.layouts.specs.SkipEntries.{SkipEntry}
+use Rattle.segment_postings.proofs.Passing.{passes_some, stops_here, sum_of_more}
+use Rattle.segment_postings.specs.Reading.{AreReadable, Ascends, HasPassed, StandsIn, below, counts_at, docs_at}
 use Rattle.skips.specs.SkipBlocks.{Skips, last_doc}
 
 -- ---- how many documents are below one
@@ -33,6 +35,23 @@ below-later early late (d ∷ ds) l = go (nat_lt d early) refl (below-later earl
         let yes : nat_lt d late ≡ true = grind (arith, nat_tests) in
         let whole : below late (d ∷ ds) ≡ 1 + below late ds = ap (λ b. cond b (1 + below late ds) 0) yes in
         omega (arith, whole, ih)
+
+-- of the next one at most one more
+below-next : (low target : ℕ) (docs : List ℕ) → Ascends low docs → below (target + 1) docs ≤ below target docs + 1
+below-next low target [] a = omega arith
+below-next low target (d ∷ ds) a = go (nat_lt d target) refl (nat_lt d (target + 1)) refl (below-next (d + 1) target ds a.2)
+  where
+    none_behind : (next : ℕ) (xs : List ℕ) → Ascends next xs → target + 1 ≤ next → below (target + 1) xs ≡ 0
+    none_behind next [] b late = refl
+    none_behind next (x ∷ xs) b late = (let least = b.0 in let no : nat_lt x (target + 1) ≡ false = grind (arith, nat_tests) in ap (λ b. cond b (1 + below (target + 1) xs) 0) no)
+
+    go : (b : Bool) → nat_lt d target ≡ b → (c : Bool) → nat_lt d (target + 1) ≡ c → below (target + 1) ds ≤ below target ds + 1 → cond c (1 + below (target + 1) ds) 0 ≤ cond b (1 + below target ds) 0 + 1
+    go b early false here ih = omega arith
+    go true early true here ih = omega (arith, ih)
+    go false early true here ih =
+        let at : target ≤ d = grind (arith, nat_tests) in
+        let none = none_behind (d + 1) ds a.2 (omega (arith, at)) in
+        omega (arith, none)
 
 -- ---- blocks that are passed
 
@@ -108,3 +127,25 @@ in_block reads sums target before s after t bytes passed ascends place within la
     let same = ap (below doc) passed.docs in
     let few = stops_here reads sums doc after t bytes passed.stands early in
     omega (arith, own, behind, same, few)
+
+-- the documents up to the last of the full block that was found are those of the blocks up to it
+pub block_ends : (reads sums : Bool) (target before : ℕ) (s : Skips) (after : ℕ) (t : Skips) (bytes : List ℕ) → HasPassed reads sums target before s after t bytes → Ascends 0 (docs_at before s bytes) → target ≤ last_doc t.left → 0 < length t.left → below (last_doc t.left + 1) (docs_at before s bytes) ≡ 128 * (below target (docs_at before s bytes) / 128 + 1)
+block_ends reads sums target before s after t bytes passed ascends late some =
+    let docs = docs_at before s bytes in
+    let last = last_doc t.left in
+    let m = below target docs / 128 in
+    let more = below-later target last docs late in
+    let most = below-later target (last + 1) docs (omega (arith, late)) in
+    let up_to = below-behind (128 * m) last docs (omega (arith, more)) in
+    let behind = below-behind (128 * m) (last + 1) docs (omega (arith, most)) in
+    let same = ap (below last) passed.docs in
+    let same_next = ap (below (last + 1)) passed.docs in
+    let few = stops_here reads sums last after t bytes passed.stands (omega arith) in
+    let small = last_small t.left t.rest (drop t.byte_offset bytes) passed.stands.readable some in
+    let full = passes_some reads sums (last + 1) after t bytes passed.stands (omega arith) (omega (arith, small)) in
+    let next = below-next 0 last docs ascends in
+    omega (arith, up_to, behind, same, same_next, few, full, next)
+  where
+    last_small : (l : List SkipEntry) (n : ℕ) (here : List ℕ) → AreReadable reads sums after l n here → 0 < length l → last_doc l < terminated
+    last_small [] n here readable many = absurd (omega (arith, many))
+    last_small (e ∷ es) n here readable many = readable.0.small

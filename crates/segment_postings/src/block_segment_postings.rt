@@ -301,6 +301,9 @@ impl<'a> BlockSegmentPostings<'a> {
             → target ≤ slice_index (docs_left self.old) place
             → slice_index (docs_left self.old) place ≤ last_doc (skips_reached self.new)
             → place / block_len ≡ below target (docs_left self.old) / block_len }
+        ensures ends { 0 < length (skips_reached self.new)
+            → below (last_doc (skips_reached self.new) + 1) (docs_left self.old)
+            ≡ block_len * (below target (docs_left self.old) / block_len + 1) }
         ensures docs { docs_left self.new ≡ docs_left self.old }
         ensures counts { counts_left self.new ≡ counts_left self.old }
         ensures entries { skips_left self.new ≡ skips_left self.old }

@@ -1,6 +1,6 @@
 //! One term's postings, document by document.
 
-ghost use Rattle.std.specs.Prelude.{[], ◌+◌, ◌/◌, ◌<◌, ◌≡◌, ◌≤◌, IsSome, List, OnOk, drop, if◌then◌else◌, length, min, replicate, slice_index, true, ℕ};
+ghost use Rattle.std.specs.Prelude.{[], ◌*◌, ◌+◌, ◌/◌, ◌<◌, ◌≡◌, ◌≤◌, IsSome, List, OnOk, drop, if◌then◌else◌, length, min, replicate, slice_index, true, ℕ};
 ghost use Rattle.definitions.specs.Blocks.{block_len};
 ghost use Rattle.definitions.specs.Postings.{terminated};
 ghost use Rattle.docsets.specs.Entries.{AreSingle, first, first_positions, most_positions, single};
@@ -156,6 +156,9 @@ impl<'a> SegmentPostings<'a> {
             → slice_index (docs_left (cursor_blocks self.old)) place
             ≤ last_doc (skips_reached (cursor_blocks self.new))
             → place / block_len ≡ below target (docs_left (cursor_blocks self.old)) / block_len }
+        ensures ends { 0 < length (skips_reached (cursor_blocks self.new))
+            → below (last_doc (skips_reached (cursor_blocks self.new)) + 1) (docs_left (cursor_blocks self.old))
+            ≡ block_len * (below target (docs_left (cursor_blocks self.old)) / block_len + 1) }
     {
         self.blocks.seek_block(target);
     }
