@@ -368,9 +368,9 @@ impl<'a> BlockSegmentPostings<'a> {
             × (counts_are_read self.new ≡ counts_are_read self.old)
             × (positions_are_read self.new ≡ positions_are_read self.old) }
     {
-        self.ahead = None;
         self.before = self.skips.last_doc_in_block();
         self.skips.advance();
+        self.ahead = None;
         self.len = decode_block(
             self.bytes,
             &self.skips,
