@@ -140,8 +140,8 @@ impl<'a> SegmentPostings<'a> {
         self.blocks.decoded_blocks()
     }
 
-    /// Reaches the first block, from the current one on, that may contain `target`, without decoding it. A lesser target
-    /// than that of the call before goes back.
+    /// Reaches the first block, from the current one on, that may contain `target`, without decoding it. A lesser
+    /// target than that of the call before goes back.
     #[inline]
     pub fn seek_block(&mut self, target: DocId)
         requires { target ≤ terminated }
