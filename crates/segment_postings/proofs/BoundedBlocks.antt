@@ -1,6 +1,5 @@
 -- Bounds of blocks.
 use Rattle.std.proofs.Common.{[], Bool, List, ap, arith, drop, false, get_or, if◌then◌else◌, length, length-drop, length-take, map, nat_lt, replicate, subst, suc, sym, take, true, zero, ◌*◌, ◌+◌, ◌-◌, ◌/◌, ◌<◌, ◌^◌, ◌≡◌, ◌≤◌, ◌∙◌, ◌∷◌, ℕ}
-use Rattle.std.proofs.lemmas.Bool.Decides.{nat_tests}
 use Rattle.std.proofs.lemmas.List.{drop-drop, get_or-drop, get_or-take}
 use Rattle.std.specs.List.{AllByRecursion}
 use Rattle.definitions.specs.Blocks.{least_of}
@@ -8,7 +7,7 @@ use Rattle.definitions.specs.Schema.{IndexRecordOption}
 use Rattle.definitions.specs.Scoring.{greatest_of}
 use Rattle.layouts.specs.SkipEntries.{SkipEntry, count_code}
 use Rattle.layouts.specs.TermPostings.{id_of, next_after, skip_entries}
-use Rattle.segment_postings.specs.BoundedBlocks.{AreBounded, IsBounded}
+use Rattle.segment_postings.specs.BoundedBlocks.{AreBounded}
 
 -- ---- as they are written
 

@@ -1,5 +1,5 @@
 -- Blocks that are found one after another.
-use Rattle.std.proofs.Common.{[], Bool, List, ap, arith, cond, drop, false, get_or, length, nat_lt, refl, suc, sum, sym, take, true, zero, ◌*◌, ◌+◌, ◌/◌, ◌%◌, ◌<◌, ◌≡◌, ◌≤◌, ◌∙◌, ◌∷◌, ℕ}
+use Rattle.std.proofs.Common.{[], Bool, List, ap, arith, cond, drop, false, get_or, length, nat_lt, refl, suc, sum, sym, take, true, zero, ◌*◌, ◌+◌, ◌/◌, ◌<◌, ◌≡◌, ◌≤◌, ◌∙◌, ◌∷◌, ℕ}
 use Rattle.std.proofs.lemmas.Bool.Decides.{nat_tests}
 use Rattle.std.proofs.lemmas.List.{drop-drop}
 use Rattle.definitions.specs.Postings.{terminated}

@@ -5,7 +5,7 @@ use Rattle.std.proofs.lemmas.List.{length-map, take-append-drop}
 use Rattle.std.proofs.lemmas.List.Sums.{sum_by-cons}
 use Rattle.std.specs.List.{AllByRecursion}
 use Rattle.definitions.proofs.Lists.{no_numbers}
-use Rattle.segment_postings.specs.Placed.{LastPositionsFit, HasNumbers, term_of}
+use Rattle.segment_postings.specs.Placed.{HasNumbers, LastPositionsFit, term_of}
 use Rattle.segment_postings.specs.Terms.{HasTerm}
 use Rattle.definitions.specs.Postings.{Posting}
 use Rattle.definitions.specs.Schema.{IndexRecordOption, basic, has_freq, has_positions, with_freqs, with_freqs_and_positions}

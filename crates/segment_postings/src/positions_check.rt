@@ -1,7 +1,7 @@
 //! The check of a term's positions.
 
 ghost use Rattle.std.specs.Prelude.{IfErr, IfNone, IfOk, IfSome, IsTrue, List, None, OnOk, ℕ, ◌+◌, ◌<◌, ◌^◌, ◌≡◌, ◌≤◌, ◌↔◌, drop, length, sum, take, true};
-ghost use Rattle.segment_postings.specs.Placed.{LastPositionsFit, HasNumbers};
+ghost use Rattle.segment_postings.specs.Placed.{HasNumbers, LastPositionsFit};
 ghost use Rattle.definitions.specs.Blocks.{block_len};
 ghost use Rattle.definitions.specs.declared.fault.Fault.TheVariants as faults;
 ghost use Rattle.segment_postings.specs.Cursors.{counts_left, docs_left};

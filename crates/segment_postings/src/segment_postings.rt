@@ -140,8 +140,8 @@ impl<'a> SegmentPostings<'a> {
         self.blocks.decoded_blocks()
     }
 
-    /// Reaches the first block, from the current one on, that may contain `target`, without decoding it. A lesser target
-    /// than that of the call before goes back.
+    /// Reaches the first block, from the current one on, that may contain `target`, without decoding it. A lesser
+    /// target than that of the call before goes back.
     #[inline]
     pub fn seek_block(&mut self, target: DocId)
         requires { target ≤ terminated }
@@ -163,8 +163,8 @@ impl<'a> SegmentPostings<'a> {
         self.blocks.seek_block(target);
     }
 
-    /// Returns the bound of the block reached, by `seek_block` or by a later move to another block: its least length id
-    /// and its greatest count. None if the entry stores no bound, and in the rest.
+    /// Returns the bound of the block reached, which is that of the last `seek_block` until a seek or a move to another
+    /// block: its least length id and its greatest count. None if the entry stores no bound, and in the rest.
     #[inline]
     pub fn block_bound(&self) -> Option<(u8, u8)>
         ensures { result ≡ first_bound (skips_reached (cursor_blocks self.now)) }

@@ -1,4 +1,4 @@
-use Rattle.std.proofs.Common.{List, ap, arith, subst, sum, sym, ◌+◌, ◌∙◌, ◌≡◌, ℕ}
+use Rattle.std.proofs.Common.{List, ap, arith, subst, sum, sym, ◌∙◌, ◌≡◌, ℕ}
 use Rattle.std.proofs.Math.Logic.{∥∥₁_map}
 use Rattle.docsets.specs.Entries.{AreSingle, Entry}
 use Rattle.segment_postings.proofs.BoundedCounts.{still_told}
