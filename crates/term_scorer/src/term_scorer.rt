@@ -98,6 +98,10 @@ impl<'a> TermScorer<'a> {
             ≡ drop (below target (docs_left (cursor_blocks (cursor_of self.old))) / block_len)
             (skips_left (cursor_blocks (cursor_of self.old))) }
         ensures ahead { target ≤ last_doc (skips_reached (cursor_blocks (cursor_of self.new))) }
+        ensures ends { 0 < length (skips_reached (cursor_blocks (cursor_of self.new)))
+            → below (last_doc (skips_reached (cursor_blocks (cursor_of self.new))) + 1)
+            (docs_left (cursor_blocks (cursor_of self.old)))
+            ≡ block_len * (below target (docs_left (cursor_blocks (cursor_of self.old))) / block_len + 1) }
         ensures covers { target < terminated
             → Covers target (until_of (skips_reached (cursor_blocks (cursor_of self.new))))
             (block_score (similarity_of self.new) (skips_reached (cursor_blocks (cursor_of self.new))))
