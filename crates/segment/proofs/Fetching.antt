@@ -100,6 +100,7 @@ opened_again schema s store same o = record {
   lengths_are = o.lengths_are;
   norms_are = o.norms_are;
   terms_are = o.terms_are;
+  keyed = o.keyed;
   reads = o.reads;
   blocks_are = subst AreBlocks (sym same) o.blocks_are;
   store_is = o.store_is ∙ ap store_bytes (sym same);

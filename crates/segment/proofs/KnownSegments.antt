@@ -76,7 +76,7 @@ pub fields_known : (schema : Schema) (n : ℕ) (s : Sections) (bytes : List ℕ)
 fields_known schema n s bytes r written are same makes known =
     let few = written.few in
     let kept = kept_of schema n s r (omega (arith, few)) (postings_are_bytes n s bytes written are) same makes known in
-    fields_found schema n (norms_of schema n s) (terms_of s) kept (omega (arith, few)) (∥∥₁_map known (λ parts. (parts.fields, subst (λ norms. AreSections schema n norms parts.fields s.terms s.postings s.positions) (sym (norms_lent n (length_fields schema) s.norms parts.norms parts.norms_are)) parts.terms_are)))
+    fields_found schema n (norms_of schema n s) (terms_of s) kept (omega (arith, few)) (∥∥₁_map known (λ parts. (parts.fields, record { are = subst (λ norms. AreSections schema n norms parts.fields s.terms s.postings s.positions) (sym (norms_lent n (length_fields schema) s.norms parts.norms parts.norms_are)) parts.terms_are; keyed = parts.keyed })))
 
 -- ---- documents
 
@@ -94,6 +94,7 @@ segment_known schema analyze docs bytes is =
       blocks = store.0;
       written = is.written;
       terms_are = is.terms_are;
+      keyed = is.keyed;
       norms_are = is.norms_are;
       store_is = store.3;
       blocks_are = store.1;

@@ -6,6 +6,7 @@ use Rattle.definitions.specs.Schema.{Schema}
 use Rattle.layouts.specs.FieldNorms.{IsNorms}
 use Rattle.layouts.specs.InvertedIndexes.{AreSections, IndexedField}
 use Rattle.layouts.specs.Stores.{AreBlocks, Block, store_bytes}
+use Rattle.segment_definitions.specs.Keys.{AreKeyed}
 use Rattle.segment_definitions.specs.Segments.{AreWritten, IsSegment, Sections, section_bytes}
 use Rattle.segment.proofs.SectionsBack.{all_short, five, listed, number_found, sections_found, sections_short}
 
@@ -25,6 +26,7 @@ pub record AreParts (schema : Schema) (num_docs : ℕ) (s : Sections) : Type 0 w
   pub blocks : List Block
   pub norms_are : IsNorms (length_fields schema) num_docs s.norms norms
   pub terms_are : AreSections schema num_docs norms fields s.terms s.postings s.positions
+  pub keyed : AreKeyed schema fields
   pub store_is : s.store ≡ store_bytes blocks
   pub blocks_are : AreBlocks blocks
   pub counted : sum_by (λ (b : Block). b.count) blocks ≡ num_docs
@@ -32,7 +34,7 @@ pub record AreParts (schema : Schema) (num_docs : ℕ) (s : Sections) : Type 0 w
 pub parts_told : (schema : Schema) (m n : ℕ) (s : Sections) (bytes : List ℕ) → AreWritten m s bytes → IsSegment schema n bytes → AreParts schema m s
 parts_told schema m n s bytes a is =
     let one = one_segment m n s is.sections bytes a is.written in
-    let theirs : AreParts schema n is.sections = record { norms = is.norms; fields = is.fields; blocks = is.blocks; norms_are = is.norms_are; terms_are = is.terms_are; store_is = is.store_is; blocks_are = is.blocks_are; counted = is.counted } in
+    let theirs : AreParts schema n is.sections = record { norms = is.norms; fields = is.fields; blocks = is.blocks; norms_are = is.norms_are; terms_are = is.terms_are; keyed = is.keyed; store_is = is.store_is; blocks_are = is.blocks_are; counted = is.counted } in
     subst (λ (t : Sections). AreParts schema m t) (sym one.1) (subst (λ k. AreParts schema k is.sections) (sym one.0) theirs)
 
 -- the section of lengths by other names of the fields and of the bytes

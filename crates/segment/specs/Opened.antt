@@ -9,6 +9,7 @@ use Rattle.segment_reader.specs.Readers.{IsReader, Reader}
 use Rattle.layouts.specs.FieldNorms.{IsNorms}
 use Rattle.layouts.specs.InvertedIndexes.{AreSections, IndexedField}
 use Rattle.layouts.specs.Stores.{AreBlocks, Block, store_bytes}
+use Rattle.segment_definitions.specs.Keys.{AreKeyed}
 use Rattle.segment_definitions.specs.Segments.{AreWritten, IsSegmentOf, Sections}
 use Rattle.segment.specs.declared.segment.Segment.{Segment}
 
@@ -42,6 +43,7 @@ pub record IsOpened (schema : Schema) (s : Segment) : Type 0 where
   pub lengths_are : s.norms ≡ sections.norms
   pub norms_are : IsNorms (length_fields schema) s.num_docs sections.norms norms
   pub terms_are : AreSections schema s.num_docs norms fields sections.terms sections.postings sections.positions
+  pub keyed : AreKeyed schema fields
   pub reads : (others : List IndexedField) → AreSections schema s.num_docs norms others sections.terms sections.postings sections.positions → IsReader schema s.num_docs norms others s.inverted_index
   pub blocks_are : AreBlocks s.store.blocks
   pub store_is : sections.store ≡ store_bytes s.store.blocks

@@ -10,7 +10,7 @@ if_ok (Rattle.std.proofs.Common.Ok n) to p = to n p
 if_ok (Rattle.std.proofs.Common.Err e) to p = p
 
 pub returns-clause-ok : goal.returns-clause-ok
-returns-clause-ok c = if_ok c.check_term.result (λ total found. one_checked (bytes_of c.args.sections) c.args.start c.args.kind (entry_of c.entry_at-entry.result) _ c.args.num_docs _ _ _ found.0 total c.entry_at-entry.ensures c.option_of.ensures refl refl found.1 found.2 found.3 (sym c.is_key.ensures ∙ c.if-is_key.true)) c.check_term.ensures.ok
+returns-clause-ok c = if_ok c.check_term.result (λ total found. one_checked (bytes_of c.args.sections) c.args.start c.args.kind (entry_of c.entry_at-entry.result) _ c.args.num_docs _ _ _ found.0 total c.entry_at-entry.ensures c.option_of.ensures refl refl found.1 found.2 found.3 (sym c.is_key.ensures ∙ c.if-not-is_key.false)) c.check_term.ensures.ok
 
 if_err : {P Q : Fault → Type 0} (r : Result ℕ Fault) → ((e : Fault) → P e → Q e) → IfErr r P → IfErr r Q
 if_err (Rattle.std.proofs.Common.Ok n) to p = p

@@ -48,7 +48,7 @@ returns-in_err-inverted_index-clause-err c =
       λ n is.
           let told = parts_told schema N.num_docs n (sections_in N) c.args.bytes written is in
           let over = norms_over schema N.num_docs c.deref.result.now N.norms c.as_slice-2.result.now told.norms (c.deref.ensures.value ∙ c.in_ok-length_fields.ensures.fields) c.as_slice-2.ensures told.norms_are in
-          e.1 told.fields (subst (λ (norms : List (ℕ × List ℕ)). AreSections schema N.num_docs norms told.fields N.terms N.postings N.positions) (sym (c.new-readers.ensures told.norms over)) told.terms_are),
+          e.1 told.fields (subst (λ (norms : List (ℕ × List ℕ)). AreSections schema N.num_docs norms told.fields N.terms N.postings N.positions) (sym (c.new-readers.ensures told.norms over)) told.terms_are) told.keyed,
     ))
 
 pub open_store-requires : goal.open_store-requires
@@ -89,6 +89,7 @@ returns-clause-ok c =
       lengths_are = refl;
       norms_are = subst (λ (bs : List ℕ). IsNorms (length_fields schema) N.num_docs bs read.0) c.as_slice.ensures read.1;
       terms_are = subst (λ s. AreSections schema N.num_docs read.0 exact.0 s.terms s.postings s.positions) c.in_ok-inverted_index.ensures.sections own.sections;
+      keyed = exact.2;
       reads = λ others are. subst (λ (norms : List (ℕ × List ℕ)). IsReader schema N.num_docs norms others c.in_ok-inverted_index.inverted_index) readers (c.in_ok-inverted_index.ensures.ok others (subst (λ (norms : List (ℕ × List ℕ)). AreSections schema N.num_docs norms others N.terms N.postings N.positions) (sym readers) are));
       blocks_are = c.in_ok-store.ensures.blocks.0;
       store_is = c.in_ok-store.ensures.blocks.1;
