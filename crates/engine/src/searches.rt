@@ -9,7 +9,7 @@ ghost use Rattle.definitions.specs.State.{committed};
 ghost use Rattle.definitions.specs.declared.fault.Fault.TheVariants as faults;
 ghost use Rattle.query_trees.specs.Queries.{query_of};
 ghost use Rattle.engine.specs.Indexes.{IndexStands, KeepsFile, KeepsMaking, schema_of, settings_of};
-ghost use Rattle.segment_search.specs.Hits.{hit_of, scored};
+ghost use Rattle.index_state.specs.Hits.{hit_of, scored};
 
 use crate::index::Index;
 use common::{Analyzer, Device};

@@ -1,7 +1,6 @@
 -- The greatest id is the one below the first that is too long.
 use Rattle.std.proofs.Common.{◌+◌, ◌<◌, ◌⊎◌, ◌≡◌, ◌≤◌, arith, get_or, inl, inr, nat_eq, le_antisymm, le_refl, le_trans, not-le_of_lt, refl, true, ℕ}
 use Rattle.std.proofs.lemmas.Bool.{agree_below_at, cases_lt}
-use Rattle.std.proofs.lemmas.Bool.Decides.{nat_tests}
 use Rattle.definitions.proofs.Lists.{nat_same as same_number}
 use Rattle.definitions.specs.Lengths.{fieldnorm_to_id, greatest_id, id_to_fieldnorm}
 use Rattle.fieldnorms.specs.declared.code.TheConstants.{FIELD_NORMS_TABLE}

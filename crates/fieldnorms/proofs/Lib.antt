@@ -1,3 +1,4 @@
+pub mod ConstantIds
 pub mod LengthsOfIds
 pub mod Ascending
 pub mod Recording

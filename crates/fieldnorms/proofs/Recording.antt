@@ -1,5 +1,5 @@
 -- Fields and their ids side by side, as lengths are recorded and padded.
-use Rattle.std.proofs.Common.{[], List, ap, append-nil, ap₂, arith, cond, false, get_or, length, map, nat_eq, refl, replicate, set, suc, sym, true, zero, zip, ◌+◌, ◌++◌, ◌-◌, ◌<◌, ◌≡◌, ◌≢◌, ◌≤◌, ◌∙◌, ◌∷◌, ℕ, length-append, add-one, take, Result, Ok, Err, OnOk, OnErr}
+use Rattle.std.proofs.Common.{[], List, ap, append-nil, ap₂, arith, cond, false, get_or, length, map, nat_eq, refl, replicate, set, suc, sym, true, zero, zip, ◌+◌, ◌++◌, ◌-◌, ◌<◌, ◌≡◌, ◌≢◌, ◌≤◌, ◌∙◌, ◌∷◌, ℕ, length-append, add-one, take, Result, Ok, Err, OnErr}
 use Rattle.std.proofs.lemmas.Bool.Decides.{nat_tests}
 use Rattle.std.proofs.lemmas.List.{flat_map_more, get_or-map, length-map, length-replicate, map-append, map-set, replicate_more}
 use Rattle.std.proofs.Math.Seq.{map-set_same}

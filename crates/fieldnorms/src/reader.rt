@@ -1,6 +1,6 @@
 //! A reader of the lengths of a field.
 
-ghost use Rattle.std.specs.Prelude.{length, replicate, slice_index, ◌<◌, ◌≡◌, ◌≢◌, ◌^◌, IfErr, IfOk, None};
+ghost use Rattle.std.specs.Prelude.{length, replicate, slice_index, ◌<◌, ◌≡◌, ◌≢◌, ◌^◌, IfErr, IfOk, None, ℕ};
 ghost use Rattle.definitions.specs.Lengths as lengths;
 ghost use Rattle.definitions.specs.declared.fault.Fault.TheVariants as faults;
 
@@ -74,6 +74,14 @@ impl<'a> FieldNormReader<'a> {
             Norms::Constant { num_docs, .. } => num_docs,
             Norms::Ids(ids) => ids.len() as u32,
         }
+    }
+
+    /// States that each length id is one of 256. A caller's proof can't see it otherwise.
+    #[inline]
+    pub fn ids_are_below_256(&self)
+        ensures { (doc : ℕ) → slice_index self.now doc < 256 }
+    {
+        let _ = &self.norms;
     }
 
     /// Returns the length id of `doc`.

@@ -1,6 +1,7 @@
 -- Words of the contracts.
 pub mod Deletions
 pub mod Flags
+pub mod Hits
 pub mod Given
 pub mod Bodies
 pub mod Limits

@@ -6,7 +6,7 @@ ghost use Rattle.definitions.specs.Analyzers.{Analyzer};
 ghost use Rattle.definitions.specs.Recorded.{holds};
 ghost use Rattle.definitions.specs.Schema.{Schema};
 ghost use Rattle.definitions.specs.Values.{Document};
-ghost use Rattle.segment.specs.Opened.{IsOpened, StandsFor, num_docs_of};
+ghost use Rattle.segment.specs.Opened.{StandsFor, num_docs_of};
 ghost use Rattle.index_state.specs.Deletions.{IsSmall, numbered, term_of};
 ghost use Rattle.index_state.specs.Flags.{AreFlagged, flagged_each};
 ghost use Rattle.segment_definitions.specs.Rows.{flagged, left_rows};
@@ -25,7 +25,6 @@ pub(crate) fn next_sets(
     alive: &[AliveBitSet],
     deletions: &[Deletion],
 ) -> Result<Vec<AliveBitSet>, AllocError>
-    requires opened { ∥ ((schema : Schema) × AllByRecursion (IsOpened schema) segments.now) ∥₁ }
     requires flagged { AreFlagged segments.now alive.now }
     ensures flagged { IfOk result (λ sets. AreFlagged segments.now sets.items) }
     ensures each { IfOk result (λ sets. length sets.items ≡ length segments.now) }
@@ -51,7 +50,6 @@ fn push_left(
     deletions: &[Deletion],
     sets: &mut Vec<AliveBitSet>,
 ) -> Result<(), AllocError>
-    requires opened { ∥ ((schema : Schema) × AllByRecursion (IsOpened schema) segments.now) ∥₁ }
     requires flagged { AreFlagged segments.now alive.now }
     requires within { length alive.now ≤ length segments.now }
     requires none { sets.old.items ≡ [] }
@@ -77,7 +75,6 @@ fn push_new(
     deletions: &[Deletion],
     sets: &mut Vec<AliveBitSet>,
 ) -> Result<(), AllocError>
-    requires opened { ∥ ((schema : Schema) × AllByRecursion (IsOpened schema) segments.now) ∥₁ }
     requires flagged { AreFlagged segments.now sets.old.items }
     requires each { length sets.old.items ≡ num_committed }
     ensures flagged { OnOk result (AreFlagged segments.now sets.new.items) }
@@ -104,7 +101,6 @@ fn left_set(
     deletions: &[Deletion],
 ) -> Result<AliveBitSet, AllocError>
     requires flagged { length alive.now ≡ num_docs_of segment.now }
-    requires opened { ∥ ((schema : Schema) × IsOpened schema segment.now) ∥₁ }
     ensures flagged { IfOk result (λ set. length set ≡ num_docs_of segment.now) }
     ensures rows { (schema : Schema) (analyze : Analyzer) (docs : List Document)
         → StandsFor schema analyze docs segment.now
@@ -123,7 +119,6 @@ fn new_set(
     number: usize,
     deletions: &[Deletion],
 ) -> Result<AliveBitSet, AllocError>
-    requires opened { ∥ ((schema : Schema) × IsOpened schema segment.now) ∥₁ }
     ensures flagged { IfOk result (λ set. length set ≡ num_docs_of segment.now) }
     ensures rows { (schema : Schema) (analyze : Analyzer) (n : ℕ) (docs : List Document)
         → StandsFor schema analyze docs segment.now → length docs ≤ n → AllByRecursion (IsSmall n) deletions.now

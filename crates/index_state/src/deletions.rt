@@ -8,7 +8,7 @@ ghost use Rattle.definitions.specs.Calls.{delete_fault};
 ghost use Rattle.definitions.specs.Recorded.{holds};
 ghost use Rattle.definitions.specs.Schema.{Schema};
 ghost use Rattle.definitions.specs.Values.{Document};
-ghost use Rattle.segment.specs.Opened.{IsOpened, StandsFor, num_docs_of};
+ghost use Rattle.segment.specs.Opened.{StandsFor, num_docs_of};
 ghost use Rattle.index_state.specs.Deletions.{IsSmall, numbered, term_of};
 ghost use Rattle.segment_definitions.specs.Rows.{cut_flags, flagged, left_rows};
 ghost use Rattle.segment_definitions.specs.Waiting.{struck_from};
@@ -45,7 +45,6 @@ pub(crate) fn check_deletion(schema: &Schema, term: &Term) -> Result<(), Fault>
 /// Applies every deletion to the alive set of a committed segment.
 pub(crate) fn delete_all(segment: &Segment, deletions: &[Deletion], alive: &mut AliveBitSet)
     requires flagged { length alive.old ≡ num_docs_of segment.now }
-    requires opened { ∥ ((schema : Schema) × IsOpened schema segment.now) ∥₁ }
     ensures long { length alive.new ≡ length alive.old }
     ensures dead { (schema : Schema) (analyze : Analyzer) (docs : List Document)
         → StandsFor schema analyze docs segment.now
@@ -66,7 +65,6 @@ pub(crate) fn delete_pending(
     alive: &mut AliveBitSet,
 ) -> Result<(), AllocError>
     requires flagged { length alive.old ≡ num_docs_of segment.now }
-    requires opened { ∥ ((schema : Schema) × IsOpened schema segment.now) ∥₁ }
     ensures long { length alive.new ≡ length alive.old }
     ensures dead { (schema : Schema) (analyze : Analyzer) (n : ℕ) (docs : List Document)
         → StandsFor schema analyze docs segment.now → length docs ≤ n → AllByRecursion (IsSmall n) deletions.now
@@ -88,7 +86,6 @@ fn delete_one(
     alive: &mut AliveBitSet,
 ) -> Result<(), AllocError>
     requires flagged { length alive.old ≡ num_docs_of segment.now }
-    requires opened { ∥ ((schema : Schema) × IsOpened schema segment.now) ∥₁ }
     ensures long { length alive.new ≡ length alive.old }
     ensures dead { (schema : Schema) (analyze : Analyzer) (n : ℕ) (docs : List Document)
         → StandsFor schema analyze docs segment.now → length docs ≤ n → IsSmall n deletion.now
@@ -114,7 +111,6 @@ fn delete_before(
     alive: &mut AliveBitSet,
 ) -> Result<(), AllocError>
     requires flagged { length alive.old ≡ num_docs_of segment.now }
-    requires opened { ∥ ((schema : Schema) × IsOpened schema segment.now) ∥₁ }
     ensures long { length alive.new ≡ length alive.old }
     ensures dead { (schema : Schema) (analyze : Analyzer) (i : ℕ) (ds : List Document)
         → StandsFor schema analyze ds segment.now

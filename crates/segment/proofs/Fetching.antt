@@ -1,5 +1,5 @@
 -- What is read of a document in a segment that stands for documents.
-use Rattle.std.proofs.Common.{[], ◌<◌, ◌^◌, ◌∷◌, ◌≡◌, ◌∙◌, List, None, Option, Some, ap, arith, length, option_map, refl, slice_get, slice_index_or, subst, suc, sum_by, sym, zero, ℕ}
+use Rattle.std.proofs.Common.{[], ◌<◌, ◌^◌, ◌∷◌, ◌≡◌, ◌∙◌, List, None, Option, Some, ap, arith, length, option_map, refl, slice_get, slice_index_or, subst, suc, sym, zero, ℕ}
 use Rattle.std.specs.List.{AllByRecursion}
 use Rattle.std.proofs.lemmas.List.{length-map}
 use Rattle.definitions.specs.Analyzers.{Analyzer}
@@ -7,18 +7,19 @@ use Rattle.definitions.specs.Schema.{Schema}
 use Rattle.definitions.specs.Stored.{by_field, stored_pairs, stored_values}
 use Rattle.definitions.specs.Values.{Document}
 use Rattle.definitions.specs.declared.fault.Fault.{Fault}
-use Rattle.layouts.specs.Stores.{AreBlocks, Block, Hold, IsStore, store_bytes}
+use Rattle.layouts.specs.Stores.{Block, Hold, IsStore}
 use Rattle.segment.proofs.Opening.{one_segment, store_short}
 use Rattle.segment.proofs.StoredBack.{stored_back}
-use Rattle.segment.specs.Opened.{IsOpened, StandsFor}
+use Rattle.segment.specs.Opened.{IsOpened, StandsFor, bytes_of}
+use Rattle.segment.specs.OpenedParts.{AreOpenedParts}
 use Rattle.segment.specs.SlotDocuments.{IsNoDocument, IsSlotOf}
 use Rattle.segment.specs.declared.segment.Segment.{Segment}
-use Rattle.segment_definitions.specs.Segments.{IsTaken, Sections}
+use Rattle.segment_definitions.specs.Segments.{IsSegmentOf, IsTaken, Sections}
 use Rattle.segment_definitions.specs.Slots.{slot, slots}
 use Rattle.store.proofs.DocumentSlots.{slot_below}
 use Rattle.store.proofs.Opened.{holds_same}
 use Rattle.store.proofs.Readers.{slot_is}
-use Rattle.store.specs.Slots.{HasSlot, IsPast, Reader}
+use Rattle.store.specs.Slots.{HasSlot, IsPast}
 
 -- ---- slots of documents that an add takes
 
@@ -90,22 +91,8 @@ module _ (schema : Schema) (analyze : Analyzer) (docs : List Document) (s : Segm
 
 -- ---- after a look-up in the cache
 
-pub opened_again : (schema : Schema) (s : Segment) (store : Reader) → store.blocks ≡ s.store.blocks → IsOpened schema s → IsOpened schema (record s { store = store })
-opened_again schema s store same o = record {
-  sections = o.sections;
-  norms = o.norms;
-  fields = o.fields;
-  written = o.written;
-  fields_are = o.fields_are;
-  lengths_are = o.lengths_are;
-  norms_are = o.norms_are;
-  terms_are = o.terms_are;
-  keyed = o.keyed;
-  reads = o.reads;
-  blocks_are = subst AreBlocks (sym same) o.blocks_are;
-  store_is = o.store_is ∙ ap store_bytes (sym same);
-  counted = ap (sum_by (λ (b : Block). b.count)) same ∙ o.counted;
-}
+pub opened_again : (schema : Schema) (s : Segment) (blocks : List Block) → blocks ≡ s.store.blocks → IsOpened schema s → AreOpenedParts schema s.bytes s.num_docs s.inverted_index s.length_fields.items s.norms blocks
+opened_again schema s blocks same o = subst (AreOpenedParts schema s.bytes s.num_docs s.inverted_index s.length_fields.items s.norms) (sym same) o
 
-pub stands_again : (schema : Schema) (analyze : Analyzer) (docs : List Document) (s : Segment) (store : Reader) → store.blocks ≡ s.store.blocks → StandsFor schema analyze docs s → StandsFor schema analyze docs (record s { store = store })
-stands_again schema analyze docs s store same stands = record { opened = opened_again schema s store same stands.opened; bytes_are = stands.bytes_are }
+pub stands_again : (schema : Schema) (analyze : Analyzer) (docs : List Document) (s t : Segment) → bytes_of t ≡ bytes_of s → IsOpened schema t → StandsFor schema analyze docs s → StandsFor schema analyze docs t
+stands_again schema analyze docs s t same o stands = record { opened = o; bytes_are = subst (IsSegmentOf schema analyze docs) (sym same) stands.bytes_are }

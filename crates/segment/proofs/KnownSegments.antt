@@ -1,5 +1,5 @@
 -- What is told of the sections of bytes that are known to be a segment.
-use Rattle.std.proofs.Common.{[], List, arith, flat_map, length, subst, sum_by, sym, ◌++◌, ◌<◌, ◌≡◌, ◌≤◌, ◌∙◌, ◌∷◌, ◌^◌, ℕ}
+use Rattle.std.proofs.Common.{[], List, arith, flat_map, length, refl, subst, sum_by, sym, ◌++◌, ◌<◌, ◌≡◌, ◌≤◌, ◌∙◌, ◌∷◌, ◌^◌, ℕ}
 use Rattle.std.proofs.Math.Logic.{∥∥₁_elim, ∥∥₁_map}
 use Rattle.std.proofs.Props.{props}
 use Rattle.std.proofs.lemmas.List.{length-map}
@@ -21,14 +21,11 @@ use Rattle.layouts.specs.Stores.{AreBlocks, Block, store_bytes}
 use Rattle.segment_definitions.specs.Segments.{AreWritten, IsSegment, IsSegmentOf, Sections, section_bytes}
 use Rattle.segment_definitions.specs.Slots.{slot, slots}
 use Rattle.segment.proofs.OneReading.{AreKept, HasFields, bytes_before, fields_found, norms_found}
-use Rattle.segment.proofs.Opening.{AreParts, parts_told}
+use Rattle.segment.proofs.Opening.{AreParts, parts_told, terms_of}
 use Rattle.segment.proofs.SectionsBack.{bytes_listed, listed}
+use Rattle.segment.specs.OpenedParts.{AreOpenedParts}
 use Rattle.store.proofs.Opened.{count_is}
 use Rattle.store.proofs.Readers.{hold_length}
-
--- the sections of terms, of postings and of positions
-abbrev pub terms_of : Sections → reading.Sections
-terms_of s = record { terms = s.terms; postings = s.postings; positions = s.positions }
 
 -- the length ids of its section
 abbrev pub norms_of : Schema → ℕ → Sections → List (ℕ × List ℕ)
@@ -77,6 +74,28 @@ fields_known schema n s bytes r written are same makes known =
     let few = written.few in
     let kept = kept_of schema n s r (omega (arith, few)) (postings_are_bytes n s bytes written are) same makes known in
     fields_found schema n (norms_of schema n s) (terms_of s) kept (omega (arith, few)) (∥∥₁_map known (λ parts. (parts.fields, record { are = subst (λ norms. AreSections schema n norms parts.fields s.terms s.postings s.positions) (sym (norms_lent n (length_fields schema) s.norms parts.norms parts.norms_are)) parts.terms_are; keyed = parts.keyed })))
+
+-- the parts that are made of its sections are those of an opened segment
+pub opened_known : (schema : Schema) (n : ℕ) (s : Sections) (bytes : List ℕ) (r : Reader) (kept : List ℕ) (blocks : List Block) → AreWritten n s bytes → AreBytes bytes → r.sections ≡ terms_of s → Makes schema r (terms_of s) → ∥ AreParts schema n s ∥₁ → kept ≡ length_fields schema
+    → AreBlocks blocks × (s.store ≡ store_bytes blocks) → sum_by (λ (b : Block). b.count) blocks ≡ n → AreOpenedParts schema bytes n r kept s.norms blocks
+opened_known schema n s bytes r kept blocks written are same makes known named stored counted =
+    let few = written.few in
+    let found = fields_known schema n s bytes r written are same makes known in
+    record {
+      sections = s;
+      norms = norms_of schema n s;
+      fields = found.0;
+      written = written;
+      fields_are = named;
+      lengths_are = refl;
+      norms_are = lengths_known schema n s known;
+      terms_are = found.1.are;
+      keyed = found.1.keyed;
+      reads = λ others is. makes n (norms_of schema n s) others (omega (arith, few)) is;
+      blocks_are = stored.0;
+      store_is = stored.1;
+      counted = counted;
+    }
 
 -- ---- documents
 

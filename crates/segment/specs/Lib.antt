@@ -2,6 +2,7 @@
 pub mod Written
 pub mod Writers
 pub mod Sections
+pub mod OpenedParts
 pub mod Opened
 pub mod Killed
 pub mod SlotDocuments

@@ -1,16 +1,13 @@
 -- What an opened segment stands for.
-use Rattle.std.specs.Prelude.{◌≡◌, List, sum_by, ℕ}
+use Rattle.std.specs.Prelude.{List, ℕ}
 use Rattle.definitions.specs.Analyzers.{Analyzer}
-use Rattle.definitions.specs.KeptLengths.{length_fields}
 use Rattle.definitions.specs.Schema.{Schema}
 use Rattle.definitions.specs.Values.{Document}
 use Rattle.fieldnorms.specs.Readers.{norms_in}
-use Rattle.segment_reader.specs.Readers.{IsReader, Reader}
-use Rattle.layouts.specs.FieldNorms.{IsNorms}
-use Rattle.layouts.specs.InvertedIndexes.{AreSections, IndexedField}
-use Rattle.layouts.specs.Stores.{AreBlocks, Block, store_bytes}
-use Rattle.segment_definitions.specs.Keys.{AreKeyed}
-use Rattle.segment_definitions.specs.Segments.{AreWritten, IsSegmentOf, Sections}
+use Rattle.segment_reader.specs.Readers.{Reader}
+use Rattle.layouts.specs.Stores.{Block}
+use Rattle.segment_definitions.specs.Segments.{IsSegmentOf}
+use Rattle.segment.specs.OpenedParts.{AreOpenedParts}
 use Rattle.segment.specs.declared.segment.Segment.{Segment}
 
 -- its bytes
@@ -34,20 +31,8 @@ abbrev pub blocks_of : Segment → List Block
 blocks_of s = s.store.blocks
 
 -- it was opened under that schema: its parts are those of its bytes
-pub record IsOpened (schema : Schema) (s : Segment) : Type 0 where
-  pub sections : Sections
-  pub norms : List (ℕ × List ℕ)
-  pub fields : List IndexedField
-  pub written : AreWritten s.num_docs sections s.bytes
-  pub fields_are : s.length_fields.items ≡ length_fields schema
-  pub lengths_are : s.norms ≡ sections.norms
-  pub norms_are : IsNorms (length_fields schema) s.num_docs sections.norms norms
-  pub terms_are : AreSections schema s.num_docs norms fields sections.terms sections.postings sections.positions
-  pub keyed : AreKeyed schema fields
-  pub reads : (others : List IndexedField) → AreSections schema s.num_docs norms others sections.terms sections.postings sections.positions → IsReader schema s.num_docs norms others s.inverted_index
-  pub blocks_are : AreBlocks s.store.blocks
-  pub store_is : sections.store ≡ store_bytes s.store.blocks
-  pub counted : sum_by (λ (b : Block). b.count) s.store.blocks ≡ s.num_docs
+abbrev pub IsOpened : Schema → Segment → Type 0
+IsOpened schema s = AreOpenedParts schema s.bytes s.num_docs s.inverted_index s.length_fields.items s.norms s.store.blocks
 
 -- it stands for these documents: its bytes are theirs
 pub record StandsFor (schema : Schema) (analyze : Analyzer) (docs : List Document) (s : Segment) : Type 0 where

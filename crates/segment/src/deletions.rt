@@ -7,7 +7,7 @@ ghost use Rattle.definitions.specs.Recorded.{holds};
 ghost use Rattle.definitions.specs.Schema.{Schema};
 ghost use Rattle.definitions.specs.Values.{Document};
 ghost use Rattle.segment.specs.Killed.{killed};
-ghost use Rattle.segment.specs.Opened.{IsOpened, StandsFor, num_docs_of};
+ghost use Rattle.segment.specs.Opened.{StandsFor, num_docs_of};
 ghost use Rattle.segment_definitions.specs.Rows.{flagged, struck};
 ghost use Rattle.segment_postings.specs.Cursors.{docs_left};
 
@@ -21,7 +21,6 @@ use terms::Term;
 /// are.
 pub fn delete_in(segment: &Segment, term: &Term, alive: &mut AliveBitSet)
     requires flagged { length alive.old ≡ num_docs_of segment.now }
-    requires opened { ∥ ((schema : Schema) × IsOpened schema segment.now) ∥₁ }
     ensures dead { (schema : Schema) (analyze : Analyzer) (docs : List Document)
         → StandsFor schema analyze docs segment.now
         → flagged docs alive.new ≡ map (struck (holds schema analyze term.now)) (flagged docs alive.old) }

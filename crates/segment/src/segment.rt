@@ -6,7 +6,7 @@ ghost use Rattle.definitions.specs.Schema as schemas;
 ghost use Rattle.definitions.specs.Stored.{stored_pairs, stored_values};
 ghost use Rattle.definitions.specs.Values.{Document};
 ghost use Rattle.definitions.specs.declared.fault.Fault.TheVariants as faults;
-ghost use Rattle.segment.specs.Opened.{IsOpened, StandsFor, blocks_of, bytes_of, index_of, lengths_of, num_docs_of};
+ghost use Rattle.segment.specs.OpenedParts.{AreOpenedParts};
 ghost use Rattle.segment.specs.SlotDocuments.{HoldsDocument, IsDocumentFault};
 ghost use Rattle.segment_definitions.specs.Segments.{IsSegment};
 ghost use Rattle.segment_reader.specs.Flags.{HasFlags};
@@ -37,9 +37,13 @@ pub struct Segment {
     length_fields: Vec<u32>,
     norms: Bytes,
     store: StoreReader,
+    ghost opened: { ∥ ((schema : schemas.Schema)
+        × AreOpenedParts schema bytes num_docs inverted_index length_fields.items norms store.blocks) ∥₁ },
 }
 
 impl Segment {
+    ghost use Rattle.segment.specs.Opened.{IsOpened, StandsFor, blocks_of, bytes_of, index_of, lengths_of, num_docs_of};
+
     /// Opens a segment of documents of `schema` from `bytes`. All of it is checked but the blocks of the store; bytes
     /// that aren't a segment are `Damaged`, and so is a term that hasn't the bytes of a value of its field. Nothing is copied. The store caches up to `cache_num_blocks` blocks.
     pub fn open(
@@ -128,7 +132,6 @@ impl Segment {
     /// Returns a reader of the segment for queries. All documents are alive where `alive_bitset` is `None`.
     pub fn reader<'a>(&'a self, alive_bitset: Option<&'a AliveBitSet>) -> SegmentReader<'a>
         requires flagged { HasFlags (num_docs_of self.now) (option_map (λ flags. flags.now) alive_bitset) }
-        requires opened { ∥ ((schema : schemas.Schema) × IsOpened schema self.now) ∥₁ }
         ensures stands { (schema : schemas.Schema) (analyze : Analyzer) (docs : List Document)
             → StandsFor schema analyze docs self.now → readers.StandsFor schema analyze docs result }
         ensures alive { readers.alive_in result ≡ option_map (λ flags. flags.now) alive_bitset.entry }
@@ -177,7 +180,6 @@ impl Segment {
 
     /// Returns the length ids of all fields that keep lengths.
     pub fn fieldnorms_readers(&self) -> FieldNormReaders<'_>
-        requires { ∥ ((schema : schemas.Schema) × IsOpened schema self.now) ∥₁ }
         ensures { result ≡ lengths_of self.now }
     {
         FieldNormReaders::new(self.norms.as_slice(), self.num_docs, &self.length_fields)

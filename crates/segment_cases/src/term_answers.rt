@@ -3,8 +3,7 @@
 
 ghost use Rattle.std.specs.Prelude.{[], ◌≡◌, IfSome, length, replicate};
 ghost use Rattle.docsets.specs.Entries.{from};
-ghost use Rattle.definitions.specs.Schema.{Schema};
-ghost use Rattle.segment.specs.Opened.{IsOpened, num_docs_of};
+ghost use Rattle.segment.specs.Opened.{num_docs_of};
 ghost use Rattle.segment_reader.specs.SegmentReaders.{max_doc_of};
 ghost use Rattle.term_scorer.specs.ScoredTerms.{scored_left};
 
@@ -55,7 +54,6 @@ fn over<'a>(
     arguments: &Arguments,
 ) -> Result<Value, Refusal>
     requires flagged { length alive.now ≡ num_docs_of segment.now }
-    requires opened { ∥ ((schema : Schema) × IsOpened schema segment.now) ∥₁ }
 {
     let norms = [1; 256];
     let reader = segment.reader(Some(alive));

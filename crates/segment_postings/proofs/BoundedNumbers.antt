@@ -4,58 +4,58 @@ use Rattle.std.proofs.Math.Seq.{take-add}
 use Rattle.std.proofs.lemmas.List.{drop_more}
 use Rattle.std.proofs.lemmas.List.Sums.{sum_by-append, sum_by-cons, sum_by-take-drop}
 use Rattle.segment_postings.proofs.NumberFolds.{nothing_left}
-use Rattle.segment_postings.specs.Placed.{AreBounded}
+use Rattle.segment_postings.specs.Placed.{LastPositionsFit}
 use Rattle.packed_blocks.proofs.UnpackedBlocks.{drop_drop}
 
 -- the documents up to one are bounded, and what is left decides
 pub record Bounds (counts whole numbers : List ℕ) (i place : ℕ) : Type 0 where
-  pub sound : AreBounded (drop i counts) (drop place numbers) → AreBounded counts whole
-  pub complete : AreBounded counts whole → AreBounded (drop i counts) (drop place numbers)
+  pub sound : LastPositionsFit (drop i counts) (drop place numbers) → LastPositionsFit counts whole
+  pub complete : LastPositionsFit counts whole → LastPositionsFit (drop i counts) (drop place numbers)
 
 pub bounds_all : (counts numbers : List ℕ) (place : ℕ) → Bounds counts (drop place numbers) numbers 0 place
 bounds_all counts numbers place = record { sound = λ b. b; complete = λ b. b }
 
-pub more_split : (counts numbers : List ℕ) (i place : ℕ) → i < length counts → AreBounded (drop i counts) (drop place numbers) → (sum (take (get_or counts i 0) (drop place numbers)) < 2 ^ 31) × AreBounded (drop (i + 1) counts) (drop (place + get_or counts i 0) numbers)
-more_split counts numbers i place within b = (let here = subst (λ ns. AreBounded ns (drop place numbers)) (drop_more counts i 0 within) b in (here.0, subst (λ xs. AreBounded (drop (i + 1) counts) xs) (drop_drop place (get_or counts i 0) numbers) here.1))
+pub more_split : (counts numbers : List ℕ) (i place : ℕ) → i < length counts → LastPositionsFit (drop i counts) (drop place numbers) → (sum (take (get_or counts i 0) (drop place numbers)) < 2 ^ 31) × LastPositionsFit (drop (i + 1) counts) (drop (place + get_or counts i 0) numbers)
+more_split counts numbers i place within b = (let here = subst (λ ns. LastPositionsFit ns (drop place numbers)) (drop_more counts i 0 within) b in (here.0, subst (λ xs. LastPositionsFit (drop (i + 1) counts) xs) (drop_drop place (get_or counts i 0) numbers) here.1))
 
 pub bounds_more : (counts whole numbers : List ℕ) (i place : ℕ) → i < length counts → sum (take (get_or counts i 0) (drop place numbers)) < 2 ^ 31 → Bounds counts whole numbers i place → Bounds counts whole numbers (i + 1) (place + get_or counts i 0)
 bounds_more counts whole numbers i place within few so_far = record {
-  sound = λ b. so_far.sound (subst (λ ns. AreBounded ns (drop place numbers)) (sym (drop_more counts i 0 within)) (few, subst (λ xs. AreBounded (drop (i + 1) counts) xs) (sym (drop_drop place (get_or counts i 0) numbers)) b));
+  sound = λ b. so_far.sound (subst (λ ns. LastPositionsFit ns (drop place numbers)) (sym (drop_more counts i 0 within)) (few, subst (λ xs. LastPositionsFit (drop (i + 1) counts) xs) (sym (drop_drop place (get_or counts i 0) numbers)) b));
   complete = λ b. (more_split counts numbers i place within (so_far.complete b)).1;
 }
 
-pub bounds_not : (counts whole numbers : List ℕ) (i place : ℕ) → i < length counts → (sum (take (get_or counts i 0) (drop place numbers)) < 2 ^ 31 → ⊥) → Bounds counts whole numbers i place → AreBounded counts whole → ⊥
+pub bounds_not : (counts whole numbers : List ℕ) (i place : ℕ) → i < length counts → (sum (take (get_or counts i 0) (drop place numbers)) < 2 ^ 31 → ⊥) → Bounds counts whole numbers i place → LastPositionsFit counts whole → ⊥
 bounds_not counts whole numbers i place within none so_far b = none (more_split counts numbers i place within (so_far.complete b)).0
 
-none_bounded : (counts numbers : List ℕ) (i : ℕ) → length counts ≤ i → AreBounded (drop i counts) numbers
-none_bounded counts numbers i past = subst (λ ns. AreBounded ns numbers) (sym (nothing_left counts i past)) tt
+none_bounded : (counts numbers : List ℕ) (i : ℕ) → length counts ≤ i → LastPositionsFit (drop i counts) numbers
+none_bounded counts numbers i past = subst (λ ns. LastPositionsFit ns numbers) (sym (nothing_left counts i past)) tt
 
-pub bounds_end : (counts whole numbers : List ℕ) (i place : ℕ) → length counts ≤ i → Bounds counts whole numbers i place → AreBounded counts whole
+pub bounds_end : (counts whole numbers : List ℕ) (i place : ℕ) → length counts ≤ i → Bounds counts whole numbers i place → LastPositionsFit counts whole
 bounds_end counts whole numbers i place past so_far = so_far.sound (none_bounded counts (drop place numbers) i past)
 
 -- ---- several documents at once
 
-bounded_join : (n : ℕ) (counts numbers : List ℕ) → AreBounded (take n counts) numbers → AreBounded (drop n counts) (drop (sum (take n counts)) numbers) → AreBounded counts numbers
+bounded_join : (n : ℕ) (counts numbers : List ℕ) → LastPositionsFit (take n counts) numbers → LastPositionsFit (drop n counts) (drop (sum (take n counts)) numbers) → LastPositionsFit counts numbers
 bounded_join zero counts numbers first rest = rest
 bounded_join (suc n) [] numbers first rest = tt
 bounded_join (suc n) (c ∷ cs) numbers first rest =
     let total : sum (c ∷ take n cs) ≡ c + sum (take n cs) = sum_by-cons (λ x. x) c (take n cs) in
     let same : drop (sum (c ∷ take n cs)) numbers ≡ drop (sum (take n cs)) (drop c numbers) = ap (λ k. drop k numbers) total ∙ sym (drop_drop c (sum (take n cs)) numbers) in
-    (first.0, bounded_join n cs (drop c numbers) first.1 (subst (λ xs. AreBounded (drop n cs) xs) same rest))
+    (first.0, bounded_join n cs (drop c numbers) first.1 (subst (λ xs. LastPositionsFit (drop n cs) xs) same rest))
 
-bounded_split : (n : ℕ) (counts numbers : List ℕ) → AreBounded counts numbers → AreBounded (take n counts) numbers × AreBounded (drop n counts) (drop (sum (take n counts)) numbers)
+bounded_split : (n : ℕ) (counts numbers : List ℕ) → LastPositionsFit counts numbers → LastPositionsFit (take n counts) numbers × LastPositionsFit (drop n counts) (drop (sum (take n counts)) numbers)
 bounded_split zero counts numbers b = (tt, b)
 bounded_split (suc n) [] numbers b = (tt, tt)
 bounded_split (suc n) (c ∷ cs) numbers b =
     let total : sum (c ∷ take n cs) ≡ c + sum (take n cs) = sum_by-cons (λ x. x) c (take n cs) in
     let same : drop (sum (c ∷ take n cs)) numbers ≡ drop (sum (take n cs)) (drop c numbers) = ap (λ k. drop k numbers) total ∙ sym (drop_drop c (sum (take n cs)) numbers) in
     let later = bounded_split n cs (drop c numbers) b.1 in
-    ((b.0, later.0), subst (λ xs. AreBounded (drop n cs) xs) (sym same) later.1)
+    ((b.0, later.0), subst (λ xs. LastPositionsFit (drop n cs) xs) (sym same) later.1)
 
 -- the blocks up to one are bounded, and what is left decides
 pub record Leaves (counts numbers left : List ℕ) (place : ℕ) : Type 0 where
-  pub sound : AreBounded left (drop place numbers) → AreBounded counts numbers
-  pub complete : AreBounded counts numbers → AreBounded left (drop place numbers)
+  pub sound : LastPositionsFit left (drop place numbers) → LastPositionsFit counts numbers
+  pub complete : LastPositionsFit counts numbers → LastPositionsFit left (drop place numbers)
   pub many : place + sum left ≡ length numbers
 
 pub leaves_all : (counts numbers : List ℕ) → sum counts ≡ length numbers → Leaves counts numbers counts 0
@@ -64,21 +64,21 @@ leaves_all counts numbers many = record { sound = λ b. b; complete = λ b. b; m
 pub block_sum : (left : List ℕ) → sum (take 128 left) + sum (drop 128 left) ≡ sum left
 block_sum left = sum_by-take-drop (λ x. x) left 128
 
-pub leaves_more : (counts numbers left : List ℕ) (place end : ℕ) → Leaves counts numbers left place → AreBounded (take 128 left) (drop place numbers) → end ≡ place + sum (take 128 left) → Leaves counts numbers (drop 128 left) end
+pub leaves_more : (counts numbers left : List ℕ) (place end : ℕ) → Leaves counts numbers left place → LastPositionsFit (take 128 left) (drop place numbers) → end ≡ place + sum (take 128 left) → Leaves counts numbers (drop 128 left) end
 leaves_more counts numbers left place end so_far b is =
     let same : drop (sum (take 128 left)) (drop place numbers) ≡ drop end numbers = drop_drop place (sum (take 128 left)) numbers ∙ ap (λ k. drop k numbers) (sym is) in
     let many = so_far.many in
     let both = block_sum left in
     record {
-      sound = λ r. so_far.sound (bounded_join 128 left (drop place numbers) b (subst (λ xs. AreBounded (drop 128 left) xs) (sym same) r));
-      complete = λ all. subst (λ xs. AreBounded (drop 128 left) xs) same (bounded_split 128 left (drop place numbers) (so_far.complete all)).1;
+      sound = λ r. so_far.sound (bounded_join 128 left (drop place numbers) b (subst (λ xs. LastPositionsFit (drop 128 left) xs) (sym same) r));
+      complete = λ all. subst (λ xs. LastPositionsFit (drop 128 left) xs) same (bounded_split 128 left (drop place numbers) (so_far.complete all)).1;
       many = omega (arith, many, both, is);
     }
 
-pub leaves_not : (counts numbers left : List ℕ) (place : ℕ) → Leaves counts numbers left place → (AreBounded (take 128 left) (drop place numbers) → ⊥) → AreBounded counts numbers → ⊥
+pub leaves_not : (counts numbers left : List ℕ) (place : ℕ) → Leaves counts numbers left place → (LastPositionsFit (take 128 left) (drop place numbers) → ⊥) → LastPositionsFit counts numbers → ⊥
 leaves_not counts numbers left place so_far none all = none (bounded_split 128 left (drop place numbers) (so_far.complete all)).0
 
-pub leaves_end : (counts numbers left : List ℕ) (place : ℕ) → Leaves counts numbers left place → length left ≡ 0 → AreBounded counts numbers
+pub leaves_end : (counts numbers left : List ℕ) (place : ℕ) → Leaves counts numbers left place → length left ≡ 0 → LastPositionsFit counts numbers
 leaves_end counts numbers [] place so_far none = so_far.sound tt
 leaves_end counts numbers (c ∷ cs) place so_far none = absurd (omega (arith, none))
 
@@ -107,7 +107,7 @@ prefix_next counts i within =
     omega (arith, both, next, first)
 
 -- documents are bounded whose numbers have such a sum all together
-pub bounded_together : (counts numbers : List ℕ) → sum (take (sum counts) numbers) < 2 ^ 31 → AreBounded counts numbers
+pub bounded_together : (counts numbers : List ℕ) → sum (take (sum counts) numbers) < 2 ^ 31 → LastPositionsFit counts numbers
 bounded_together [] numbers few = tt
 bounded_together (n ∷ ns) numbers few =
     let total : sum (n ∷ ns) ≡ n + sum ns = sum_by-cons (λ x. x) n ns in

@@ -1,7 +1,7 @@
 -- Moves of a cursor over documents, by the blocks that it holds.
 use Rattle.std.proofs.Common.{[], List, ap, arith, cond, drop, get_or, length, map, min, nat_lt, refl, true, ◌*◌, ◌/◌, ◌≡◌, ◌∷◌, ℕ}
 use Rattle.std.proofs.lemmas.Bool.Decides.{nat_tests}
-use Rattle.segment_postings.specs.Cursors.{HasMoved, docs_left}
+use Rattle.segment_postings.specs.Cursors.{HasMoved, counts_left, docs_left}
 use Rattle.segment_postings.specs.TermEntries.{entries_of}
 use Rattle.segment_postings.specs.declared.segment_postings.SegmentPostings.{SegmentPostings}
 
@@ -16,6 +16,7 @@ stays s =
     record {
       place_is = omega (arith, inside);
       docs = ap (λ k. drop k (docs_left s.blocks)) start;
+      counts = ap (λ k. drop k (counts_left s.blocks)) start;
       entries = ap (λ k. drop k s.blocks.skips.left) none;
       decoded = omega (arith, more);
       doc_freq = refl;

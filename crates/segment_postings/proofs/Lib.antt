@@ -9,6 +9,8 @@ pub mod PositionLists
 pub mod PlacedEntries
 pub mod BoundedCounts
 pub mod CursorMoves
+pub mod Finding
+pub mod BoundedBlocks
 -- Lemmas behind checked terms.
 pub mod NumberFolds
 pub mod BlockChecks

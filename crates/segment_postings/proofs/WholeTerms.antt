@@ -5,7 +5,7 @@ use Rattle.std.proofs.lemmas.List.{length-map, take-append-drop}
 use Rattle.std.proofs.lemmas.List.Sums.{sum_by-cons}
 use Rattle.std.specs.List.{AllByRecursion}
 use Rattle.definitions.proofs.Lists.{no_numbers}
-use Rattle.segment_postings.specs.Placed.{AreBounded, HasNumbers, term_of}
+use Rattle.segment_postings.specs.Placed.{HasNumbers, LastPositionsFit, term_of}
 use Rattle.segment_postings.specs.Terms.{HasTerm}
 use Rattle.definitions.specs.Postings.{Posting}
 use Rattle.definitions.specs.Schema.{IndexRecordOption, basic, has_freq, has_positions, with_freqs, with_freqs_and_positions}
@@ -74,7 +74,7 @@ lists_none : (counts : List ℕ) → AreLists false counts (none_each counts)
 lists_none [] = tt
 lists_none (n ∷ ns) = (refl, tt, tt, lists_none ns)
 
-lists_cut : (counts numbers : List ℕ) → length numbers ≡ sum counts → AreBounded counts numbers → AreLists true counts (cut counts numbers)
+lists_cut : (counts numbers : List ℕ) → length numbers ≡ sum counts → LastPositionsFit counts numbers → AreLists true counts (cut counts numbers)
 lists_cut [] numbers many bounded = tt
 lists_cut (n ∷ ns) numbers many bounded =
     let total : sum (n ∷ ns) ≡ n + sum ns = sum_by-cons (λ y. y) n ns in
@@ -195,7 +195,7 @@ behind n xs ys long = ap (λ k. drop k (xs ++ ys)) (sym long) ∙ drop-append_se
 -- its positions
 record Counted (ps : List Posting) : Type 0 where
   many : length (position_numbers (map (λ (p : Posting). p.positions) ps)) ≡ sum (map (λ (p : Posting). p.count) ps)
-  bounded : AreBounded (map (λ (p : Posting). p.count) ps) (position_numbers (map (λ (p : Posting). p.positions) ps))
+  bounded : LastPositionsFit (map (λ (p : Posting). p.count) ps) (position_numbers (map (λ (p : Posting). p.positions) ps))
 
 counted : (num_docs : ℕ) (ps : List Posting) → AllByRecursion (IsPosting true num_docs) ps → Counted ps
 counted num_docs [] each = record { many = refl; bounded = tt }
@@ -210,7 +210,7 @@ counted num_docs (p ∷ ps) each =
       many = omega (arith, length-append first rest, long, many, total);
       bounded = (
         subst (λ xs. sum xs < 2 ^ 31) (sym (first_of p.count first rest long)) (positions_bounded p.positions each.0.placed each.0.placed_fit),
-        subst (λ xs. AreBounded (map (λ (q : Posting). q.count) ps) xs) (sym (behind p.count first rest long)) later.bounded,
+        subst (λ xs. LastPositionsFit (map (λ (q : Posting). q.count) ps) xs) (sym (behind p.count first rest long)) later.bounded,
       );
     }
 

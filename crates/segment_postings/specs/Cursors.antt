@@ -1,10 +1,13 @@
 -- What remains of a term's postings.
-use Rattle.std.specs.Prelude.{◌%◌, ◌*◌, ◌+◌, ◌/◌, ◌≡◌, Bool, List, drop, if◌then◌else◌, length, min, nat_lt, ℕ}
+use Rattle.std.specs.Prelude.{[], ◌%◌, ◌*◌, ◌+◌, ◌/◌, ◌≡◌, ◌∷◌, Bool, List, None, Option, Some, drop, if◌then◌else◌, length, min, nat_lt, ℕ}
 use Rattle.definitions.specs.Blocks.{block_len}
 use Rattle.layouts.specs.SkipEntries.{SkipEntry}
+use Rattle.layouts.specs.TermPostings.{bound_in}
+use Rattle.skips.specs.SkipBlocks.{Skips}
 use Rattle.docsets.specs.Entries.{Entry}
 use Rattle.segment_postings.specs.Reading.{counts_at, docs_at}
 use Rattle.segment_postings.specs.TermEntries.{entries_from, numbers_of}
+use Rattle.segment_postings.specs.declared.block_segment_postings.Ahead.{Ahead}
 use Rattle.segment_postings.specs.declared.block_segment_postings.BlockSegmentPostings.{BlockSegmentPostings}
 use Rattle.segment_postings.specs.declared.segment_postings.SegmentPostings.{SegmentPostings}
 
@@ -18,6 +21,20 @@ counts_left s = counts_at s.reads_counts s.before s.skips s.bytes.now
 -- the skip entries from that block on
 abbrev pub skips_left : BlockSegmentPostings → List SkipEntry
 skips_left s = s.skips.left
+
+-- the skip entries from the block ahead on, and where there is none from the block that is held
+abbrev pub skips_ahead : Option Ahead → Skips → List SkipEntry
+skips_ahead None s = s.left
+skips_ahead (Some a) s = a.skips.left
+
+-- the skip entries from the block on that was reached last, by a look ahead or by a move
+abbrev pub skips_reached : BlockSegmentPostings → List SkipEntry
+skips_reached s = skips_ahead s.ahead s.skips
+
+-- the bound of the first block; none of the rest
+abbrev pub first_bound : List SkipEntry → Option (ℕ × ℕ)
+first_bound [] = None
+first_bound (e ∷ es) = bound_in e
 
 -- how many positions stand before those of that block
 abbrev pub positions_passed : BlockSegmentPostings → ℕ
@@ -68,7 +85,18 @@ cursor_positions s = length (numbers_of s.positions)
 pub record HasMoved (place : ℕ) (before after : SegmentPostings) : Type 0 where
   pub place_is : cursor_place after ≡ place % block_len
   pub docs : docs_left (cursor_blocks after) ≡ drop (block_len * (place / block_len)) (docs_left (cursor_blocks before))
+  pub counts : counts_left (cursor_blocks after) ≡ drop (block_len * (place / block_len)) (counts_left (cursor_blocks before))
   pub entries : skips_left (cursor_blocks after) ≡ drop (place / block_len) (skips_left (cursor_blocks before))
   pub decoded : cursor_blocks_decoded after ≡ cursor_blocks_decoded before + (if nat_lt place block_len then 0 else min 1 (length (docs_left (cursor_blocks after))))
+  pub doc_freq : cursor_doc_freq after ≡ cursor_doc_freq before
+  pub positions : cursor_positions after ≡ cursor_positions before
+
+-- a cursor looked ahead: all is as it was, but for the block that was reached
+pub record HasStayed (before after : SegmentPostings) : Type 0 where
+  pub place : cursor_place after ≡ cursor_place before
+  pub docs : docs_left (cursor_blocks after) ≡ docs_left (cursor_blocks before)
+  pub counts : counts_left (cursor_blocks after) ≡ counts_left (cursor_blocks before)
+  pub entries : skips_left (cursor_blocks after) ≡ skips_left (cursor_blocks before)
+  pub decoded : cursor_blocks_decoded after ≡ cursor_blocks_decoded before
   pub doc_freq : cursor_doc_freq after ≡ cursor_doc_freq before
   pub positions : cursor_positions after ≡ cursor_positions before

@@ -5,16 +5,16 @@ use Rattle.layouts.specs.InvertedIndexes.{IndexedTerm}
 use Rattle.layouts.specs.Positions.{ArePositions}
 
 -- so many numbers for each document, whose sum is the document's last position: it is below 2^31
-abbrev pub AreBounded : List ℕ → List ℕ → Type 0
-AreBounded [] numbers = Unit {0}
-AreBounded (n ∷ ns) numbers = (sum (take n numbers) < 2 ^ 31) × AreBounded ns (drop n numbers)
+abbrev pub LastPositionsFit : List ℕ → List ℕ → Type 0
+LastPositionsFit [] numbers = Unit {0}
+LastPositionsFit (n ∷ ns) numbers = (sum (take n numbers) < 2 ^ 31) × LastPositionsFit ns (drop n numbers)
 
 -- the bytes are the positions of documents with these counts
 pub record HasNumbers (counts bytes : List ℕ) : Type 0 where
   pub numbers : List ℕ
   pub stand : ArePositions numbers bytes
   pub many : length numbers ≡ sum counts
-  pub bounded : AreBounded counts numbers
+  pub bounded : LastPositionsFit counts numbers
 
 -- a term by its postings and bytes, whatever its key
 abbrev pub term_of : List Posting → List ℕ → List ℕ → IndexedTerm

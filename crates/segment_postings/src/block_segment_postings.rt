@@ -1,22 +1,35 @@
 //! One term's postings, block by block.
 
-ghost use Rattle.std.specs.Prelude.{[], ◌%◌, ◌*◌, ◌+◌, ◌/◌, ◌<◌, ◌≡◌, ◌≤◌, Bool, IsSome, List, Some, drop, if◌then◌else◌, length, min, nat_lt, replicate, slice_index, slice_index_or, sum, take, true, ℕ};
+ghost use Rattle.std.specs.Prelude.{[], ◌%◌, ◌*◌, ◌+◌, ◌/◌, ◌<◌, ◌≡◌, ◌≤◌, Bool, IsSome, List, None, Some, drop, if◌then◌else◌, length, min, nat_lt, replicate, slice_index, slice_index_or, sum, take, true, ℕ};
 ghost use Rattle.definitions.specs.Blocks.{block_len};
 ghost use Rattle.definitions.specs.NumberCodes.{take_bytes};
 ghost use Rattle.definitions.specs.Postings.{terminated};
 ghost use Rattle.layouts.specs.TermPostings.{skip_entries};
+ghost use Rattle.segment_postings.specs.Ahead.{IsAhead};
+ghost use Rattle.segment_postings.specs.AheadLaws.{IsAhead-prop};
 ghost use Rattle.segment_postings.specs.CountBounds.{TellCounts};
 ghost use Rattle.segment_postings.specs.Reading.{Ascends, HasPassed, HasPostings, IsHeld, IsSummed, StandsIn, below, counts_at, docs_at};
 ghost use Rattle.segment_postings.specs.ReadingLaws.{Ascends-prop, StandsIn-prop};
+ghost use Rattle.skips.specs.SkipBlocks.{last_doc};
 
 use crate::decoded_block::decode_block;
 use crate::greatest_count::greatest_count;
 use common::{DocId, take_bytes};
 use packed_blocks::{BlockDecoder, COMPRESSION_BLOCK_SIZE};
-use skips::{Recorded, SkipReader};
+use skips::{BlockInfo, Recorded, SkipReader};
+
+/// A block that `seek_block` reached without decoding it: the skip entries from it on, the last document before it, and
+/// the target that was sought.
+#[derive(Drop)]
+struct Ahead<'a> {
+    skips: SkipReader<'a>,
+    before: u32,
+    target: u32,
+}
 
 /// A cursor over the postings of a term, a block of 128 documents at a time, borrowed from their bytes. It holds the
-/// current block; a move decodes the block that it reaches.
+/// current block; a move decodes the block that it reaches. `seek_block` looks ahead for a block's bound and decodes
+/// nothing.
 #[derive(Drop)]
 pub struct BlockSegmentPostings<'a> {
     bytes: &'a [u8],
@@ -33,15 +46,19 @@ pub struct BlockSegmentPostings<'a> {
     // An index in the block, and the sum of the counts before it.
     summed_len: usize,
     summed: u64,
+    // The block that `seek_block` reached since the last move.
+    ahead: Option<Ahead<'a>>,
     ghost stands: { StandsIn reads_counts reads_positions before skips bytes.now } by { StandsIn-prop reads_counts reads_positions before skips bytes.now },
     ghost held: { IsHeld docs counts len (docs_at before skips bytes.now) (counts_at reads_counts before skips bytes.now) },
     ghost ascends: { Ascends 0 (docs_at before skips bytes.now) } by { Ascends-prop 0 (docs_at before skips bytes.now) },
     ghost few: { decoded + length (docs_at before skips bytes.now) ≤ 4294967296 },
     ghost adds_up: { IsSummed counts summed_len summed },
+    ghost found: { IsAhead reads_counts reads_positions before skips ahead bytes.now } by { IsAhead-prop reads_counts reads_positions before skips ahead bytes.now },
 }
 
 impl<'a> BlockSegmentPostings<'a> {
-    ghost use Rattle.segment_postings.specs.Cursors.{blocks_decoded, counts_are_read, counts_left, doc_freq_of, docs_left, positions_are_read, positions_passed, skips_left};
+    ghost use Rattle.segment_postings.specs.Cursors.{blocks_decoded, counts_are_read, counts_left, doc_freq_of, docs_left, first_bound, positions_are_read, positions_passed, skips_left, skips_reached};
+    ghost use Rattle.skips.specs.SkipBlocks.{last_doc};
 
     /// Returns an exhausted cursor.
     pub fn empty() -> BlockSegmentPostings<'a>
@@ -50,6 +67,7 @@ impl<'a> BlockSegmentPostings<'a> {
         ensures decoded { blocks_decoded result ≡ 0 }
         ensures doc_freq { doc_freq_of result ≡ 0 }
         ensures entries { skips_left result ≡ [] }
+        ensures reached { skips_reached result ≡ [] }
     {
         let recorded = Recorded {
             counts: false,
@@ -83,6 +101,7 @@ impl<'a> BlockSegmentPostings<'a> {
         ensures entries { (docs counts : List ℕ) (known : HasPostings recorded.counts recorded.positions doc_freq
             bytes.now docs counts) → skips_left result
             ≡ skip_entries known.option known.ids (length docs / block_len) 0 docs counts }
+        ensures reached { skips_reached result ≡ skips_left result }
     {
         let (entries, blocks) = split_entries(bytes, doc_freq);
         let skips = SkipReader::new(entries, doc_freq, recorded);
@@ -105,6 +124,7 @@ impl<'a> BlockSegmentPostings<'a> {
         ensures reads { (result.reads_counts ≡ reads_counts) × (result.reads_positions ≡ reads_positions) }
         ensures offset { result.skips.position_offset ≡ skips.entry.position_offset }
         ensures entries { result.skips.left ≡ skips.entry.left }
+        ensures reached { skips_reached result ≡ skips.entry.left }
     {
         let mut decoder = BlockDecoder::with_val(0);
         let mut docs = [0; COMPRESSION_BLOCK_SIZE];
@@ -134,6 +154,7 @@ impl<'a> BlockSegmentPostings<'a> {
             decoded,
             summed_len: 0,
             summed: 0,
+            ahead: None,
         }
     }
 
@@ -196,6 +217,7 @@ impl<'a> BlockSegmentPostings<'a> {
         ensures docs { docs_left self.new ≡ docs_left self.old }
         ensures counts { counts_left self.new ≡ counts_left self.old }
         ensures entries { skips_left self.new ≡ skips_left self.old }
+        ensures reached { skips_reached self.new ≡ skips_reached self.old }
         ensures decoded { blocks_decoded self.new ≡ blocks_decoded self.old }
         ensures offset { positions_passed self.new ≡ positions_passed self.old }
         ensures kept { (doc_freq_of self.new ≡ doc_freq_of self.old)
@@ -228,11 +250,114 @@ impl<'a> BlockSegmentPostings<'a> {
         self.decoded
     }
 
-    /// Moves to the next block.
+    /// Returns the reader from which the block for `target` is sought: that of the last `seek_block`, unless its target
+    /// was greater, else that of the current block.
+    fn search_start(&self, target: DocId) -> Ahead<'a>
+        ensures passed { HasPassed self.now.reads_counts self.now.reads_positions result.target self.now.before
+            self.now.skips result.before result.skips self.now.bytes.now }
+        ensures early { result.target ≤ target }
+    {
+        match &self.ahead {
+            Some(ahead) if ahead.target <= target => Ahead {
+                skips: ahead.skips.copied(),
+                before: ahead.before,
+                target: ahead.target,
+            },
+            _ => Ahead {
+                skips: self.skips.copied(),
+                before: self.before,
+                target: 0,
+            },
+        }
+    }
+
+    /// Returns the first block, from the current one on, that may contain `target`.
+    fn found_block(&self, target: DocId) -> Ahead<'a>
+        requires { target ≤ terminated }
+        ensures passed { HasPassed self.now.reads_counts self.now.reads_positions target self.now.before
+            self.now.skips result.before result.skips self.now.bytes.now }
+        ensures target { result.target ≡ target }
+        ensures late { target ≤ last_doc result.skips.left }
+    {
+        let start = self.search_start(target);
+        let Ahead { skips, before, .. } = start;
+        let mut skips = skips;
+        let before = pass_blocks(&mut skips, before, target);
+        Ahead {
+            skips,
+            before,
+            target,
+        }
+    }
+
+    /// Reaches the first block, from the current one on, that may contain `target`, without decoding it: the current
+    /// block and what remains stay. A lesser target than that of the call before goes back.
+    pub fn seek_block(&mut self, target: DocId)
+        requires { target ≤ terminated }
+        ensures reached { skips_reached self.new
+            ≡ drop (below target (docs_left self.old) / block_len) (skips_left self.old) }
+        ensures ahead { target ≤ last_doc (skips_reached self.new) }
+        ensures block { (place : ℕ) → place < length (docs_left self.old)
+            → target ≤ slice_index (docs_left self.old) place
+            → slice_index (docs_left self.old) place ≤ last_doc (skips_reached self.new)
+            → place / block_len ≡ below target (docs_left self.old) / block_len }
+        ensures ends { 0 < length (skips_reached self.new)
+            → below (last_doc (skips_reached self.new) + 1) (docs_left self.old)
+            ≡ block_len * (below target (docs_left self.old) / block_len + 1) }
+        ensures docs { docs_left self.new ≡ docs_left self.old }
+        ensures counts { counts_left self.new ≡ counts_left self.old }
+        ensures entries { skips_left self.new ≡ skips_left self.old }
+        ensures decoded { blocks_decoded self.new ≡ blocks_decoded self.old }
+        ensures offset { positions_passed self.new ≡ positions_passed self.old }
+        ensures kept { (doc_freq_of self.new ≡ doc_freq_of self.old)
+            × (counts_are_read self.new ≡ counts_are_read self.old)
+            × (positions_are_read self.new ≡ positions_are_read self.old) }
+    {
+        let found = self.found_block(target);
+        self.ahead = Some(found);
+    }
+
+    /// Returns the skip entries from the block reached on.
+    #[inline]
+    fn reached(&self) -> &SkipReader<'a>
+        ensures { result.now.left ≡ skips_reached self.now }
+    {
+        match &self.ahead {
+            Some(ahead) => &ahead.skips,
+            None => &self.skips,
+        }
+    }
+
+    /// Returns the bound of the block that `seek_block` or a move reached, whichever came last: its least length id and
+    /// its greatest count. None if the entry stores no bound, and in the rest.
+    pub fn block_bound(&self) -> Option<(u8, u8)>
+        ensures { result ≡ first_bound (skips_reached self.now) }
+    {
+        match self.reached().block_info() {
+            BlockInfo::BitPacked {
+                block_wand_fieldnorm_id,
+                block_wand_term_freq,
+                ..
+            } => stored_bound(block_wand_fieldnorm_id, block_wand_term_freq),
+            BlockInfo::VInt { .. } => None,
+        }
+    }
+
+    /// Returns the last document of the block that `seek_block` or a move reached, whichever came last; `TERMINATED` in
+    /// the rest.
+    #[inline]
+    pub fn last_doc_in_block(&self) -> DocId
+        ensures { result ≡ last_doc (skips_reached self.now) }
+    {
+        self.reached().last_doc_in_block()
+    }
+
+    /// Moves to the block after the current one, whichever block `seek_block` reached.
     pub fn advance(&mut self)
         ensures docs { docs_left self.new ≡ drop block_len (docs_left self.old) }
         ensures counts { counts_left self.new ≡ drop block_len (counts_left self.old) }
         ensures entries { skips_left self.new ≡ drop 1 (skips_left self.old) }
+        ensures reached { skips_reached self.new ≡ skips_left self.new }
         ensures decoded { blocks_decoded self.new ≡ blocks_decoded self.old + min 1 (length (docs_left self.new)) }
         ensures room { positions_are_read self.old ≡ true
             → positions_passed self.new + sum (counts_left self.new)
@@ -245,6 +370,7 @@ impl<'a> BlockSegmentPostings<'a> {
     {
         self.before = self.skips.last_doc_in_block();
         self.skips.advance();
+        self.ahead = None;
         self.len = decode_block(
             self.bytes,
             &self.skips,
@@ -269,6 +395,7 @@ impl<'a> BlockSegmentPostings<'a> {
             ≡ drop (block_len * (below target (docs_left self.old) / block_len)) (counts_left self.old) }
         ensures entries { skips_left self.new
             ≡ drop (below target (docs_left self.old) / block_len) (skips_left self.old) }
+        ensures reached { skips_reached self.new ≡ skips_left self.new }
         ensures place { result ≡ below target (docs_left self.old) % block_len }
         ensures decoded { blocks_decoded self.new
             ≡ blocks_decoded self.old + (if nat_lt (below target (docs_left self.old)) block_len then 0 else min 1
@@ -285,9 +412,13 @@ impl<'a> BlockSegmentPostings<'a> {
             × (positions_are_read self.new ≡ positions_are_read self.old) }
     {
         if target <= self.skips.last_doc_in_block() {
+            self.ahead = None;
             return first_from(&self.docs, target);
         }
-        self.before = pass_blocks(&mut self.skips, self.before, target);
+        let Ahead { skips, before, .. } = self.found_block(target);
+        self.skips = skips;
+        self.before = before;
+        self.ahead = None;
         self.len = decode_block(
             self.bytes,
             &self.skips,
@@ -304,6 +435,16 @@ impl<'a> BlockSegmentPostings<'a> {
     }
 }
 
+/// Returns the bound that an entry stores; a count of 255 stands for none.
+fn stored_bound(least_id: u8, greatest_count: u8) -> Option<(u8, u8)>
+    ensures { result ≡ (if nat_lt 254 greatest_count then None else Some (least_id, greatest_count)) }
+{
+    if greatest_count > 254 {
+        return None;
+    }
+    Some((least_id, greatest_count))
+}
+
 /// Counts one more decoded block of `len` documents, unless `len` is 0.
 fn count_block(decoded: &mut u64, len: usize)
     requires { decoded.old ≤ 4294967296 }
@@ -315,8 +456,9 @@ fn count_block(decoded: &mut u64, len: usize)
 /// Passes blocks that end before `target`; returns the last document before the block reached, or `before`.
 fn pass_blocks(skips: &mut SkipReader, before: u32, target: DocId) -> u32
     requires { target ≤ terminated }
-    ensures { (reads sums : Bool) (bytes : List ℕ) → StandsIn reads sums before skips.old bytes
+    ensures passed { (reads sums : Bool) (bytes : List ℕ) → StandsIn reads sums before skips.old bytes
         → HasPassed reads sums target before skips.old result skips.new bytes }
+    ensures late { target ≤ last_doc skips.new.left }
 {
     let mut before = before;
     let mut last = skips.last_doc_in_block();

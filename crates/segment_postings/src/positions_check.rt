@@ -1,7 +1,7 @@
 //! The check of a term's positions.
 
 ghost use Rattle.std.specs.Prelude.{IfErr, IfNone, IfOk, IfSome, IsTrue, List, None, OnOk, ℕ, ◌+◌, ◌<◌, ◌^◌, ◌≡◌, ◌≤◌, ◌↔◌, drop, length, sum, take, true};
-ghost use Rattle.segment_postings.specs.Placed.{AreBounded, HasNumbers};
+ghost use Rattle.segment_postings.specs.Placed.{HasNumbers, LastPositionsFit};
 ghost use Rattle.definitions.specs.Blocks.{block_len};
 ghost use Rattle.definitions.specs.declared.fault.Fault.TheVariants as faults;
 ghost use Rattle.segment_postings.specs.Cursors.{counts_left, docs_left};
@@ -48,7 +48,7 @@ fn are_bounded(blocks: &mut BlockSegmentPostings, reader: &mut PositionReader) -
     requires same { length (counts_left blocks.old) ≡ length (docs_left blocks.old) }
     requires many { sum (counts_left blocks.old) ≡ length reader.old }
     requires few { sum (counts_left blocks.old) < 2 ^ 64 }
-    ensures { IsTrue result ↔ AreBounded (counts_left blocks.old) reader.old }
+    ensures { IsTrue result ↔ LastPositionsFit (counts_left blocks.old) reader.old }
 {
     let mut place = 0;
     let mut room = [0; COMPRESSION_BLOCK_SIZE];
@@ -72,9 +72,9 @@ fn block_end(
     requires block { length counts.now ≤ block_len }
     requires within { place + sum counts.now ≤ length reader.old }
     requires few { place + sum counts.now < 2 ^ 64 }
-    ensures some { IfSome result (λ end. AreBounded counts.now (drop place reader.old)
+    ensures some { IfSome result (λ end. LastPositionsFit counts.now (drop place reader.old)
         × (end ≡ place + sum counts.now)) }
-    ensures none { IfNone result (AreBounded counts.now (drop place reader.old) → ⊥) }
+    ensures none { IfNone result (LastPositionsFit counts.now (drop place reader.old) → ⊥) }
     ensures same { reader.new ≡ reader.old }
 {
     let count = sum_of(counts);
@@ -93,9 +93,9 @@ fn bounded_end(
 ) -> Option<u64>
     requires within { place + sum counts.now ≤ length reader.old }
     requires few { place + sum counts.now < 2 ^ 64 }
-    ensures some { IfSome result (λ end. AreBounded counts.now (drop place reader.old)
+    ensures some { IfSome result (λ end. LastPositionsFit counts.now (drop place reader.old)
         × (end ≡ place + sum counts.now)) }
-    ensures none { IfNone result (AreBounded counts.now (drop place reader.old) → ⊥) }
+    ensures none { IfNone result (LastPositionsFit counts.now (drop place reader.old) → ⊥) }
     ensures same { reader.new ≡ reader.old }
 {
     let mut end = place;

@@ -1,12 +1,13 @@
 //! One term's postings, document by document.
 
-ghost use Rattle.std.specs.Prelude.{[], ◌+◌, ◌/◌, ◌<◌, ◌≡◌, ◌≤◌, IsSome, List, OnOk, if◌then◌else◌, length, min, replicate, true, ℕ};
+ghost use Rattle.std.specs.Prelude.{[], ◌*◌, ◌+◌, ◌/◌, ◌<◌, ◌≡◌, ◌≤◌, IsSome, List, OnOk, drop, if◌then◌else◌, length, min, replicate, slice_index, true, ℕ};
 ghost use Rattle.definitions.specs.Blocks.{block_len};
 ghost use Rattle.definitions.specs.Postings.{terminated};
 ghost use Rattle.docsets.specs.Entries.{AreSingle, first, first_positions, most_positions, single};
 ghost use Rattle.docsets.proofs.EntryLaws.{AreSingle-prop};
 ghost use Rattle.layouts.specs.Positions.{differences};
 ghost use Rattle.layouts.specs.TermPostings.{skip_entries};
+ghost use Rattle.segment_postings.specs.BoundedBlocks.{AreBounded};
 ghost use Rattle.segment_postings.specs.CountBounds.{TellCounts};
 ghost use Rattle.segment_postings.specs.Reading.{HasPostings, counts_at, docs_at};
 ghost use Rattle.segment_postings.specs.TermEntries.{HasPositions, entries_from, entries_of, numbers_of, term_entries};
@@ -34,7 +35,9 @@ pub struct SegmentPostings<'a> {
 }
 
 impl<'a> SegmentPostings<'a> {
-    ghost use Rattle.segment_postings.specs.Cursors.{cursor_blocks, cursor_blocks_decoded, cursor_doc_freq, cursor_place, cursor_positions, docs_left, entries_left, skips_left};
+    ghost use Rattle.segment_postings.specs.Cursors.{HasStayed, counts_left, cursor_blocks, cursor_blocks_decoded, cursor_doc_freq, cursor_place, cursor_positions, docs_left, entries_left, first_bound, skips_left, skips_reached};
+    ghost use Rattle.segment_postings.specs.Reading.{below};
+    ghost use Rattle.skips.specs.SkipBlocks.{last_doc};
 
     /// Returns an exhausted cursor.
     pub fn empty() -> SegmentPostings<'a>
@@ -44,6 +47,7 @@ impl<'a> SegmentPostings<'a> {
         ensures positions { cursor_positions result ≡ 0 }
         ensures blocks { (docs_left (cursor_blocks result) ≡ []) × (skips_left (cursor_blocks result) ≡ []) }
         ensures place { cursor_place result ≡ 0 }
+        ensures reached { skips_reached (cursor_blocks result) ≡ skips_left (cursor_blocks result) }
     {
         SegmentPostings {
             blocks: BlockSegmentPostings::empty(),
@@ -77,6 +81,11 @@ impl<'a> SegmentPostings<'a> {
             → skips_left (cursor_blocks result)
             ≡ skip_entries known.option known.ids (length docs / block_len) 0 docs counts }
         ensures place { cursor_place result ≡ 0 }
+        ensures reached { skips_reached (cursor_blocks result) ≡ skips_left (cursor_blocks result) }
+        ensures bounded { (docs counts : List ℕ)
+            (known : HasPostings recorded.counts recorded.positions doc_freq bytes.now docs counts)
+            → AreBounded known.ids (skips_left (cursor_blocks result)) (docs_left (cursor_blocks result))
+            (counts_left (cursor_blocks result)) }
     {
         SegmentPostings {
             blocks: BlockSegmentPostings::new(bytes, doc_freq, recorded, reads_counts, false),
@@ -110,6 +119,11 @@ impl<'a> SegmentPostings<'a> {
             → skips_left (cursor_blocks result)
             ≡ skip_entries known.option known.ids (length docs / block_len) 0 docs counts }
         ensures place { cursor_place result ≡ 0 }
+        ensures reached { skips_reached (cursor_blocks result) ≡ skips_left (cursor_blocks result) }
+        ensures bounded { (docs counts : List ℕ)
+            (known : HasPostings recorded.counts recorded.positions doc_freq bytes.now docs counts)
+            → AreBounded known.ids (skips_left (cursor_blocks result)) (docs_left (cursor_blocks result))
+            (counts_left (cursor_blocks result)) }
     {
         SegmentPostings {
             blocks: BlockSegmentPostings::new(bytes, doc_freq, recorded, true, true),
@@ -124,6 +138,46 @@ impl<'a> SegmentPostings<'a> {
         ensures { result ≡ cursor_blocks_decoded self.now }
     {
         self.blocks.decoded_blocks()
+    }
+
+    /// Reaches the first block, from the current one on, that may contain `target`, without decoding it. A lesser
+    /// target than that of the call before goes back.
+    #[inline]
+    pub fn seek_block(&mut self, target: DocId)
+        requires { target ≤ terminated }
+        ensures same { entries_left self.new ≡ entries_left self.old }
+        ensures stayed { HasStayed self.old self.new }
+        ensures reached { skips_reached (cursor_blocks self.new)
+            ≡ drop (below target (docs_left (cursor_blocks self.old)) / block_len)
+            (skips_left (cursor_blocks self.old)) }
+        ensures ahead { target ≤ last_doc (skips_reached (cursor_blocks self.new)) }
+        ensures block { (place : ℕ) → place < length (docs_left (cursor_blocks self.old))
+            → target ≤ slice_index (docs_left (cursor_blocks self.old)) place
+            → slice_index (docs_left (cursor_blocks self.old)) place
+            ≤ last_doc (skips_reached (cursor_blocks self.new))
+            → place / block_len ≡ below target (docs_left (cursor_blocks self.old)) / block_len }
+        ensures ends { 0 < length (skips_reached (cursor_blocks self.new))
+            → below (last_doc (skips_reached (cursor_blocks self.new)) + 1) (docs_left (cursor_blocks self.old))
+            ≡ block_len * (below target (docs_left (cursor_blocks self.old)) / block_len + 1) }
+    {
+        self.blocks.seek_block(target);
+    }
+
+    /// Returns the bound of the block reached, which is that of the last `seek_block` until a seek or a move to another
+    /// block: its least length id and its greatest count. None if the entry stores no bound, and in the rest.
+    #[inline]
+    pub fn block_bound(&self) -> Option<(u8, u8)>
+        ensures { result ≡ first_bound (skips_reached (cursor_blocks self.now)) }
+    {
+        self.blocks.block_bound()
+    }
+
+    /// Returns the last document of the block reached; `TERMINATED` in the rest.
+    #[inline]
+    pub fn last_doc_in_block(&self) -> DocId
+        ensures { result ≡ last_doc (skips_reached (cursor_blocks self.now)) }
+    {
+        self.blocks.last_doc_in_block()
     }
 
     /// Returns the number of documents that have the term.
@@ -150,11 +204,11 @@ impl<'a> SegmentPostings<'a> {
 }
 
 impl<'a> DocSet for SegmentPostings<'a> {
-    ghost use Rattle.std.specs.Prelude.{drop, max};
+    ghost use Rattle.std.specs.Prelude.{drop, max, nat_lt};
     ghost use Rattle.definitions.specs.Postings.{terminated};
     ghost use Rattle.docsets.specs.Danger.{IsDangerAnswer};
     ghost use Rattle.docsets.specs.Entries.{first, from};
-    ghost use Rattle.segment_postings.specs.Cursors.{HasMoved, counts_left, cursor_blocks, cursor_place, docs_left, entries_left};
+    ghost use Rattle.segment_postings.specs.Cursors.{HasMoved, counts_left, cursor_blocks, cursor_place, docs_left, entries_left, skips_left, skips_reached};
     ghost use Rattle.segment_postings.specs.Reading.{below};
 
     ghost entries = { entries_left };
@@ -164,6 +218,9 @@ impl<'a> DocSet for SegmentPostings<'a> {
         ensures rest { entries_left self.new ≡ drop 1 (entries_left self.old) }
         ensures at { result ≡ first (entries_left self.new) }
         ensures moved { HasMoved (cursor_place self.old + 1) self.old self.new }
+        ensures reached { skips_reached (cursor_blocks self.new)
+            ≡ (if nat_lt (cursor_place self.old + 1) block_len then skips_reached (cursor_blocks self.old)
+            else skips_left (cursor_blocks self.new)) }
     {
         if self.cur == 127 {
             self.blocks.advance();
@@ -181,6 +238,7 @@ impl<'a> DocSet for SegmentPostings<'a> {
         ensures rest { entries_left self.new ≡ from target (entries_left self.old) }
         ensures at { result ≡ first (entries_left self.new) }
         ensures moved { HasMoved (below target (docs_left (cursor_blocks self.old))) self.old self.new }
+        ensures reached { skips_reached (cursor_blocks self.new) ≡ skips_left (cursor_blocks self.new) }
     {
         self.cur = self.blocks.seek(target);
         self.doc()
@@ -193,6 +251,9 @@ impl<'a> DocSet for SegmentPostings<'a> {
         ensures moved { HasMoved
             (max (cursor_place self.old) (below target (docs_left (cursor_blocks self.old))))
             self.old self.new }
+        ensures reached { skips_reached (cursor_blocks self.new)
+            ≡ (if nat_lt target (first (entries_left self.old)) then skips_reached (cursor_blocks self.old)
+            else skips_left (cursor_blocks self.new)) }
     {
         let doc = self.doc();
         if target < doc {

@@ -12,6 +12,7 @@ use Rattle.definitions.specs.Scoring.{length_id}
 use Rattle.definitions.specs.Values.{Document}
 use Rattle.segment_reader.proofs.DocumentIds.{ids_are}
 use Rattle.layouts.specs.FieldNorms.{ids_of}
+use Rattle.layouts.specs.InvertedIndexes.{field_ids}
 use Rattle.layouts.specs.TermPostings.{id_of}
 use Rattle.segment_reader.specs.SegmentReaders.{StandsFor, known_together, lengths_of, max_doc_of}
 use Rattle.segment_reader.specs.declared.segment_reader.SegmentReader.{SegmentReader}
@@ -62,3 +63,16 @@ constant_ids schema analyze docs r field stands none place doc is =
     ∙ sym (none_there place)
     ∙ ap (λ (o : Option (List ℕ)). id_of (option_map_or (λ xs. xs) o []) place) (sym none ∙ ap (ids_of field) stands.lengths_are)
     ∙ ids_are schema analyze docs field place doc is
+
+-- ---- the ids that a field's postings are written with, for any reader
+
+pub ids_kept : (r : SegmentReader) (field : ℕ) (ids : List ℕ) (doc : ℕ) → ids_of field (lengths_of r) ≡ Some ids → id_of ids doc ≡ id_of (field_ids (lengths_of r) field) doc
+ids_kept r field ids doc found = ap (λ (o : Option (List ℕ)). id_of (option_map_or (λ xs. xs) o []) doc) (sym found)
+
+all_one : (n doc : ℕ) → id_of (replicate n 1) doc ≡ 1
+all_one zero doc = none_there doc
+all_one (suc n) zero = refl
+all_one (suc n) (suc doc) = all_one n doc
+
+pub none_kept : (r : SegmentReader) (field n doc : ℕ) → ids_of field (lengths_of r) ≡ None → id_of (replicate n 1) doc ≡ id_of (field_ids (lengths_of r) field) doc
+none_kept r field n doc none = all_one n doc ∙ sym (none_there doc) ∙ ap (λ (o : Option (List ℕ)). id_of (option_map_or (λ xs. xs) o []) doc) (sym none)

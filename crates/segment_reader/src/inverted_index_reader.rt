@@ -20,7 +20,8 @@ ghost use Rattle.segment_reader.specs.declared.field_index.FieldIndex.{FieldInde
 ghost use Rattle.layouts.specs.InvertedIndexes.{AreSections, IndexedField, field_ids, option_of_term, term_of_key};
 ghost use Rattle.layouts.specs.TermPostings.{bound_in};
 ghost use Rattle.options.specs.RecordOption.{record_option_of};
-ghost use Rattle.segment_postings.specs.Cursors.{blocks_decoded, counts_left, cursor_blocks, cursor_blocks_decoded, cursor_doc_freq, cursor_place, cursor_positions, doc_freq_of, docs_left, entries_left, skips_left};
+ghost use Rattle.segment_postings.specs.BoundedBlocks.{AreBounded};
+ghost use Rattle.segment_postings.specs.Cursors.{blocks_decoded, counts_left, cursor_blocks, cursor_blocks_decoded, cursor_doc_freq, cursor_place, cursor_positions, doc_freq_of, docs_left, entries_left, skips_left, skips_reached};
 ghost use Rattle.terms.specs.Kinds.{kind_of};
 
 use crate::field_index::FieldIndex;
@@ -303,7 +304,11 @@ impl InvertedIndexReader {
             (option_of_term contents.schema (term_of_key contents.schema field value_bytes.now))
             (field_ids contents.norms field)
             (postings_in contents.fields field value_bytes.now) }
+        ensures bounded { (contents : Contents self.now)
+            → AreBounded (field_ids contents.norms field) (skips_left (cursor_blocks result))
+            (docs_left (cursor_blocks result)) (counts_left (cursor_blocks result)) }
         ensures place { cursor_place result ≡ 0 }
+        ensures reached { skips_reached (cursor_blocks result) ≡ skips_left (cursor_blocks result) }
         ensures positions { (contents : Contents self.now)
             → cursor_positions result
             ≡ positions_asked (record_option_of option) (postings_in contents.fields field value_bytes.now) }
@@ -339,7 +344,11 @@ impl InvertedIndexReader {
             → AreOfDocuments self.now contents analyze docs
             → IfSome result (λ p. map bound_in (skips_left (cursor_blocks p))
             ≡ full_bounds contents.schema analyze term.now docs) }
+        ensures bounded { (contents : Contents self.now)
+            → IfSome result (λ p. AreBounded (field_ids contents.norms (field_of term.now))
+            (skips_left (cursor_blocks p)) (docs_left (cursor_blocks p)) (counts_left (cursor_blocks p))) }
         ensures place { IfSome result (λ p. cursor_place p ≡ 0) }
+        ensures reached { IfSome result (λ p. skips_reached (cursor_blocks p) ≡ skips_left (cursor_blocks p)) }
         ensures positions { (contents : Contents self.now)
             → IfSome result (λ p. cursor_positions p
             ≡ positions_asked (record_option_of option) (postings_held contents.schema contents.fields term.now)) }

@@ -5,7 +5,8 @@ ghost use Rattle.definitions.specs.Postings.{Posting};
 ghost use Rattle.definitions.specs.Schema.{has_freq, has_positions};
 ghost use Rattle.segment_reader.specs.OpenedTerms.{HasTerm, entries_of_postings, entry_as, positions_asked};
 ghost use Rattle.options.specs.RecordOption.{record_option_of};
-ghost use Rattle.segment_postings.specs.Cursors.{blocks_decoded, counts_left, cursor_blocks, cursor_blocks_decoded, cursor_doc_freq, cursor_place, cursor_positions, doc_freq_of, docs_left, entries_left, skips_left};
+ghost use Rattle.segment_postings.specs.BoundedBlocks.{AreBounded};
+ghost use Rattle.segment_postings.specs.Cursors.{blocks_decoded, counts_left, cursor_blocks, cursor_blocks_decoded, cursor_doc_freq, cursor_place, cursor_positions, doc_freq_of, docs_left, entries_left, skips_left, skips_reached};
 
 use options::IndexRecordOption;
 use positions::PositionReader;
@@ -41,7 +42,12 @@ pub(crate) fn open_term<'a>(
     ensures skips { (ps : List Posting)
         (known : HasTerm (record_option_of option) doc_freq postings.now positions.now ps)
         → skips_left (cursor_blocks result) ≡ entries_of_postings (record_option_of option) known.ids ps }
+    ensures bounded { (ps : List Posting)
+        (known : HasTerm (record_option_of option) doc_freq postings.now positions.now ps)
+        → AreBounded known.ids (skips_left (cursor_blocks result)) (docs_left (cursor_blocks result))
+        (counts_left (cursor_blocks result)) }
     ensures place { cursor_place result ≡ 0 }
+    ensures reached { skips_reached (cursor_blocks result) ≡ skips_left (cursor_blocks result) }
     ensures positions { (ps : List Posting) → HasTerm (record_option_of option) doc_freq postings.now positions.now ps
         → cursor_positions result ≡ positions_asked (record_option_of asked) ps }
 {

@@ -100,11 +100,11 @@ one_at P other [] i h l = absurd (omega (arith, l))
 one_at P other (z ∷ ys) zero h l = h.0
 one_at P other (z ∷ ys) (suc i) h l = one_at P other ys i h.1 (omega (arith, l))
 
--- a document of an opened segment is in its store
-pub stored_at : (segments : List code.Segment) (i doc : ℕ) (other : code.Segment) → ∥ ((schema : Schema) × AllByRecursion (IsOpened schema) segments) ∥₁ → i < length segments → doc < get_or (map num_docs_of segments) i 0 → doc < count_of (blocks_of (get_or segments i other))
-stored_at segments i doc other opened inside l =
+-- a document of a segment is in its store
+pub stored_at : (segments : List code.Segment) (i doc : ℕ) (other : code.Segment) → i < length segments → doc < get_or (map num_docs_of segments) i 0 → doc < count_of (blocks_of (get_or segments i other))
+stored_at segments i doc other inside l =
     let s = get_or segments i other in
-    let counted : count_of (blocks_of s) ≡ num_docs_of s = ∥∥₁_elim opened (hlevel props) (λ o. (let one : IsOpened o.0 s = one_at (IsOpened o.0) other segments i o.1 inside in sym (count_is (blocks_of s)) ∙ one.counted)) in
+    let counted : count_of (blocks_of s) ≡ num_docs_of s = ∥∥₁_elim s.opened (hlevel props) (λ o. sym (count_is (blocks_of s)) ∙ o.1.counted) in
     let held : doc < num_docs_of s = subst (λ n. doc < n) (get_or-map num_docs_of segments i other 0 inside) l in
     omega (arith, counted, held)
 

@@ -1,6 +1,6 @@
 -- What stands at a place of lists of which each element stands for that of another.
 use Rattle.std.proofs.Common.{[], ◌++◌, ◌+◌, ◌<◌, ◌∙◌, ◌∷◌, ◌≡◌, ◌≤◌, List, ap, arith, drop, drop-cons, get_or, length, refl, subst, suc, sym, take, zero, ℕ}
-use Rattle.std.specs.List.{AllByRecursion, AllZip}
+use Rattle.std.specs.List.{AllZip}
 use Rattle.std.proofs.lemmas.List.{drop_all}
 
 -- at a place of a list stands an element, and the others follow it
@@ -37,8 +37,3 @@ zip_at R (x ∷ xs) (z ∷ ys) (suc i) y h l e =
     let rest = zip_at R xs ys i y h.1 (omega (arith, l)) e in
     let n : suc i + 1 ≡ suc (i + 1) = omega arith in
     record { one = rest.one; stands = rest.stands; here = rest.here ∙ ap (λ j. rest.one ∷ drop j (x ∷ xs)) (sym n) }
-
-pub all_at : {X : Type 0} (P : X → Type 0) (xs : List X) (i : ℕ) (x : X) → AllByRecursion P xs → i < length xs → x ≡ get_or xs i x → P x
-all_at P [] i x h l e = absurd (omega (arith, l))
-all_at P (y ∷ xs) zero x h l e = subst P (sym e) h.0
-all_at P (y ∷ xs) (suc i) x h l e = all_at P xs i x h.1 (omega (arith, l)) e

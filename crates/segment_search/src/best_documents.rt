@@ -7,7 +7,7 @@ ghost use Rattle.definitions.specs.Refusing.{tree_fault};
 ghost use Rattle.definitions.specs.Schema.{Schema};
 ghost use Rattle.definitions.specs.Values.{Document};
 ghost use Rattle.query_trees.specs.Queries.{query_of};
-ghost use Rattle.segment.specs.Opened.{IsOpened, StandsFor};
+ghost use Rattle.segment.specs.Opened.{StandsFor};
 ghost use Rattle.segment_definitions.specs.Found.{places_from};
 ghost use Rattle.segment_search.specs.Flags.{AreFlagged, flagged_each};
 ghost use Rattle.top_docs.specs.Collected.{IsFound, best_places, place_at};
@@ -33,7 +33,6 @@ pub(crate) fn best_documents<'a, S: Statistics>(
     query: &AnyQuery,
     limit: usize,
 ) -> Result<Vec<(u64, DocAddress)>, AllocError>
-    requires opened { ∥ ((schema : Schema) × AllByRecursion (IsOpened schema) segments.now) ∥₁ }
     requires flagged { AreFlagged segments.now alive.now }
     requires few { length alive.now < 2 ^ 32 }
     requires accepted { IsAccepted (S.similarity statistics.now).weight 1 (query_of query.now) }

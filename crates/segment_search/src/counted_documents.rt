@@ -1,7 +1,7 @@
 //! Counts of the documents of segments that match a query.
 
 ghost use Rattle.std.specs.Prelude.{◌<◌, ◌^◌, ◌≡◌, IfOk, List, None, length};
-ghost use Rattle.std.specs.List.{AllByRecursion, AllZip};
+ghost use Rattle.std.specs.List.{AllZip};
 ghost use Rattle.definitions.specs.Alive.{Segment as Rows, live};
 ghost use Rattle.definitions.specs.Analyzers.{Analyzer};
 ghost use Rattle.definitions.specs.Refusing.{tree_fault};
@@ -10,7 +10,7 @@ ghost use Rattle.definitions.specs.Schema.{Schema};
 ghost use Rattle.definitions.specs.Values.{Document};
 ghost use Rattle.query_trees.specs.Queries.{query_of};
 ghost use Rattle.scorer_answers.specs.Rows.{HasRows};
-ghost use Rattle.segment.specs.Opened.{IsOpened, StandsFor};
+ghost use Rattle.segment.specs.Opened.{StandsFor};
 ghost use Rattle.segment_search.specs.Flags.{AreFlagged, flagged_each};
 ghost use Rattle.tree_scorers.specs.Accepted.{IsAccepted};
 
@@ -32,7 +32,6 @@ pub(crate) fn counted_documents<'a, S: Statistics>(
     statistics: &'a S,
     query: &AnyQuery,
 ) -> Result<u64, AllocError>
-    requires opened { ∥ ((schema : Schema) × AllByRecursion (IsOpened schema) segments.now) ∥₁ }
     requires flagged { AreFlagged segments.now alive.now }
     requires few { length alive.now < 2 ^ 32 }
     requires accepted { IsAccepted (S.similarity statistics.now).weight 1 (query_of query.now) }

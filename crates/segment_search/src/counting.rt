@@ -1,16 +1,15 @@
 //! Counts over segments.
 
 ghost use Rattle.std.specs.Prelude.{◌<◌, ◌^◌, ◌≡◌, ◌≢◌, ◌⊎◌, IfErr, IfOk, List, None, Some, length};
-ghost use Rattle.std.specs.List.{AllByRecursion, AllZip};
+ghost use Rattle.std.specs.List.{AllZip};
 ghost use Rattle.definitions.specs.Alive.{live};
 ghost use Rattle.definitions.specs.Analyzers.{Analyzer};
 ghost use Rattle.definitions.specs.Refusing.{refusal};
 ghost use Rattle.definitions.specs.Scanning as scanning;
-ghost use Rattle.definitions.specs.Schema as schemas;
 ghost use Rattle.definitions.specs.Values.{Document};
 ghost use Rattle.definitions.specs.declared.fault.Fault.TheVariants as faults;
 ghost use Rattle.query_trees.specs.Queries.{query_of};
-ghost use Rattle.segment.specs.Opened.{IsOpened, StandsFor};
+ghost use Rattle.segment.specs.Opened.{StandsFor};
 ghost use Rattle.segment_search.specs.Flags.{AreFlagged, flagged_each};
 
 use crate::counted_documents::counted_documents;
@@ -32,7 +31,6 @@ pub fn count<S: Statistics>(
     statistics: &S,
     query: &AnyQuery,
 ) -> Result<u64, Fault>
-    requires opened { ∥ ((schema : schemas.Schema) × AllByRecursion (IsOpened schema) segments.now) ∥₁ }
     requires flagged { AreFlagged segments.now alive.now }
     requires few { length alive.now < 2 ^ 32 }
     ensures ok { (analyze : Analyzer) (docs : List (List Document))

@@ -3,10 +3,9 @@
 ghost use Rattle.std.specs.Prelude.{◌≡◌, ◌⊎◌, IfErr, IfOk, List, None, map};
 ghost use Rattle.std.specs.List.{AllByRecursion, AllZip};
 ghost use Rattle.definitions.specs.Analyzers.{Analyzer};
-ghost use Rattle.definitions.specs.Schema as schemas;
 ghost use Rattle.definitions.specs.Values.{Document};
 ghost use Rattle.definitions.specs.declared.fault.Fault.TheVariants as faults;
-ghost use Rattle.segment.specs.Opened.{IsOpened, StandsFor};
+ghost use Rattle.segment.specs.Opened.{StandsFor};
 ghost use Rattle.segment_search.specs.Hits.{IsHeld, IsWithin, KeepsSegments, hit_of, shown_of};
 
 use common::Score;
@@ -34,7 +33,6 @@ pub(crate) fn read_hits(
     segments: &mut [Segment],
     best: &[(u64, DocAddress)],
 ) -> Result<Vec<Hit>, Fault>
-    requires opened { ∥ ((schema : schemas.Schema) × AllByRecursion (IsOpened schema) segments.old) ∥₁ }
     requires held { AllByRecursion (IsHeld segments.old) best.now }
     ensures hits { (analyze : Analyzer) (docs : List (List Document))
         → AllZip (StandsFor schema.now analyze) docs segments.old
@@ -61,7 +59,6 @@ fn read_hit(
     score: u64,
     address: DocAddress,
 ) -> Result<Hit, Fault>
-    requires opened { ∥ ((schema : schemas.Schema) × AllByRecursion (IsOpened schema) segments.old) ∥₁ }
     requires held { IsHeld segments.old (score, address) }
     ensures hit { (analyze : Analyzer) (docs : List (List Document))
         → AllZip (StandsFor schema.now analyze) docs segments.old

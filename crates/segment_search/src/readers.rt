@@ -1,12 +1,12 @@
 //! Segments as queries see them.
 
 ghost use Rattle.std.specs.Prelude.{◌≡◌, IfOk, List, length, map};
-ghost use Rattle.std.specs.List.{AllByRecursion, AllZip};
+ghost use Rattle.std.specs.List.{AllZip};
 ghost use Rattle.definitions.specs.Analyzers.{Analyzer};
 ghost use Rattle.definitions.specs.Schema.{Schema};
 ghost use Rattle.definitions.specs.Values.{Document};
 ghost use Rattle.scorer_answers.specs.Rows.{HasRows, flags_in};
-ghost use Rattle.segment.specs.Opened.{IsOpened, StandsFor};
+ghost use Rattle.segment.specs.Opened.{StandsFor};
 ghost use Rattle.segment_search.specs.Flags.{AreFlagged, flagged_each};
 
 use common::AliveBitSet;
@@ -20,7 +20,6 @@ pub(crate) fn readers_of<'a>(
     segments: &'a [Segment],
     alive: &'a [AliveBitSet],
 ) -> Result<Vec<SegmentReader<'a>>, AllocError>
-    requires opened { ∥ ((schema : Schema) × AllByRecursion (IsOpened schema) segments.now) ∥₁ }
     requires flagged { AreFlagged segments.now alive.now }
     ensures rows { (schema : Schema) (analyze : Analyzer) (docs : List (List Document))
         → AllZip (StandsFor schema analyze) docs segments.now

@@ -1,16 +1,15 @@
 //! Searches over segments.
 
 ghost use Rattle.std.specs.Prelude.{◌<◌, ◌^◌, ◌≡◌, ◌≢◌, ◌⊎◌, IfErr, IfOk, List, None, Some, length, map};
-ghost use Rattle.std.specs.List.{AllByRecursion, AllZip};
+ghost use Rattle.std.specs.List.{AllZip};
 ghost use Rattle.definitions.specs.Alive.{live};
 ghost use Rattle.definitions.specs.Analyzers.{Analyzer};
 ghost use Rattle.definitions.specs.Refusing.{refusal};
 ghost use Rattle.definitions.specs.Scanning as scanning;
-ghost use Rattle.definitions.specs.Schema as schemas;
 ghost use Rattle.definitions.specs.Values.{Document};
 ghost use Rattle.definitions.specs.declared.fault.Fault.TheVariants as faults;
 ghost use Rattle.query_trees.specs.Queries.{query_of};
-ghost use Rattle.segment.specs.Opened.{IsOpened, StandsFor};
+ghost use Rattle.segment.specs.Opened.{StandsFor};
 ghost use Rattle.segment_search.specs.Flags.{AreFlagged, flagged_each};
 ghost use Rattle.segment_search.specs.Hits.{KeepsSegments, hit_of, scored};
 
@@ -37,7 +36,6 @@ pub fn search<S: Statistics>(
     query: &AnyQuery,
     limit: usize,
 ) -> Result<Vec<Hit>, Fault>
-    requires opened { ∥ ((schema : schemas.Schema) × AllByRecursion (IsOpened schema) segments.old) ∥₁ }
     requires flagged { AreFlagged segments.old alive.now }
     requires few { length alive.now < 2 ^ 32 }
     ensures ok { (analyze : Analyzer) (docs : List (List Document))

@@ -1,2 +1,3 @@
 pub mod SignedScores
 pub mod TermScoreLaws
+pub mod BlockBounds

@@ -1,6 +1,7 @@
 pub mod TermScores
 pub mod Similarities
 pub mod ScoredTerms
+pub mod BlockScores
 pub mod Explaining
 -- Laws that clauses and proofs of types must name.
 pub mod TermScoreLaws

@@ -1,3 +1,4 @@
 -- Lemmas behind weights.
 pub mod TermAnswers
 pub mod TermsFound
+pub mod BoundsFound

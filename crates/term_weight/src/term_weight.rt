@@ -1,8 +1,8 @@
 //! The weight of a term.
 
-ghost use Rattle.std.specs.Prelude.{[], ◌*◌, ◌≡◌, ◌≤ℤ◌, ◌≤◌, IfNone, IfOk, IfSome, List, Some, length, map, option_map, pos, ℕ};
+ghost use Rattle.std.specs.Prelude.{[], ◌*◌, ◌≡◌, ◌≤ℤ◌, ◌≤◌, IfNone, IfSome, List, Some, length, map, pos};
 ghost use Rattle.definitions.specs.Analyzers.{Analyzer};
-ghost use Rattle.definitions.specs.Answers.{answers, living_count};
+ghost use Rattle.definitions.specs.Answers.{answers};
 ghost use Rattle.definitions.specs.Query.{term};
 ghost use Rattle.definitions.specs.Schema.{Schema};
 ghost use Rattle.definitions.specs.Scoring.{DontFall, max_score, natural};
@@ -12,8 +12,11 @@ ghost use Rattle.docsets.specs.Entries.{from};
 ghost use Rattle.docsets.proofs.EntryLaws.{DontFall-prop};
 ghost use Rattle.docsets.specs.ScoredEntries.{greatest_score, pairs_of};
 ghost use Rattle.options.specs.RecordOption.{record_option_of};
+ghost use Rattle.layouts.specs.TermPostings.{bound_in};
+ghost use Rattle.segment_postings.specs.Cursors.{cursor_blocks, cursor_blocks_decoded, cursor_place, skips_left};
+ghost use Rattle.segment_reader.specs.Readers.{full_bounds};
 ghost use Rattle.segment_reader.specs.SegmentReaders.{StandsFor, max_doc_of};
-ghost use Rattle.term_scorer.specs.ScoredTerms.{scored_left};
+ghost use Rattle.term_scorer.specs.ScoredTerms.{cursor_of, scored_left, similarity_of};
 
 use common::{DocId, Score};
 use options::IndexRecordOption;
@@ -87,6 +90,15 @@ impl<'q, 'a> TermWeight<'q, 'a> {
         ensures within { IfSome result (λ scorer. from (max_doc_of reader.now) (scored_left scorer) ≡ []) }
         ensures bounded { IfSome result (λ scorer. greatest_score (scored_left scorer)
             ≤ natural boost * weight_in self.now) }
+        ensures similarity { (sim : scoring.Similarity) → ScoresBy sim self.now
+            → IfSome result (λ scorer. similarity_of scorer
+            ≡ record { weight = sim.weight (term_of self.now); boost = natural boost; norms = sim.norms }) }
+        ensures opened { IfSome result (λ scorer. (cursor_blocks_decoded (cursor_of scorer) ≡ 1)
+            × (cursor_place (cursor_of scorer) ≡ 0)) }
+        ensures blocks { (schema : Schema) (analyze : Analyzer) (docs : List Document)
+            → StandsFor schema analyze docs reader.now
+            → IfSome result (λ scorer. map bound_in (skips_left (cursor_blocks (cursor_of scorer)))
+            ≡ full_bounds schema analyze (term_of self.now) docs) }
     {
         let index = reader.inverted_index();
         let postings = index.read_postings(self.term, self.index_record_option)?;

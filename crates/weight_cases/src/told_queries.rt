@@ -1,10 +1,9 @@
 //! What a query answers over the segment that is held: `STEPS`, and then what is asked.
 
 ghost use Rattle.std.specs.Prelude.{◌≡◌, IfOk, length};
-ghost use Rattle.definitions.specs.Schema as definitions;
 ghost use Rattle.definitions.specs.Settings.{similarity_of};
 ghost use Rattle.query_trees.specs.Queries.{query_of};
-ghost use Rattle.segment.specs.Opened.{IsOpened, num_docs_of};
+ghost use Rattle.segment.specs.Opened.{num_docs_of};
 ghost use Rattle.tree_scorers.specs.Accepted.{IsAccepted};
 
 use crate::held::Held;
@@ -77,7 +76,6 @@ fn over<'a>(
     arguments: &Arguments,
 ) -> Result<Value, Refusal>
     requires flagged { length alive.now ≡ num_docs_of segment.now }
-    requires opened { ∥ ((schema : definitions.Schema) × IsOpened schema segment.now) ∥₁ }
     requires accepted { IsAccepted (similarity_of settings.now).weight 1 (query_of query.now) }
 {
     let reader = segment.reader(Some(alive));

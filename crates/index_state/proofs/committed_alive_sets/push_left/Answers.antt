@@ -1,10 +1,9 @@
 use Rattle.std.proofs.Common.{ap, arith, drop, length, map, subst, sym, ◌++◌, ◌<◌, ◌∙◌}
-use Rattle.std.proofs.Math.Logic.{∥∥₁_map}
 use Rattle.std.proofs.lemmas.List.{append-nil}
 use Rattle.definitions.specs.Recorded.{holds}
-use Rattle.segment.specs.Opened.{IsOpened, StandsFor}
+use Rattle.segment.specs.Opened.{StandsFor}
 use Rattle.segment_search.proofs.Flagging.{flagged_at, flagged_step}
-use Rattle.segment_search.proofs.Places.{all_at, nothing_left, rest_is, zip_at}
+use Rattle.segment_search.proofs.Places.{nothing_left, rest_is, zip_at}
 use Rattle.index_state.proofs.SetSteps.{left_step, one_longer}
 use Rattle.index_state.specs.Deletions.{term_of}
 use Rattle.index_state.specs.Flags.{AreFlagged, flagged_each}
@@ -19,15 +18,8 @@ loop-number-init c =
       λ schema analyze docs stands. ap (λ sets. flagged_each docs sets ++ map (left_rows (holds schema analyze) (map term_of c.args.deletions.now)) (flagged_each docs c.args.alive.now)) c.requires.none,
     )
 
-pub left_set-requires-clause-flagged : goal.left_set-requires-clause-flagged
-left_set-requires-clause-flagged c = flagged_at c.args.segments.now c.args.alive.now c.loop-number.number c.index-segments-number.result c.index-alive-number.result c.requires.flagged c.loop-number-test.true c.index-segments-number.is c.index-alive-number.is
-
-pub left_set-requires-clause-opened : goal.left_set-requires-clause-opened
-left_set-requires-clause-opened c =
-    let few = c.requires.within in
-    let there = c.loop-number-test.true in
-    let inside : c.loop-number.number < length c.args.segments.now = omega (arith, few, there) in
-    ∥∥₁_map c.requires.opened (λ p. (p.0, all_at (IsOpened p.0) c.args.segments.now c.loop-number.number c.index-segments-number.result p.1 inside c.index-segments-number.is))
+pub left_set-requires : goal.left_set-requires
+left_set-requires c = record { flagged = flagged_at c.args.segments.now c.args.alive.now c.loop-number.number c.index-segments-number.result c.index-alive-number.result c.requires.flagged c.loop-number-test.true c.index-segments-number.is c.index-alive-number.is }
 
 pub loop-number-preserved : goal.loop-number-preserved
 loop-number-preserved c =

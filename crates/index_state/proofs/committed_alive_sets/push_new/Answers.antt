@@ -1,11 +1,10 @@
 use Rattle.std.proofs.Common.{List, ap, arith, drop, length, map, sym, ◌*◌, ◌++◌, ◌+◌, ◌-◌, ◌∙◌, ◌≡◌, ◌≤◌}
-use Rattle.std.proofs.Math.Logic.{∥∥₁_map}
 use Rattle.std.proofs.lemmas.List.{append-nil}
 use Rattle.definitions.specs.Recorded.{holds}
 use Rattle.definitions.specs.Values.{Document}
-use Rattle.segment.specs.Opened.{IsOpened, StandsFor}
+use Rattle.segment.specs.Opened.{StandsFor}
 use Rattle.segment_search.proofs.Flagging.{flagged_step, flagged_within}
-use Rattle.segment_search.proofs.Places.{all_at, nothing_left, rest_is, zip_at, zip_length}
+use Rattle.segment_search.proofs.Places.{nothing_left, rest_is, zip_at, zip_length}
 use Rattle.definitions.proofs.Lists.{all_first}
 use Rattle.index_state.proofs.SetSteps.{new_step, one_longer}
 use Rattle.index_state.specs.Deletions.{numbered}
@@ -23,9 +22,6 @@ loop-at-init c =
           let nothing : n * 0 ≡ 0 = omega arith in
           (few, ap (λ i. flagged_each docs c.args.sets.now.items ++ pending_rows (holds schema analyze) (map (numbered n) c.args.deletions.now) n i (drop k docs)) (ap (λ j. n * j) none ∙ nothing)),
     )
-
-pub new_set-requires : goal.new_set-requires
-new_set-requires c = record { opened = ∥∥₁_map c.requires.opened (λ p. (p.0, all_at (IsOpened p.0) c.args.segments.now c.loop-at.at c.index-segments-at.result p.1 c.loop-at-test.true c.index-segments-at.is)) }
 
 pub loop-at-preserved : goal.loop-at-preserved
 loop-at-preserved c =

@@ -15,7 +15,7 @@ pub kill_postings-requires : goal.kill_postings-requires
 kill_postings-requires c =
     let flags = c.args.alive.now in
     let docs = docs_left c.in-Some.postings in
-    ∥∥₁_elim c.requires.opened (all_below (length flags) docs) (λ o.
+    ∥∥₁_elim c.args.segment.now.opened (all_below (length flags) docs) (λ o.
     (let within = subst (λ (r : Reader). (contents : Contents r) → AllByRecursion (λ doc. doc < contents.num_docs) docs) c.inverted_index-index.ensures c.in-Some.ensures.within in
     subst (λ n. AllByRecursion (λ doc. doc < n) docs) (sym c.requires.flagged) (within (opened_contents o.0 c.args.segment.now o.1))))
 

@@ -33,8 +33,8 @@ loop-last-smaller c =
     let fewer = pass.fewer in
     omega (arith, is, fewer)
 
-pub returns : goal.returns
-returns c = λ reads sums bytes stands.
+pub returns-clause-passed : goal.returns-clause-passed
+returns-clause-passed c = λ reads sums bytes stands.
     (let passed = c.loop-last.invariant.passing reads sums bytes stands in
     let at = c.loop-last.invariant.at in
     let late = c.loop-last-test.false in
@@ -47,3 +47,6 @@ returns c = λ reads sums bytes stands.
       place = all.1;
       offset = λ yes. (let it = passed.1.offset yes in let same = ap (λ k. sum (take (128 * k) (counts_at reads c.args.before c.args.skips.now bytes))) all.0 in omega (arith, it, same));
     })
+
+pub returns-clause-late : goal.returns-clause-late
+returns-clause-late c = (let at = c.loop-last.invariant.at in let late = c.loop-last-test.false in omega (arith, at, late))

@@ -1,6 +1,6 @@
 use Rattle.std.proofs.Common.{ap, arith, drop, length, length-drop, length-take, subst, sum, sym, take, ◌+◌, ◌∙◌, ◌≡◌}
 use Rattle.segment_postings.proofs.BoundedNumbers.{Leaves, block_sum, leaves_more, leaves_not}
-use Rattle.segment_postings.specs.Placed.{AreBounded}
+use Rattle.segment_postings.specs.Placed.{LastPositionsFit}
 use Rattle.segment_postings.specs.Cursors.{counts_left, docs_left}
 use Rattle.segment_postings.proofs.positions_check.are_bounded.Goals as goal
 
@@ -31,7 +31,7 @@ block_end-requires-clause-few c =
 pub returns-in-None : goal.returns-in-None
 returns-in-None c =
     let left = counts_left c.loop-room.blocks in
-    let none : AreBounded (take 128 left) (drop c.loop-room.place c.args.reader.now) → ⊥ = λ b. c.in-None.ensures.none (subst (λ xs. AreBounded c.freqs.result.now (drop c.loop-room.place xs)) (sym c.loop-room.invariant.reader_same) (subst (λ ns. AreBounded ns (drop c.loop-room.place c.args.reader.now)) (sym c.freqs.ensures) b)) in
+    let none : LastPositionsFit (take 128 left) (drop c.loop-room.place c.args.reader.now) → ⊥ = λ b. c.in-None.ensures.none (subst (λ xs. LastPositionsFit c.freqs.result.now (drop c.loop-room.place xs)) (sym c.loop-room.invariant.reader_same) (subst (λ ns. LastPositionsFit ns (drop c.loop-room.place c.args.reader.now)) (sym c.freqs.ensures) b)) in
     (λ f. absurd cc, λ all. absurd (leaves_not (counts_left c.args.blocks.now) c.args.reader.now left c.loop-room.place c.loop-room.invariant.leaves none all))
 
 pub loop-room-smaller : goal.loop-room-smaller
@@ -48,7 +48,7 @@ loop-room-preserved c =
     let counts = ap length c.advance.ensures.counts in
     let counted = c.loop-room.invariant.counted in
     let some = c.in-Some.ensures.some in
-    let block : AreBounded (take 128 left) (drop c.loop-room.place c.args.reader.now) = subst (λ ns. AreBounded ns (drop c.loop-room.place c.args.reader.now)) c.freqs.ensures (subst (λ xs. AreBounded c.freqs.result.now (drop c.loop-room.place xs)) c.loop-room.invariant.reader_same some.0) in
+    let block : LastPositionsFit (take 128 left) (drop c.loop-room.place c.args.reader.now) = subst (λ ns. LastPositionsFit ns (drop c.loop-room.place c.args.reader.now)) c.freqs.ensures (subst (λ xs. LastPositionsFit c.freqs.result.now (drop c.loop-room.place xs)) c.loop-room.invariant.reader_same some.0) in
     let end : c.in-Some.end ≡ c.loop-room.place + sum (take 128 left) = some.1 ∙ ap (λ ns. c.loop-room.place + sum ns) c.freqs.ensures in
     record {
       reader_same = c.block_end.ensures.same ∙ c.loop-room.invariant.reader_same;

@@ -3,7 +3,7 @@ use Rattle.std.proofs.Math.Logic.{∥∥₁_elim, ∥∥₁_map}
 use Rattle.std.proofs.Props.{props}
 use Rattle.std.proofs.lemmas.Result.{err_from_is_err_and}
 use Rattle.std.specs.Coded.{Coded-set, coded_ℕ}
-use Rattle.segment_postings.specs.Placed.{AreBounded}
+use Rattle.segment_postings.specs.Placed.{LastPositionsFit}
 use Rattle.segment_postings.specs.Cursors.{counts_left}
 use Rattle.segment_postings.specs.Reading.{HasPostings}
 use Rattle.segment_postings.proofs.positions_check.check_positions.Goals.{After-new-blocks}
@@ -59,13 +59,13 @@ returns-then-num_positions-total-clause-err c =
 
 pub returns-then-not-are_bounded-clause-err : goal.returns-then-not-are_bounded-clause-err
 returns-then-not-are_bounded-clause-err c =
-    let other : AreBounded (counts_left c.new-blocks.result) c.in_ok-reader.reader → ⊥ = search rules in
-    (refl, λ docs counts known h. other (subst (λ xs. AreBounded (counts_left c.new-blocks.result) xs) (c.in_ok-reader.ensures.one h.numbers h.stand) (subst (λ ns. AreBounded ns h.numbers) (sym (c.new-blocks.ensures.counts docs counts known)) h.bounded)))
+    let other : LastPositionsFit (counts_left c.new-blocks.result) c.in_ok-reader.reader → ⊥ = search rules in
+    (refl, λ docs counts known h. other (subst (λ xs. LastPositionsFit (counts_left c.new-blocks.result) xs) (c.in_ok-reader.ensures.one h.numbers h.stand) (subst (λ ns. LastPositionsFit ns h.numbers) (sym (c.new-blocks.ensures.counts docs counts known)) h.bounded)))
 
 pub returns-clause-ok : goal.returns-clause-ok
 returns-clause-ok c = λ docs counts known.
     (let here = (goal.at.returns-clause-ok c).After-new-blocks in
-    let bounded : AreBounded (counts_left c.new-blocks.result) c.in_ok-reader.reader = search rules in
+    let bounded : LastPositionsFit (counts_left c.new-blocks.result) c.in_ok-reader.reader = search rules in
     let total = total_is here docs counts known in
     let many = c.num_positions.ensures in
     let told = c.if-num_positions-total.false in
@@ -73,5 +73,5 @@ returns-clause-ok c = λ docs counts known.
       numbers = c.in_ok-reader.reader;
       stand = c.in_ok-reader.ensures.ok;
       many = omega (arith, many, told, total);
-      bounded = subst (λ ns. AreBounded ns c.in_ok-reader.reader) (c.new-blocks.ensures.counts docs counts known) bounded;
+      bounded = subst (λ ns. LastPositionsFit ns c.in_ok-reader.reader) (c.new-blocks.ensures.counts docs counts known) bounded;
     })

@@ -93,3 +93,11 @@ returns-clause-positions c ps known =
     let asked = record_option_of c.args.asked in
     let none : (has_positions option && has_positions asked) ≡ false = sym c.reads_positions.ensures ∙ c.if-reads_positions.false in
     c.new.ensures.positions ∙ none_asked option asked c.args.doc_freq c.args.postings.now c.args.positions.now ps none known
+
+-- ---- bounds
+
+pub returns-then-reads_positions-clause-bounded : goal.returns-then-reads_positions-clause-bounded
+returns-then-reads_positions-clause-bounded c ps known = c.with_positions.ensures.bounded (map (λ (p : Posting). p.doc) ps) (map (λ (p : Posting). p.count) ps) (told_postings (record_option_of c.args.option) c.recorded_of-recorded.result.counts c.recorded_of-recorded.result.positions c.args.doc_freq c.args.postings.now c.args.positions.now ps c.recorded_of-recorded.ensures.counts c.recorded_of-recorded.ensures.positions known)
+
+pub returns-clause-bounded : goal.returns-clause-bounded
+returns-clause-bounded c ps known = c.new.ensures.bounded (map (λ (p : Posting). p.doc) ps) (map (λ (p : Posting). p.count) ps) (told_postings (record_option_of c.args.option) c.recorded_of-recorded.result.counts c.recorded_of-recorded.result.positions c.args.doc_freq c.args.postings.now c.args.positions.now ps c.recorded_of-recorded.ensures.counts c.recorded_of-recorded.ensures.positions known)

@@ -19,7 +19,7 @@ returns-in_err-doc-clause-faults c =
     let segments = c.args.segments.now in
     let i = c.args.address.segment_ord in
     let other = c.index-segments-address.result in
-    let there = stored_at segments i c.args.address.doc_id other c.requires.opened c.requires.held.0 c.requires.held.2 in
+    let there = stored_at segments i c.args.address.doc_id other c.requires.held.0 c.requires.held.2 in
     rw (p.1, p.2) (slot_faults c.args.schema.now (get_or segments i other) c.args.address.doc_id _ there c.in_err-doc.ensures.err)
 
 pub returns-in_err-doc-clause-kept : goal.returns-in_err-doc-clause-kept

@@ -1,18 +1,14 @@
 use Rattle.std.proofs.Common.{map, ℕ}
-use Rattle.std.proofs.Math.Logic.{∥∥₁_map}
 use Rattle.segment_reader.specs.declared.doc_address.DocAddress.{DocAddress}
 use Rattle.segment_search.proofs.HitsRead.{held_kept, kept_then, one_at, read_next}
 use Rattle.segment_search.specs.Hits.{IsHeld, hit_of, shown_of}
 use Rattle.segment_search.proofs.hits.read_hits.Goals as goal
 
-pub read_hit-requires-clause-opened : goal.read_hit-requires-clause-opened
-read_hit-requires-clause-opened c = ∥∥₁_map c.requires.opened (λ o. (o.0, c.loop-score.invariant.kept.opened o.0 o.1))
-
-pub read_hit-requires-clause-held : goal.read_hit-requires-clause-held
-read_hit-requires-clause-held c =
+pub read_hit-requires : goal.read_hit-requires
+read_hit-requires c =
     let segments = c.args.segments.now in
     let l = c.loop-score in
-    held_kept segments l.segments _ l.invariant.kept.counts (one_at (IsHeld segments) _ c.args.best.now l.score-index c.requires.held c.loop-score-test.true)
+    record { held = held_kept segments l.segments _ l.invariant.kept.counts (one_at (IsHeld segments) _ c.args.best.now l.score-index c.requires.held c.loop-score-test.true) }
 
 -- src/hits.rt:48:19
 pub returns-in_err-read_hit-clause-kept : goal.returns-in_err-read_hit-clause-kept

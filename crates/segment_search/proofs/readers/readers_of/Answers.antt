@@ -1,11 +1,8 @@
 use Rattle.std.proofs.Common.{[], List, ap, arith, length, map, rules, subst, suc, sym, take, ◌+◌, ◌++◌, ◌<◌, ◌∙◌, ◌∷◌, ◌≡◌}
-use Rattle.std.proofs.Math.Logic.{∥∥₁_map}
 use Rattle.std.proofs.lemmas.List.{length-append}
 use Rattle.std.specs.List.{AllZip}
 use Rattle.scorer_answers.specs.Rows.{HasRows, flags_in}
-use Rattle.segment.specs.Opened.{IsOpened}
 use Rattle.segment_search.proofs.Flagging.{flagged_at, flagged_within}
-use Rattle.segment_search.proofs.Places.{all_at}
 use Rattle.segment_search.proofs.RowsRead.{flags_read, rows_read, take_next}
 use Rattle.segment_search.specs.Flags.{flagged_each}
 use Rattle.segment_reader.specs.declared.segment_reader.SegmentReader.{SegmentReader}
@@ -27,16 +24,8 @@ bounds-segments-place c =
     omega (arith, few, there)
 
 -- src/readers.rt:32:22
-pub reader-requires-clause-flagged : goal.reader-requires-clause-flagged
-reader-requires-clause-flagged c = flagged_at c.args.segments.now c.args.alive.now c.loop-place.place c.index-segments-place.result c.index-alive-place.result c.requires.flagged c.loop-place-test.true c.index-segments-place.is c.index-alive-place.is
-
--- src/readers.rt:32:22
-pub reader-requires-clause-opened : goal.reader-requires-clause-opened
-reader-requires-clause-opened c =
-    let few = flagged_within c.args.segments.now c.args.alive.now c.requires.flagged in
-    let there = c.loop-place-test.true in
-    let inside : c.loop-place.place < length c.args.segments.now = omega (arith, few, there) in
-    ∥∥₁_map c.requires.opened (λ p. (p.0, all_at (IsOpened p.0) c.args.segments.now c.loop-place.place c.index-segments-place.result p.1 inside c.index-segments-place.is))
+pub reader-requires : goal.reader-requires
+reader-requires c = record { flagged = flagged_at c.args.segments.now c.args.alive.now c.loop-place.place c.index-segments-place.result c.index-alive-place.result c.requires.flagged c.loop-place-test.true c.index-segments-place.is c.index-alive-place.is }
 
 -- src/readers.rt:31:5
 pub loop-place-preserved : goal.loop-place-preserved

@@ -10,12 +10,12 @@ use Rattle.segment_search.specs.Hits.{IsHeld}
 use Rattle.top_docs.specs.Collected.{IsFound, place_at}
 use Rattle.segment_search.proofs.searching.search.Goals as goal
 
-pub read_hits-requires-clause-held : goal.read_hits-requires-clause-held
-read_hits-requires-clause-held g c =
+pub read_hits-requires : goal.read_hits-requires
+read_hits-requires g c =
     let segments = c.args.segments.now in
     let sets = c.args.alive.now in
     let found = subst (AllByRecursion (IsFound sets)) (sym c.deref.ensures.value) c.in_ok-best.ensures.found in
-    All_weaker (IsFound sets) (IsHeld segments) (held_alive segments sets c.requires.flagged) c.deref.result.now found
+    record { held = All_weaker (IsFound sets) (IsHeld segments) (held_alive segments sets c.requires.flagged) c.deref.result.now found }
 
 -- src/searching.rt:32:1
 pub returns-clause-ok : goal.returns-clause-ok

@@ -1,6 +1,5 @@
 use Rattle.std.proofs.Common.{None, Some, ap, inr, subst, sym, ◌∙◌, ◌≡◌, ◌≢◌}
-use Rattle.std.proofs.Math.Logic.{∥∥₁_map}
-use Rattle.std.specs.List.{AllByRecursion, AllZip}
+use Rattle.std.specs.List.{AllZip}
 use Rattle.std.specs.Result.{result_err}
 use Rattle.definitions.specs.Alive.{live}
 use Rattle.definitions.specs.Calls as calls
@@ -8,7 +7,7 @@ use Rattle.definitions.specs.Scanning.{scan_count}
 use Rattle.definitions.specs.State as states
 use Rattle.definitions.specs.declared.fault.Fault.TheVariants as faults
 use Rattle.query_trees.specs.Queries.{query_of}
-use Rattle.segment.specs.Opened.{IsOpened, StandsFor}
+use Rattle.segment.specs.Opened.{StandsFor}
 use Rattle.index_state.proofs.Outcomes.{closed_is_no_memory, err_has, own_refuses, status_refuses}
 use Rattle.definitions.proofs.Lists.{err_map}
 use Rattle.index_state.proofs.Searching.{live_committed, ok_both, query_refused, query_taken}
@@ -21,11 +20,6 @@ returns-in_err-check_open-clause-err g c k x s =
     let fault = c.in_err-check_open.field-0.0 in
     err_has c.from_residual.result fault (λ f. f ≢ faults.OutOfMemory → calls.call_fault k x call ≡ Some f) c.from_residual.ensures.1
     (λ other. status_refuses k x call fault (sym (c.check_open.ensures.value k x s) ∙ ap result_err c.in_err-check_open.was))
-
-pub count-requires-clause-opened : goal.count-requires-clause-opened
-count-requires-clause-opened g c =
-    let index = c.args.self.now in
-    ∥∥₁_map index.opened (λ all. (index.schema, subst (AllByRecursion (IsOpened index.schema)) (sym c.deref.ensures.value) all))
 
 pub returns-clause-ok : goal.returns-clause-ok
 returns-clause-ok g c k x s =

@@ -1,12 +1,11 @@
 use Rattle.std.proofs.Common.{List, ap, arith, drop, false, inl, inr, length, map, refl, subst, sym, ◌++◌, ◌∙◌, ◌<◌, ◌^◌, ◌≡◌, ◌≤◌, ℕ}
-use Rattle.std.proofs.Math.Logic.{∥∥₁_map}
 use Rattle.std.specs.List.{AllByRecursion, AllZip}
 use Rattle.std.specs.Result.{result_err}
 use Rattle.definitions.specs.Calls as calls
 use Rattle.definitions.specs.State as states
 use Rattle.definitions.specs.declared.fault.Fault.TheVariants as faults
 use Rattle.index_file.specs.Frames.{frame_bytes}
-use Rattle.segment.specs.Opened.{IsOpened, StandsFor}
+use Rattle.segment.specs.Opened.{StandsFor}
 use Rattle.index_state.proofs.Committing.{commit_body, groups_more, half_left, next_rows, prepare_left, prepared_stands, refused_left}
 use Rattle.segment_search.proofs.Flagging.{flagged_within}
 use Rattle.index_state.proofs.Outcomes.{commit_taken, ready_of, writer_is_not_ready}
@@ -45,11 +44,6 @@ returns-then-len-gt-MAX_SEGMENTS-clause-left g c k x s =
     let closed = c.in_ok-close_open.ensures.closed s.docs s.segments in
     half_left g.A.Analyzer.analyze old _ (record { analyzer = made.analyzer; schema = made.schema; settings = made.settings }) k x s faults.Limit (inr refl) none c.close_open.ensures.same.2 c.close_open.ensures.same.0
     (s.docs ++ states.as_group old.open) closed.0 (groups_more g.A.Analyzer.analyze old k x s (states.as_group old.open) few) calls.commit_pending (commit_taken k x none) refl
-
-pub next_sets-requires-clause-opened : goal.next_sets-requires-clause-opened
-next_sets-requires-clause-opened g c =
-    let mid = c.close_open.new.self in
-    ∥∥₁_map mid.opened (λ all. (mid.schema, subst (AllByRecursion (IsOpened mid.schema)) (sym c.deref.ensures.value) all))
 
 pub returns-in_err-alive-clause-left : goal.returns-in_err-alive-clause-left
 returns-in_err-alive-clause-left g c k x s =

@@ -25,11 +25,6 @@ returns-in_err-check_open-clause-err g c k x s =
     err_has c.from_residual.result fault (λ f. f ≢ faults.OutOfMemory → calls.call_fault k x call ≡ Some f) c.from_residual.ensures.1
     (λ other. status_refuses k x call fault (sym (c.check_open.ensures.value k x s) ∙ ap result_err c.in_err-check_open.was))
 
-pub search-requires-clause-opened : goal.search-requires-clause-opened
-search-requires-clause-opened g c =
-    let index = c.args.self.now in
-    ∥∥₁_map index.opened (λ all. (index.schema, subst (AllByRecursion (IsOpened index.schema)) (sym c.deref_mut.ensures.value) all))
-
 pub invariant_of-self : goal.invariant_of-self
 invariant_of-self g c =
     let index = c.args.self.now in

@@ -1,6 +1,7 @@
-use Rattle.std.proofs.Common.{arith, refl, subst, sym}
+use Rattle.std.proofs.Common.{subst, sym}
+use Rattle.std.proofs.lemmas.Grind.{merely}
 use Rattle.std.proofs.Math.Logic.{∥∥₁_map}
-use Rattle.segment.proofs.KnownSegments.{Makes, fields_known, lengths_known, norms_of, parts_known, store_known, terms_known, terms_of}
+use Rattle.segment.proofs.KnownSegments.{opened_known, parts_known, store_known, terms_known}
 use Rattle.segment.proofs.Opening.{store_short}
 use Rattle.definitions.specs.NumberCodes.{AreBytes}
 use Rattle.segment.specs.Sections.{sections_in}
@@ -27,29 +28,26 @@ known_store-requires-clause-known c =
     let written = subst (AreWritten N.num_docs (sections_in N)) c.in_ok-clone.ensures.cases c.in_ok-sections.ensures.written in
     store_known c.args.schema.now N.num_docs (sections_in N) (parts_known c.args.schema.now N.num_docs (sections_in N) c.args.bytes written c.requires)
 
+pub invariant_of-result : goal.invariant_of-result
+invariant_of-result c =
+    let schema = c.args.schema.now in
+    let N = c.in_ok-sections.sections in
+    let s = sections_in N in
+    let r = c.in_ok-inverted_index in
+    let store = c.in_ok-store in
+    let written = subst (AreWritten N.num_docs s) c.in_ok-clone.ensures.cases c.in_ok-sections.ensures.written in
+    let bytes = subst AreBytes c.in_ok-clone.ensures.cases c.in_ok-sections.ensures.bytes in
+    let known = parts_known schema N.num_docs s c.args.bytes written c.requires in
+    record { opened = merely (schema, opened_known schema N.num_docs s c.args.bytes r.inverted_index c.in_ok-length_fields.length_fields.items store.store.blocks written bytes r.ensures.sections r.ensures.ok known c.in_ok-length_fields.ensures store.ensures.blocks store.ensures.counted) }
+
 pub returns-clause-ok : goal.returns-clause-ok
 returns-clause-ok c =
     let schema = c.args.schema.now in
     let N = c.in_ok-sections.sections in
     let s = sections_in N in
+    let r = c.in_ok-inverted_index in
+    let store = c.in_ok-store in
     let written = subst (AreWritten N.num_docs s) c.in_ok-clone.ensures.cases c.in_ok-sections.ensures.written in
     let bytes = subst AreBytes c.in_ok-clone.ensures.cases c.in_ok-sections.ensures.bytes in
     let known = parts_known schema N.num_docs s c.args.bytes written c.requires in
-    let makes : Makes schema c.in_ok-inverted_index.inverted_index (terms_of s) = c.in_ok-inverted_index.ensures.ok in
-    let found = fields_known schema N.num_docs s c.args.bytes c.in_ok-inverted_index.inverted_index written bytes c.in_ok-inverted_index.ensures.sections makes known in
-    let few = written.few in
-    record {
-      sections = s;
-      norms = norms_of schema N.num_docs s;
-      fields = found.0;
-      written = written;
-      fields_are = c.in_ok-length_fields.ensures;
-      lengths_are = refl;
-      norms_are = lengths_known schema N.num_docs s known;
-      terms_are = found.1.are;
-      keyed = found.1.keyed;
-      reads = λ others are. makes N.num_docs (norms_of schema N.num_docs s) others (omega (arith, few)) are;
-      blocks_are = c.in_ok-store.ensures.blocks.0;
-      store_is = c.in_ok-store.ensures.blocks.1;
-      counted = c.in_ok-store.ensures.counted;
-    }
+    opened_known schema N.num_docs s c.args.bytes r.inverted_index c.in_ok-length_fields.length_fields.items store.store.blocks written bytes r.ensures.sections r.ensures.ok known c.in_ok-length_fields.ensures store.ensures.blocks store.ensures.counted

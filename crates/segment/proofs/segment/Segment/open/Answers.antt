@@ -1,4 +1,5 @@
-use Rattle.std.proofs.Common.{List, length, refl, subst, sym, ◌∙◌, ◌≡◌, ℕ}
+use Rattle.std.proofs.Common.{List, length, subst, sym, ◌∙◌, ◌≡◌, ℕ}
+use Rattle.std.proofs.lemmas.Grind.{merely}
 use Rattle.std.proofs.lemmas.Result.{err_from_is_err_and}
 use Rattle.std.specs.List.{AllByRecursion}
 use Rattle.definitions.specs.KeptLengths.{length_fields}
@@ -6,10 +7,9 @@ use Rattle.document_indexer.proofs.KeptLengths.{fields_ascend}
 use Rattle.layouts.specs.Deltas.{IsAscendingFrom}
 use Rattle.layouts.specs.FieldNorms.{IsNorms}
 use Rattle.layouts.specs.InvertedIndexes.{AreSections}
-use Rattle.segment_reader.specs.Readers.{IsReader}
 use Rattle.segment.specs.Sections.{sections_in}
 use Rattle.segment_definitions.specs.Segments.{AreWritten}
-use Rattle.segment.proofs.Opening.{norms_over, parts_told, store_short}
+use Rattle.segment.proofs.Opening.{norms_over, opened_read, parts_told, store_short}
 use Rattle.segment.proofs.segment.Segment.open.Goals as goal
 
 pub returns-in_err-length_fields-clause-err : goal.returns-in_err-length_fields-clause-err
@@ -70,28 +70,26 @@ returns-in_err-store-clause-err c =
           e.1 told.blocks told.blocks_are told.store_is told.counted,
     ))
 
+pub invariant_of-result : goal.invariant_of-result
+invariant_of-result c =
+    let schema = c.args.schema.now in
+    let N = c.in_ok-sections.sections in
+    let r = c.in_ok-inverted_index in
+    let store = c.in_ok-store in
+    let written = subst (λ (bs : List ℕ). AreWritten N.num_docs (sections_in N) bs) c.in_ok-clone.ensures.cases c.in_ok-sections.ensures.ok in
+    let read = c.in_ok-length_fields.ensures.ok in
+    let norms = subst (λ (bs : List ℕ). IsNorms (length_fields schema) N.num_docs bs read.0) c.as_slice.ensures read.1 in
+    let over = norms_over schema N.num_docs c.deref.result.now c.as_slice.result.now c.as_slice-2.result.now read.0 (c.deref.ensures.value ∙ c.in_ok-length_fields.ensures.fields) (c.as_slice-2.ensures ∙ sym c.as_slice.ensures) read.1 in
+    record { opened = merely (schema, opened_read schema N.num_docs (sections_in N) c.args.bytes r.inverted_index c.in_ok-length_fields.length_fields.items store.store.blocks read.0 c.new-readers.result written c.in_ok-length_fields.ensures.fields norms (c.new-readers.ensures read.0 over) r.ensures.sections r.ensures.exact r.ensures.ok store.ensures.blocks store.ensures.counted) }
+
 pub returns-clause-ok : goal.returns-clause-ok
 returns-clause-ok c =
     let schema = c.args.schema.now in
     let N = c.in_ok-sections.sections in
+    let r = c.in_ok-inverted_index in
+    let store = c.in_ok-store in
     let written = subst (λ (bs : List ℕ). AreWritten N.num_docs (sections_in N) bs) c.in_ok-clone.ensures.cases c.in_ok-sections.ensures.ok in
     let read = c.in_ok-length_fields.ensures.ok in
+    let norms = subst (λ (bs : List ℕ). IsNorms (length_fields schema) N.num_docs bs read.0) c.as_slice.ensures read.1 in
     let over = norms_over schema N.num_docs c.deref.result.now c.as_slice.result.now c.as_slice-2.result.now read.0 (c.deref.ensures.value ∙ c.in_ok-length_fields.ensures.fields) (c.as_slice-2.ensures ∙ sym c.as_slice.ensures) read.1 in
-    let readers = c.new-readers.ensures read.0 over in
-    let exact = c.in_ok-inverted_index.ensures.exact in
-    let own : IsReader schema N.num_docs read.0 exact.0 c.in_ok-inverted_index.inverted_index = subst (λ (norms : List (ℕ × List ℕ)). IsReader schema N.num_docs norms exact.0 c.in_ok-inverted_index.inverted_index) readers exact.1 in
-    record {
-      sections = sections_in N;
-      norms = read.0;
-      fields = exact.0;
-      written = written;
-      fields_are = c.in_ok-length_fields.ensures.fields;
-      lengths_are = refl;
-      norms_are = subst (λ (bs : List ℕ). IsNorms (length_fields schema) N.num_docs bs read.0) c.as_slice.ensures read.1;
-      terms_are = subst (λ s. AreSections schema N.num_docs read.0 exact.0 s.terms s.postings s.positions) c.in_ok-inverted_index.ensures.sections own.sections;
-      keyed = exact.2;
-      reads = λ others are. subst (λ (norms : List (ℕ × List ℕ)). IsReader schema N.num_docs norms others c.in_ok-inverted_index.inverted_index) readers (c.in_ok-inverted_index.ensures.ok others (subst (λ (norms : List (ℕ × List ℕ)). AreSections schema N.num_docs norms others N.terms N.postings N.positions) (sym readers) are));
-      blocks_are = c.in_ok-store.ensures.blocks.0;
-      store_is = c.in_ok-store.ensures.blocks.1;
-      counted = c.in_ok-store.ensures.counted;
-    }
+    opened_read schema N.num_docs (sections_in N) c.args.bytes r.inverted_index c.in_ok-length_fields.length_fields.items store.store.blocks read.0 c.new-readers.result written c.in_ok-length_fields.ensures.fields norms (c.new-readers.ensures read.0 over) r.ensures.sections r.ensures.exact r.ensures.ok store.ensures.blocks store.ensures.counted

@@ -6,7 +6,7 @@ use Rattle.segment.proofs.Reading.{documents_lengths, opened_lengths, reader_sta
 use Rattle.segment.proofs.segment.Segment.reader.Goals as goal
 
 pub new-requires-clause-together : goal.new-requires-clause-together
-new-requires-clause-together c = ∥∥₁_map c.requires.opened (λ o.
+new-requires-clause-together c = ∥∥₁_map c.args.self.now.opened (λ o.
     (let s = c.args.self.now in
     let found = c.fieldnorms_readers-lengths.ensures ∙ opened_lengths o.0 s o.1 in
     record {

@@ -26,6 +26,7 @@ invariant_of-self c =
       ascends = subst (λ xs. Ascends 0 xs) (sym on.docs) (Ascends-drop 128 0 (docs_at c.args.self.now.before c.args.self.now.skips c.args.self.now.bytes.now) c.args.self.now.ascends);
       few = omega (arith, few, long, len, one, length-drop 128 (docs_at c.args.self.now.before c.args.self.now.skips c.args.self.now.bytes.now));
       adds_up = none_summed c.decode_block-self.new.counts;
+      found = tt;
     }
 
 pub returns-clause-docs : goal.returns-clause-docs

@@ -21,3 +21,6 @@ returns-clause-decoded c = c.begin.ensures.decoded ∙ ap (λ (s : Skips). min 1
 
 pub returns-clause-entries : goal.returns-clause-entries
 returns-clause-entries c = c.begin.ensures.entries ∙ ap (λ (s : Skips). s.left) (begins (goal.at.returns-clause-entries c).After-new)
+
+pub returns-clause-reached : goal.returns-clause-reached
+returns-clause-reached c = c.begin.ensures.reached ∙ ap (λ (s : Skips). s.left) (begins (goal.at.returns-clause-reached c).After-new)

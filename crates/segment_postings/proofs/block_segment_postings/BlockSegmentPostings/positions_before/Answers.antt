@@ -56,7 +56,7 @@ added c =
 pub invariant_of-self-2 : goal.invariant_of-self-2
 invariant_of-self-2 c =
     let self = c.if-place-self.self in
-    record { stands = self.stands; held = self.held; ascends = self.ascends; few = self.few; adds_up = added (goal.at.invariant_of-self-2 c).After-sum_of }
+    record { stands = self.stands; held = self.held; ascends = self.ascends; few = self.few; adds_up = added (goal.at.invariant_of-self-2 c).After-sum_of; found = self.found }
 
 pub returns-clause-value : goal.returns-clause-value
 returns-clause-value c =

@@ -1,5 +1,6 @@
-use Rattle.std.proofs.Common.{List, arith, length, subst, sym, ◌/◌, ◌∙◌, ◌≡◌, ℕ}
+use Rattle.std.proofs.Common.{List, arith, length, subst, true, sym, ◌/◌, ◌∙◌, ◌≡◌, ℕ}
 use Rattle.std.proofs.Math.Logic.{∥∥₁_elim, ∥∥₁_map}
+use Rattle.segment_postings.proofs.BoundedBlocks.{opened_bounded, positive_counts}
 use Rattle.segment_postings.proofs.PlacedEntries.{all_positions, opened_entries, single_entries}
 use Rattle.segment_postings.proofs.ReadBack.{posted_from}
 use Rattle.segment_postings.specs.CountBounds.{TellCounts}
@@ -45,3 +46,6 @@ invariant_of-result c =
 
 pub returns-clause-entries : goal.returns-clause-entries
 returns-clause-entries c = opened (goal.at.returns-clause-entries c).After-new
+
+pub returns-clause-bounded : goal.returns-clause-bounded
+returns-clause-bounded c = λ docs counts h. opened_bounded true h.option h.ids docs counts 0 _ _ _ h.postings.posted.same (positive_counts counts h.postings.posted.counts_fit) (c.new.ensures.entries docs counts h) (c.new.ensures.docs docs counts h) (c.new.ensures.counts docs counts h)

@@ -1,9 +1,9 @@
-use Rattle.std.proofs.Common.{ap, arith, cond, drop, false, length, min, nat_lt, refl, true, ◌*◌, ◌+◌, ◌/◌, ◌<◌, ◌∙◌, ◌≡◌}
+use Rattle.std.proofs.Common.{ap, arith, cond, drop, false, length, min, nat_lt, refl, sym, true, ◌*◌, ◌+◌, ◌/◌, ◌<◌, ◌∙◌, ◌≡◌}
 use Rattle.std.proofs.Math.Logic.{∥∥₁_map}
 use Rattle.std.proofs.lemmas.Bool.Decides.{nat_tests}
 use Rattle.segment_postings.proofs.BoundedCounts.{still_told}
 use Rattle.segment_postings.proofs.EntryMoves.{block_on, one_on, single_on}
-use Rattle.segment_postings.specs.Cursors.{counts_left, docs_left, entries_left}
+use Rattle.segment_postings.specs.Cursors.{counts_left, docs_left, entries_left, skips_left, skips_reached}
 use Rattle.segment_postings.specs.TermEntries.{entries_from, numbers_of}
 use Rattle.segment_postings.proofs.segment_postings.SegmentPostingsDocSet.advance.Goals.{After-advance, Else-self-eq127}
 use Rattle.segment_postings.proofs.segment_postings.SegmentPostingsDocSet.advance.Goals as goal
@@ -56,6 +56,7 @@ returns-then-self-eq127-clause-moved c =
     record {
       place_is = omega (arith, last);
       docs = c.advance.ensures.docs ∙ ap (λ k. drop k (docs_left c.args.self.now.blocks)) block;
+      counts = c.advance.ensures.counts ∙ ap (λ k. drop k (counts_left c.args.self.now.blocks)) block;
       entries = c.advance.ensures.entries ∙ ap (λ k. drop k c.args.self.now.blocks.skips.left) one;
       decoded = omega (arith, more, count);
       doc_freq = c.advance.ensures.kept.0;
@@ -75,8 +76,25 @@ returns-clause-moved c =
     record {
       place_is = omega (arith, within);
       docs = ap (λ k. drop k (docs_left c.args.self.now.blocks)) start;
+      counts = ap (λ k. drop k (counts_left c.args.self.now.blocks)) start;
       entries = ap (λ k. drop k c.args.self.now.blocks.skips.left) none;
       decoded = omega (arith, more);
       doc_freq = refl;
       positions = refl;
     }
+
+-- ---- which block is reached
+
+pub returns-then-self-eq127-clause-reached : goal.returns-then-self-eq127-clause-reached
+returns-then-self-eq127-clause-reached c =
+    let last = c.if-self-eq127.true in
+    let no : nat_lt (c.args.self.now.cur + 1) 128 ≡ false = (let past : c.args.self.now.cur + 1 ≡ 128 = omega (arith, last) in grind (arith, nat_tests)) in
+    c.advance.ensures.reached ∙ sym (ap (λ b. cond b (skips_reached c.args.self.now.blocks) (skips_left c.advance.new.self)) no)
+
+pub returns-clause-reached : goal.returns-clause-reached
+returns-clause-reached c =
+    let inside = c.args.self.now.inside in
+    let other = c.if-self-eq127.false in
+    let within : c.args.self.now.cur + 1 < 128 = omega (arith, inside, other) in
+    let yes : nat_lt (c.args.self.now.cur + 1) 128 ≡ true = grind (arith, nat_tests) in
+    sym (ap (λ b. cond b (skips_reached c.args.self.now.blocks) (skips_left c.args.self.now.blocks)) yes)

@@ -31,4 +31,4 @@ returns-clause-rest c = sought (goal.at.returns-clause-rest c).After-seek-self
 
 pub returns-clause-moved : goal.returns-clause-moved
 returns-clause-moved c =
-    record { place_is = c.seek-self.ensures.place; docs = c.seek-self.ensures.docs; entries = c.seek-self.ensures.entries; decoded = c.seek-self.ensures.decoded; doc_freq = c.seek-self.ensures.kept.0; positions = refl }
+    record { place_is = c.seek-self.ensures.place; docs = c.seek-self.ensures.docs; counts = c.seek-self.ensures.counts; entries = c.seek-self.ensures.entries; decoded = c.seek-self.ensures.decoded; doc_freq = c.seek-self.ensures.kept.0; positions = refl }

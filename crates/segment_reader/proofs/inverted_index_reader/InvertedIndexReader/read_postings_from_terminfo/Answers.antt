@@ -31,3 +31,6 @@ returns-clause-skips c contents =
 
 pub returns-clause-positions : goal.returns-clause-positions
 returns-clause-positions c contents = c.open_term.ensures.positions (postings_in contents.fields c.args.field c.args.value_bytes.now) (has_term c.args.self.now c.args.field c.args.value_bytes.now c.args.term_info.now contents (record_option_of c.option_of-recorded.result) c.bytes_of.result.0.now c.bytes_of.result.1.now c.requires c.option_of-recorded.ensures.option c.bytes_of.ensures.postings c.bytes_of.ensures.positions)
+
+pub returns-clause-bounded : goal.returns-clause-bounded
+returns-clause-bounded c contents = c.open_term.ensures.bounded (postings_in contents.fields c.args.field c.args.value_bytes.now) (has_term c.args.self.now c.args.field c.args.value_bytes.now c.args.term_info.now contents (record_option_of c.option_of-recorded.result) c.bytes_of.result.0.now c.bytes_of.result.1.now c.requires c.option_of-recorded.ensures.option c.bytes_of.ensures.postings c.bytes_of.ensures.positions)

@@ -4,4 +4,4 @@ use Rattle.term_scorer.proofs.TermScoreLaws.{bound-of}
 use Rattle.term_scorer.proofs.term_scorer.TermScorer.new.Goals as goal
 
 pub invariant_of-result : goal.invariant_of-result
-invariant_of-result c = record { covered = bound-of (length c.args.fieldnorm_reader) (entries_left c.args.postings) c.requires }
+invariant_of-result c = record { covered = bound-of (length c.args.fieldnorm_reader) (entries_left c.args.postings) c.requires.covered; bounded = c.requires.bounded }
