@@ -57,6 +57,7 @@ opened_read schema (m ∷ ms) opened =
 
 -- these terms have the bytes of values of their fields
 pub opened_keyed : (schema : Schema) (ms : List Member) (opened : AreOpened schema ms) → AllByRecursion (AreKeyed schema) (opened_read schema ms opened).0
+unfolding opened_read
 opened_keyed schema [] opened = tt
 opened_keyed schema (m ∷ ms) opened = (opened.0.0.keyed, opened_keyed schema ms opened.1)
 
