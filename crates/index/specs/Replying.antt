@@ -19,7 +19,7 @@ use Rattle.engine.specs.Indexes.{CommitPasses, IndexStands, KeepsFile, PassesLim
 use Rattle.engine.specs.Merges.{MergePasses}
 use Rattle.engine.specs.declared.index.Index.{Index}
 use Rattle.definitions.specs.Replying.{stops}
-use Rattle.index_state.specs.Standing.{IsSlotTooLong}
+use Rattle.engine.specs.HandedOn.{IsSlotTooLong}
 use Rattle.serde_json.specs.Data as json
 
 -- the reply to a change
