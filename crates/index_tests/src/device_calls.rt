@@ -88,20 +88,17 @@ fn letters(alloc: Global) -> Result<String, Fault> {
     index.merge(0..6)?;
     let (device, analyzer) = index.into_device();
     let index = Index::open(alloc, device, analyzer)?;
-    Ok(index.into_device().0.calls)
+    let (device, _analyzer) = index.into_device();
+    Ok(device.calls)
 }
 
 #[test]
 fn calls_of_the_device(rt: HostRuntime) -> Result<(), Fail> {
-    let letters = letters(rt.alloc())?;
-    assert!(rt;
-        letters.as_str()
-            == "rwswsws\
-        wsws\
-        wsws\
-        wsws\
-        wsws\
-        rscs"
-    );
+    let alloc = rt.alloc();
+    let letters = letters(alloc)?;
+    // A record is written and synced, and so is its gate.
+    let record = "wsws";
+    let all = format!(in alloc; "rwswsws{record}{record}{record}{record}rscs")?;
+    assert!(rt; letters.as_str() == all.as_str());
     Ok(())
 }
