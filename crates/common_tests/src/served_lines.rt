@@ -1,6 +1,9 @@
 //! What no clause says: that a run goes through, and what it does where its reader or writer fails.
 
-ghost use Rattle.std.specs.Prelude.{◌≡◌, ◌==◌, ◌%◌, ◌+◌, ◌-◌, ◌^◌, ℕ, ◌++◌, codes, if◌then◌else◌, true};
+ghost use Rattle.std.specs.Prelude.{◌≡◌, ◌==◌, ◌%◌, ◌+◌, ◌-◌, ◌^◌, ◌++◌, codes, if◌then◌else◌, IfOk, IsErrOf, OnErr, OnOk};
+ghost use Rattle.std.specs.Cow.{cow_str_bytes};
+ghost use Rattle.definitions.specs.Disk.{Rose};
+ghost use Rattle.definitions.specs.declared.fault.Fault.TheVariants as faults;
 
 use definitions::Fault;
 use serve_lines::{RunFault, Service, run, run_within};
@@ -20,21 +23,12 @@ struct Echo {
 }
 
 impl Service for Echo {
-    ghost State = { ℕ };
-
-    ghost stands = { λ echo answered. echo.answered ≡ answered };
-
-    ghost answer = { λ answered line. (if answered % 2 == 0 then codes "+" else codes "-") ++ line };
-
-    ghost after = { λ answered _. answered + 1 };
-
-    ghost leaves = { λ answered line left. left ≡ answered };
-
-    ghost meets = { λ echo answered line. answered ≡ 2 ^ 64 - 1 };
-
-    ghost failed = { λ echo. echo.failures };
-
-    ghost lasts = { λ _. true };
+    ghost replies = { λ old new line result.
+        IfOk result (λ text.
+        cow_str_bytes text ≡ (if old.answered % 2 == 0 then codes "+" else codes "-") ++ line)
+        × OnOk result (new.answered ≡ old.answered + 1) × OnErr result (new.answered ≡ old.answered)
+        × (IsErrOf result faults.Limit → old.answered ≡ 2 ^ 64 - 1)
+        × (IsErrOf result faults.Device → Rose old.failures new.failures) };
 
     fn reply(&mut self, line: &str) -> Result<CowStr<'static>, Fault> {
         if line == "fail" {

@@ -1,55 +1,186 @@
--- What a run writes, over the device that it was given.
-use Rattle.std.proofs.Common.{Err, IfSome, List, None, Ok, OnOk, Option, Result, Some, ap, arith, inl, inr, refl, subst, [], ◌<◌, ◌∙◌, ◌∷◌, ◌≡◌, ℕ}
+-- What a run over lines has done, by what each reply says.
+use Rattle.std.proofs.Common.{Bool, Err, IfSome, IsTrue, List, None, Ok, OnOk, Option, Result, Some, ap, append_assoc, arith, false, if◌then◌else◌, inl, inr, nat_lt, refl, subst, sym, true, [], ◌++◌, ◌<◌, ◌∙◌, ◌∷◌, ◌≡◌, ◌≢◌, ◌≤◌, ◌⊎◌, ℕ}
 use Rattle.std.specs.Bool.{⊤}
-use Rattle.std.specs.Option.{option_map_or}
+use Rattle.std.specs.Option.{is_none, option_map_or}
+use Rattle.std.proofs.lemmas.Bool.Decides.{nat_tests}
+use Rattle.common.specs.declared.analyzer.Analyzer as analyzers
 use Rattle.common.specs.declared.device.Device as devices
 use Rattle.definitions.specs.Disk.{Rose}
+use Rattle.definitions.specs.FaultNames.{reply_text}
 use Rattle.definitions.specs.Lines.{lines_of}
-use Rattle.definitions.specs.Replying.{AreReplies, HasReason, Writes, state_after}
+use Rattle.definitions.specs.Replying.{AreReplies, HasReason, output_line, reply_to, state_after, stops}
+use Rattle.definitions.specs.Step as steps
 use Rattle.definitions.specs.declared.fault.Fault.{Fault}
-use Rattle.index.specs.Sessions.{device_on, failures_on, parts_on}
-use Rattle.index.specs.declared.stage.Stage.{Stage}
+use Rattle.definitions.specs.declared.fault.Fault.TheVariants as faults
+use Rattle.index.specs.Runs.{EndsAfter, IsRun, IsRunOver, MeetsLimitOnWay}
+use Rattle.index.specs.Sessions.{HasHeld, IsLeft, IsReplied, MeetsLimitAt, StandsFor, analysis_of, failures_of, honest_of, parts_of, session_on}
+use Rattle.index.specs.declared.session.Session.{Session}
+use Rattle.index.proofs.Causes.{limit_no_memory}
+use Rattle.index.proofs.Leavings.{memory_stays}
+use Rattle.index_file.proofs.Faults.{device_failed}
+use Rattle.serve_lines.specs.Serving.{Answers, AnswersAll, ComesTo, ServesAll}
+use Rattle.serve_lines.proofs.RunFacts.{more_answers, one_answer}
 
-module _ {State : Type 0} (answer : State → List ℕ → List ℕ) (after : State → List ℕ → State) (meets : State → List ℕ → Type 0) (Failed Fails : Type 0) (weaker : Failed → Fails) where
-  -- a failure that is told has a weaker reason too
-  weaker_reason : (s : State) (line : List ℕ) (fault : Fault) → HasReason meets Failed s line fault → HasReason meets Fails s line fault
-  weaker_reason s line fault is = record {
-    stops = is.stops;
-    limit = is.limit;
-    device = λ device. let reason = is.device device in (reason.0, weaker reason.1);
+-- ---- failures
+
+-- failures that rose between two numbers rose between a lesser and a greater
+pub rose_between : (first before next last : ℕ) → first ≤ before → before ≤ next → next ≤ last → Rose before next → Rose first last
+rose_between first before next last less up more (inl rose) = inl (omega (arith, rose, less, more))
+rose_between first before next last less up more (inr full) = go (nat_lt first before) refl
+  where
+    go : (b : Bool) → nat_lt first before ≡ b → Rose first last
+    go true is = (let under : first < before = grind (arith, nat_tests) in inl (omega (arith, under, up, more)))
+    go false is = (let over : before ≤ first = grind (arith, nat_tests) in inr (omega (arith, over, less, full)))
+
+module _ {D A : Type 0} {d : devices.Ghosts D} {a : analyzers.Ghosts A} where
+  -- ---- one answer
+
+  -- the failures don't fall
+  answer_later : (session next : Session D A d a) (line answer : List ℕ) → Answers IsReplied session next line answer → failures_of session ≤ failures_of next
+  answer_later session next line answer (inl (text, (result, is, same))) = is.later
+  answer_later session next line answer (inr (stays, why)) = subst (λ (m : Session D A d a). failures_of session ≤ failures_of m) (sym stays) (omega arith)
+
+  -- the device is as honest as it was
+  answer_honest : (session next : Session D A d a) (line answer : List ℕ) → Answers IsReplied session next line answer → honest_of next ≡ honest_of session
+  answer_honest session next line answer (inl (text, (result, is, same))) = is.honest
+  answer_honest session next line answer (inr (stays, why)) = ap (λ (m : Session D A d a). honest_of m) stays
+
+  -- of a state for which the session stands, the answer is the definitions', or a fault that stops
+  abbrev IsStep : Session D A d a → Session D A d a → steps.Session → List ℕ → List ℕ → Type 0
+  IsStep session next s line answer =
+      ((answer ≡ reply_to steps.answer_of steps.after_line s line) × StandsFor next (state_after steps.answer_of steps.after_line s line))
+      ⊎ ((fault : Fault) × HasReason (MeetsLimitAt session) (Rose (failures_of session) (failures_of next)) s line fault × (answer ≡ reply_text fault)
+      × (IsTrue (honest_of session) → fault ≢ faults.Device → (t : steps.Session) × IsLeft s (steps.line_request line) fault t × StandsFor next t))
+
+  step_of : (session next : Session D A d a) (s : steps.Session) (line answer : List ℕ) → StandsFor session s → Answers IsReplied session next line answer → IsStep session next s line answer
+  step_of session next s line answer stands (inl (text, (Ok reply, is, same))) =
+      inl (
+        same ∙ (is.replies s stands).text ∙ ap (λ (o : Option Fault). option_map_or reply_text o (steps.answer_of s line)) (sym text),
+        subst (λ (o : Option Fault). StandsFor next (if is_none o then steps.after_line s line else s)) (sym text) (is.replies s stands).state,
+      )
+  step_of session next s line answer stands (inl (text, (Err fault, is, same))) =
+      inr (
+        fault,
+        record {
+          stops = is.stops;
+          limit = λ limit. (text, (is.replies s stands).limit (ap Err limit));
+          device = λ device. (text, (is.replies s stands).failures.cause (ap Err device));
+        },
+        same,
+        (is.replies s stands).left,
+      )
+  step_of session next s line answer stands (inr (stays, (fault, inl memory, same))) =
+      inr (
+        fault,
+        record {
+          stops = ap stops memory;
+          limit = λ limit. absurd (limit_no_memory (sym limit ∙ memory));
+          device = λ device. absurd (device_failed (sym device ∙ memory));
+        },
+        same,
+        λ honest other. (s, (refl, inl (memory_stays (steps.line_request line) fault memory, refl)), subst (λ (m : Session D A d a). StandsFor m s) (sym stays) stands),
+      )
+  step_of session next s line answer stands (inr (stays, (fault, inr refused, same))) =
+      inl (
+        same ∙ ap (λ (o : Option Fault). option_map_or reply_text o (steps.answer_of s line)) (sym refused),
+        subst (λ (o : Option Fault). StandsFor next (if is_none o then steps.after_line s line else s)) (sym refused) (subst (λ (m : Session D A d a). StandsFor m s) (sym stays) stands),
+      )
+
+  -- ---- all answers
+
+  answers_later : (lines : List (List ℕ)) (session last : Session D A d a) (out : List ℕ) → AnswersAll IsReplied session last lines out → failures_of session ≤ failures_of last
+  answers_later [] session last out (same, none) = subst (λ (m : Session D A d a). failures_of session ≤ failures_of m) (sym same) (omega arith)
+  answers_later (line ∷ lines) session last out (next, answer, rest, is, one, all) =
+      let here : failures_of session ≤ failures_of next = answer_later session next line answer one in
+      let there : failures_of next ≤ failures_of last = answers_later lines next last rest all in
+      omega (arith, here, there)
+
+  answers_honest : (lines : List (List ℕ)) (session last : Session D A d a) (out : List ℕ) → AnswersAll IsReplied session last lines out → honest_of last ≡ honest_of session
+  answers_honest [] session last out (same, none) = ap (λ (m : Session D A d a). honest_of m) same
+  answers_honest (line ∷ lines) session last out (next, answer, rest, is, one, all) = answers_honest lines next last rest all ∙ answer_honest session next line answer one
+
+  -- ---- the run
+
+  module _ (first last : Session D A d a) (lines : List (List ℕ)) (out : List ℕ) where
+    -- one line more, after some
+    one_more : (line : List ℕ) (left done : List (List ℕ)) (sent part answer rest : List ℕ) (session next : Session D A d a) (s : steps.Session) → lines ≡ done ++ line ∷ left → out ≡ sent ++ part
+        → AnswersAll IsReplied first session done sent → StandsFor session s → part ≡ output_line answer ++ rest → Answers IsReplied session next line answer → AnswersAll IsReplied next last left rest
+        → ((t : steps.Session) → StandsFor next t → EndsAfter first last lines out t left rest) → EndsAfter first last lines out s (line ∷ left) part
+    one_more line left done sent part answer rest session next s are is before stands split one all onward = at (step_of session next s line answer stands one)
+      where
+        comes : ComesTo IsReplied first last lines out session line
+        comes = record {
+          before = done;
+          after = left;
+          are = are;
+          sent = sent;
+          rest = part;
+          is = is;
+          left = before;
+          answers = (next, answer, rest, split, one, all);
+        }
+
+        rises : Rose (failures_of session) (failures_of next) → Rose (failures_of first) (failures_of last)
+        rises rose = rose_between (failures_of first) (failures_of session) (failures_of next) (failures_of last) (answers_later done first session sent before) (answer_later session next line answer one) (answers_later left next last rest all) rose
+
+        at : IsStep session next s line answer → EndsAfter first last lines out s (line ∷ left) part
+        at (inl (told, standing)) = inl (rest, split ∙ ap (λ (x : List ℕ). output_line x ++ rest) told, onward (state_after steps.answer_of steps.after_line s line) standing)
+        at (inr (fault, reason, told, leaves)) =
+            inr (
+              fault,
+              record {
+                stops = reason.stops;
+                limit = λ limit. let why = reason.limit limit in (why.0, (session, comes, stands, why.1));
+                device = λ device. let why = reason.device device in (why.0, rises why.1);
+              },
+              rest,
+              split ∙ ap (λ (x : List ℕ). output_line x ++ rest) told,
+              λ honest other. let t = leaves (subst IsTrue (sym (answers_honest done first session sent before)) honest) other in (t.0, t.1, onward t.0 t.2),
+            )
+
+    -- the lines that are left, after some
+    ends : (left done : List (List ℕ)) (sent part : List ℕ) (session : Session D A d a) (s : steps.Session) → lines ≡ done ++ left → out ≡ sent ++ part
+        → AnswersAll IsReplied first session done sent → AnswersAll IsReplied session last left part → StandsFor session s → EndsAfter first last lines out s left part
+    ends [] done sent part session s are is before (same, none) stands = (none, subst (λ (m : Session D A d a). StandsFor m s) (sym same) stands)
+    ends (line ∷ left) done sent part session s are is before (next, answer, rest, split, one, all) stands =
+        one_more line left done sent part answer rest session next s are is before stands split one all
+        (λ t standing. ends left (done ++ line ∷ []) (sent ++ output_line answer) rest next t (are ∙ sym (append_assoc done (line ∷ []) left))
+        (is ∙ ap (λ (l : List ℕ). sent ++ l) split ∙ sym (append_assoc sent (output_line answer) rest))
+        (more_answers IsReplied done first session next (line ∷ []) sent (output_line answer) before (one_answer IsReplied session next line answer one)) all standing)
+
+    -- these are replies
+    are_replies : (left : List (List ℕ)) (s : steps.Session) (part : List ℕ) → EndsAfter first last lines out s left part
+        → AreReplies steps.answer_of steps.after_line (MeetsLimitOnWay first last lines out) (Rose (failures_of first) (failures_of last)) s left part
+    are_replies [] s part h = h.0
+    are_replies (line ∷ left) s part (inl (rest, is, h)) = inl (rest, is, are_replies left (state_after steps.answer_of steps.after_line s line) rest h)
+    are_replies (line ∷ left) s part (inr (fault, reason, rest, is, h)) = inr (fault, reason, rest, is)
+
+  -- lines that are all answered in turn are a run
+  run_of : (first last : Session D A d a) (lines : List (List ℕ)) (old new : Option (List ℕ)) → ServesAll IsReplied first last lines old new → IsRun first last lines old new
+  run_of first last lines old new (out, written, answers) = record {
+    out = out;
+    written = written;
+    answers = answers;
+    replies = λ s stands. are_replies first last lines out lines s out (ends first last lines out lines [] [] out first s refl refl (refl, refl) answers stands);
+    ends = λ s stands. ends first last lines out lines [] [] out first s refl refl (refl, refl) answers stands;
   }
 
-  weaker_replies : (lines : List (List ℕ)) (s : State) (out : List ℕ) → AreReplies answer after meets Failed s lines out → AreReplies answer after meets Fails s lines out
-  weaker_replies [] s out is = is
-  weaker_replies (line ∷ lines) s out (inl (rest, told, more)) = inl (rest, told, weaker_replies lines (state_after answer after s line) rest more)
-  weaker_replies (line ∷ lines) s out (inr (fault, reason, rest, told)) = inr (fault, weaker_reason s line fault reason, rest, told)
+  pub is_run : {Z : Type 0} (result : Result ⊤ Z) (input : Option (List ℕ)) (first last : Session D A d a) (old new : Option (List ℕ))
+      → OnOk result (IfSome input (λ bytes. ServesAll IsReplied first last (lines_of bytes) old new)) → OnOk result (IfSome input (λ bytes. IsRun first last (lines_of bytes) old new))
+  is_run (Err fault) input first last old new served = tt
+  is_run (Ok u) None first last old new served = tt
+  is_run (Ok u) (Some bytes) first last old new served = run_of first last (lines_of bytes) old new served
 
-  -- and so what is written
-  pub weaker_writes : (s : State) (lines : List (List ℕ)) (old new : Option (List ℕ)) → Writes answer after meets Failed s lines old new → Writes answer after meets Fails s lines old new
-  weaker_writes s lines old new (out, grows, are) = (out, grows, weaker_replies lines s out are)
-
-no_less : (n : ℕ) → n < 0 → ⊥
-no_less n less = omega arith
-
--- where a stage's device counts more failures, some device does
-pub rose_device : {D A : Type 0} (d : devices.Ghosts D) (device : D) (stage : Option (Stage D A d)) → Rose (d.failed device) (failures_on stage) → (after : D) × Rose (d.failed device) (d.failed after)
-rose_device d device None (inl less) = absurd (no_less (d.failed device) less)
-rose_device d device None (inr most) = (device, inr most)
-rose_device d device (Some stage) rose = (device_on stage, rose)
-
--- the failures of a stage over a device are the device's
-stage_failed : {D A : Type 0} (d : devices.Ghosts D) (stage : Option (Stage D A d)) → failures_on stage ≡ option_map_or (λ (p : D × A). d.failed p.0) (parts_on stage) 0
-stage_failed d None = refl
-stage_failed d (Some stage) = refl
-
--- what a run writes over the device of its session, it writes over that device
-pub run_over : {State D A Z : Type 0} (d : devices.Ghosts D) (answer : State → List ℕ → List ℕ) (after : State → List ℕ → State) (meets : State → List ℕ → Type 0) (s : State) (device : D) (analyzer : A) (old new : Option (Stage D A d)) (result : Result ⊤ Z) (input before now : Option (List ℕ)) → parts_on old ≡ Some (device, analyzer)
-    → OnOk result (IfSome input (λ bytes. Writes answer after meets (Rose (failures_on old) (failures_on new)) s (lines_of bytes) before now))
-    → OnOk result (IfSome input (λ bytes. Writes answer after meets ((later : D) × Rose (d.failed device) (d.failed later)) s (lines_of bytes) before now))
-run_over d answer after meets s device analyzer old new (Err fault) input before now parts told = tt
-run_over d answer after meets s device analyzer old new (Ok u) None before now parts told = tt
-run_over {D} {A} d answer after meets s device analyzer old new (Ok u) (Some bytes) before now parts told =
-    weaker_writes answer after meets (Rose (failures_on old) (failures_on new)) ((later : D) × Rose (d.failed device) (d.failed later)) weaker s (lines_of bytes) before now told
-  where
-    weaker : Rose (failures_on old) (failures_on new) → (later : D) × Rose (d.failed device) (d.failed later)
-    weaker rose = rose_device d device new (subst (λ n. Rose n (failures_on new)) (stage_failed d old ∙ ap (λ (o : Option (D × A)). option_map_or (λ (p : D × A). d.failed p.0) o 0) parts) rose)
+  -- and a run over the parts of the first session
+  pub is_run_over : {Z : Type 0} (result : Result ⊤ Z) (input : Option (List ℕ)) (device : D) (analyzer : A) (first last : Session D A d a) (old new : Option (List ℕ)) → parts_of first ≡ Some (device, analyzer)
+      → ((held : steps.Held) → HasHeld d.honest d.content (a.analyze analyzer) device held → StandsFor first (session_on (analysis_of a.knows_name a.analyze analyzer) held))
+      → OnOk result (IfSome input (λ bytes. IsRun first last (lines_of bytes) old new)) → OnOk result (IfSome input (λ bytes. IsRunOver {d = d} {a = a} device analyzer (lines_of bytes) old new))
+  is_run_over (Err fault) input device analyzer first last old new parts stands run = tt
+  is_run_over (Ok u) None device analyzer first last old new parts stands run = tt
+  is_run_over (Ok u) (Some bytes) device analyzer first last old new parts stands run = record {
+    first = first;
+    last = last;
+    parts = parts;
+    stands = stands;
+    run = run;
+  }

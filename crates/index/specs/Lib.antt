@@ -2,3 +2,4 @@
 pub mod AskedRequests
 pub mod Replying
 pub mod Sessions
+pub mod Runs

@@ -1,5 +1,5 @@
 -- What is replied to requests of an index.
-use Rattle.std.specs.Prelude.{Bool, Err, IfOk, List, None, Ok, OnOk, Option, Result, Some, [], codes, false, length, true, ℕ, ⊤, ◌++◌, ◌+◌, ◌^◌, ◌∷◌, ◌≡◌, ◌≢◌, ◌≤◌, ◌⊎◌}
+use Rattle.std.specs.Prelude.{Bool, Err, IfOk, List, None, Ok, OnOk, Option, Result, Some, [], codes, false, true, ⊤, ℕ, ◌++◌, ◌∷◌, ◌≡◌, ◌≢◌, ◌⊎◌}
 use Rattle.std.specs.Cow.{cow_str_bytes}
 use Rattle.std.specs.declared.borrow.CowStr.{CowStr}
 use Rattle.common.specs.declared.device.Device as devices
@@ -19,7 +19,7 @@ use Rattle.engine.specs.Indexes.{CommitPasses, IndexStands, KeepsFile, PassesLim
 use Rattle.engine.specs.Merges.{MergePasses}
 use Rattle.engine.specs.declared.index.Index.{Index}
 use Rattle.definitions.specs.Replying.{stops}
-use Rattle.segment_definitions.specs.Slots.{slot}
+use Rattle.engine.specs.HandedOn.{IsSlotTooLong}
 use Rattle.serde_json.specs.Data as json
 
 -- the reply to a change
@@ -61,9 +61,7 @@ closed_writer x = record { state = x.state; status = calls.writer_closed }
 
 -- a value is a document whose slot is too long beside a block
 abbrev pub HasLongSlot : Schema → Settings → json.Data → Type 0
-HasLongSlot schema settings value =
-    (doc : Document) × (read_data schema value ≡ Ok doc)
-    × (2 ^ 32 ≤ settings.block_size + length (slot schema doc) + 8)
+HasLongSlot schema settings value = (doc : Document) × (read_data schema value ≡ Ok doc) × IsSlotTooLong schema settings doc
 
 -- after this fault what stood may stand: a limit that a commit meets closes the writer
 abbrev pub MayStay : Option requests.Request → Fault → Type 0

@@ -1,6 +1,7 @@
 -- What a session stands for, and what it answers.
-use Rattle.std.specs.Prelude.{[], ⊤, ◌≡◌, ◌≢◌, ◌⊎◌, Bool, Err, IfErr, IfOk, IsErrOf, IsTrue, List, None, Ok, OnOk, Option, Result, Some, false, option_map, ℕ}
+use Rattle.std.specs.Prelude.{[], ⊤, ◌≡◌, ◌≢◌, ◌≤◌, ◌⊎◌, Bool, Err, IfErr, IfOk, IsErrOf, IsTrue, List, None, Ok, OnOk, Option, Result, Some, false, option_map, ℕ}
 use Rattle.std.specs.Cow.{cow_str_bytes}
+use Rattle.std.specs.declared.alloc.Global.{Global}
 use Rattle.std.specs.declared.borrow.CowStr.{CowStr}
 use Rattle.common.specs.declared.analyzer.Analyzer as analyzers
 use Rattle.common.specs.declared.device.Device as devices
@@ -8,6 +9,7 @@ use Rattle.definitions.specs.Analyzers.{Analyzer}
 use Rattle.definitions.specs.Calls as calls
 use Rattle.definitions.specs.Disk.{HasCause}
 use Rattle.definitions.specs.Replies.{reply_of}
+use Rattle.definitions.specs.Replying.{stops}
 use Rattle.definitions.specs.Requests as requests
 use Rattle.definitions.specs.Schema.{Schema}
 use Rattle.definitions.specs.SchemaGrammar.{schema_in}
@@ -19,7 +21,7 @@ use Rattle.engine.specs.Files.{IsFileOf}
 use Rattle.engine.specs.Indexes.{IndexStands, IsInFile, analyzer_of, device_of, ending_of, schema_of, settings_of}
 use Rattle.index_file.specs.Kept.{IsKept}
 use Rattle.index_file.specs.Outcomes.{IsRefusal}
-use Rattle.index.specs.Replying.{GoesOn, IndexMeets, MayClose, MayStay, change_text, closed_writer}
+use Rattle.index.specs.Replying.{GoesOn, IndexMeets, IsUnwritten, MayClose, MayStay, change_text, closed_writer}
 use Rattle.engine.specs.declared.index.Index.{Index}
 use Rattle.engine.specs.declared.refused.Refused.{Refused}
 use Rattle.index.specs.declared.session.Session.{Session}
@@ -171,12 +173,6 @@ abbrev pub MeetsLimitAt :
     {D A : Type 0} {d : devices.Ghosts D} {a : analyzers.Ghosts A} → Session D A d a → steps.Session → List ℕ → Type 0
 MeetsLimitAt session s line = MeetsLimitIn session s (steps.line_request line)
 
--- some session over such a device and with such an analyzer stands for this, and meets a limit by a line
-abbrev pub CanMeetLimit :
-    {D A : Type 0} → devices.Ghosts D → analyzers.Ghosts A → steps.Session → List ℕ → Type 0
-CanMeetLimit {D} {A} d a s line =
-    (session : Session D A d a) × StandsFor session s × MeetsLimitAt session s line
-
 -- what is asked may leave no index where none is ready: one is to be opened, or made of a schema and settings that are
 -- read
 abbrev pub MayDrop : Option requests.Request → Type 0
@@ -205,10 +201,6 @@ abbrev pub IsLeft : steps.Session → Option requests.Request → Fault → step
 IsLeft s asked fault t =
     (t.analysis ≡ s.analysis) × IsLeftStage s.analysis.analyze asked fault s.stage t.stage
 
--- what a fault that stops, met by a line, leaves of a session
-abbrev pub IsLeftBy : steps.Session → List ℕ → steps.Session → Type 0
-IsLeftBy s line t = (fault : Fault) × IsLeft s (steps.line_request line) fault t
-
 -- the reply to what was asked is the definitions', and the session stands for what comes after; `Device` has its cause,
 -- and `Limit` is the answer to an add, a merge or a commit that meets one; over an honest device the session stands for what
 -- other errors leave
@@ -223,3 +215,14 @@ pub record Replies {D A Z : Type 0} {d : devices.Ghosts D} {a : analyzers.Ghosts
       IsTrue (honest_of old)
       → IfErr result (λ fault. fault ≢ faults.Device
       → (t : steps.Session) × IsLeft s asked fault t × StandsFor new t)
+
+-- what a reply to a line says: by each state for which the session before stood, and whatever it stood for
+pub record IsReplied {D A : Type 0} {d : devices.Ghosts D} {a : analyzers.Ghosts A} (old new : Session D A d a)
+    (line : List ℕ) (result : Result (CowStr Global) Fault) : Type 0 where
+  pub replies : (s : steps.Session) → StandsFor old s → Replies old new s (steps.line_request line) result
+  pub stops : IfErr result (λ fault. IsTrue (stops fault))
+  pub honest : honest_of new ≡ honest_of old
+  pub later : failures_of old ≤ failures_of new
+  -- whatever an honest device holds, no reply changes it but `Device`, and that an index was made, opened, committed or
+  -- merged
+  pub kept : IsTrue (honest_of old) → IsUnwritten (steps.line_request line) result → KeepsDeviceOf old new

@@ -13,7 +13,7 @@ ghost use Rattle.definitions.specs.declared.fault.Fault.TheVariants as faults;
 ghost use Rattle.index.specs.AskedRequests.{index_request_of};
 ghost use Rattle.index.specs.Replying.{Answers, GoesOn, IndexMeets, IsUnwritten, OnlyStops, TakesChange, change_text};
 ghost use Rattle.engine.specs.Indexes.{IndexStands, IsInFile, KeepsFile, KeepsMaking, device_of};
-ghost use Rattle.engine.specs.Hits.{hit_of, scored};
+ghost use Rattle.engine.specs.HandedOn.{hit_of, scored};
 ghost use Rattle.definitions.specs.Replying.{stops};
 ghost use Rattle.serde_json.specs.View.{view};
 

@@ -84,24 +84,9 @@ impl<D: Device + Drop, A: Analyzer + Drop> Session<D, A> {
 }
 
 impl<D: Device + Drop, A: Analyzer + Drop> Service for Session<D, A> {
-    ghost use Rattle.definitions.specs.Step as steps;
-    ghost use Rattle.index.specs.Sessions.{IsLeftBy, MeetsLimitAt, StandsFor, failures_of, honest_of};
+    ghost use Rattle.index.specs.Sessions.{IsReplied};
 
-    ghost State = { steps.Session };
-
-    ghost stands = { StandsFor };
-
-    ghost answer = { steps.answer_of };
-
-    ghost after = { steps.after_line };
-
-    ghost leaves = { IsLeftBy };
-
-    ghost meets = { MeetsLimitAt };
-
-    ghost failed = { failures_of };
-
-    ghost lasts = { honest_of };
+    ghost replies = { IsReplied };
 
     fn reply(&mut self, line: &str) -> Result<CowStr<'static>, Fault> {
         self.answer_line(line)

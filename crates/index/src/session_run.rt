@@ -1,16 +1,10 @@
 //! The run over the lines of an input, each answered by a session. Its functions aren't beside a struct with a ghost
 //! field, since what their contracts cite names the session.
 
-ghost use Rattle.std.specs.Prelude.{◌≡◌, ◌≢◌, ◌≤◌, IfErr, IfOk, IfSome, IsErrOf, IsTrue, OnOk};
-ghost use Rattle.std.specs.Cow.{cow_str_bytes};
-ghost use Rattle.definitions.specs.Disk.{HasCause, Rose};
+ghost use Rattle.std.specs.Prelude.{IfSome, OnOk};
 ghost use Rattle.definitions.specs.Lines.{lines_of};
-ghost use Rattle.definitions.specs.Step as steps;
-ghost use Rattle.definitions.specs.declared.fault.Fault.TheVariants as faults;
-ghost use Rattle.index.specs.Replying.{IsUnwritten};
-ghost use Rattle.index.specs.Sessions.{CanMeetLimit, HasHeld, IsLeft, IsLeftBy, KeepsDeviceOf, MeetsLimitIn, StandsFor, analysis_of, failures_of, honest_of, session_on};
-ghost use Rattle.definitions.specs.Replying.{Writes, stops};
-ghost use Rattle.serve_lines.specs.Serving.{ServesAll};
+ghost use Rattle.index.specs.Runs.{IsRun, IsRunOver};
+ghost use Rattle.index.specs.Sessions.{IsReplied};
 
 use crate::session::Session;
 use common::{Analyzer, Device, RunFault};
@@ -27,14 +21,11 @@ pub fn run<R: BufRead, W: Write, D: Device + Drop, A: Analyzer + Drop>(
     device: D,
     analyzer: A,
 ) -> Result<(), RunFault>
-    // Of an honest device that holds no byte, an index's file, or bytes that are no index or a damaged one, the replies
-    // follow from that and from the lines.
-    ensures { (held : steps.Held) → HasHeld D.honest D.content (A.analyze analyzer) device held
-        → OnOk result (IfSome (R.remaining reader.old) (λ input.
-        Writes steps.answer_of steps.after_line (CanMeetLimit D.Device A.Analyzer)
-        ((after : D) × Rose (D.failed device) (D.failed after))
-        (session_on (analysis_of A.knows_name A.analyze analyzer) held)
-        (lines_of input) (W.contents writer.old) (W.contents writer.new))) }
+    // Where the reader's bytes are known, the lines are answered in turn. Of an honest device that holds no byte, an
+    // index's file, or bytes that are no index or a damaged one, the replies follow from that and from the lines.
+    ensures { OnOk result (IfSome (R.remaining reader.old) (λ input.
+        IsRunOver {d = D.Device} {a = A.Analyzer} device analyzer (lines_of input) (W.contents writer.old)
+        (W.contents writer.new))) }
 {
     let mut session = Session::new(alloc, device, analyzer);
     run_session(reader, writer, &mut session)
@@ -48,20 +39,13 @@ pub fn run_session<R: BufRead, W: Write, D: Device + Drop, A: Analyzer + Drop>(
     writer: &mut W,
     session: &mut Session<D, A>,
 ) -> Result<(), RunFault>
-    // Where the reader's bytes are known, the replies to its lines are written, up to a fault that stops: `Device` only
-    // if the session's device failed, `Limit` only where some session that stands for the state meets one by the line.
-    ensures replies { (s : steps.Session) → StandsFor session.old s
-        → OnOk result (IfSome (R.remaining reader.old) (λ input.
-        Writes steps.answer_of steps.after_line (CanMeetLimit D.Device A.Analyzer)
-        (Rose (failures_of session.old) (failures_of session.new)) s
-        (lines_of input) (W.contents writer.old) (W.contents writer.new))) }
-    // Unless the reply of `Device` is among them, the session stands for what comes after all lines, over an honest
-    // device also after out of memory or a limit; so the file has what is committed then.
-    ensures stands { (s : steps.Session) → StandsFor session.old s
-        → OnOk result (IfSome (R.remaining reader.old) (λ input.
-        ServesAll steps.answer_of steps.after_line IsLeftBy (IsTrue (honest_of session.old))
-        (CanMeetLimit D.Device A.Analyzer) (Rose (failures_of session.old) (failures_of session.new))
-        (StandsFor session.new) s (lines_of input) (W.contents writer.old) (W.contents writer.new))) }
+    // Where the reader's bytes are known, the lines are answered in turn, each by the session that the lines before
+    // left. So the definitions' replies are written, up to a fault that stops: `Device` only if the session's device
+    // failed, `Limit` only if the session that came to the line meets one by it. Unless the reply of `Device` is among
+    // them, the session stands for what comes after all lines, over an honest device also after out of memory or a
+    // limit; so the file has what is committed then.
+    ensures { OnOk result (IfSome (R.remaining reader.old) (λ input.
+        IsRun session.old session.new (lines_of input) (W.contents writer.old) (W.contents writer.new))) }
 {
     serve_lines::run(session.alloc, reader, writer, session)
 }
@@ -73,25 +57,7 @@ pub fn reply<D: Device + Drop, A: Analyzer + Drop>(
     session: &mut Session<D, A>,
     line: &str,
 ) -> Result<CowStr<'static>, Fault>
-    ensures text { (s : steps.Session) → StandsFor session.old s
-        → IfOk result (λ text. cow_str_bytes text ≡ steps.answer_of s line.now) }
-    ensures state { (s : steps.Session) → StandsFor session.old s
-        → OnOk result (StandsFor session.new (steps.after_line s line.now)) }
-    ensures failures { (s : steps.Session) → StandsFor session.old s
-        → HasCause (failures_of session.old) (failures_of session.new) result }
-    ensures limit { (s : steps.Session) → StandsFor session.old s → IsErrOf result faults.Limit
-        → MeetsLimitIn session.old s (steps.line_request line.now) }
-    ensures err { IfErr result (λ fault. IsTrue (stops fault)) }
-    // Over an honest device what is committed stays, and stays in the file.
-    ensures left { (s : steps.Session) → StandsFor session.old s → IsTrue (honest_of session.old)
-        → IfErr result (λ fault. fault ≢ faults.Device → (t : steps.Session)
-        × IsLeft s (steps.line_request line.now) fault t × StandsFor session.new t) }
-    ensures honest { honest_of session.new ≡ honest_of session.old }
-    ensures later { failures_of session.old ≤ failures_of session.new }
-    // Whatever an honest device holds, no reply changes it but `Device`, and that an index was made, opened, committed or
-    // merged.
-    ensures kept { IsTrue (honest_of session.old)
-        → IsUnwritten (steps.line_request line.now) result → KeepsDeviceOf session.old session.new }
+    ensures { IsReplied session.old session.new line.now result }
 {
     session.answer_line(line)
 }

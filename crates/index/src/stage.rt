@@ -5,7 +5,7 @@ ghost use Rattle.definitions.specs.Disk.{HasCause};
 ghost use Rattle.definitions.specs.Step as steps;
 ghost use Rattle.definitions.specs.declared.fault.Fault.TheVariants as faults;
 ghost use Rattle.index_file.specs.Kept.{IsKept};
-ghost use Rattle.engine.specs.Hits.{status_of};
+ghost use Rattle.engine.specs.HandedOn.{status_of};
 ghost use Rattle.index.specs.Sessions.{IsSpare, IsStage, LeavesStage, analyzer_on, device_on, left_by};
 
 use common::{Analyzer, Device};

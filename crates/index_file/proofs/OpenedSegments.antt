@@ -17,6 +17,7 @@ opened_is schema s o = record {
   blocks = blocks_of s;
   written = o.written;
   terms_are = o.terms_are;
+  keyed = o.keyed;
   norms_are = o.norms_are;
   store_is = o.store_is;
   blocks_are = o.blocks_are;

@@ -51,6 +51,10 @@ pub record IsMadeAlike {A : Type 0} (old new : IndexState A) : Type 0 where
   pub schema : new.schema ≡ old.schema
   pub settings : new.settings ≡ old.settings
 
+-- a document's slot is too long beside a block of these settings
+abbrev pub IsSlotTooLong : Schema → Settings → Document → Type 0
+IsSlotTooLong schema settings doc = 2 ^ 32 ≤ settings.block_size + length (slot schema doc) + 8
+
 module _ {A : Type 0} where
   -- what cuts its texts
   abbrev pub analyzer_of : IndexState A → A
@@ -94,4 +98,4 @@ module _ {A : Type 0} where
 
   -- the slot of this document is too long beside a block
   abbrev pub HasLongSlot : IndexState A → Document → Type 0
-  HasLongSlot index doc = 2 ^ 32 ≤ index.settings.block_size + length (slot index.schema doc) + 8
+  HasLongSlot index doc = IsSlotTooLong index.schema index.settings doc

@@ -73,7 +73,7 @@ pub fields_known : (schema : Schema) (n : ℕ) (s : Sections) (bytes : List ℕ)
 fields_known schema n s bytes r written are same makes known =
     let few = written.few in
     let kept = kept_of schema n s r (omega (arith, few)) (postings_are_bytes n s bytes written are) same makes known in
-    fields_found schema n (norms_of schema n s) (terms_of s) kept (omega (arith, few)) (∥∥₁_map known (λ parts. (parts.fields, subst (λ norms. AreSections schema n norms parts.fields s.terms s.postings s.positions) (sym (norms_lent n (length_fields schema) s.norms parts.norms parts.norms_are)) parts.terms_are)))
+    fields_found schema n (norms_of schema n s) (terms_of s) kept (omega (arith, few)) (∥∥₁_map known (λ parts. (parts.fields, record { are = subst (λ norms. AreSections schema n norms parts.fields s.terms s.postings s.positions) (sym (norms_lent n (length_fields schema) s.norms parts.norms parts.norms_are)) parts.terms_are; keyed = parts.keyed })))
 
 -- the parts that are made of its sections are those of an opened segment
 pub opened_known : (schema : Schema) (n : ℕ) (s : Sections) (bytes : List ℕ) (r : Reader) (kept : List ℕ) (blocks : List Block) → AreWritten n s bytes → AreBytes bytes → r.sections ≡ terms_of s → Makes schema r (terms_of s) → ∥ AreParts schema n s ∥₁ → kept ≡ length_fields schema
@@ -89,7 +89,8 @@ opened_known schema n s bytes r kept blocks written are same makes known named s
       fields_are = named;
       lengths_are = refl;
       norms_are = lengths_known schema n s known;
-      terms_are = found.1;
+      terms_are = found.1.are;
+      keyed = found.1.keyed;
       reads = λ others is. makes n (norms_of schema n s) others (omega (arith, few)) is;
       blocks_are = stored.0;
       store_is = stored.1;
@@ -112,6 +113,7 @@ segment_known schema analyze docs bytes is =
       blocks = store.0;
       written = is.written;
       terms_are = is.terms_are;
+      keyed = is.keyed;
       norms_are = is.norms_are;
       store_is = store.3;
       blocks_are = store.1;

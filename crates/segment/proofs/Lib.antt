@@ -25,5 +25,6 @@ pub mod GivenTerms
 pub mod MergedTerms
 pub mod IndexedTerms
 pub mod NumberedMembers
+pub mod KeyedMerges
 pub mod LongSlots
 pub mod MergedSegments

@@ -14,6 +14,7 @@ use Rattle.layouts.specs.InvertedIndexes.{AreIndexed, AreSections, IndexedField}
 use Rattle.layouts.specs.Stores.{AreBlocks, Block, Hold, IsStore, store_bytes}
 use Rattle.merging.specs.LivingSlots.{HasBadSlot}
 use Rattle.segment.specs.Opened.{blocks_of}
+use Rattle.segment_definitions.specs.Keys.{AreKeyed}
 use Rattle.segment_definitions.specs.Segments.{AreWritten, IsSegment, IsSegmentOf, IsTaken, Sections}
 use Rattle.segment.proofs.MergedStores.{slots_living, slots_of}
 use Rattle.segment.specs.Members.{Member, StandFor, living_count}
@@ -60,10 +61,10 @@ all_taken schema analyze (m ∷ ms) (rows ∷ segments) stand = both_taken (IsTa
 -- ---- a segment of the living documents
 
 pub segment_of : (schema : Schema) (analyze : Analyzer) (ms : List Member) (segments : List alive.Segment) (sections : Sections) (bytes : List ℕ) (fields : List IndexedField) → StandFor schema analyze ms segments → AreWritten (living_count ms) sections bytes
-    → AreSections schema (living_count ms) (norms_of schema analyze (live segments)) fields sections.terms sections.postings sections.positions → AreIndexed schema analyze (live segments) fields
+    → AreSections schema (living_count ms) (norms_of schema analyze (live segments)) fields sections.terms sections.postings sections.positions → AreIndexed schema analyze (live segments) fields → AreKeyed schema fields
     → IsNorms (length_fields schema) (living_count ms) sections.norms (norms_of schema analyze (live segments))
     → IsStore (merged_slots ms (slots_of schema segments)) sections.store → IsSegmentOf schema analyze (live segments) bytes
-segment_of schema analyze ms segments sections bytes fields stand written terms indexed norms store =
+segment_of schema analyze ms segments sections bytes fields stand written terms indexed keyed norms store =
     let many = living_is schema analyze ms segments stand in
     record {
       sections = sections;
@@ -71,6 +72,7 @@ segment_of schema analyze ms segments sections bytes fields stand written terms 
       taken = all_taken schema analyze ms segments stand;
       written = subst (λ n. AreWritten n sections bytes) many written;
       terms_are = subst (λ n. AreSections schema n (norms_of schema analyze (live segments)) fields sections.terms sections.postings sections.positions) many terms;
+      keyed = keyed;
       indexed = indexed;
       norms_are = subst (λ n. IsNorms (length_fields schema) n sections.norms (norms_of schema analyze (live segments))) many norms;
       store_is = subst (λ xs. IsStore xs sections.store) (slots_living schema analyze ms segments stand) store;
@@ -79,9 +81,9 @@ segment_of schema analyze ms segments sections bytes fields stand written terms 
 -- ---- a segment, whatever it stands for and whatever its blocks hold
 
 pub segment_is : (schema : Schema) (n : ℕ) (sections : Sections) (bytes : List ℕ) (fields : List IndexedField) (norms : List (ℕ × List ℕ)) (blocks : List Block) → AreWritten n sections bytes
-    → AreSections schema n norms fields sections.terms sections.postings sections.positions → IsNorms (length_fields schema) n sections.norms norms
+    → AreSections schema n norms fields sections.terms sections.postings sections.positions → AreKeyed schema fields → IsNorms (length_fields schema) n sections.norms norms
     → AreBlocks blocks → sections.store ≡ store_bytes blocks → count_of blocks ≡ n → IsSegment schema n bytes
-segment_is schema n sections bytes fields norms blocks written terms lengths are is many =
+segment_is schema n sections bytes fields norms blocks written terms keyed lengths are is many =
     let sum = count_is blocks in
     record {
       sections = sections;
@@ -90,6 +92,7 @@ segment_is schema n sections bytes fields norms blocks written terms lengths are
       blocks = blocks;
       written = written;
       terms_are = terms;
+      keyed = keyed;
       norms_are = lengths;
       store_is = is;
       blocks_are = are;

@@ -1,6 +1,6 @@
 -- The members of a merge of terms, by the segments that are its members.
 use Rattle.std.proofs.Common.{[], List, ap, ap₂, arith, drop, get_or, length, map, refl, subst, suc, sym, take, zero, zero-add, ◌++◌, ◌+◌, ◌<◌, ◌≡◌, ◌≤◌, ◌∙◌, ◌∷◌, ℕ}
-use Rattle.std.specs.List.{slice_index_or}
+use Rattle.std.specs.List.{AllByRecursion, slice_index_or}
 use Rattle.std.specs.Prelude.{⊤}
 use Rattle.definitions.specs.Alive.{Segment}
 use Rattle.definitions.specs.Analyzers.{Analyzer}
@@ -11,6 +11,7 @@ use Rattle.layouts.specs.InvertedIndexes.{IndexedField}
 use Rattle.merging.specs.Members.{AreMembers}
 use Rattle.merging.specs.declared.member.Member as merged
 use Rattle.merging.specs.Mappings.{Mapping, end_of}
+use Rattle.segment_definitions.specs.Keys.{AreKeyed}
 use Rattle.segment.proofs.Reading.{documents_read}
 use Rattle.segment.specs.Opened.{index_of}
 use Rattle.segment.proofs.IndexedTerms.{AreOfDocuments}
@@ -54,6 +55,12 @@ opened_read schema (m ∷ ms) opened =
     let rest = opened_read schema ms opened.1 in
     (o.fields ∷ rest.0, ((o.norms, subst (λ n. IsReader schema n o.norms o.fields (index_of m.0)) (sym opened.0.1) (o.reads o.fields o.terms_are)), rest.1))
 
+-- these terms have the bytes of values of their fields
+pub opened_keyed : (schema : Schema) (ms : List Member) (opened : AreOpened schema ms) → AllByRecursion (AreKeyed schema) (opened_read schema ms opened).0
+unfolding opened_read
+opened_keyed schema [] opened = tt
+opened_keyed schema (m ∷ ms) opened = (opened.0.0.keyed, opened_keyed schema ms opened.1)
+
 abbrev AreSame : ℕ → List merged.Member → List Member → Type 0
 AreSame base xs ms = map view xs ≡ numbered base ms
 
@@ -90,10 +97,11 @@ few_fields schema (m ∷ ms) opened some = (opened.0.0.reads opened.0.0.fields o
 pub record HaveDocuments (schema : Schema) (analyze : Analyzer) (xs : List merged.Member) (ms : List Member) (segments : List Segment) : Type 0 where
   pub all : List (List IndexedField)
   pub read : AreRead schema ms all
+  pub keyed : AllByRecursion (AreKeyed schema) all
   pub of : AreOfDocuments schema analyze xs all segments
 
 pub standing_read : (schema : Schema) (analyze : Analyzer) (base : ℕ) (xs : List merged.Member) (ms : List Member) (segments : List Segment) → AreSame base xs ms → StandFor schema analyze ms segments → HaveDocuments schema analyze xs ms segments
-standing_read schema analyze base [] [] [] same stand = record { all = []; read = tt; of = refl }
+standing_read schema analyze base [] [] [] same stand = record { all = []; read = tt; keyed = tt; of = refl }
 standing_read schema analyze base [] [] (rows ∷ segments) same stand = absurd stand
 standing_read schema analyze base [] (m ∷ ms) segments same stand = absurd (let long = ap length same in omega (arith, long))
 standing_read schema analyze base (x ∷ xs) [] segments same stand = absurd (let long = ap length same in omega (arith, long))
@@ -106,5 +114,6 @@ standing_read schema analyze base (x ∷ xs) (m ∷ ms) (rows ∷ segments) same
     record {
       all = own.bytes_are.fields ∷ rest.all;
       read = ((own.opened.norms, subst (λ n. IsReader schema n own.opened.norms own.bytes_are.fields (index_of m.0)) (sym flagged) (documents_read schema analyze (documents_in rows) m.0 own)), rest.read);
+      keyed = (own.bytes_are.keyed, rest.keyed);
       of = (ap (λ v. v.1.flags) one ∙ stand.1, own.bytes_are.indexed, rest.of);
     }

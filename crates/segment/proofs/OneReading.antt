@@ -1,8 +1,8 @@
 -- Sections are those of one list of fields, so that it is found where it is known to be there.
-use Rattle.std.proofs.Common.{[], List, ap, append_assoc, arith, ap₂, length, length-append, map, refl, subst, suc, sym, zero, ◌++◌, ◌<◌, ◌≡◌, ◌≤◌, ◌∙◌, ◌∷◌, ◌^◌, ℕ}
+use Rattle.std.proofs.Common.{[], List, ap, append_assoc, arith, ap₂, length, length-append, map, refl, subst, suc, sym, true, zero, ◌++◌, ◌<◌, ◌≡◌, ◌≤◌, ◌∙◌, ◌∷◌, ◌^◌, ℕ}
 use Rattle.std.proofs.Math.Logic.{∥∥₁_elim}
 use Rattle.std.proofs.Props.{props}
-use Rattle.std.specs.List.{AllByRecursion}
+use Rattle.std.specs.List.{AllByRecursion, AllByRecursion-prop}
 use Rattle.segment_postings.proofs.OneTerm.{one_term}
 use Rattle.segment_postings.specs.Placed.{term_of}
 use Rattle.common.proofs.Many.{bytes_after}
@@ -19,6 +19,7 @@ use Rattle.segment_reader.specs.CheckedTerms.{Sections}
 use Rattle.layouts.specs.FieldNorms.{IsNorms}
 use Rattle.layouts.specs.InvertedIndexes.{AreSections, IndexedField, IndexedTerm, IsField, IsTerm, field_ids, field_terms, indexed_fields, lengths_of, option_of_term, term_of_key}
 use Rattle.layouts.specs.TermSections.{FieldTerms, TermLengths}
+use Rattle.segment_definitions.specs.Keys.{AreKeyed, IsKeyed, is_key_of}
 use Rattle.segment.proofs.TermProps.{AreSections-prop, pairs_prop}
 
 -- ---- bytes, one run behind another
@@ -139,14 +140,27 @@ same_sections schema n norms s fs gs kept few a b =
 
 -- ---- what is known to be there
 
--- fields of the sections
+-- fields of the sections, whose terms have the bytes of their values
+pub record AreFields (schema : Schema) (n : ℕ) (norms : List (ℕ × List ℕ)) (s : Sections) (fields : List IndexedField) : Type 0 where
+  pub are : AreSections schema n norms fields s.terms s.postings s.positions
+  pub keyed : AreKeyed schema fields
+
+AreKeyed-prop : (schema : Schema) (fields : List IndexedField) → IsProp (AreKeyed schema fields)
+AreKeyed-prop schema fields = AllByRecursion-prop (IsKeyed schema) (λ (f : IndexedField). AllByRecursion-prop (λ (t : IndexedTerm). is_key_of schema f.field t.key ≡ true) (λ t. hlevel props) f.terms) fields
+
+AreFields-prop : (schema : Schema) (n : ℕ) (norms : List (ℕ × List ℕ)) (s : Sections) (fields : List IndexedField) → length s.positions < 2 ^ 64 → IsProp (AreFields schema n norms s fields)
+AreFields-prop schema n norms s fields short =
+    let sections : IsProp (AreSections schema n norms fields s.terms s.postings s.positions) = AreSections-prop schema n norms fields s.terms s.postings s.positions short in
+    let keys : IsProp (AreKeyed schema fields) = AreKeyed-prop schema fields in
+    hlevel (props, sections, keys)
+
 abbrev pub HasFields : Schema → ℕ → List (ℕ × List ℕ) → Sections → Type 0
-HasFields schema n norms s = (fields : List IndexedField) × AreSections schema n norms fields s.terms s.postings s.positions
+HasFields schema n norms s = (fields : List IndexedField) × AreFields schema n norms s fields
 
 pub fields_found : (schema : Schema) (n : ℕ) (norms : List (ℕ × List ℕ)) (s : Sections) → AreKept schema s → n < 2 ^ 32 → ∥ HasFields schema n norms s ∥₁ → HasFields schema n norms s
 fields_found schema n norms s kept few known =
     let short = kept.positions_short in
-    ∥∥₁_elim known (pairs_prop (λ fs. AreSections schema n norms fs s.terms s.postings s.positions) (λ fs. AreSections-prop schema n norms fs s.terms s.postings s.positions (omega (arith, short))) (λ fs gs a b. same_sections schema n norms s fs gs kept few a b)) (λ found. found)
+    ∥∥₁_elim known (pairs_prop (AreFields schema n norms s) (λ fs. AreFields-prop schema n norms s fs (omega (arith, short))) (λ fs gs a b. same_sections schema n norms s fs gs kept few a.are b.are)) (λ found. found)
 
 -- the length ids of a section of lengths
 pub norms_found : (schema : Schema) (n : ℕ) (bytes : List ℕ) → ∥ ((norms : List (ℕ × List ℕ)) × IsNorms (length_fields schema) n bytes norms) ∥₁ → IsNorms (length_fields schema) n bytes (norms_in n (length_fields schema) bytes)

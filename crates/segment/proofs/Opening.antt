@@ -6,6 +6,7 @@ use Rattle.definitions.specs.Schema.{Schema}
 use Rattle.layouts.specs.FieldNorms.{IsNorms}
 use Rattle.layouts.specs.InvertedIndexes.{AreSections, IndexedField}
 use Rattle.layouts.specs.Stores.{AreBlocks, Block, store_bytes}
+use Rattle.segment_definitions.specs.Keys.{AreKeyed}
 use Rattle.segment.specs.OpenedParts.{AreOpenedParts}
 use Rattle.segment_definitions.specs.Segments.{AreWritten, IsSegment, Sections, section_bytes}
 use Rattle.segment_reader.specs.CheckedTerms as reading
@@ -32,6 +33,7 @@ pub record AreParts (schema : Schema) (num_docs : ℕ) (s : Sections) : Type 0 w
   pub blocks : List Block
   pub norms_are : IsNorms (length_fields schema) num_docs s.norms norms
   pub terms_are : AreSections schema num_docs norms fields s.terms s.postings s.positions
+  pub keyed : AreKeyed schema fields
   pub store_is : s.store ≡ store_bytes blocks
   pub blocks_are : AreBlocks blocks
   pub counted : sum_by (λ (b : Block). b.count) blocks ≡ num_docs
@@ -39,7 +41,7 @@ pub record AreParts (schema : Schema) (num_docs : ℕ) (s : Sections) : Type 0 w
 pub parts_told : (schema : Schema) (m n : ℕ) (s : Sections) (bytes : List ℕ) → AreWritten m s bytes → IsSegment schema n bytes → AreParts schema m s
 parts_told schema m n s bytes a is =
     let one = one_segment m n s is.sections bytes a is.written in
-    let theirs : AreParts schema n is.sections = record { norms = is.norms; fields = is.fields; blocks = is.blocks; norms_are = is.norms_are; terms_are = is.terms_are; store_is = is.store_is; blocks_are = is.blocks_are; counted = is.counted } in
+    let theirs : AreParts schema n is.sections = record { norms = is.norms; fields = is.fields; blocks = is.blocks; norms_are = is.norms_are; terms_are = is.terms_are; keyed = is.keyed; store_is = is.store_is; blocks_are = is.blocks_are; counted = is.counted } in
     subst (λ (t : Sections). AreParts schema m t) (sym one.1) (subst (λ k. AreParts schema k is.sections) (sym one.0) theirs)
 
 -- the section of lengths by other names of the fields and of the bytes
@@ -51,7 +53,7 @@ store_short num_docs s bytes are = (all_short (listed s) (sections_short num_doc
 
 -- the parts that were read of its sections are those of an opened segment
 pub opened_read : (schema : Schema) (n : ℕ) (s : Sections) (bytes : List ℕ) (r : Reader) (kept : List ℕ) (blocks : List Block) (norms lent : List (ℕ × List ℕ)) → AreWritten n s bytes → kept ≡ length_fields schema → IsNorms (length_fields schema) n s.norms norms → lent ≡ norms → r.sections ≡ terms_of s
-    → ((fields : List IndexedField) × IsReader schema n lent fields r) → ((others : List IndexedField) → AreSections schema n lent others s.terms s.postings s.positions → IsReader schema n lent others r)
+    → ((fields : List IndexedField) × IsReader schema n lent fields r × AreKeyed schema fields) → ((others : List IndexedField) → AreSections schema n lent others s.terms s.postings s.positions → IsReader schema n lent others r)
     → AreBlocks blocks × (s.store ≡ store_bytes blocks) → sum_by (λ (b : Block). b.count) blocks ≡ n → AreOpenedParts schema bytes n r kept s.norms blocks
 opened_read schema n s bytes r kept blocks norms lent written named are same sections exact reads stored counted =
     let own : IsReader schema n norms exact.0 r = subst (λ (ns : List (ℕ × List ℕ)). IsReader schema n ns exact.0 r) same exact.1 in
@@ -64,6 +66,7 @@ opened_read schema n s bytes r kept blocks norms lent written named are same sec
       lengths_are = refl;
       norms_are = are;
       terms_are = subst (λ (t : reading.Sections). AreSections schema n norms exact.0 t.terms t.postings t.positions) sections own.sections;
+      keyed = exact.2;
       reads = λ others is. subst (λ (ns : List (ℕ × List ℕ)). IsReader schema n ns others r) same (reads others (subst (λ (ns : List (ℕ × List ℕ)). AreSections schema n ns others s.terms s.postings s.positions) (sym same) is));
       blocks_are = stored.0;
       store_is = stored.1;

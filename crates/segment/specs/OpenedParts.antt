@@ -5,6 +5,7 @@ use Rattle.definitions.specs.Schema.{Schema}
 use Rattle.layouts.specs.FieldNorms.{IsNorms}
 use Rattle.layouts.specs.InvertedIndexes.{AreSections, IndexedField}
 use Rattle.layouts.specs.Stores.{AreBlocks, Block, store_bytes}
+use Rattle.segment_definitions.specs.Keys.{AreKeyed}
 use Rattle.segment_definitions.specs.Segments.{AreWritten, Sections}
 use Rattle.segment_reader.specs.Readers.{IsReader, Reader}
 
@@ -19,6 +20,7 @@ pub record AreOpenedParts (schema : Schema) (bytes : List ℕ) (num_docs : ℕ) 
   pub lengths_are : lengths ≡ sections.norms
   pub norms_are : IsNorms (length_fields schema) num_docs sections.norms norms
   pub terms_are : AreSections schema num_docs norms fields sections.terms sections.postings sections.positions
+  pub keyed : AreKeyed schema fields
   pub reads : (others : List IndexedField) → AreSections schema num_docs norms others sections.terms sections.postings sections.positions → IsReader schema num_docs norms others index
   pub blocks_are : AreBlocks store
   pub store_is : sections.store ≡ store_bytes store

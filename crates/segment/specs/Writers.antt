@@ -1,7 +1,7 @@
 -- What a writer of a segment stands for, and why it refuses a document.
-use Rattle.std.specs.Prelude.{◌+◌, ◌^◌, ◌≡◌, ◌≤◌, ◌⊎◌, List, length, ℕ}
+use Rattle.std.specs.Prelude.{◌+◌, ◌<◌, ◌^◌, ◌≡◌, ◌≤◌, ◌⊎◌, List, length, ℕ}
 use Rattle.std.specs.List.{AllByRecursion}
-use Rattle.definitions.specs.Analyzers.{Analyzer}
+use Rattle.definitions.specs.Analyzers.{Analyzer, IsAnalyzer}
 use Rattle.definitions.specs.Schema.{Schema}
 use Rattle.definitions.specs.Values.{Document}
 use Rattle.definitions.specs.declared.fault.Fault.{Fault}
@@ -14,9 +14,10 @@ use Rattle.segment_definitions.specs.Slots.{slot, slots}
 use Rattle.segment.specs.declared.segment_writer.SegmentWriter.{SegmentWriter}
 use Rattle.store.specs.Writing.{HoldsSlots}
 
--- these documents were added, under this block size: they are indexed, and their slots are stored
+-- these documents were added, under this block size: they are indexed, by tokens that are texts, and their slots are stored
 pub record HasWritten (schema : Schema) (analyze : Analyzer) (block_size : ℕ) (writer : SegmentWriter) (docs : List Document) : Type 0 where
   pub taken : AllByRecursion (IsTaken schema) docs
+  pub texts : 0 < length docs → IsAnalyzer analyze
   pub few : length docs ≤ max_docs
   pub indexed : HasIndexed schema analyze writer.indexer docs
   pub stored : HoldsSlots writer.store (slots schema docs)

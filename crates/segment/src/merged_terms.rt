@@ -10,6 +10,7 @@ ghost use Rattle.definitions.specs.declared.fault.Fault.TheVariants as faults;
 ghost use Rattle.layouts.specs.InvertedIndexes.{AreIndexed, AreSections, IndexedField};
 ghost use Rattle.layouts.specs.Stores.{max_docs};
 ghost use Rattle.postings_writer.specs.Limits.{IsSerializeRefusal};
+ghost use Rattle.segment_definitions.specs.Keys.{AreKeyed};
 ghost use Rattle.segment.specs.Members.{AreOpened, StandFor, living_count, member_of, numbered};
 
 use crate::member_segments::MemberSegment;
@@ -36,13 +37,13 @@ pub(crate) fn merge_terms(
     ensures sections { AreOpened schema.now (map member_of members.now)
         → IfOk result (λ sections. (fields : List IndexedField)
         × AreSections schema.now (living_count (map member_of members.now)) fieldnorm_readers.now fields
-        sections.0.items sections.1.items sections.2.items) }
+        sections.0.items sections.1.items sections.2.items × AreKeyed schema.now fields) }
     ensures stands { (analyze : Analyzer) (segments : List alive.Segment)
         → StandFor schema.now analyze (map member_of members.now) segments
         → IfOk result (λ sections. (fields : List IndexedField)
         × AreSections schema.now (living_count (map member_of members.now)) fieldnorm_readers.now fields
         sections.0.items sections.1.items sections.2.items
-        × AreIndexed schema.now analyze (live segments) fields) }
+        × AreIndexed schema.now analyze (live segments) fields × AreKeyed schema.now fields) }
     ensures err { IfErr result (λ fault. fault ≢ faults.OutOfMemory → fault ≡ faults.Limit) }
     ensures limit { (analyze : Analyzer) (segments : List alive.Segment)
         → StandFor schema.now analyze (map member_of members.now) segments

@@ -45,7 +45,8 @@ impl Segment {
     ghost use Rattle.segment.specs.Opened.{IsOpened, StandsFor, blocks_of, bytes_of, index_of, lengths_of, num_docs_of};
 
     /// Opens a segment of documents of `schema` from `bytes`. All of it is checked but the blocks of the store; bytes
-    /// that aren't a segment are `Damaged`. Nothing is copied. The store caches up to `cache_num_blocks` blocks.
+    /// that aren't a segment are `Damaged`, as is a term without the bytes of a value of its field. Nothing is copied.
+    /// The store caches up to `cache_num_blocks` blocks.
     pub fn open(
         alloc: Global,
         schema: &Schema,

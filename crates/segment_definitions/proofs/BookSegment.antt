@@ -147,6 +147,7 @@ book_segment = record {
   taken = books_taken;
   written = record { some = omega arith; few = omega arith; short = (let long : length (segment_bytes 3 book_sections) ≡ 302 = refl in omega (arith, long)); whole = refl };
   terms_are = books_sections;
+  keyed = ((refl, (refl, (refl, (refl, tt)))), ((refl, (refl, tt)), tt));
   indexed = books_indexed;
   norms_are = record { names = refl; counts = (refl, (refl, tt)); spelled = refl };
   store_is = books_stored;

@@ -25,6 +25,7 @@ least_segment = record {
   taken = ((tt, refl), tt);
   written = record { some = omega arith; few = omega arith; short = omega arith; whole = refl };
   terms_are = record { names = refl; each = tt; terms_are = refl; postings_are = refl; positions_are = refl };
+  keyed = tt;
   indexed = record { each = tt; all = λ t some. absurd (omega (arith, some)) };
   norms_are = record { names = refl; counts = tt; spelled = refl };
   store_is = (block_of ((0x80 ∷ []) ∷ []) ∷ [], record { nonempty = one_block; docs = omega arith }, ((0x80 ∷ []) ∷ [], [], refl, refl, record { whole = refl; starts_fit = one_start; count_fits = omega arith }, refl), refl);

@@ -1,6 +1,7 @@
 -- Lemmas on segments and the bodies that list them.
 pub mod SegmentParts
 pub mod SegmentDocs
+pub mod DocumentKeys
 pub mod LeastSegment
 pub mod AliveFlags
 pub mod OneList

@@ -26,6 +26,7 @@ segment_alone schema analyze docs bytes s = record {
   blocks = s.store_is.0;
   written = s.written;
   terms_are = s.terms_are;
+  keyed = s.keyed;
   norms_are = s.norms_are;
   store_is = s.store_is.3;
   blocks_are = s.store_is.1;

@@ -1,5 +1,6 @@
 -- How segments and the records that list them stand as bytes.
 pub mod Slots
+pub mod Keys
 pub mod Segments
 pub mod SegmentBodies
 pub mod SegmentFiles

@@ -10,6 +10,7 @@ use Rattle.definitions.specs.Values.{Document, IsDocument}
 use Rattle.layouts.specs.FieldNorms.{IsNorms}
 use Rattle.layouts.specs.InvertedIndexes.{AreIndexed, AreSections, IndexedField}
 use Rattle.layouts.specs.Stores.{AreBlocks, Block, IsStore, max_docs, store_bytes}
+use Rattle.segment_definitions.specs.Keys.{AreKeyed}
 use Rattle.segment_definitions.specs.Slots.{slots}
 
 -- the terms of the fields, their postings, their positions, the lengths of fields, and the store
@@ -35,8 +36,8 @@ pub record AreWritten (num_docs : ℕ) (sections : Sections) (bytes : List ℕ) 
   pub short : length bytes < 2 ^ 64
   pub whole : bytes ≡ segment_bytes num_docs sections
 
--- The bytes are a segment of so many documents. Each section is in its layout, but for the blocks of the store: these are
--- read when their documents are.
+-- The bytes are a segment of so many documents. Each section is in its layout, and each term has the bytes of a value of
+-- its field. Not so the blocks of the store: these are read when their documents are.
 pub record IsSegment (schema : Schema) (num_docs : ℕ) (bytes : List ℕ) : Type 0 where
   pub sections : Sections
   pub norms : List (ℕ × List ℕ)
@@ -44,6 +45,7 @@ pub record IsSegment (schema : Schema) (num_docs : ℕ) (bytes : List ℕ) : Typ
   pub blocks : List Block
   pub written : AreWritten num_docs sections bytes
   pub terms_are : AreSections schema num_docs norms fields sections.terms sections.postings sections.positions
+  pub keyed : AreKeyed schema fields
   pub norms_are : IsNorms (length_fields schema) num_docs sections.norms norms
   pub store_is : sections.store ≡ store_bytes blocks
   pub blocks_are : AreBlocks blocks
@@ -61,6 +63,7 @@ pub record IsSegmentOf (schema : Schema) (analyze : Analyzer) (docs : List Docum
   pub taken : AllByRecursion (IsTaken schema) docs
   pub written : AreWritten (length docs) sections bytes
   pub terms_are : AreSections schema (length docs) (norms_of schema analyze docs) fields sections.terms sections.postings sections.positions
+  pub keyed : AreKeyed schema fields
   pub indexed : AreIndexed schema analyze docs fields
   pub norms_are : IsNorms (length_fields schema) (length docs) sections.norms (norms_of schema analyze docs)
   pub store_is : IsStore (slots schema docs) sections.store

@@ -3,21 +3,33 @@
 ghost use Rattle.std.specs.Prelude.{[], ◌<◌, ◌^◌, ◌∷◌, ◌≡◌, Bool, List, length, map, replicate, true, ℕ};
 ghost use Rattle.std.specs.List.{AllByRecursion, items_where_true};
 ghost use Rattle.definitions.specs.Alive.{Segment, live};
-ghost use Rattle.definitions.specs.Analyzers.{Analyzer};
+ghost use Rattle.definitions.specs.Analyzers.{Analyzer, IsAnalyzer};
 ghost use Rattle.definitions.specs.Merging.{documents_in, flags_of, merged_rows};
 ghost use Rattle.definitions.specs.Schema.{Schema};
 ghost use Rattle.definitions.specs.Settings.{Settings};
 ghost use Rattle.definitions.specs.Values.{Document};
+ghost use Rattle.layouts.specs.InvertedIndexes.{AreIndexed, IndexedField, IsField};
 ghost use Rattle.layouts.specs.RecordFiles.{AreTaken, IsDamaged};
+ghost use Rattle.segment_definitions.specs.Keys.{AreKeyed};
 ghost use Rattle.segment_definitions.specs.SegmentBodies.{Fits, Makes, Member, Part, segments_body};
 ghost use Rattle.segment_definitions.specs.SegmentFiles.{AreBodies, AreMade, IsRecordFile, TakesSegments};
-ghost use Rattle.segment_definitions.specs.Segments.{IsSegment, IsSegmentOf};
+ghost use Rattle.segment_definitions.specs.Segments.{IsSegment, IsSegmentOf, IsTaken};
 ghost use Rattle.segment_definitions.specs.Slots.{slots};
 
 /// States that a segment of documents is a segment, of as many documents.
 pub fn a_segment_of_documents_is_a_segment()
     ensures { (schema : Schema) (analyze : Analyzer) (docs : List Document) (bytes : List ℕ)
         → IsSegmentOf schema analyze docs bytes → IsSegment schema (length docs) bytes }
+{}
+
+/// States that the terms of documents that an add accepts have the value bytes of their fields, as long as tokens are
+/// texts.
+pub fn terms_of_documents_are_keyed()
+    ensures { (schema : Schema) (analyze : Analyzer) → IsAnalyzer analyze
+        → (docs : List Document) → AllByRecursion (IsTaken schema) docs
+        → (num_docs : ℕ) (norms : List (ℕ × List ℕ)) (fields : List IndexedField)
+        → AllByRecursion (IsField schema num_docs norms) fields → AreIndexed schema analyze docs fields
+        → AreKeyed schema fields }
 {}
 
 /// States that a body determines the parts that it encodes.

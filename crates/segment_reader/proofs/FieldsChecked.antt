@@ -1,17 +1,17 @@
 -- Fields as they are defined pass their checks.
-use Rattle.std.proofs.Common.{[], List, ap, append_assoc, arith, drop, flat_map, length, length-drop, map, subst, sym, take, ◌++◌, ◌<◌, ◌≡◌, ◌≤◌, ◌∙◌, ◌∷◌, ◌^◌, ℕ}
+use Rattle.std.proofs.Common.{[], List, ap, append_assoc, arith, drop, flat_map, length, length-drop, map, subst, sym, take, true, ◌++◌, ◌<◌, ◌≡◌, ◌≤◌, ◌∙◌, ◌∷◌, ◌^◌, ℕ}
 use Rattle.std.proofs.Math.Seq.{take-append_seam}
 use Rattle.std.specs.List.{AllByRecursion}
-use Rattle.definitions.proofs.Ranking.{All_weaker}
 use Rattle.definitions.specs.Schema.{Schema, max_fields}
 use Rattle.layouts.specs.InvertedIndexes.{AreSections, IndexedField, IndexedTerm, IsField, IsTerm, field_ids, field_terms, lengths_of, num_tokens, option_of_term, term_of_key}
 use Rattle.layouts.specs.TermSections.{entry_of_term, field_terms_bytes}
+use Rattle.segment_definitions.specs.Keys.{AreKeyed, IsKeyed, is_key_of}
 use Rattle.segment_reader.proofs.EntriesTaken.{entry_read}
-use Rattle.segment_reader.proofs.KindsKnown.{IsKind, kinds_known, same_option}
+use Rattle.segment_reader.proofs.KindsKnown.{IsKind, kinds_known, same_key, same_option}
 use Rattle.segment_reader.proofs.SectionsThere.{fields_fit}
 use Rattle.segment_reader.proofs.TermBytes.{FieldFits, all_positions, all_postings, end_postings, end_positions, field_entry, positions_of, postings_of, rest_there, told_of}
 use Rattle.segment_reader.proofs.TermSteps.{taken_there}
-use Rattle.segment_reader.specs.CheckedTerms.{AreCheckedFields, AreTermsAt, IsCheckedField, Sections}
+use Rattle.segment_reader.specs.CheckedTerms.{AreCheckedFields, AreTermsAt, IsCheckedField, IsCheckedTerm, Sections}
 use Rattle.segment_reader.specs.FieldKinds.{kinds_of, option_in, shown}
 use Rattle.segment_reader.specs.TakenTerms.{Told, entry_at}
 use Rattle.segment_reader.specs.TermPlaces.{EntryFits, behind, field_end, fields_start, first_in, header_of, starts_from}
@@ -91,25 +91,36 @@ fields_whole schema num_docs norms fields s are = record { terms_are = ap (drop 
 option_moved : (schema : Schema) (k : FieldKind) (f : ℕ) (x : IndexedTerm) → IsKind schema k → k.field ≡ f → option_of_term schema (term_of_key schema f x.key) ≡ option_in k x.key
 option_moved schema k f x known same = sym (same_option schema k x.key known ∙ ap (λ n. option_of_term schema (term_of_key schema n x.key)) same)
 
-field_checked : (schema : Schema) (num_docs : ℕ) (norms : List (ℕ × List ℕ)) (s : Sections) (at : TermStart) (f : IndexedField) (fields : List IndexedField) (i : FieldIndex) → length s.terms < 2 ^ 63 → IsKind schema i.kind → IsField schema num_docs norms f → FieldFits (field_terms f) → FieldsStand s at (f ∷ fields) → i.kind.field ≡ f.field → i.num_tokens ≡ num_tokens f → i.starts.items ≡ starts_from (first_in at (field_terms f)) (told_of f.terms) → IsCheckedField s num_docs (field_ids norms i.kind.field) i f.terms
-field_checked schema num_docs norms s at f fields i short known is fits stand number tokens starts =
+-- terms of a field in their layout, with the bytes of its values
+terms_checked : (schema : Schema) (num_docs : ℕ) (norms : List (ℕ × List ℕ)) (k : FieldKind) (f : ℕ) → IsKind schema k → k.field ≡ f → (xs : List IndexedTerm) → AllByRecursion (λ (x : IndexedTerm). IsTerm (option_of_term schema (term_of_key schema f x.key)) num_docs (field_ids norms f) x) xs → AllByRecursion (λ (x : IndexedTerm). is_key_of schema f x.key ≡ true) xs → AllByRecursion (IsCheckedTerm k num_docs (field_ids norms k.field)) xs
+terms_checked schema num_docs norms k f known number [] each keyed = tt
+terms_checked schema num_docs norms k f known number (x ∷ xs) each keyed = (
+  record {
+    is = subst (λ n. IsTerm (option_in k x.key) num_docs (field_ids norms n) x) (sym number) (subst (λ option. IsTerm option num_docs (field_ids norms f) x) (option_moved schema k f x known number) each.0);
+    keyed = same_key schema k x.key known ∙ ap (λ n. is_key_of schema n x.key) number ∙ keyed.0;
+  },
+  terms_checked schema num_docs norms k f known number xs each.1 keyed.1,
+)
+
+field_checked : (schema : Schema) (num_docs : ℕ) (norms : List (ℕ × List ℕ)) (s : Sections) (at : TermStart) (f : IndexedField) (fields : List IndexedField) (i : FieldIndex) → length s.terms < 2 ^ 63 → IsKind schema i.kind → IsField schema num_docs norms f → IsKeyed schema f → FieldFits (field_terms f) → FieldsStand s at (f ∷ fields) → i.kind.field ≡ f.field → i.num_tokens ≡ num_tokens f → i.starts.items ≡ starts_from (first_in at (field_terms f)) (told_of f.terms) → IsCheckedField s num_docs (field_ids norms i.kind.field) i f.terms
+field_checked schema num_docs norms s at f fields i short known is keyed fits stand number tokens starts =
     let there = terms_at_places s (first_in at (field_terms f)) f.terms (flat_map field_terms_bytes (map field_terms fields)) (all_postings fields) (all_positions fields) short fits.fit (first_stands s at f fields stand) in
     record {
       terms_are = subst (λ ss. AreTermsAt s ss f.terms) (sym starts) there;
-      each = All_weaker (λ (x : IndexedTerm). IsTerm (option_of_term schema (term_of_key schema f.field x.key)) num_docs (field_ids norms f.field) x) (λ (x : IndexedTerm). IsTerm (option_in i.kind x.key) num_docs (field_ids norms i.kind.field) x) (λ x term. subst (λ n. IsTerm (option_in i.kind x.key) num_docs (field_ids norms n) x) (sym number) (subst (λ option. IsTerm option num_docs (field_ids norms f.field) x) (option_moved schema i.kind f.field x known number) term)) f.terms is.each;
+      each = terms_checked schema num_docs norms i.kind f.field known number f.terms is.each keyed;
       tokens_are = sym tokens;
     }
 
-checked_from : (schema : Schema) (num_docs : ℕ) (norms : List (ℕ × List ℕ)) (s : Sections) (at : TermStart) (fields : List IndexedField) (told : List FieldIndex) → length s.terms < 2 ^ 63 → AllByRecursion (IsKind schema) (map (λ (i : FieldIndex). i.kind) told) → AllByRecursion (IsField schema num_docs norms) fields → AllByRecursion FieldFits (map field_terms fields) → FieldsStand s at fields → AreTold at (map field_terms fields) told → AreCheckedFields s num_docs norms told (map (λ (f : IndexedField). f.terms) fields)
-checked_from schema num_docs norms s at [] [] short known each fits stand are = tt
-checked_from schema num_docs norms s at [] (i ∷ is) short known each fits stand are = absurd are
-checked_from schema num_docs norms s at (f ∷ fields) [] short known each fits stand are = absurd are
-checked_from schema num_docs norms s at (f ∷ fields) (i ∷ is) short known each fits stand are = (field_checked schema num_docs norms s at f fields i short known.0 each.0 fits.0 stand are.0 are.1 are.2, checked_from schema num_docs norms s (field_end at (field_terms f)) fields is short known.1 each.1 fits.1 (fields_behind s at f fields stand) are.3)
+checked_from : (schema : Schema) (num_docs : ℕ) (norms : List (ℕ × List ℕ)) (s : Sections) (at : TermStart) (fields : List IndexedField) (told : List FieldIndex) → length s.terms < 2 ^ 63 → AllByRecursion (IsKind schema) (map (λ (i : FieldIndex). i.kind) told) → AllByRecursion (IsField schema num_docs norms) fields → AreKeyed schema fields → AllByRecursion FieldFits (map field_terms fields) → FieldsStand s at fields → AreTold at (map field_terms fields) told → AreCheckedFields s num_docs norms told (map (λ (f : IndexedField). f.terms) fields)
+checked_from schema num_docs norms s at [] [] short known each keyed fits stand are = tt
+checked_from schema num_docs norms s at [] (i ∷ is) short known each keyed fits stand are = absurd are
+checked_from schema num_docs norms s at (f ∷ fields) [] short known each keyed fits stand are = absurd are
+checked_from schema num_docs norms s at (f ∷ fields) (i ∷ is) short known each keyed fits stand are = (field_checked schema num_docs norms s at f fields i short known.0 each.0 keyed.0 fits.0 stand are.0 are.1 are.2, checked_from schema num_docs norms s (field_end at (field_terms f)) fields is short known.1 each.1 keyed.1 fits.1 (fields_behind s at f fields stand) are.3)
 
 -- fields of the sections that are defined are checked fields
-pub fields_checked : (schema : Schema) (num_docs : ℕ) (norms : List (ℕ × List ℕ)) (fields : List IndexedField) (s : Sections) (told : List FieldIndex) → length s.terms < 2 ^ 63 → length s.postings < 2 ^ 63 → length s.positions < 2 ^ 63 → num_docs < 2 ^ 32 → length schema ≤ max_fields → AreSections schema num_docs norms fields s.terms s.postings s.positions → AreTold fields_start (map field_terms fields) told → map shown (map (λ (i : FieldIndex). i.kind) told) ≡ kinds_of schema → AreCheckedFields s num_docs norms told (map (λ (f : IndexedField). f.terms) fields)
-fields_checked schema num_docs norms fields s told short first second few small are told_are kinds =
+pub fields_checked : (schema : Schema) (num_docs : ℕ) (norms : List (ℕ × List ℕ)) (fields : List IndexedField) (s : Sections) (told : List FieldIndex) → length s.terms < 2 ^ 63 → length s.postings < 2 ^ 63 → length s.positions < 2 ^ 63 → num_docs < 2 ^ 32 → length schema ≤ max_fields → AreSections schema num_docs norms fields s.terms s.postings s.positions → AreKeyed schema fields → AreTold fields_start (map field_terms fields) told → map shown (map (λ (i : FieldIndex). i.kind) told) ≡ kinds_of schema → AreCheckedFields s num_docs norms told (map (λ (f : IndexedField). f.terms) fields)
+fields_checked schema num_docs norms fields s told short first second few small are keyed told_are kinds =
     let postings : length s.postings ≡ length (all_postings fields) = ap length are.postings_are in
     let positions : length s.positions ≡ length (all_positions fields) = ap length are.positions_are in
     let fits = fields_fit schema num_docs norms fields few (omega (arith, first, postings)) (omega (arith, second, positions)) are.each in
-    checked_from schema num_docs norms s fields_start fields told short (kinds_known schema (map (λ (i : FieldIndex). i.kind) told) small kinds) are.each fits (fields_whole schema num_docs norms fields s are) told_are
+    checked_from schema num_docs norms s fields_start fields told short (kinds_known schema (map (λ (i : FieldIndex). i.kind) told) small kinds) are.each keyed fits (fields_whole schema num_docs norms fields s are) told_are

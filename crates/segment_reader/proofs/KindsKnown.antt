@@ -11,6 +11,7 @@ use Rattle.options.specs.RecordOption.{record_option_of}
 use Rattle.terms.proofs.TermParts.{field_of-term, text_terms}
 use Rattle.terms.specs.Kinds.{kind_of}
 use Rattle.terms.specs.TextKeys.{is_text_key}
+use Rattle.segment_definitions.specs.Keys.{is_key, is_key_of}
 use Rattle.segment_reader.specs.FieldKinds.{kinds_of, option_in, shown}
 use Rattle.segment_reader.specs.declared.field_kind.FieldKind.{FieldKind}
 
@@ -124,3 +125,9 @@ same_option schema k key known =
     ∙ ap (λ o. cond (is_text_key e.kind key) (option_map_or (λ (x : Entry). x.record_option) o basic) basic) entry in
     let term : term_of_key schema f key ≡ t = ap (λ o. option_map_or (λ (x : Entry). term_bytes f x.kind key) o []) known.there in
     ap₂ (λ kind option. cond (is_text_key kind key) option basic) known.kind_is known.option_is ∙ sym own ∙ ap (option_of_term schema) (sym term)
+
+-- ---- keys
+
+-- the bytes of a value of the kind are those of a value of the field
+pub same_key : (schema : Schema) (k : FieldKind) (key : List ℕ) → IsKind schema k → is_key (kind_of k.value_type) key ≡ is_key_of schema k.field key
+same_key schema k key known = ap (λ kind. is_key kind key) known.kind_is ∙ sym (ap (λ o. option_map_or (λ (e : Entry). is_key e.kind key) o false) known.there)

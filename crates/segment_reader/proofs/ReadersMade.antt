@@ -5,11 +5,12 @@ use Rattle.definitions.specs.Postings.{terminated}
 use Rattle.definitions.specs.Schema.{Schema, max_fields}
 use Rattle.layouts.specs.InvertedIndexes.{AreSections, IndexedField, IndexedTerm, field_terms, indexed_fields}
 use Rattle.layouts.specs.TermSections.{FieldTerms, entry_of_term}
+use Rattle.segment_definitions.specs.Keys.{AreKeyed}
 use Rattle.segment_reader.proofs.FieldsChecked.{entry_there, fields_checked}
 use Rattle.segment_reader.proofs.FieldsLoop.{terms_tail}
 use Rattle.segment_reader.proofs.KindsKnown.{fields_small, kind_numbers}
 use Rattle.segment_reader.proofs.OneReading.{same_fields}
-use Rattle.segment_reader.proofs.SectionsRead.{sections_read, told_fields}
+use Rattle.segment_reader.proofs.SectionsRead.{keys_read, sections_read, told_fields}
 use Rattle.segment_reader.proofs.SectionsThere.{sections_there}
 use Rattle.segment_reader.proofs.TermsLoop.{first_alone}
 use Rattle.segment_reader.specs.CheckedTerms.{AreCheckedFields, IsWithin, Sections, fields_with}
@@ -67,12 +68,12 @@ told_for schema n norms s fs told fields made are = subst (λ gs. AreTold fields
 pub stands_for : (schema : Schema) (n : ℕ) (norms : List (ℕ × List ℕ)) (s : Sections) (fs : List FieldTerms) (told : List FieldIndex) (fields : List IndexedField) → Made schema n s fs told → AreSections schema n norms fields s.terms s.postings s.positions → IsReader schema n norms fields (record { sections = s; indexes = told })
 stands_for schema n norms s fs told fields made are = record { few = made.few; docs_few = made.docs_few; terms_short = made.terms_short; postings_short = made.postings_short; positions_short = made.positions_short; sections = are; kinds = made.kinds; told = told_for schema n norms s fs told fields made are }
 
-pub checked_for : (schema : Schema) (n : ℕ) (norms : List (ℕ × List ℕ)) (s : Sections) (fs : List FieldTerms) (told : List FieldIndex) (fields : List IndexedField) → Made schema n s fs told → AreSections schema n norms fields s.terms s.postings s.positions → AreCheckedFields s n norms told (map (λ (f : IndexedField). f.terms) fields)
-checked_for schema n norms s fs told fields made are =
+pub checked_for : (schema : Schema) (n : ℕ) (norms : List (ℕ × List ℕ)) (s : Sections) (fs : List FieldTerms) (told : List FieldIndex) (fields : List IndexedField) → Made schema n s fs told → AreSections schema n norms fields s.terms s.postings s.positions → AreKeyed schema fields → AreCheckedFields s n norms told (map (λ (f : IndexedField). f.terms) fields)
+checked_for schema n norms s fs told fields made are keyed =
     let docs = made.docs_few in
-    fields_checked schema n norms fields s told made.terms_short made.postings_short made.positions_short (omega (arith, docs)) made.few are (told_for schema n norms s fs told fields made are) made.kinds
+    fields_checked schema n norms fields s told made.terms_short made.postings_short made.positions_short (omega (arith, docs)) made.few are keyed (told_for schema n norms s fs told fields made are) made.kinds
 
-pub reader_made : (schema : Schema) (n : ℕ) (norms : List (ℕ × List ℕ)) (s : Sections) (fs : List FieldTerms) (told : List FieldIndex) (xss : List (List IndexedTerm)) → Made schema n s fs told → AreCheckedFields s n norms told xss → (fields : List IndexedField) × IsReader schema n norms fields (record { sections = s; indexes = told })
+pub reader_made : (schema : Schema) (n : ℕ) (norms : List (ℕ × List ℕ)) (s : Sections) (fs : List FieldTerms) (told : List FieldIndex) (xss : List (List IndexedTerm)) → Made schema n s fs told → AreCheckedFields s n norms told xss → (fields : List IndexedField) × IsReader schema n norms fields (record { sections = s; indexes = told }) × AreKeyed schema fields
 reader_made schema n norms s fs told xss made checked = (
   fields_with told xss,
   record {
@@ -85,6 +86,7 @@ reader_made schema n norms s fs told xss made checked = (
     kinds = made.kinds;
     told = (told_fields schema n norms s fs told xss made.terms_short made.few made.section made.told_are made.kinds checked).0;
   },
+  keys_read schema n norms s told xss made.few made.kinds checked,
 )
 
 pub made_of : (schema : Schema) (n : ℕ) (s : Sections) (lent kinds : List FieldKind) (fs : List FieldTerms) (told : List FieldIndex) → lent ≡ kinds → map shown kinds ≡ kinds_of schema → length schema ≤ max_fields → n ≤ 2147483647 → length s.terms < 2 ^ 63 → length s.postings < 2 ^ 63 → length s.positions < 2 ^ 63 → IsSection s.terms (length s.postings) (length s.positions) (map (λ (k : FieldKind). k.field) lent) fs → AreTold fields_start fs told → map (λ (i : FieldIndex). i.kind) told ≡ lent → Made schema n s fs told

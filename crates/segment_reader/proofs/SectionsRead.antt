@@ -1,5 +1,5 @@
 -- Sections that were read and checked are as they are defined.
-use Rattle.std.proofs.Common.{[], List, None, Option, Some, ap, ap₂, append-nil, append_assoc, arith, drop, flat_map, length, length-drop, map, refl, subst, sym, take, unwrap_or, ◌++◌, ◌+◌, ◌<◌, ◌≡◌, ◌≤◌, ◌∙◌, ◌∷◌, ◌^◌, ℕ}
+use Rattle.std.proofs.Common.{[], List, None, Option, Some, ap, ap₂, append-nil, append_assoc, arith, drop, flat_map, length, length-drop, map, refl, subst, sym, take, true, unwrap_or, ◌++◌, ◌+◌, ◌<◌, ◌≡◌, ◌≤◌, ◌∙◌, ◌∷◌, ◌^◌, ℕ}
 use Rattle.std.proofs.lemmas.List.{drop-drop, drop_all, length-map, length-take-le, take-append-drop}
 use Rattle.std.specs.List.{AllByRecursion}
 use Rattle.std.specs.Prelude.{slice_get}
@@ -7,13 +7,14 @@ use Rattle.definitions.proofs.Ranking.{All_weaker}
 use Rattle.definitions.specs.Schema.{Schema, max_fields}
 use Rattle.layouts.specs.InvertedIndexes.{AreSections, IndexedField, IndexedTerm, IsField, IsTerm, field_ids, field_terms, indexed_fields, lengths_of, num_tokens, option_of_term, term_of_key}
 use Rattle.layouts.specs.TermSections.{FieldTerms, TermsAscend, entry_of_term, field_terms_bytes, terms_bytes}
+use Rattle.segment_definitions.specs.Keys.{AreKeyed, is_key_of}
 use Rattle.segment_reader.proofs.FieldsChecked.{entry_there}
 use Rattle.segment_reader.proofs.FieldsLoop.{terms_tail}
-use Rattle.segment_reader.proofs.KindsKnown.{IsKind, kind_numbers, kinds_known, same_option}
+use Rattle.segment_reader.proofs.KindsKnown.{IsKind, kind_numbers, kinds_known, same_key, same_option}
 use Rattle.segment_reader.proofs.SectionsThere.{keys_told}
 use Rattle.segment_reader.proofs.TermBytes.{all_positions, all_postings, positions_of, postings_of, told_of}
 use Rattle.segment_reader.proofs.TermsLoop.{ends_grow}
-use Rattle.segment_reader.specs.CheckedTerms.{AreCheckedFields, AreTermsAt, IsCheckedField, Sections, fields_with}
+use Rattle.segment_reader.specs.CheckedTerms.{AreCheckedFields, AreTermsAt, IsCheckedField, IsCheckedTerm, Sections, fields_with}
 use Rattle.segment_reader.specs.FieldKinds.{kinds_of, option_in, shown}
 use Rattle.segment_reader.specs.TakenTerms.{Told, entry_at}
 use Rattle.segment_reader.specs.TermPlaces.{AreFields, AreTerms, IsReadField, IsSection, behind, end_of, field_end, fields_end, fields_start, first_in, header_of, starts_from}
@@ -93,7 +94,7 @@ field_read schema num_docs norms s at end p q f i xs known read tokens told chec
       ascend = subst TermsAscend (ap (map (λ (t : Told). t.0)) (sym told) ∙ keys_told xs) read.read.terms.ascend;
       few = omega (arith, few, many, long);
       tokens_fit = omega (arith, fit, tokens, count);
-      each = All_weaker (λ (x : IndexedTerm). IsTerm (option_in i.kind x.key) num_docs (field_ids norms i.kind.field) x) (λ (x : IndexedTerm). IsTerm (option_of_term schema (term_of_key schema i.kind.field x.key)) num_docs (field_ids norms i.kind.field) x) (λ x term. subst (λ option. IsTerm option num_docs (field_ids norms i.kind.field) x) (same_option schema i.kind x.key known) term) xs checked.each;
+      each = All_weaker (IsCheckedTerm i.kind num_docs (field_ids norms i.kind.field)) (λ (x : IndexedTerm). IsTerm (option_of_term schema (term_of_key schema i.kind.field x.key)) num_docs (field_ids norms i.kind.field) x) (λ x term. subst (λ option. IsTerm option num_docs (field_ids norms i.kind.field) x) (same_option schema i.kind x.key known) term.is) xs checked.each;
     }
 
 pub fields_read : (schema : Schema) (num_docs : ℕ) (norms : List (ℕ × List ℕ)) (s : Sections) (at : TermStart) (fs : List FieldTerms) (told : List FieldIndex) (xss : List (List IndexedTerm)) → length s.terms < 2 ^ 63 → AllByRecursion (IsKind schema) (map (λ (i : FieldIndex). i.kind) told) → AreFields s.terms at (length s.postings) (length s.positions) fs → AreTold at fs told → AreCheckedFields s num_docs norms told xss → FieldsRead schema num_docs norms s at fs (fields_with told xss)
@@ -172,3 +173,18 @@ told_fields schema num_docs norms s fs told xss short small whole are kinds chec
     let ks = map (λ (i : FieldIndex). i.kind) told in
     let read = fields_read schema num_docs norms s fields_start fs told xss short (kinds_known schema ks small kinds) whole.fields are checked in
     (subst (λ gs. AreTold fields_start gs told) (sym read.told_are) are, read.told_are)
+
+-- ---- keys
+
+keyed_from : (schema : Schema) (num_docs : ℕ) (norms : List (ℕ × List ℕ)) (s : Sections) (told : List FieldIndex) (xss : List (List IndexedTerm)) → AllByRecursion (IsKind schema) (map (λ (i : FieldIndex). i.kind) told) → AreCheckedFields s num_docs norms told xss → AreKeyed schema (fields_with told xss)
+keyed_from schema num_docs norms s [] [] known checked = tt
+keyed_from schema num_docs norms s [] (xs ∷ xss) known checked = absurd checked
+keyed_from schema num_docs norms s (i ∷ is) [] known checked = absurd checked
+keyed_from schema num_docs norms s (i ∷ is) (xs ∷ xss) known checked = (
+  All_weaker (IsCheckedTerm i.kind num_docs (field_ids norms i.kind.field)) (λ (x : IndexedTerm). is_key_of schema i.kind.field x.key ≡ true) (λ x term. sym (same_key schema i.kind x.key known.0) ∙ term.keyed) xs checked.0.each,
+  keyed_from schema num_docs norms s is xss known.1 checked.1,
+)
+
+-- the terms of checked fields have the bytes of values of these
+pub keys_read : (schema : Schema) (num_docs : ℕ) (norms : List (ℕ × List ℕ)) (s : Sections) (told : List FieldIndex) (xss : List (List IndexedTerm)) → length schema ≤ max_fields → map shown (map (λ (i : FieldIndex). i.kind) told) ≡ kinds_of schema → AreCheckedFields s num_docs norms told xss → AreKeyed schema (fields_with told xss)
+keys_read schema num_docs norms s told xss small kinds checked = keyed_from schema num_docs norms s told xss (kinds_known schema (map (λ (i : FieldIndex). i.kind) told) small kinds) checked

@@ -1,13 +1,16 @@
 -- Terms as their bytes stand in the sections.
-use Rattle.std.specs.Prelude.{[], ⊤, ◌+◌, ◌<◌, ◌^◌, ◌∷◌, ◌≡◌, ◌≤◌, List, drop, length, sum_by, take, ℕ}
+use Rattle.std.specs.Prelude.{[], ⊤, ◌+◌, ◌<◌, ◌^◌, ◌∷◌, ◌≡◌, ◌≤◌, List, drop, length, sum_by, take, true, ℕ}
 use Rattle.std.specs.List.{AllByRecursion}
 use Rattle.definitions.specs.Postings.{Posting}
 use Rattle.layouts.specs.InvertedIndexes.{IndexedField, IndexedTerm, IsTerm, field_ids}
+use Rattle.segment_definitions.specs.Keys.{is_key}
 use Rattle.segment_reader.specs.FieldKinds.{option_in}
 use Rattle.segment_reader.specs.TakenTerms.{entry_at}
 use Rattle.segment_reader.specs.declared.field_index.FieldIndex.{FieldIndex}
+use Rattle.segment_reader.specs.declared.field_kind.FieldKind.{FieldKind}
 use Rattle.segment_reader.specs.declared.section_bytes.SectionBytes.{SectionBytes}
 use Rattle.segment_reader.specs.declared.term_starts.TermStart.{TermStart}
+use Rattle.terms.specs.Kinds.{kind_of}
 
 -- the bytes of the sections of terms, postings and positions
 pub record Sections : Type 0 where
@@ -44,10 +47,15 @@ AreTermsAt s (at ∷ starts) [] = ⊥
 abbrev pub tokens_of : List IndexedTerm → ℕ
 tokens_of xs = sum_by (λ (x : IndexedTerm). sum_by (λ p. p.count) x.postings) xs
 
+-- a term of a field in its layout, with the value bytes of a value of the field
+pub record IsCheckedTerm (k : FieldKind) (num_docs : ℕ) (ids : List ℕ) (x : IndexedTerm) : Type 0 where
+  pub is : IsTerm (option_in k x.key) num_docs ids x
+  pub keyed : is_key (kind_of k.value_type) x.key ≡ true
+
 -- the terms of a field, each in its layout
 pub record IsCheckedField (s : Sections) (num_docs : ℕ) (ids : List ℕ) (i : FieldIndex) (xs : List IndexedTerm) : Type 0 where
   pub terms_are : AreTermsAt s i.starts.items xs
-  pub each : AllByRecursion (λ (x : IndexedTerm). IsTerm (option_in i.kind x.key) num_docs ids x) xs
+  pub each : AllByRecursion (IsCheckedTerm i.kind num_docs ids) xs
   pub tokens_are : tokens_of xs ≡ i.num_tokens
 
 -- the same of several fields, whose lengths are given

@@ -5,20 +5,20 @@ ghost use Rattle.std.specs.List.{AllByRecursion};
 ghost use Rattle.packed_blocks.specs.UnpackedBlocks.{listed};
 ghost use Rattle.definitions.specs.Postings.{terminated};
 ghost use Rattle.definitions.specs.declared.fault.Fault.TheVariants as faults;
-ghost use Rattle.segment_reader.specs.CheckedTerms.{AreCheckedFields, IsCheckedField, IsTermAt, IsWithin, bytes_of};
-ghost use Rattle.segment_reader.specs.FieldKinds.{option_in};
-ghost use Rattle.layouts.specs.InvertedIndexes.{IndexedTerm, IsTerm};
+ghost use Rattle.segment_reader.specs.CheckedTerms.{AreCheckedFields, IsCheckedField, IsCheckedTerm, IsTermAt, IsWithin, bytes_of};
+ghost use Rattle.layouts.specs.InvertedIndexes.{IndexedTerm};
 
 use crate::field_index::FieldIndex;
 use crate::field_kind::FieldKind;
 use crate::section_bytes::SectionBytes;
 use crate::term_entry::entry_at;
+use crate::term_keys::is_key;
 use crate::term_starts::TermStart;
 use definitions::Fault;
 use fieldnorms::{FieldNormReader, FieldNormReaders};
 use segment_postings::check_term;
 
-/// Checks the term that begins at `start`, and returns its number of tokens.
+/// Checks the term that begins at `start`, its value bytes before its postings, and returns its number of tokens.
 fn check_term_at(
     sections: SectionBytes<'_>,
     kind: FieldKind,
@@ -30,13 +30,16 @@ fn check_term_at(
     requires few { num_docs ≤ terminated }
     requires within { IsWithin (bytes_of sections) start }
     ensures ok { IfOk result (λ total. (x : IndexedTerm) × IsTermAt (bytes_of sections.entry) start x
-        × IsTerm (option_in kind x.key) num_docs (listed fieldnorm_reader.now) x
+        × IsCheckedTerm kind num_docs (listed fieldnorm_reader.now) x
         × (total ≡ sum_by (λ p. p.count) x.postings)) }
     ensures err { IfErr result (λ fault. (fault ≡ faults.Damaged None)
         × ((x : IndexedTerm) → IsTermAt (bytes_of sections.entry) start x
-        → IsTerm (option_in kind x.key) num_docs (listed fieldnorm_reader.now) x → ⊥)) }
+        → IsCheckedTerm kind num_docs (listed fieldnorm_reader.now) x → ⊥)) }
 {
     let entry = entry_at(sections.terms, start.entry);
+    if !is_key(kind.value_type, entry.key) {
+        return Err(Fault::Damaged(None));
+    }
     let postings_end = start.postings + entry.postings_len as usize;
     let positions_end = start.positions + entry.positions_len as usize;
     check_term(

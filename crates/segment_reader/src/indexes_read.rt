@@ -4,6 +4,7 @@ ghost use Rattle.std.specs.Prelude.{◌≡◌, ◌≢◌, ◌≤◌, IfErr, IfOk
 ghost use Rattle.std.specs.List.{AllByRecursion};
 ghost use Rattle.definitions.specs.Postings.{terminated};
 ghost use Rattle.definitions.specs.declared.fault.Fault.TheVariants as faults;
+ghost use Rattle.segment_definitions.specs.Keys.{AreKeyed};
 ghost use Rattle.segment_reader.specs.Readers.{AreKnown, IsReader};
 ghost use Rattle.layouts.specs.InvertedIndexes.{AreSections, IndexedField};
 
@@ -75,7 +76,7 @@ pub(crate) fn read_indexes(
           sections = record { terms = terms.now; postings = postings.now; positions = positions.now };
           indexes
               = indexes.items;
-        })) }
+        }) × AreKeyed schema.now fields) }
     ensures ok { IfOk result (λ indexes. (fields : List IndexedField)
         → AreSections schema.now num_docs fieldnorm_readers.now fields terms.now postings.now positions.now
         → IsReader schema.now num_docs fieldnorm_readers.now fields
@@ -86,7 +87,8 @@ pub(crate) fn read_indexes(
         })) }
     ensures err { IfErr result (λ fault. fault ≢ faults.OutOfMemory → (fault ≡ faults.Damaged None)
         × ((fields : List IndexedField)
-        → AreSections schema.now num_docs fieldnorm_readers.now fields terms.now postings.now positions.now → ⊥)) }
+        → AreSections schema.now num_docs fieldnorm_readers.now fields terms.now postings.now positions.now
+        → AreKeyed schema.now fields → ⊥)) }
 {
     let kinds = field_kinds(alloc, schema)?;
     let lengths = SectionLengths {

@@ -9,6 +9,7 @@ ghost use Rattle.definitions.specs.Schema.{has_freq};
 ghost use Rattle.definitions.specs.Terms.{field_of, payload_of};
 ghost use Rattle.definitions.specs.Values.{Document};
 ghost use Rattle.definitions.specs.declared.fault.Fault.TheVariants as faults;
+ghost use Rattle.segment_definitions.specs.Keys.{AreKeyed};
 ghost use Rattle.segment_reader.specs.Dictionaries.{ahead};
 ghost use Rattle.segment_reader.specs.FieldDictionaries.{IsFound, dictionary_of};
 ghost use Rattle.segment_reader.specs.FieldKinds.{option_in};
@@ -118,7 +119,8 @@ impl InvertedIndexReader {
     }
 
     /// Opens the sections of terms, postings and positions of a segment of `num_docs` documents with the lengths
-    /// `fieldnorm_readers`. All of them are checked whole; `Damaged` if they aren't in the layout.
+    /// `fieldnorm_readers`. All of them are checked whole; `Damaged` if they aren't in the layout, or a term hasn't the
+    /// bytes of a value of its field.
     pub fn open(
         alloc: Global,
         schema: &Schema,
@@ -133,13 +135,14 @@ impl InvertedIndexReader {
         ensures sections { IfOk result (λ r. r.sections
             ≡ record { terms = terms; postings = postings; positions = positions }) }
         ensures exact { IfOk result (λ r. (fields : List IndexedField)
-            × IsReader schema.now num_docs fieldnorm_readers.now fields r) }
+            × IsReader schema.now num_docs fieldnorm_readers.now fields r × AreKeyed schema.now fields) }
         ensures ok { IfOk result (λ r. (fields : List IndexedField)
             → AreSections schema.now num_docs fieldnorm_readers.now fields terms postings positions
             → IsReader schema.now num_docs fieldnorm_readers.now fields r) }
         ensures err { IfErr result (λ fault. fault ≢ faults.OutOfMemory → (fault ≡ faults.Damaged None)
             × ((fields : List IndexedField)
-            → AreSections schema.now num_docs fieldnorm_readers.now fields terms postings positions → ⊥)) }
+            → AreSections schema.now num_docs fieldnorm_readers.now fields terms postings positions
+            → AreKeyed schema.now fields → ⊥)) }
     {
         let indexes = read_indexes(
             alloc,

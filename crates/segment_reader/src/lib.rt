@@ -22,6 +22,7 @@ mod segment_reader;
 mod term_dictionary;
 mod term_entry;
 mod term_info;
+mod term_keys;
 mod term_range;
 mod term_starts;
 mod terms_read;

@@ -1,59 +1,67 @@
 -- What serving one line does, and what serving all lines does.
-use Rattle.std.specs.Prelude.{◌≡◌, ◌≢◌, ℕ, Bool, true, false, ◌⊎◌, Option, None, Some, List, [], ◌++◌, ◌∷◌}
+use Rattle.std.specs.Prelude.{◌≡◌, ℕ, Bool, true, false, ◌⊎◌, Option, None, Some, Result, Ok, Err, List, [], ◌++◌, ◌∷◌}
+use Rattle.std.specs.Cow.{cow_str_bytes}
 use Rattle.std.specs.Io.KnownBytes.{Appends, Keeps}
+use Rattle.std.specs.declared.alloc.Global.{Global}
+use Rattle.std.specs.declared.borrow.CowStr.{CowStr}
 use Rattle.definitions.specs.FaultNames.{reply_text}
 use Rattle.definitions.specs.Lines.{lines_of}
 use Rattle.definitions.specs.declared.fault.Fault.{Fault}
 use Rattle.definitions.specs.declared.fault.Fault.TheVariants as faults
-use Rattle.definitions.specs.Replying.{HasReason, output_line, reply_to, state_after}
+use Rattle.definitions.specs.Replying.{line_refusal, output_line}
 
--- some service that stands for a state meets a limit at a text
-abbrev pub MeetsLimit : {Service State : Type 0} → (Service → State → Type 0) → (Service → State → List ℕ → Type 0) → State → List ℕ → Type 0
-MeetsLimit {Service} stands meets s line = (service : Service) × stands service s × meets service s line
+-- a reply, or a fault, as it is told
+abbrev pub told : Result (CowStr Global) Fault → List ℕ
+told (Ok text) = cow_str_bytes text
+told (Err fault) = reply_text fault
 
-module _ {State : Type 0} (answer : State → List ℕ → List ℕ) (after : State → List ℕ → State)
-    (leaves : State → List ℕ → State → Type 0) (Lasts : Type 0) (meets : State → List ℕ → Type 0) (Failed : Type 0) where
-  -- after a fault that stops, other than `Device`, a service that lasts is left with a state that has P
-  abbrev pub LeavesWith : (State → Type 0) → State → List ℕ → Fault → Type 0
-  LeavesWith P s line fault = Lasts → fault ≢ faults.Device → (t : State) × ((t ≡ s) ⊎ leaves s line t) × P t
+-- a line may be answered by this fault unasked: there is no memory for it, or it is refused whatever it asks
+abbrev pub IsUnasked : List ℕ → Fault → Type 0
+IsUnasked line fault = (fault ≡ faults.OutOfMemory) ⊎ (line_refusal line ≡ Some fault)
 
-  -- out is the reply to the line, and the next state stands; or out is the reply of a fault that stops, which has its
-  -- reason, and what that leaves stands
-  abbrev pub Answers : (State → Type 0) → State → List ℕ → List ℕ → Type 0
-  Answers stands s line out =
-      ((out ≡ output_line (reply_to answer after s line)) × stands (state_after answer after s line))
-      ⊎ ((fault : Fault) × HasReason meets Failed s line fault × (out ≡ output_line (reply_text fault))
-      × LeavesWith stands s line fault)
+-- by what a reply does: from a service to the next one, to a text, and with what result
+module _ {Service : Type 0} (replies : Service → Service → List ℕ → Result (CowStr Global) Fault → Type 0) where
+  -- a line is answered: the service replies to it, which leaves the next one; or it isn't asked, and stays
+  abbrev pub Answers : Service → Service → List ℕ → List ℕ → Type 0
+  Answers service next line answer =
+      ((line_refusal line ≡ None)
+      × ((result : Result (CowStr Global) Fault) × replies service next line result × (answer ≡ told result)))
+      ⊎ ((next ≡ service) × ((fault : Fault) × IsUnasked line fault × (answer ≡ reply_text fault)))
 
-  -- out is such answers to the lines in turn, and the state after them stands; what follows `Device` is free
-  abbrev pub AnswersAll : (State → Type 0) → State → List (List ℕ) → List ℕ → Type 0
-  AnswersAll stands s [] out = (out ≡ []) × stands s
-  AnswersAll stands s (line ∷ lines) out =
-      ((rest : List ℕ) × (out ≡ output_line (reply_to answer after s line) ++ rest)
-      × AnswersAll stands (state_after answer after s line) lines rest)
-      ⊎ ((fault : Fault) × HasReason meets Failed s line fault × (rest : List ℕ)
-      × (out ≡ output_line (reply_text fault) ++ rest) × LeavesWith (λ t. AnswersAll stands t lines rest) s line fault)
+  -- out is the answers to the lines in turn, each by the service that the lines before left
+  abbrev pub AnswersAll : Service → Service → List (List ℕ) → List ℕ → Type 0
+  AnswersAll service last [] out = (last ≡ service) × (out ≡ [])
+  AnswersAll service last (line ∷ lines) out =
+      (next : Service) × (answer : List ℕ) × (rest : List ℕ) × (out ≡ output_line answer ++ rest)
+      × Answers service next line answer × AnswersAll next last lines rest
 
   -- the writer's bytes grow by such answers
-  abbrev pub ServesAll :
-      (State → Type 0) → State → List (List ℕ) → Option (List ℕ) → Option (List ℕ) → Type 0
-  ServesAll stands s lines old new = (out : List ℕ) × Appends old new out × AnswersAll stands s lines out
+  abbrev pub ServesAll : Service → Service → List (List ℕ) → Option (List ℕ) → Option (List ℕ) → Type 0
+  ServesAll service last lines old new = (out : List ℕ) × Appends old new out × AnswersAll service last lines out
 
-module _ {State : Type 0} (answer : State → List ℕ → List ℕ) (after : State → List ℕ → State)
-    (leaves : State → List ℕ → State → Type 0) (Lasts : Type 0) (meets : State → List ℕ → Type 0) (Failed : Type 0)
-    (was stands : State → Type 0) where
-  -- the writer's bytes grow by an answer to the line, from whatever state stood before
-  abbrev pub WritesAnswer : List ℕ → Option (List ℕ) → Option (List ℕ) → Type 0
-  WritesAnswer line old new =
-      (out : List ℕ) × Appends old new out
-      × ((s : State) → was s → Answers answer after leaves Lasts meets Failed stands s line out)
+  -- answers to lines come to one of them with this service: the lines before left it, and it answers that line
+  pub record ComesTo (first last : Service) (lines : List (List ℕ)) (out : List ℕ) (service : Service) (line : List ℕ)
+      : Type 0 where
+    pub before : List (List ℕ)
+    pub after : List (List ℕ)
+    pub are : lines ≡ before ++ line ∷ after
+    pub sent : List ℕ
+    pub rest : List ℕ
+    pub is : out ≡ sent ++ rest
+    pub left : AnswersAll first service before sent
+    pub answers : AnswersAll service last (line ∷ after) rest
+
+  -- the writer's bytes grow by the answer to one line
+  abbrev pub WritesAnswer : Service → Service → List ℕ → Option (List ℕ) → Option (List ℕ) → Type 0
+  WritesAnswer service next line old new =
+      (answer : List ℕ) × Appends old new (output_line answer) × Answers service next line answer
 
   -- the first line was taken and answered, or there was none
   abbrev pub ServesLine :
-      Bool → Option (List ℕ) → Option (List ℕ) → Option (List ℕ) → Option (List ℕ) → Type 0
-  ServesLine more None rest old new = Unit {0}
-  ServesLine more (Some input) None old new = ⊥
-  ServesLine true (Some input) (Some rest) old new =
-      (line : List ℕ) × (lines_of input ≡ line ∷ lines_of rest) × WritesAnswer line old new
-  ServesLine false (Some input) (Some rest) old new =
-      (lines_of input ≡ []) × Keeps old new × ((s : State) → was s → stands s)
+      Service → Service → Bool → Option (List ℕ) → Option (List ℕ) → Option (List ℕ) → Option (List ℕ) → Type 0
+  ServesLine service next more None rest old new = Unit {0}
+  ServesLine service next more (Some input) None old new = ⊥
+  ServesLine service next true (Some input) (Some rest) old new =
+      (line : List ℕ) × (lines_of input ≡ line ∷ lines_of rest) × WritesAnswer service next line old new
+  ServesLine service next false (Some input) (Some rest) old new =
+      (lines_of input ≡ []) × Keeps old new × (next ≡ service)

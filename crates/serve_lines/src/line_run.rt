@@ -1,13 +1,12 @@
 //! The run over the lines of an input.
 
-ghost use Rattle.std.specs.Prelude.{◌≡◌, ℕ, ◌<◌, ◌≤◌, ◌^◌, List, OnOk, IfErr, IfOk, IfSome, IsTrue};
+ghost use Rattle.std.specs.Prelude.{◌≡◌, ℕ, ◌<◌, ◌^◌, List, OnOk, IfErr, IfOk, IfSome};
 ghost use Rattle.std.specs.Io.KnownBytes.{Appends};
 ghost use Rattle.common.specs.declared.run_fault.RunFault.TheVariants as run_faults;
-ghost use Rattle.definitions.specs.Disk.{Rose};
 ghost use Rattle.definitions.specs.Lines.{lines_of};
 ghost use Rattle.serve_lines.specs.Reading.{Holds};
-ghost use Rattle.definitions.specs.Replying.{output_line, Writes};
-ghost use Rattle.serve_lines.specs.Serving.{MeetsLimit, ServesAll, ServesLine, WritesAnswer};
+ghost use Rattle.definitions.specs.Replying.{output_line};
+ghost use Rattle.serve_lines.specs.Serving.{ServesAll, ServesLine, WritesAnswer};
 
 use crate::line_buffer::LineBuffer;
 use crate::line_reader::{flush, read_line};
@@ -26,18 +25,10 @@ pub fn run<R: BufRead, W: Write, S: Service>(
     writer: &mut W,
     service: &mut S,
 ) -> Result<(), RunFault>
-    // Where the reader's bytes are known, the replies to its lines are written.
-    ensures replies { (s : S.State) → S.stands service.old s
-        → OnOk result (IfSome (R.remaining reader.old) (λ input.
-        Writes S.answer S.after (MeetsLimit S.stands S.meets) (Rose (S.failed service.old) (S.failed service.new)) s
-        (lines_of input) (W.contents writer.old) (W.contents writer.new))) }
-    // The service stands for the state after all lines, unless that of `Device` is among the replies, or that of
-    // another fault that stops where it doesn't last.
-    ensures stands { (s : S.State) → S.stands service.old s
-        → OnOk result (IfSome (R.remaining reader.old) (λ input.
-        ServesAll S.answer S.after S.leaves (IsTrue (S.lasts service.old)) (MeetsLimit S.stands S.meets)
-        (Rose (S.failed service.old) (S.failed service.new)) (S.stands service.new) s (lines_of input)
-        (W.contents writer.old) (W.contents writer.new))) }
+    // Where the reader's bytes are known, its lines are answered in turn, each by the service that the lines before
+    // left.
+    ensures { OnOk result (IfSome (R.remaining reader.old) (λ input.
+        ServesAll S.replies service.old service.new (lines_of input) (W.contents writer.old) (W.contents writer.new))) }
 {
     run_within(alloc, reader, writer, service, most_turns())
 }
@@ -57,15 +48,8 @@ pub fn run_within<R: BufRead, W: Write, S: Service>(
     service: &mut S,
     most_turns: u64,
 ) -> Result<(), RunFault>
-    ensures replies { (s : S.State) → S.stands service.old s
-        → OnOk result (IfSome (R.remaining reader.old) (λ input.
-        Writes S.answer S.after (MeetsLimit S.stands S.meets) (Rose (S.failed service.old) (S.failed service.new)) s
-        (lines_of input) (W.contents writer.old) (W.contents writer.new))) }
-    ensures stands { (s : S.State) → S.stands service.old s
-        → OnOk result (IfSome (R.remaining reader.old) (λ input.
-        ServesAll S.answer S.after S.leaves (IsTrue (S.lasts service.old)) (MeetsLimit S.stands S.meets)
-        (Rose (S.failed service.old) (S.failed service.new)) (S.stands service.new) s (lines_of input)
-        (W.contents writer.old) (W.contents writer.new))) }
+    ensures { OnOk result (IfSome (R.remaining reader.old) (λ input.
+        ServesAll S.replies service.old service.new (lines_of input) (W.contents writer.old) (W.contents writer.new))) }
 {
     let mut line = LineBuffer::new(alloc);
     let mut turns = most_turns;
@@ -83,12 +67,9 @@ fn serve_line<R: BufRead, W: Write, S: Service>(
     turns: &mut u64,
 ) -> Result<bool, RunFault>
     ensures turns { OnOk result (turns.new < turns.old) }
-    ensures lasts { S.lasts service.new ≡ S.lasts service.old }
-    ensures later { S.failed service.old ≤ S.failed service.new }
     ensures served { IfOk result (λ more.
-        ServesLine S.answer S.after S.leaves (IsTrue (S.lasts service.old)) (MeetsLimit S.stands S.meets)
-        (Rose (S.failed service.old) (S.failed service.new)) (S.stands service.old) (S.stands service.new)
-        more (R.remaining reader.old) (R.remaining reader.new) (W.contents writer.old) (W.contents writer.new)) }
+        ServesLine S.replies service.old service.new more (R.remaining reader.old) (R.remaining reader.new)
+        (W.contents writer.old) (W.contents writer.new)) }
 {
     if !read_line(reader, writer, line, turns)? {
         return Ok(false);
@@ -104,12 +85,9 @@ fn answer_line<W: Write, S: Service>(
     line: &LineBuffer,
 ) -> Result<(), RunFault>
     ensures fault { IfErr result (λ fault. fault ≡ run_faults.WriteFault) }
-    ensures lasts { S.lasts service.new ≡ S.lasts service.old }
-    ensures later { S.failed service.old ≤ S.failed service.new }
     ensures answered { (seen : List ℕ) → Holds line.now seen
-        → OnOk result (WritesAnswer S.answer S.after S.leaves (IsTrue (S.lasts service.old))
-        (MeetsLimit S.stands S.meets) (Rose (S.failed service.old) (S.failed service.new))
-        (S.stands service.old) (S.stands service.new) seen (W.contents writer.old) (W.contents writer.new)) }
+        → OnOk result (WritesAnswer S.replies service.old service.new seen (W.contents writer.old)
+        (W.contents writer.new)) }
 {
     match line.text() {
         Ok(text) => match service.reply(text) {

@@ -9,7 +9,7 @@ use Rattle.definitions.specs.State.{committed}
 use Rattle.definitions.specs.Step as steps
 use Rattle.definitions.specs.declared.fault.Fault.TheVariants as faults
 use Rattle.definitions.proofs.Steps.{refused_call}
-use Rattle.engine.specs.Hits.{hit_of, scored}
+use Rattle.engine.specs.HandedOn.{hit_of, scored}
 use Rattle.query_trees.specs.Queries.{query_of}
 use Rattle.index_file.proofs.ErrorsKept.{err_has}
 use Rattle.index.proofs.Answering.{ok_weaker, read_search, search_answered, unread_search}

@@ -1,7 +1,7 @@
 use Rattle.std.proofs.Common.{ap, map, ◌∙◌}
 use Rattle.definitions.specs.Replies.{hits_reply}
 use Rattle.definitions.specs.Requests as requests
-use Rattle.engine.specs.Hits.{hit_of}
+use Rattle.engine.specs.HandedOn.{hit_of}
 use Rattle.index.proofs.Answering.{refusal_answered, text_answered}
 use Rattle.serde_json.specs.View.{view}
 use Rattle.index.proofs.Causes.{stop_is_memory}

@@ -100,7 +100,7 @@ returns-clause-known c =
     let readers = c.new-readers.ensures found.0 (lent schema c.args.num_docs many c.deref-3.result.now c.in_ok-norms.norms.items c.deref-2.result.now found.0 c.requires.living (c.deref-3.ensures.value ∙ c.in_ok-fields.ensures) c.deref-2.ensures.value found.1) in
     let terms = c.in_ok-terms.ensures.sections opened in
     let own = subst (λ ns. AreSections schema many ns terms.0 sections.terms sections.postings sections.positions) readers terms.1 in
-    subst (λ n. IsSegment schema n bytes) (sym c.requires.living) (segment_is schema many sections bytes terms.0 found.0 blocks.0 (subst (λ n. AreWritten n sections bytes) c.requires.living written) own found.1 blocks.1 blocks.2 blocks.3)))
+    subst (λ n. IsSegment schema n bytes) (sym c.requires.living) (segment_is schema many sections bytes terms.0 found.0 blocks.0 (subst (λ n. AreWritten n sections bytes) c.requires.living written) own terms.2 found.1 blocks.1 blocks.2 blocks.3)))
 
 pub returns-clause-stands : goal.returns-clause-stands
 returns-clause-stands c analyze segments stand =
@@ -114,4 +114,4 @@ returns-clause-stands c analyze segments stand =
     let readers = c.new-readers.ensures norms (lent schema c.args.num_docs (living_count ms) c.deref-3.result.now c.in_ok-norms.norms.items c.deref-2.result.now norms c.requires.living (c.deref-3.ensures.value ∙ c.in_ok-fields.ensures) c.deref-2.ensures.value documents) in
     let terms = c.in_ok-terms.ensures.stands analyze segments stand in
     let own = subst (λ ns. AreSections schema (living_count ms) ns terms.0 sections.terms sections.postings sections.positions) readers terms.1 in
-    segment_of schema analyze ms segments sections bytes terms.0 stand (subst (λ n. AreWritten n sections bytes) c.requires.living written) own terms.2 documents (c.in_ok-merge_slots.ensures.ok (slots_of schema segments) (standing_held schema analyze ms segments stand))
+    segment_of schema analyze ms segments sections bytes terms.0 stand (subst (λ n. AreWritten n sections bytes) c.requires.living written) own terms.2 terms.3 documents (c.in_ok-merge_slots.ensures.ok (slots_of schema segments) (standing_held schema analyze ms segments stand))

@@ -8,7 +8,7 @@ use Rattle.segment_reader.proofs.indexes_read.read_indexes.Goals as goal
 pub returns-in_err-indexes-clause-err : goal.returns-in_err-indexes-clause-err
 returns-in_err-indexes-clause-err c =
     let p = err_from_is_err_and c.from_residual-in_err-indexes.result c.from_residual-in_err-indexes.ensures.1 in
-    rw (p.1, p.2) (λ other. let refused = c.in_err-indexes.ensures.err other in (refused.0, no_sections c.args.schema.now c.args.num_docs c.args.fieldnorm_readers.now (record { terms = c.args.terms.now; postings = c.args.postings.now; positions = c.args.positions.now }) c.deref.result.now c.in_ok-kinds.kinds.items c.deref.ensures.value c.in_ok-kinds.ensures.kinds c.requires.few (omega arith) (omega arith) (omega arith) refused.1))
+    rw (p.1, p.2) (λ other. let refused = c.in_err-indexes.ensures.err other in (refused.0, λ fields are keyed. no_sections c.args.schema.now c.args.num_docs c.args.fieldnorm_readers.now (record { terms = c.args.terms.now; postings = c.args.postings.now; positions = c.args.positions.now }) c.deref.result.now c.in_ok-kinds.kinds.items c.deref.ensures.value c.in_ok-kinds.ensures.kinds c.requires.few (omega arith) (omega arith) (omega arith) refused.1 fields are))
 
 pub invariant_of-sections : goal.invariant_of-sections
 invariant_of-sections c = record { bytes = λ i. (let fits = c.type_inv.postings i in omega (arith, fits)) }
@@ -26,7 +26,7 @@ returns-in_err-check_fields-clause-err c =
     let s : Sections = record { terms = c.args.terms.now; postings = c.args.postings.now; positions = c.args.positions.now } in
     let told = c.in_ok-indexes.indexes.items in
     let made = made_of c.args.schema.now c.args.num_docs s c.deref.result.now c.in_ok-kinds.kinds.items read.0 told c.deref.ensures.value c.in_ok-kinds.ensures.kinds c.in_ok-kinds.ensures.few c.requires.few (omega arith) (omega arith) (omega arith) read.1 read.2 c.in_ok-indexes.ensures.kinds in
-    rw (p.1, p.2) (λ other. (refused.0, λ fields are. refused.1 _ (subst (λ (is : List FieldIndex). AreCheckedFields s c.args.num_docs c.args.fieldnorm_readers.now is (map (λ f. f.terms) fields)) (sym c.deref-2.ensures.value) (checked_for c.args.schema.now c.args.num_docs c.args.fieldnorm_readers.now s read.0 told fields made are))))
+    rw (p.1, p.2) (λ other. (refused.0, λ fields are keyed. refused.1 _ (subst (λ (is : List FieldIndex). AreCheckedFields s c.args.num_docs c.args.fieldnorm_readers.now is (map (λ f. f.terms) fields)) (sym c.deref-2.ensures.value) (checked_for c.args.schema.now c.args.num_docs c.args.fieldnorm_readers.now s read.0 told fields made are keyed))))
 
 pub returns-clause-exact : goal.returns-clause-exact
 returns-clause-exact c =

@@ -48,7 +48,7 @@ returns-in_err-inverted_index-clause-err c =
       λ n is.
           let told = parts_told schema N.num_docs n (sections_in N) c.args.bytes written is in
           let over = norms_over schema N.num_docs c.deref.result.now N.norms c.as_slice-2.result.now told.norms (c.deref.ensures.value ∙ c.in_ok-length_fields.ensures.fields) c.as_slice-2.ensures told.norms_are in
-          e.1 told.fields (subst (λ (norms : List (ℕ × List ℕ)). AreSections schema N.num_docs norms told.fields N.terms N.postings N.positions) (sym (c.new-readers.ensures told.norms over)) told.terms_are),
+          e.1 told.fields (subst (λ (norms : List (ℕ × List ℕ)). AreSections schema N.num_docs norms told.fields N.terms N.postings N.positions) (sym (c.new-readers.ensures told.norms over)) told.terms_are) told.keyed,
     ))
 
 pub open_store-requires : goal.open_store-requires

@@ -1,4 +1,6 @@
 use Rattle.std.proofs.Common.{ap, arith, length, ◌∙◌, ◌≡◌}
+use Rattle.definitions.specs.KeptLengths.{norms_of}
+use Rattle.segment_definitions.proofs.DocumentKeys.{indexed_keyed}
 use Rattle.segment_definitions.specs.Segments.{Sections, segment_bytes}
 use Rattle.segment_definitions.specs.Slots.{slots}
 use Rattle.segment.proofs.Adding.{docs_counted}
@@ -27,6 +29,7 @@ returns-clause-ok c analyze block_size docs h =
         whole = c.in_ok-into_segment.ensures.whole ∙ ap (λ n. segment_bytes n sections) count;
       };
       terms_are = terms.1;
+      keyed = indexed_keyed schema analyze (h.texts (omega (arith, count, asked, some))) docs h.taken (length docs) (norms_of schema analyze docs) terms.0 terms.1.each terms.2;
       indexed = terms.2;
       norms_are = c.in_ok-terms.ensures.lengths analyze docs h.indexed;
       store_is = (blocks_of w, kept.0, kept.1, c.in_ok-close.ensures);

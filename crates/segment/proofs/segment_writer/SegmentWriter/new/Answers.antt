@@ -6,6 +6,7 @@ pub returns : goal.returns
 returns c analyze =
     record {
       taken = tt;
+      texts = λ some. absurd (omega (arith, some));
       few = omega arith;
       indexed = c.in_ok-for_schema.ensures analyze;
       stored = subst (λ (w : Written). HoldsSlots w []) (sym c.new.ensures) ([], refl, refl);
