@@ -106,7 +106,7 @@ impl<D: Device> RecordFile<D> {
         }
     }
 
-    /// Appends a record, given as its `frame`. It takes no memory.
+    /// Appends a record, given as its `frame`: writes it in one call, syncs, opens its gate, syncs. It takes no memory.
     ///
     /// After `Device` nothing is known of the closed gate: the file must be read again.
     pub fn append(&mut self, frame: &[u8]) -> Result<(), Fault>
