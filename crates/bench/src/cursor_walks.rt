@@ -5,6 +5,7 @@ ghost use Rattle.segment_postings.specs.Reading.{HasPostings};
 
 use crate::spread_terms::{opened, written};
 use crate::times::{nanos_since, now};
+use codes::FieldNormReader;
 use common::TERMINATED;
 use definitions::Fault;
 use postings::{DocSet, Postings};
@@ -40,7 +41,8 @@ fn row(rt: &HostRuntime, alloc: Global, num_docs: u32) -> Result<(), Fault>
     requires { num_docs ≤ 1000000 }
 {
     let mut plain = Vec::new(alloc);
-    let bytes = written(alloc, &mut plain, num_docs)?;
+    let lengths = FieldNormReader::constant(num_docs * 100, 1);
+    let bytes = written(alloc, &mut plain, num_docs, lengths)?;
     let (walk, seen) = best(rt, &bytes, &plain, num_docs, Work::Walk)?;
     let (list, same) = best(rt, &bytes, &plain, num_docs, Work::PlainWalk)?;
     let (seeks, count) = best(rt, &bytes, &plain, num_docs, Work::Seeks)?;

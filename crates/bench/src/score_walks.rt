@@ -1,6 +1,6 @@
 //! How long a step of a scorer over a term takes.
 
-ghost use Rattle.std.specs.Prelude.{[], ◌≡◌, ◌≤◌, List, length, true, false, ℕ};
+ghost use Rattle.std.specs.Prelude.{[], ◌≡◌, ◌≤◌, IfOk, List, length, true, false, ℕ};
 ghost use Rattle.docsets.specs.Entries.{from};
 ghost use Rattle.definitions.specs.Scoring.{DontFall};
 ghost use Rattle.segment_postings.specs.Cursors.{entries_left};
@@ -43,8 +43,8 @@ fn rows(rt: &HostRuntime, alloc: Global, num_docs: u32) -> Result<(), Fault>
     requires { num_docs ≤ 1000000 }
 {
     let mut plain = Vec::new(alloc);
-    let bytes = written(alloc, &mut plain, num_docs)?;
     let ids = length_ids(alloc, num_docs as usize * 100)?;
+    let bytes = written(alloc, &mut plain, num_docs, lengths_of(&ids)?)?;
     let norms = norms(alloc)?;
     for weight in WEIGHTS {
         let scoring = Scoring {
@@ -59,7 +59,8 @@ fn rows(rt: &HostRuntime, alloc: Global, num_docs: u32) -> Result<(), Fault>
 
 /// Prints what a walk takes.
 fn row(rt: &HostRuntime, bytes: &[u8], num_docs: u32, scoring: &Scoring<'_>) -> Result<(), Fault>
-    requires { (docs counts : List ℕ) × HasPostings true false num_docs bytes.now docs counts }
+    requires { (docs counts : List ℕ) × (known : HasPostings true false num_docs bytes.now docs counts)
+        × (known.ids ≡ scoring.now.ids.now) }
 {
     let mut best = u128::MAX;
     let mut plain_best = u128::MAX;
@@ -80,6 +81,14 @@ fn row(rt: &HostRuntime, bytes: &[u8], num_docs: u32, scoring: &Scoring<'_>) -> 
         let _ = println!(rt; "(the walks differ)");
     }
     Ok(())
+}
+
+/// The lengths of as many documents as there are ids.
+fn lengths_of(ids: &[u8]) -> Result<FieldNormReader<'_>, Fault>
+    ensures { IfOk result (λ lengths. lengths ≡ ids.now) }
+{
+    let count = u32::try_from(ids.len()).ok().ok_or(Fault::Limit)?;
+    FieldNormReader::open(ids, count)
 }
 
 /// Length ids below 40 without order.
@@ -132,10 +141,10 @@ fn scored(
     num_docs: u32,
     scoring: &Scoring<'_>,
 ) -> Result<(u128, u64), Fault>
-    requires { (docs counts : List ℕ) × HasPostings true false num_docs bytes.now docs counts }
+    requires { (docs counts : List ℕ) × (known : HasPostings true false num_docs bytes.now docs counts)
+        × (known.ids ≡ scoring.now.ids.now) }
 {
-    let count = u32::try_from(scoring.ids.len()).ok().ok_or(Fault::Limit)?;
-    let lengths = FieldNormReader::open(scoring.ids, count)?;
+    let lengths = lengths_of(scoring.ids)?;
     let similarity = similarity(scoring.weight, scoring.norms)?;
     if !are_below(&mut opened(bytes, num_docs), lengths.num_docs()) {
         return Err(Fault::Limit);
