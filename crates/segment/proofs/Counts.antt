@@ -1,12 +1,11 @@
 -- How many documents of members are alive.
-use Rattle.std.proofs.Common.{[], Bool, List, ap, ap₂, arith, cond, false, length, map, refl, subst, suc, sym, take, true, zero, ◌++◌, ◌+◌, ◌<◌, ◌≡◌, ◌≤◌, ◌∙◌, ◌∷◌, ℕ}
+use Rattle.std.proofs.Common.{[], Bool, List, ap, ap₂, arith, cond, false, length, map, refl, suc, sym, take, true, zero, ◌++◌, ◌+◌, ◌<◌, ◌≡◌, ◌≤◌, ◌∙◌, ◌∷◌, ℕ}
 use Rattle.std.proofs.lemmas.List.Recursion.{is_count_by}
 use Rattle.std.proofs.lemmas.List.{length-map}
 use Rattle.std.specs.List.{items_where_true, slice_index_or, zip}
 use Rattle.common.specs.BitSets.{count_set}
 use Rattle.definitions.specs.Merging.{num_living}
-use Rattle.definitions.specs.Schema.{Schema}
-use Rattle.segment.specs.Members.{AreOpened, IsMember, Member, living_count}
+use Rattle.segment.specs.Members.{Member, living_count}
 
 -- the flags that are set are those of living documents
 pub set_living : (flags : List Bool) → num_living flags ≡ count_set flags
@@ -25,14 +24,6 @@ living_long (true ∷ flags) (x ∷ xs) long = ap suc (living_long flags xs (ome
 living_long (false ∷ flags) (x ∷ xs) long = living_long flags xs (omega (arith, long))
 
 -- ---- member by member
-
-pub opened_at : (schema : Schema) (k : ℕ) (ms : List Member) (m : Member) → m ≡ slice_index_or ms k m → k < length ms → AreOpened schema ms → IsMember schema m
-opened_at schema k ms m is within opened = subst (IsMember schema) (sym is) (go k ms within opened)
-  where
-    go : (i : ℕ) (xs : List Member) → i < length xs → AreOpened schema xs → IsMember schema (slice_index_or xs i m)
-    go i [] w all = absurd (omega (arith, w))
-    go zero (x ∷ xs) w all = all.0
-    go (suc i) (x ∷ xs) w all = go i xs (omega (arith, w)) all.1
 
 count_suc : (k : ℕ) (ms : List Member) (d : Member) → k < length ms → living_count (take (suc k) ms) ≡ living_count (take k ms) + num_living (slice_index_or ms k d).1
 count_suc k [] d within = absurd (omega (arith, within))

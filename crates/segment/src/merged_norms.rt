@@ -38,7 +38,6 @@ fn member_norms<'a>(
     alloc: Global,
     members: &[MemberSegment<'a>],
 ) -> Result<Vec<MemberNorms<'a>>, AllocError>
-    requires { ∥ ((schema : Schema) × AreOpened schema (map member_of members.now)) ∥₁ }
     ensures { IfOk result (λ norms. map (λ n. (n.norms, n.alive.now)) norms.items
         ≡ map with_lengths (map member_of members.now)) }
 {
