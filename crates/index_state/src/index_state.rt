@@ -216,24 +216,25 @@ impl<A: Analyzer + Drop> IndexState<A> {
     /// with a value that can't be indexed `NotIndexable`; one whose stored values are too long beside a block is
     /// `Limit`, and changes nothing. If `doc` fills a segment, the segment is written: out of memory or a limit then
     /// closes the writer.
-    pub fn add_document(&mut self, doc: CompactDoc) -> Result<(), Fault>
+    pub fn add_document(&mut self, doc: &CompactDoc) -> Result<(), Fault>
         ensures left { (c : calls.Configuration) (x : calls.Index) → Stands A.analyze self.old c x
-            → (y : calls.Index) × calls.Leaves c x (calls.add_document doc) result y × Stands A.analyze self.new c y }
+            → (y : calls.Index) × calls.Leaves c x (calls.add_document doc.now) result y
+            × Stands A.analyze self.new c y }
         ensures exact { (c : calls.Configuration) (x : calls.Index) → Stands A.analyze self.old c x
             → IfErr result (λ fault. fault ≢ faults.OutOfMemory → fault ≢ faults.Limit
-            → calls.call_fault c x (calls.add_document doc) ≡ Some fault) }
+            → calls.call_fault c x (calls.add_document doc.now) ≡ Some fault) }
         ensures limit { IfErr result (λ fault. fault ≡ faults.Limit
-            → PassesLimit A.analyze self.old (open_of self.old ++ doc ∷ [])) }
-        ensures short { OnOk result (¬ HasLongSlot self.old doc) }
+            → PassesLimit A.analyze self.old (open_of self.old ++ doc.now ∷ [])) }
+        ensures short { OnOk result (¬ HasLongSlot self.old doc.now) }
         ensures long { (c : calls.Configuration) (x : calls.Index) → Stands A.analyze self.old c x
-            → HasLongSlot self.old doc → OnErr result (Stands A.analyze self.new c x) }
+            → HasLongSlot self.old doc.now → OnErr result (Stands A.analyze self.new c x) }
         ensures made { IsMadeAlike self.old self.new }
         ensures members { members_of self.new ≡ members_of self.old }
     {
         self.check_writer()?;
-        check_document(&self.schema, &doc)?;
-        check_slot(self.alloc, &self.schema, self.settings.block_size(), &doc)?;
-        self.open.push(&doc)?;
+        check_document(&self.schema, doc)?;
+        check_slot(self.alloc, &self.schema, self.settings.block_size(), doc)?;
+        self.open.push(doc)?;
         if self.open.len() < self.settings.docs_per_segment() as usize {
             return Ok(());
         }
