@@ -190,8 +190,7 @@ impl<A: Analyzer + Drop> IndexState<A> {
 
     /// Checks that searches are answered.
     pub fn check_open(&self) -> Result<(), Fault>
-        ensures value { (c : calls.Configuration) (x : calls.Index) → Stands A.analyze self.now c x
-            → result_err result ≡ calls.status_fault x.status true }
+        ensures value { result_err result ≡ calls.status_fault (state_of self.now) true }
         ensures fault { IfErr result (λ fault. fault ≡ faults.Closed) }
     {
         match self.status {
@@ -407,6 +406,10 @@ impl<A: Analyzer + Drop> IndexState<A> {
         ensures own { (c : calls.Configuration) (x : calls.Index) → Stands A.analyze self.old c x
             → IfErr result (λ fault. fault ≡ faults.OutOfMemory
             → calls.call_fault c x (calls.search_best (query_of query.now) limit) ≡ None) }
+        ensures accepted { IfOk result (λ hits. refusal (schema_of self.old)
+            (similarity_of (settings_of self.old)).weight (query_of query.now) ≡ None) }
+        ensures memory { IfErr result (λ fault. fault ≡ faults.OutOfMemory → refusal (schema_of self.old)
+            (similarity_of (settings_of self.old)).weight (query_of query.now) ≡ None) }
         ensures left { (c : calls.Configuration) (x : calls.Index) → Stands A.analyze self.old c x
             → Stands A.analyze self.new c x }
         ensures made { IsMadeAlike self.old self.new }
@@ -439,6 +442,10 @@ impl<A: Analyzer + Drop> IndexState<A> {
         ensures own { (c : calls.Configuration) (x : calls.Index) → Stands A.analyze self.now c x
             → IfErr result (λ fault. fault ≡ faults.OutOfMemory
             → calls.call_fault c x (calls.count_all (query_of query.now)) ≡ None) }
+        ensures accepted { IfOk result (λ count. refusal (schema_of self.now)
+            (similarity_of (settings_of self.now)).weight (query_of query.now) ≡ None) }
+        ensures memory { IfErr result (λ fault. fault ≡ faults.OutOfMemory → refusal (schema_of self.now)
+            (similarity_of (settings_of self.now)).weight (query_of query.now) ≡ None) }
     {
         self.check_open()?;
         count(
