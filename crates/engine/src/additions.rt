@@ -21,18 +21,18 @@ impl<D: Device + Drop, A: Analyzer + Drop> Index<D, A> {
     /// with a value that can't be indexed `NotIndexable`; one whose stored values are too long beside a block is
     /// `Limit`, and changes nothing. If `doc` fills a segment, the segment is written: out of memory or a limit then
     /// closes the writer.
-    pub fn add_document(&mut self, doc: CompactDoc) -> Result<(), Fault>
+    pub fn add_document(&mut self, doc: &CompactDoc) -> Result<(), Fault>
         ensures left { (c : calls.Configuration) (x : calls.Index) → IndexStands A.analyze self.old c x
-            → (y : calls.Index) × calls.Leaves c x (calls.add_document doc) result y
+            → (y : calls.Index) × calls.Leaves c x (calls.add_document doc.now) result y
             × IndexStands A.analyze self.new c y }
         ensures exact { (c : calls.Configuration) (x : calls.Index) → IndexStands A.analyze self.old c x
             → IfErr result (λ fault. fault ≢ faults.OutOfMemory → fault ≢ faults.Limit
-            → calls.call_fault c x (calls.add_document doc) ≡ Some fault) }
+            → calls.call_fault c x (calls.add_document doc.now) ≡ Some fault) }
         ensures limit { IfErr result (λ fault. fault ≡ faults.Limit
-            → PassesLimit A.analyze self.old (open_of self.old ++ doc ∷ [])) }
-        ensures short { OnOk result (¬ HasLongSlot self.old doc) }
+            → PassesLimit A.analyze self.old (open_of self.old ++ doc.now ∷ [])) }
+        ensures short { OnOk result (¬ HasLongSlot self.old doc.now) }
         ensures long { (c : calls.Configuration) (x : calls.Index) → IndexStands A.analyze self.old c x
-            → HasLongSlot self.old doc → OnErr result (IndexStands A.analyze self.new c x) }
+            → HasLongSlot self.old doc.now → OnErr result (IndexStands A.analyze self.new c x) }
         ensures made { KeepsMaking self.old self.new }
         ensures file { KeepsFile self.old self.new }
     {
@@ -90,7 +90,7 @@ impl<D: Device + Drop, A: Analyzer + Drop> Index<D, A> {
     {
         self.index_state.check_writer()?;
         let doc = CompactDoc::from_json_object(self.alloc(), self.schema(), value)?;
-        self.index_state.add_document(doc)
+        self.index_state.add_document(&doc)
     }
 }
 

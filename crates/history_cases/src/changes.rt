@@ -55,7 +55,7 @@ impl Histories {
     /// Adds the values of fields, by their numbers.
     pub(crate) fn add_values(&mut self, arguments: &Arguments) -> Result<Value, Refusal> {
         let doc = document_of_values(self.alloc, arguments.list(0)?)?;
-        self.standing_mut()?.add_document(doc)?;
+        self.standing_mut()?.add_document(&doc)?;
         Ok(flag(true))
     }
 

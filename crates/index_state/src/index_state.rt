@@ -190,8 +190,7 @@ impl<A: Analyzer + Drop> IndexState<A> {
 
     /// Checks that searches are answered.
     pub fn check_open(&self) -> Result<(), Fault>
-        ensures value { (c : calls.Configuration) (x : calls.Index) → Stands A.analyze self.now c x
-            → result_err result ≡ calls.status_fault x.status true }
+        ensures value { result_err result ≡ calls.status_fault (state_of self.now) true }
         ensures fault { IfErr result (λ fault. fault ≡ faults.Closed) }
     {
         match self.status {
@@ -216,24 +215,25 @@ impl<A: Analyzer + Drop> IndexState<A> {
     /// with a value that can't be indexed `NotIndexable`; one whose stored values are too long beside a block is
     /// `Limit`, and changes nothing. If `doc` fills a segment, the segment is written: out of memory or a limit then
     /// closes the writer.
-    pub fn add_document(&mut self, doc: CompactDoc) -> Result<(), Fault>
+    pub fn add_document(&mut self, doc: &CompactDoc) -> Result<(), Fault>
         ensures left { (c : calls.Configuration) (x : calls.Index) → Stands A.analyze self.old c x
-            → (y : calls.Index) × calls.Leaves c x (calls.add_document doc) result y × Stands A.analyze self.new c y }
+            → (y : calls.Index) × calls.Leaves c x (calls.add_document doc.now) result y
+            × Stands A.analyze self.new c y }
         ensures exact { (c : calls.Configuration) (x : calls.Index) → Stands A.analyze self.old c x
             → IfErr result (λ fault. fault ≢ faults.OutOfMemory → fault ≢ faults.Limit
-            → calls.call_fault c x (calls.add_document doc) ≡ Some fault) }
+            → calls.call_fault c x (calls.add_document doc.now) ≡ Some fault) }
         ensures limit { IfErr result (λ fault. fault ≡ faults.Limit
-            → PassesLimit A.analyze self.old (open_of self.old ++ doc ∷ [])) }
-        ensures short { OnOk result (¬ HasLongSlot self.old doc) }
+            → PassesLimit A.analyze self.old (open_of self.old ++ doc.now ∷ [])) }
+        ensures short { OnOk result (¬ HasLongSlot self.old doc.now) }
         ensures long { (c : calls.Configuration) (x : calls.Index) → Stands A.analyze self.old c x
-            → HasLongSlot self.old doc → OnErr result (Stands A.analyze self.new c x) }
+            → HasLongSlot self.old doc.now → OnErr result (Stands A.analyze self.new c x) }
         ensures made { IsMadeAlike self.old self.new }
         ensures members { members_of self.new ≡ members_of self.old }
     {
         self.check_writer()?;
-        check_document(&self.schema, &doc)?;
-        check_slot(self.alloc, &self.schema, self.settings.block_size(), &doc)?;
-        self.open.push(&doc)?;
+        check_document(&self.schema, doc)?;
+        check_slot(self.alloc, &self.schema, self.settings.block_size(), doc)?;
+        self.open.push(doc)?;
         if self.open.len() < self.settings.docs_per_segment() as usize {
             return Ok(());
         }
@@ -406,6 +406,10 @@ impl<A: Analyzer + Drop> IndexState<A> {
         ensures own { (c : calls.Configuration) (x : calls.Index) → Stands A.analyze self.old c x
             → IfErr result (λ fault. fault ≡ faults.OutOfMemory
             → calls.call_fault c x (calls.search_best (query_of query.now) limit) ≡ None) }
+        ensures accepted { IfOk result (λ hits. refusal (schema_of self.old)
+            (similarity_of (settings_of self.old)).weight (query_of query.now) ≡ None) }
+        ensures memory { IfErr result (λ fault. fault ≡ faults.OutOfMemory → refusal (schema_of self.old)
+            (similarity_of (settings_of self.old)).weight (query_of query.now) ≡ None) }
         ensures left { (c : calls.Configuration) (x : calls.Index) → Stands A.analyze self.old c x
             → Stands A.analyze self.new c x }
         ensures made { IsMadeAlike self.old self.new }
@@ -438,6 +442,10 @@ impl<A: Analyzer + Drop> IndexState<A> {
         ensures own { (c : calls.Configuration) (x : calls.Index) → Stands A.analyze self.now c x
             → IfErr result (λ fault. fault ≡ faults.OutOfMemory
             → calls.call_fault c x (calls.count_all (query_of query.now)) ≡ None) }
+        ensures accepted { IfOk result (λ count. refusal (schema_of self.now)
+            (similarity_of (settings_of self.now)).weight (query_of query.now) ≡ None) }
+        ensures memory { IfErr result (λ fault. fault ≡ faults.OutOfMemory → refusal (schema_of self.now)
+            (similarity_of (settings_of self.now)).weight (query_of query.now) ≡ None) }
     {
         self.check_open()?;
         count(

@@ -16,7 +16,7 @@ use Rattle.index_state.proofs.index_state.IndexState.add_document.Goals as goal
 
 pub returns-in_err-check_writer-clause-left : goal.returns-in_err-check_writer-clause-left
 returns-in_err-check_writer-clause-left g c k x s =
-    let call = calls.add_document c.args.doc in
+    let call = calls.add_document c.args.doc.now in
     let fault = c.in_err-check_writer.field-0.0 in
     let refuses = ap (λ status. calls.status_fault status false) s.status ∙ sym c.check_writer.ensures.value ∙ ap result_err c.in_err-check_writer.was in
     subst (λ r. (y : calls.Index) × calls.Leaves k x call r y × Stands g.A.Analyzer.analyze c.args.self.now k y) (err_same c.from_residual.result fault c.from_residual.ensures.1)
@@ -24,7 +24,7 @@ returns-in_err-check_writer-clause-left g c k x s =
 
 pub returns-in_err-check_document-clause-left : goal.returns-in_err-check_document-clause-left
 returns-in_err-check_document-clause-left g c k x s =
-    let doc = c.args.doc in
+    let doc = c.args.doc.now in
     let call = calls.add_document doc in
     let fault = c.in_err-check_document.field-0.0 in
     let ready = ap (λ status. calls.status_fault status false) s.status ∙ sym c.check_writer.ensures.value ∙ ap result_err c.in_ok-check_writer.was in
@@ -34,7 +34,7 @@ returns-in_err-check_document-clause-left g c k x s =
 pub returns-in_err-check_slot-clause-left : goal.returns-in_err-check_slot-clause-left
 returns-in_err-check_slot-clause-left g c k x s =
     let old = c.args.self.now in
-    let doc = c.args.doc in
+    let doc = c.args.doc.now in
     let call = calls.add_document doc in
     let fault = c.in_err-check_slot.field-0.0 in
     let none = ap (λ status. calls.status_fault status false) s.status ∙ sym c.check_writer.ensures.value ∙ ap result_err c.in_ok-check_writer.was in
@@ -46,21 +46,21 @@ returns-in_err-check_slot-clause-limit g c =
     let old = c.args.self.now in
     let analyze = g.A.Analyzer.analyze old.analyzer in
     let fault = c.in_err-check_slot.field-0.0 in
-    let err = subst (λ n. (fault ≡ faults.OutOfMemory) ⊎ ((fault ≡ faults.Limit) × (2 ^ 32 ≤ n + length (slot old.schema c.args.doc) + 8))) c.block_size.ensures c.in_err-check_slot.ensures.err in
-    err_has c.from_residual-in_err-check_slot.result fault (λ f. f ≡ faults.Limit → DocumentsPass old.schema analyze old.settings.block_size (old.open ++ c.args.doc ∷ [])) c.from_residual-in_err-check_slot.ensures.1
-    (λ is. long_passes old.schema analyze old.settings.block_size old.open c.args.doc fault err is)
+    let err = subst (λ n. (fault ≡ faults.OutOfMemory) ⊎ ((fault ≡ faults.Limit) × (2 ^ 32 ≤ n + length (slot old.schema c.args.doc.now) + 8))) c.block_size.ensures c.in_err-check_slot.ensures.err in
+    err_has c.from_residual-in_err-check_slot.result fault (λ f. f ≡ faults.Limit → DocumentsPass old.schema analyze old.settings.block_size (old.open ++ c.args.doc.now ∷ [])) c.from_residual-in_err-check_slot.ensures.1
+    (λ is. long_passes old.schema analyze old.settings.block_size old.open c.args.doc.now fault err is)
 
 pub returns-in_err-push-clause-left : goal.returns-in_err-push-clause-left
 returns-in_err-push-clause-left g c k x s =
     let old = c.args.self.now in
-    let call = calls.add_document c.args.doc in
+    let call = calls.add_document c.args.doc.now in
     let ready = ap (λ status. calls.status_fault status false) s.status ∙ sym c.check_writer.ensures.value ∙ ap result_err c.in_ok-check_writer.was in
     (x, subst (λ r. calls.Leaves k x call r x) (err_same c.from_residual-in_err-push.result faults.OutOfMemory c.from_residual-in_err-push.ensures.1) (calls.memory_refused ready refl), kept_stands g.A.Analyzer.analyze old _ (record { analyzer = refl; schema = refl; settings = refl }) k x s refl refl refl c.in_err-push.ensures.err refl)
 
 pub returns-then-len-docs_per_segment-clause-left : goal.returns-then-len-docs_per_segment-clause-left
 returns-then-len-docs_per_segment-clause-left g c k x s =
     let old = c.args.self.now in
-    let doc = c.args.doc in
+    let doc = c.args.doc.now in
     let given = c.in_ok-check_document.ensures.given in
     let none = ap (λ status. calls.status_fault status false) s.status ∙ sym c.check_writer.ensures.value ∙ ap result_err c.in_ok-check_writer.was in
     let len = c.len.ensures in
@@ -75,7 +75,7 @@ returns-then-len-docs_per_segment-clause-left g c k x s =
 pub returns-in_err-close_open-clause-left : goal.returns-in_err-close_open-clause-left
 returns-in_err-close_open-clause-left g c k x s =
     let old = c.args.self.now in
-    let doc = c.args.doc in
+    let doc = c.args.doc.now in
     let call = calls.add_document doc in
     let made = c.close_open.ensures.made in
     let none = ap (λ status. calls.status_fault status false) s.status ∙ sym c.check_writer.ensures.value ∙ ap result_err c.in_ok-check_writer.was in
@@ -88,14 +88,14 @@ pub returns-in_err-close_open-clause-limit : goal.returns-in_err-close_open-clau
 returns-in_err-close_open-clause-limit g c =
     let old = c.args.self.now in
     let pass = DocumentsPass old.schema (g.A.Analyzer.analyze old.analyzer) old.settings.block_size in
-    err_has c.from_residual-in_err-close_open.result c.in_err-close_open.field-0.0 (λ fault. fault ≡ faults.Limit → pass (old.open ++ c.args.doc ∷ [])) c.from_residual-in_err-close_open.ensures.1
+    err_has c.from_residual-in_err-close_open.result c.in_err-close_open.field-0.0 (λ fault. fault ≡ faults.Limit → pass (old.open ++ c.args.doc.now ∷ [])) c.from_residual-in_err-close_open.ensures.1
     (λ is. subst pass c.in_ok-push.ensures.ok (c.in_err-close_open.ensures.limit is))
 
 pub returns-clause-left : goal.returns-clause-left
 returns-clause-left g c k x s =
     let old = c.args.self.now in
     let mid = c.close_open.new.self in
-    let doc = c.args.doc in
+    let doc = c.args.doc.now in
     let analyze = g.A.Analyzer.analyze old.analyzer in
     let given = c.in_ok-check_document.ensures.given in
     let made = c.close_open.ensures.made in

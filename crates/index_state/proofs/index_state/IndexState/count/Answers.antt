@@ -1,9 +1,11 @@
-use Rattle.std.proofs.Common.{None, Some, ap, inr, subst, sym, ◌∙◌, ◌≡◌, ◌≢◌}
+use Rattle.std.proofs.Common.{None, Some, ap, inr, subst, sym, true, ◌∙◌, ◌≡◌, ◌≢◌}
 use Rattle.std.specs.List.{AllZip}
 use Rattle.std.specs.Result.{result_err}
 use Rattle.definitions.specs.Alive.{live}
 use Rattle.definitions.specs.Calls as calls
+use Rattle.definitions.specs.Refusing.{refusal}
 use Rattle.definitions.specs.Scanning.{scan_count}
+use Rattle.definitions.specs.Settings.{similarity_of}
 use Rattle.definitions.specs.State as states
 use Rattle.definitions.specs.declared.fault.Fault.TheVariants as faults
 use Rattle.query_trees.specs.Queries.{query_of}
@@ -19,7 +21,7 @@ returns-in_err-check_open-clause-err g c k x s =
     let call = calls.count_all (query_of c.args.query.now) in
     let fault = c.in_err-check_open.field-0.0 in
     err_has c.from_residual.result fault (λ f. f ≢ faults.OutOfMemory → calls.call_fault k x call ≡ Some f) c.from_residual.ensures.1
-    (λ other. status_refuses k x call fault (sym (c.check_open.ensures.value k x s) ∙ ap result_err c.in_err-check_open.was))
+    (λ other. status_refuses k x call fault (ap (λ status. calls.status_fault status true) s.status ∙ sym c.check_open.ensures.value ∙ ap result_err c.in_err-check_open.was))
 
 pub returns-clause-ok : goal.returns-clause-ok
 returns-clause-ok g c k x s =
@@ -27,7 +29,7 @@ returns-clause-ok g c k x s =
     let analyze = g.A.Analyzer.analyze index.analyzer in
     let q = query_of c.args.query.now in
     let call = calls.count_all q in
-    let ready = sym (c.check_open.ensures.value k x s) ∙ ap result_err c.in_ok-check_open.was in
+    let ready = ap (λ status. calls.status_fault status true) s.status ∙ sym c.check_open.ensures.value ∙ ap result_err c.in_ok-check_open.was in
     let stands = subst (AllZip (StandsFor index.schema analyze) s.docs) (sym c.deref.ensures.value) s.segments in
     let seen = ap (λ sets. live (flagged_each s.docs sets)) c.deref-2.ensures.value ∙ live_committed g.A.Analyzer.analyze index k x s in
     ok_both c.count.result _ _ _
@@ -42,7 +44,7 @@ returns-clause-err g c k x s =
     let index = c.args.self.now in
     let q = query_of c.args.query.now in
     let call = calls.count_all q in
-    let ready = sym (c.check_open.ensures.value k x s) ∙ ap result_err c.in_ok-check_open.was in
+    let ready = ap (λ status. calls.status_fault status true) s.status ∙ sym c.check_open.ensures.value ∙ ap result_err c.in_ok-check_open.was in
     err_map c.count.result _ _ (λ fault told other. own_refuses k x call ready ∙ query_refused g.A.Analyzer.analyze index k x s q fault (told other)) c.count.ensures.refused
 
 pub returns-in_err-check_open-clause-own : goal.returns-in_err-check_open-clause-own
@@ -59,5 +61,17 @@ returns-clause-own g c k x s =
     let index = c.args.self.now in
     let q = query_of c.args.query.now in
     let call = calls.count_all q in
-    let ready = sym (c.check_open.ensures.value k x s) ∙ ap result_err c.in_ok-check_open.was in
+    let ready = ap (λ status. calls.status_fault status true) s.status ∙ sym c.check_open.ensures.value ∙ ap result_err c.in_ok-check_open.was in
     err_map c.count.result _ _ (λ fault told memory. own_refuses k x call ready ∙ query_taken g.A.Analyzer.analyze index k x s q (told memory)) c.count.ensures.own
+
+pub returns-in_err-check_open-clause-memory : goal.returns-in_err-check_open-clause-memory
+returns-in_err-check_open-clause-memory g c =
+    let index = c.args.self.now in
+    err_has c.from_residual.result c.in_err-check_open.field-0.0 (λ f. f ≡ faults.OutOfMemory → refusal index.schema (similarity_of index.settings).weight (query_of c.args.query.now) ≡ None) c.from_residual.ensures.1
+    (λ memory. absurd (closed_is_no_memory (sym c.in_err-check_open.ensures.fault ∙ memory)))
+
+pub returns-clause-accepted : goal.returns-clause-accepted
+returns-clause-accepted g c = c.count.ensures.accepted
+
+pub returns-clause-memory : goal.returns-clause-memory
+returns-clause-memory g c = c.count.ensures.own
