@@ -174,7 +174,7 @@ module _ {D A : Type 0} {d : devices.Ghosts D} {a : analyzers.Ghosts A} where
   -- and a run over the parts of the first session
   pub is_run_over : {Z : Type 0} (result : Result ⊤ Z) (input : Option (List ℕ)) (device : D) (analyzer : A) (first last : Session D A d a) (old new : Option (List ℕ)) → parts_of first ≡ Some (device, analyzer)
       → ((held : steps.Held) → HasHeld d.honest d.content (a.analyze analyzer) device held → StandsFor first (session_on (analysis_of a.knows_name a.analyze analyzer) held))
-      → OnOk result (IfSome input (λ bytes. IsRun first last (lines_of bytes) old new)) → OnOk result (IfSome input (λ bytes. IsRunOver {d = d} {a = a} device analyzer (lines_of bytes) old new))
+      → OnOk result (IfSome input (λ bytes. IsRun first last (lines_of bytes) old new)) → OnOk result (IfSome input (λ bytes. IsRunOver d a device analyzer (lines_of bytes) old new))
   is_run_over (Err fault) input device analyzer first last old new parts stands run = tt
   is_run_over (Ok u) None device analyzer first last old new parts stands run = tt
   is_run_over (Ok u) (Some bytes) device analyzer first last old new parts stands run = record {

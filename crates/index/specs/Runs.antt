@@ -49,12 +49,13 @@ module _ {D A : Type 0} {d : devices.Ghosts D} {a : analyzers.Ghosts A} where
     -- and the last session stands for a state after all lines, unless a failed device was among the replies
     pub ends : (s : steps.Session) → StandsFor first s → EndsAfter first last lines out s lines out
 
-  -- what a run has done over a device and an analyzer, from a first session, over which no index is open yet
-  pub record IsRunOver (device : D) (analyzer : A) (lines : List (List ℕ)) (old new : Option (List ℕ)) : Type 0 where
-    pub first : Session D A d a
-    pub last : Session D A d a
-    pub parts : parts_of first ≡ Some (device, analyzer)
-    pub stands :
-        (held : steps.Held) → HasHeld d.honest d.content (a.analyze analyzer) device held
-        → StandsFor first (session_on (analysis_of a.knows_name a.analyze analyzer) held)
-    pub run : IsRun first last lines old new
+-- what a run has done over a device and an analyzer, from a first session, over which no index is open yet
+pub record IsRunOver {D A : Type 0} (d : devices.Ghosts D) (a : analyzers.Ghosts A) (device : D) (analyzer : A)
+    (lines : List (List ℕ)) (old new : Option (List ℕ)) : Type 0 where
+  pub first : Session D A d a
+  pub last : Session D A d a
+  pub parts : parts_of first ≡ Some (device, analyzer)
+  pub stands :
+      (held : steps.Held) → HasHeld d.honest d.content (a.analyze analyzer) device held
+      → StandsFor first (session_on (analysis_of a.knows_name a.analyze analyzer) held)
+  pub run : IsRun first last lines old new

@@ -24,7 +24,7 @@ pub fn run<R: BufRead, W: Write, D: Device + Drop, A: Analyzer + Drop>(
     // Where the reader's bytes are known, the lines are answered in turn. Of an honest device that holds no byte, an
     // index's file, or bytes that are no index or a damaged one, the replies follow from that and from the lines.
     ensures { OnOk result (IfSome (R.remaining reader.old) (λ input.
-        IsRunOver {d = D.Device} {a = A.Analyzer} device analyzer (lines_of input) (W.contents writer.old)
+        IsRunOver D.Device A.Analyzer device analyzer (lines_of input) (W.contents writer.old)
         (W.contents writer.new))) }
 {
     let mut session = Session::new(alloc, device, analyzer);
