@@ -1,6 +1,7 @@
 //! Scorers of terms.
 
-ghost use Rattle.std.specs.Prelude.{[], ◌<◌, ◌≡◌, List, false, length, true, ℕ};
+ghost use Rattle.std.specs.Prelude.{[], ◌<◌, ◌≡◌, IfOk, List, false, if◌then◌else◌, length, nat_eq, replicate, true, ℕ};
+ghost use Rattle.definitions.specs.Lengths.{fieldnorm_to_id};
 ghost use Rattle.docsets.specs.Entries.{first, from};
 ghost use Rattle.definitions.specs.Postings.{terminated};
 ghost use Rattle.definitions.specs.Scoring.{DontFall};
@@ -32,35 +33,40 @@ enum Asked {
 
 /// Each document with its count, its length id and its score, and then the greatest score.
 pub(crate) fn scores(alloc: Global, arguments: &Arguments) -> Result<Value, Refusal> {
-    told(alloc, arguments, Asked::Scores)
+    told(alloc, arguments, Asked::Scores, TERMINATED)
 }
 
 /// The explanation of the first document's score.
 pub(crate) fn explained(alloc: Global, arguments: &Arguments) -> Result<Value, Refusal> {
-    told(alloc, arguments, Asked::Explanation)
+    told(alloc, arguments, Asked::Explanation, TERMINATED)
 }
 
 /// What each move of a scorer answers.
 pub(crate) fn moves(alloc: Global, arguments: &Arguments) -> Result<Value, Refusal> {
-    told(alloc, arguments, Asked::Moves)
+    told(alloc, arguments, Asked::Moves, TERMINATED)
 }
 
 /// What a scorer tells, made of whether counts are read, documents with counts, their length ids if their field keeps
-/// lengths, a weight, a boost and norms.
-fn told(alloc: Global, arguments: &Arguments, asked: Asked) -> Result<Value, Refusal> {
+/// lengths, a weight, a boost and norms. A field that keeps no lengths has `num_docs` documents.
+fn told(
+    alloc: Global,
+    arguments: &Arguments,
+    asked: Asked,
+    num_docs: u32,
+) -> Result<Value, Refusal> {
     let docs = docs_in(alloc, arguments.list(1)?)?;
     if docs.len() >= MOST {
         return Err(Refusal::NotAsked);
     }
-    let bytes = written(alloc, &docs)?;
-    let norms = arguments.numbers(alloc, 5)?;
     let ids = arguments.bytes(alloc, 2)?;
+    let bytes = written(alloc, &docs, lengths_of(&ids, num_docs)?)?;
+    let norms = arguments.numbers(alloc, 5)?;
     let similarity = similarity(
         arguments.signed_number(3)?,
         arguments.signed_number(4)?,
         &norms,
     )?;
-    let lengths = lengths_of(&ids)?;
+    let lengths = lengths_of(&ids, num_docs)?;
     let mut scorer = scorer(
         &bytes,
         docs.len() as u32,
@@ -93,13 +99,16 @@ fn part(value: &Value, place: usize) -> Result<u32, Refusal> {
         .ok_or(Refusal::NotAsked)
 }
 
-/// The lengths of a field: the id of each document, or none where there is no id.
-fn lengths_of(ids: &[u8]) -> Result<FieldNormReader<'_>, Refusal> {
+/// The lengths of a field: the id of each document, or that of length 1 for `num_docs` where there is no id.
+fn lengths_of(ids: &[u8], num_docs: u32) -> Result<FieldNormReader<'_>, Refusal>
+    ensures { IfOk result (λ lengths. lengths
+        ≡ (if nat_eq (length ids.now) 0 then replicate num_docs (fieldnorm_to_id 1) else ids.now)) }
+{
     if ids.is_empty() {
-        return Ok(FieldNormReader::constant(TERMINATED, 1));
+        return Ok(FieldNormReader::constant(num_docs, 1));
     }
-    let num_docs = u32::try_from(ids.len()).ok().ok_or(Refusal::NotAsked)?;
-    Ok(FieldNormReader::open(ids, num_docs)?)
+    let count = u32::try_from(ids.len()).ok().ok_or(Refusal::NotAsked)?;
+    Ok(FieldNormReader::open(ids, count)?)
 }
 
 /// A weight and a boost, where they meet what is asked of them, with norms.
@@ -136,7 +145,7 @@ fn are_below(postings: &mut SegmentPostings<'_>, num_docs: u32) -> bool
     postings.seek(num_docs) == TERMINATED
 }
 
-/// The scorer of a term whose documents all have a length id.
+/// The scorer of a term whose documents all have a length id, with which they were written.
 fn scorer<'a>(
     bytes: &'a [u8],
     num_docs: u32,
@@ -144,7 +153,8 @@ fn scorer<'a>(
     lengths: FieldNormReader<'a>,
     similarity: Similarity<'a>,
 ) -> Result<TermScorer<'a>, Refusal>
-    requires { (ds counts : List ℕ) × HasPostings true false num_docs bytes.now ds counts }
+    requires { (ds counts : List ℕ) × (known : HasPostings true false num_docs bytes.now ds counts)
+        × (known.ids ≡ lengths) }
 {
     if !are_below(
         &mut opened(bytes, num_docs, reads_counts),
