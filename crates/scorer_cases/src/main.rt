@@ -15,6 +15,7 @@ mod operations;
 mod placed_terms;
 mod posting_unions;
 mod scored_terms;
+mod term_blocks;
 mod written_terms;
 
 use case_lines::answers;

@@ -22,7 +22,11 @@ pub(crate) fn moved<S: Scorer>(
 }
 
 /// What a move answers.
-fn moved_once<S: Scorer>(alloc: Global, scorer: &mut S, asked: &Value) -> Result<Value, Refusal> {
+pub(crate) fn moved_once<S: Scorer>(
+    alloc: Global,
+    scorer: &mut S,
+    asked: &Value,
+) -> Result<Value, Refusal> {
     if asked.as_str() == Some("score") {
         return score(scorer);
     }

@@ -2,6 +2,7 @@
 
 use crate::{
     asked, changed, clauses, combinators, combined, leaves, nested, posting_unions, scored_terms,
+    term_blocks,
 };
 use case_lines::{Arguments, Operations, Refusal};
 use serde_json::Value;
@@ -49,6 +50,8 @@ impl Operations for ScorerOperations {
             "term-moves" => scored_terms::moves(alloc, arguments),
             "term-scores" => scored_terms::scores(alloc, arguments),
             "term-explained" => scored_terms::explained(alloc, arguments),
+            "term-blocks" => scored_terms::blocks(alloc, arguments),
+            "posting-blocks" => term_blocks::bounds(alloc, arguments),
             _ => Err(Refusal::NotAsked),
         }
     }

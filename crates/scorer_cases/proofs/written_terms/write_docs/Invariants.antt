@@ -1,6 +1,6 @@
-use Rattle.std.proofs.Common.{List, None, length, ◌≡◌, ◌≤◌, ℕ}
+use Rattle.std.proofs.Common.{List, length, ◌≡◌, ◌≤◌, ℕ}
 use Rattle.postings_writer.specs.TermWriting.{AreWritten}
 use Rattle.scorer_cases.proofs.written_terms.write_docs.Given as goal
 
 abbrev pub invariant-loop-place : goal.invariant-loop-place
-invariant-loop-place l = ((ds counts : List ℕ) × AreWritten l.serializer ds counts × (length ds ≡ l.place)) × (l.serializer.next ≤ l.next) × (l.serializer.norms ≡ None) × (l.serializer.option ≡ l.fn.serializer.option)
+invariant-loop-place l = ((ds counts : List ℕ) × AreWritten l.serializer ds counts × (length ds ≡ l.place)) × (l.serializer.next ≤ l.next) × (l.serializer.norms ≡ l.fn.serializer.norms) × (l.serializer.option ≡ l.fn.serializer.option)
