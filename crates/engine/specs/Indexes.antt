@@ -2,6 +2,7 @@
 use Rattle.std.specs.Prelude.{[], ⊤, ◌++◌, ◌+◌, ◌<◌, ◌^◌, ◌∷◌, ◌≡◌, ◌≤◌, ◌⊎◌, Err, IsTrue, List, Ok, Result, length, ℕ}
 use Rattle.std.specs.List.{AllZip}
 use Rattle.std.specs.declared.alloc.Global.{Global}
+use Rattle.common.specs.declared.analyzer.Analyzer as analyzers
 use Rattle.common.specs.declared.device.Device as devices
 use Rattle.definitions.specs.Analyzers.{Analyzer}
 use Rattle.definitions.specs.Calls as calls
@@ -13,6 +14,8 @@ use Rattle.definitions.specs.Values.{Document}
 use Rattle.definitions.specs.declared.fault.Fault.{Fault}
 use Rattle.layouts.specs.RecordFiles.{IsAtRest}
 use Rattle.index_file.specs.Frames.{frame_bytes}
+use Rattle.index_state.specs.Limits.{TermsPass}
+use Rattle.index_state.specs.Pending.{open_docs}
 use Rattle.index_state.specs.Records.{RecordsCall}
 use Rattle.index_state.specs.Standing as collections
 use Rattle.engine.specs.Files.{LeavesEither, LeavesMembers, Rests}
@@ -21,105 +24,106 @@ use Rattle.engine.specs.declared.refused.Refused.{Refused}
 use Rattle.segment_definitions.specs.SegmentBodies.{Member}
 use Rattle.segment_definitions.specs.SegmentFiles.{IsGroup}
 
-module _ {D A : Type 0} {d : devices.Ghosts D} where
+module _ {D A : Type 0} {d : devices.Ghosts D} {a : analyzers.Ghosts A} where
   -- ---- what it is made of
 
   -- what cuts its texts
-  abbrev pub analyzer_of : Index D A d → A
+  abbrev pub analyzer_of : Index D A d a → A
   analyzer_of index = collections.analyzer_of index.index_state
 
   -- its fields
-  abbrev pub schema_of : Index D A d → Schema
+  abbrev pub schema_of : Index D A d a → Schema
   schema_of index = collections.schema_of index.index_state
 
   -- its numbers for scores and segments
-  abbrev pub settings_of : Index D A d → Settings
+  abbrev pub settings_of : Index D A d a → Settings
   settings_of index = collections.settings_of index.index_state
 
   -- what it takes memory from
-  abbrev pub alloc_of : Index D A d → Global
+  abbrev pub alloc_of : Index D A d a → Global
   alloc_of index = collections.alloc_of index.index_state
 
   -- analyzer, fields and settings are as before
-  abbrev pub KeepsMaking : Index D A d → Index D A d → Type 0
+  abbrev pub KeepsMaking : Index D A d a → Index D A d a → Type 0
   KeepsMaking old new = collections.IsMadeAlike old.index_state new.index_state
 
   -- ---- what it stands for
 
   -- it has this configuration, these documents committed, these waiting, and this status
-  abbrev pub IndexStands : (A → Analyzer) → Index D A d → calls.Configuration → calls.Index → Type 0
+  abbrev pub IndexStands : (A → Analyzer) → Index D A d a → calls.Configuration → calls.Index → Type 0
   IndexStands analyze index c x = collections.Stands analyze index.index_state c x
 
+  -- what may still be done
+  abbrev pub state_of : Index D A d a → calls.Status
+  state_of index = collections.state_of index.index_state
+
   -- the segments that are committed, each with a flag for each of its documents
-  abbrev pub members_of : Index D A d → List Member
+  abbrev pub members_of : Index D A d a → List Member
   members_of index = collections.members_of index.index_state
 
-  -- a segment of these documents passes a limit
-  abbrev pub PassesLimit : (A → Analyzer) → Index D A d → List Document → Type 0
-  PassesLimit analyze index docs = collections.PassesLimit analyze index.index_state docs
-
-  -- the documents that wait in a segment that isn't full
-  abbrev pub open_of : Index D A d → List Document
-  open_of index = collections.open_of index.index_state
-
   -- the slot of this document is too long beside a block
-  abbrev pub HasLongSlot : Index D A d → Document → Type 0
+  abbrev pub HasLongSlot : Index D A d a → Document → Type 0
   HasLongSlot index doc = collections.HasLongSlot index.index_state doc
+
+  -- a limit that an add of this document meets: its slot is too long, or it passes one behind the documents of the
+  -- segment that isn't full
+  abbrev pub AddPasses : calls.Configuration → State → Index D A d a → Document → Type 0
+  AddPasses c s index doc = collections.AddPasses c s index.index_state doc
 
   -- ---- its file
 
   -- what its file lies on
-  abbrev pub device_of : Index D A d → D
+  abbrev pub device_of : Index D A d a → D
   device_of index = index.file.device
 
   -- the place of the file's closed gate
-  abbrev pub gate_of : Index D A d → ℕ
+  abbrev pub gate_of : Index D A d a → ℕ
   gate_of index = index.file.gate
 
   -- device and gate are as before, and the segments that are committed
-  abbrev pub KeepsFile : Index D A d → Index D A d → Type 0
+  abbrev pub KeepsFile : Index D A d a → Index D A d a → Type 0
   KeepsFile old new = (device_of new ≡ device_of old) × (gate_of new ≡ gate_of old) × (members_of new ≡ members_of old)
 
   -- the file leaves the segments that are committed, its closed gate at its place and nothing after it, and all of it is
   -- on the disk
-  abbrev pub IndexRests : Index D A d → Type 0
+  abbrev pub IndexRests : Index D A d a → Type 0
   IndexRests index =
       Rests (schema_of index) (settings_of index) (members_of index)
       (d.content (device_of index)) (d.unsynced (device_of index)) (gate_of index)
 
   -- over an honest device a ready index rests in its file
-  abbrev pub IsInFile : Index D A d → calls.Index → Type 0
+  abbrev pub IsInFile : Index D A d a → calls.Index → Type 0
   IsInFile index x = IsTrue (d.honest (device_of index)) → x.status ≡ calls.ready → IndexRests index
 
   -- a file with nothing after its closed gate has one record more: that of the call, which makes the segments that are
   -- committed then
-  abbrev pub AppendsRecord : calls.Configuration → State → calls.Call → Index D A d → Index D A d → Type 0
+  abbrev pub AppendsRecord : calls.Configuration → State → calls.Call → Index D A d a → Index D A d a → Type 0
   AppendsRecord c s call old new =
       (bodies : List (List ℕ)) → IsAtRest (d.content (device_of old)) (gate_of old) bodies
       → (body : List ℕ) × RecordsCall c s call (members_of old) (members_of new) body
       × IsAtRest (d.content (device_of new)) (gate_of new) (bodies ++ body ∷ [])
 
   -- with the record of the call the file would pass 2^63 bytes
-  abbrev pub PassesFile : calls.Configuration → State → calls.Call → Index D A d → Type 0
+  abbrev pub PassesFile : calls.Configuration → State → calls.Call → Index D A d a → Type 0
   PassesFile c s call index =
       (after : List Member) × (body : List ℕ) × RecordsCall c s call (members_of index) after body
       × (2 ^ 63 < gate_of index + 1 + length (frame_bytes body))
 
   -- a limit that a commit meets: in the documents of the segment that isn't full, in how many groups there are afterwards,
   -- or in the bytes of the file
-  abbrev pub CommitPasses : (A → Analyzer) → calls.Configuration → State → Index D A d → Type 0
-  CommitPasses analyze c s index =
-      PassesLimit analyze index (open_of index) ⊎ (2 ^ 32 ≤ length (calls.after c s calls.commit_pending).groups)
+  abbrev pub CommitPasses : calls.Configuration → State → Index D A d a → Type 0
+  CommitPasses c s index =
+      TermsPass c.schema c.analyze (open_docs c.docs_per_segment s.pending) ⊎ (2 ^ 32 ≤ length (calls.after c s calls.commit_pending).groups)
       ⊎ PassesFile c s calls.commit_pending index
 
   -- a crash at any moment from the old index to the new one leaves a file of the one or the other groups
-  abbrev pub CrashLeavesEither : (A → Analyzer) → Index D A d → Index D A d → List (List Document) → List (List Document) → Type 0
+  abbrev pub CrashLeavesEither : (A → Analyzer) → Index D A d a → Index D A d a → List (List Document) → List (List Document) → Type 0
   CrashLeavesEither analyze old new one other =
       LeavesEither d.moment d.left_since (device_of old) (device_of new) (schema_of old) (settings_of old)
       (analyze (analyzer_of old)) one other
 
   -- the segments that the file of the device leaves are committed, and nothing waits: whatever documents they are of
-  pub record IsOpened (analyze : A → Analyzer) (analyzer : Analyzer) (device : D) (index : Index D A d) : Type 0 where
+  pub record IsOpened (analyze : A → Analyzer) (analyzer : Analyzer) (device : D) (index : Index D A d a) : Type 0 where
     pub stands :
         (groups : List (List Document)) → AllZip (IsGroup (schema_of index) analyzer) (members_of index) groups
         → IndexStands analyze index (configuration_of (schema_of index) analyzer (settings_of index)) (reopened groups)
@@ -129,16 +133,16 @@ module _ {D A : Type 0} {d : devices.Ghosts D} where
   -- ---- what a call hands back that makes or opens an index, or refuses to
 
   -- the device: that of the index, or the one that is handed back
-  abbrev pub device_after : Result (Index D A d) (Refused D A) → D
+  abbrev pub device_after : Result (Index D A d a) (Refused D A) → D
   device_after (Ok index) = device_of index
   device_after (Err refused) = refused.device
 
   -- and the analyzer
-  abbrev pub analyzer_after : Result (Index D A d) (Refused D A) → A
+  abbrev pub analyzer_after : Result (Index D A d a) (Refused D A) → A
   analyzer_after (Ok index) = analyzer_of index
   analyzer_after (Err refused) = refused.analyzer
 
   -- how the call ended
-  abbrev pub ending_of : Result (Index D A d) (Refused D A) → Result ⊤ Fault
+  abbrev pub ending_of : Result (Index D A d a) (Refused D A) → Result ⊤ Fault
   ending_of (Ok index) = Ok tt
   ending_of (Err refused) = Err refused.fault

@@ -1,5 +1,6 @@
 -- What a call leaves that appends one record to the file of an index.
 use Rattle.std.specs.Prelude.{⊤, ◌≡◌, ◌≢◌, IfErr, IsTrue, List, OnOk, Result, Some, ℕ}
+use Rattle.common.specs.declared.analyzer.Analyzer as analyzers
 use Rattle.common.specs.declared.device.Device as devices
 use Rattle.definitions.specs.Analyzers.{Analyzer}
 use Rattle.definitions.specs.Calls as calls
@@ -9,10 +10,10 @@ use Rattle.index_state.specs.Records.{RecordsCall}
 use Rattle.engine.specs.Indexes.{AppendsRecord, CrashLeavesEither, IndexRests, IndexStands, device_of, members_of}
 use Rattle.engine.specs.declared.index.Index.{Index}
 
-module _ {D A : Type 0} {d : devices.Ghosts D} where
+module _ {D A : Type 0} {d : devices.Ghosts D} {a : analyzers.Ghosts A} where
   -- of an index that stood for x, after a call that writes a record
   pub record Writes (analyze : A → Analyzer) (c : calls.Configuration) (x : calls.Index) (call : calls.Call)
-      (old new : Index D A d) (result : Result ⊤ Fault) : Type 0 where
+      (old new : Index D A d a) (result : Result ⊤ Fault) : Type 0 where
     -- it stands for what the definitions let the call leave
     pub left : (y : calls.Index) × calls.Leaves c x call result y × IndexStands analyze new c y
     -- what it is refused with is the definitions' refusal, unless memory, the device or a limit is why

@@ -5,7 +5,9 @@ ghost use Rattle.definitions.specs.Calls as calls;
 ghost use Rattle.definitions.specs.Reading.{read_data, read_json};
 ghost use Rattle.definitions.specs.Values.{Document};
 ghost use Rattle.definitions.specs.declared.fault.Fault.TheVariants as faults;
-ghost use Rattle.engine.specs.Indexes.{HasLongSlot, IndexStands, KeepsFile, KeepsMaking, PassesLimit, open_of};
+ghost use Rattle.document_indexer.specs.Indexed.{IsWithinLimits};
+ghost use Rattle.index_state.specs.Pending.{open_docs};
+ghost use Rattle.engine.specs.Indexes.{AddPasses, HasLongSlot, IndexStands, KeepsFile, KeepsMaking, state_of};
 ghost use Rattle.serde_json.specs.Read.{read};
 ghost use Rattle.serde_json.specs.View.{view};
 
@@ -17,10 +19,10 @@ use serde_json::Value as Json;
 use std::alloc::Global;
 
 impl<D: Device + Drop, A: Analyzer + Drop> Index<D, A> {
-    /// Adds `doc`; a search sees it after the next commit. A document of an unknown field is `UnknownField`, and one
-    /// with a value that can't be indexed `NotIndexable`; one whose stored values are too long beside a block is
-    /// `Limit`, and changes nothing. If `doc` fills a segment, the segment is written: out of memory or a limit then
-    /// closes the writer.
+    /// Adds `doc`, and indexes it; a search sees it after the next commit. A document of an unknown field is
+    /// `UnknownField`, and one with a value that can't be indexed `NotIndexable`; one whose stored values are too long
+    /// beside a block is `Limit`, and changes nothing. Any other limit closes the writer, as does out of memory while
+    /// `doc` is indexed.
     pub fn add_document(&mut self, doc: &CompactDoc) -> Result<(), Fault>
         ensures left { (c : calls.Configuration) (x : calls.Index) → IndexStands A.analyze self.old c x
             → (y : calls.Index) × calls.Leaves c x (calls.add_document doc.now) result y
@@ -28,11 +30,15 @@ impl<D: Device + Drop, A: Analyzer + Drop> Index<D, A> {
         ensures exact { (c : calls.Configuration) (x : calls.Index) → IndexStands A.analyze self.old c x
             → IfErr result (λ fault. fault ≢ faults.OutOfMemory → fault ≢ faults.Limit
             → calls.call_fault c x (calls.add_document doc.now) ≡ Some fault) }
-        ensures limit { IfErr result (λ fault. fault ≡ faults.Limit
-            → PassesLimit A.analyze self.old (open_of self.old ++ doc.now ∷ [])) }
+        ensures limit { (c : calls.Configuration) (x : calls.Index) → IndexStands A.analyze self.old c x
+            → IfErr result (λ fault. fault ≡ faults.Limit → AddPasses c x.state self.old doc.now) }
+        ensures within { (c : calls.Configuration) (x : calls.Index) → IndexStands A.analyze self.old c x
+            → OnOk result (IsWithinLimits c.schema c.analyze (open_docs c.docs_per_segment x.state.pending) doc.now) }
         ensures short { OnOk result (¬ HasLongSlot self.old doc.now) }
         ensures long { (c : calls.Configuration) (x : calls.Index) → IndexStands A.analyze self.old c x
             → HasLongSlot self.old doc.now → OnErr result (IndexStands A.analyze self.new c x) }
+        ensures closed { IfErr result (λ fault. fault ≡ faults.Limit
+            → ¬ HasLongSlot self.old doc.now → state_of self.new ≡ calls.writer_closed) }
         ensures made { KeepsMaking self.old self.new }
         ensures file { KeepsFile self.old self.new }
     {
@@ -51,13 +57,20 @@ impl<D: Device + Drop, A: Analyzer + Drop> Index<D, A> {
         ensures limit { (c : calls.Configuration) (x : calls.Index) → IndexStands A.analyze self.old c x
             → IfErr result (λ fault. fault ≡ faults.Limit
             → (doc : Document) × (read_json c.schema text.now ≡ Ok doc)
-            × PassesLimit A.analyze self.old (open_of self.old ++ doc ∷ [])) }
+            × AddPasses c x.state self.old doc) }
         ensures short { (c : calls.Configuration) (x : calls.Index) (doc : Document)
             → IndexStands A.analyze self.old c x → read_json c.schema text.now ≡ Ok doc
             → OnOk result (¬ HasLongSlot self.old doc) }
         ensures long { (c : calls.Configuration) (x : calls.Index) (doc : Document)
             → IndexStands A.analyze self.old c x → read_json c.schema text.now ≡ Ok doc → HasLongSlot self.old doc
             → OnErr result (IndexStands A.analyze self.new c x) }
+        ensures within { (c : calls.Configuration) (x : calls.Index) (doc : Document)
+            → IndexStands A.analyze self.old c x → read_json c.schema text.now ≡ Ok doc
+            → OnOk result (IsWithinLimits c.schema c.analyze (open_docs c.docs_per_segment x.state.pending) doc) }
+        ensures closed { (c : calls.Configuration) (x : calls.Index) (doc : Document)
+            → IndexStands A.analyze self.old c x → read_json c.schema text.now ≡ Ok doc
+            → IfErr result (λ fault. fault ≡ faults.Limit
+            → ¬ HasLongSlot self.old doc → state_of self.new ≡ calls.writer_closed) }
         ensures made { KeepsMaking self.old self.new }
         ensures file { KeepsFile self.old self.new }
     {
@@ -77,7 +90,7 @@ impl<D: Device + Drop, A: Analyzer + Drop> Index<D, A> {
         ensures limit { (c : calls.Configuration) (x : calls.Index) → IndexStands A.analyze self.old c x
             → IfErr result (λ fault. fault ≡ faults.Limit
             → (doc : Document) × (read_data c.schema (view value.now) ≡ Ok doc)
-            × PassesLimit A.analyze self.old (open_of self.old ++ doc ∷ [])) }
+            × AddPasses c x.state self.old doc) }
         ensures short { (c : calls.Configuration) (x : calls.Index) (doc : Document)
             → IndexStands A.analyze self.old c x → read_data c.schema (view value.now) ≡ Ok doc
             → OnOk result (¬ HasLongSlot self.old doc) }
@@ -85,6 +98,13 @@ impl<D: Device + Drop, A: Analyzer + Drop> Index<D, A> {
             → IndexStands A.analyze self.old c x → read_data c.schema (view value.now) ≡ Ok doc
             → HasLongSlot self.old doc
             → OnErr result (IndexStands A.analyze self.new c x) }
+        ensures within { (c : calls.Configuration) (x : calls.Index) (doc : Document)
+            → IndexStands A.analyze self.old c x → read_data c.schema (view value.now) ≡ Ok doc
+            → OnOk result (IsWithinLimits c.schema c.analyze (open_docs c.docs_per_segment x.state.pending) doc) }
+        ensures closed { (c : calls.Configuration) (x : calls.Index) (doc : Document)
+            → IndexStands A.analyze self.old c x → read_data c.schema (view value.now) ≡ Ok doc
+            → IfErr result (λ fault. fault ≡ faults.Limit
+            → ¬ HasLongSlot self.old doc → state_of self.new ≡ calls.writer_closed) }
         ensures made { KeepsMaking self.old self.new }
         ensures file { KeepsFile self.old self.new }
     {

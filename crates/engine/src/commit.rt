@@ -28,7 +28,7 @@ impl<D: Device + Drop, A: Analyzer + Drop> Index<D, A> {
         ensures cause { HasCause (D.failed (device_of self.old)) (D.failed (device_of self.new)) result }
         ensures counted { CountsNoOther (D.failed (device_of self.old)) (D.failed (device_of self.new)) result }
         ensures limit { (c : calls.Configuration) (x : calls.Index) → IndexStands A.analyze self.old c x
-            → IsErrOf result faults.Limit → CommitPasses A.analyze c x.state self.old }
+            → IsErrOf result faults.Limit → CommitPasses c x.state self.old }
         ensures short { OnOk result (gate_of self.new < 2 ^ 63) }
         ensures kept { IfErr result (λ fault. fault ≢ faults.Device → KeepsFile self.old self.new) }
     {

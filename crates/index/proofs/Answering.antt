@@ -2,6 +2,7 @@
 use Rattle.std.proofs.Common.{Err, inl, inr, ◌⊎◌, false, true, true≢false, ok_or, option_map, IfErr, IfOk, List, None, Ok, OnOk, Option, Result, Some, ap, refl, subst, sym, ◌∙◌, ◌≡◌, ◌≢◌, ℕ}
 use Rattle.std.specs.Bool.{⊤}
 use Rattle.std.specs.Prelude.{OnErr}
+use Rattle.common.specs.declared.analyzer.Analyzer as analyzers
 use Rattle.common.specs.declared.device.Device as devices
 use Rattle.definitions.specs.Analyzers.{Analyzer}
 use Rattle.definitions.specs.Calls as calls
@@ -50,7 +51,7 @@ pub going_on : (fault other : Fault) → stops fault ≡ false → stops other �
 going_on fault other on stop same = true≢false (sym stop ∙ ap stops (sym same) ∙ on)
 
 -- the reply to a change, and what stands after it
-pub change_answered : {D A : Type 0} {d : devices.Ghosts D} (analyze : A → Analyzer) (new : Index D A d) (c : calls.Configuration) (x : calls.Index) (r : requests.Request) (call : calls.Call) (change : Result ⊤ Fault) → steps.call_in c.schema r ≡ Ok call → steps.answer_reply c x.state call ≡ ok_reply → (y : calls.Index) × calls.Leaves c x call change y × IndexStands analyze new c y → IfErr change (λ fault. stops fault ≡ false → calls.call_fault c x call ≡ Some fault) → GoesOn change → (change_text change ≡ reply_of ((steps.index_step c x r).0)) × IndexStands analyze new c ((steps.index_step c x r).1)
+pub change_answered : {D A : Type 0} {d : devices.Ghosts D} {an : analyzers.Ghosts A} (analyze : A → Analyzer) (new : Index D A d an) (c : calls.Configuration) (x : calls.Index) (r : requests.Request) (call : calls.Call) (change : Result ⊤ Fault) → steps.call_in c.schema r ≡ Ok call → steps.answer_reply c x.state call ≡ ok_reply → (y : calls.Index) × calls.Leaves c x call change y × IndexStands analyze new c y → IfErr change (λ fault. stops fault ≡ false → calls.call_fault c x call ≡ Some fault) → GoesOn change → (change_text change ≡ reply_of ((steps.index_step c x r).0)) × IndexStands analyze new c ((steps.index_step c x r).1)
 change_answered analyze new c x r call (Ok u) read ok (y, left, stands) exact other =
     let told = answered_leaves c x y call left in
     let step = answered_call c x r call read told.0 in
@@ -92,7 +93,7 @@ ok_weaker (Err e) P Q f h = tt
 -- ---- replies
 
 -- the reply to a request that is refused
-pub refusal_answered : {D A Z : Type 0} {d : devices.Ghosts D} (analyze : A → Analyzer) (index : Index D A d) (c : calls.Configuration) (x : calls.Index) (r : requests.Request) (fault : Fault) (result : Result (CowStr Z) Fault) → IndexStands analyze index c x → (fault ≢ faults.OutOfMemory → steps.index_step c x r ≡ steps.refusing fault x) → IfOk result (λ text. cow_str_bytes text ≡ reply_text fault) → OnOk result (stops fault ≡ false) → Answers analyze index c x r result
+pub refusal_answered : {D A Z : Type 0} {d : devices.Ghosts D} {an : analyzers.Ghosts A} (analyze : A → Analyzer) (index : Index D A d an) (c : calls.Configuration) (x : calls.Index) (r : requests.Request) (fault : Fault) (result : Result (CowStr Z) Fault) → IndexStands analyze index c x → (fault ≢ faults.OutOfMemory → steps.index_step c x r ≡ steps.refusing fault x) → IfOk result (λ text. cow_str_bytes text ≡ reply_text fault) → OnOk result (stops fault ≡ false) → Answers analyze index c x r result
 refusal_answered analyze index c x r fault (Ok text) s refused told other =
     let step = refused (going_on fault faults.OutOfMemory other refl) in
     record {
@@ -102,21 +103,21 @@ refusal_answered analyze index c x r fault (Ok text) s refused told other =
 refusal_answered analyze index c x r fault (Err e) s refused told other = record { text = tt; state = tt }
 
 -- the reply to a request that changes nothing
-pub text_answered : {D A Z : Type 0} {d : devices.Ghosts D} (analyze : A → Analyzer) (index : Index D A d) (c : calls.Configuration) (x : calls.Index) (r : requests.Request) (said : json.Data) (text : CowStr Z) → IndexStands analyze index c x → steps.index_step c x r ≡ (said, x) → cow_str_bytes text ≡ reply_of said → Answers analyze index c x r (Ok text)
+pub text_answered : {D A Z : Type 0} {d : devices.Ghosts D} {an : analyzers.Ghosts A} (analyze : A → Analyzer) (index : Index D A d an) (c : calls.Configuration) (x : calls.Index) (r : requests.Request) (said : json.Data) (text : CowStr Z) → IndexStands analyze index c x → steps.index_step c x r ≡ (said, x) → cow_str_bytes text ≡ reply_of said → Answers analyze index c x r (Ok text)
 text_answered analyze index c x r said text s step told = record {
   text = told ∙ ap (λ p. reply_of p.0) (sym step);
   state = subst (λ p. IndexStands analyze index c p.1) (sym step) s;
 }
 
 -- the reply to a request that changes something
-pub change_answers : {D A Z : Type 0} {d : devices.Ghosts D} (analyze : A → Analyzer) (new : Index D A d) (c : calls.Configuration) (x : calls.Index) (r : requests.Request) (call : calls.Call) (change : Result ⊤ Fault) (result : Result (CowStr Z) Fault) → steps.call_in c.schema r ≡ Ok call → steps.answer_reply c x.state call ≡ ok_reply → (y : calls.Index) × calls.Leaves c x call change y × IndexStands analyze new c y → IfErr change (λ fault. stops fault ≡ false → calls.call_fault c x call ≡ Some fault) → IfOk result (λ text. cow_str_bytes text ≡ change_text change) → OnOk result (GoesOn change) → Answers analyze new c x r result
+pub change_answers : {D A Z : Type 0} {d : devices.Ghosts D} {an : analyzers.Ghosts A} (analyze : A → Analyzer) (new : Index D A d an) (c : calls.Configuration) (x : calls.Index) (r : requests.Request) (call : calls.Call) (change : Result ⊤ Fault) (result : Result (CowStr Z) Fault) → steps.call_in c.schema r ≡ Ok call → steps.answer_reply c x.state call ≡ ok_reply → (y : calls.Index) × calls.Leaves c x call change y × IndexStands analyze new c y → IfErr change (λ fault. stops fault ≡ false → calls.call_fault c x call ≡ Some fault) → IfOk result (λ text. cow_str_bytes text ≡ change_text change) → OnOk result (GoesOn change) → Answers analyze new c x r result
 change_answers analyze new c x r call change (Ok text) read ok left exact told other =
     let both = change_answered analyze new c x r call change read ok left exact other in
     record { text = told ∙ both.0; state = both.1 }
 change_answers analyze new c x r call change (Err e) read ok left exact told other = record { text = tt; state = tt }
 
 -- and where its answer and its refusal are known
-pub taken_answers : {D A Z : Type 0} {d : devices.Ghosts D} (analyze : A → Analyzer) (new : Index D A d) (c : calls.Configuration) (x : calls.Index) (r : requests.Request) (change : Result ⊤ Fault) (result : Result (CowStr Z) Fault) → OnOk change (TakesChange analyze new c x r) → IfErr change (λ fault. fault ≢ faults.OutOfMemory → steps.index_step c x r ≡ steps.refusing fault x) → OnErr change (IndexStands analyze new c x)
+pub taken_answers : {D A Z : Type 0} {d : devices.Ghosts D} {an : analyzers.Ghosts A} (analyze : A → Analyzer) (new : Index D A d an) (c : calls.Configuration) (x : calls.Index) (r : requests.Request) (change : Result ⊤ Fault) (result : Result (CowStr Z) Fault) → OnOk change (TakesChange analyze new c x r) → IfErr change (λ fault. fault ≢ faults.OutOfMemory → steps.index_step c x r ≡ steps.refusing fault x) → OnErr change (IndexStands analyze new c x)
     → IfOk result (λ text. cow_str_bytes text ≡ change_text change) → OnOk result (GoesOn change) → Answers analyze new c x r result
 taken_answers analyze new c x r change (Err e) taken refused left told on = record { text = tt; state = tt }
 taken_answers analyze new c x r (Ok u) (Ok text) taken refused left told on = record { text = told ∙ sym ok_text ∙ ap reply_of (sym taken.0); state = taken.1 }
@@ -138,7 +139,7 @@ pub unread_deletion : (c : calls.Configuration) (x : calls.Index) (d : json.Data
 unread_deletion c x d ready unread = unread_call c x (requests.delete_docs d) faults.BadTerm (ap (λ o. ok_or (option_map calls.delete_term o) faults.BadTerm) unread) ready
 
 -- a deletion leaves what its request does
-pub deletion_taken : {D A : Type 0} {d : devices.Ghosts D} (analyze : A → Analyzer) (new : Index D A d) (c : calls.Configuration) (x : calls.Index) (value : json.Data) (term : List ℕ) (change : Result ⊤ Fault) → term_in c.schema value ≡ Some term → (y : calls.Index) × calls.Leaves c x (calls.delete_term term) change y × IndexStands analyze new c y → OnOk change (TakesChange analyze new c x (requests.delete_docs value))
+pub deletion_taken : {D A : Type 0} {d : devices.Ghosts D} {an : analyzers.Ghosts A} (analyze : A → Analyzer) (new : Index D A d an) (c : calls.Configuration) (x : calls.Index) (value : json.Data) (term : List ℕ) (change : Result ⊤ Fault) → term_in c.schema value ≡ Some term → (y : calls.Index) × calls.Leaves c x (calls.delete_term term) change y × IndexStands analyze new c y → OnOk change (TakesChange analyze new c x (requests.delete_docs value))
 deletion_taken analyze new c x value term (Err fault) read left = tt
 deletion_taken analyze new c x value term (Ok u) read (y, left, stands) =
     let told = answered_leaves c x y (calls.delete_term term) left in
@@ -154,7 +155,7 @@ failed_deletion c x y term fault (calls.half_written f want accepted adds) = abs
 failed_deletion c x y term fault (calls.device_failed accepted writes) = absurd (true≢false (sym writes))
 failed_deletion c x y term fault (calls.slot_damaged accepted reads) = refl
 
-pub deletion_left : {D A : Type 0} {d : devices.Ghosts D} (analyze : A → Analyzer) (new : Index D A d) (c : calls.Configuration) (x : calls.Index) (term : List ℕ) (change : Result ⊤ Fault) → (y : calls.Index) × calls.Leaves c x (calls.delete_term term) change y × IndexStands analyze new c y → OnErr change (IndexStands analyze new c x)
+pub deletion_left : {D A : Type 0} {d : devices.Ghosts D} {an : analyzers.Ghosts A} (analyze : A → Analyzer) (new : Index D A d an) (c : calls.Configuration) (x : calls.Index) (term : List ℕ) (change : Result ⊤ Fault) → (y : calls.Index) × calls.Leaves c x (calls.delete_term term) change y × IndexStands analyze new c y → OnErr change (IndexStands analyze new c x)
 deletion_left analyze new c x term (Ok u) left = tt
 deletion_left analyze new c x term (Err fault) (y, left, stands) = subst (IndexStands analyze new c) (failed_deletion c x y term fault left) stands
 

@@ -1,6 +1,7 @@
 -- What an index has in its file, as requests are answered.
 use Rattle.std.proofs.Common.{Err, IfErr, IsTrue, None, Ok, OnOk, Option, Result, Some, false, length, ok_or, option_map, refl, subst, sym, ◌∙◌, ◌≡◌, ◌≢◌, ℕ}
 use Rattle.std.specs.Bool.{⊤}
+use Rattle.common.specs.declared.analyzer.Analyzer as analyzers
 use Rattle.common.specs.declared.device.Device as devices
 use Rattle.definitions.specs.Analyzers.{Analyzer}
 use Rattle.definitions.specs.QueryGrammar.{query_in}
@@ -56,9 +57,9 @@ counted_still c x d = refused_or_keeps (λ y. y) (calls.status_fault x.status (s
 
 -- ---- what the file has
 
-module _ {D A : Type 0} {d : devices.Ghosts D} where
+module _ {D A : Type 0} {d : devices.Ghosts D} {an : analyzers.Ghosts A} where
   -- where device and gate are as before, the file rests as before
-  rests_still : (old new : Index D A d) → KeepsMaking old new → KeepsFile old new → IndexRests old → IndexRests new
+  rests_still : (old new : Index D A d an) → KeepsMaking old new → KeepsFile old new → IndexRests old → IndexRests new
   rests_still old new made file rests = record {
     bodies = rests.bodies;
     at_rest = subst (λ (n : ℕ). IsAtRest (d.content (device_of new)) n rests.bodies) (sym file.1) (subst (λ (e : D). IsAtRest (d.content e) (gate_of old) rests.bodies) (sym file.0) rests.at_rest);
@@ -67,12 +68,12 @@ module _ {D A : Type 0} {d : devices.Ghosts D} where
   }
 
   -- and what was in the file is in it
-  pub in_file_still : (old new : Index D A d) (x y : calls.Index) → KeepsMaking old new → KeepsFile old new → y.status ≡ x.status → IsInFile old x → IsInFile new y
+  pub in_file_still : (old new : Index D A d an) (x y : calls.Index) → KeepsMaking old new → KeepsFile old new → y.status ≡ x.status → IsInFile old x → IsInFile new y
   in_file_still old new x y made file status is honest ready =
       rests_still old new made file (is (subst (λ (e : D). IsTrue (d.honest e)) file.0 honest) (sym status ∙ ready))
 
   -- after a merge or a commit the file has what is committed then
-  pub written_in_file : {Z : Type 0} (analyze : A → Analyzer) (old new : Index D A d) (r : requests.Request) (call : calls.Call) (change : Result ⊤ Fault) (result : Result Z Fault) (c : calls.Configuration) (x : calls.Index)
+  pub written_in_file : {Z : Type 0} (analyze : A → Analyzer) (old new : Index D A d an) (r : requests.Request) (call : calls.Call) (change : Result ⊤ Fault) (result : Result Z Fault) (c : calls.Configuration) (x : calls.Index)
       → steps.call_in c.schema r ≡ Ok call
       → (y : calls.Index) × calls.Leaves c x call change y × IndexStands analyze new c y
       → IfErr change (λ fault. stops fault ≡ false → calls.call_fault c x call ≡ Some fault)

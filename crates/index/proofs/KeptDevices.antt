@@ -3,6 +3,7 @@ use Rattle.std.proofs.Common.{Err, IfErr, IfOk, IsTrue, List, None, Ok, OnOk, Op
 use Rattle.std.specs.Bool.{⊤}
 use Rattle.std.specs.Cow.{cow_str_bytes}
 use Rattle.std.specs.declared.borrow.CowStr.{CowStr}
+use Rattle.common.specs.declared.analyzer.Analyzer as analyzers
 use Rattle.common.specs.declared.device.Device as devices
 use Rattle.definitions.specs.Disk.{IsImage}
 use Rattle.definitions.specs.Requests.{Request}
@@ -26,7 +27,7 @@ unwritten_change asked (Ok u) (Ok text) P writes told on same kept unwritten = a
 unwritten_change asked (Err fault) (Ok text) P writes told on same kept unwritten = kept (going_on fault faults.Device on refl)
 
 -- the same of a commit or a merge
-pub unwritten_file : {D A Z : Type 0} {d : devices.Ghosts D} (old new : Index D A d) (asked : Option Request) (change : Result ⊤ Fault) (result : Result (CowStr Z) Fault) → may_write asked ≡ true → IfOk result (λ text. cow_str_bytes text ≡ change_text change) → OnOk result (GoesOn change)
+pub unwritten_file : {D A Z : Type 0} {d : devices.Ghosts D} {an : analyzers.Ghosts A} (old new : Index D A d an) (asked : Option Request) (change : Result ⊤ Fault) (result : Result (CowStr Z) Fault) → may_write asked ≡ true → IfOk result (λ text. cow_str_bytes text ≡ change_text change) → OnOk result (GoesOn change)
     → IfErr result (λ e. change ≡ Err e) → IfErr change (λ fault. fault ≢ faults.Device → KeepsFile old new) → IsUnwritten asked result → KeepsFile old new
 unwritten_file old new asked change result writes told on same kept unwritten = unwritten_change asked change result (KeepsFile old new) writes told on same kept unwritten
 
@@ -34,13 +35,13 @@ unwritten_file old new asked change result writes told on same kept unwritten = 
 still : {D : Type 0} (d : devices.Ghosts D) → ((device : D) (image : List ℕ) → IsTrue (d.honest device) → d.left_since device (d.moment device) image → IsImage (d.content device) (d.unsynced device) image) → (device : D) → IsTrue (d.honest device) → IsKept d.moment d.left_since d.content d.unsynced device device
 still d only_now device honest = same_device d.moment d.left_since d.content d.unsynced device (λ image left. only_now device image honest left)
 
-module _ {D A : Type 0} {d : devices.Ghosts D} (only_now : (device : D) (image : List ℕ) → IsTrue (d.honest device) → d.left_since device (d.moment device) image → IsImage (d.content device) (d.unsynced device) image) where
-  pub same_kept : (o : Option (Stage D A d)) → IsTrue (honest_on o) → KeepsDevice o o
+module _ {D A : Type 0} {d : devices.Ghosts D} {an : analyzers.Ghosts A} (only_now : (device : D) (image : List ℕ) → IsTrue (d.honest device) → d.left_since device (d.moment device) image → IsImage (d.content device) (d.unsynced device) image) where
+  pub same_kept : (o : Option (Stage D A d an)) → IsTrue (honest_on o) → KeepsDevice o o
   same_kept None honest = absurd (true≢false (sym honest))
   same_kept (Some stage) honest = still d only_now (device_on stage) honest
 
   -- the index has its device
-  pub index_kept : (old new : Index D A d) (before after : Option (Stage D A d)) → before ≡ Some (Standing old) → after ≡ Some (Standing new) → device_of new ≡ device_of old → IsTrue (honest_on before) → KeepsDevice before after
+  pub index_kept : (old new : Index D A d an) (before after : Option (Stage D A d an)) → before ≡ Some (Standing old) → after ≡ Some (Standing new) → device_of new ≡ device_of old → IsTrue (honest_on before) → KeepsDevice before after
   index_kept old new before after was is same honest =
       subst (λ o. KeepsDevice o after) (sym was) (subst (λ o. KeepsDevice (Some (Standing old)) o) (sym is)
       (subst (λ e. IsKept d.moment d.left_since d.content d.unsynced (device_of old) e) (sym same) (still d only_now (device_of old) (subst (λ o. IsTrue (honest_on o)) was honest))))

@@ -80,7 +80,7 @@ damaged_no_limit gate is = true≢false (sym (ap stops is))
 not_ready : calls.writer_closed ≡ calls.ready → ⊥
 not_ready e = cc
 
-module _ {D A : Type 0} {d : devices.Ghosts D} (analyze : A → Analyzer) (new : Index D A d) (c : calls.Configuration) (x : calls.Index) where
+module _ {D A : Type 0} {d : devices.Ghosts D} {an : analyzers.Ghosts A} (analyze : A → Analyzer) (new : Index D A d an) (c : calls.Configuration) (x : calls.Index) where
   -- what a call leaves that met an error other than `Device`
   stopped : (Closed : Type 0) (r : requests.Request) (call : calls.Call) (fault : Fault) (y : calls.Index) → ((f : Fault) → (f ≢ faults.Limit) ⊎ ((calls.is_add call || calls.is_merge call) ≡ true) → MayStay (Some r) f)
       → (calls.call_fault c x call ≡ None → (calls.is_add call || calls.is_commit call) ≡ true → IndexStands analyze new c (closed_writer x) → Closed)
@@ -99,7 +99,7 @@ module _ {D A : Type 0} {d : devices.Ghosts D} (analyze : A → Analyzer) (new :
   stops_only Closed r call (Err fault) stays closes (y, left, stands) = stopped Closed r call fault y stays closes left stands
 
   -- the same of the reply to the call, where the file was kept
-  pub reply_stops : {Z : Type 0} (old : Index D A d) (r : requests.Request) (call : calls.Call) (change : Result ⊤ Fault) (result : Result Z Fault)
+  pub reply_stops : {Z : Type 0} (old : Index D A d an) (r : requests.Request) (call : calls.Call) (change : Result ⊤ Fault) (result : Result Z Fault)
       → ((f : Fault) → (f ≢ faults.Limit) ⊎ ((calls.is_add call || calls.is_merge call) ≡ true) → MayStay (Some r) f)
       → (calls.call_fault c x call ≡ None → (calls.is_add call || calls.is_commit call) ≡ true → IndexStands analyze new c (closed_writer x) → OnErr change (MayClose c (settings_of old) x (Some r)))
       → IfErr result (λ e. change ≡ Err e) → (y : calls.Index) × calls.Leaves c x call change y × IndexStands analyze new c y
@@ -110,7 +110,7 @@ module _ {D A : Type 0} {d : devices.Ghosts D} (analyze : A → Analyzer) (new :
       (stops_only (MayClose c (settings_of old) x (Some r)) r call change stays closes left))
 
   -- after an add of a document whose slot is too long the writer isn't closed
-  pub add_closes : (old : Index D A d) (value : json.Data) (change : Result ⊤ Fault) → IndexStands analyze old c x
+  pub add_closes : (old : Index D A d an) (value : json.Data) (change : Result ⊤ Fault) → IndexStands analyze old c x
       → ((doc : Document) → read_data c.schema value ≡ Ok doc → engine.HasLongSlot old doc → OnErr change (IndexStands analyze new c x))
       → calls.call_fault c x (calls.add_value value) ≡ None → IndexStands analyze new c (closed_writer x) → OnErr change (MayClose c (settings_of old) x (Some (requests.add_doc value)))
   add_closes old value (Ok u) was long accepted closed = tt
@@ -124,9 +124,9 @@ module _ {D A : Type 0} {d : devices.Ghosts D} (analyze : A → Analyzer) (new :
 
 -- ---- a session
 
-module _ {D A : Type 0} {d : devices.Ghosts D} {a : analyzers.Ghosts A} where
+module _ {D A : Type 0} {d : devices.Ghosts D} {an : analyzers.Ghosts A} where
   -- over an honest device a session stands for what its index does
-  pub index_left : (s : steps.Session) (after : Session D A d a) (old new : Index D A d) (fields : Schema) (numbers : Settings) (x : calls.Index) (r : requests.Request) (fault : Fault)
+  pub index_left : (s : steps.Session) (after : Session D A d a) (old new : Index D A d an) (fields : Schema) (numbers : Settings) (x : calls.Index) (r : requests.Request) (fault : Fault)
       → s.stage ≡ steps.index_of fields numbers x → after.stage ≡ Some (Standing new) → IsIndex a.knows_name a.analyze s.analysis old fields numbers x → KeepsMaking old new → IsTrue (d.honest (device_of old))
       → OnlyStops a.analyze old new (steps.configuration_of fields s.analysis.analyze numbers) x r fault → (t : steps.Session) × IsLeft s (Some r) fault t × StandsFor after t
   index_left s after old new fields numbers x r fault same is index made honest left = elim left.stands [

@@ -125,7 +125,7 @@ on_three : {T E : Type 0} (r : Result T E) (P Q R S : Type 0) → OnOk r P → O
 on_three (Ok t) P Q R S p q s f = f p q s
 on_three (Err e) P Q R S p q s f = tt
 
-module _ {D A Z : Type 0} {d : devices.Ghosts D} {a : analyzers.Ghosts A} where
+module _ {D A Z : Type 0} {d : devices.Ghosts D} {an : analyzers.Ghosts A} where
   -- the reply to a change
   pub replied : (s : steps.Session) (old new : Session D A d a) (change : Result ⊤ Fault) (result : Result (CowStr Z) Fault) (p : json.Data × steps.Stage) (r : requests.Request) → steps.is_ready s.stage ≡ false → steps.stage_step s.analysis s.stage r ≡ p → LeavesStage a.knows_name a.analyze s.analysis (steps.held_by s.stage) new.stage change p → IfOk result (λ text. cow_str_bytes text ≡ change_text change) → OnOk result (GoesOn change)
       → IfErr result (λ e. change ≡ Err e) → honest_of new ≡ honest_of old → HasCause (failures_of old) (failures_of new) change → ¬ IsErrOf change faults.Limit → MayDrop (Some r) → Replies old new s (Some r) result
@@ -204,7 +204,7 @@ module _ {D A Z : Type 0} {d : devices.Ghosts D} {a : analyzers.Ghosts A} where
   }
 
   -- what is asked of the index that stands
-  pub index_reply : (s : steps.Session) (before after : Session D A d a) (old new : Index D A d) (r : IndexRequest) (result : Result (CowStr Z) Fault) → before.stage ≡ Some (Standing old) → after.stage ≡ Some (Standing new) → StandsFor before s
+  pub index_reply : (s : steps.Session) (before after : Session D A d a) (old new : Index D A d an) (r : IndexRequest) (result : Result (CowStr Z) Fault) → before.stage ≡ Some (Standing old) → after.stage ≡ Some (Standing new) → StandsFor before s
       → ((c : calls.Configuration) (x : calls.Index) → IndexStands a.analyze old c x → Answers a.analyze new c x (index_request_of r) result)
       → KeepsMaking old new
       → ((c : calls.Configuration) (x : calls.Index) → IndexStands a.analyze old c x → OnOk result ((x.status ≡ calls.ready) ⊎ KeepsFile old new))

@@ -1,5 +1,6 @@
 -- What stands after an index was made or opened.
 use Rattle.std.proofs.Common.{[], Bool, Err, IfErr, IfOk, IsTrue, List, None, Ok, OnOk, Option, Result, Some, ap, ap₂, arith, cond, false, inl, inr, refl, subst, sym, true, true≢false, ◌∙◌, ◌∷◌, ◌≡◌, ◌≢◌, ◌⊎◌, ℕ}
+use Rattle.common.specs.declared.analyzer.Analyzer as analyzers
 use Rattle.common.specs.declared.device.Device as devices
 use Rattle.definitions.specs.Analyzers.{Analyzer}
 use Rattle.definitions.specs.Calls as calls
@@ -83,7 +84,7 @@ refused_text fault s p is = error_text fault ∙ ap (λ q. reply_of q.0) (sym is
 
 module _ {D A : Type 0} (d : devices.Ghosts D) (knows : A → List ℕ → Bool) (analyze : A → Analyzer) where
   -- what is told, and what stands
-  abbrev IsTold : steps.Analysis → Option (Stage D A d) → Result ⊤ Fault → json.Data × steps.Stage → Type 0
+  abbrev IsTold : steps.Analysis → Option (Stage D A d an) → Result ⊤ Fault → json.Data × steps.Stage → Type 0
   IsTold a stage change p = (change_text change ≡ reply_of p.0) × HasStage knows analyze a stage p.1
 
   -- what stands after a refusal
@@ -91,14 +92,14 @@ module _ {D A : Type 0} (d : devices.Ghosts D) (knows : A → List ℕ → Bool)
   refused_stage a device analyzer fault held p is spare = (refused_text fault (steps.no_index held) p is, subst (λ (q : json.Data × steps.Stage). HasStage {d = d} knows analyze a (Some (Spare device analyzer)) q.1) (sym is) spare)
 
   -- and after an answer
-  answered_stage : (a : steps.Analysis) (held : steps.Held) (index : Index D A d) (s : Schema) (u : Settings) (x : calls.Index) (p : json.Data × steps.Stage) → p ≡ (ok_reply, steps.index_of s u x) → IsIndex knows analyze a index s u x → LeavesStage knows analyze a held (Some (Standing index)) (Ok tt) p
+  answered_stage : (a : steps.Analysis) (held : steps.Held) (index : Index D A d an) (s : Schema) (u : Settings) (x : calls.Index) (p : json.Data × steps.Stage) → p ≡ (ok_reply, steps.index_of s u x) → IsIndex knows analyze a index s u x → LeavesStage knows analyze a held (Some (Standing index)) (Ok tt) p
   answered_stage a held index s u x p is stands = record {
     told = λ on. (sym ok_text ∙ ap (λ q. reply_of q.0) (sym is), subst (λ (q : json.Data × steps.Stage). HasStage knows analyze a (Some (Standing index)) q.1) (sym is) stands);
     spare = tt;
   }
 
   -- an index was made
-  pub made_stage : (a : steps.Analysis) (device : D) (analyzer : A) (held : steps.Held) (s : Schema) (u : Settings) (index : Index D A d) → IsSpare d.honest d.content knows analyze a device analyzer held
+  pub made_stage : (a : steps.Analysis) (device : D) (analyzer : A) (held : steps.Held) (s : Schema) (u : Settings) (index : Index D A d an) → IsSpare d.honest d.content knows analyze a device analyzer held
       → making_fault (knows analyzer) s u ≡ None → (IsTrue (d.honest device) → d.content device ≡ []) → IndexStands analyze index (steps.configuration_of s (analyze analyzer) u) steps.fresh_index
       → (schema_of index ≡ s) × (settings_of index ≡ u) → analyzer_of index ≡ analyzer → (IsTrue (d.honest device) → IndexRests index)
       → LeavesStage knows analyze a held (Some (Standing index)) (Ok tt) (steps.created a.knows s u held)
@@ -153,7 +154,7 @@ module _ {D A : Type 0} (d : devices.Ghosts D) (knows : A → List ℕ → Bool)
       step on h has (inr (inr (none, inr is))) = not_empty h has (from_analysis None none) is
 
   -- an index was opened
-  pub opened_stage : (a : steps.Analysis) (device : D) (analyzer : A) (held : steps.Held) (index : Index D A d) → IsSpare d.honest d.content knows analyze a device analyzer held
+  pub opened_stage : (a : steps.Analysis) (device : D) (analyzer : A) (held : steps.Held) (index : Index D A d an) → IsSpare d.honest d.content knows analyze a device analyzer held
       → IsOpened analyze (analyze analyzer) device index → are_analyzed (knows analyzer) (schema_of index) ≡ true → analyzer_of index ≡ analyzer
       → LeavesStage knows analyze a held (Some (Standing index)) (Ok tt) (steps.opened a.knows held)
   opened_stage a device analyzer steps.no_file index spare opened known by = let file = opened.file spare.1.0 in absurd (no_bytes file.0 (d.content device) file.1 spare.1.1)
@@ -214,7 +215,7 @@ module _ {D A : Type 0} (d : devices.Ghosts D) (knows : A → List ℕ → Bool)
       step on (steps.other_bytes bytes fault) has (inr (inr (inr (is, (t, v, f, file, lacks))))) = absurd (file_unrefused t v f bytes fault (subst (LeavesMembers t v f) has.1 file) has.3)
 
   -- what a call that makes an index leaves
-  pub create_left : (a : steps.Analysis) (device : D) (analyzer : A) (held : steps.Held) (s : Schema) (u : Settings) (outcome : Result (Index D A d) (Refused D A)) → IsSpare d.honest d.content knows analyze a device analyzer held
+  pub create_left : (a : steps.Analysis) (device : D) (analyzer : A) (held : steps.Held) (s : Schema) (u : Settings) (outcome : Result (Index D A d an) (Refused D A)) → IsSpare d.honest d.content knows analyze a device analyzer held
       → OnOk outcome (making_fault (knows analyzer) s u ≡ None) → (IsTrue (d.honest device) → OnOk outcome (d.content device ≡ []))
       → IfOk outcome (λ index. IndexStands analyze index (steps.configuration_of s (analyze analyzer) u) steps.fresh_index)
       → IfOk outcome (λ index. (schema_of index ≡ s) × (settings_of index ≡ u) × (members_of index ≡ []))
@@ -228,7 +229,7 @@ module _ {D A : Type 0} (d : devices.Ghosts D) (knows : A → List ℕ → Bool)
   create_left a device analyzer held s u (Err r) spare none empty stands of exact by honest full kept rests = unmade_stage a device analyzer held s u r spare exact by honest full kept
 
   -- what a call that opens an index leaves
-  pub open_left : (a : steps.Analysis) (device : D) (analyzer : A) (held : steps.Held) (outcome : Result (Index D A d) (Refused D A)) → IsSpare d.honest d.content knows analyze a device analyzer held
+  pub open_left : (a : steps.Analysis) (device : D) (analyzer : A) (held : steps.Held) (outcome : Result (Index D A d an) (Refused D A)) → IsSpare d.honest d.content knows analyze a device analyzer held
       → IfOk outcome (IsOpened analyze (analyze analyzer) device)
       → IfOk outcome (λ index. are_analyzed (knows analyzer) (schema_of index) ≡ true)
       → (IsTrue (d.honest device) → IfErr outcome (λ r. (r.fault ≡ faults.Device) ⊎ (r.fault ≡ faults.OutOfMemory) ⊎ IsOpenRefusal (knows analyzer) (d.content device) r.fault))
@@ -241,7 +242,7 @@ module _ {D A : Type 0} (d : devices.Ghosts D) (knows : A → List ℕ → Bool)
   -- ---- the device
 
   -- what an honest device of an index holds
-  pub index_held : (a : steps.Analysis) (index : Index D A d) (s : Schema) (u : Settings) (x : calls.Index) → IsIndex knows analyze a index s u x → IsTrue (d.honest (device_of index)) → HasHeld d.honest d.content a.analyze (device_of index) (steps.file_of s u x.state.groups)
+  pub index_held : (a : steps.Analysis) (index : Index D A d an) (s : Schema) (u : Settings) (x : calls.Index) → IsIndex knows analyze a index s u x → IsTrue (d.honest (device_of index)) → HasHeld d.honest d.content a.analyze (device_of index) (steps.file_of s u x.state.groups)
   index_held a index s u x h honest = elim h.known [
     | inl ready ↦
         let rests = h.rests honest ready in
@@ -254,7 +255,7 @@ module _ {D A : Type 0} (d : devices.Ghosts D) (knows : A → List ℕ → Bool)
   ]
 
   -- and what stands without it
-  pub standing_spare : (a : steps.Analysis) (index : Index D A d) (device : D) (analyzer : A) (s : steps.Stage) → device ≡ device_of index → analyzer ≡ analyzer_of index → IsStage knows analyze a (Standing index) s → IsTrue (d.honest device) → IsSpare d.honest d.content knows analyze a device analyzer (steps.held_by s)
+  pub standing_spare : (a : steps.Analysis) (index : Index D A d an) (device : D) (analyzer : A) (s : steps.Stage) → device ≡ device_of index → analyzer ≡ analyzer_of index → IsStage knows analyze a (Standing index) s → IsTrue (d.honest device) → IsSpare d.honest d.content knows analyze a device analyzer (steps.held_by s)
   standing_spare a index device analyzer (steps.no_index held) same by h honest = absurd h
   standing_spare a index device analyzer (steps.index_of s u x) same by h honest = (
     h.analysis ∙ ap (analysis_of knows analyze) (sym by),
@@ -262,22 +263,22 @@ module _ {D A : Type 0} (d : devices.Ghosts D) (knows : A → List ℕ → Bool)
   )
 
 -- the device after an index was to be made or opened
-stage_device : {D A : Type 0} {d : devices.Ghosts D} (outcome : Result (Index D A d) (Refused D A)) → device_on (stage_after outcome) ≡ device_after outcome
+stage_device : {D A : Type 0} {d : devices.Ghosts D} {an : analyzers.Ghosts A} (outcome : Result (Index D A d an) (Refused D A)) → device_on (stage_after outcome) ≡ device_after outcome
 stage_device (Ok index) = refl
 stage_device (Err r) = refl
 
 -- its failures have their cause
-pub stage_failures : {D A : Type 0} {d : devices.Ghosts D} (old device : D) (outcome : Result (Index D A d) (Refused D A)) → device ≡ old → HasCause (d.failed device) (d.failed (device_after outcome)) (ending_of outcome) → HasCause (d.failed old) (d.failed (device_on (stage_after outcome))) (ending_of outcome)
+pub stage_failures : {D A : Type 0} {d : devices.Ghosts D} {an : analyzers.Ghosts A} (old device : D) (outcome : Result (Index D A d an) (Refused D A)) → device ≡ old → HasCause (d.failed device) (d.failed (device_after outcome)) (ending_of outcome) → HasCause (d.failed old) (d.failed (device_on (stage_after outcome))) (ending_of outcome)
 stage_failures {d = d} old device outcome same cause =
     subst (λ e. HasCause (d.failed old) (d.failed e) (ending_of outcome)) (sym (stage_device outcome))
     (subst (λ e. HasCause (d.failed e) (d.failed (device_after outcome)) (ending_of outcome)) same cause)
 
 -- it is as honest as it was
-pub stage_honest : {D A : Type 0} {d : devices.Ghosts D} (old device : D) (outcome : Result (Index D A d) (Refused D A)) → device ≡ old → d.honest (device_after outcome) ≡ d.honest device → d.honest (device_on (stage_after outcome)) ≡ d.honest old
+pub stage_honest : {D A : Type 0} {d : devices.Ghosts D} {an : analyzers.Ghosts A} (old device : D) (outcome : Result (Index D A d an) (Refused D A)) → device ≡ old → d.honest (device_after outcome) ≡ d.honest device → d.honest (device_on (stage_after outcome)) ≡ d.honest old
 stage_honest {d = d} old device outcome same honest = ap d.honest (stage_device outcome) ∙ honest ∙ ap d.honest same
 
 -- and as it was after an error that isn't `Device`
-pub stage_kept : {D A : Type 0} {d : devices.Ghosts D} (old device : D) (outcome : Result (Index D A d) (Refused D A)) → device ≡ old
+pub stage_kept : {D A : Type 0} {d : devices.Ghosts D} {an : analyzers.Ghosts A} (old device : D) (outcome : Result (Index D A d an) (Refused D A)) → device ≡ old
     → (IsTrue (d.honest device) → IfErr outcome (λ r. r.fault ≢ faults.Device → IsKept d.moment d.left_since d.content d.unsynced device r.device)) → IsTrue (d.honest old)
     → IfErr (ending_of outcome) (λ fault. fault ≢ faults.Device → IsKept d.moment d.left_since d.content d.unsynced old (device_on (stage_after outcome)))
 stage_kept old device (Ok index) same kept honest = tt
@@ -285,7 +286,7 @@ stage_kept {d = d} old device (Err r) same kept honest =
     subst (λ e. r.fault ≢ faults.Device → IsKept d.moment d.left_since d.content d.unsynced e r.device) same (kept (subst (λ e. IsTrue (d.honest e)) (sym same) honest))
 
 -- device and analyzer are handed back
-pub handed_back : {D A : Type 0} {d : devices.Ghosts D} (o : Option (Stage D A d)) (stage : Stage D A d) (parts : D × A) → o ≡ Some stage → parts.0 ≡ device_on stage → parts.1 ≡ analyzer_on stage → parts_on o ≡ Some parts
+pub handed_back : {D A : Type 0} {d : devices.Ghosts D} {an : analyzers.Ghosts A} (o : Option (Stage D A d an)) (stage : Stage D A d an) (parts : D × A) → o ≡ Some stage → parts.0 ≡ device_on stage → parts.1 ≡ analyzer_on stage → parts_on o ≡ Some parts
 handed_back o stage parts is device analyzer = ap parts_on is ∙ ap₂ (λ x y. Some (x, y)) (sym device) (sym analyzer)
 
 no_answer : (fault : Fault) → IsErrOf {T = ⊤} (Ok tt) fault → ⊥
@@ -295,7 +296,7 @@ no_limit : (fault other : Fault) → is_limit other ≡ false → fault ≡ othe
 no_limit fault other is same limit = true≢false (sym (ap is_limit (ap error_in limit)) ∙ ap is_limit same ∙ is)
 
 -- an index is made or not, and no limit is met
-pub made_no_limit : {D A : Type 0} {d : devices.Ghosts D} (knows : List ℕ → Bool) (s : Schema) (u : Settings) (outcome : Result (Index D A d) (Refused D A))
+pub made_no_limit : {D A : Type 0} {d : devices.Ghosts D} {an : analyzers.Ghosts A} (knows : List ℕ → Bool) (s : Schema) (u : Settings) (outcome : Result (Index D A d an) (Refused D A))
     → IfErr outcome (λ r. (r.fault ≡ faults.OutOfMemory) ⊎ (making_fault knows s u ≡ Some r.fault) ⊎ ((making_fault knows s u ≡ None) × IsCreateRefusal r.fault))
     → ¬ IsErrOf (ending_of outcome) faults.Limit
 made_no_limit knows s u (Ok index) exact limit = no_answer faults.Limit limit
@@ -307,7 +308,7 @@ made_no_limit knows s u (Err r) exact limit = elim exact [
 ]
 
 -- nor where one is opened
-pub opened_no_limit : {D A : Type 0} {d : devices.Ghosts D} (knows : List ℕ → Bool) (bytes : List ℕ) (outcome : Result (Index D A d) (Refused D A))
+pub opened_no_limit : {D A : Type 0} {d : devices.Ghosts D} {an : analyzers.Ghosts A} (knows : List ℕ → Bool) (bytes : List ℕ) (outcome : Result (Index D A d an) (Refused D A))
     → IfErr outcome (λ r. (r.fault ≡ faults.Device) ⊎ (r.fault ≡ faults.OutOfMemory) ⊎ IsOpenRefusal knows bytes r.fault)
     → ¬ IsErrOf (ending_of outcome) faults.Limit
 opened_no_limit knows bytes (Ok index) refused limit = no_answer faults.Limit limit

@@ -64,9 +64,9 @@ abbrev pub IsSpare :
 IsSpare honest content knows analyze a device analyzer held =
     (a ≡ analysis_of knows analyze analyzer) × HasHeld honest content a.analyze device held
 
-module _ {D A : Type 0} {d : devices.Ghosts D} (knows : A → List ℕ → Bool) (analyze : A → Analyzer) where
+module _ {D A : Type 0} {d : devices.Ghosts D} {an : analyzers.Ghosts A} (knows : A → List ℕ → Bool) (analyze : A → Analyzer) where
   -- the index is made of these, stands for this one, and has in its file what is committed
-  pub record IsIndex (a : steps.Analysis) (index : Index D A d) (schema : Schema) (settings : Settings) (x : calls.Index)
+  pub record IsIndex (a : steps.Analysis) (index : Index D A d an) (schema : Schema) (settings : Settings) (x : calls.Index)
       : Type 0 where
     pub analysis : a ≡ analysis_of knows analyze (analyzer_of index)
     pub fields : schema_of index ≡ schema
@@ -76,7 +76,7 @@ module _ {D A : Type 0} {d : devices.Ghosts D} (knows : A → List ℕ → Bool)
     pub known : IsKnown d.honest d.content a.analyze (device_of index) schema settings x
 
   -- what stands on a device stands for this
-  abbrev pub IsStage : steps.Analysis → Stage D A d → steps.Stage → Type 0
+  abbrev pub IsStage : steps.Analysis → Stage D A d an → steps.Stage → Type 0
   IsStage a (Spare device analyzer) (steps.no_index held) =
       IsSpare d.honest d.content knows analyze a device analyzer held
   IsStage a (Spare device analyzer) (steps.index_of schema settings x) = ⊥
@@ -84,60 +84,60 @@ module _ {D A : Type 0} {d : devices.Ghosts D} (knows : A → List ℕ → Bool)
   IsStage a (Standing index) (steps.index_of schema settings x) = IsIndex a index schema settings x
 
   -- the same where something stands
-  abbrev pub HasStage : steps.Analysis → Option (Stage D A d) → steps.Stage → Type 0
+  abbrev pub HasStage : steps.Analysis → Option (Stage D A d an) → steps.Stage → Type 0
   HasStage a None s = ⊥
   HasStage a (Some stage) s = IsStage a stage s
 
   -- over a device that held this an index was to be made or opened: unless that met a fault that stops, it is told by
   -- this reply, and this is what stands; after any error but `Device` no index stands, and the device holds what it held
-  pub record LeavesStage (a : steps.Analysis) (held : steps.Held) (stage : Option (Stage D A d)) (change : Result ⊤ Fault)
+  pub record LeavesStage (a : steps.Analysis) (held : steps.Held) (stage : Option (Stage D A d an)) (change : Result ⊤ Fault)
       (p : json.Data × steps.Stage) : Type 0 where
     pub told : GoesOn change → (change_text change ≡ reply_of p.0) × HasStage a stage p.1
     pub spare : IfErr change (λ fault. fault ≢ faults.Device → HasStage a stage (steps.no_index held))
 
-module _ {D A : Type 0} {d : devices.Ghosts D} where
+module _ {D A : Type 0} {d : devices.Ghosts D} {an : analyzers.Ghosts A} where
   -- the device of what stands
-  abbrev pub device_on : Stage D A d → D
+  abbrev pub device_on : Stage D A d an → D
   device_on (Spare device analyzer) = device
   device_on (Standing index) = device_of index
 
   -- how often it failed
-  abbrev pub failures_on : Option (Stage D A d) → ℕ
+  abbrev pub failures_on : Option (Stage D A d an) → ℕ
   failures_on None = 0
   failures_on (Some stage) = d.failed (device_on stage)
 
   -- whether it is honest
-  abbrev pub honest_on : Option (Stage D A d) → Bool
+  abbrev pub honest_on : Option (Stage D A d an) → Bool
   honest_on None = false
   honest_on (Some stage) = d.honest (device_on stage)
 
   -- the device of what stands is as it was: so are its bytes, and what a crash may leave of them
-  abbrev pub KeepsDevice : Option (Stage D A d) → Option (Stage D A d) → Type 0
+  abbrev pub KeepsDevice : Option (Stage D A d an) → Option (Stage D A d an) → Type 0
   KeepsDevice (Some old) (Some new) = IsKept d.moment d.left_since d.content d.unsynced (device_on old) (device_on new)
   KeepsDevice _ _ = ⊥
 
   -- the analyzer of what stands
-  abbrev pub analyzer_on : Stage D A d → A
+  abbrev pub analyzer_on : Stage D A d an → A
   analyzer_on (Spare device analyzer) = analyzer
   analyzer_on (Standing index) = analyzer_of index
 
   -- device and analyzer
-  abbrev pub parts_on : Option (Stage D A d) → Option (D × A)
+  abbrev pub parts_on : Option (Stage D A d an) → Option (D × A)
   parts_on stage = option_map (λ s. (device_on s, analyzer_on s)) stage
 
   -- an add, a merge or a commit of the index that stands meets a limit
-  abbrev pub MeetsLimit : (A → Analyzer) → steps.Analysis → Option (Stage D A d) → steps.Stage → Option requests.Request → Type 0
+  abbrev pub MeetsLimit : (A → Analyzer) → steps.Analysis → Option (Stage D A d an) → steps.Stage → Option requests.Request → Type 0
   MeetsLimit analyze a (Some (Standing index)) (steps.index_of schema settings x) asked =
       IndexMeets analyze index (steps.configuration_of schema a.analyze settings) x asked
   MeetsLimit analyze a _ _ _ = ⊥
 
   -- what stands after an index was to be made or opened
-  abbrev pub stage_after : Result (Index D A d) (Refused D A) → Stage D A d
+  abbrev pub stage_after : Result (Index D A d an) (Refused D A) → Stage D A d an
   stage_after (Ok index) = Standing index
   stage_after (Err refused) = Spare refused.device refused.analyzer
 
   -- and whether it was
-  abbrev pub left_by : Result (Index D A d) (Refused D A) → Stage D A d × Result ⊤ Fault
+  abbrev pub left_by : Result (Index D A d an) (Refused D A) → Stage D A d an × Result ⊤ Fault
   left_by outcome = (stage_after outcome, ending_of outcome)
 
 -- the session has the analyzer, and what it has stands for this
@@ -189,11 +189,16 @@ ClosesWriter analyze asked (steps.index_of schema settings x) new =
     MayClose (steps.configuration_of schema analyze settings) settings x asked
     × (new ≡ steps.index_of schema settings (closed_writer x))
 
+-- what was asked leaves all that stood
+abbrev pub MayStayAt : steps.Stage → Option requests.Request → Fault → Type 0
+MayStayAt (steps.no_index held) asked fault = ⊤
+MayStayAt (steps.index_of schema settings x) asked fault = MayStay schema settings asked fault
+
 -- what want of memory or a limit leaves of what stood, by what was asked: all of it, an index with its writer closed, or,
 -- where none was ready, no index over the same file
 abbrev pub IsLeftStage : Analyzer → Option requests.Request → Fault → steps.Stage → steps.Stage → Type 0
 IsLeftStage analyze asked fault old new =
-    (MayStay asked fault × (new ≡ old)) ⊎ ClosesWriter analyze asked old new
+    (MayStayAt old asked fault × (new ≡ old)) ⊎ ClosesWriter analyze asked old new
     ⊎ (MayDrop asked × (steps.is_ready old ≡ false) × (new ≡ steps.no_index (steps.held_by old)))
 
 -- and of a session

@@ -3,6 +3,7 @@ use Rattle.std.proofs.Common.{[], ◌++◌, ◌<◌, ◌∙◌, ◌∷◌, ◌�
 use Rattle.std.proofs.lemmas.List.{drop-append-le, drop_all}
 use Rattle.std.specs.List.{AllByRecursion, AllZip}
 use Rattle.std.specs.Result.{IsErrAnd}
+use Rattle.common.specs.declared.analyzer.Analyzer as analyzers
 use Rattle.definitions.specs.Alive.{live_groups}
 use Rattle.definitions.specs.Analyzers.{Analyzer}
 use Rattle.definitions.specs.Calls as calls
@@ -42,7 +43,7 @@ terms_of n [] = refl
 terms_of n (d ∷ dels) = ap (λ ts. d.term ∷ ts) (terms_of n dels)
 
 -- with these sets all segments are those of the state after the commit
-pub prepared_stands : {A : Type 0} (analyze : A → Analyzer) (old new : IndexState A) (alike : IsMadeAlike old new) (c : calls.Configuration) (x : calls.Index) (s : Stands analyze old c x) (sets : List (List Bool))
+pub prepared_stands : {A : Type 0} {a : analyzers.Ghosts A} (analyze : A → Analyzer) (old new : IndexState A a) (alike : IsMadeAlike old new) (c : calls.Configuration) (x : calls.Index) (s : Stands analyze old c x) (sets : List (List Bool))
     → x.status ≡ calls.ready → length old.alive.items ≤ length s.docs
     → AllZip (StandsFor old.schema (analyze old.analyzer)) (s.docs ++ states.as_group old.open) new.segments.items → new.open ≡ [] → length sets ≡ length (s.docs ++ states.as_group old.open)
     → flagged_each (s.docs ++ states.as_group old.open) sets
@@ -66,7 +67,7 @@ prepared_stands analyze old new alike c x s sets ready few segments opened each 
     }
 
 -- what was prepared is committed
-pub installed_stands : {A : Type 0} (analyze : A → Analyzer) (old new : IndexState A) (alike : IsMadeAlike old new) (c : calls.Configuration) (x : calls.Index) (sets : List (List Bool)) (p : IsPrepared analyze old sets c x)
+pub installed_stands : {A : Type 0} {a : analyzers.Ghosts A} (analyze : A → Analyzer) (old new : IndexState A a) (alike : IsMadeAlike old new) (c : calls.Configuration) (x : calls.Index) (sets : List (List Bool)) (p : IsPrepared analyze old sets c x)
     → new.segments.items ≡ old.segments.items → new.alive.items ≡ sets → new.open ≡ old.open → new.deletions.items ≡ [] → new.status ≡ status.Ready
     → Stands analyze new c (record { state = calls.after c x.state calls.commit_pending; status = calls.ready })
 installed_stands analyze old new alike c x sets p segments alive opened dels ready =
@@ -85,11 +86,11 @@ installed_stands analyze old new alike c x sets p segments alive opened dels rea
     }
 
 -- segments behind the committed ones change no group
-pub groups_more : {A : Type 0} (analyze : A → Analyzer) (old : IndexState A) (c : calls.Configuration) (x : calls.Index) (s : Stands analyze old c x) (more : List (List Document)) → length old.alive.items ≤ length s.docs → x.state.groups ≡ live_groups (flagged_each (s.docs ++ more) old.alive.items)
+pub groups_more : {A : Type 0} {a : analyzers.Ghosts A} (analyze : A → Analyzer) (old : IndexState A a) (c : calls.Configuration) (x : calls.Index) (s : Stands analyze old c x) (more : List (List Document)) → length old.alive.items ≤ length s.docs → x.state.groups ≡ live_groups (flagged_each (s.docs ++ more) old.alive.items)
 groups_more analyze old c x s more few = s.groups ∙ ap live_groups (sym (each_more s.docs more old.alive.items few))
 
 -- want of memory, or a limit, while a commit is prepared
-pub half_left : {A : Type 0} (analyze : A → Analyzer) (old new : IndexState A) (alike : IsMadeAlike old new) (c : calls.Configuration) (x : calls.Index) (s : Stands analyze old c x) (fault : Fault)
+pub half_left : {A : Type 0} {a : analyzers.Ghosts A} (analyze : A → Analyzer) (old new : IndexState A a) (alike : IsMadeAlike old new) (c : calls.Configuration) (x : calls.Index) (s : Stands analyze old c x) (fault : Fault)
     → (fault ≡ faults.OutOfMemory) ⊎ (fault ≡ faults.Limit) → calls.status_fault x.status false ≡ None → new.status ≡ status.WriterClosed → new.alive.items ≡ old.alive.items
     → (docs : List (List Document)) → AllZip (StandsFor old.schema (analyze old.analyzer)) docs new.segments.items → x.state.groups ≡ live_groups (flagged_each docs old.alive.items)
     → (call : calls.Call) → calls.call_fault c x call ≡ None → (calls.is_add call || calls.is_commit call) ≡ true
@@ -101,7 +102,7 @@ half_left analyze old new alike c x s fault want none closed alive docs segments
 )
 
 -- the rows after the commit, of segments, sets and deletions that are those of the index
-pub next_rows : {A : Type 0} (analyze : A → Analyzer) (old : IndexState A) (c : calls.Configuration) (x : calls.Index) (s : Stands analyze old c x) (segments : List code.Segment) (alive sets : List (List Bool)) (dels : List Deletion)
+pub next_rows : {A : Type 0} {a : analyzers.Ghosts A} (analyze : A → Analyzer) (old : IndexState A a) (c : calls.Configuration) (x : calls.Index) (s : Stands analyze old c x) (segments : List code.Segment) (alive sets : List (List Bool)) (dels : List Deletion)
     → x.status ≡ calls.ready → length old.alive.items ≤ length s.docs → alive ≡ old.alive.items → dels ≡ old.deletions.items
     → AllZip (StandsFor old.schema (analyze old.analyzer)) (s.docs ++ states.as_group old.open) segments
     → ((schema : Schema) (analyze : Analyzer) (n : ℕ) (docs : List (List Document)) → AllZip (StandsFor schema analyze) docs segments → AllByRecursion (λ ds. length ds ≤ n) (drop (length alive) docs) → AllByRecursion (IsSmall n) dels
@@ -124,7 +125,7 @@ next_rows analyze old c x s segments alive sets dels ready few same_alive same_d
     subst (λ ds. flagged_each docs sets ≡ map (left_rows has (map term_of ds)) (flagged_each docs old.alive.items) ++ pending_rows has (map (numbered n) ds) n 0 (drop (length old.alive.items) docs)) same_dels with_alive
 
 -- the same, where a commit is prepared
-pub prepare_left : {A T : Type 0} (analyze : A → Analyzer) (old new : IndexState A) (alike : IsMadeAlike old new) (c : calls.Configuration) (x : calls.Index) (s : Stands analyze old c x) (r : Result T Fault) (fault : Fault) → IsErrAnd r (λ e. e ≡ fault)
+pub prepare_left : {A T : Type 0} {a : analyzers.Ghosts A} (analyze : A → Analyzer) (old new : IndexState A a) (alike : IsMadeAlike old new) (c : calls.Configuration) (x : calls.Index) (s : Stands analyze old c x) (r : Result T Fault) (fault : Fault) → IsErrAnd r (λ e. e ≡ fault)
     → (fault ≡ faults.OutOfMemory) ⊎ (fault ≡ faults.Limit) → calls.status_fault x.status false ≡ None → new.status ≡ status.WriterClosed → new.alive.items ≡ old.alive.items
     → (docs : List (List Document)) → AllZip (StandsFor old.schema (analyze old.analyzer)) docs new.segments.items → x.state.groups ≡ live_groups (flagged_each docs old.alive.items)
     → IfErr r (λ f. (y : calls.Index) × calls.Leaves c x calls.commit_pending (Err f) y × Stands analyze new c y)
@@ -133,7 +134,7 @@ prepare_left analyze old new alike c x s r fault is want none closed alive docs 
     (half_left analyze old new alike c x s fault want none closed alive docs segments groups calls.commit_pending (commit_taken c x none) refl)
 
 -- a commit that its status refuses
-pub refused_left : {A T : Type 0} (analyze : A → Analyzer) (old : IndexState A) (c : calls.Configuration) (x : calls.Index) (s : Stands analyze old c x) (r : Result T Fault) (fault : Fault) → IsErrAnd r (λ e. e ≡ fault) → calls.status_fault x.status false ≡ Some fault
+pub refused_left : {A T : Type 0} {a : analyzers.Ghosts A} (analyze : A → Analyzer) (old : IndexState A a) (c : calls.Configuration) (x : calls.Index) (s : Stands analyze old c x) (r : Result T Fault) (fault : Fault) → IsErrAnd r (λ e. e ≡ fault) → calls.status_fault x.status false ≡ Some fault
     → IfErr r (λ f. (y : calls.Index) × calls.Leaves c x calls.commit_pending (Err f) y × Stands analyze old c y)
 refused_left analyze old c x s r fault is refuses =
     err_has r fault (λ f. (y : calls.Index) × calls.Leaves c x calls.commit_pending (Err f) y × Stands analyze old c y) is
@@ -151,7 +152,7 @@ commit_body schema analyze n pending frame segments others alive sets same k bef
     (body, is, subst (λ ms. Makes (IsSegment schema) ms (members segments sets) body) olds (commit_makes schema segments alive sets opened flagged few each small), subst (λ ms. IsCommitBody schema analyze n pending ms (members segments sets) body) olds says)
 
 -- what is there when nothing waits
-pub first_stands : {A : Type 0} (analyze : A → Analyzer) (index : IndexState A) (docs groups : List (List Document)) → index.status ≡ status.Ready → 0 < index.settings.docs_per_segment
+pub first_stands : {A : Type 0} {a : analyzers.Ghosts A} (analyze : A → Analyzer) (index : IndexState A a) (docs groups : List (List Document)) → index.status ≡ status.Ready → 0 < index.settings.docs_per_segment
     → AllZip (StandsFor index.schema (analyze index.analyzer)) docs index.segments.items → groups ≡ live_groups (flagged_each docs index.alive.items) → length index.alive.items ≡ length docs → index.open ≡ [] → index.deletions.items ≡ []
     → Stands analyze index (configuration_of index.schema (analyze index.analyzer) index.settings) (reopened groups)
 first_stands analyze index docs groups ready sized segments are each opened dels =

@@ -5,6 +5,7 @@ use Rattle.std.specs.Bool.{⊤}
 use Rattle.std.specs.Result.{result_err}
 use Rattle.std.proofs.lemmas.List.{drop-map, length-drop, length-map, length-replicate, length-take-le, take-map}
 use Rattle.std.specs.List.{AllByRecursion, AllZip, items_where_true, zip}
+use Rattle.common.specs.declared.analyzer.Analyzer as analyzers
 use Rattle.definitions.specs.Alive as alive
 use Rattle.definitions.specs.Alive.{live, live_groups}
 use Rattle.definitions.specs.Analyzers.{Analyzer}
@@ -207,7 +208,7 @@ are_opened schema [] sets o f = tt
 are_opened schema (t ∷ segments) [] o f = tt
 are_opened schema (t ∷ segments) (flags ∷ sets) o f = ((o.0, f.0), are_opened schema segments sets o.1 f.1)
 
-module _ {A : Type 0} (analyze : A → Analyzer) (old new : IndexState A) (alike : IsMadeAlike old new) (c : calls.Configuration) (x : calls.Index) (s : Stands analyze old c x) (p : PreparedMerge) (r : Replaces old p) where
+module _ {A : Type 0} {a : analyzers.Ghosts A} (analyze : A → Analyzer) (old new : IndexState A a) (alike : IsMadeAlike old new) (c : calls.Configuration) (x : calls.Index) (s : Stands analyze old c x) (p : PreparedMerge) (r : Replaces old p) where
   stands_replaced : MatchOption p.segment (joined_groups p.from p.to x.state.groups ≡ []) (StandsFor old.schema (analyze old.analyzer) (joined_groups p.from p.to x.state.groups))
       → new.segments.items ≡ replaced p.from p.to (new_in p) old.segments.items → new.alive.items ≡ p.alive.items → new.open ≡ old.open → new.deletions.items ≡ old.deletions.items → new.status ≡ old.status
       → Stands analyze new c (record { state = states.after_merge p.from p.to x.state; status = x.status })
@@ -291,7 +292,7 @@ new_groups schema analyze (Some s) (doc ∷ docs) stands =
     (record { docs = doc ∷ docs; segment = stands.bytes_are; flagged = length-replicate (num_docs_of s) true ∙ sym count; living = alive_where (doc ∷ docs) (num_docs_of s) (sym count) }, tt)
 
 -- the members after a merge are of the groups after it
-pub merged_in_groups : {A : Type 0} (analyze : A → Analyzer) (index : IndexState A) (from to : ℕ) (groups : List (List Document)) (p : PreparedMerge) → Joins analyze index from to groups p
+pub merged_in_groups : {A : Type 0} {a : analyzers.Ghosts A} (analyze : A → Analyzer) (index : IndexState A a) (from to : ℕ) (groups : List (List Document)) (p : PreparedMerge) → Joins analyze index from to groups p
     → AllZip (IsGroup index.schema (analyze index.analyzer)) (members_of index) groups → AllZip (IsGroup index.schema (analyze index.analyzer)) (members_merged index p) (merged from to groups)
 merged_in_groups analyze index from to groups p joins are =
     let group = IsGroup index.schema (analyze index.analyzer) in
@@ -304,7 +305,7 @@ merged_in_groups analyze index from to groups p joins are =
 -- ---- a range
 
 -- the members of a range, by the rows that they stand for
-pub record RangeStands {A : Type 0} (analyze : A → Analyzer) (index : IndexState A) (from to : ℕ) (groups : List (List Document)) : Type 0 where
+pub record RangeStands {A : Type 0} {a : analyzers.Ghosts A} (analyze : A → Analyzer) (index : IndexState A a) (from to : ℕ) (groups : List (List Document)) : Type 0 where
   pub rows : List alive.Segment
   pub stand : merger.StandFor index.schema (analyze index.analyzer) (zip (take (to - from) (drop from index.segments.items)) (take (to - from) (drop from index.alive.items))) rows
   pub whole : live rows ≡ joined_groups from to groups
@@ -314,7 +315,7 @@ length-range from to xs l =
     let rest = length-drop from xs in
     length-take-le (to - from) (drop from xs) (omega (arith, rest, l))
 
-pub range_stands : {A : Type 0} (analyze : A → Analyzer) (index : IndexState A) (c : calls.Configuration) (x : calls.Index) (s : Stands analyze index c x) (from to : ℕ) → to ≤ length index.alive.items → RangeStands analyze index from to x.state.groups
+pub range_stands : {A : Type 0} {a : analyzers.Ghosts A} (analyze : A → Analyzer) (index : IndexState A a) (c : calls.Configuration) (x : calls.Index) (s : Stands analyze index c x) (from to : ℕ) → to ≤ length index.alive.items → RangeStands analyze index from to x.state.groups
 range_stands analyze index c x s from to l =
     let cut = analyze index.analyzer in
     let n = to - from in
@@ -331,7 +332,7 @@ range_stands analyze index c x s from to l =
       whole = ap live (each_within from n s.docs sets) ∙ live_within from to (flagged_each s.docs sets) ∙ ap (joined_groups from to) (sym s.groups);
     }
 
-pub range_opened : {A : Type 0} (index : IndexState A) (from n : ℕ) → AllByRecursion (IsOpened index.schema) index.segments.items → merger.AreOpened index.schema (zip (take n (drop from index.segments.items)) (take n (drop from index.alive.items)))
+pub range_opened : {A : Type 0} {a : analyzers.Ghosts A} (index : IndexState A a) (from n : ℕ) → AllByRecursion (IsOpened index.schema) index.segments.items → merger.AreOpened index.schema (zip (take n (drop from index.segments.items)) (take n (drop from index.alive.items)))
 range_opened index from n opened =
     let segments = index.segments.items in
     let sets = index.alive.items in
@@ -348,13 +349,13 @@ refused_otherwise fault other is =
     let damaged : faults.Damaged None ≡ faults.Device = sym (other memory limit) ∙ is in cc
 
 -- as many groups as alive sets
-pub groups_counted : {A : Type 0} (analyze : A → Analyzer) (index : IndexState A) (c : calls.Configuration) (x : calls.Index) → Stands analyze index c x → length index.alive.items ≡ length x.state.groups
+pub groups_counted : {A : Type 0} {a : analyzers.Ghosts A} (analyze : A → Analyzer) (index : IndexState A a) (c : calls.Configuration) (x : calls.Index) → Stands analyze index c x → length index.alive.items ≡ length x.state.groups
 groups_counted analyze index c x s =
     let sets = index.alive.items in
     let few = sets_within index.schema (analyze index.analyzer) s.docs index.segments.items sets s.segments index.flagged in
     sym (length-each s.docs sets few) ∙ sym (length-map (flagged_each s.docs sets) living) ∙ sym (ap length s.groups)
 
-module _ {A : Type 0} (analyze : A → Analyzer) (index : IndexState A) (c : calls.Configuration) (x : calls.Index) (s : Stands analyze index c x) (from to : ℕ) (none : calls.status_fault x.status false ≡ None) where
+module _ {A : Type 0} {a : analyzers.Ghosts A} (analyze : A → Analyzer) (index : IndexState A a) (c : calls.Configuration) (x : calls.Index) (s : Stands analyze index c x) (from to : ℕ) (none : calls.status_fault x.status false ≡ None) where
   -- no status refuses it, and its range is tested by how many segments there are
   range_tested : calls.call_fault c x (calls.merge_range from to) ≡ range_fault from to (length index.alive.items)
   range_tested = own_refuses c x (calls.merge_range from to) none ∙ ap (range_fault from to) (sym (groups_counted analyze index c x s))

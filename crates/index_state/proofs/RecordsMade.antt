@@ -3,6 +3,7 @@ use Rattle.std.proofs.Common.{[], ◌++◌, ◌+◌, ◌∙◌, ◌∷◌, ◌�
 use Rattle.std.specs.Prelude.{MatchOption, option_to_list}
 use Rattle.std.proofs.lemmas.List.{drop-append-le, length-drop, length-map, take-append-drop}
 use Rattle.std.specs.List.{AllZip, zip}
+use Rattle.common.specs.declared.analyzer.Analyzer as analyzers
 use Rattle.definitions.specs.Analyzers.{Analyzer}
 use Rattle.definitions.specs.Calls as calls
 use Rattle.definitions.specs.Recorded.{holds}
@@ -74,7 +75,7 @@ commit_says schema analyze n pending docs last dels segments alive sets stand fe
     }
 
 -- after a commit there are as many groups as segments
-pub groups_written : {A : Type 0} (analyze : A → Analyzer) (old : IndexState A) (c : calls.Configuration) (x : calls.Index) (s : Stands analyze old c x) (segments : List code.Segment)
+pub groups_written : {A : Type 0} {a : analyzers.Ghosts A} (analyze : A → Analyzer) (old : IndexState A a) (c : calls.Configuration) (x : calls.Index) (s : Stands analyze old c x) (segments : List code.Segment)
     → x.status ≡ calls.ready → length old.alive.items ≤ length s.docs → AllZip (StandsFor old.schema (analyze old.analyzer)) (s.docs ++ as_group old.open) segments
     → length (calls.after c x.state calls.commit_pending).groups ≡ length segments
 groups_written analyze old c x s segments ready few stand =

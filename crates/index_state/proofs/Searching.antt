@@ -3,6 +3,7 @@ use Rattle.std.proofs.Common.{[], Err, IfOk, List, None, Ok, Result, Some, ap, f
 use Rattle.std.proofs.lemmas.List.{length-map, with_items_is}
 use Rattle.std.specs.Vec.{with_items, vec_len}
 use Rattle.std.proofs.Common.{Vec}
+use Rattle.common.specs.declared.analyzer.Analyzer as analyzers
 use Rattle.definitions.specs.Alive.{Segment, live, live_groups}
 use Rattle.definitions.specs.Analyzers.{Analyzer}
 use Rattle.definitions.specs.Calls as calls
@@ -32,7 +33,7 @@ ok_both (Err e) P Q R f p q = tt
 pub segments_held : {Z : Type 0} (v : Vec code.Segment Z) (old new : List code.Segment) → length old ≡ vec_len v → KeepsSegments old new → (with_items v new).items ≡ new
 segments_held v old new long kept = with_items_is v new (sym (length-map new bytes_of) ∙ ap length kept.bytes ∙ length-map old bytes_of ∙ long)
 
-module _ {A : Type 0} (analyze : A → Analyzer) (index : IndexState A) (c : calls.Configuration) (x : calls.Index) (s : Stands analyze index c x) where
+module _ {A : Type 0} {a : analyzers.Ghosts A} (analyze : A → Analyzer) (index : IndexState A a) (c : calls.Configuration) (x : calls.Index) (s : Stands analyze index c x) where
   -- the living documents of its segments are those that are committed
   pub live_committed : live (flagged_each s.docs index.alive.items) ≡ states.committed x.state
   live_committed = live_in_groups (flagged_each s.docs index.alive.items) ∙ ap (flat_map (λ group. group)) (sym s.groups)

@@ -4,6 +4,7 @@ use Rattle.std.proofs.Math.Logic.{∥∥₁_map}
 use Rattle.std.proofs.lemmas.List.{append-nil, drop-append-le, length-drop, map-append}
 use Rattle.std.specs.List.{AllByRecursion, AllZip}
 use Rattle.std.specs.Result.{result_err}
+use Rattle.common.specs.declared.analyzer.Analyzer as analyzers
 use Rattle.definitions.specs.Alive.{live_groups}
 use Rattle.definitions.specs.Analyzers.{Analyzer}
 use Rattle.definitions.specs.Calls as calls
@@ -100,14 +101,14 @@ ready_status statuses.Closed e = absurd (closed_is_not_ready e)
 
 -- ---- made of the same
 
-pub alike_then : {A : Type 0} (one two three : IndexState A) → IsMadeAlike one two → IsMadeAlike two three → IsMadeAlike one three
+pub alike_then : {A : Type 0} {a : analyzers.Ghosts A} (one two three : IndexState A a) → IsMadeAlike one two → IsMadeAlike two three → IsMadeAlike one three
 alike_then one two three first second = record {
   analyzer = second.analyzer ∙ first.analyzer;
   schema = second.schema ∙ first.schema;
   settings = second.settings ∙ first.settings;
 }
 
-module _ {A : Type 0} (analyze : A → Analyzer) (old new : IndexState A) (alike : IsMadeAlike old new) where
+module _ {A : Type 0} {a : analyzers.Ghosts A} (analyze : A → Analyzer) (old new : IndexState A a) (alike : IsMadeAlike old new) where
   -- what holds of what the index was made of holds of it still
   pub same_made : (P : Schema → A → Settings → Type 0) → P old.schema old.analyzer old.settings → P new.schema new.analyzer new.settings
   same_made P p = subst (λ s. P new.schema new.analyzer s) (sym alike.settings) (subst (λ a. P new.schema a old.settings) (sym alike.analyzer) (subst (λ s. P s old.analyzer old.settings) (sym alike.schema) p))
@@ -142,7 +143,7 @@ module _ {A : Type 0} (analyze : A → Analyzer) (old new : IndexState A) (alike
 
 -- ---- an add
 
-module _ {A : Type 0} (analyze : A → Analyzer) (old : IndexState A) (c : calls.Configuration) (x : calls.Index) (s : Stands analyze old c x) (doc : Document) (given : IsGiven old.schema doc) where
+module _ {A : Type 0} {a : analyzers.Ghosts A} (analyze : A → Analyzer) (old : IndexState A a) (c : calls.Configuration) (x : calls.Index) (s : Stands analyze old c x) (doc : Document) (given : IsGiven old.schema doc) where
   made_given : calls.document_given c.schema doc ≡ Ok doc
   made_given = ap (λ (k : calls.Configuration). calls.document_given k.schema doc) s.made ∙ given_ok old.schema doc given
 
@@ -154,7 +155,7 @@ module _ {A : Type 0} (analyze : A → Analyzer) (old : IndexState A) (c : calls
   pub add_waits : calls.after c x.state (calls.add_document doc) ≡ states.after_add doc x.state
   add_waits = ap (λ r. calls.after_document r x.state) made_given
 
-  module _ (new : IndexState A) (alike : IsMadeAlike old new) (ready : x.status ≡ calls.ready) (status : new.status ≡ old.status) (alive : new.alive.items ≡ old.alive.items) (dels : new.deletions.items ≡ old.deletions.items) where
+  module _ (new : IndexState A a) (alike : IsMadeAlike old new) (ready : x.status ≡ calls.ready) (status : new.status ≡ old.status) (alive : new.alive.items ≡ old.alive.items) (dels : new.deletions.items ≡ old.deletions.items) where
     -- in the segment that isn't full
     pub added_open_stands : new.segments.items ≡ old.segments.items → new.open ≡ old.open ++ doc ∷ [] → length new.open < old.settings.docs_per_segment → Stands analyze new c (record { state = calls.after c x.state (calls.add_document doc); status = x.status })
     added_open_stands segments opened less =
@@ -193,7 +194,7 @@ module _ {A : Type 0} (analyze : A → Analyzer) (old : IndexState A) (c : calls
 -- ---- a deletion
 
 -- a deletion more waits
-pub deleted_stands : {A : Type 0} (analyze : A → Analyzer) (old new : IndexState A) (alike : IsMadeAlike old new) (c : calls.Configuration) (x : calls.Index) (s : Stands analyze old c x) (d : Deletion)
+pub deleted_stands : {A : Type 0} {a : analyzers.Ghosts A} (analyze : A → Analyzer) (old new : IndexState A a) (alike : IsMadeAlike old new) (c : calls.Configuration) (x : calls.Index) (s : Stands analyze old c x) (d : Deletion)
     → x.status ≡ calls.ready → new.status ≡ old.status → new.alive.items ≡ old.alive.items → new.segments.items ≡ old.segments.items → new.open ≡ old.open → new.deletions.items ≡ old.deletions.items ++ d ∷ []
     → d.segments ≡ length old.segments.items - length old.alive.items → d.docs ≡ length old.open → (t : List ℕ) → d.term ≡ t
     → Stands analyze new c (record { state = calls.after c x.state (calls.delete_term t); status = x.status })

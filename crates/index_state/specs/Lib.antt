@@ -5,10 +5,10 @@ pub mod Hits
 pub mod Given
 pub mod Bodies
 pub mod Limits
+pub mod Pending
+pub mod Statuses
 pub mod Parts
 pub mod Standing
 pub mod Commits
 pub mod Merges
 pub mod Records
--- Laws that clauses and proofs of types must name.
-pub mod GivenLaws

@@ -1,5 +1,6 @@
 -- What a merge is about to install.
 use Rattle.std.specs.Prelude.{[], ◌++◌, ◌-◌, ◌<◌, ◌≡◌, ◌≤◌, ◌||◌, Bool, IfSome, List, MatchOption, None, Option, Some, drop, flat_map, if◌then◌else◌, length, map, nat_le, nat_lt, option_to_list, replicate, take, true, ℕ}
+use Rattle.common.specs.declared.analyzer.Analyzer as analyzers
 use Rattle.definitions.specs.Analyzers.{Analyzer}
 use Rattle.definitions.specs.Values.{Document}
 use Rattle.definitions.specs.declared.fault.Fault.{Fault}
@@ -39,11 +40,11 @@ abbrev pub new_in : PreparedMerge → List code.Segment
 new_in prepared = option_to_list prepared.segment
 
 -- the committed segments after it, each with a flag for each of its documents
-abbrev pub members_merged : {A : Type 0} → IndexState A → PreparedMerge → List Member
+abbrev pub members_merged : {A : Type 0} {a : analyzers.Ghosts A} → IndexState A a → PreparedMerge → List Member
 members_merged index prepared = replaced prepared.from prepared.to (map alive_member (new_in prepared)) (members_of index)
 
 -- some committed segments give way to the new one, and their alive sets to one in which all documents are alive
-pub record Replaces {A : Type 0} (index : IndexState A) (prepared : PreparedMerge) : Type 0 where
+pub record Replaces {A : Type 0} {a : analyzers.Ghosts A} (index : IndexState A a) (prepared : PreparedMerge) : Type 0 where
   pub some : prepared.from < prepared.to
   pub within : prepared.to ≤ length index.alive.items
   pub opened : IfSome prepared.segment (IsOpened index.schema)
@@ -56,12 +57,12 @@ abbrev pub joined_groups : ℕ → ℕ → List (List Document) → List Documen
 joined_groups from to groups = flat_map (λ group. group) (take (to - from) (drop from groups))
 
 -- the new segment is of the documents of the groups in a range, and there is none where there are no documents
-pub record Joins {A : Type 0} (analyze : A → Analyzer) (index : IndexState A) (from to : ℕ) (groups : List (List Document))
+pub record Joins {A : Type 0} {a : analyzers.Ghosts A} (analyze : A → Analyzer) (index : IndexState A a) (from to : ℕ) (groups : List (List Document))
     (prepared : PreparedMerge) : Type 0 where
   pub from_is : prepared.from ≡ from
   pub to_is : prepared.to ≡ to
   pub of : MatchOption prepared.segment (joined_groups from to groups ≡ []) (StandsFor index.schema (analyze index.analyzer) (joined_groups from to groups))
 
 -- a segment of the documents of these groups passes a limit
-abbrev pub MergePasses : {A : Type 0} → (A → Analyzer) → IndexState A → ℕ → ℕ → List (List Document) → Type 0
+abbrev pub MergePasses : {A : Type 0} {a : analyzers.Ghosts A} → (A → Analyzer) → IndexState A a → ℕ → ℕ → List (List Document) → Type 0
 MergePasses analyze index from to groups = DocumentsPass index.schema (analyze index.analyzer) index.settings.block_size (joined_groups from to groups)

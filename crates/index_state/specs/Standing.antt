@@ -1,13 +1,14 @@
 -- What segments and what waits stand for.
-use Rattle.std.specs.Prelude.{◌+◌, ◌<◌, ◌^◌, ◌≡◌, ◌≤◌, Bool, List, drop, length, map, take, ℕ}
+use Rattle.std.specs.Prelude.{◌+◌, ◌<◌, ◌^◌, ◌≡◌, ◌≤◌, ◌⊎◌, Bool, List, length, map, take, ℕ}
 use Rattle.std.specs.List.{AllByRecursion, AllZip}
 use Rattle.std.specs.declared.alloc.Global.{Global}
+use Rattle.common.specs.declared.analyzer.Analyzer as analyzers
 use Rattle.definitions.specs.Alive.{live_groups}
 use Rattle.definitions.specs.Analyzers.{Analyzer}
 use Rattle.definitions.specs.Calls as calls
 use Rattle.definitions.specs.Schema.{Schema}
 use Rattle.definitions.specs.Settings.{Settings}
-use Rattle.definitions.specs.State.{Pending}
+use Rattle.definitions.specs.State.{Pending, State}
 use Rattle.definitions.specs.Step.{configuration_of}
 use Rattle.definitions.specs.Values.{Document}
 use Rattle.segment.specs.Opened.{StandsFor}
@@ -17,36 +18,41 @@ use Rattle.segment_definitions.specs.Slots.{slot}
 use Rattle.segment_definitions.specs.Waiting.{Waits}
 use Rattle.index_state.specs.Deletions.{IsSmall, numbered}
 use Rattle.index_state.specs.Flags.{flagged_each, members}
-use Rattle.index_state.specs.Limits.{DocumentsPass}
+use Rattle.index_state.specs.Limits.{OneMorePasses}
+use Rattle.index_state.specs.Pending.{Holds, open_docs}
 use Rattle.index_state.specs.declared.deletions.Deletion.{Deletion}
 use Rattle.index_state.specs.declared.index_state.IndexState.{IndexState}
-use Rattle.index_state.specs.declared.status.Status.{Status}
-use Rattle.index_state.specs.declared.status.Status.TheVariants as status
-
--- what may still be done
-abbrev pub status_of : Status → calls.Status
-status_of status.Ready = calls.ready
-status_of status.WriterClosed = calls.writer_closed
-status_of status.Closed = calls.closed
+pub use Rattle.index_state.specs.Statuses.{status_of}
 
 -- what waits: documents in full segments and in one that isn't, and deletions
 pub record IsWaiting (n : ℕ) (pending : List Pending) (full : List (List Document)) (last : List Document) (dels : List Deletion) : Type 0 where
   pub waits : Waits n pending full last (map (numbered n) dels)
   pub small : AllByRecursion (IsSmall n) dels
 
+-- While changes are taken these calls are pending: their documents are held in segments, and every other segment is
+-- committed.
+pub record IsPending {A : Type 0} {a : analyzers.Ghosts A} (analyze : A → Analyzer) (index : IndexState A a)
+    (pending : List Pending) : Type 0 where
+  pub full : List (List Document)
+  pub last : List Document
+  pub waits : IsWaiting index.settings.docs_per_segment pending full last index.deletions.items
+  pub holds : Holds index.schema (analyze index.analyzer) index.settings.block_size index.pending full last
+  pub committed : length index.segments.items ≡ length index.alive.items
+
 -- The index has this configuration and this status, and its segments are of documents, of which the living are
--- committed. What waits matters while changes are taken alone.
-pub record Stands {A : Type 0} (analyze : A → Analyzer) (index : IndexState A) (c : calls.Configuration) (x : calls.Index) : Type 0 where
+-- committed. What is pending matters while changes are taken alone.
+pub record Stands {A : Type 0} {a : analyzers.Ghosts A} (analyze : A → Analyzer) (index : IndexState A a)
+    (c : calls.Configuration) (x : calls.Index) : Type 0 where
   pub made : c ≡ configuration_of index.schema (analyze index.analyzer) index.settings
   pub status : x.status ≡ status_of index.status
   pub sized : 0 < index.settings.docs_per_segment
   pub docs : List (List Document)
   pub segments : AllZip (StandsFor index.schema (analyze index.analyzer)) docs index.segments.items
   pub groups : x.state.groups ≡ live_groups (flagged_each docs index.alive.items)
-  pub waits : x.status ≡ calls.ready → IsWaiting index.settings.docs_per_segment x.state.pending (drop (length index.alive.items) docs) index.open index.deletions.items
+  pub pending : x.status ≡ calls.ready → IsPending analyze index x.state.pending
 
 -- made of the same schema, analyzer and settings
-pub record IsMadeAlike {A : Type 0} (old new : IndexState A) : Type 0 where
+pub record IsMadeAlike {A : Type 0} {a : analyzers.Ghosts A} (old new : IndexState A a) : Type 0 where
   pub analyzer : new.analyzer ≡ old.analyzer
   pub schema : new.schema ≡ old.schema
   pub settings : new.settings ≡ old.settings
@@ -55,47 +61,45 @@ pub record IsMadeAlike {A : Type 0} (old new : IndexState A) : Type 0 where
 abbrev pub IsSlotTooLong : Schema → Settings → Document → Type 0
 IsSlotTooLong schema settings doc = 2 ^ 32 ≤ settings.block_size + length (slot schema doc) + 8
 
-module _ {A : Type 0} where
+module _ {A : Type 0} {a : analyzers.Ghosts A} where
   -- what cuts its texts
-  abbrev pub analyzer_of : IndexState A → A
+  abbrev pub analyzer_of : IndexState A a → A
   analyzer_of index = index.analyzer
 
   -- its fields
-  abbrev pub schema_of : IndexState A → Schema
+  abbrev pub schema_of : IndexState A a → Schema
   schema_of index = index.schema
 
   -- its numbers for scores and segments
-  abbrev pub settings_of : IndexState A → Settings
+  abbrev pub settings_of : IndexState A a → Settings
   settings_of index = index.settings
 
   -- what it takes memory from
-  abbrev pub alloc_of : IndexState A → Global
+  abbrev pub alloc_of : IndexState A a → Global
   alloc_of index = index.alloc
 
   -- what may still be done
-  abbrev pub state_of : IndexState A → calls.Status
+  abbrev pub state_of : IndexState A a → calls.Status
   state_of index = status_of index.status
 
   -- the segments that are committed
-  abbrev pub committed_of : IndexState A → List code.Segment
+  abbrev pub committed_of : IndexState A a → List code.Segment
   committed_of index = take (length index.alive.items) index.segments.items
 
   -- which of their documents are alive
-  abbrev pub alive_of : IndexState A → List (List Bool)
+  abbrev pub alive_of : IndexState A a → List (List Bool)
   alive_of index = index.alive.items
 
   -- the bytes of the segments that are committed, with a flag for each of their documents
-  abbrev pub members_of : IndexState A → List Member
+  abbrev pub members_of : IndexState A a → List Member
   members_of index = members index.segments.items index.alive.items
 
-  -- the documents of the segment that isn't full
-  abbrev pub open_of : IndexState A → List Document
-  open_of index = index.open
-
-  -- a segment of these documents passes a limit
-  abbrev pub PassesLimit : (A → Analyzer) → IndexState A → List Document → Type 0
-  PassesLimit analyze index docs = DocumentsPass index.schema (analyze index.analyzer) index.settings.block_size docs
-
   -- the slot of this document is too long beside a block
-  abbrev pub HasLongSlot : IndexState A → Document → Type 0
+  abbrev pub HasLongSlot : IndexState A a → Document → Type 0
   HasLongSlot index doc = IsSlotTooLong index.schema index.settings doc
+
+  -- a limit that an add of this document meets: its slot is too long, or it passes one behind the documents of the
+  -- segment that isn't full
+  abbrev pub AddPasses : calls.Configuration → State → IndexState A a → Document → Type 0
+  AddPasses c s index doc =
+      HasLongSlot index doc ⊎ OneMorePasses c.schema c.analyze c.docs_per_segment (open_docs c.docs_per_segment s.pending) doc

@@ -12,12 +12,14 @@ ghost use Rattle.definitions.specs.State as states;
 ghost use Rattle.definitions.specs.Step.{configuration_of, fresh_index, reopened};
 ghost use Rattle.definitions.specs.Values.{Document};
 ghost use Rattle.definitions.specs.declared.fault.Fault.TheVariants as faults;
+ghost use Rattle.document_indexer.specs.Indexed.{IsWithinLimits};
 ghost use Rattle.query_trees.specs.Queries.{query_of};
 ghost use Rattle.index_file.specs.Frames.{frame_bytes};
 ghost use Rattle.segment.specs.Opened.{IsOpened, StandsFor};
 ghost use Rattle.index_state.specs.Flags.{AreFlagged, AreFlagged-prop, flagged_each, members};
-ghost use Rattle.index_state.specs.GivenLaws.{AreGiven-prop};
-ghost use Rattle.index_state.specs.Given.{IsGiven};
+ghost use Rattle.index_state.specs.Limits.{TermsPass};
+ghost use Rattle.index_state.specs.Pending.{HoldsSome, open_docs};
+ghost use Rattle.index_state.specs.Statuses.{status_of};
 ghost use Rattle.index_file.specs.Lists.{IsListed, member_of};
 ghost use Rattle.segment_definitions.specs.SegmentBodies.{Makes};
 ghost use Rattle.segment_definitions.specs.SegmentFiles.{IsGroup};
@@ -29,10 +31,9 @@ use crate::commit_frame::commit_frame;
 use crate::committed_alive_sets::next_sets;
 use crate::deletions::{Deletion, check_deletion};
 use crate::parts::parted;
-use crate::pending_documents::WaitingDocs;
+use crate::pending_segments::PendingSegments;
 use crate::prepared::Prepared;
 use crate::status::Status;
-use crate::written_segment::written_segment;
 use common::{AliveBitSet, Analyzer};
 use definitions::Fault;
 use document::CompactDoc;
@@ -43,39 +44,37 @@ use segment::Segment;
 use segment_search::{Hit, count, search};
 use settings::Settings;
 use std::alloc::Global;
-use std::mem::replace;
 use terms::Term;
 
 /// The most segments that an index commits.
 const MAX_SEGMENTS: usize = 4294967295;
 
 /// The segments of an index: those that are committed, which searches see, each with which of its documents are alive;
-/// and what is pending until a commit, documents and deletions. The documents of a segment that isn't full are kept as
-/// they are, and are indexed when it is full or committed.
+/// and what is pending until a commit, segments and deletions. A document is indexed when it is added.
 #[derive(Drop)]
-pub struct IndexState<A> {
+pub struct IndexState<A: Analyzer> {
     pub(crate) alloc: Global,
     pub(crate) analyzer: A,
     pub(crate) schema: Schema,
     pub(crate) settings: Settings,
-    // The committed ones, and after them the pending ones that are full.
+    // The committed ones, and after them those of a commit that is prepared.
     pub(crate) segments: Vec<Segment>,
     // One for each committed segment.
     pub(crate) alive: Vec<AliveBitSet>,
-    // The documents of the segment that isn't full.
-    pub(crate) open: WaitingDocs,
+    pub(crate) pending: PendingSegments,
     pub(crate) deletions: Vec<Deletion>,
     pub(crate) status: Status,
     ghost opened: { ∥ AllByRecursion (IsOpened schema) segments.items ∥₁ },
     ghost flagged: { AreFlagged segments.items alive.items } by { AreFlagged-prop segments.items alive.items },
-    ghost given: { AllByRecursion (IsGiven schema) «open» } by { AreGiven-prop schema «open» },
+    ghost held: { ∥ (status_of status ≡ calls.ready
+        → HoldsSome schema (A.analyze analyzer) settings.block_size pending) ∥₁ },
     ghost few: { length alive.items < 2 ^ 32 },
 }
 
 impl<A: Analyzer + Drop> IndexState<A> {
     ghost use Rattle.index_state.specs.Commits.{AreSets, IsPrepared, frame_in, members_with, sets_in};
     ghost use Rattle.index_state.specs.Records.{IsCommitBody};
-    ghost use Rattle.index_state.specs.Standing.{HasLongSlot, IsMadeAlike, PassesLimit, Stands, alive_of, alloc_of, analyzer_of, committed_of, members_of, open_of, schema_of, settings_of, state_of, status_of};
+    ghost use Rattle.index_state.specs.Standing.{AddPasses, HasLongSlot, IsMadeAlike, Stands, alive_of, alloc_of, analyzer_of, committed_of, members_of, schema_of, settings_of, state_of};
 
     /// Returns an index without documents.
     pub fn new(alloc: Global, analyzer: A, schema: Schema, settings: Settings) -> IndexState<A>
@@ -108,7 +107,7 @@ impl<A: Analyzer + Drop> IndexState<A> {
         ensures members { members_of result ≡ members segments.items alive.items }
     {
         let _docs_per_segment = settings.docs_per_segment();
-        let open = WaitingDocs::new(alloc);
+        let pending = PendingSegments::new(alloc);
         let deletions = Vec::new(alloc);
         IndexState {
             alloc,
@@ -117,7 +116,7 @@ impl<A: Analyzer + Drop> IndexState<A> {
             settings,
             segments,
             alive,
-            open,
+            pending,
             deletions,
             status: Status::Ready,
         }
@@ -211,10 +210,10 @@ impl<A: Analyzer + Drop> IndexState<A> {
         }
     }
 
-    /// Adds `doc`; a search sees it after the next commit. A document of an unknown field is `UnknownField`, and one
-    /// with a value that can't be indexed `NotIndexable`; one whose stored values are too long beside a block is
-    /// `Limit`, and changes nothing. If `doc` fills a segment, the segment is written: out of memory or a limit then
-    /// closes the writer.
+    /// Adds `doc`, and indexes it; a search sees it after the next commit. A document of an unknown field is
+    /// `UnknownField`, and one with a value that can't be indexed `NotIndexable`; one whose stored values are too long
+    /// beside a block is `Limit`, and changes nothing. Any other limit closes the writer, as does out of memory while
+    /// `doc` is indexed.
     pub fn add_document(&mut self, doc: &CompactDoc) -> Result<(), Fault>
         ensures left { (c : calls.Configuration) (x : calls.Index) → Stands A.analyze self.old c x
             → (y : calls.Index) × calls.Leaves c x (calls.add_document doc.now) result y
@@ -222,23 +221,24 @@ impl<A: Analyzer + Drop> IndexState<A> {
         ensures exact { (c : calls.Configuration) (x : calls.Index) → Stands A.analyze self.old c x
             → IfErr result (λ fault. fault ≢ faults.OutOfMemory → fault ≢ faults.Limit
             → calls.call_fault c x (calls.add_document doc.now) ≡ Some fault) }
-        ensures limit { IfErr result (λ fault. fault ≡ faults.Limit
-            → PassesLimit A.analyze self.old (open_of self.old ++ doc.now ∷ [])) }
+        ensures limit { (c : calls.Configuration) (x : calls.Index) → Stands A.analyze self.old c x
+            → IfErr result (λ fault. fault ≡ faults.Limit → AddPasses c x.state self.old doc.now) }
+        ensures within { (c : calls.Configuration) (x : calls.Index) → Stands A.analyze self.old c x
+            → OnOk result (IsWithinLimits c.schema c.analyze (open_docs c.docs_per_segment x.state.pending) doc.now) }
         ensures short { OnOk result (¬ HasLongSlot self.old doc.now) }
         ensures long { (c : calls.Configuration) (x : calls.Index) → Stands A.analyze self.old c x
             → HasLongSlot self.old doc.now → OnErr result (Stands A.analyze self.new c x) }
+        ensures closed { IfErr result (λ fault. fault ≡ faults.Limit
+            → ¬ HasLongSlot self.old doc.now → state_of self.new ≡ calls.writer_closed) }
         ensures made { IsMadeAlike self.old self.new }
         ensures members { members_of self.new ≡ members_of self.old }
     {
         self.check_writer()?;
         check_document(&self.schema, doc)?;
         check_slot(self.alloc, &self.schema, self.settings.block_size(), doc)?;
-        self.open.push(doc)?;
-        if self.open.len() < self.settings.docs_per_segment() as usize {
-            return Ok(());
-        }
         self.status = Status::WriterClosed;
-        self.close_open()?;
+        self.pending
+            .add(&self.schema, &self.analyzer, &self.settings, doc)?;
         self.status = Status::Ready;
         Ok(())
     }
@@ -259,43 +259,10 @@ impl<A: Analyzer + Drop> IndexState<A> {
         check_deletion(&self.schema, term)?;
         let deletion = Deletion {
             term: copied(self.alloc, term)?,
-            segments: self.segments.len() - self.alive.len(),
-            docs: self.open.len(),
+            segments: self.pending.num_full(),
+            docs: self.pending.num_open_docs(),
         };
         self.deletions.push(deletion)?;
-        Ok(())
-    }
-
-    /// Writes the pending documents of the segment that isn't full, if there are any, as a full segment.
-    fn close_open(&mut self) -> Result<(), Fault>
-        ensures err { IfErr result (λ fault. (fault ≡ faults.OutOfMemory) ⊎ (fault ≡ faults.Limit)) }
-        ensures limit { IfErr result (λ fault. fault ≡ faults.Limit
-            → PassesLimit A.analyze self.old (open_of self.old)) }
-        ensures closed { (docs : List (List Document))
-            → AllZip (StandsFor self.old.schema (A.analyze self.old.analyzer)) docs self.old.segments.items
-            → OnOk result (AllZip (StandsFor self.old.schema (A.analyze self.old.analyzer))
-            (docs ++ states.as_group self.old.open) self.new.segments.items × (self.new.open ≡ [])) }
-        ensures stands { (docs : List (List Document))
-            → AllZip (StandsFor self.old.schema (A.analyze self.old.analyzer)) docs self.old.segments.items
-            → OnErr result (AllZip (StandsFor self.old.schema (A.analyze self.old.analyzer)) docs
-            self.new.segments.items) }
-        ensures made { IsMadeAlike self.old self.new }
-        ensures same { (self.new.alive.items ≡ self.old.alive.items)
-            × (self.new.deletions.items ≡ self.old.deletions.items) × (self.new.status ≡ self.old.status) }
-        ensures members { members_of self.new ≡ members_of self.old }
-    {
-        if self.open.is_empty() {
-            return Ok(());
-        }
-        let docs = replace(&mut self.open, WaitingDocs::new(self.alloc));
-        let segment = written_segment(
-            self.alloc,
-            &self.analyzer,
-            &self.schema,
-            &self.settings,
-            docs,
-        )?;
-        self.segments.push(segment)?;
         Ok(())
     }
 
@@ -317,7 +284,8 @@ impl<A: Analyzer + Drop> IndexState<A> {
         ensures fault { IfErr result (λ fault. (fault ≡ faults.OutOfMemory) ⊎ (fault ≡ faults.Limit)
             ⊎ (fault ≡ faults.WriterClosed) ⊎ (fault ≡ faults.Closed)) }
         ensures limit { (c : calls.Configuration) (x : calls.Index) → Stands A.analyze self.old c x
-            → IfErr result (λ fault. fault ≡ faults.Limit → PassesLimit A.analyze self.old (open_of self.old)
+            → IfErr result (λ fault. fault ≡ faults.Limit
+            → TermsPass c.schema c.analyze (open_docs c.docs_per_segment x.state.pending)
             ⊎ (2 ^ 32 ≤ length (calls.after c x.state calls.commit_pending).groups)) }
         ensures body { (c : calls.Configuration) (x : calls.Index) → Stands A.analyze self.old c x
             → IfOk result (λ prepared. (body : List ℕ) × (frame_in prepared ≡ frame_bytes body)
@@ -331,7 +299,10 @@ impl<A: Analyzer + Drop> IndexState<A> {
     {
         self.check_writer()?;
         self.status = Status::WriterClosed;
-        self.close_open()?;
+        self.pending.close(&self.schema)?;
+        let cache_num_blocks = self.settings.cache_blocks() as usize;
+        self.pending
+            .open_into(&self.schema, cache_num_blocks, &mut self.segments)?;
         if self.segments.len() > MAX_SEGMENTS {
             return Err(Fault::Limit);
         }
@@ -352,6 +323,7 @@ impl<A: Analyzer + Drop> IndexState<A> {
     {
         let Prepared { alive, .. } = prepared;
         self.alive = alive;
+        self.pending = PendingSegments::new(self.alloc);
         self.deletions = Vec::new(self.alloc);
         self.status = Status::Ready;
     }

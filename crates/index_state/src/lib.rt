@@ -10,12 +10,11 @@ mod merge;
 mod merge_frame;
 mod merged_alive_sets;
 mod parts;
-mod pending_documents;
+mod pending_segments;
 mod prepared;
 mod prepared_merge;
 mod replaced_segments;
 mod status;
-mod written_segment;
 
 pub use index_state::IndexState;
 pub use prepared::Prepared;
