@@ -4,6 +4,7 @@ pub mod SetSteps
 pub mod Waitings
 pub mod Groups
 pub mod Outcomes
+pub mod OpenDocs
 pub mod Standings
 pub mod Committing
 pub mod BodyMade
