@@ -4,12 +4,12 @@ pub mod SetSteps
 pub mod Waitings
 pub mod Groups
 pub mod Outcomes
-pub mod OpenDocs
 pub mod Standings
 pub mod Committing
 pub mod BodyMade
 pub mod Members
-pub mod WrittenDocs
+pub mod PendingDocs
+pub mod OpenDocs
 pub mod Parted
 pub mod Searching
 pub mod LongSlots

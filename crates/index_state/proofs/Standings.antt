@@ -1,5 +1,5 @@
 -- What an index in memory stands for, as calls are made.
-use Rattle.std.proofs.Common.{[], ◌*◌, ◌++◌, ◌+◌, ◌<◌, ◌^◌, ◌∙◌, ◌∷◌, ◌≡◌, ◌≢◌, ◌≤◌, ◌⊎◌, Bool, Err, List, None, Ok, Result, ap, ap₂, append_assoc, arith, drop, false, if◌then◌else◌, length, length-append, map, refl, subst, sym, true, ⊎_elim, ℕ}
+use Rattle.std.proofs.Common.{[], ◌*◌, ◌++◌, ◌+◌, ◌<◌, ◌^◌, ◌∙◌, ◌∷◌, ◌≡◌, ◌≢◌, ◌≤◌, ◌⊎◌, Bool, List, None, Ok, ap, ap₂, append_assoc, arith, drop, false, length, length-append, map, refl, subst, sym, true, ⊎_elim, ℕ}
 use Rattle.std.proofs.Math.Logic.{∥∥₁_map}
 use Rattle.std.proofs.lemmas.List.{append-nil, drop-append-le, drop_all, map-append}
 use Rattle.std.specs.List.{AllByRecursion, AllZip}
@@ -13,23 +13,19 @@ use Rattle.definitions.specs.Settings.{Settings}
 use Rattle.definitions.specs.State as states
 use Rattle.definitions.specs.State.{Pending}
 use Rattle.definitions.specs.Step.{configuration_of}
-use Rattle.definitions.specs.Values.{Document, IsDocument}
-use Rattle.definitions.specs.declared.fault.Fault.{Fault}
-use Rattle.definitions.specs.declared.fault.Fault.TheVariants as faults
-use Rattle.document_values.specs.Docs.{IsGoodPair}
+use Rattle.definitions.specs.Values.{Document}
 use Rattle.document_indexer.specs.Indexed.{IsWithinLimits}
-use Rattle.layouts.specs.DocumentReading.{deepest}
 use Rattle.segment.specs.Opened.{IsOpened, StandsFor}
 use Rattle.segment.specs.declared.segment.Segment as code
-use Rattle.segment_definitions.specs.Segments.{IsTaken}
 use Rattle.segment_definitions.specs.Slots.{slot}
 use Rattle.segment_definitions.specs.Waiting.{Waits}
 use Rattle.index_state.proofs.EachFlagged.{each_more}
 use Rattle.segment_search.proofs.Flagging.{flagged_more, flagged_within}
 use Rattle.segment_search.proofs.RowsRead.{docs_counted}
 use Rattle.index_state.proofs.Groups.{HaveFlags}
-use Rattle.index_state.proofs.OpenDocs.{open_docs_are}
+use Rattle.index_state.proofs.OpenDocs.{open_last}
 use Rattle.index_state.proofs.Outcomes.{closed_is_not_ready, own_refuses, writer_is_not_ready}
+use Rattle.index_state.proofs.PendingDocs.{given_ok}
 use Rattle.segment_search.proofs.Places.{zip_length, zip_more}
 use Rattle.definitions.proofs.Lists.{all_push as all_more}
 use Rattle.index_state.proofs.Waitings.{added_closed, added_open, deleted_more}
@@ -72,48 +68,7 @@ sets_within schema analyze docs segments sets h f =
 pub flagged_behind : (segments more new : List code.Segment) (sets : List (List Bool)) → new ≡ segments ++ more → AreFlagged segments sets → AreFlagged new sets
 flagged_behind segments more new sets e f = subst (λ ss. AreFlagged ss sets) (sym e) (flagged_more segments more sets f)
 
--- a segment more, of documents that are some
-pub closed_group : (schema : Schema) (analyze : Analyzer) (docs : List (List Document)) (segments new : List code.Segment) (last : List Document) (s : code.Segment) → AllZip (StandsFor schema analyze) docs segments → StandsFor schema analyze last s → new ≡ segments ++ s ∷ [] → length last ≢ 0 → AllZip (StandsFor schema analyze) (docs ++ states.as_group last) new
-closed_group schema analyze docs segments new [] s h stands e some = absurd (some refl)
-closed_group schema analyze docs segments new (doc ∷ last) s h stands e some =
-    subst (AllZip (StandsFor schema analyze) (docs ++ (doc ∷ last) ∷ [])) (sym e) (zip_more (StandsFor schema analyze) docs ((doc ∷ last) ∷ []) segments (s ∷ []) h (stands, tt))
-
--- no segment more, where there are no documents
-pub none_group : (schema : Schema) (analyze : Analyzer) (docs : List (List Document)) (segments : List code.Segment) (last : List Document) → AllZip (StandsFor schema analyze) docs segments → length last ≡ 0 → AllZip (StandsFor schema analyze) (docs ++ states.as_group last) segments × (last ≡ [])
-none_group schema analyze docs segments [] h none = (subst (λ ds. AllZip (StandsFor schema analyze) ds segments) (sym (append-nil docs)) h, refl)
-none_group schema analyze docs segments (doc ∷ last) h none = absurd (omega (arith, none))
-
--- each is opened still
-pub opened_more : (schema : Schema) (segments new : List code.Segment) (s : code.Segment) → ∥ AllByRecursion (IsOpened schema) segments ∥₁ → IsOpened schema s → new ≡ segments ++ s ∷ [] → ∥ AllByRecursion (IsOpened schema) new ∥₁
-opened_more schema segments new s h o e = ∥∥₁_map h (λ all. subst (AllByRecursion (IsOpened schema)) (sym e) (all_more (IsOpened schema) segments s all o))
-
-pub opened_same : (schema : Schema) (segments new : List code.Segment) → ∥ AllByRecursion (IsOpened schema) segments ∥₁ → new ≡ segments → ∥ AllByRecursion (IsOpened schema) new ∥₁
-opened_same schema segments new h e = ∥∥₁_map h (λ all. subst (AllByRecursion (IsOpened schema)) (sym e) all)
-
--- the same whether one more was pushed or not
-pub opened_either : (schema : Schema) (segments new : List code.Segment) (s : code.Segment) (pushed : Bool) → ∥ AllByRecursion (IsOpened schema) segments ∥₁ → IsOpened schema s → new ≡ (if pushed then segments ++ s ∷ [] else segments) → ∥ AllByRecursion (IsOpened schema) new ∥₁
-opened_either schema segments new s true h o e = opened_more schema segments new s h o e
-opened_either schema segments new s false h o e = opened_same schema segments new h e
-
-pub flagged_either : (segments new : List code.Segment) (s : code.Segment) (alive : List (List Bool)) (pushed : Bool) → AreFlagged segments alive → new ≡ (if pushed then segments ++ s ∷ [] else segments) → AreFlagged new alive
-flagged_either segments new s alive true h e = subst (λ ss. AreFlagged ss alive) (sym e) (flagged_more segments (s ∷ []) alive h)
-flagged_either segments new s alive false h e = subst (λ ss. AreFlagged ss alive) (sym e) h
-
--- ---- documents that an add takes
-
-pub given_ok : (schema : Schema) (doc : Document) → IsGiven schema doc → calls.document_given schema doc ≡ Ok doc
-given_ok schema doc given = ap₂ answer given.0 given.1
-  where
-    answer : Bool → Bool → Result Document Fault
-    answer unknown indexed = if unknown then Err faults.UnknownField else (if indexed then Ok doc else Err faults.NotIndexable)
-
--- its values are of their types too
-good_document : (doc : Document) → AllByRecursion (IsGoodPair true deepest) doc → IsDocument doc
-good_document [] h = tt
-good_document (p ∷ doc) h = ((h.0.field, h.0.value.value), good_document doc h.1)
-
-pub given_taken : (schema : Schema) (doc : Document) → AllByRecursion (IsGoodPair true deepest) doc → IsGiven schema doc → IsTaken schema doc
-given_taken schema doc good given = (good_document doc good, given_ok schema doc given)
+-- ---- statuses
 
 -- a status that all calls are taken in
 pub ready_status : (st : Status) → status_of st ≡ calls.ready → st ≡ statuses.Ready
@@ -219,7 +174,7 @@ module _ {A : Type 0} {a : analyzers.Ghosts A} (analyze : A → Analyzer) (old :
 pub add_passes : {A : Type 0} {a : analyzers.Ghosts A} (analyze : A → Analyzer) (old : IndexState A a) (c : calls.Configuration) (x : calls.Index) (s : Stands analyze old c x) (p : IsPending analyze old x.state.pending) (doc : Document)
     → (2 ^ 32 ≤ old.settings.block_size + length (slot old.schema doc) + 8) ⊎ OneMorePasses old.schema (analyze old.analyzer) old.settings.docs_per_segment p.last doc → AddPasses c x.state old doc
 add_passes analyze old c x s p doc passes =
-    let last_are = open_docs_are old.settings.docs_per_segment x.state.pending p.full p.last (map (numbered old.settings.docs_per_segment) old.deletions.items) s.sized p.waits.waits in
+    let last_are = open_last old.settings.docs_per_segment x.state.pending p.full p.last (map (numbered old.settings.docs_per_segment) old.deletions.items) p.waits.waits in
     let long = 2 ^ 32 ≤ old.settings.block_size + length (slot old.schema doc) + 8 in
     subst (λ (m : calls.Configuration). long ⊎ OneMorePasses m.schema m.analyze m.docs_per_segment (open_docs m.docs_per_segment x.state.pending) doc) (sym s.made)
     (subst (λ ds. long ⊎ OneMorePasses old.schema (analyze old.analyzer) old.settings.docs_per_segment ds doc) (sym last_are) passes)
@@ -228,7 +183,7 @@ add_passes analyze old c x s p doc passes =
 pub add_within : {A : Type 0} {a : analyzers.Ghosts A} (analyze : A → Analyzer) (old : IndexState A a) (c : calls.Configuration) (x : calls.Index) (s : Stands analyze old c x) (p : IsPending analyze old x.state.pending) (doc : Document)
     → IsWithinLimits old.schema (analyze old.analyzer) p.last doc → IsWithinLimits c.schema c.analyze (open_docs c.docs_per_segment x.state.pending) doc
 add_within analyze old c x s p doc within =
-    let last_are = open_docs_are old.settings.docs_per_segment x.state.pending p.full p.last (map (numbered old.settings.docs_per_segment) old.deletions.items) s.sized p.waits.waits in
+    let last_are = open_last old.settings.docs_per_segment x.state.pending p.full p.last (map (numbered old.settings.docs_per_segment) old.deletions.items) p.waits.waits in
     subst (λ (m : calls.Configuration). IsWithinLimits m.schema m.analyze (open_docs m.docs_per_segment x.state.pending) doc) (sym s.made)
     (subst (λ ds. IsWithinLimits old.schema (analyze old.analyzer) ds doc) (sym last_are) within)
 
@@ -236,7 +191,7 @@ add_within analyze old c x s p doc within =
 pub terms_pass : {A : Type 0} {a : analyzers.Ghosts A} (analyze : A → Analyzer) (old : IndexState A a) (c : calls.Configuration) (x : calls.Index) (s : Stands analyze old c x) (p : IsPending analyze old x.state.pending)
     → TermsPass old.schema (analyze old.analyzer) p.last → TermsPass c.schema c.analyze (open_docs c.docs_per_segment x.state.pending)
 terms_pass analyze old c x s p passes =
-    let last_are = open_docs_are old.settings.docs_per_segment x.state.pending p.full p.last (map (numbered old.settings.docs_per_segment) old.deletions.items) s.sized p.waits.waits in
+    let last_are = open_last old.settings.docs_per_segment x.state.pending p.full p.last (map (numbered old.settings.docs_per_segment) old.deletions.items) p.waits.waits in
     subst (λ (m : calls.Configuration). TermsPass m.schema m.analyze (open_docs m.docs_per_segment x.state.pending)) (sym s.made)
     (subst (λ ds. TermsPass old.schema (analyze old.analyzer) ds) (sym last_are) passes)
 
@@ -292,8 +247,8 @@ all_docs analyze old c x s p =
       waiting = subst (λ full. IsWaiting old.settings.docs_per_segment x.state.pending full p.last old.deletions.items) (sym behind) p.waits;
     }
 
--- segments of these documents are opened, those of what was pending behind the committed ones
+-- segments that were opened behind the committed ones are of all documents
 pub all_opened_for : {A : Type 0} {a : analyzers.Ghosts A} (analyze : A → Analyzer) (old : IndexState A a) (c : calls.Configuration) (x : calls.Index) (s : Stands analyze old c x) (p : IsPending analyze old x.state.pending) (segments : List code.Segment)
     → AllZip (StandsFor old.schema (analyze old.analyzer)) (s.docs ++ (p.full ++ states.as_group p.last)) segments
-    → AllZip (StandsFor old.schema (analyze old.analyzer)) ((s.docs ++ p.full) ++ states.as_group p.last) segments
+    → AllZip (StandsFor old.schema (analyze old.analyzer)) ((all_docs analyze old c x s p).docs ++ states.as_group (all_docs analyze old c x s p).last) segments
 all_opened_for analyze old c x s p segments h = subst (λ ds. AllZip (StandsFor old.schema (analyze old.analyzer)) ds segments) (sym (append_assoc s.docs p.full (states.as_group p.last))) h

@@ -3,10 +3,10 @@ use Rattle.std.proofs.Math.Logic.{∥∥₁_map}
 use Rattle.std.specs.Result.{result_err}
 use Rattle.definitions.specs.Calls as calls
 use Rattle.definitions.specs.declared.fault.Fault.TheVariants as faults
-use Rattle.index_state.proofs.Committing.{half_left}
 use Rattle.index_state.proofs.LongSlots.{long_slot, slot_refused}
-use Rattle.index_state.proofs.Outcomes.{err_has, err_same, own_refuses, ready_of, status_refuses}
-use Rattle.index_state.proofs.Standings.{add_passes, add_taken, add_within, added_stands, given_taken, holds_some, kept_stands, ready_status}
+use Rattle.index_state.proofs.Outcomes.{err_has, err_same, half_way, own_refuses, ready_of, status_refuses, writer_is_not_ready}
+use Rattle.index_state.proofs.PendingDocs.{given_taken}
+use Rattle.index_state.proofs.Standings.{add_passes, add_taken, add_within, added_stands, holds_some, kept_stands, ready_status, stands_stopped}
 use Rattle.index_state.specs.Standing.{AddPasses, HasLongSlot, Stands, state_of, status_of}
 use Rattle.segment_definitions.specs.Slots.{slot}
 use Rattle.index_state.proofs.index_state.IndexState.add_document.Goals as goal
@@ -55,7 +55,7 @@ returns-in_err-check_slot-clause-closed g c =
     err_has c.from_residual-in_err-check_slot.result fault (λ f. f ≡ faults.Limit → (HasLongSlot old doc → ⊥) → state_of old ≡ calls.writer_closed) c.from_residual-in_err-check_slot.ensures.1 (λ is short. absurd (short (slot_refused fault err is)))
 
 pub add-requires-clause-taken : goal.add-requires-clause-taken
-add-requires-clause-taken g c = given_taken c.args.self.now.schema c.args.doc.now c.pairs-len.ensures.pairs c.in_ok-check_document.ensures.given
+add-requires-clause-taken g c = given_taken c.args.self.now.schema c.args.doc.now c.len-pairs.ensures.pairs c.in_ok-check_document.ensures.given
 
 pub add-requires-clause-held : goal.add-requires-clause-held
 add-requires-clause-held g c =
@@ -71,8 +71,11 @@ returns-in_err-add-clause-left g c k x s =
     let fault = c.in_err-add.field-0.0 in
     let none = ap (λ status. calls.status_fault status false) s.status ∙ sym c.check_writer.ensures.value ∙ ap result_err c.in_ok-check_writer.was in
     let taken = add_taken g.A.Analyzer.analyze old k x s doc c.in_ok-check_document.ensures.given none in
-    let left = half_left g.A.Analyzer.analyze old _ (record { analyzer = refl; schema = refl; settings = refl }) k x s fault c.in_err-add.ensures.err none refl refl s.docs s.segments s.groups call taken refl in
-    (left.0, subst (λ r. calls.Leaves k x call r left.0) (err_same c.from_residual-in_err-add.result fault c.from_residual-in_err-add.ensures.1) left.1, left.2)
+    let y : calls.Index = record { state = x.state; status = calls.writer_closed } in (
+      y,
+      subst (λ r. calls.Leaves k x call r y) (err_same c.from_residual-in_err-add.result fault c.from_residual-in_err-add.ensures.1) (half_way k x call fault c.in_err-add.ensures.err taken refl),
+      stands_stopped g.A.Analyzer.analyze old _ (record { analyzer = refl; schema = refl; settings = refl }) k x s calls.writer_closed writer_is_not_ready refl refl s.docs s.segments s.groups,
+    )
 
 pub returns-in_err-add-clause-limit : goal.returns-in_err-add-clause-limit
 returns-in_err-add-clause-limit g c k x s =

@@ -8,7 +8,7 @@ pub invariant_of-result-clause-opened : goal.invariant_of-result-clause-opened
 invariant_of-result-clause-opened g c = merely c.requires.opened
 
 pub invariant_of-result-clause-held : goal.invariant_of-result-clause-held
-invariant_of-result-clause-held g c = merely (λ _. ([], [], c.new-pending.ensures c.args.schema (g.A.Analyzer.analyze c.args.analyzer) c.args.settings.block_size))
+invariant_of-result-clause-held g c = merely (λ _. ([], [], c.new-pending.ensures.holds c.args.schema (g.A.Analyzer.analyze c.args.analyzer) c.args.settings.block_size))
 
 pub returns-clause-stands : goal.returns-clause-stands
 returns-clause-stands g c groups h =
@@ -16,4 +16,4 @@ returns-clause-stands g c groups h =
     let n = c.docs_per_segment-docs_per_segment.ensures.value in
     let some = c.docs_per_segment-docs_per_segment.ensures.within.0 in
     let sized : 0 < c.args.settings.docs_per_segment = omega (arith, n, some) in
-    first_stands g.A.Analyzer.analyze _ of.docs groups refl sized of.shown of.groups_are of.each (c.new-pending.ensures c.args.schema (g.A.Analyzer.analyze c.args.analyzer) c.args.settings.block_size) c.new-deletions.ensures.items
+    first_stands g.A.Analyzer.analyze _ of.docs groups refl sized of.shown of.groups_are of.each (c.new-pending.ensures.holds c.args.schema (g.A.Analyzer.analyze c.args.analyzer) c.args.settings.block_size) c.new-deletions.ensures.items

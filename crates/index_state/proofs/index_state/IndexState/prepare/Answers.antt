@@ -33,11 +33,11 @@ returns-in_err-check_writer-clause-left g c k x s =
 
 -- ---- what is pending is closed
 
-pub close-requires-clause-held : goal.close-requires-clause-held
-close-requires-clause-held g c =
+pub close-requires : goal.close-requires
+close-requires g c =
     let old = c.args.self.now in
     let ready = ready_of (status_of old.status) (sym c.check_writer.ensures.value ∙ ap result_err c.in_ok-check_writer.was) in
-    ∥∥₁_map old.held (λ held. (g.A.Analyzer.analyze old.analyzer, old.settings.block_size, held ready))
+    record { held = ∥∥₁_map old.held (λ held. (g.A.Analyzer.analyze old.analyzer, old.settings.block_size, held ready)) }
 
 pub returns-in_err-close-clause-left : goal.returns-in_err-close-clause-left
 returns-in_err-close-clause-left g c k x s =
@@ -51,18 +51,27 @@ returns-in_err-close-clause-limit g c k x s =
     let old = c.args.self.now in
     let none = ap (λ status. calls.status_fault status false) s.status ∙ sym c.check_writer.ensures.value ∙ ap result_err c.in_ok-check_writer.was in
     let p = s.pending (ready_of x.status none) in
-    let passes = λ is. terms_pass g.A.Analyzer.analyze old k x s p (c.in_err-close.ensures.limit (g.A.Analyzer.analyze old.analyzer) old.settings.block_size p.full p.last p.holds is) in
     err_has c.from_residual-in_err-close.result c.in_err-close.field-0.0 (λ f. f ≡ faults.Limit → TermsPass k.schema k.analyze (open_docs k.docs_per_segment x.state.pending) ⊎ (2 ^ 32 ≤ length (calls.after k x.state calls.commit_pending).groups)) c.from_residual-in_err-close.ensures.1
-    (λ is. inl (passes is))
+    (λ is. inl (terms_pass g.A.Analyzer.analyze old k x s p (c.in_err-close.ensures.limit (g.A.Analyzer.analyze old.analyzer) old.settings.block_size p.full p.last p.holds is)))
 
 -- ---- and opened
 
-pub open_into-requires-clause-held : goal.open_into-requires-clause-held
-open_into-requires-clause-held g c =
+pub open_into-requires : goal.open_into-requires
+open_into-requires g c =
     let old = c.args.self.now in
     let analyze = g.A.Analyzer.analyze old.analyzer in
     let ready = ready_of (status_of old.status) (sym c.check_writer.ensures.value ∙ ap result_err c.in_ok-check_writer.was) in
-    ∥∥₁_map old.held (λ held. (let some = held ready in (analyze, old.settings.block_size, some.0 ++ states.as_group some.1, [], c.in_ok-close.ensures.ok analyze old.settings.block_size some.0 some.1 some.2)))
+    record { held = ∥∥₁_map old.held (λ held. (let some = held ready in (analyze, old.settings.block_size, some.0 ++ states.as_group some.1, [], c.in_ok-close.ensures.ok analyze old.settings.block_size some.0 some.1 some.2))) }
+
+pub invariant_of-self-2 : goal.invariant_of-self-2
+invariant_of-self-2 g c =
+    let old = c.args.self.now in
+    record {
+      opened = c.open_into.ensures.opened old.opened;
+      flagged = flagged_behind old.segments.items c.open_into.ensures.behind.0 c.open_into.new.segments.items old.alive.items c.open_into.ensures.behind.1 old.flagged;
+      held = merely (λ e. absurd (writer_is_not_ready e));
+      few = old.few;
+    }
 
 pub returns-in_err-open_into-clause-left : goal.returns-in_err-open_into-clause-left
 returns-in_err-open_into-clause-left g c k x s =
