@@ -61,7 +61,7 @@ open_into-requires g c =
     let old = c.args.self.now in
     let analyze = g.A.Analyzer.analyze old.analyzer in
     let ready = ready_of (status_of old.status) (sym c.check_writer.ensures.value ∙ ap result_err c.in_ok-check_writer.was) in
-    record { held = ∥∥₁_map old.held (λ held. (let some = held ready in (analyze, old.settings.block_size, some.0 ++ states.as_group some.1, [], c.in_ok-close.ensures.ok analyze old.settings.block_size some.0 some.1 some.2))) }
+    record { held = ∥∥₁_map old.held (λ held. (let some = held ready in (analyze, old.settings.block_size, (some.0 ++ states.as_group some.1, [], c.in_ok-close.ensures.ok analyze old.settings.block_size some.0 some.1 some.2)))) }
 
 pub invariant_of-self-2 : goal.invariant_of-self-2
 invariant_of-self-2 g c =
