@@ -163,9 +163,9 @@ module _ {A : Type 0} {a : analyzers.Ghosts A} (analyze : A → Analyzer) (old :
         let open_waits : (length (p.last ++ doc ∷ []) < n) → IsWaiting n pending p.full (p.last ++ doc ∷ []) old.deletions.items = λ less. record { waits = added_open n x.state.pending p.full p.last numbers p.waits.waits doc less; small = p.waits.small } in
         let full_waits : (n ≤ length (p.last ++ doc ∷ [])) → IsWaiting n pending (p.full ++ (p.last ++ doc ∷ []) ∷ []) [] old.deletions.items = λ more. record { waits = added_closed n x.state.pending p.full p.last numbers p.waits.waits doc more; small = p.waits.small } in
         let waiting : IsPending analyze new pending = ⊎_elim
-          (λ less. pending_with analyze old new alike pending p.full (p.last ++ doc ∷ []) (subst (λ ds. IsWaiting n pending p.full (p.last ++ doc ∷ []) ds) (sym dels) (open_waits less.0)) less.1 committed)
-          (λ more. pending_with analyze old new alike pending (p.full ++ (p.last ++ doc ∷ []) ∷ []) [] (subst (λ ds. IsWaiting n pending (p.full ++ (p.last ++ doc ∷ []) ∷ []) [] ds) (sym dels) (full_waits more.0)) more.1 committed)
-          held in
+        (λ less. pending_with analyze old new alike pending p.full (p.last ++ doc ∷ []) (subst (λ ds. IsWaiting n pending p.full (p.last ++ doc ∷ []) ds) (sym dels) (open_waits less.0)) less.1 committed)
+        (λ more. pending_with analyze old new alike pending (p.full ++ (p.last ++ doc ∷ []) ∷ []) [] (subst (λ ds. IsWaiting n pending (p.full ++ (p.last ++ doc ∷ []) ∷ []) [] ds) (sym dels) (full_waits more.0)) more.1 committed)
+        held in
         subst (λ (t : states.State). Stands analyze new c (record { state = t; status = x.status })) (sym add_waits)
         (stands_with analyze old new alike c x s y s.docs (subst (λ ss. AllZip (StandsFor old.schema (analyze old.analyzer)) s.docs ss) (sym segments) s.segments)
         (s.status ∙ ap status_of (sym status)) (s.groups ∙ ap (λ sets. live_groups (flagged_each s.docs sets)) (sym alive)) (λ _. waiting))
@@ -212,7 +212,7 @@ deleted_stands analyze old new alike c x s p d status alive segments held dels b
     let waits = subst (Waits n y.state.pending p.full p.last) more (deleted_more n x.state.pending p.full p.last (map (numbered n) old.deletions.items) w.waits d.term) in
     let one : IsWaiting n y.state.pending p.full p.last (old.deletions.items ++ d ∷ []) = record { waits = waits; small = all_more (IsSmall n) old.deletions.items d w.small (omega (arith, short, docs)) } in
     let waiting : IsPending analyze new y.state.pending = pending_with analyze old new alike y.state.pending p.full p.last (subst (λ ds. IsWaiting n y.state.pending p.full p.last ds) (sym dels) one)
-      (subst (λ h. Holds old.schema (analyze old.analyzer) old.settings.block_size h p.full p.last) (sym held) p.holds) (ap length segments ∙ p.committed ∙ sym (ap length alive)) in
+    (subst (λ h. Holds old.schema (analyze old.analyzer) old.settings.block_size h p.full p.last) (sym held) p.holds) (ap length segments ∙ p.committed ∙ sym (ap length alive)) in
     subst (λ u. Stands analyze new c (record { state = calls.after c x.state (calls.delete_term u); status = x.status })) named
     (stands_with analyze old new alike c x s y s.docs (subst (λ ss. AllZip (StandsFor old.schema (analyze old.analyzer)) s.docs ss) (sym segments) s.segments)
     (s.status ∙ ap status_of (sym status)) (s.groups ∙ ap (λ sets. live_groups (flagged_each s.docs sets)) (sym alive)) (λ _. waiting))

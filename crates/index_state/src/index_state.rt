@@ -235,7 +235,6 @@ impl<A: Analyzer + Drop> IndexState<A> {
     {
         self.check_writer()?;
         check_document(&self.schema, doc)?;
-        let _pairs = doc.len();
         check_slot(self.alloc, &self.schema, self.settings.block_size(), doc)?;
         self.status = Status::WriterClosed;
         self.pending

@@ -5,7 +5,6 @@ use Rattle.definitions.specs.Calls as calls
 use Rattle.definitions.specs.declared.fault.Fault.TheVariants as faults
 use Rattle.index_state.proofs.LongSlots.{long_slot, slot_refused}
 use Rattle.index_state.proofs.Outcomes.{err_has, err_same, half_way, own_refuses, ready_of, status_refuses, writer_is_not_ready}
-use Rattle.index_state.proofs.PendingDocs.{given_taken}
 use Rattle.index_state.proofs.Standings.{add_passes, add_taken, add_within, added_stands, holds_some, kept_stands, ready_status, stands_stopped}
 use Rattle.index_state.specs.Standing.{AddPasses, HasLongSlot, Stands, state_of, status_of}
 use Rattle.segment_definitions.specs.Slots.{slot}
@@ -53,9 +52,6 @@ returns-in_err-check_slot-clause-closed g c =
     let fault = c.in_err-check_slot.field-0.0 in
     let err = subst (λ n. (fault ≡ faults.OutOfMemory) ⊎ ((fault ≡ faults.Limit) × (2 ^ 32 ≤ n + length (slot old.schema doc) + 8))) c.block_size.ensures c.in_err-check_slot.ensures.err in
     err_has c.from_residual-in_err-check_slot.result fault (λ f. f ≡ faults.Limit → (HasLongSlot old doc → ⊥) → state_of old ≡ calls.writer_closed) c.from_residual-in_err-check_slot.ensures.1 (λ is short. absurd (short (slot_refused fault err is)))
-
-pub add-requires-clause-taken : goal.add-requires-clause-taken
-add-requires-clause-taken g c = given_taken c.args.self.now.schema c.args.doc.now c.len-pairs.ensures.pairs c.in_ok-check_document.ensures.given
 
 pub add-requires-clause-held : goal.add-requires-clause-held
 add-requires-clause-held g c =
