@@ -1,5 +1,5 @@
 -- What a commit prepares and installs.
-use Rattle.std.proofs.Common.{[], ◌++◌, ◌<◌, ◌∙◌, ◌∷◌, ◌≡◌, ◌≤◌, ◌⊎◌, ◌||◌, ◌^◌, Bool, Err, IfErr, List, None, Result, Some, ap, ap₂, arith, drop, false, length, map, refl, subst, sym, true, ℕ}
+use Rattle.std.proofs.Common.{[], ◌++◌, ◌<◌, ◌∙◌, ◌∷◌, ◌≡◌, ◌≤◌, ◌⊎◌, ◌||◌, ◌^◌, Bool, Err, IfErr, List, None, Result, Some, ap, ap₂, drop, false, length, map, refl, subst, sym, true, ℕ}
 use Rattle.std.proofs.lemmas.List.{drop-append-le}
 use Rattle.std.specs.List.{AllByRecursion, AllZip}
 use Rattle.std.specs.Result.{IsErrAnd}

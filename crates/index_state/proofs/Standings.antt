@@ -1,7 +1,6 @@
 -- What an index in memory stands for, as calls are made.
-use Rattle.std.proofs.Common.{[], ◌*◌, ◌++◌, ◌+◌, ◌<◌, ◌^◌, ◌∙◌, ◌∷◌, ◌≡◌, ◌≢◌, ◌≤◌, ◌⊎◌, Bool, List, None, Ok, ap, ap₂, append_assoc, arith, drop, false, length, length-append, map, refl, subst, sym, true, ⊎_elim, ℕ}
-use Rattle.std.proofs.Math.Logic.{∥∥₁_map}
-use Rattle.std.proofs.lemmas.List.{append-nil, drop-append-le, drop_all, map-append}
+use Rattle.std.proofs.Common.{[], ◌*◌, ◌++◌, ◌+◌, ◌<◌, ◌^◌, ◌∙◌, ◌∷◌, ◌≡◌, ◌≢◌, ◌≤◌, ◌⊎◌, Bool, List, None, Ok, ap, ap₂, append_assoc, arith, drop, false, length, length-append, map, refl, subst, sym, ⊎_elim, ℕ}
+use Rattle.std.proofs.lemmas.List.{drop-append-le, drop_all, map-append}
 use Rattle.std.specs.List.{AllByRecursion, AllZip}
 use Rattle.std.specs.Result.{result_err}
 use Rattle.common.specs.declared.analyzer.Analyzer as analyzers
@@ -26,7 +25,7 @@ use Rattle.index_state.proofs.Groups.{HaveFlags}
 use Rattle.index_state.proofs.OpenDocs.{open_last}
 use Rattle.index_state.proofs.Outcomes.{closed_is_not_ready, own_refuses, writer_is_not_ready}
 use Rattle.index_state.proofs.PendingDocs.{given_ok}
-use Rattle.segment_search.proofs.Places.{zip_length, zip_more}
+use Rattle.segment_search.proofs.Places.{zip_length}
 use Rattle.definitions.proofs.Lists.{all_push as all_more}
 use Rattle.index_state.proofs.Waitings.{added_closed, added_open, deleted_more}
 use Rattle.index_state.specs.Deletions.{IsSmall, numbered}

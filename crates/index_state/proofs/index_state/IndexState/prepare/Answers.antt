@@ -1,7 +1,7 @@
-use Rattle.std.proofs.Common.{List, ap, append_assoc, arith, drop, false, inl, inr, length, map, refl, subst, sym, ◌++◌, ◌∙◌, ◌<◌, ◌^◌, ◌≡◌, ◌≤◌, ◌⊎◌, [], ℕ}
+use Rattle.std.proofs.Common.{List, ap, arith, false, inl, inr, length, map, refl, subst, sym, ◌++◌, ◌∙◌, ◌<◌, ◌^◌, ◌≡◌, ◌≤◌, ◌⊎◌, [], ℕ}
 use Rattle.std.proofs.Math.Logic.{∥∥₁_map}
 use Rattle.std.proofs.lemmas.Grind.{merely}
-use Rattle.std.specs.List.{AllByRecursion, AllZip}
+use Rattle.std.specs.List.{AllZip}
 use Rattle.std.specs.Result.{result_err}
 use Rattle.definitions.specs.Calls as calls
 use Rattle.definitions.specs.State as states
@@ -93,7 +93,6 @@ returns-then-len-gt-MAX_SEGMENTS-clause-left g c k x s =
     let analyze = g.A.Analyzer.analyze old.analyzer in
     let none = ap (λ status. calls.status_fault status false) s.status ∙ sym c.check_writer.ensures.value ∙ ap result_err c.in_ok-check_writer.was in
     let p = s.pending (ready_of x.status none) in
-    let v = all_docs g.A.Analyzer.analyze old k x s p in
     let few = sets_within old.schema analyze s.docs old.segments.items old.alive.items s.segments old.flagged in
     let shown = c.in_ok-open_into.ensures.ok analyze old.settings.block_size s.docs (p.full ++ states.as_group p.last) [] s.segments (c.in_ok-close.ensures.ok analyze old.settings.block_size p.full p.last p.holds) in
     half_left g.A.Analyzer.analyze old _ (record { analyzer = refl; schema = refl; settings = refl }) k x s faults.Limit (inr refl) none refl refl
