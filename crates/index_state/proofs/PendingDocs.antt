@@ -1,5 +1,5 @@
 -- What the segments of pending documents hold, and why they take one document more or don't.
-use Rattle.std.proofs.Common.{[], ◌++◌, ◌+◌, ◌<◌, ◌^◌, ◌∙◌, ◌∷◌, ◌≡◌, ◌≤◌, ◌⊎◌, Bool, Err, IfErr, List, None, Ok, Option, Result, Some, ap, ap₂, append_assoc, arith, get_or, if◌then◌else◌, inl, inr, length, length-append, refl, subst, suc, sym, take, true, zero, ⊎_elim, ℕ}
+use Rattle.std.proofs.Common.{[], ◌++◌, ◌+◌, ◌<◌, ◌^◌, ◌∙◌, ◌∷◌, ◌≡◌, ◌≤◌, ◌⊎◌, Bool, Err, IfErr, List, None, Ok, OnErr, Option, Result, Some, ap, ap₂, append_assoc, arith, get_or, if◌then◌else◌, inl, inr, length, length-append, refl, subst, suc, sym, take, true, zero, ⊎_elim, ℕ}
 use Rattle.std.proofs.Math.Logic.{∥∥₁_elim, ∥∥₁_map}
 use Rattle.std.proofs.lemmas.List.{take_more}
 use Rattle.std.specs.List.{AllByRecursion, AllZip}
@@ -142,3 +142,8 @@ module _ (schema : Schema) (analyze : Analyzer) (block_size : ℕ) (pending : Pe
 -- each is opened still
 pub opened_more : (schema : Schema) (segments new : List code.Segment) (s : code.Segment) → ∥ AllByRecursion (IsOpened schema) segments ∥₁ → IsOpened schema s → new ≡ segments ++ s ∷ [] → ∥ AllByRecursion (IsOpened schema) new ∥₁
 opened_more schema segments new s h o e = ∥∥₁_map h (λ all. subst (AllByRecursion (IsOpened schema)) (sym e) (all_push (IsOpened schema) segments s all o))
+
+-- some of them are
+pub some_opened : {T E : Type 0} (r : Result T E) (schema : Schema) (analyze : Analyzer) (docs more : List (List Document)) (segments : List code.Segment) → AllZip (StandsFor schema analyze) (docs ++ more) segments → OnErr r ((some : List (List Document)) × AllZip (StandsFor schema analyze) (docs ++ some) segments)
+some_opened (Ok x) schema analyze docs more segments h = tt
+some_opened (Err e) schema analyze docs more segments h = (more, h)

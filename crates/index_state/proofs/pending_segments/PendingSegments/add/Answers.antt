@@ -35,10 +35,13 @@ returns-then-num_docs-docs_per_segment-clause-ok g c full last h =
     let count = c.num_docs.ensures schema analyze block_size more written in
     let short = c.if-num_docs-docs_per_segment.true in
     let size = c.docs_per_segment.ensures.value in
-    inl (omega (arith, count, short, size), record {
-      closed = subst (AllZip (IsSegmentOf schema analyze) full) (sym c.in_ok-writer.ensures.full) h.closed;
-      writer = (one_more last c.args.doc.now, written);
-    })
+    inl (
+      omega (arith, count, short, size),
+      record {
+        closed = subst (AllZip (IsSegmentOf schema analyze) full) (sym c.in_ok-writer.ensures.full) h.closed;
+        writer = (one_more last c.args.doc.now, written);
+      },
+    )
 
 pub returns-then-num_docs-docs_per_segment-clause-within : goal.returns-then-num_docs-docs_per_segment-clause-within
 returns-then-num_docs-docs_per_segment-clause-within g c full last h = c.in_ok-add.ensures.within c.args.settings.now.block_size last (c.in_ok-writer.ensures.ok (g.A.Analyzer.analyze c.args.analyzer.now) full last h)

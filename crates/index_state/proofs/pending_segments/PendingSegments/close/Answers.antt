@@ -9,8 +9,8 @@ use Rattle.index_state.proofs.pending_segments.PendingSegments.close.Goals as go
 pub push-requires : goal.push-requires
 push-requires c = record {
   written = ∥∥₁_map c.requires.held (λ h.
-    let w = writer_holds c.args.schema.now h.0 h.1 c.args.self.now h.2.0 h.2.1 h.2.2 c.in-Some.writer (sym c.in-Some.ensures.value) in
-    (h.0, h.1, h.2.1, w.1, w.0));
+      let w = writer_holds c.args.schema.now h.0 h.1 c.args.self.now h.2.0 h.2.1 h.2.2 c.in-Some.writer (sym c.in-Some.ensures.value) in
+      (h.0, h.1, h.2.1, w.1, w.0));
 }
 
 pub returns-in-Some-clause-ok : goal.returns-in-Some-clause-ok
