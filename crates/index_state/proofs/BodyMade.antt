@@ -14,6 +14,7 @@ use Rattle.index_file.specs.Places.{Follow, Says}
 use Rattle.index_file.proofs.OpenedSegments.{opened_few, opened_is}
 use Rattle.segment_definitions.specs.SegmentBodies.{Fits, IsMember, IsOfPart, Makes, Member, Part, fresh, kept, part_bytes, place_of, segments_body}
 use Rattle.segment_definitions.specs.Segments.{IsSegment}
+use Rattle.segment_search.proofs.Flagging.{flagged_within}
 use Rattle.index_state.specs.Bodies.{kept_from, next_parts}
 use Rattle.index_state.specs.Flags.{AreFlagged, members}
 
@@ -26,6 +27,9 @@ members_more [] (s ∷ more) [] l = refl
 members_more [] more (flags ∷ sets) l = absurd (omega (arith, l))
 members_more (s ∷ segments) more [] l = refl
 members_more (s ∷ segments) more (flags ∷ sets) l = ap (λ ms. (bytes_of s, flags) ∷ ms) (members_more segments more sets (omega (arith, l)))
+
+pub members_behind : (segments more new : List code.Segment) (sets : List (List Bool)) → new ≡ segments ++ more → AreFlagged segments sets → members new sets ≡ members segments sets
+members_behind segments more new sets e f = ap (λ ss. members ss sets) e ∙ members_more segments more sets (flagged_within segments sets f)
 
 pub zip_flags : (segs : List (List ℕ)) (sets : List (List Bool)) → length sets ≤ length segs → map (λ (m : Member). m.1) (zip segs sets) ≡ sets
 zip_flags [] [] l = refl

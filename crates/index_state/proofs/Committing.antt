@@ -1,6 +1,6 @@
 -- What a commit prepares and installs.
-use Rattle.std.proofs.Common.{[], ◌++◌, ◌<◌, ◌∙◌, ◌∷◌, ◌≡◌, ◌≤◌, ◌⊎◌, ◌||◌, ◌^◌, Bool, Err, IfErr, List, None, Result, Some, ap, ap₂, arith, drop, false, length, map, refl, subst, sym, true, ℕ}
-use Rattle.std.proofs.lemmas.List.{drop-append-le, drop_all}
+use Rattle.std.proofs.Common.{[], ◌++◌, ◌<◌, ◌∙◌, ◌∷◌, ◌≡◌, ◌≤◌, ◌⊎◌, ◌||◌, ◌^◌, Bool, Err, IfErr, List, None, Result, Some, ap, ap₂, drop, false, length, map, refl, subst, sym, true, ℕ}
+use Rattle.std.proofs.lemmas.List.{drop-append-le}
 use Rattle.std.specs.List.{AllByRecursion, AllZip}
 use Rattle.std.specs.Result.{IsErrAnd}
 use Rattle.common.specs.declared.analyzer.Analyzer as analyzers
@@ -23,17 +23,18 @@ use Rattle.segment_definitions.specs.Segments.{IsSegment}
 use Rattle.segment_definitions.specs.Rows.{left_rows}
 use Rattle.segment_definitions.specs.Waiting.{pending_rows}
 use Rattle.index_state.proofs.BodyMade.{commit_makes}
-use Rattle.index_state.proofs.EachFlagged.{each_more}
 use Rattle.index_state.proofs.Groups.{groups_committed}
 use Rattle.index_state.proofs.Outcomes.{commit_taken, err_has, half_way, status_refuses, writer_is_not_ready}
-use Rattle.index_state.proofs.Standings.{same_made, stands_stopped}
+use Rattle.segment_search.proofs.Places.{zip_length}
+use Rattle.index_state.proofs.Standings.{AllDocs, same_made, stands_stopped}
 use Rattle.index_state.proofs.Waitings.{all_within, nothing_waits, terms_numbered}
 use Rattle.index_state.specs.Bodies.{next_parts}
 use Rattle.index_state.specs.Commits.{IsPrepared}
 use Rattle.index_state.specs.Deletions.{IsSmall, numbered, term_of}
 use Rattle.index_state.specs.Flags.{AreFlagged, flagged_each, members}
+use Rattle.index_state.specs.Pending.{Holds}
 use Rattle.index_state.specs.Records.{IsCommitBody}
-use Rattle.index_state.specs.Standing.{IsMadeAlike, IsWaiting, Stands, status_of}
+use Rattle.index_state.specs.Standing.{IsMadeAlike, IsPending, IsWaiting, Stands, status_of}
 use Rattle.index_state.specs.declared.deletions.Deletion.{Deletion}
 use Rattle.index_state.specs.declared.index_state.IndexState.{IndexState}
 use Rattle.index_state.specs.declared.status.Status.TheVariants as status
@@ -43,19 +44,18 @@ terms_of n [] = refl
 terms_of n (d ∷ dels) = ap (λ ts. d.term ∷ ts) (terms_of n dels)
 
 -- with these sets all segments are those of the state after the commit
-pub prepared_stands : {A : Type 0} {a : analyzers.Ghosts A} (analyze : A → Analyzer) (old new : IndexState A a) (alike : IsMadeAlike old new) (c : calls.Configuration) (x : calls.Index) (s : Stands analyze old c x) (sets : List (List Bool))
-    → x.status ≡ calls.ready → length old.alive.items ≤ length s.docs
-    → AllZip (StandsFor old.schema (analyze old.analyzer)) (s.docs ++ states.as_group old.open) new.segments.items → new.open ≡ [] → length sets ≡ length (s.docs ++ states.as_group old.open)
-    → flagged_each (s.docs ++ states.as_group old.open) sets
-    ≡ map (left_rows (holds old.schema (analyze old.analyzer)) (map term_of old.deletions.items)) (flagged_each (s.docs ++ states.as_group old.open) old.alive.items)
-    ++ pending_rows (holds old.schema (analyze old.analyzer)) (map (numbered old.settings.docs_per_segment) old.deletions.items) old.settings.docs_per_segment 0 (drop (length old.alive.items) (s.docs ++ states.as_group old.open))
+pub prepared_stands : {A : Type 0} {a : analyzers.Ghosts A} (analyze : A → Analyzer) (old new : IndexState A a) (alike : IsMadeAlike old new) (c : calls.Configuration) (x : calls.Index) (s : Stands analyze old c x) (v : AllDocs old x.state) (sets : List (List Bool))
+    → AllZip (StandsFor old.schema (analyze old.analyzer)) (v.docs ++ states.as_group v.last) new.segments.items → length sets ≡ length (v.docs ++ states.as_group v.last)
+    → flagged_each (v.docs ++ states.as_group v.last) sets
+    ≡ map (left_rows (holds old.schema (analyze old.analyzer)) (map term_of old.deletions.items)) (flagged_each (v.docs ++ states.as_group v.last) old.alive.items)
+    ++ pending_rows (holds old.schema (analyze old.analyzer)) (map (numbered old.settings.docs_per_segment) old.deletions.items) old.settings.docs_per_segment 0 (drop (length old.alive.items) (v.docs ++ states.as_group v.last))
     → IsPrepared analyze new sets c x
-prepared_stands analyze old new alike c x s sets ready few segments opened each rows =
-    let w = s.waits ready in
+prepared_stands analyze old new alike c x s v sets segments each rows =
+    let w = v.waiting in
     let n = old.settings.docs_per_segment in
-    let docs = s.docs ++ states.as_group old.open in
+    let docs = v.docs ++ states.as_group v.last in
     let terms = sym (terms_of n old.deletions.items) ∙ ap (map (λ d. d.0)) (sym w.waits.deletions) ∙ sym (terms_numbered x.state.pending 0) in
-    let groups = groups_committed old.schema (analyze old.analyzer) n x.state s.docs old.open (map (numbered n) old.deletions.items) old.alive.items sets (map term_of old.deletions.items) few s.groups w.waits terms rows in
+    let groups = groups_committed old.schema (analyze old.analyzer) n x.state v.docs v.last (map (numbered n) old.deletions.items) old.alive.items sets (map term_of old.deletions.items) v.few v.groups w.waits terms rows in
     record {
       made = same_made analyze old new alike (λ schema analyzer settings. c ≡ configuration_of schema (analyze analyzer) settings) s.made;
       sized = same_made analyze old new alike (λ schema analyzer settings. 0 < settings.docs_per_segment) s.sized;
@@ -63,31 +63,37 @@ prepared_stands analyze old new alike c x s sets ready few segments opened each 
       segments = same_made analyze old new alike (λ schema analyzer settings. AllZip (StandsFor schema (analyze analyzer)) docs new.segments.items) segments;
       each = each;
       groups = subst (λ (k : calls.Configuration). (calls.after k x.state calls.commit_pending).groups ≡ live_groups (flagged_each docs sets)) (sym s.made) groups;
-      empty = opened;
+    }
+
+-- nothing is pending, and segments hold nothing
+pub nothing_pending : {A : Type 0} {a : analyzers.Ghosts A} (analyze : A → Analyzer) (index : IndexState A a) → 0 < index.settings.docs_per_segment → index.deletions.items ≡ [] → Holds index.schema (analyze index.analyzer) index.settings.block_size index.pending [] [] → length index.segments.items ≡ length index.alive.items → IsPending analyze index []
+nothing_pending analyze index sized dels holds committed =
+    let n = index.settings.docs_per_segment in
+    let one : IsWaiting n [] [] [] [] = record { waits = nothing_waits n sized; small = tt } in
+    record {
+      full = [];
+      last = [];
+      waits = subst (λ ds. IsWaiting n [] [] [] ds) (sym dels) one;
+      holds = holds;
+      committed = committed;
     }
 
 -- what was prepared is committed
 pub installed_stands : {A : Type 0} {a : analyzers.Ghosts A} (analyze : A → Analyzer) (old new : IndexState A a) (alike : IsMadeAlike old new) (c : calls.Configuration) (x : calls.Index) (sets : List (List Bool)) (p : IsPrepared analyze old sets c x)
-    → new.segments.items ≡ old.segments.items → new.alive.items ≡ sets → new.open ≡ old.open → new.deletions.items ≡ [] → new.status ≡ status.Ready
+    → new.segments.items ≡ old.segments.items → new.alive.items ≡ sets → Holds new.schema (analyze new.analyzer) new.settings.block_size new.pending [] [] → new.deletions.items ≡ [] → new.status ≡ status.Ready
     → Stands analyze new c (record { state = calls.after c x.state calls.commit_pending; status = calls.ready })
-installed_stands analyze old new alike c x sets p segments alive opened dels ready =
-    let n = old.settings.docs_per_segment in
-    let none : drop (length new.alive.items) p.docs ≡ [] = drop_all (length new.alive.items) p.docs (let e = ap length alive in let each = p.each in omega (arith, e, each)) in
-    let one : IsWaiting n [] [] [] [] = record { waits = nothing_waits n p.sized; small = tt } in
-    let waiting = subst (λ gs. IsWaiting n [] gs new.open new.deletions.items) (sym none) (subst (λ ds. IsWaiting n [] [] ds new.deletions.items) (sym (opened ∙ p.empty)) (subst (λ ds. IsWaiting n [] [] [] ds) (sym dels) one)) in
+installed_stands analyze old new alike c x sets p segments alive holds dels ready =
+    let long = zip_length (StandsFor old.schema (analyze old.analyzer)) p.docs old.segments.items p.segments in
+    let sized = same_made analyze old new alike (λ schema analyzer settings. 0 < settings.docs_per_segment) p.sized in
     record {
       made = same_made analyze old new alike (λ schema analyzer settings. c ≡ configuration_of schema (analyze analyzer) settings) p.made;
       status = ap status_of (sym ready);
-      sized = same_made analyze old new alike (λ schema analyzer settings. 0 < settings.docs_per_segment) p.sized;
+      sized = sized;
       docs = p.docs;
       segments = same_made analyze old new alike (λ schema analyzer settings. AllZip (StandsFor schema (analyze analyzer)) p.docs new.segments.items) (subst (AllZip (StandsFor old.schema (analyze old.analyzer)) p.docs) (sym segments) p.segments);
       groups = p.groups ∙ ap (λ fs. live_groups (flagged_each p.docs fs)) (sym alive);
-      waits = λ _. same_made analyze old new alike (λ schema analyzer settings. IsWaiting settings.docs_per_segment [] (drop (length new.alive.items) p.docs) new.open new.deletions.items) waiting;
+      pending = λ _. nothing_pending analyze new sized dels holds (ap length segments ∙ sym long ∙ sym p.each ∙ sym (ap length alive));
     }
-
--- segments behind the committed ones change no group
-pub groups_more : {A : Type 0} {a : analyzers.Ghosts A} (analyze : A → Analyzer) (old : IndexState A a) (c : calls.Configuration) (x : calls.Index) (s : Stands analyze old c x) (more : List (List Document)) → length old.alive.items ≤ length s.docs → x.state.groups ≡ live_groups (flagged_each (s.docs ++ more) old.alive.items)
-groups_more analyze old c x s more few = s.groups ∙ ap live_groups (sym (each_more s.docs more old.alive.items few))
 
 -- want of memory, or a limit, while a commit is prepared
 pub half_left : {A : Type 0} {a : analyzers.Ghosts A} (analyze : A → Analyzer) (old new : IndexState A a) (alike : IsMadeAlike old new) (c : calls.Configuration) (x : calls.Index) (s : Stands analyze old c x) (fault : Fault)
@@ -102,22 +108,22 @@ half_left analyze old new alike c x s fault want none closed alive docs segments
 )
 
 -- the rows after the commit, of segments, sets and deletions that are those of the index
-pub next_rows : {A : Type 0} {a : analyzers.Ghosts A} (analyze : A → Analyzer) (old : IndexState A a) (c : calls.Configuration) (x : calls.Index) (s : Stands analyze old c x) (segments : List code.Segment) (alive sets : List (List Bool)) (dels : List Deletion)
-    → x.status ≡ calls.ready → length old.alive.items ≤ length s.docs → alive ≡ old.alive.items → dels ≡ old.deletions.items
-    → AllZip (StandsFor old.schema (analyze old.analyzer)) (s.docs ++ states.as_group old.open) segments
+pub next_rows : {A : Type 0} {a : analyzers.Ghosts A} (analyze : A → Analyzer) (old : IndexState A a) (state : states.State) (v : AllDocs old state) (segments : List code.Segment) (alive sets : List (List Bool)) (dels : List Deletion)
+    → alive ≡ old.alive.items → dels ≡ old.deletions.items
+    → AllZip (StandsFor old.schema (analyze old.analyzer)) (v.docs ++ states.as_group v.last) segments
     → ((schema : Schema) (analyze : Analyzer) (n : ℕ) (docs : List (List Document)) → AllZip (StandsFor schema analyze) docs segments → AllByRecursion (λ ds. length ds ≤ n) (drop (length alive) docs) → AllByRecursion (IsSmall n) dels
     → flagged_each docs sets ≡ map (left_rows (holds schema analyze) (map term_of dels)) (flagged_each docs alive) ++ pending_rows (holds schema analyze) (map (numbered n) dels) n 0 (drop (length alive) docs))
-    → flagged_each (s.docs ++ states.as_group old.open) sets
-    ≡ map (left_rows (holds old.schema (analyze old.analyzer)) (map term_of old.deletions.items)) (flagged_each (s.docs ++ states.as_group old.open) old.alive.items)
-    ++ pending_rows (holds old.schema (analyze old.analyzer)) (map (numbered old.settings.docs_per_segment) old.deletions.items) old.settings.docs_per_segment 0 (drop (length old.alive.items) (s.docs ++ states.as_group old.open))
-next_rows analyze old c x s segments alive sets dels ready few same_alive same_dels stands rows =
-    let w = s.waits ready in
+    → flagged_each (v.docs ++ states.as_group v.last) sets
+    ≡ map (left_rows (holds old.schema (analyze old.analyzer)) (map term_of old.deletions.items)) (flagged_each (v.docs ++ states.as_group v.last) old.alive.items)
+    ++ pending_rows (holds old.schema (analyze old.analyzer)) (map (numbered old.settings.docs_per_segment) old.deletions.items) old.settings.docs_per_segment 0 (drop (length old.alive.items) (v.docs ++ states.as_group v.last))
+next_rows analyze old state v segments alive sets dels same_alive same_dels stands rows =
+    let w = v.waiting in
     let n = old.settings.docs_per_segment in
     let has = holds old.schema (analyze old.analyzer) in
-    let docs = s.docs ++ states.as_group old.open in
-    let full = drop (length old.alive.items) s.docs in
-    let behind : drop (length old.alive.items) docs ≡ full ++ states.as_group old.open = drop-append-le (length old.alive.items) s.docs (states.as_group old.open) few in
-    let within = subst (AllByRecursion (λ (ds : List Document). length ds ≤ n)) (sym behind) (all_within n full old.open w.waits.long w.waits.short) in
+    let docs = v.docs ++ states.as_group v.last in
+    let full = drop (length old.alive.items) v.docs in
+    let behind : drop (length old.alive.items) docs ≡ full ++ states.as_group v.last = drop-append-le (length old.alive.items) v.docs (states.as_group v.last) v.few in
+    let within = subst (AllByRecursion (λ (ds : List Document). length ds ≤ n)) (sym behind) (all_within n full v.last w.waits.long w.waits.short) in
     let within' = subst (λ fs. AllByRecursion (λ (ds : List Document). length ds ≤ n) (drop (length fs) docs)) (sym same_alive) within in
     let small = subst (AllByRecursion (IsSmall n)) (sym same_dels) w.small in
     let all = rows old.schema (analyze old.analyzer) n docs stands within' small in
@@ -151,14 +157,12 @@ commit_body schema analyze n pending frame segments others alive sets same k bef
     let is : frame ≡ frame_bytes body = framed ∙ ap₂ (λ (ss : List code.Segment) (fs : List (List Bool)). frame_bytes (segments_body (next_parts k (map bytes_of ss)) fs)) e1 e2 ∙ ap (λ n. frame_bytes (segments_body (next_parts n (map bytes_of segments)) sets)) e3 in
     (body, is, subst (λ ms. Makes (IsSegment schema) ms (members segments sets) body) olds (commit_makes schema segments alive sets opened flagged few each small), subst (λ ms. IsCommitBody schema analyze n pending ms (members segments sets) body) olds says)
 
--- what is there when nothing waits
+-- what is there when nothing is pending
 pub first_stands : {A : Type 0} {a : analyzers.Ghosts A} (analyze : A → Analyzer) (index : IndexState A a) (docs groups : List (List Document)) → index.status ≡ status.Ready → 0 < index.settings.docs_per_segment
-    → AllZip (StandsFor index.schema (analyze index.analyzer)) docs index.segments.items → groups ≡ live_groups (flagged_each docs index.alive.items) → length index.alive.items ≡ length docs → index.open ≡ [] → index.deletions.items ≡ []
+    → AllZip (StandsFor index.schema (analyze index.analyzer)) docs index.segments.items → groups ≡ live_groups (flagged_each docs index.alive.items) → length index.alive.items ≡ length docs → Holds index.schema (analyze index.analyzer) index.settings.block_size index.pending [] [] → index.deletions.items ≡ []
     → Stands analyze index (configuration_of index.schema (analyze index.analyzer) index.settings) (reopened groups)
-first_stands analyze index docs groups ready sized segments are each opened dels =
-    let n = index.settings.docs_per_segment in
-    let none : drop (length index.alive.items) docs ≡ [] = drop_all (length index.alive.items) docs (omega (arith, each)) in
-    let one : IsWaiting n [] [] [] [] = record { waits = nothing_waits n sized; small = tt } in
+first_stands analyze index docs groups ready sized segments are each holds dels =
+    let long = zip_length (StandsFor index.schema (analyze index.analyzer)) docs index.segments.items segments in
     record {
       made = refl;
       status = ap status_of (sym ready);
@@ -166,5 +170,5 @@ first_stands analyze index docs groups ready sized segments are each opened dels
       docs = docs;
       segments = segments;
       groups = are;
-      waits = λ _. subst (λ gs. IsWaiting n [] gs index.open index.deletions.items) (sym none) (subst (λ ds. IsWaiting n [] [] ds index.deletions.items) (sym opened) (subst (λ ds. IsWaiting n [] [] [] ds) (sym dels) one));
+      pending = λ _. nothing_pending analyze index sized dels holds (sym long ∙ sym each);
     }

@@ -8,7 +8,8 @@ pub mod Standings
 pub mod Committing
 pub mod BodyMade
 pub mod Members
-pub mod WrittenDocs
+pub mod PendingDocs
+pub mod OpenDocs
 pub mod Parted
 pub mod Searching
 pub mod LongSlots

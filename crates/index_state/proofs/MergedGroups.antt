@@ -32,13 +32,14 @@ use Rattle.index_state.proofs.BodyMade.{are_members, length-zip, zip_flags}
 use Rattle.index_state.proofs.EachFlagged.{length-each}
 use Rattle.index_state.proofs.Members.{zip_take}
 use Rattle.index_state.proofs.MergeMade.{alive_bytes, alive_flags, alive_members, merge_makes, short_bytes}
-use Rattle.index_state.proofs.MergedLists.{drop_replaced, map_replaced, zip_drop, zip_replaced, zipped_drop, zipped_replaced, zipped_take}
+use Rattle.index_state.proofs.MergedLists.{length-replaced, map_replaced, zip_drop, zip_replaced, zipped_drop, zipped_replaced, zipped_take}
 use Rattle.index_state.proofs.Outcomes.{own_refuses}
-use Rattle.index_state.proofs.Standings.{sets_within, stands_with}
+use Rattle.segment_search.proofs.Places.{zip_length}
+use Rattle.index_state.proofs.Standings.{pending_kept, sets_within, stands_with}
 use Rattle.index_state.specs.Bodies.{merged_parts}
 use Rattle.index_state.specs.Flags.{AreFlagged, flagged_each, members}
 use Rattle.index_state.specs.Merges.{Joins, Replaces, alive_member, all_alive, joined_groups, members_merged, new_in, range_fault, replaced}
-use Rattle.index_state.specs.Standing.{IsMadeAlike, IsWaiting, Stands, members_of, status_of}
+use Rattle.index_state.specs.Standing.{IsMadeAlike, Stands, members_of, status_of}
 use Rattle.index_state.specs.declared.prepared_merge.PreparedMerge.{PreparedMerge}
 use Rattle.index_state.specs.declared.index_state.IndexState.{IndexState}
 
@@ -210,9 +211,9 @@ are_opened schema (t ∷ segments) (flags ∷ sets) o f = ((o.0, f.0), are_opene
 
 module _ {A : Type 0} {a : analyzers.Ghosts A} (analyze : A → Analyzer) (old new : IndexState A a) (alike : IsMadeAlike old new) (c : calls.Configuration) (x : calls.Index) (s : Stands analyze old c x) (p : PreparedMerge) (r : Replaces old p) where
   stands_replaced : MatchOption p.segment (joined_groups p.from p.to x.state.groups ≡ []) (StandsFor old.schema (analyze old.analyzer) (joined_groups p.from p.to x.state.groups))
-      → new.segments.items ≡ replaced p.from p.to (new_in p) old.segments.items → new.alive.items ≡ p.alive.items → new.open ≡ old.open → new.deletions.items ≡ old.deletions.items → new.status ≡ old.status
+      → new.segments.items ≡ replaced p.from p.to (new_in p) old.segments.items → new.alive.items ≡ p.alive.items → new.pending ≡ old.pending → new.deletions.items ≡ old.deletions.items → new.status ≡ old.status
       → Stands analyze new c (record { state = states.after_merge p.from p.to x.state; status = x.status })
-  stands_replaced of segments alive opened dels status =
+  stands_replaced of segments alive held dels status =
       let cut = analyze old.analyzer in
       let from = p.from in
       let to = p.to in
@@ -222,6 +223,7 @@ module _ {A : Type 0} {a : analyzers.Ghosts A} (analyze : A → Analyzer) (old n
       let others = map all_alive (new_in p) in
       let docs = replaced from to news s.docs in
       let few = sets_within old.schema cut s.docs old.segments.items sets s.segments old.flagged in
+      let long = zip_length (StandsFor old.schema cut) s.docs old.segments.items s.segments in
       let some = r.some in
       let inside = r.within in
       let below : from ≤ length sets = omega (arith, some, inside) in
@@ -229,26 +231,27 @@ module _ {A : Type 0} {a : analyzers.Ghosts A} (analyze : A → Analyzer) (old n
       let kept : new.alive.items ≡ replaced from to others sets = alive ∙ r.sets in
       let shown = zip_replaced (StandsFor old.schema cut) from to news s.docs (new_in p) old.segments.items (new_shown old.schema cut p.segment joined of) s.segments in
       let groups = groups_replaced old.schema cut from to p.segment s.docs sets x.state.groups below few s.groups of in
-      let counted = new_counted old.schema cut p.segment joined of in
-      let behind : drop (length new.alive.items) docs ≡ drop (length sets) s.docs = ap (λ fs. drop (length fs) docs) kept ∙ drop_replaced from to news s.docs others sets counted (omega (arith, some)) inside few in
-      let n = old.settings.docs_per_segment in
+      let count = length-replaced from to (new_in p) old.segments.items (omega (arith, below, few, long)) in
+      let counted = length-replaced from to others sets below in
+      let one = length-map (new_in p) all_alive in
       stands_with analyze old new alike c x s y docs (subst (AllZip (StandsFor old.schema cut) docs) (sym segments) shown)
       (s.status ∙ ap status_of (sym status)) (groups ∙ ap (λ fs. live_groups (flagged_each docs fs)) (sym kept))
       (λ ready.
-      subst (λ gs. IsWaiting n x.state.pending gs new.open new.deletions.items) (sym behind)
-      (subst (λ ds. IsWaiting n x.state.pending (drop (length sets) s.docs) ds new.deletions.items) (sym opened)
-      (subst (λ ds. IsWaiting n x.state.pending (drop (length sets) s.docs) old.open ds) (sym dels) (s.waits ready))))
+      let pending = s.pending ready in
+      let committed = pending.committed in
+      let same : length (replaced from to (new_in p) old.segments.items) ≡ length (replaced from to others sets) = omega (arith, count, counted, one, committed) in
+      pending_kept analyze old new alike c x s held dels (ap length segments ∙ same ∙ sym (ap length kept)) pending)
 
   -- after a merge the index stands for what is left
   pub merged_stands : (from to : ℕ) → Joins analyze old from to x.state.groups p
-      → new.segments.items ≡ replaced p.from p.to (new_in p) old.segments.items → new.alive.items ≡ p.alive.items → new.open ≡ old.open → new.deletions.items ≡ old.deletions.items → new.status ≡ old.status
+      → new.segments.items ≡ replaced p.from p.to (new_in p) old.segments.items → new.alive.items ≡ p.alive.items → new.pending ≡ old.pending → new.deletions.items ≡ old.deletions.items → new.status ≡ old.status
       → Stands analyze new c (record { state = states.after_merge from to x.state; status = x.status })
-  merged_stands from to joins segments alive opened dels status =
+  merged_stands from to joins segments alive held dels status =
       let cut = analyze old.analyzer in
       let groups = x.state.groups in
       let of = subst (λ i. MatchOption p.segment (joined_groups i p.to groups ≡ []) (StandsFor old.schema cut (joined_groups i p.to groups))) (sym joins.from_is)
       (subst (λ j. MatchOption p.segment (joined_groups from j groups ≡ []) (StandsFor old.schema cut (joined_groups from j groups))) (sym joins.to_is) joins.of) in
-      let left = stands_replaced of segments alive opened dels status in
+      let left = stands_replaced of segments alive held dels status in
       subst (λ i. Stands analyze new c (record { state = states.after_merge i to x.state; status = x.status })) joins.from_is
       (subst (λ j. Stands analyze new c (record { state = states.after_merge p.from j x.state; status = x.status })) joins.to_is left)
 

@@ -1,6 +1,6 @@
 -- Lists of which some elements give way to others, and pairs of lists.
 use Rattle.std.proofs.Common.{[], ◌++◌, ◌+◌, ◌-◌, ◌∙◌, ◌∷◌, ◌≡◌, ◌≤◌, List, ap, ap₂, arith, drop, length, length-append, map, refl, suc, sym, take, zero, ℕ}
-use Rattle.std.proofs.lemmas.List.{drop-drop, drop-map, length-drop, length-take-le, map-append, take-map}
+use Rattle.std.proofs.lemmas.List.{drop-map, length-drop, length-take-le, map-append, take-map}
 use Rattle.std.specs.List.{AllByRecursion, AllZip, zip}
 use Rattle.definitions.proofs.Lists.{all_append as all_both, all_drop, all_take}
 use Rattle.segment_search.proofs.Places.{zip_more}
@@ -15,10 +15,6 @@ zip_drop R [] [] (suc n) h = tt
 zip_drop R [] (y ∷ ys) (suc n) h = absurd h
 zip_drop R (x ∷ xs) [] (suc n) h = absurd h
 zip_drop R (x ∷ xs) (y ∷ ys) (suc n) h = zip_drop R xs ys n h.1
-
-pub drop_past : {X : Type 0} (xs ys : List X) (n : ℕ) → drop (length xs + n) (xs ++ ys) ≡ drop n ys
-drop_past [] ys n = ap (λ k. drop k ys) (let e : 0 + n ≡ n = omega arith in e)
-drop_past (x ∷ xs) ys n = ap (λ k. drop k (x ∷ xs ++ ys)) (let e : suc (length xs) + n ≡ suc (length xs + n) = omega arith in e) ∙ drop_past xs ys n
 
 -- ---- with others in place of some
 
@@ -40,22 +36,6 @@ pub map_replaced : {X Y : Type 0} (f : X → Y) (from to : ℕ) (news xs : List 
 map_replaced f from to news xs =
     map-append f (take from xs) (news ++ drop to xs)
     ∙ ap₂ (λ first later. first ++ later) (sym (take-map f from xs)) (map-append f news (drop to xs) ∙ ap (λ rest. map f news ++ rest) (sym (drop-map f to xs)))
-
--- what stands behind as many elements as the one list has then is what stood behind as many as it had
-pub drop_replaced : {X Y : Type 0} (from to : ℕ) (news xs : List X) (others ys : List Y) → length news ≡ length others → from ≤ to → to ≤ length ys → length ys ≤ length xs → drop (length (replaced from to others ys)) (replaced from to news xs) ≡ drop (length ys) xs
-drop_replaced from to news xs others ys same l m k =
-    let inside : from ≤ length ys = omega (arith, l, m) in
-    let within : from ≤ length xs = omega (arith, l, m, k) in
-    let first = length-take-le from xs within in
-    let count = length-replaced from to others ys inside in
-    let left = length ys - to in
-    let all : length (replaced from to others ys) ≡ length (take from xs) + (length news + left) = omega (arith, count, first, same) in
-    let behind : to + left ≡ length ys = omega (arith, m) in
-    ap (λ n. drop n (replaced from to news xs)) all
-    ∙ drop_past (take from xs) (news ++ drop to xs) (length news + left)
-    ∙ drop_past news (drop to xs) left
-    ∙ drop-drop left to xs
-    ∙ ap (λ n. drop n xs) behind
 
 -- ---- pairs
 

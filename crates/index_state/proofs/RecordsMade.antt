@@ -25,6 +25,7 @@ use Rattle.index_state.proofs.EachFlagged.{length-each}
 use Rattle.index_state.proofs.MergedGroups.{none_stands}
 use Rattle.index_state.proofs.MergedLists.{zip_drop}
 use Rattle.index_state.proofs.PendingPieces.{length-pending, pieces_waiting}
+use Rattle.index_state.proofs.Standings.{AllDocs}
 use Rattle.index_state.specs.Bodies.{kept_from, next_parts}
 use Rattle.index_state.specs.Deletions.{numbered}
 use Rattle.index_state.specs.Flags.{flagged_each, members}
@@ -75,30 +76,31 @@ commit_says schema analyze n pending docs last dels segments alive sets stand fe
     }
 
 -- after a commit there are as many groups as segments
-pub groups_written : {A : Type 0} {a : analyzers.Ghosts A} (analyze : A → Analyzer) (old : IndexState A a) (c : calls.Configuration) (x : calls.Index) (s : Stands analyze old c x) (segments : List code.Segment)
-    → x.status ≡ calls.ready → length old.alive.items ≤ length s.docs → AllZip (StandsFor old.schema (analyze old.analyzer)) (s.docs ++ as_group old.open) segments
+pub groups_written : {A : Type 0} {a : analyzers.Ghosts A} (analyze : A → Analyzer) (old : IndexState A a) (c : calls.Configuration) (x : calls.Index) (s : Stands analyze old c x) (v : AllDocs old x.state) (segments : List code.Segment)
+    → AllZip (StandsFor old.schema (analyze old.analyzer)) (v.docs ++ as_group v.last) segments
     → length (calls.after c x.state calls.commit_pending).groups ≡ length segments
-groups_written analyze old c x s segments ready few stand =
-    let w = (s.waits ready).waits in
+groups_written analyze old c x s v segments stand =
+    let w = v.waiting.waits in
+    let few = v.few in
     let n = old.settings.docs_per_segment in
     let cut = analyze old.analyzer in
     let has = holds old.schema cut in
     let k = length old.alive.items in
-    let full = drop k s.docs in
+    let full = drop k v.docs in
     let dels = map (numbered n) old.deletions.items in
-    let rows = flagged_each s.docs old.alive.items in
+    let rows = flagged_each v.docs old.alive.items in
     let lefts = map (left_rows has (deleted_terms x.state.pending)) rows in
-    let more = pending_rows has dels n 0 (full ++ as_group old.open) in
-    let groups = commit_groups old.schema cut n x.state rows full old.open dels s.groups w.docs w.long w.short w.deletions in
+    let more = pending_rows has dels n 0 (full ++ as_group v.last) in
+    let groups = commit_groups old.schema cut n x.state rows full v.last dels v.groups w.docs w.long w.short w.deletions in
     let all = length-map (lefts ++ more) living in
     let both = length-append lefts more in
     let first = length-map rows (left_rows has (deleted_terms x.state.pending)) in
-    let flagged = length-each s.docs old.alive.items few in
-    let behind = length-pending has dels n 0 (full ++ as_group old.open) in
-    let parts = length-append full (as_group old.open) in
-    let rest = length-drop k s.docs in
-    let docs = length-append s.docs (as_group old.open) in
-    let each = zip_length (StandsFor old.schema cut) (s.docs ++ as_group old.open) segments stand in
+    let flagged = length-each v.docs old.alive.items few in
+    let behind = length-pending has dels n 0 (full ++ as_group v.last) in
+    let parts = length-append full (as_group v.last) in
+    let rest = length-drop k v.docs in
+    let docs = length-append v.docs (as_group v.last) in
+    let each = zip_length (StandsFor old.schema cut) (v.docs ++ as_group v.last) segments stand in
     let count : length (states.after_commit old.schema cut n x.state).groups ≡ length segments = ap length groups ∙ omega (arith, all, both, first, flagged, behind, parts, rest, docs, each, few) in
     subst (λ (m : calls.Configuration). length (calls.after m x.state calls.commit_pending).groups ≡ length segments) (sym s.made) count
 

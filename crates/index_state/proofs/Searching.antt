@@ -29,9 +29,13 @@ pub ok_both : {T E : Type 0} (r : Result T E) (P Q R : T → Type 0) → ((x : T
 ok_both (Ok x) P Q R f p q = f x p q
 ok_both (Err e) P Q R f p q = tt
 
--- segments that are read stand where they stood
+-- segments that are read are as many
+pub segments_counted : (old new : List code.Segment) → KeepsSegments old new → length new ≡ length old
+segments_counted old new kept = sym (length-map new bytes_of) ∙ ap length kept.bytes ∙ length-map old bytes_of
+
+-- and stand where they stood
 pub segments_held : {Z : Type 0} (v : Vec code.Segment Z) (old new : List code.Segment) → length old ≡ vec_len v → KeepsSegments old new → (with_items v new).items ≡ new
-segments_held v old new long kept = with_items_is v new (sym (length-map new bytes_of) ∙ ap length kept.bytes ∙ length-map old bytes_of ∙ long)
+segments_held v old new long kept = with_items_is v new (segments_counted old new kept ∙ long)
 
 module _ {A : Type 0} {a : analyzers.Ghosts A} (analyze : A → Analyzer) (index : IndexState A a) (c : calls.Configuration) (x : calls.Index) (s : Stands analyze index c x) where
   -- the living documents of its segments are those that are committed

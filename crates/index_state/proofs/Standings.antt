@@ -1,7 +1,6 @@
 -- What an index in memory stands for, as calls are made.
-use Rattle.std.proofs.Common.{[], ◌*◌, ◌++◌, ◌+◌, ◌-◌, ◌<◌, ◌∙◌, ◌∷◌, ◌≡◌, ◌≢◌, ◌≤◌, Bool, Err, List, None, Ok, Result, ap, ap₂, arith, drop, false, if◌then◌else◌, length, map, refl, subst, sym, true, ℕ}
-use Rattle.std.proofs.Math.Logic.{∥∥₁_map}
-use Rattle.std.proofs.lemmas.List.{append-nil, drop-append-le, length-drop, map-append}
+use Rattle.std.proofs.Common.{[], ◌*◌, ◌++◌, ◌+◌, ◌<◌, ◌^◌, ◌∙◌, ◌∷◌, ◌≡◌, ◌≢◌, ◌≤◌, ◌⊎◌, Bool, List, None, Ok, ap, ap₂, append_assoc, arith, drop, false, length, length-append, map, refl, subst, sym, ⊎_elim, ℕ}
+use Rattle.std.proofs.lemmas.List.{drop-append-le, drop_all, map-append}
 use Rattle.std.specs.List.{AllByRecursion, AllZip}
 use Rattle.std.specs.Result.{result_err}
 use Rattle.common.specs.declared.analyzer.Analyzer as analyzers
@@ -11,27 +10,33 @@ use Rattle.definitions.specs.Calls as calls
 use Rattle.definitions.specs.Schema.{Schema}
 use Rattle.definitions.specs.Settings.{Settings}
 use Rattle.definitions.specs.State as states
+use Rattle.definitions.specs.State.{Pending}
 use Rattle.definitions.specs.Step.{configuration_of}
 use Rattle.definitions.specs.Values.{Document}
-use Rattle.definitions.specs.declared.fault.Fault.{Fault}
-use Rattle.definitions.specs.declared.fault.Fault.TheVariants as faults
+use Rattle.document_indexer.specs.Indexed.{IsWithinLimits}
 use Rattle.segment.specs.Opened.{IsOpened, StandsFor}
 use Rattle.segment.specs.declared.segment.Segment as code
+use Rattle.segment_definitions.specs.Slots.{slot}
 use Rattle.segment_definitions.specs.Waiting.{Waits}
 use Rattle.index_state.proofs.EachFlagged.{each_more}
 use Rattle.segment_search.proofs.Flagging.{flagged_more, flagged_within}
 use Rattle.segment_search.proofs.RowsRead.{docs_counted}
 use Rattle.index_state.proofs.Groups.{HaveFlags}
+use Rattle.index_state.proofs.OpenDocs.{open_last}
 use Rattle.index_state.proofs.Outcomes.{closed_is_not_ready, own_refuses, writer_is_not_ready}
-use Rattle.segment_search.proofs.Places.{zip_length, zip_more}
+use Rattle.index_state.proofs.PendingDocs.{given_ok}
+use Rattle.segment_search.proofs.Places.{zip_length}
 use Rattle.definitions.proofs.Lists.{all_push as all_more}
 use Rattle.index_state.proofs.Waitings.{added_closed, added_open, deleted_more}
 use Rattle.index_state.specs.Deletions.{IsSmall, numbered}
 use Rattle.index_state.specs.Flags.{AreFlagged, flagged_each}
 use Rattle.index_state.specs.Given.{IsGiven}
-use Rattle.index_state.specs.Standing.{IsMadeAlike, IsWaiting, Stands, status_of}
+use Rattle.index_state.specs.Limits.{OneMorePasses, TermsPass}
+use Rattle.index_state.specs.Pending.{Holds, HoldsLast, HoldsSome, open_docs}
+use Rattle.index_state.specs.Standing.{AddPasses, IsMadeAlike, IsPending, IsWaiting, Stands, status_of}
 use Rattle.index_state.specs.declared.deletions.Deletion.{Deletion}
 use Rattle.index_state.specs.declared.index_state.IndexState.{IndexState}
+use Rattle.index_state.specs.declared.pending_segments.PendingSegments.{PendingSegments}
 use Rattle.index_state.specs.declared.status.Status.{Status}
 use Rattle.index_state.specs.declared.status.Status.TheVariants as statuses
 
@@ -58,46 +63,23 @@ sets_within schema analyze docs segments sets h f =
     let few = flagged_within segments sets f in
     omega (arith, same, few)
 
--- a segment more, of documents that are some
-pub closed_group : (schema : Schema) (analyze : Analyzer) (docs : List (List Document)) (segments new : List code.Segment) (last : List Document) (s : code.Segment) → AllZip (StandsFor schema analyze) docs segments → StandsFor schema analyze last s → new ≡ segments ++ s ∷ [] → length last ≢ 0 → AllZip (StandsFor schema analyze) (docs ++ states.as_group last) new
-closed_group schema analyze docs segments new [] s h stands e some = absurd (some refl)
-closed_group schema analyze docs segments new (doc ∷ last) s h stands e some =
-    subst (AllZip (StandsFor schema analyze) (docs ++ (doc ∷ last) ∷ [])) (sym e) (zip_more (StandsFor schema analyze) docs ((doc ∷ last) ∷ []) segments (s ∷ []) h (stands, tt))
+-- with segments behind them the sets are of the same ones
+pub flagged_behind : (segments more new : List code.Segment) (sets : List (List Bool)) → new ≡ segments ++ more → AreFlagged segments sets → AreFlagged new sets
+flagged_behind segments more new sets e f = subst (λ ss. AreFlagged ss sets) (sym e) (flagged_more segments more sets f)
 
--- no segment more, where there are no documents
-pub none_group : (schema : Schema) (analyze : Analyzer) (docs : List (List Document)) (segments : List code.Segment) (last : List Document) → AllZip (StandsFor schema analyze) docs segments → length last ≡ 0 → AllZip (StandsFor schema analyze) (docs ++ states.as_group last) segments × (last ≡ [])
-none_group schema analyze docs segments [] h none = (subst (λ ds. AllZip (StandsFor schema analyze) ds segments) (sym (append-nil docs)) h, refl)
-none_group schema analyze docs segments (doc ∷ last) h none = absurd (omega (arith, none))
-
--- each is opened still
-pub opened_more : (schema : Schema) (segments new : List code.Segment) (s : code.Segment) → ∥ AllByRecursion (IsOpened schema) segments ∥₁ → IsOpened schema s → new ≡ segments ++ s ∷ [] → ∥ AllByRecursion (IsOpened schema) new ∥₁
-opened_more schema segments new s h o e = ∥∥₁_map h (λ all. subst (AllByRecursion (IsOpened schema)) (sym e) (all_more (IsOpened schema) segments s all o))
-
-pub opened_same : (schema : Schema) (segments new : List code.Segment) → ∥ AllByRecursion (IsOpened schema) segments ∥₁ → new ≡ segments → ∥ AllByRecursion (IsOpened schema) new ∥₁
-opened_same schema segments new h e = ∥∥₁_map h (λ all. subst (AllByRecursion (IsOpened schema)) (sym e) all)
-
--- the same whether one more was pushed or not
-pub opened_either : (schema : Schema) (segments new : List code.Segment) (s : code.Segment) (pushed : Bool) → ∥ AllByRecursion (IsOpened schema) segments ∥₁ → IsOpened schema s → new ≡ (if pushed then segments ++ s ∷ [] else segments) → ∥ AllByRecursion (IsOpened schema) new ∥₁
-opened_either schema segments new s true h o e = opened_more schema segments new s h o e
-opened_either schema segments new s false h o e = opened_same schema segments new h e
-
-pub flagged_either : (segments new : List code.Segment) (s : code.Segment) (alive : List (List Bool)) (pushed : Bool) → AreFlagged segments alive → new ≡ (if pushed then segments ++ s ∷ [] else segments) → AreFlagged new alive
-flagged_either segments new s alive true h e = subst (λ ss. AreFlagged ss alive) (sym e) (flagged_more segments (s ∷ []) alive h)
-flagged_either segments new s alive false h e = subst (λ ss. AreFlagged ss alive) (sym e) h
-
--- ---- documents that an add takes
-
-pub given_ok : (schema : Schema) (doc : Document) → IsGiven schema doc → calls.document_given schema doc ≡ Ok doc
-given_ok schema doc given = ap₂ answer given.0 given.1
-  where
-    answer : Bool → Bool → Result Document Fault
-    answer unknown indexed = if unknown then Err faults.UnknownField else (if indexed then Ok doc else Err faults.NotIndexable)
+-- ---- statuses
 
 -- a status that all calls are taken in
 pub ready_status : (st : Status) → status_of st ≡ calls.ready → st ≡ statuses.Ready
 ready_status statuses.Ready e = refl
 ready_status statuses.WriterClosed e = absurd (writer_is_not_ready e)
 ready_status statuses.Closed e = absurd (closed_is_not_ready e)
+
+-- ---- what is pending
+
+-- what holds these documents holds some
+pub holds_some : (schema : Schema) (analyze : Analyzer) (block_size n : ℕ) (pending : PendingSegments) (full : List (List Document)) (last : List Document) → HoldsLast schema analyze block_size n pending full last → HoldsSome schema analyze block_size pending
+holds_some schema analyze block_size n pending full last held = ⊎_elim (λ less. (full, last, less.1)) (λ more. (full ++ last ∷ [], [], more.1)) held
 
 -- ---- made of the same
 
@@ -113,28 +95,41 @@ module _ {A : Type 0} {a : analyzers.Ghosts A} (analyze : A → Analyzer) (old n
   pub same_made : (P : Schema → A → Settings → Type 0) → P old.schema old.analyzer old.settings → P new.schema new.analyzer new.settings
   same_made P p = subst (λ s. P new.schema new.analyzer s) (sym alike.settings) (subst (λ a. P new.schema a old.settings) (sym alike.analyzer) (subst (λ s. P s old.analyzer old.settings) (sym alike.schema) p))
 
+  -- what is pending, of documents that are held
+  pub pending_with : (pending : List Pending) (full : List (List Document)) (last : List Document) → IsWaiting old.settings.docs_per_segment pending full last new.deletions.items → Holds old.schema (analyze old.analyzer) old.settings.block_size new.pending full last → length new.segments.items ≡ length new.alive.items → IsPending analyze new pending
+  pending_with pending full last waits holds committed = record {
+    full = full;
+    last = last;
+    waits = same_made (λ schema analyzer settings. IsWaiting settings.docs_per_segment pending full last new.deletions.items) waits;
+    holds = same_made (λ schema analyzer settings. Holds schema (analyze analyzer) settings.block_size new.pending full last) holds;
+    committed = committed;
+  }
+
   module _ (c : calls.Configuration) (x : calls.Index) (s : Stands analyze old c x) where
-    -- with segments of these documents, which stand for these groups, and what waits
-    pub stands_with : (y : calls.Index) (docs : List (List Document)) → AllZip (StandsFor old.schema (analyze old.analyzer)) docs new.segments.items → y.status ≡ status_of new.status → y.state.groups ≡ live_groups (flagged_each docs new.alive.items) → (y.status ≡ calls.ready → IsWaiting old.settings.docs_per_segment y.state.pending (drop (length new.alive.items) docs) new.open new.deletions.items) → Stands analyze new c y
-    stands_with y docs segments status groups waits = record {
+    -- with segments of these documents, which stand for these groups, and what is pending
+    pub stands_with : (y : calls.Index) (docs : List (List Document)) → AllZip (StandsFor old.schema (analyze old.analyzer)) docs new.segments.items → y.status ≡ status_of new.status → y.state.groups ≡ live_groups (flagged_each docs new.alive.items) → (y.status ≡ calls.ready → IsPending analyze new y.state.pending) → Stands analyze new c y
+    stands_with y docs segments status groups pending = record {
       made = same_made (λ schema analyzer settings. c ≡ configuration_of schema (analyze analyzer) settings) s.made;
       status = status;
       sized = same_made (λ schema analyzer settings. 0 < settings.docs_per_segment) s.sized;
       docs = docs;
       segments = same_made (λ schema analyzer settings. AllZip (StandsFor schema (analyze analyzer)) docs new.segments.items) segments;
       groups = groups;
-      waits = λ ready. same_made (λ schema analyzer settings. IsWaiting settings.docs_per_segment y.state.pending (drop (length new.alive.items) docs) new.open new.deletions.items) (waits ready);
+      pending = pending;
     }
 
-    -- the same segments, and what waits
-    pub kept_stands : new.status ≡ old.status → new.alive.items ≡ old.alive.items → new.segments.items ≡ old.segments.items → new.open ≡ old.open → new.deletions.items ≡ old.deletions.items → Stands analyze new c x
-    kept_stands status alive segments opened dels =
+    -- the same is pending, beside as many segments as sets
+    pub pending_kept : new.pending ≡ old.pending → new.deletions.items ≡ old.deletions.items → length new.segments.items ≡ length new.alive.items → IsPending analyze old x.state.pending → IsPending analyze new x.state.pending
+    pending_kept held dels committed p =
+        pending_with x.state.pending p.full p.last (subst (λ ds. IsWaiting old.settings.docs_per_segment x.state.pending p.full p.last ds) (sym dels) p.waits)
+        (subst (λ h. Holds old.schema (analyze old.analyzer) old.settings.block_size h p.full p.last) (sym held) p.holds) committed
+
+    -- the same segments, and the same is pending
+    pub kept_stands : new.status ≡ old.status → new.alive.items ≡ old.alive.items → new.segments.items ≡ old.segments.items → new.pending ≡ old.pending → new.deletions.items ≡ old.deletions.items → Stands analyze new c x
+    kept_stands status alive segments held dels =
         stands_with x s.docs (subst (AllZip (StandsFor old.schema (analyze old.analyzer)) s.docs) (sym segments) s.segments)
         (s.status ∙ ap status_of (sym status)) (s.groups ∙ ap (λ sets. live_groups (flagged_each s.docs sets)) (sym alive))
-        (λ ready.
-        subst (λ sets. IsWaiting old.settings.docs_per_segment x.state.pending (drop (length sets) s.docs) new.open new.deletions.items) (sym alive)
-        (subst (λ ds. IsWaiting old.settings.docs_per_segment x.state.pending (drop (length old.alive.items) s.docs) ds new.deletions.items) (sym opened)
-        (subst (λ ds. IsWaiting old.settings.docs_per_segment x.state.pending (drop (length old.alive.items) s.docs) old.open ds) (sym dels) (s.waits ready))))
+        (λ ready. (let p = s.pending ready in pending_kept held dels (ap length segments ∙ p.committed ∙ sym (ap length alive)) p))
 
     -- a status in which no more changes are taken, with the same sets
     pub stands_stopped : (status : calls.Status) → status ≢ calls.ready → status ≡ status_of new.status → new.alive.items ≡ old.alive.items → (docs : List (List Document)) → AllZip (StandsFor old.schema (analyze old.analyzer)) docs new.segments.items → x.state.groups ≡ live_groups (flagged_each docs old.alive.items) → Stands analyze new c (record { state = x.state; status = status })
@@ -155,62 +150,105 @@ module _ {A : Type 0} {a : analyzers.Ghosts A} (analyze : A → Analyzer) (old :
   pub add_waits : calls.after c x.state (calls.add_document doc) ≡ states.after_add doc x.state
   add_waits = ap (λ r. calls.after_document r x.state) made_given
 
-  module _ (new : IndexState A a) (alike : IsMadeAlike old new) (ready : x.status ≡ calls.ready) (status : new.status ≡ old.status) (alive : new.alive.items ≡ old.alive.items) (dels : new.deletions.items ≡ old.deletions.items) where
-    -- in the segment that isn't full
-    pub added_open_stands : new.segments.items ≡ old.segments.items → new.open ≡ old.open ++ doc ∷ [] → length new.open < old.settings.docs_per_segment → Stands analyze new c (record { state = calls.after c x.state (calls.add_document doc); status = x.status })
-    added_open_stands segments opened less =
-        let w = s.waits ready in
+  module _ (new : IndexState A a) (alike : IsMadeAlike old new) (status : new.status ≡ old.status) (alive : new.alive.items ≡ old.alive.items) (dels : new.deletions.items ≡ old.deletions.items) where
+    -- in the segment that isn't full, or it fills that
+    pub added_stands : (p : IsPending analyze old x.state.pending) → new.segments.items ≡ old.segments.items → HoldsLast old.schema (analyze old.analyzer) old.settings.block_size old.settings.docs_per_segment new.pending p.full (p.last ++ doc ∷ []) → Stands analyze new c (record { state = calls.after c x.state (calls.add_document doc); status = x.status })
+    added_stands p segments held =
         let n = old.settings.docs_per_segment in
         let y : calls.Index = record { state = states.after_add doc x.state; status = x.status } in
-        let short = subst (λ ds. length ds < n) opened less in
-        let before : IsWaiting n y.state.pending (drop (length old.alive.items) s.docs) (old.open ++ doc ∷ []) old.deletions.items = record { waits = added_open n x.state.pending (drop (length old.alive.items) s.docs) old.open (map (numbered n) old.deletions.items) w.waits doc short; small = w.small } in
-        let waiting = subst (λ sets. IsWaiting n y.state.pending (drop (length sets) s.docs) new.open new.deletions.items) (sym alive) (subst (λ ds. IsWaiting n y.state.pending (drop (length old.alive.items) s.docs) ds new.deletions.items) (sym opened) (subst (λ ds. IsWaiting n y.state.pending (drop (length old.alive.items) s.docs) (old.open ++ doc ∷ []) ds) (sym dels) before)) in
+        let numbers = map (numbered n) old.deletions.items in
+        let pending = y.state.pending in
+        let committed = ap length segments ∙ p.committed ∙ sym (ap length alive) in
+        let open_waits : (length (p.last ++ doc ∷ []) < n) → IsWaiting n pending p.full (p.last ++ doc ∷ []) old.deletions.items = λ less. record { waits = added_open n x.state.pending p.full p.last numbers p.waits.waits doc less; small = p.waits.small } in
+        let full_waits : (n ≤ length (p.last ++ doc ∷ [])) → IsWaiting n pending (p.full ++ (p.last ++ doc ∷ []) ∷ []) [] old.deletions.items = λ more. record { waits = added_closed n x.state.pending p.full p.last numbers p.waits.waits doc more; small = p.waits.small } in
+        let waiting : IsPending analyze new pending = ⊎_elim
+        (λ less. pending_with analyze old new alike pending p.full (p.last ++ doc ∷ []) (subst (λ ds. IsWaiting n pending p.full (p.last ++ doc ∷ []) ds) (sym dels) (open_waits less.0)) less.1 committed)
+        (λ more. pending_with analyze old new alike pending (p.full ++ (p.last ++ doc ∷ []) ∷ []) [] (subst (λ ds. IsWaiting n pending (p.full ++ (p.last ++ doc ∷ []) ∷ []) [] ds) (sym dels) (full_waits more.0)) more.1 committed)
+        held in
         subst (λ (t : states.State). Stands analyze new c (record { state = t; status = x.status })) (sym add_waits)
         (stands_with analyze old new alike c x s y s.docs (subst (λ ss. AllZip (StandsFor old.schema (analyze old.analyzer)) s.docs ss) (sym segments) s.segments)
         (s.status ∙ ap status_of (sym status)) (s.groups ∙ ap (λ sets. live_groups (flagged_each s.docs sets)) (sym alive)) (λ _. waiting))
 
-    -- and where it fills that
-    pub added_closed_stands : length old.alive.items ≤ length s.docs → AllZip (StandsFor old.schema (analyze old.analyzer)) (s.docs ++ states.as_group (old.open ++ doc ∷ [])) new.segments.items → new.open ≡ [] → old.settings.docs_per_segment ≤ length (old.open ++ doc ∷ []) → Stands analyze new c (record { state = calls.after c x.state (calls.add_document doc); status = x.status })
-    added_closed_stands few segments opened more =
-        let w = s.waits ready in
-        let n = old.settings.docs_per_segment in
-        let y : calls.Index = record { state = states.after_add doc x.state; status = x.status } in
-        let last = old.open ++ doc ∷ [] in
-        let one : states.as_group last ≡ last ∷ [] = as_one old.open doc in
-        let docs = s.docs ++ last ∷ [] in
-        let full = drop (length old.alive.items) s.docs in
-        let behind : drop (length old.alive.items) docs ≡ full ++ last ∷ [] = drop-append-le (length old.alive.items) s.docs (last ∷ []) few in
-        let before : IsWaiting n y.state.pending (full ++ last ∷ []) [] old.deletions.items = record { waits = added_closed n x.state.pending full old.open (map (numbered n) old.deletions.items) w.waits doc more; small = w.small } in
-        let waiting = subst (λ sets. IsWaiting n y.state.pending (drop (length sets) docs) new.open new.deletions.items) (sym alive) (subst (λ ds. IsWaiting n y.state.pending (drop (length old.alive.items) docs) ds new.deletions.items) (sym opened) (subst (λ ds. IsWaiting n y.state.pending (drop (length old.alive.items) docs) [] ds) (sym dels) (subst (λ gs. IsWaiting n y.state.pending gs [] old.deletions.items) (sym behind) before))) in
-        let shown = subst (λ gs. AllZip (StandsFor old.schema (analyze old.analyzer)) (s.docs ++ gs) new.segments.items) one segments in
-        subst (λ (t : states.State). Stands analyze new c (record { state = t; status = x.status })) (sym add_waits)
-        (stands_with analyze old new alike c x s y docs shown (s.status ∙ ap status_of (sym status))
-        (s.groups ∙ ap live_groups (sym (each_more s.docs (last ∷ []) old.alive.items few)) ∙ ap (λ sets. live_groups (flagged_each docs sets)) (sym alive)) (λ _. waiting))
-      where
-        as_one : (docs : List Document) (d : Document) → states.as_group (docs ++ d ∷ []) ≡ (docs ++ d ∷ []) ∷ []
-        as_one [] d = refl
-        as_one (e ∷ docs) d = refl
+-- a limit that an index of these documents meets is one that an add meets
+pub add_passes : {A : Type 0} {a : analyzers.Ghosts A} (analyze : A → Analyzer) (old : IndexState A a) (c : calls.Configuration) (x : calls.Index) (s : Stands analyze old c x) (p : IsPending analyze old x.state.pending) (doc : Document)
+    → (2 ^ 32 ≤ old.settings.block_size + length (slot old.schema doc) + 8) ⊎ OneMorePasses old.schema (analyze old.analyzer) old.settings.docs_per_segment p.last doc → AddPasses c x.state old doc
+add_passes analyze old c x s p doc passes =
+    let last_are = open_last old.settings.docs_per_segment x.state.pending p.full p.last (map (numbered old.settings.docs_per_segment) old.deletions.items) p.waits.waits in
+    let long = 2 ^ 32 ≤ old.settings.block_size + length (slot old.schema doc) + 8 in
+    subst (λ (m : calls.Configuration). long ⊎ OneMorePasses m.schema m.analyze m.docs_per_segment (open_docs m.docs_per_segment x.state.pending) doc) (sym s.made)
+    (subst (λ ds. long ⊎ OneMorePasses old.schema (analyze old.analyzer) old.settings.docs_per_segment ds doc) (sym last_are) passes)
+
+-- one that an add takes is within the limits
+pub add_within : {A : Type 0} {a : analyzers.Ghosts A} (analyze : A → Analyzer) (old : IndexState A a) (c : calls.Configuration) (x : calls.Index) (s : Stands analyze old c x) (p : IsPending analyze old x.state.pending) (doc : Document)
+    → IsWithinLimits old.schema (analyze old.analyzer) p.last doc → IsWithinLimits c.schema c.analyze (open_docs c.docs_per_segment x.state.pending) doc
+add_within analyze old c x s p doc within =
+    let last_are = open_last old.settings.docs_per_segment x.state.pending p.full p.last (map (numbered old.settings.docs_per_segment) old.deletions.items) p.waits.waits in
+    subst (λ (m : calls.Configuration). IsWithinLimits m.schema m.analyze (open_docs m.docs_per_segment x.state.pending) doc) (sym s.made)
+    (subst (λ ds. IsWithinLimits old.schema (analyze old.analyzer) ds doc) (sym last_are) within)
+
+-- documents that are too much for the terms of a segment are those of the one that isn't full
+pub terms_pass : {A : Type 0} {a : analyzers.Ghosts A} (analyze : A → Analyzer) (old : IndexState A a) (c : calls.Configuration) (x : calls.Index) (s : Stands analyze old c x) (p : IsPending analyze old x.state.pending)
+    → TermsPass old.schema (analyze old.analyzer) p.last → TermsPass c.schema c.analyze (open_docs c.docs_per_segment x.state.pending)
+terms_pass analyze old c x s p passes =
+    let last_are = open_last old.settings.docs_per_segment x.state.pending p.full p.last (map (numbered old.settings.docs_per_segment) old.deletions.items) p.waits.waits in
+    subst (λ (m : calls.Configuration). TermsPass m.schema m.analyze (open_docs m.docs_per_segment x.state.pending)) (sym s.made)
+    (subst (λ ds. TermsPass old.schema (analyze old.analyzer) ds) (sym last_are) passes)
 
 -- ---- a deletion
 
 -- a deletion more waits
-pub deleted_stands : {A : Type 0} {a : analyzers.Ghosts A} (analyze : A → Analyzer) (old new : IndexState A a) (alike : IsMadeAlike old new) (c : calls.Configuration) (x : calls.Index) (s : Stands analyze old c x) (d : Deletion)
-    → x.status ≡ calls.ready → new.status ≡ old.status → new.alive.items ≡ old.alive.items → new.segments.items ≡ old.segments.items → new.open ≡ old.open → new.deletions.items ≡ old.deletions.items ++ d ∷ []
-    → d.segments ≡ length old.segments.items - length old.alive.items → d.docs ≡ length old.open → (t : List ℕ) → d.term ≡ t
+pub deleted_stands : {A : Type 0} {a : analyzers.Ghosts A} (analyze : A → Analyzer) (old new : IndexState A a) (alike : IsMadeAlike old new) (c : calls.Configuration) (x : calls.Index) (s : Stands analyze old c x) (p : IsPending analyze old x.state.pending) (d : Deletion)
+    → new.status ≡ old.status → new.alive.items ≡ old.alive.items → new.segments.items ≡ old.segments.items → new.pending ≡ old.pending → new.deletions.items ≡ old.deletions.items ++ d ∷ []
+    → d.segments ≡ length p.full → d.docs ≡ length p.last → (t : List ℕ) → d.term ≡ t
     → Stands analyze new c (record { state = calls.after c x.state (calls.delete_term t); status = x.status })
-deleted_stands analyze old new alike c x s d ready status alive segments opened dels before docs t named =
-    let w = s.waits ready in
+deleted_stands analyze old new alike c x s p d status alive segments held dels before docs t named =
     let n = old.settings.docs_per_segment in
-    let full = drop (length old.alive.items) s.docs in
+    let w = p.waits in
     let y : calls.Index = record { state = states.after_delete d.term x.state; status = x.status } in
-    let longs = zip_length (StandsFor old.schema (analyze old.analyzer)) s.docs old.segments.items s.segments in
-    let count : d.segments ≡ length full = before ∙ ap (λ k. k - length old.alive.items) (sym longs) ∙ sym (length-drop (length old.alive.items) s.docs) in
-    let number : n * length full + length old.open ≡ n * d.segments + d.docs = ap₂ (λ (a b : ℕ). n * a + b) (sym count) (sym docs) in
+    let number : n * length p.full + length p.last ≡ n * d.segments + d.docs = ap₂ (λ (a b : ℕ). n * a + b) (sym before) (sym docs) in
     let more = ap (λ k. map (numbered n) old.deletions.items ++ (d.term, k) ∷ []) number ∙ sym (map-append (numbered n) old.deletions.items (d ∷ [])) in
     let short = w.waits.short in
-    let waits = subst (Waits n y.state.pending full old.open) more (deleted_more n x.state.pending full old.open (map (numbered n) old.deletions.items) w.waits d.term) in
-    let one : IsWaiting n y.state.pending full old.open (old.deletions.items ++ d ∷ []) = record { waits = waits; small = all_more (IsSmall n) old.deletions.items d w.small (omega (arith, short, docs)) } in
-    let waiting = subst (λ sets. IsWaiting n y.state.pending (drop (length sets) s.docs) new.open new.deletions.items) (sym alive) (subst (λ ds. IsWaiting n y.state.pending full ds new.deletions.items) (sym opened) (subst (λ ds. IsWaiting n y.state.pending full old.open ds) (sym dels) one)) in
+    let waits = subst (Waits n y.state.pending p.full p.last) more (deleted_more n x.state.pending p.full p.last (map (numbered n) old.deletions.items) w.waits d.term) in
+    let one : IsWaiting n y.state.pending p.full p.last (old.deletions.items ++ d ∷ []) = record { waits = waits; small = all_more (IsSmall n) old.deletions.items d w.small (omega (arith, short, docs)) } in
+    let waiting : IsPending analyze new y.state.pending = pending_with analyze old new alike y.state.pending p.full p.last (subst (λ ds. IsWaiting n y.state.pending p.full p.last ds) (sym dels) one)
+    (subst (λ h. Holds old.schema (analyze old.analyzer) old.settings.block_size h p.full p.last) (sym held) p.holds) (ap length segments ∙ p.committed ∙ sym (ap length alive)) in
     subst (λ u. Stands analyze new c (record { state = calls.after c x.state (calls.delete_term u); status = x.status })) named
     (stands_with analyze old new alike c x s y s.docs (subst (λ ss. AllZip (StandsFor old.schema (analyze old.analyzer)) s.docs ss) (sym segments) s.segments)
     (s.status ∙ ap status_of (sym status)) (s.groups ∙ ap (λ sets. live_groups (flagged_each s.docs sets)) (sym alive)) (λ _. waiting))
+
+-- ---- all documents of a commit
+
+-- What segments are of once what is pending is closed: the documents of committed and of full segments, and those of the
+-- one that isn't full.
+pub record AllDocs {A : Type 0} {a : analyzers.Ghosts A} (index : IndexState A a) (state : states.State) : Type 0 where
+  pub docs : List (List Document)
+  pub last : List Document
+  pub few : length index.alive.items ≤ length docs
+  pub groups : state.groups ≡ live_groups (flagged_each docs index.alive.items)
+  pub waiting : IsWaiting index.settings.docs_per_segment state.pending (drop (length index.alive.items) docs) last index.deletions.items
+
+-- segments behind the committed ones change no group
+pub groups_more : {A : Type 0} {a : analyzers.Ghosts A} (analyze : A → Analyzer) (old : IndexState A a) (c : calls.Configuration) (x : calls.Index) (s : Stands analyze old c x) (more : List (List Document)) → length old.alive.items ≤ length s.docs → x.state.groups ≡ live_groups (flagged_each (s.docs ++ more) old.alive.items)
+groups_more analyze old c x s more few = s.groups ∙ ap live_groups (sym (each_more s.docs more old.alive.items few))
+
+pub all_docs : {A : Type 0} {a : analyzers.Ghosts A} (analyze : A → Analyzer) (old : IndexState A a) (c : calls.Configuration) (x : calls.Index) (s : Stands analyze old c x) (p : IsPending analyze old x.state.pending) → AllDocs old x.state
+all_docs analyze old c x s p =
+    let sets = old.alive.items in
+    let each : length s.docs ≡ length sets = zip_length (StandsFor old.schema (analyze old.analyzer)) s.docs old.segments.items s.segments ∙ p.committed in
+    let few : length sets ≤ length s.docs = omega (arith, each) in
+    let behind : drop (length sets) (s.docs ++ p.full) ≡ p.full = drop-append-le (length sets) s.docs p.full few ∙ ap (λ ds. ds ++ p.full) (drop_all (length sets) s.docs (omega (arith, each))) in
+    let both = length-append s.docs p.full in
+    record {
+      docs = s.docs ++ p.full;
+      last = p.last;
+      few = omega (arith, both, few);
+      groups = groups_more analyze old c x s p.full few;
+      waiting = subst (λ full. IsWaiting old.settings.docs_per_segment x.state.pending full p.last old.deletions.items) (sym behind) p.waits;
+    }
+
+-- segments that were opened behind the committed ones are of all documents
+pub all_opened_for : {A : Type 0} {a : analyzers.Ghosts A} (analyze : A → Analyzer) (old : IndexState A a) (c : calls.Configuration) (x : calls.Index) (s : Stands analyze old c x) (p : IsPending analyze old x.state.pending) (segments : List code.Segment)
+    → AllZip (StandsFor old.schema (analyze old.analyzer)) (s.docs ++ (p.full ++ states.as_group p.last)) segments
+    → AllZip (StandsFor old.schema (analyze old.analyzer)) ((all_docs analyze old c x s p).docs ++ states.as_group (all_docs analyze old c x s p).last) segments
+unfolding all_docs
+all_opened_for analyze old c x s p segments h = subst (λ ds. AllZip (StandsFor old.schema (analyze old.analyzer)) ds segments) (sym (append_assoc s.docs p.full (states.as_group p.last))) h

@@ -39,7 +39,7 @@ terms_numbered (deleted t ∷ calls) n = ap (λ ts. t ∷ ts) (terms_numbered ca
 
 -- ---- sizes
 
-length-full : (n : ℕ) (full : List (List Document)) → AllLong n full → length (joined full) ≡ n * length full
+pub length-full : (n : ℕ) (full : List (List Document)) → AllLong n full → length (joined full) ≡ n * length full
 length-full n [] long = omega arith
 length-full n (docs ∷ full) long =
     let rest = length-full n full long.1 in

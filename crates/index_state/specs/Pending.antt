@@ -14,7 +14,7 @@ use Rattle.index_state.specs.declared.pending_segments.PendingSegments.{PendingS
 pub record Holds (schema : Schema) (analyze : Analyzer) (block_size : ℕ) (pending : PendingSegments)
     (full : List (List Document)) (last : List Document) : Type 0 where
   pub closed : AllZip (IsSegmentOf schema analyze) full pending.full.items
-  pub open : MatchOption pending.writer (last ≡ []) (λ writer. (0 < length last) × HasWritten schema analyze block_size writer last)
+  pub writer : MatchOption pending.writer (last ≡ []) (λ writer. (0 < length last) × HasWritten schema analyze block_size writer last)
 
 -- some documents are held
 abbrev pub HoldsSome : Schema → Analyzer → ℕ → PendingSegments → Type 0

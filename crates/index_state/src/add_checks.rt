@@ -6,6 +6,7 @@ ghost use Rattle.definitions.specs.Calls.{document_given};
 ghost use Rattle.definitions.specs.declared.fault.Fault.TheVariants as faults;
 ghost use Rattle.document.specs.Shallow.{IsShallow};
 ghost use Rattle.index_state.specs.Given.{IsGiven};
+ghost use Rattle.segment_definitions.specs.Segments.{IsTaken};
 ghost use Rattle.segment_definitions.specs.Slots.{slot};
 
 use definitions::Fault;
@@ -17,6 +18,7 @@ use std::alloc::Global;
 pub(crate) fn check_document(schema: &Schema, doc: &CompactDoc) -> Result<(), Fault>
     ensures fault { result_err result ≡ result_err (document_given schema.now doc.now) }
     ensures given { OnOk result (IsGiven schema.now doc.now) }
+    ensures taken { OnOk result (IsTaken schema.now doc.now) }
     ensures nests { OnOk result (IsShallow doc.now) }
     ensures err { IfErr result (λ fault. (fault ≡ faults.UnknownField) ⊎ (fault ≡ faults.NotIndexable)) }
 {
@@ -26,6 +28,7 @@ pub(crate) fn check_document(schema: &Schema, doc: &CompactDoc) -> Result<(), Fa
     if !doc.indexable(schema) {
         return Err(Fault::NotIndexable);
     }
+    let _pairs = doc.len();
     Ok(())
 }
 

@@ -103,7 +103,11 @@ impl PendingSegments {
     }
 
     /// Takes the writer of the open segment, or returns a new one.
-    fn open_writer(&mut self, schema: &Schema, settings: &Settings) -> Result<SegmentWriter, AllocError>
+    fn open_writer(
+        &mut self,
+        schema: &Schema,
+        settings: &Settings,
+    ) -> Result<SegmentWriter, AllocError>
         ensures ok { (analyze : definitions.Analyzer) (full : List (List Document)) (last : List Document)
             → Holds schema.now analyze settings.now.block_size self.old full last
             → IfOk result (λ writer. HasWritten schema.now analyze settings.now.block_size writer last) }

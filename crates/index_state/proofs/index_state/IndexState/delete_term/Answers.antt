@@ -1,8 +1,7 @@
-use Rattle.std.proofs.Common.{Err, ap, ap₂, arith, false, refl, subst, sym, ◌-◌, ◌∙◌, ℕ}
+use Rattle.std.proofs.Common.{Err, ap, false, refl, subst, sym, ◌∙◌}
 use Rattle.std.specs.Result.{result_err}
 use Rattle.definitions.specs.Calls as calls
 use Rattle.definitions.specs.declared.fault.Fault.TheVariants as faults
-use Rattle.segment_search.proofs.Flagging.{flagged_within}
 use Rattle.index_state.proofs.Outcomes.{err_same, own_refuses, ready_of, status_refuses}
 use Rattle.index_state.proofs.Standings.{deleted_stands, kept_stands}
 use Rattle.index_state.specs.Standing.{Stands}
@@ -35,16 +34,6 @@ returns-in_err-copied-clause-left g c k x s =
     subst (λ r. (y : calls.Index) × calls.Leaves k x call r y × Stands g.A.Analyzer.analyze c.args.self.now k y) (err_same c.from_residual-in_err-copied.result fault c.from_residual-in_err-copied.ensures.1)
     (x, subst (λ f. calls.Leaves k x call (Err f) x) (sym c.in_err-copied.ensures.err) (calls.memory_refused ready refl), s)
 
-pub overflow_sub-deletion : goal.overflow_sub-deletion
-overflow_sub-deletion g c =
-    let index = c.args.self.now in
-    let few = flagged_within index.segments.items index.alive.items index.flagged in
-    let segments = c.len.ensures in
-    let sets = c.len-2.ensures in
-    let all = index.segments.ok.0 in
-    let alive = index.alive.ok.0 in
-    omega (arith, few, segments, sets, all, alive)
-
 pub returns-in_err-push-clause-left : goal.returns-in_err-push-clause-left
 returns-in_err-push-clause-left g c k x s =
     let old = c.args.self.now in
@@ -59,9 +48,13 @@ returns-clause-left g c k x s =
     let call = calls.delete_term term in
     let none = ap (λ status. calls.status_fault status false) s.status ∙ sym c.check_writer.ensures.value ∙ ap result_err c.in_ok-check_writer.was in
     let taken = own_refuses k x call none ∙ ap (λ (m : calls.Configuration). calls.delete_fault m.schema term) s.made ∙ sym c.check_deletion.ensures ∙ ap result_err c.in_ok-check_deletion.was in
-    let d : Deletion = record { term = c.in_ok-copied.field-0; segments = c.len.result - c.len-2.result; docs = c.len-3.result } in
-    let before = ap₂ (λ (a b : ℕ). a - b) (c.len.ensures ∙ old.segments.ok.0) (c.len-2.ensures ∙ old.alive.ok.0) in (
+    let ready = ready_of x.status none in
+    let p = s.pending ready in
+    let analyze = g.A.Analyzer.analyze old.analyzer in
+    let d : Deletion = record { term = c.in_ok-copied.field-0; segments = c.num_full.result; docs = c.num_open_docs.result } in
+    let before = c.num_full.ensures old.schema analyze old.settings.block_size p.full p.last p.holds in
+    let docs = c.num_open_docs.ensures old.schema analyze old.settings.block_size p.full p.last p.holds in (
       record { state = calls.after k x.state call; status = x.status },
       calls.answered taken,
-      deleted_stands g.A.Analyzer.analyze old _ (record { analyzer = refl; schema = refl; settings = refl }) k x s d (ready_of x.status none) refl refl refl refl c.in_ok-push.ensures.items before c.len-3.ensures term c.in_ok-copied.ensures.value,
+      deleted_stands g.A.Analyzer.analyze old _ (record { analyzer = refl; schema = refl; settings = refl }) k x s p d refl refl refl refl c.in_ok-push.ensures.items before docs term c.in_ok-copied.ensures.value,
     )

@@ -32,7 +32,7 @@ invariant_of-self g c =
     record {
       opened = ∥∥₁_map old.opened (λ all. subst (AllByRecursion (IsOpened old.schema)) (sym c.replace_range.ensures) (all_replaced (IsOpened old.schema) p.from p.to (new_in p) old.segments.items (new_opened old.schema p.segment r.opened) all));
       flagged = subst (λ ss. AreFlagged ss p.alive.items) (sym c.replace_range.ensures) (subst (AreFlagged (replaced p.from p.to (new_in p) old.segments.items)) (sym r.sets) (flagged_replaced p.from p.to (new_in p) old.segments.items old.alive.items (omega (arith, some, within)) old.flagged));
-      given = old.given;
+      held = old.held;
       few = omega (arith, count, one, same, sets, few, some, within);
     }
 

@@ -1,4 +1,4 @@
-use Rattle.std.proofs.Common.{None, Some, ap, inr, map, refl, subst, sym, true, ◌∙◌, ◌≡◌, ◌≢◌}
+use Rattle.std.proofs.Common.{None, Some, ap, inr, length, map, refl, subst, sym, true, ◌∙◌, ◌≡◌, ◌≢◌}
 use Rattle.std.proofs.Math.Logic.{∥∥₁_map}
 use Rattle.std.specs.List.{AllByRecursion, AllZip, zip}
 use Rattle.std.specs.Result.{result_err}
@@ -13,8 +13,8 @@ use Rattle.query_trees.specs.Queries.{query_of}
 use Rattle.segment.specs.Opened.{IsOpened, StandsFor, bytes_of}
 use Rattle.index_state.proofs.Outcomes.{closed_is_no_memory, err_has, own_refuses, status_refuses}
 use Rattle.definitions.proofs.Lists.{err_map}
-use Rattle.index_state.proofs.Searching.{live_committed, ok_both, query_refused, query_taken, segments_held}
-use Rattle.index_state.proofs.Standings.{stands_with}
+use Rattle.index_state.proofs.Searching.{live_committed, ok_both, query_refused, query_taken, segments_counted, segments_held}
+use Rattle.index_state.proofs.Standings.{pending_kept, stands_with}
 use Rattle.index_state.specs.Flags.{AreFlagged, flagged_each}
 use Rattle.segment_search.specs.Hits.{hit_of, scored}
 use Rattle.index_state.proofs.index_state.IndexState.search.Goals as goal
@@ -34,7 +34,7 @@ invariant_of-self g c =
     record {
       opened = ∥∥₁_map index.opened (λ all. subst (AllByRecursion (IsOpened index.schema)) (sym held) (kept.opened index.schema (subst (AllByRecursion (IsOpened index.schema)) (sym c.deref_mut.ensures.value) all)));
       flagged = subst (λ ss. AreFlagged ss index.alive.items) (sym held) (subst (AreFlagged c.search.new.segments) c.deref.ensures.value c.search.ensures.flagged);
-      given = index.given;
+      held = index.held;
       few = index.few;
     }
 
@@ -73,7 +73,10 @@ returns-clause-left g c k x s =
     let held = segments_held index.segments c.deref_mut.result.now c.search.new.segments c.deref_mut.ensures.len kept in
     let stands = subst (AllZip (StandsFor index.schema analyze) s.docs) (sym c.deref_mut.ensures.value) s.segments in
     stands_with g.A.Analyzer.analyze index _ (record { analyzer = refl; schema = refl; settings = refl }) k x s x s.docs
-    (subst (AllZip (StandsFor index.schema analyze) s.docs) (sym held) (kept.stands index.schema analyze s.docs stands)) s.status s.groups s.waits
+    (subst (AllZip (StandsFor index.schema analyze) s.docs) (sym held) (kept.stands index.schema analyze s.docs stands)) s.status s.groups
+    (λ ready.
+    let p = s.pending ready in
+    pending_kept g.A.Analyzer.analyze index _ (record { analyzer = refl; schema = refl; settings = refl }) k x s refl refl (ap length held ∙ segments_counted c.deref_mut.result.now c.search.new.segments kept ∙ ap length c.deref_mut.ensures.value ∙ p.committed) p)
 
 pub returns-clause-members : goal.returns-clause-members
 returns-clause-members g c =
