@@ -1,5 +1,5 @@
 -- What the segments of pending documents hold, and why they take one document more or don't.
-use Rattle.std.proofs.Common.{[], ◌++◌, ◌+◌, ◌<◌, ◌^◌, ◌∙◌, ◌∷◌, ◌≡◌, ◌≤◌, ◌⊎◌, Bool, Err, IfErr, List, None, Ok, OnErr, Option, Result, Some, ap, ap₂, append_assoc, arith, get_or, if◌then◌else◌, inl, inr, length, length-append, refl, subst, suc, sym, take, true, zero, ⊎_elim, ℕ}
+use Rattle.std.proofs.Common.{[], ◌++◌, ◌+◌, ◌<◌, ◌^◌, ◌∙◌, ◌∷◌, ◌≡◌, ◌≤◌, ◌⊎◌, Bool, Err, IfErr, List, None, Ok, OnErr, Option, Result, Some, ap, ap₂, append_assoc, arith, get_or, if◌then◌else◌, inl, inr, length, length-append, refl, subst, suc, sym, take, zero, ⊎_elim, ℕ}
 use Rattle.std.proofs.Math.Logic.{∥∥₁_elim, ∥∥₁_map}
 use Rattle.std.proofs.lemmas.List.{take_more}
 use Rattle.std.specs.List.{AllByRecursion, AllZip}
@@ -11,18 +11,16 @@ use Rattle.definitions.specs.KeptLengths.{norms_of}
 use Rattle.definitions.specs.Postings.{postings}
 use Rattle.definitions.specs.Schema.{Schema}
 use Rattle.definitions.specs.State.{as_group}
-use Rattle.definitions.specs.Values.{Document, IsDocument}
+use Rattle.definitions.specs.Values.{Document}
 use Rattle.definitions.specs.declared.fault.Fault.{Fault}
 use Rattle.definitions.specs.declared.fault.Fault.TheVariants as faults
-use Rattle.document_values.specs.Docs.{IsGoodPair}
-use Rattle.layouts.specs.DocumentReading.{deepest}
 use Rattle.postings_writer.specs.Limits.{IsSerializeRefusal}
 use Rattle.segment.proofs.KnownSegments.{segment_known}
 use Rattle.segment.specs.Opened.{IsOpened, StandsFor, bytes_of}
 use Rattle.segment.specs.Writers.{HasWritten, IsAddRefusal}
 use Rattle.segment.specs.declared.segment.Segment as code
 use Rattle.segment.specs.declared.segment_writer.SegmentWriter.{SegmentWriter}
-use Rattle.segment_definitions.specs.Segments.{IsSegment, IsSegmentOf, IsTaken}
+use Rattle.segment_definitions.specs.Segments.{IsSegment, IsSegmentOf}
 use Rattle.segment_definitions.specs.Slots.{slot}
 use Rattle.segment_search.proofs.Places.{zip_length, zip_more}
 use Rattle.index_state.proofs.Outcomes.{memory_is_no_limit}
@@ -39,14 +37,6 @@ given_ok schema doc given = ap₂ answer given.0 given.1
   where
     answer : Bool → Bool → Result Document Fault
     answer unknown indexed = if unknown then Err faults.UnknownField else (if indexed then Ok doc else Err faults.NotIndexable)
-
-good_document : (doc : Document) → AllByRecursion (IsGoodPair true deepest) doc → IsDocument doc
-good_document [] h = tt
-good_document (p ∷ doc) h = ((h.0.field, h.0.value.value), good_document doc h.1)
-
--- a document that is held is taken, where its fields are known and its values can be indexed
-pub given_taken : (schema : Schema) (doc : Document) → AllByRecursion (IsGoodPair true deepest) doc → IsGiven schema doc → IsTaken schema doc
-given_taken schema doc good given = (good_document doc good, given_ok schema doc given)
 
 -- ---- limits
 
