@@ -82,7 +82,7 @@ file_unrefused s u ms bytes fault (bodies, file, l) (inr (place, is, damaged)) =
 refused_text : {S : Type 0} (fault : Fault) (s : S) (p : json.Data × S) → p ≡ steps.refusing fault s → change_text (Err fault) ≡ reply_of p.0
 refused_text fault s p is = error_text fault ∙ ap (λ q. reply_of q.0) (sym is)
 
-module _ {D A : Type 0} (d : devices.Ghosts D) {an : analyzers.Ghosts A} (knows : A → List ℕ → Bool) (analyze : A → Analyzer) where
+module _ {D A : Type 0} (d : devices.Ghosts D) (an : analyzers.Ghosts A) (knows : A → List ℕ → Bool) (analyze : A → Analyzer) where
   -- what is told, and what stands
   abbrev IsTold : steps.Analysis → Option (Stage D A d an) → Result ⊤ Fault → json.Data × steps.Stage → Type 0
   IsTold a stage change p = (change_text change ≡ reply_of p.0) × HasStage knows analyze a stage p.1
