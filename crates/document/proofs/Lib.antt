@@ -1,7 +1,6 @@
 pub mod HeldHeads
 pub mod HeldValues
 pub mod HeldPairs
-pub mod DocumentHeaps
 pub mod LeafPairs
 pub mod BinaryForm
 pub mod StoredPairs

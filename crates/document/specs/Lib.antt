@@ -1,5 +1,4 @@
 -- Documents in memory and as bytes.
-pub mod DocumentHeaps
 pub mod IndexedKinds
 pub mod JsonRead
 pub mod NamedDocs

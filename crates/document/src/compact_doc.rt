@@ -83,20 +83,6 @@ impl CompactDoc {
         (self.heap.as_slice(), self.count)
     }
 
-    /// Returns the document of `bytes`, which are `count` pairs.
-    pub(crate) fn of_held(
-        alloc: Global,
-        bytes: &[u8],
-        count: usize,
-    ) -> Result<CompactDoc, AllocError>
-        requires { IsHeap bytes.now count }
-        ensures { IfOk result (λ doc. doc ≡ pairs_at count bytes.now) }
-    {
-        let mut heap = Vec::with_capacity(alloc, bytes.len())?;
-        heap.extend_from_slice(bytes)?;
-        Ok(CompactDoc { heap, count })
-    }
-
     /// Returns the pairs, in order of addition.
     pub fn field_values(&self) -> FieldValueIterRef<'_>
         ensures { result ≡ self.now }

@@ -2,7 +2,6 @@
 #![tactic(auto)]
 
 mod compact_doc;
-mod compact_docs;
 mod document_json;
 pub mod document_laws;
 mod indexable;
@@ -13,7 +12,6 @@ mod serialize;
 mod unknown_fields;
 
 pub use compact_doc::CompactDoc;
-pub use compact_docs::CompactDocs;
 pub use document_values::{
     CompactDocArrayIter, CompactDocObjectIter, CompactDocTokens, CompactDocValue,
     FieldValueIterRef, OwnedValue, ValuesOfField, put_value, take_value, value_to_json,

@@ -3,7 +3,7 @@
 use crate::shown_values::{owned_value, shown, value_list};
 use case_lines::{Arguments, Refusal, document_of_values, flag, hex, number, pair, text};
 use definitions::Fault;
-use document::{CompactDoc, CompactDocValue, CompactDocs, OwnedValue, put_value, take_value};
+use document::{CompactDoc, CompactDocValue, OwnedValue, put_value, take_value};
 use schema::{Field, Schema};
 use serde_json::Value;
 use std::alloc::{AllocError, Global};
@@ -19,9 +19,6 @@ pub(crate) fn answer(
     if operation == "of-json" {
         let doc = CompactDoc::from_json_object(alloc, schema, arguments.value(0)?)?;
         return Ok(values(alloc, &doc)?);
-    }
-    if operation == "held-together" {
-        return held_together(alloc, schema, arguments.list(0)?);
     }
     match operation.strip_prefix("value-") {
         Some(rest) => answer_on_value(alloc, rest, arguments),
@@ -91,25 +88,6 @@ pub(crate) fn document(
         Value::Array(values) => document_of_values(alloc, values),
         json => Ok(CompactDoc::from_json_object(alloc, schema, json)?),
     }
-}
-
-/// The values of each of several documents that were held together, by their JSON or what is added to an empty one;
-/// and whether there is none.
-fn held_together(alloc: Global, schema: &Schema, given: &[Value]) -> Result<Value, Refusal> {
-    let mut docs = CompactDocs::new(alloc);
-    for value in given {
-        let doc = match value {
-            Value::Array(values) => document_of_values(alloc, values)?,
-            json => CompactDoc::from_json_object(alloc, schema, json)?,
-        };
-        docs.push(&doc)?;
-    }
-    let mut list = Vec::new(alloc);
-    for at in 0..docs.len() {
-        let doc = docs.get(alloc, at)?;
-        list.push(values(alloc, &doc)?)?;
-    }
-    Ok(pair(alloc, Value::Array(list), flag(docs.is_empty()))?)
 }
 
 /// The document of the bytes at a place.

@@ -57,7 +57,7 @@ impl DocumentIndexer {
         analyzer: &A,
         doc: &CompactDoc,
     ) -> Result<(), Fault>
-        requires { (docs : List Document) × HasIndexed schema.now (A.analyze analyzer.now) self.old docs }
+        requires { ∥ ((docs : List Document) × HasIndexed schema.now (A.analyze analyzer.now) self.old docs) ∥₁ }
         ensures ok { (docs : List Document) → HasIndexed schema.now (A.analyze analyzer.now) self.old docs
             → OnOk result (HasIndexed schema.now (A.analyze analyzer.now) self.new (docs ++ doc.now ∷ [])) }
         ensures within { (docs : List Document) → HasIndexed schema.now (A.analyze analyzer.now) self.old docs
@@ -96,8 +96,8 @@ impl DocumentIndexer {
         alloc: Global,
         schema: &Schema,
     ) -> Result<(Vec<u8>, Vec<u8>, Vec<u8>, Vec<u8>), Fault>
-        requires { (analyze : definitions.Analyzer) × (docs : List Document)
-            × HasIndexed schema.now analyze self.now docs }
+        requires { ∥ ((analyze : definitions.Analyzer) × (docs : List Document)
+            × HasIndexed schema.now analyze self.now docs) ∥₁ }
         ensures ok { (analyze : definitions.Analyzer) (docs : List Document)
             → HasIndexed schema.now analyze self.now docs
             → IfOk result (λ sections. (fields : List IndexedField)
@@ -128,8 +128,8 @@ impl DocumentIndexer {
         schema: &Schema,
         norms: &[u8],
     ) -> Result<(Vec<u8>, Vec<u8>, Vec<u8>), Fault>
-        requires indexed { (analyze : definitions.Analyzer) × (docs : List Document)
-            × HasIndexed schema.now analyze self.now docs }
+        requires indexed { ∥ ((analyze : definitions.Analyzer) × (docs : List Document)
+            × HasIndexed schema.now analyze self.now docs) ∥₁ }
         requires lengths { norms.now ≡ norms_bytes self.now.norms }
         ensures ok { (analyze : definitions.Analyzer) (docs : List Document)
             → HasIndexed schema.now analyze self.now docs

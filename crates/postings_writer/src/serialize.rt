@@ -27,7 +27,7 @@ impl PostingsWriter {
         fieldnorm_readers: &FieldNormReaders<'_>,
         mut serializer: InvertedIndexSerializer,
     ) -> Result<InvertedIndexSerializer, Fault>
-        requires stands { (os : List Occurrence) × Stands schema.now self.now os }
+        requires stands { ∥ ((os : List Occurrence) × Stands schema.now self.now os) ∥₁ }
         requires lengths { AllByRecursion (λ p. self.now.num_docs ≤ length p.1) fieldnorm_readers.now }
         requires new { serializer ≡ record { terms = 0 ∷ []; postings = []; positions = [] } }
         ensures ok { (num_docs : ℕ) (os : List Occurrence) → self.now.num_docs ≤ num_docs
@@ -56,8 +56,8 @@ impl PostingsWriter {
         fieldnorm_readers: &FieldNormReaders<'_>,
         serializer: InvertedIndexSerializer,
     ) -> Result<InvertedIndexSerializer, Fault>
-        requires stands { (schema : Fields) × (os : List Occurrence) × Stands schema self.now os
-            × (slice_get schema field ≡ Some entry.now) }
+        requires stands { ∥ ((schema : Fields) × (os : List Occurrence) × Stands schema self.now os
+            × (slice_get schema field ≡ Some entry.now)) ∥₁ }
         requires lengths { AllByRecursion (λ p. self.now.num_docs ≤ length p.1) fieldnorm_readers.now }
         requires indexed { is_indexed entry.now ≡ true }
         ensures ok { (schema : Fields) (os : List Occurrence) → Stands schema self.now os

@@ -55,8 +55,8 @@ impl SegmentWriter {
         doc: &CompactDoc,
     ) -> Result<(), Fault>
         requires taken { IsTaken schema.now doc.now }
-        requires written { (block_size : ℕ) × (docs : List Document)
-            × HasWritten schema.now (A.analyze analyzer.now) block_size self.old docs }
+        requires written { ∥ ((block_size : ℕ) × (docs : List Document)
+            × HasWritten schema.now (A.analyze analyzer.now) block_size self.old docs) ∥₁ }
         ensures ok { (block_size : ℕ) (docs : List Document)
             → HasWritten schema.now (A.analyze analyzer.now) block_size self.old docs
             → OnOk result (HasWritten schema.now (A.analyze analyzer.now) block_size self.new (docs ++ doc.now ∷ [])) }
@@ -88,8 +88,8 @@ impl SegmentWriter {
 
     /// Encodes the segment of the documents added.
     pub fn close(self, schema: &Schema) -> Result<Vec<u8>, Fault>
-        requires { (analyze : definitions.Analyzer) × (block_size : ℕ) × (docs : List Document)
-            × HasWritten schema.now analyze block_size self docs × (0 < length docs) }
+        requires { ∥ ((analyze : definitions.Analyzer) × (block_size : ℕ) × (docs : List Document)
+            × HasWritten schema.now analyze block_size self docs × (0 < length docs)) ∥₁ }
         ensures ok { (analyze : definitions.Analyzer) (block_size : ℕ) (docs : List Document)
             → HasWritten schema.now analyze block_size self docs
             → IfOk result (λ bytes. IsSegmentOf schema.now analyze docs bytes.items) }

@@ -1,18 +1,14 @@
 -- Blocks that are found one after another.
-use Rattle.std.proofs.Common.{[], Bool, List, ap, arith, cond, drop, false, get_or, length, nat_lt, refl, suc, sum, sym, take, true, zero, ◌*◌, ◌+◌, ◌/◌, ◌<◌, ◌≡◌, ◌≤◌, ◌∙◌, ◌∷◌, ℕ}
+use Rattle.std.proofs.Common.{[], Bool, List, ap, arith, cond, drop, false, get_or, length, nat_lt, refl, suc, sum, take, true, zero, ◌*◌, ◌+◌, ◌/◌, ◌<◌, ◌≡◌, ◌≤◌, ◌∙◌, ◌∷◌, ℕ}
 use Rattle.std.proofs.lemmas.Bool.Decides.{nat_tests}
 use Rattle.std.proofs.lemmas.List.{drop-drop}
 use Rattle.definitions.specs.Postings.{terminated}
 use Rattle.layouts.specs.SkipEntries.{SkipEntry}
 use Rattle.segment_postings.proofs.Passing.{passes_some, stops_here, sum_of_more}
-use Rattle.segment_postings.specs.Reading.{AreReadable, Ascends, HasPassed, StandsIn, below, counts_at, docs_at}
+use Rattle.segment_postings.specs.Reading.{AreReadable, Ascends, HasPassed, below, counts_at, docs_at}
 use Rattle.skips.specs.SkipBlocks.{Skips, last_doc}
 
 -- ---- how many documents are below one
-
-below-zero : (docs : List ℕ) → below 0 docs ≡ 0
-below-zero [] = refl
-below-zero (d ∷ ds) = (let no : nat_lt d 0 ≡ false = grind (arith, nat_tests) in ap (λ b. cond b (1 + below 0 ds) 0) no)
 
 -- documents that are below stand first
 below-behind : (n target : ℕ) (docs : List ℕ) → n ≤ below target docs → below target docs ≡ n + below target (drop n docs)
@@ -54,21 +50,6 @@ below-next low target (d ∷ ds) a = go (nat_lt d target) refl (nat_lt d (target
         omega (arith, none)
 
 -- ---- blocks that are passed
-
--- for document 0 none is
-pub begins_here : (reads sums : Bool) (before : ℕ) (s : Skips) (bytes : List ℕ) → StandsIn reads sums before s bytes → HasPassed reads sums 0 before s before s bytes
-begins_here reads sums before s bytes stands =
-    let docs = docs_at before s bytes in
-    let counts = counts_at reads before s bytes in
-    let none = sym (below-zero docs) in
-    record {
-      stands = stands;
-      docs = ap (λ k. drop (128 * (k / 128)) docs) none;
-      counts = ap (λ k. drop (128 * (k / 128)) counts) none;
-      entries = ap (λ k. drop (k / 128) s.left) none;
-      place = (let is = below-zero docs in omega (arith, is));
-      offset = λ yes. (let nothing = ap (λ k. sum (take (128 * (k / 128)) counts)) none in omega (arith, nothing));
-    }
 
 -- for one document, and then for one that isn't before it
 pub goes_on : (reads sums : Bool) (early late before : ℕ) (s : Skips) (after : ℕ) (t : Skips) (last : ℕ) (u : Skips) (bytes : List ℕ) → early ≤ late → HasPassed reads sums early before s after t bytes → HasPassed reads sums late after t last u bytes → HasPassed reads sums late before s last u bytes

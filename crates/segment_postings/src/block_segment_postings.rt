@@ -250,27 +250,6 @@ impl<'a> BlockSegmentPostings<'a> {
         self.decoded
     }
 
-    /// Returns the reader from which the block for `target` is sought: that of the last `seek_block`, unless its target
-    /// was greater, else that of the current block.
-    fn search_start(&self, target: DocId) -> Ahead<'a>
-        ensures passed { HasPassed self.now.reads_counts self.now.reads_positions result.target self.now.before
-            self.now.skips result.before result.skips self.now.bytes.now }
-        ensures early { result.target ≤ target }
-    {
-        match &self.ahead {
-            Some(ahead) if ahead.target <= target => Ahead {
-                skips: ahead.skips.copied(),
-                before: ahead.before,
-                target: ahead.target,
-            },
-            _ => Ahead {
-                skips: self.skips.copied(),
-                before: self.before,
-                target: 0,
-            },
-        }
-    }
-
     /// Returns the first block, from the current one on, that may contain `target`.
     fn found_block(&self, target: DocId) -> Ahead<'a>
         requires { target ≤ terminated }
@@ -279,10 +258,8 @@ impl<'a> BlockSegmentPostings<'a> {
         ensures target { result.target ≡ target }
         ensures late { target ≤ last_doc result.skips.left }
     {
-        let start = self.search_start(target);
-        let Ahead { skips, before, .. } = start;
-        let mut skips = skips;
-        let before = pass_blocks(&mut skips, before, target);
+        let mut skips = self.skips.copied();
+        let before = find_block(&mut skips, self.before, &self.ahead, target);
         Ahead {
             skips,
             before,
@@ -415,9 +392,7 @@ impl<'a> BlockSegmentPostings<'a> {
             self.ahead = None;
             return first_from(&self.docs, target);
         }
-        let Ahead { skips, before, .. } = self.found_block(target);
-        self.skips = skips;
-        self.before = before;
+        self.before = find_block(&mut self.skips, self.before, &self.ahead, target);
         self.ahead = None;
         self.len = decode_block(
             self.bytes,
@@ -451,6 +426,29 @@ fn count_block(decoded: &mut u64, len: usize)
     ensures { decoded.new ≡ decoded.old + min 1 len }
 {
     *decoded += len.min(1) as u64;
+}
+
+/// Moves `skips` to the first block that may contain `target`, from the block `ahead` on if that was sought for no
+/// greater target; returns the last document before the block reached, or `before`.
+fn find_block<'a>(
+    skips: &mut SkipReader<'a>,
+    before: u32,
+    ahead: &Option<Ahead<'a>>,
+    target: DocId,
+) -> u32
+    requires { target ≤ terminated }
+    ensures passed { (reads sums : Bool) (bytes : List ℕ) → StandsIn reads sums before skips.old bytes
+        → IsAhead reads sums before skips.old ahead.now bytes
+        → HasPassed reads sums target before skips.old result skips.new bytes }
+    ensures late { target ≤ last_doc skips.new.left }
+{
+    match ahead {
+        Some(ahead) if ahead.target <= target => {
+            *skips = ahead.skips.copied();
+            pass_blocks(skips, ahead.before, target)
+        }
+        _ => pass_blocks(skips, before, target),
+    }
 }
 
 /// Passes blocks that end before `target`; returns the last document before the block reached, or `before`.

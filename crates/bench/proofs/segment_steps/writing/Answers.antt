@@ -9,4 +9,4 @@ close-requires c =
     let all = c.in_ok-add_all.ensures in
     let many = c.num_docs.ensures c.args.schema.now _ all.0 all.1 all.2 in
     let some = c.if-num_docs-eq0.false in
-    (_, all.0, all.1, all.2, omega (arith, many, some))
+    ∣ (_, all.0, all.1, all.2, omega (arith, many, some)) ∣₁

@@ -5,4 +5,4 @@ pub index_all-requires : goal.index_all-requires
 index_all-requires c = ([], c.in_ok-indexer.ensures _)
 
 pub serialize-requires : goal.serialize-requires
-serialize-requires c = (let all = c.in_ok-index_all.ensures in (_, all.0, all.1))
+serialize-requires c = (let all = c.in_ok-index_all.ensures in ∣ (_, all.0, all.1) ∣₁)

@@ -15,7 +15,7 @@ pub serialize-requires-clause-stands : goal.serialize-requires-clause-stands
 serialize-requires-clause-stands c =
     let written = c.in_ok-index_all.ensures.1.recorded.written in
     let P : Writer → Type 0 = λ w. Stands c.args.schema.now w written.os in
-    (written.os, subst P (sym c.postings_writer-writer.ensures) written.stands)
+    ∣ (written.os, subst P (sym c.postings_writer-writer.ensures) written.stands) ∣₁
 
 pub serialize-requires-clause-lengths : goal.serialize-requires-clause-lengths
 serialize-requires-clause-lengths c =

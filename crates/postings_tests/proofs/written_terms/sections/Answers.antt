@@ -26,7 +26,7 @@ index_text-requires-clause-known c = λ text.
     }
 
 pub serialize-requires-clause-stands : goal.serialize-requires-clause-stands
-serialize-requires-clause-stands c = (_, c.in_ok-index_text.ensures.ok [] 0 c.in_ok-writer.ensures.nothing refl)
+serialize-requires-clause-stands c = ∣ (_, c.in_ok-index_text.ensures.ok [] 0 c.in_ok-writer.ensures.nothing refl) ∣₁
 
 -- one length for each document
 long : (n : ℕ) (norms : List (ℕ × List ℕ)) → n ≤ 1 → AllByRecursion (λ (p : ℕ × List ℕ). length p.1 ≡ 1) norms → AllByRecursion (λ (p : ℕ × List ℕ). n ≤ length p.1) norms

@@ -1,4 +1,6 @@
 use Rattle.std.proofs.Common.{[], List, ap, arith, length, ◌++◌, ◌∙◌, ◌∷◌, ◌≡◌, subst, sym, ℕ}
+use Rattle.std.proofs.Math.Logic.{∥∥₁_elim}
+use Rattle.std.proofs.Props.{props}
 use Rattle.std.proofs.lemmas.Result.{err_from_is_err_and}
 use Rattle.definitions.specs.KeptLengths.{norms_of}
 use Rattle.document_indexer.specs.Contexts.{Context}
@@ -9,13 +11,13 @@ use Rattle.document_indexer.proofs.KeptLengths.{AreKept, document_kept, norms_ke
 use Rattle.document_indexer.proofs.document_indexer.DocumentIndexer.add.Goals as goal
 
 pub index_document-requires : goal.index_document-requires
-index_document-requires g c =
-    let h = c.requires.1.recorded in
+index_document-requires g c = ∥∥₁_elim c.requires (hlevel props) (λ given.
+    let h = given.1.recorded in
     record {
       made = h.written.stands.fields_are;
       next = (let few = h.written.few in let count = h.count in omega arith);
       fits = (let at = c.doc.ensures in let below = c.if-doc-ge-TERMINATED.false in omega arith);
-    }
+    })
 
 pub returns-in_err-index_document-clause-err : goal.returns-in_err-index_document-clause-err
 returns-in_err-index_document-clause-err g c docs h =
@@ -23,18 +25,18 @@ returns-in_err-index_document-clause-err g c docs h =
     rw (p.1, p.2) (document_refused c.args.schema.now (g.A.Analyzer.analyze c.args.analyzer.now) c.args.self.now.context c.args.self.now.context docs c.args.doc.now h.recorded c.in_err-index_document.field-0.0 c.in_err-index_document.ensures.err)
 
 pub record_lengths-requires-clause-few : goal.record_lengths-requires-clause-few
-record_lengths-requires-clause-few g c =
+record_lengths-requires-clause-few g c = ∥∥₁_elim c.requires (hlevel props) (λ given.
     let count = c.in_ok-index_document.ensures.lengths.count in
-    let few = c.requires.1.recorded.written.stands.few in
+    let few = given.1.recorded.written.stands.few in
     let same = ap length c.deref.ensures.value in
-    omega arith
+    omega (arith, count, few, same))
 
 pub record_lengths-requires-clause-kept : goal.record_lengths-requires-clause-kept
-record_lengths-requires-clause-kept g c =
+record_lengths-requires-clause-kept g c = ∥∥₁_elim c.requires (hlevel props) (λ given.
     let schema = c.args.schema.now in
     let analyze = g.A.Analyzer.analyze c.args.analyzer.now in
-    let docs = c.requires.0 in
-    let h = c.requires.1 in
+    let docs = given.0 in
+    let h = given.1 in
     let lengths : List ℕ = c.deref.result.now in
     let L : List ℕ → Type 0 = AreLengths schema analyze c.args.doc.now in
     let are = subst L (sym c.deref.ensures.value) c.in_ok-index_document.ensures.lengths in
@@ -43,7 +45,7 @@ record_lengths-requires-clause-kept g c =
     let kept = norms_kept schema analyze docs in
     let by_count = subst (λ n. AreKept n (length docs) (norms_of schema analyze docs)) (sym are.count) kept in
     let by_doc = subst (λ d. AreKept (length lengths) d (norms_of schema analyze docs)) (sym doc_is) by_count in
-    subst (AreKept (length lengths) doc) (sym h.norms_are) by_doc
+    subst (AreKept (length lengths) doc) (sym h.norms_are) by_doc)
 
 pub returns-clause-ok : goal.returns-clause-ok
 returns-clause-ok g c docs h =

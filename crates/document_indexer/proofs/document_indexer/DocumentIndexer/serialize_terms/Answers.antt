@@ -1,5 +1,6 @@
 use Rattle.std.proofs.Common.{[], List, ap, arith, length, subst, sym, ◌∙◌, ◌∷◌, ◌≡◌, ◌≤◌, ℕ}
-use Rattle.std.proofs.lemmas.Grind.{merely}
+use Rattle.std.proofs.Math.Logic.{∥∥₁_elim, ∥∥₁_map}
+use Rattle.std.proofs.Props.{props}
 use Rattle.std.proofs.lemmas.Result.{err_from_is_err_and}
 use Rattle.std.specs.List.{AllByRecursion}
 use Rattle.definitions.specs.KeptLengths.{norms_of}
@@ -23,14 +24,19 @@ pub new-readers-requires-clause-ascend : goal.new-readers-requires-clause-ascend
 new-readers-requires-clause-ascend c = subst (IsAscendingFrom 0) (sym (c.deref.ensures.value ∙ c.in_ok-fields.ensures)) (fields_ascend c.args.schema.now)
 
 pub new-readers-requires-clause-known : goal.new-readers-requires-clause-known
-new-readers-requires-clause-known c =
-    let given = c.requires.indexed in
+new-readers-requires-clause-known c = ∥∥₁_map c.requires.indexed (λ given.
     let schema = c.args.schema.now in
-    merely (norms_of schema given.0 given.1, lengths_known schema given.0 given.1 c.deref.result.now c.args.norms.now c.num_docs.result (c.deref.ensures.value ∙ c.in_ok-fields.ensures) (c.num_docs.ensures schema given.0 given.1 given.2) (c.requires.lengths ∙ ap norms_bytes given.2.norms_are))
+    (norms_of schema given.0 given.1, lengths_known schema given.0 given.1 c.deref.result.now c.args.norms.now c.num_docs.result (c.deref.ensures.value ∙ c.in_ok-fields.ensures) (c.num_docs.ensures schema given.0 given.1 given.2) (c.requires.lengths ∙ ap norms_bytes given.2.norms_are)))
+
+pub serialize-requires-clause-stands : goal.serialize-requires-clause-stands
+serialize-requires-clause-stands c = ∥∥₁_map c.requires.indexed (λ given.
+    let schema = c.args.schema.now in
+    let W : Writer → Type 0 = λ w. HasWritten schema given.0 w given.1 in
+    let written = subst W (sym c.postings_writer-writer.ensures) given.2.recorded.written in
+    (written.os, written.stands))
 
 pub serialize-requires-clause-lengths : goal.serialize-requires-clause-lengths
-serialize-requires-clause-lengths c =
-    let given = c.requires.indexed in
+serialize-requires-clause-lengths c = ∥∥₁_elim c.requires.indexed (hlevel props) (λ given.
     let schema = c.args.schema.now in
     let few = given.2.recorded.written.few in
     let docs = c.num_docs.ensures schema given.0 given.1 given.2 in
@@ -38,7 +44,7 @@ serialize-requires-clause-lengths c =
     let known = lengths_known schema given.0 given.1 c.deref.result.now c.args.norms.now c.num_docs.result (c.deref.ensures.value ∙ c.in_ok-fields.ensures) docs (c.requires.lengths ∙ ap norms_bytes given.2.norms_are) in
     let n = c.postings_writer-writer.result.now.num_docs in
     let P : List (ℕ × List ℕ) → Type 0 = AllByRecursion (λ (p : ℕ × List ℕ). n ≤ length p.1) in
-    subst P (sym (c.new-readers.ensures (norms_of schema given.0 given.1) known)) (long n c.num_docs.result (norms_of schema given.0 given.1) (omega arith) known.counts)
+    subst P (sym (c.new-readers.ensures (norms_of schema given.0 given.1) known)) (long n c.num_docs.result (norms_of schema given.0 given.1) (omega (arith, few, docs, same)) known.counts))
 
 pub returns-in_err-serializer-2-clause-err : goal.returns-in_err-serializer-2-clause-err
 returns-in_err-serializer-2-clause-err c analyze docs h =

@@ -1,5 +1,6 @@
 use Rattle.std.proofs.Common.{List, Some, arith, rules, subst, sym, slice_get, ◌≡◌, ◌∙◌, ◌∷◌, [], ℕ}
 use Rattle.std.specs.List.{AllByRecursion, enumerate_from}
+use Rattle.std.proofs.Math.Logic.{∥∥₁_map}
 use Rattle.std.proofs.lemmas.Result.{err_from_is_err_and}
 use Rattle.definitions.specs.Schema.{Entry, Schema}
 use Rattle.postings_writer.specs.Writers.{Writer}
@@ -15,6 +16,14 @@ loop-field-init c =
       written = λ os stands. subst (λ rest. AreWrittenOf schema norms os c.args.serializer c.args.serializer (enumerate_from 0 schema) rest) (sym is) (none_written schema norms os c.args.serializer (enumerate_from 0 schema));
       left = subst (AllByRecursion (λ (p : ℕ × Entry). slice_get schema p.0 ≡ Some p.1)) (sym is) (entries_at schema);
     }
+
+pub serialize_field-requires-clause-stands : goal.serialize_field-requires-clause-stands
+serialize_field-requires-clause-stands c =
+    let schema : Schema = c.args.schema.now in
+    let rest : List (ℕ × Entry) = c.loop-field.field-iterator in
+    let first : rest ≡ (c.in-Some.field, c.in-Some.entry.now) ∷ c.next.new.self = search rules in
+    let left = subst (AllByRecursion (λ (q : ℕ × Entry). slice_get schema q.0 ≡ Some q.1)) first c.loop-field.invariant.left in
+    ∥∥₁_map c.requires.stands (λ given. (schema, given.0, given.1, left.0))
 
 pub loop-field-preserved-then-is_indexed : goal.loop-field-preserved-then-is_indexed
 loop-field-preserved-then-is_indexed c =

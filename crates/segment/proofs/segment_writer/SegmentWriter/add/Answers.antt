@@ -1,4 +1,5 @@
 use Rattle.std.proofs.Common.{[], ap, arith, inl, inr, length-append, refl, subst, sym, ◌++◌, ◌∙◌, ◌∷◌}
+use Rattle.std.proofs.Math.Logic.{∥∥₁_map}
 use Rattle.std.proofs.lemmas.Result.{err_from_is_err_and}
 use Rattle.segment_definitions.specs.Segments.{IsTaken}
 use Rattle.segment_definitions.specs.Slots.{slot, slots}
@@ -10,6 +11,9 @@ use Rattle.segment.proofs.segment_writer.SegmentWriter.add.Goals as goal
 
 pub store-requires : goal.store-requires
 store-requires g c = record { nests = taken_shallow c.args.schema.now c.args.doc.now c.requires.taken.1 }
+
+pub add-requires : goal.add-requires
+add-requires g c = ∥∥₁_map c.requires.written (λ given. (given.1, given.2.indexed))
 
 pub returns-then-num_docs-ge-TERMINATED-clause-err : goal.returns-then-num_docs-ge-TERMINATED-clause-err
 returns-then-num_docs-ge-TERMINATED-clause-err g c block_size docs h =

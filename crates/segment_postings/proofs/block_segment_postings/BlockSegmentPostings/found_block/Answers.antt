@@ -1,9 +1,11 @@
-use Rattle.segment_postings.proofs.Finding.{goes_on}
+use Rattle.std.proofs.Common.{subst}
+use Rattle.segment_postings.specs.Ahead.{IsAhead}
+use Rattle.segment_postings.specs.Reading.{HasPassed, StandsIn}
+use Rattle.skips.specs.SkipBlocks.{Skips}
 use Rattle.segment_postings.proofs.block_segment_postings.BlockSegmentPostings.found_block.Goals as goal
 
 pub returns-clause-passed : goal.returns-clause-passed
 returns-clause-passed c =
     let self = c.args.self.now in
-    let first = c.search_start-start.ensures.passed in
-    let start = c.search_start-start.result in
-    goes_on self.reads_counts self.reads_positions start.target c.args.target self.before self.skips start.before start.skips c.pass_blocks-before.result c.pass_blocks-before.new.skips self.bytes.now c.search_start-start.ensures.early first (c.pass_blocks-before.ensures.passed self.reads_counts self.reads_positions self.bytes.now first.stands)
+    let From : Skips → Type 0 = λ s. StandsIn self.reads_counts self.reads_positions self.before s self.bytes.now → IsAhead self.reads_counts self.reads_positions self.before s self.ahead self.bytes.now → HasPassed self.reads_counts self.reads_positions c.args.target self.before s c.find_block-before.result c.find_block-before.new.skips self.bytes.now in
+    subst From c.copied-skips.ensures (c.find_block-before.ensures.passed self.reads_counts self.reads_positions self.bytes.now) self.stands self.found

@@ -4,7 +4,7 @@ use Rattle.segment_postings.proofs.BlockLists.{Ascends-drop}
 use Rattle.segment_postings.proofs.HeldBlocks.{none_summed}
 use Rattle.segment_postings.proofs.Passing.{room_of, below_held, order_held, passes_some, stops_here}
 use Rattle.segment_postings.specs.Reading.{Ascends, HasPassed, below, counts_at, docs_at}
-use Rattle.segment_postings.proofs.block_segment_postings.BlockSegmentPostings.seek.Goals.{After-found_block-skips, Then-target-last_doc_in_block}
+use Rattle.segment_postings.proofs.block_segment_postings.BlockSegmentPostings.seek.Goals.{After-find_block-self, Then-target-last_doc_in_block}
 use Rattle.segment_postings.proofs.block_segment_postings.BlockSegmentPostings.seek.Goals as goal
 
 -- ---- the block stays
@@ -62,10 +62,10 @@ invariant_of-self c = (let self = c.args.self.now in record { stands = self.stan
 
 -- ---- another block
 
-passed : (c : After-found_block-skips) → HasPassed c.args.self.now.reads_counts c.args.self.now.reads_positions c.args.target c.args.self.now.before c.args.self.now.skips c.found_block-skips.result.before c.found_block-skips.result.skips c.args.self.now.bytes.now
-passed c = c.found_block-skips.ensures.passed
+passed : (c : After-find_block-self) → HasPassed c.args.self.now.reads_counts c.args.self.now.reads_positions c.args.target c.args.self.now.before c.args.self.now.skips c.find_block-self.result c.find_block-self.new.skips c.args.self.now.bytes.now
+passed c = (let self = c.args.self.now in c.find_block-self.ensures.passed self.reads_counts self.reads_positions self.bytes.now self.stands self.found)
 
-more : (c : After-found_block-skips) → 128 ≤ below c.args.target (docs_at c.args.self.now.before c.args.self.now.skips c.args.self.now.bytes.now)
+more : (c : After-find_block-self) → 128 ≤ below c.args.target (docs_at c.args.self.now.before c.args.self.now.skips c.args.self.now.bytes.now)
 more c =
     let last = c.last_doc_in_block.ensures in
     let early = c.if-target-last_doc_in_block.false in
@@ -76,8 +76,8 @@ ascends_on k all left cut ascends = subst (λ xs. Ascends 0 xs) (sym cut) (Ascen
 
 pub invariant_of-self-2 : goal.invariant_of-self-2
 invariant_of-self-2 c =
-    let on = passed (goal.at.invariant_of-self-2 c).After-found_block-skips in
-    let some = more (goal.at.invariant_of-self-2 c).After-found_block-skips in
+    let on = passed (goal.at.invariant_of-self-2 c).After-find_block-self in
+    let some = more (goal.at.invariant_of-self-2 c).After-find_block-self in
     let held = c.decode_block-self.ensures in
     let all = docs_at c.args.self.now.before c.args.self.now.skips c.args.self.now.bytes.now in
     let few = c.args.self.now.few in
@@ -95,29 +95,29 @@ invariant_of-self-2 c =
       found = tt;
     }
 
-held_then : (c : After-found_block-skips) → below c.args.target (docs_at c.found_block-skips.result.before c.found_block-skips.result.skips c.args.self.now.bytes.now) < 128
+held_then : (c : After-find_block-self) → below c.args.target (docs_at c.find_block-self.result c.find_block-self.new.skips c.args.self.now.bytes.now) < 128
 held_then c = (let place = (passed c).place in omega (arith, place))
 
 pub first_from-requires-2 : goal.first_from-requires-2
 first_from-requires-2 c =
-    let on = passed (goal.at.first_from-requires-2 c).After-found_block-skips in
+    let on = passed (goal.at.first_from-requires-2 c).After-find_block-self in
     let all = docs_at c.args.self.now.before c.args.self.now.skips c.args.self.now.bytes.now in
     record {
-      within = (below_held c.args.target c.decode_block-self.result c.decode_block-self.new.docs c.decode_block-self.new.counts _ _ c.decode_block-self.ensures c.requires (held_then (goal.at.first_from-requires-2 c).After-found_block-skips)).1;
+      within = (below_held c.args.target c.decode_block-self.result c.decode_block-self.new.docs c.decode_block-self.new.counts _ _ c.decode_block-self.ensures c.requires (held_then (goal.at.first_from-requires-2 c).After-find_block-self)).1;
       order = order_held c.args.target c.decode_block-self.result c.decode_block-self.new.docs c.decode_block-self.new.counts _ _ c.decode_block-self.ensures (ascends_on (below c.args.target all / 128) all _ on.docs c.args.self.now.ascends) c.requires;
     }
 
 pub returns-clause-place : goal.returns-clause-place
 returns-clause-place c =
-    let at = (goal.at.returns-clause-place c).After-found_block-skips in
+    let at = (goal.at.returns-clause-place c).After-find_block-self in
     let same = (below_held c.args.target c.decode_block-self.result c.decode_block-self.new.docs c.decode_block-self.new.counts _ _ c.decode_block-self.ensures c.requires (held_then at)).0 in
     c.first_from-2.ensures ∙ (same ∙ (passed at).place)
 
 pub returns-clause-decoded : goal.returns-clause-decoded
 returns-clause-decoded c =
-    let some = more (goal.at.returns-clause-decoded c).After-found_block-skips in
+    let some = more (goal.at.returns-clause-decoded c).After-find_block-self in
     let docs = docs_at c.args.self.now.before c.args.self.now.skips c.args.self.now.bytes.now in
-    let after = docs_at c.found_block-skips.result.before c.found_block-skips.result.skips c.args.self.now.bytes.now in
+    let after = docs_at c.find_block-self.result c.find_block-self.new.skips c.args.self.now.bytes.now in
     let no : nat_lt (below c.args.target docs) 128 ≡ false = grind (arith, nat_tests) in
     let one = ap (λ b. cond b 0 (min 1 (length after))) no in
     let len = c.decode_block-self.ensures.len_is in
@@ -126,5 +126,5 @@ returns-clause-decoded c =
 
 pub returns-clause-room : goal.returns-clause-room
 returns-clause-room c = λ told.
-    (let on = passed (goal.at.returns-clause-room c).After-found_block-skips in
-    room_of c.args.self.now.skips.position_offset c.found_block-skips.result.skips.position_offset (128 * (below c.args.target (docs_at c.args.self.now.before c.args.self.now.skips c.args.self.now.bytes.now) / 128)) (counts_at c.args.self.now.reads_counts c.args.self.now.before c.args.self.now.skips c.args.self.now.bytes.now) (counts_at c.args.self.now.reads_counts c.found_block-skips.result.before c.found_block-skips.result.skips c.args.self.now.bytes.now) (on.offset told) on.counts)
+    (let on = passed (goal.at.returns-clause-room c).After-find_block-self in
+    room_of c.args.self.now.skips.position_offset c.find_block-self.new.skips.position_offset (128 * (below c.args.target (docs_at c.args.self.now.before c.args.self.now.skips c.args.self.now.bytes.now) / 128)) (counts_at c.args.self.now.reads_counts c.args.self.now.before c.args.self.now.skips c.args.self.now.bytes.now) (counts_at c.args.self.now.reads_counts c.find_block-self.result c.find_block-self.new.skips c.args.self.now.bytes.now) (on.offset told) on.counts)
