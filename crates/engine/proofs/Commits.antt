@@ -1,6 +1,7 @@
 -- What a commit writes: a body that makes the groups after it.
 use Rattle.std.proofs.Common.{List, subst, sym, ◌≡◌, ℕ}
 use Rattle.std.specs.List.{AllZip}
+use Rattle.common.specs.declared.analyzer.Analyzer as analyzers
 use Rattle.definitions.specs.Analyzers.{Analyzer}
 use Rattle.definitions.specs.Calls as calls
 use Rattle.definitions.specs.Schema.{Schema}
@@ -18,12 +19,12 @@ use Rattle.segment_definitions.specs.SegmentBodies.{Makes, Member}
 use Rattle.segment_definitions.specs.SegmentFiles.{IsGroup}
 use Rattle.segment_definitions.specs.Segments.{IsSegment}
 
-module _ {A : Type 0} (analyze : A → Analyzer) where
+module _ {A : Type 0} {a : analyzers.Ghosts A} (analyze : A → Analyzer) where
   -- the documents of the segments that are committed stand in these groups
-  abbrev pub AreGroups : IndexState A → List (List Document) → Type 0
+  abbrev pub AreGroups : IndexState A a → List (List Document) → Type 0
   AreGroups index groups = AllZip (IsGroup index.schema (analyze index.analyzer)) (members_of index) groups
 
-  pub stands_groups : (index : IndexState A) (c : calls.Configuration) (x : calls.Index) → Stands analyze index c x → AreGroups index x.state.groups
+  pub stands_groups : (index : IndexState A a) (c : calls.Configuration) (x : calls.Index) → Stands analyze index c x → AreGroups index x.state.groups
   stands_groups index c x s =
       let segments = index.segments.items in
       let sets = index.alive.items in
@@ -31,7 +32,7 @@ module _ {A : Type 0} (analyze : A → Analyzer) where
       subst (AllZip (IsGroup index.schema cut) (members segments sets)) (sym s.groups) (in_groups index.schema cut s.docs segments sets s.segments index.flagged)
 
   -- a framed body that makes these members, which are of the groups after a call, and records it
-  pub record Written (old : IndexState A) (c : calls.Configuration) (s : State) (call : calls.Call) (after : List Member) (frame : List ℕ) : Type 0 where
+  pub record Written (old : IndexState A a) (c : calls.Configuration) (s : State) (call : calls.Call) (after : List Member) (frame : List ℕ) : Type 0 where
     pub body : List ℕ
     pub framed : frame ≡ frame_bytes body
     pub makes : Makes (IsSegment old.schema) (members_of old) after body
@@ -39,7 +40,7 @@ module _ {A : Type 0} (analyze : A → Analyzer) where
     pub records : RecordsCall c s call (members_of old) after body
 
   -- of what makes the members, of their groups, and of what the body says
-  pub written_of : (old : IndexState A) (c : calls.Configuration) (x : calls.Index) (call : calls.Call) (after : List Member) (frame body : List ℕ) → Stands analyze old c x → frame ≡ frame_bytes body → Makes (IsSegment c.schema) (members_of old) after body
+  pub written_of : (old : IndexState A a) (c : calls.Configuration) (x : calls.Index) (call : calls.Call) (after : List Member) (frame body : List ℕ) → Stands analyze old c x → frame ≡ frame_bytes body → Makes (IsSegment c.schema) (members_of old) after body
       → AllZip (IsGroup old.schema (analyze old.analyzer)) after (calls.after c x.state call).groups → IsBodyOfCall c x.state call (members_of old) after body → Written old c x.state call after frame
   written_of old c x call after frame body s framed makes are says =
       let groups : List (List Document) = (calls.after c x.state call).groups in
@@ -51,7 +52,7 @@ module _ {A : Type 0} (analyze : A → Analyzer) where
         records = (makes, subst (λ (m : calls.Configuration). AllZip (IsGroup m.schema m.analyze) after groups) (sym s.made) are, says);
       }
 
-  pub commit_written : (old mid : IndexState A) (prepared : Prepared) (c : calls.Configuration) (x : calls.Index) → IsMadeAlike old mid → Stands analyze old c x → IsPrepared analyze mid (sets_in prepared) c x → AreSets mid (sets_in prepared)
+  pub commit_written : (old mid : IndexState A a) (prepared : Prepared) (c : calls.Configuration) (x : calls.Index) → IsMadeAlike old mid → Stands analyze old c x → IsPrepared analyze mid (sets_in prepared) c x → AreSets mid (sets_in prepared)
       → (body : List ℕ) × (frame_in prepared ≡ frame_bytes body) × Makes (IsSegment c.schema) (members_of old) (members_with mid prepared) body × IsCommitBody c.schema c.analyze c.docs_per_segment x.state.pending (members_of old) (members_with mid prepared) body
       → Written old c x.state calls.commit_pending (members_with mid prepared) (frame_in prepared)
   commit_written old mid prepared c x alike s p flagged (body, framed, makes, says) =

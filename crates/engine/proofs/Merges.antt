@@ -1,6 +1,7 @@
 -- What a merge writes: a body that makes the groups after it.
 use Rattle.std.proofs.Common.{List, ap, sym, ◌≡◌, ◌∙◌, Err, Ok, Result, ℕ}
 use Rattle.std.specs.Prelude.{IsErrAnd, IsErrOf}
+use Rattle.common.specs.declared.analyzer.Analyzer as analyzers
 use Rattle.definitions.specs.Analyzers.{Analyzer}
 use Rattle.definitions.specs.Calls as calls
 use Rattle.definitions.specs.declared.fault.Fault.{Fault}
@@ -16,7 +17,7 @@ use Rattle.segment_definitions.specs.SegmentBodies.{Makes}
 use Rattle.segment_definitions.specs.Segments.{IsSegment}
 use Rattle.engine.proofs.Commits.{Written, stands_groups, written_of}
 
-pub merge_written : {A : Type 0} (analyze : A → Analyzer) (old : IndexState A) (p : PreparedMerge) (c : calls.Configuration) (x : calls.Index) (from to : ℕ) → Stands analyze old c x → Joins analyze old from to x.state.groups p
+pub merge_written : {A : Type 0} {a : analyzers.Ghosts A} (analyze : A → Analyzer) (old : IndexState A a) (p : PreparedMerge) (c : calls.Configuration) (x : calls.Index) (from to : ℕ) → Stands analyze old c x → Joins analyze old from to x.state.groups p
     → (body : List ℕ) × (merge_frame_in p ≡ frame_bytes body) × Makes (IsSegment c.schema) (members_of old) (members_merged old p) body × IsMergeBody c.schema c.analyze from to x.state.groups (members_of old) (members_merged old p) body
     → Written analyze old c x.state (calls.merge_range from to) (members_merged old p) (merge_frame_in p)
 merge_written analyze old p c x from to s joins (body, framed, makes, says) =

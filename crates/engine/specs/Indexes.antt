@@ -113,7 +113,8 @@ module _ {D A : Type 0} {d : devices.Ghosts D} {a : analyzers.Ghosts A} where
   -- or in the bytes of the file
   abbrev pub CommitPasses : calls.Configuration → State → Index D A d a → Type 0
   CommitPasses c s index =
-      TermsPass c.schema c.analyze (open_docs c.docs_per_segment s.pending) ⊎ (2 ^ 32 ≤ length (calls.after c s calls.commit_pending).groups)
+      TermsPass c.schema c.analyze (open_docs c.docs_per_segment s.pending)
+      ⊎ (2 ^ 32 ≤ length (calls.after c s calls.commit_pending).groups)
       ⊎ PassesFile c s calls.commit_pending index
 
   -- a crash at any moment from the old index to the new one leaves a file of the one or the other groups

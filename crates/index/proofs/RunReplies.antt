@@ -78,7 +78,7 @@ module _ {D A : Type 0} {d : devices.Ghosts D} {a : analyzers.Ghosts A} where
           device = λ device. absurd (device_failed (sym device ∙ memory));
         },
         same,
-        λ honest other. (s, (refl, inl (memory_stays (steps.line_request line) fault memory, refl)), subst (λ (m : Session D A d a). StandsFor m s) (sym stays) stands),
+        λ honest other. (s, (refl, inl (memory_stays s.stage (steps.line_request line) fault memory, refl)), subst (λ (m : Session D A d a). StandsFor m s) (sym stays) stands),
       )
   step_of session next s line answer stands (inr (stays, (fault, inr refused, same))) =
       inl (

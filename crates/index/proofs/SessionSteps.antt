@@ -125,7 +125,7 @@ on_three : {T E : Type 0} (r : Result T E) (P Q R S : Type 0) → OnOk r P → O
 on_three (Ok t) P Q R S p q s f = f p q s
 on_three (Err e) P Q R S p q s f = tt
 
-module _ {D A Z : Type 0} {d : devices.Ghosts D} {an : analyzers.Ghosts A} where
+module _ {D A Z : Type 0} {d : devices.Ghosts D} {a : analyzers.Ghosts A} where
   -- the reply to a change
   pub replied : (s : steps.Session) (old new : Session D A d a) (change : Result ⊤ Fault) (result : Result (CowStr Z) Fault) (p : json.Data × steps.Stage) (r : requests.Request) → steps.is_ready s.stage ≡ false → steps.stage_step s.analysis s.stage r ≡ p → LeavesStage a.knows_name a.analyze s.analysis (steps.held_by s.stage) new.stage change p → IfOk result (λ text. cow_str_bytes text ≡ change_text change) → OnOk result (GoesOn change)
       → IfErr result (λ e. change ≡ Err e) → honest_of new ≡ honest_of old → HasCause (failures_of old) (failures_of new) change → ¬ IsErrOf change faults.Limit → MayDrop (Some r) → Replies old new s (Some r) result
@@ -164,7 +164,7 @@ module _ {D A Z : Type 0} {d : devices.Ghosts D} {an : analyzers.Ghosts A} where
     honest = refl;
     failures = memory_cause {T = CowStr Z} (failures_of session) (Err e) memory;
     limit = λ limit. absurd (memory_no_limit {T = CowStr Z} (Err e) memory limit);
-    left = λ _ other. (s, (refl, inl (memory_stays (Some r) e memory, refl)), stands);
+    left = λ _ other. (s, (refl, inl (memory_stays s.stage (Some r) e memory, refl)), stands);
   }
 
   -- the same of a session with the same stage
@@ -200,11 +200,11 @@ module _ {D A Z : Type 0} {d : devices.Ghosts D} {an : analyzers.Ghosts A} where
     honest = refl;
     failures = memory_cause {T = CowStr Z} (failures_of session) (Err e) memory;
     limit = λ limit. absurd (memory_no_limit {T = CowStr Z} (Err e) memory limit);
-    left = λ _ other. (s, (refl, inl (memory_stays o e memory, refl)), stands);
+    left = λ _ other. (s, (refl, inl (memory_stays s.stage o e memory, refl)), stands);
   }
 
   -- what is asked of the index that stands
-  pub index_reply : (s : steps.Session) (before after : Session D A d a) (old new : Index D A d an) (r : IndexRequest) (result : Result (CowStr Z) Fault) → before.stage ≡ Some (Standing old) → after.stage ≡ Some (Standing new) → StandsFor before s
+  pub index_reply : (s : steps.Session) (before after : Session D A d a) (old new : Index D A d a) (r : IndexRequest) (result : Result (CowStr Z) Fault) → before.stage ≡ Some (Standing old) → after.stage ≡ Some (Standing new) → StandsFor before s
       → ((c : calls.Configuration) (x : calls.Index) → IndexStands a.analyze old c x → Answers a.analyze new c x (index_request_of r) result)
       → KeepsMaking old new
       → ((c : calls.Configuration) (x : calls.Index) → IndexStands a.analyze old c x → OnOk result ((x.status ≡ calls.ready) ⊎ KeepsFile old new))
@@ -247,9 +247,9 @@ module _ {D A Z : Type 0} {d : devices.Ghosts D} {an : analyzers.Ghosts A} where
           }
 
 -- none stands to be asked
-pub none_asked : {D A : Type 0} (d : devices.Ghosts D) (knows : A → List ℕ → Bool) (analyze : A → Analyzer) (a : steps.Analysis) (stage : steps.Stage) (device : D) (analyzer : A) (r : IndexRequest) → HasStage {d = d} knows analyze a (Some (Spare device analyzer)) stage → steps.stage_step a stage (index_request_of r) ≡ steps.refusing faults.NotOpen stage
-none_asked d knows analyze a (steps.no_index held) device analyzer r h = asked_step a (steps.no_index held) r
-none_asked d knows analyze a (steps.index_of fields numbers x) device analyzer r h = absurd h
+pub none_asked : {D A : Type 0} (d : devices.Ghosts D) (an : analyzers.Ghosts A) (knows : A → List ℕ → Bool) (analyze : A → Analyzer) (a : steps.Analysis) (stage : steps.Stage) (device : D) (analyzer : A) (r : IndexRequest) → HasStage {d = d} {an = an} knows analyze a (Some (Spare device analyzer)) stage → steps.stage_step a stage (index_request_of r) ≡ steps.refusing faults.NotOpen stage
+none_asked d an knows analyze a (steps.no_index held) device analyzer r h = asked_step a (steps.no_index held) r
+none_asked d an knows analyze a (steps.index_of fields numbers x) device analyzer r h = absurd h
 
 -- ---- a line
 

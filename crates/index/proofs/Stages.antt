@@ -82,14 +82,14 @@ file_unrefused s u ms bytes fault (bodies, file, l) (inr (place, is, damaged)) =
 refused_text : {S : Type 0} (fault : Fault) (s : S) (p : json.Data × S) → p ≡ steps.refusing fault s → change_text (Err fault) ≡ reply_of p.0
 refused_text fault s p is = error_text fault ∙ ap (λ q. reply_of q.0) (sym is)
 
-module _ {D A : Type 0} (d : devices.Ghosts D) (knows : A → List ℕ → Bool) (analyze : A → Analyzer) where
+module _ {D A : Type 0} (d : devices.Ghosts D) (an : analyzers.Ghosts A) (knows : A → List ℕ → Bool) (analyze : A → Analyzer) where
   -- what is told, and what stands
   abbrev IsTold : steps.Analysis → Option (Stage D A d an) → Result ⊤ Fault → json.Data × steps.Stage → Type 0
   IsTold a stage change p = (change_text change ≡ reply_of p.0) × HasStage knows analyze a stage p.1
 
   -- what stands after a refusal
   refused_stage : (a : steps.Analysis) (device : D) (analyzer : A) (fault : Fault) (held : steps.Held) (p : json.Data × steps.Stage) → p ≡ steps.refusing fault (steps.no_index held) → IsSpare d.honest d.content knows analyze a device analyzer held → IsTold a (Some (Spare device analyzer)) (Err fault) p
-  refused_stage a device analyzer fault held p is spare = (refused_text fault (steps.no_index held) p is, subst (λ (q : json.Data × steps.Stage). HasStage {d = d} knows analyze a (Some (Spare device analyzer)) q.1) (sym is) spare)
+  refused_stage a device analyzer fault held p is spare = (refused_text fault (steps.no_index held) p is, subst (λ (q : json.Data × steps.Stage). HasStage {d = d} {an = an} knows analyze a (Some (Spare device analyzer)) q.1) (sym is) spare)
 
   -- and after an answer
   answered_stage : (a : steps.Analysis) (held : steps.Held) (index : Index D A d an) (s : Schema) (u : Settings) (x : calls.Index) (p : json.Data × steps.Stage) → p ≡ (ok_reply, steps.index_of s u x) → IsIndex knows analyze a index s u x → LeavesStage knows analyze a held (Some (Standing index)) (Ok tt) p
@@ -126,7 +126,7 @@ module _ {D A : Type 0} (d : devices.Ghosts D) (knows : A → List ℕ → Bool)
   pub unmade_stage : (a : steps.Analysis) (device : D) (analyzer : A) (held : steps.Held) (s : Schema) (u : Settings) (r : Refused D A) → IsSpare d.honest d.content knows analyze a device analyzer held
       → (r.fault ≡ faults.OutOfMemory) ⊎ (making_fault (knows analyzer) s u ≡ Some r.fault) ⊎ ((making_fault (knows analyzer) s u ≡ None) × IsCreateRefusal r.fault)
       → r.analyzer ≡ analyzer → d.honest r.device ≡ d.honest device → (IsTrue (d.honest device) → r.fault ≡ faults.NotEmpty → d.content device ≢ []) → (IsTrue (d.honest device) → r.fault ≢ faults.Device → IsKept d.moment d.left_since d.content d.unsynced device r.device)
-      → LeavesStage {d = d} knows analyze a held (Some (Spare r.device r.analyzer)) (Err r.fault) (steps.created a.knows s u held)
+      → LeavesStage {d = d} {an = an} knows analyze a held (Some (Spare r.device r.analyzer)) (Err r.fault) (steps.created a.knows s u held)
   unmade_stage a device analyzer held s u r spare exact returned honest full kept = record {
     told = λ on. refused_stage a r.device r.analyzer r.fault held (steps.created a.knows s u held) (step on held spare.1 exact) (stays (going_on r.fault faults.Device on refl));
     spare = stays;
@@ -182,7 +182,7 @@ module _ {D A : Type 0} (d : devices.Ghosts D) (knows : A → List ℕ → Bool)
   pub unopened_stage : (a : steps.Analysis) (device : D) (analyzer : A) (held : steps.Held) (r : Refused D A) → IsSpare d.honest d.content knows analyze a device analyzer held
       → (IsTrue (d.honest device) → (r.fault ≡ faults.Device) ⊎ (r.fault ≡ faults.OutOfMemory) ⊎ IsOpenRefusal (knows analyzer) (d.content device) r.fault)
       → r.analyzer ≡ analyzer → d.honest r.device ≡ d.honest device → (IsTrue (d.honest device) → r.fault ≢ faults.Device → IsKept d.moment d.left_since d.content d.unsynced device r.device)
-      → LeavesStage {d = d} knows analyze a held (Some (Spare r.device r.analyzer)) (Err r.fault) (steps.opened a.knows held)
+      → LeavesStage {d = d} {an = an} knows analyze a held (Some (Spare r.device r.analyzer)) (Err r.fault) (steps.opened a.knows held)
   unopened_stage a device analyzer held r spare refused returned honest kept = record {
     told = λ on. refused_stage a r.device r.analyzer r.fault held (steps.opened a.knows held) (step on held spare.1 (refused is_honest)) (stays (going_on r.fault faults.Device on refl));
     spare = stays;

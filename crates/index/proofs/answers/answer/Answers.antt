@@ -11,7 +11,7 @@ use Rattle.index.proofs.Answering.{add_refused, change_answers, taken_answers, w
 use Rattle.index.proofs.Causes.{add_cause, any_answer, change_is_memory, memory_cause, memory_no_limit, met_limit, same_cause, same_error}
 use Rattle.index.proofs.IndexFiles.{counted_still, in_file_still, searched_still, step_status, written_in_file}
 use Rattle.index.proofs.KeptDevices.{unwritten_file}
-use Rattle.index.proofs.Leavings.{add_closes, after_any, after_error, any_error, error_of_change, other_stays, reply_stops, unless_commit}
+use Rattle.index.proofs.Leavings.{add_closes, add_stays, after_any, after_error, any_error, any_fault, error_of_change, reply_stops}
 use Rattle.serde_json.specs.View.{view}
 use Rattle.index.proofs.answers.answer.Goals as goal
 
@@ -57,7 +57,8 @@ returns-in-Add-clause-left g c k x s =
     let value = view c.in-Add.doc.now in
     let r = requests.add_doc value in
     subst (λ r. IfErr c.answer_change.result (λ fault. fault ≢ faults.Device → OnlyStops analyze old new k x (index_request_of r) fault)) (sym c.in-Add.is)
-    (reply_stops analyze new k x old r (calls.add_value value) c.add_value.result c.answer_change.result (λ f _. unless_commit r f (λ e. let same = e in cc))
+    (reply_stops analyze new k x old r (calls.add_value value) c.add_value.result c.answer_change.result
+    (add_stays analyze new k x old value c.add_value.result s (c.add_value.ensures.limit k x s) (λ doc. c.add_value.ensures.closed k x doc s))
     (λ accepted _. add_closes analyze new k x old value c.add_value.result s (λ doc. c.add_value.ensures.long k x doc s) accepted)
     c.answer_change.ensures.same (c.add_value.ensures.left k x s) (any_error c.add_value.result (λ _. KeepsFile old new) (λ _. c.add_value.ensures.file)))
 
@@ -105,7 +106,7 @@ returns-in-Delete-clause-left g c k x s =
     subst (λ r. IfErr c.answer_change-in-Delete.result (λ fault. fault ≢ faults.Device → OnlyStops analyze old new k x (index_request_of r) fault)) (sym c.in-Delete.is)
     (error_of_change c.delete.result c.answer_change-in-Delete.result (λ fault. fault ≢ faults.Device → OnlyStops analyze old new k x r fault) c.answer_change-in-Delete.ensures.same
     (after_error c.delete.result (IndexStands analyze new k x) (OnlyStops analyze old new k x r)
-    (λ fault stands. record { file = c.delete.ensures.file; stands = inl (unless_commit r fault (λ e. let same = e in cc), stands) }) (c.delete.ensures.left k x s)))
+    (λ fault stands. record { file = c.delete.ensures.file; stands = inl (tt, stands) }) (c.delete.ensures.left k x s)))
 
 -- ---- a merge
 
@@ -142,7 +143,7 @@ returns-in-Merge-clause-left g c k x s =
     let new = c.merge.new.self in
     let r = requests.merge_groups c.in-Merge.from c.in-Merge.to in
     subst (λ r. IfErr c.answer_change-in-Merge.result (λ fault. fault ≢ faults.Device → OnlyStops analyze old new k x (index_request_of r) fault)) (sym c.in-Merge.is)
-    (reply_stops analyze new k x old r (calls.merge_range c.in-Merge.from c.in-Merge.to) c.merge.result c.answer_change-in-Merge.result (λ f _. unless_commit r f (λ e. let same = e in cc)) (λ _ adds _. absurd (true≢false (sym adds)))
+    (reply_stops analyze new k x old r (calls.merge_range c.in-Merge.from c.in-Merge.to) c.merge.result c.answer_change-in-Merge.result (λ _ _ _. any_fault c.merge.result _ (λ f limit. tt)) (λ _ adds _. absurd (true≢false (sym adds)))
     c.answer_change-in-Merge.ensures.same ((c.merge.ensures.writes k x s).left) c.merge.ensures.kept)
 
 -- ---- a commit
@@ -178,7 +179,7 @@ returns-in-Commit-clause-left g c k x s =
     let new = c.commit.new.self in
     let r = requests.commit_all in
     subst (λ r. IfErr c.answer_change-in-Commit.result (λ fault. fault ≢ faults.Device → OnlyStops analyze old new k x (index_request_of r) fault)) (sym c.in-Commit.is)
-    (reply_stops analyze new k x old r calls.commit_pending c.commit.result c.answer_change-in-Commit.result (λ f h. elim h [ inl other ↦ other_stays (Some r) f other | inr adds ↦ absurd (true≢false (sym adds)) ])
+    (reply_stops analyze new k x old r calls.commit_pending c.commit.result c.answer_change-in-Commit.result (λ _ adds _. absurd (true≢false (sym adds)))
     (λ accepted _ _. after_any c.commit.result (calls.call_fault k x calls.commit_pending ≡ None) accepted)
     c.answer_change-in-Commit.ensures.same ((c.commit.ensures.writes k x s).left) c.commit.ensures.kept)
 
@@ -217,7 +218,7 @@ returns-in-Search-clause-left g c k x s =
     let new = c.search.new.index in
     let r = requests.search_docs (view c.in-Search.query.now) c.in-Search.k in
     subst (λ r. IfErr c.search.result (λ fault. fault ≢ faults.Device → OnlyStops analyze old new k x (index_request_of r) fault)) (sym c.in-Search.is)
-    (any_error c.search.result (OnlyStops analyze old new k x r) (λ fault. record { file = c.search.ensures.file; stands = inl (unless_commit r fault (λ e. let same = e in cc), c.search.ensures.left k x s) }))
+    (any_error c.search.result (OnlyStops analyze old new k x r) (λ fault. record { file = c.search.ensures.file; stands = inl (tt, c.search.ensures.left k x s) }))
 
 -- ---- a count
 
@@ -247,7 +248,7 @@ returns-in-Count-clause-left g c k x s =
     let index = c.args.index.now in
     let r = requests.count_docs (view c.in-Count.query.now) in
     subst (λ r. IfErr c.count.result (λ fault. fault ≢ faults.Device → OnlyStops analyze index index k x (index_request_of r) fault)) (sym c.in-Count.is)
-    (any_error c.count.result (OnlyStops analyze index index k x r) (λ fault. record { file = (refl, refl, refl); stands = inl (unless_commit r fault (λ e. let same = e in cc), s) }))
+    (any_error c.count.result (OnlyStops analyze index index k x r) (λ fault. record { file = (refl, refl, refl); stands = inl (tt, s) }))
 
 -- ---- the file
 

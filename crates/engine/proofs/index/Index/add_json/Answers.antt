@@ -4,10 +4,10 @@ use Rattle.definitions.specs.Calls as calls
 use Rattle.definitions.specs.Reading.{read_data, read_json}
 use Rattle.definitions.specs.Values.{Document}
 use Rattle.definitions.specs.declared.fault.Fault.TheVariants as faults
-use Rattle.index_state.proofs.Outcomes.{err_has, err_same, own_refuses, status_refuses}
+use Rattle.index_state.proofs.Outcomes.{err_has, err_no_limit, err_same, own_refuses, status_refuses}
 use Rattle.definitions.proofs.Lists.{err_map}
 use Rattle.index_state.specs.Standing.{Stands}
-use Rattle.engine.specs.Indexes.{HasLongSlot, PassesLimit, open_of}
+use Rattle.engine.specs.Indexes.{AddPasses, HasLongSlot}
 use Rattle.engine.proofs.Adding.{adds_json, adds_value, any_refusal, as_other, early_no_limit, no_limit, no_text_is, refused_no_ok, same_refusal, text_is, unread_left}
 use Rattle.serde_json.specs.View.{view}
 use Rattle.engine.proofs.index.Index.add_json.Goals as goal
@@ -69,28 +69,27 @@ returns-clause-exact g c k x s =
 
 pub returns-in_err-check_writer-clause-limit : goal.returns-in_err-check_writer-clause-limit
 returns-in_err-check_writer-clause-limit g c k x s =
+    let call = calls.add_json c.args.text.now in
     let fault = c.in_err-check_writer.field-0.0 in
     let refuses = ap (λ status. calls.status_fault status false) s.status ∙ sym c.check_writer.ensures.value ∙ ap result_err c.in_err-check_writer.was in
-    err_has c.from_residual.result fault (λ f. f ≡ faults.Limit → (doc : Document) × (read_json k.schema c.args.text.now ≡ Ok doc) × PassesLimit g.A.Analyzer.analyze c.args.self.now (open_of c.args.self.now ++ doc ∷ [])) c.from_residual.ensures.1
-    (λ limit. absurd (no_limit k x (calls.add_json c.args.text.now) fault (status_refuses k x (calls.add_json c.args.text.now) fault refuses) limit))
+    err_no_limit c.from_residual.result fault _ c.from_residual.ensures.1 (no_limit k x call fault (status_refuses k x call fault refuses))
 
 pub returns-in_err-json-clause-limit : goal.returns-in_err-json-clause-limit
 returns-in_err-json-clause-limit g c k x s =
-    let old = c.args.self.now.index_state in
+    let text = c.args.text.now in
+    let call = calls.add_json text in
     let fault = c.in_err-json.field-0.0 in
     let none = ap (λ status. calls.status_fault status false) s.status ∙ sym c.check_writer.ensures.value ∙ ap result_err c.in_ok-check_writer.was in
-    let text = c.args.text.now in
-    let own : fault ≢ faults.OutOfMemory → calls.own_fault k x.state (calls.add_json text) ≡ Some fault =
+    let own : fault ≢ faults.OutOfMemory → calls.own_fault k x.state call ≡ Some fault =
     λ other. ap result_err (no_text_is k.schema text (c.in_err-json.ensures.err other).1) ∙ ap Some (sym (c.in_err-json.ensures.err other).0) in
-    err_has c.from_residual-in_err-json.result fault (λ f. f ≡ faults.Limit → (doc : Document) × (read_json k.schema c.args.text.now ≡ Ok doc) × PassesLimit g.A.Analyzer.analyze c.args.self.now (open_of c.args.self.now ++ doc ∷ [])) c.from_residual-in_err-json.ensures.1
-    (λ limit. absurd (early_no_limit k x (calls.add_json c.args.text.now) fault (λ memory. own_refuses k x (calls.add_json c.args.text.now) none ∙ own memory) limit))
+    err_no_limit c.from_residual-in_err-json.result fault _ c.from_residual-in_err-json.ensures.1 (early_no_limit k x call fault (λ memory. own_refuses k x call none ∙ own memory))
 
 pub returns-clause-limit : goal.returns-clause-limit
 returns-clause-limit g c k x s =
     let text = c.args.text.now in
     let d = view c.in_ok-json.json in
     let is : read_json k.schema text ≡ read_data k.schema d = ap (λ o. elim o [ None ↦ Err faults.NotAnObject | Some v ↦ read_data k.schema v ]) c.in_ok-json.ensures.ok in
-    err_map c.add_value.result (λ f. f ≡ faults.Limit → (doc : Document) × (read_data k.schema d ≡ Ok doc) × PassesLimit g.A.Analyzer.analyze c.args.self.now (open_of c.args.self.now ++ doc ∷ [])) (λ f. f ≡ faults.Limit → (doc : Document) × (read_json k.schema c.args.text.now ≡ Ok doc) × PassesLimit g.A.Analyzer.analyze c.args.self.now (open_of c.args.self.now ++ doc ∷ []))
+    err_map c.add_value.result (λ f. f ≡ faults.Limit → (doc : Document) × (read_data k.schema d ≡ Ok doc) × AddPasses k x.state c.args.self.now doc) (λ f. f ≡ faults.Limit → (doc : Document) × (read_json k.schema text ≡ Ok doc) × AddPasses k x.state c.args.self.now doc)
     (λ f passes limit. let p = passes limit in (p.0, is ∙ p.1, p.2)) (c.add_value.ensures.limit k x s)
 
 pub returns-in_err-check_writer-clause-short : goal.returns-in_err-check_writer-clause-short
@@ -116,3 +115,38 @@ returns-clause-long g c k x doc s is long =
     let d = view c.in_ok-json.json in
     let read : read_json k.schema c.args.text.now ≡ read_data k.schema d = ap (λ o. elim o [ None ↦ Err faults.NotAnObject | Some v ↦ read_data k.schema v ]) c.in_ok-json.ensures.ok in
     c.add_value.ensures.long k x doc s (sym read ∙ is) long
+
+pub returns-in_err-check_writer-clause-within : goal.returns-in_err-check_writer-clause-within
+returns-in_err-check_writer-clause-within g c k x doc s is = refused_no_ok c.from_residual.result c.in_err-check_writer.field-0.0 _ c.from_residual.ensures.1
+
+pub returns-in_err-check_writer-clause-closed : goal.returns-in_err-check_writer-clause-closed
+returns-in_err-check_writer-clause-closed g c k x doc s is =
+    let call = calls.add_json c.args.text.now in
+    let fault = c.in_err-check_writer.field-0.0 in
+    let refuses = ap (λ status. calls.status_fault status false) s.status ∙ sym c.check_writer.ensures.value ∙ ap result_err c.in_err-check_writer.was in
+    err_no_limit c.from_residual.result fault _ c.from_residual.ensures.1 (no_limit k x call fault (status_refuses k x call fault refuses))
+
+pub returns-in_err-json-clause-within : goal.returns-in_err-json-clause-within
+returns-in_err-json-clause-within g c k x doc s is = refused_no_ok c.from_residual-in_err-json.result c.in_err-json.field-0.0 _ c.from_residual-in_err-json.ensures.1
+
+pub returns-in_err-json-clause-closed : goal.returns-in_err-json-clause-closed
+returns-in_err-json-clause-closed g c k x doc s is =
+    let text = c.args.text.now in
+    let call = calls.add_json text in
+    let fault = c.in_err-json.field-0.0 in
+    let none = ap (λ status. calls.status_fault status false) s.status ∙ sym c.check_writer.ensures.value ∙ ap result_err c.in_ok-check_writer.was in
+    let own : fault ≢ faults.OutOfMemory → calls.own_fault k x.state call ≡ Some fault =
+    λ other. ap result_err (no_text_is k.schema text (c.in_err-json.ensures.err other).1) ∙ ap Some (sym (c.in_err-json.ensures.err other).0) in
+    err_no_limit c.from_residual-in_err-json.result fault _ c.from_residual-in_err-json.ensures.1 (early_no_limit k x call fault (λ memory. own_refuses k x call none ∙ own memory))
+
+pub returns-clause-within : goal.returns-clause-within
+returns-clause-within g c k x doc s is =
+    let d = view c.in_ok-json.json in
+    let read : read_json k.schema c.args.text.now ≡ read_data k.schema d = ap (λ o. elim o [ None ↦ Err faults.NotAnObject | Some v ↦ read_data k.schema v ]) c.in_ok-json.ensures.ok in
+    c.add_value.ensures.within k x doc s (sym read ∙ is)
+
+pub returns-clause-closed : goal.returns-clause-closed
+returns-clause-closed g c k x doc s is =
+    let d = view c.in_ok-json.json in
+    let read : read_json k.schema c.args.text.now ≡ read_data k.schema d = ap (λ o. elim o [ None ↦ Err faults.NotAnObject | Some v ↦ read_data k.schema v ]) c.in_ok-json.ensures.ok in
+    c.add_value.ensures.closed k x doc s (sym read ∙ is)

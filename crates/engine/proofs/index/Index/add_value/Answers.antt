@@ -1,13 +1,15 @@
-use Rattle.std.proofs.Common.{[], Ok, Some, ap, false, sym, subst, ◌++◌, ◌∙◌, ◌∷◌, ◌≡◌, ◌≢◌, OnOk}
+use Rattle.std.proofs.Common.{[], Ok, Some, ap, false, sym, subst, ◌++◌, ◌∙◌, ◌∷◌, ◌≡◌, ◌≢◌, IfErr, OnOk}
 use Rattle.std.specs.Result.{result_err}
 use Rattle.definitions.specs.Calls as calls
 use Rattle.definitions.specs.Reading.{read_data}
 use Rattle.definitions.specs.Values.{Document}
 use Rattle.definitions.specs.declared.fault.Fault.TheVariants as faults
-use Rattle.index_state.proofs.Outcomes.{err_has, err_same, own_refuses, status_refuses}
+use Rattle.document_indexer.specs.Indexed.{IsWithinLimits}
+use Rattle.index_state.proofs.Outcomes.{err_has, err_no_limit, err_same, own_refuses, status_refuses}
 use Rattle.definitions.proofs.Lists.{err_map}
-use Rattle.index_state.specs.Standing.{Stands}
-use Rattle.engine.specs.Indexes.{HasLongSlot, PassesLimit, open_of}
+use Rattle.index_state.specs.Pending.{open_docs}
+use Rattle.index_state.specs.Standing.{Stands, state_of}
+use Rattle.engine.specs.Indexes.{AddPasses, HasLongSlot}
 use Rattle.engine.proofs.Adding.{adds_document, adds_value, any_refusal, as_other, early_no_limit, given_is, no_limit, one_document, refused_no_ok, same_refusal, unread_left}
 use Rattle.serde_json.specs.View.{view}
 use Rattle.engine.proofs.index.Index.add_value.Goals as goal
@@ -71,29 +73,29 @@ returns-clause-exact g c k x s =
 
 pub returns-in_err-check_writer-clause-limit : goal.returns-in_err-check_writer-clause-limit
 returns-in_err-check_writer-clause-limit g c k x s =
+    let call = calls.add_value (view c.args.value.now) in
     let fault = c.in_err-check_writer.field-0.0 in
     let refuses = ap (λ status. calls.status_fault status false) s.status ∙ sym c.check_writer.ensures.value ∙ ap result_err c.in_err-check_writer.was in
-    err_has c.from_residual.result fault (λ f. f ≡ faults.Limit → (doc : Document) × (read_data k.schema (view c.args.value.now) ≡ Ok doc) × PassesLimit g.A.Analyzer.analyze c.args.self.now (open_of c.args.self.now ++ doc ∷ [])) c.from_residual.ensures.1
-    (λ limit. absurd (no_limit k x (calls.add_value (view c.args.value.now)) fault (status_refuses k x (calls.add_value (view c.args.value.now)) fault refuses) limit))
+    err_no_limit c.from_residual.result fault _ c.from_residual.ensures.1 (no_limit k x call fault (status_refuses k x call fault refuses))
 
 pub returns-in_err-doc-clause-limit : goal.returns-in_err-doc-clause-limit
 returns-in_err-doc-clause-limit g c k x s =
+    let d = view c.args.value.now in
+    let call = calls.add_value d in
     let old = c.args.self.now.index_state in
     let fault = c.in_err-doc.field-0.0 in
     let none = ap (λ status. calls.status_fault status false) s.status ∙ sym c.check_writer.ensures.value ∙ ap result_err c.in_ok-check_writer.was in
-    let d = view c.args.value.now in
-    let own : fault ≢ faults.OutOfMemory → calls.own_fault k x.state (calls.add_value d) ≡ Some fault =
+    let own : fault ≢ faults.OutOfMemory → calls.own_fault k x.state call ≡ Some fault =
     λ other. ap (λ (m : calls.Configuration). result_err (calls.document_value m.schema d)) s.made ∙ ap (λ r. result_err (calls.if_indexable old.schema r)) (ap (λ t. read_data t d) (sym c.schema.ensures) ∙ c.in_err-doc.ensures.err other) in
-    err_has c.from_residual-in_err-doc.result fault (λ f. f ≡ faults.Limit → (doc : Document) × (read_data k.schema (view c.args.value.now) ≡ Ok doc) × PassesLimit g.A.Analyzer.analyze c.args.self.now (open_of c.args.self.now ++ doc ∷ [])) c.from_residual-in_err-doc.ensures.1
-    (λ limit. absurd (early_no_limit k x (calls.add_value (view c.args.value.now)) fault (λ memory. own_refuses k x (calls.add_value (view c.args.value.now)) none ∙ own memory) limit))
+    err_no_limit c.from_residual-in_err-doc.result fault _ c.from_residual-in_err-doc.ensures.1 (early_no_limit k x call fault (λ memory. own_refuses k x call none ∙ own memory))
 
 pub returns-clause-limit : goal.returns-clause-limit
 returns-clause-limit g c k x s =
     let d = view c.args.value.now in
     let doc = c.in_ok-doc.doc in
     let read : read_data k.schema d ≡ Ok doc = ap (λ (m : calls.Configuration). read_data m.schema d) s.made ∙ ap (λ t. read_data t d) (sym c.schema.ensures) ∙ c.in_ok-doc.ensures.ok in
-    err_map c.add_document.result (λ f. f ≡ faults.Limit → PassesLimit g.A.Analyzer.analyze c.args.self.now (open_of c.args.self.now ++ doc ∷ [])) (λ f. f ≡ faults.Limit → (doc : Document) × (read_data k.schema (view c.args.value.now) ≡ Ok doc) × PassesLimit g.A.Analyzer.analyze c.args.self.now (open_of c.args.self.now ++ doc ∷ []))
-    (λ f passes limit. (doc, read, passes limit)) c.add_document.ensures.limit
+    err_map c.add_document.result (λ f. f ≡ faults.Limit → AddPasses k x.state c.args.self.now doc) (λ f. f ≡ faults.Limit → (doc : Document) × (read_data k.schema d ≡ Ok doc) × AddPasses k x.state c.args.self.now doc)
+    (λ f passes limit. (doc, read, passes limit)) (c.add_document.ensures.limit k x s)
 
 pub returns-in_err-check_writer-clause-short : goal.returns-in_err-check_writer-clause-short
 returns-in_err-check_writer-clause-short g c k x doc s is = refused_no_ok c.from_residual.result c.in_err-check_writer.field-0.0 (¬ HasLongSlot c.args.self.now doc) c.from_residual.ensures.1
@@ -120,3 +122,41 @@ returns-clause-long g c k x doc s is long =
     let found = c.in_ok-doc.doc in
     let read : read_data k.schema d ≡ Ok found = ap (λ (m : calls.Configuration). read_data m.schema d) s.made ∙ ap (λ t. read_data t d) (sym c.schema.ensures) ∙ c.in_ok-doc.ensures.ok in
     c.add_document.ensures.long k x s (subst (HasLongSlot c.args.self.now) (sym (one_document (read_data k.schema d) found doc read is)) long)
+
+pub returns-in_err-check_writer-clause-within : goal.returns-in_err-check_writer-clause-within
+returns-in_err-check_writer-clause-within g c k x doc s is = refused_no_ok c.from_residual.result c.in_err-check_writer.field-0.0 _ c.from_residual.ensures.1
+
+pub returns-in_err-check_writer-clause-closed : goal.returns-in_err-check_writer-clause-closed
+returns-in_err-check_writer-clause-closed g c k x doc s is =
+    let call = calls.add_value (view c.args.value.now) in
+    let fault = c.in_err-check_writer.field-0.0 in
+    let refuses = ap (λ status. calls.status_fault status false) s.status ∙ sym c.check_writer.ensures.value ∙ ap result_err c.in_err-check_writer.was in
+    err_no_limit c.from_residual.result fault _ c.from_residual.ensures.1 (no_limit k x call fault (status_refuses k x call fault refuses))
+
+pub returns-in_err-doc-clause-within : goal.returns-in_err-doc-clause-within
+returns-in_err-doc-clause-within g c k x doc s is = refused_no_ok c.from_residual-in_err-doc.result c.in_err-doc.field-0.0 _ c.from_residual-in_err-doc.ensures.1
+
+pub returns-in_err-doc-clause-closed : goal.returns-in_err-doc-clause-closed
+returns-in_err-doc-clause-closed g c k x doc s is =
+    let d = view c.args.value.now in
+    let call = calls.add_value d in
+    let old = c.args.self.now.index_state in
+    let fault = c.in_err-doc.field-0.0 in
+    let none = ap (λ status. calls.status_fault status false) s.status ∙ sym c.check_writer.ensures.value ∙ ap result_err c.in_ok-check_writer.was in
+    let own : fault ≢ faults.OutOfMemory → calls.own_fault k x.state call ≡ Some fault =
+    λ other. ap (λ (m : calls.Configuration). result_err (calls.document_value m.schema d)) s.made ∙ ap (λ r. result_err (calls.if_indexable old.schema r)) (ap (λ t. read_data t d) (sym c.schema.ensures) ∙ c.in_err-doc.ensures.err other) in
+    err_no_limit c.from_residual-in_err-doc.result fault _ c.from_residual-in_err-doc.ensures.1 (early_no_limit k x call fault (λ memory. own_refuses k x call none ∙ own memory))
+
+pub returns-clause-within : goal.returns-clause-within
+returns-clause-within g c k x doc s is =
+    let d = view c.args.value.now in
+    let found = c.in_ok-doc.doc in
+    let read : read_data k.schema d ≡ Ok found = ap (λ (m : calls.Configuration). read_data m.schema d) s.made ∙ ap (λ t. read_data t d) (sym c.schema.ensures) ∙ c.in_ok-doc.ensures.ok in
+    subst (λ e. OnOk c.add_document.result (IsWithinLimits k.schema k.analyze (open_docs k.docs_per_segment x.state.pending) e)) (one_document (read_data k.schema d) found doc read is) (c.add_document.ensures.within k x s)
+
+pub returns-clause-closed : goal.returns-clause-closed
+returns-clause-closed g c k x doc s is =
+    let d = view c.args.value.now in
+    let found = c.in_ok-doc.doc in
+    let read : read_data k.schema d ≡ Ok found = ap (λ (m : calls.Configuration). read_data m.schema d) s.made ∙ ap (λ t. read_data t d) (sym c.schema.ensures) ∙ c.in_ok-doc.ensures.ok in
+    subst (λ e. IfErr c.add_document.result (λ f. f ≡ faults.Limit → ¬ HasLongSlot c.args.self.now e → state_of c.add_document.new.self ≡ calls.writer_closed)) (one_document (read_data k.schema d) found doc read is) c.add_document.ensures.closed

@@ -17,7 +17,7 @@ returns-in-Some-Spare-clause-answered g c s h =
     let analyze = g.A.Analyzer.analyze in
     let has = subst (λ o. HasStage knows analyze s.analysis o s.stage) (c.in-Some-Spare.is ∙ ap Some c.in-Some-Spare.field-0-is) h in
     same_stage s c.args.self.now _ (Some (index_request_of c.args.request)) _ (sym c.in-Some-Spare.is)
-    (refused_reply s c.args.self.now faults.NotOpen _ (index_request_of c.args.request) h (none_asked g.D.Device knows analyze s.analysis s.stage _ _ c.args.request has) c.reply.ensures tt)
+    (refused_reply s c.args.self.now faults.NotOpen _ (index_request_of c.args.request) h (none_asked g.D.Device g.A.Analyzer knows analyze s.analysis s.stage _ _ c.args.request has) c.reply.ensures tt)
 
 pub returns-in-Some-Standing-clause-honest : goal.returns-in-Some-Standing-clause-honest
 returns-in-Some-Standing-clause-honest g c = c.answer.ensures.honest ∙ sym (ap honest_on (c.in-Some-Standing.is ∙ ap Some c.in-Some-Standing.field-0-is))

@@ -13,7 +13,7 @@ returns-clause-left g c a s h not_ready =
     let knows = g.A.Analyzer.knows_name in
     let analyze = g.A.Analyzer.analyze in
     subst (λ r. LeavesStage knows analyze a (steps.held_by s) (Some r.0) r.1 (steps.created a.knows c.args.schema c.args.settings (steps.held_by s))) (sym c.leave.ensures)
-    (create_left g.D.Device knows analyze a c.into_device-device.result.0 c.into_device-device.result.1 (steps.held_by s) c.args.schema c.args.settings c.create.result (c.into_device-device.ensures.spare a s h not_ready)
+    (create_left g.D.Device g.A.Analyzer knows analyze a c.into_device-device.result.0 c.into_device-device.result.1 (steps.held_by s) c.args.schema c.args.settings c.create.result (c.into_device-device.ensures.spare a s h not_ready)
     c.create.ensures.made c.create.ensures.empty c.create.ensures.ok c.create.ensures.of c.create.ensures.exact c.create.ensures.analyzer c.create.ensures.honest c.create.ensures.not_empty c.create.ensures.kept c.create.ensures.rests)
 
 pub returns-clause-honest : goal.returns-clause-honest

@@ -13,7 +13,7 @@ returns-clause-left g c a s h not_ready =
     let knows = g.A.Analyzer.knows_name in
     let analyze = g.A.Analyzer.analyze in
     subst (λ r. LeavesStage knows analyze a (steps.held_by s) (Some r.0) r.1 (steps.opened a.knows (steps.held_by s))) (sym c.leave.ensures)
-    (open_left g.D.Device knows analyze a c.into_device-device.result.0 c.into_device-device.result.1 (steps.held_by s) c.open.result (c.into_device-device.ensures.spare a s h not_ready)
+    (open_left g.D.Device g.A.Analyzer knows analyze a c.into_device-device.result.0 c.into_device-device.result.1 (steps.held_by s) c.open.result (c.into_device-device.ensures.spare a s h not_ready)
     c.open.ensures.opened c.open.ensures.known c.open.ensures.refused c.open.ensures.analyzer c.open.ensures.honest c.open.ensures.kept)
 
 pub returns-clause-honest : goal.returns-clause-honest
