@@ -1,7 +1,7 @@
-//! Tests of the index of what no line of text says: queries and hits as values, indexes of very many fields, files cut at
-//! each length or changed at each byte, which calls of its device an index makes, the device over a file, of which no
-//! clause says what it holds, and the library as a program calls it. All other expected values are the lines of
-//! `index_cases`.
+//! Tests of the index of what no line of text says: queries and hits as values, indexes of very many fields, files cut
+//! at each length or changed at each byte, which calls of its device an index makes, an analyzer that a program
+//! brings, the device over a file, of which no clause says what it holds, and the library as a program calls it. All
+//! other expected values are the lines of `index_cases`.
 #![tactic(auto)]
 
 #[cfg(test)]
@@ -22,6 +22,10 @@ mod library;
 mod queries;
 #[cfg(test)]
 mod refused_calls;
+#[cfg(test)]
+mod tokenizers;
+#[cfg(test)]
+mod whole_analyzer;
 
 /// Nothing: the tests are what this crate is for.
 fn main() {}
