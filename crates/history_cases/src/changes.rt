@@ -1,9 +1,8 @@
 //! Operations that make an index, open it again and change it.
 
-use crate::histories::{CaseIndex, Histories};
-use crate::stopping_device::StoppingDevice;
+use crate::histories::{CaseDevice, CaseIndex, Histories};
 use case_lines::{Arguments, Refusal, document_of_values, flag, number, term_in};
-use common::RawAndDefault;
+use common::{FuseDevice, MemoryDevice, RawAndDefault};
 use definitions::Fault;
 use engine::{Index, Refused};
 use schema::Schema;
@@ -11,7 +10,7 @@ use serde_json::Value;
 use settings::Settings;
 
 /// An index that was made or opened, or why not.
-type Made = Result<CaseIndex, Refused<StoppingDevice, RawAndDefault>>;
+type Made = Result<CaseIndex, Refused<CaseDevice, RawAndDefault>>;
 
 impl Histories {
     /// Keeps the schema of the indexes that are made.
@@ -25,19 +24,19 @@ impl Histories {
     /// Makes an index of the schema and of settings, over a device of its own.
     pub(crate) fn create(&mut self, arguments: &Arguments) -> Result<Value, Refusal> {
         self.index = None;
+        self.device = None;
         let schema = Schema::from_json_value(self.alloc, &self.schema)?;
         let settings = Settings::from_json_value(self.alloc, &schema, arguments.value(0)?)?;
-        let device = StoppingDevice::new(self.alloc);
-        self.put(Index::create(self.alloc, device, RawAndDefault, schema, settings))
+        let device = FuseDevice::new(MemoryDevice::new(self.alloc), u64::MAX);
+        self.put(Index::create(self.alloc, device, RawAndDefault, schema, settings))?;
+        Ok(flag(true))
     }
 
     /// Opens the file of the index that stands; what waits is lost.
     pub(crate) fn open(&mut self) -> Result<Value, Refusal> {
-        let Some(index) = self.index.take() else {
-            return Err(Refusal::NotAsked);
-        };
-        let (device, _analyzer) = index.into_device();
-        self.put_opened(device.until(u64::MAX))
+        let device = self.take_device()?;
+        self.put_opened(device, u64::MAX)?;
+        Ok(flag(true))
     }
 
     /// Adds the document in an object.
@@ -80,19 +79,24 @@ impl Histories {
         Ok(flag(true))
     }
 
-    /// Lets the index of a device's file stand.
-    pub(crate) fn put_opened(&mut self, device: StoppingDevice) -> Result<Value, Refusal> {
-        self.put(Index::open(self.alloc, device, RawAndDefault))
+    /// Lets the index of a device's file stand, over a fuse that blows at the k-th call.
+    pub(crate) fn put_opened(&mut self, device: MemoryDevice, k: u64) -> Result<(), Fault> {
+        let fused = FuseDevice::new(device, k);
+        self.put(Index::open(self.alloc, fused, RawAndDefault))
     }
 
-    /// Lets an index stand that was made or opened.
-    fn put(&mut self, made: Made) -> Result<Value, Refusal> {
+    /// Lets an index stand that was made or opened; of one that wasn't, the device is kept.
+    fn put(&mut self, made: Made) -> Result<(), Fault> {
         match made {
             Ok(index) => {
                 self.index = Some(index);
-                Ok(flag(true))
+                Ok(())
             }
-            Err(refused) => Err(Refusal::Fault(Fault::from(refused))),
+            Err(refused) => {
+                let Refused { fault, device, .. } = refused;
+                self.device = Some(device);
+                Err(fault)
+            }
         }
     }
 }

@@ -1,22 +1,26 @@
 //! The index that stands between two lines, and the operations by their names.
 
-use crate::stopping_device::StoppingDevice;
+use crate::crash_images::Left;
 use case_lines::{Arguments, Operations, Refusal, number, pair, text};
-use common::RawAndDefault;
+use common::{FuseDevice, MemoryDevice, RawAndDefault};
 use definitions::Fault;
 use engine::{Index, Status};
 use serde_json::Value;
 use std::alloc::Global;
 
-/// The indexes that histories are about.
-pub(crate) type CaseIndex = Index<StoppingDevice, RawAndDefault>;
+/// The devices of the indexes: memory that fails from a chosen call on.
+pub(crate) type CaseDevice = FuseDevice<MemoryDevice>;
 
-/// The schema of the indexes that are made, and the one that stands.
+/// The indexes that histories are about.
+pub(crate) type CaseIndex = Index<CaseDevice, RawAndDefault>;
+
+/// The schema of the indexes that are made, and the index that stands, or the device of one that was closed or refused.
 #[derive(Drop)]
 pub(crate) struct Histories {
     pub(crate) alloc: Global,
     pub(crate) schema: Value,
     pub(crate) index: Option<CaseIndex>,
+    pub(crate) device: Option<CaseDevice>,
 }
 
 impl Histories {
@@ -36,6 +40,32 @@ impl Histories {
         }
     }
 
+    /// Takes the device, without its fuse; an index that stands is closed.
+    pub(crate) fn take_device(&mut self) -> Result<MemoryDevice, Refusal> {
+        self.close();
+        match self.device.take() {
+            Some(device) => Ok(device.into_inner()),
+            None => Err(Refusal::NotAsked),
+        }
+    }
+
+    /// Closes the index that stands, and keeps its device.
+    fn close(&mut self) {
+        if let Some(index) = self.index.take() {
+            let (device, _analyzer) = index.into_device();
+            self.device = Some(device);
+        }
+    }
+
+    /// How many calls the device has seen since its index was made or opened; an index that stands is closed.
+    fn calls(&mut self) -> Result<Value, Refusal> {
+        self.close();
+        match &self.device {
+            Some(device) => Ok(number(device.calls())),
+            None => Err(Refusal::NotAsked),
+        }
+    }
+
     /// How many segments and how many documents are committed.
     fn counts(&self) -> Result<Value, Refusal> {
         let index = self.standing()?;
@@ -52,6 +82,25 @@ impl Histories {
         };
         Ok(text(self.alloc, state)?)
     }
+
+    /// What an operation over a device that stops answers.
+    fn answer_to_crash(
+        &mut self,
+        operation: &str,
+        arguments: &Arguments,
+    ) -> Result<Value, Refusal> {
+        match operation {
+            "open-until" => self.open_until(arguments),
+            "crash" => self.crash(arguments, Left::Greatest),
+            "crash-least" => self.crash(arguments, Left::Least),
+            "crash-merge" => self.crash_merge(arguments, Left::Greatest),
+            "crash-merge-least" => self.crash_merge(arguments, Left::Least),
+            "crash-open" => self.crash_open(arguments, Left::Greatest),
+            "crash-open-least" => self.crash_open(arguments, Left::Least),
+            "calls" => self.calls(),
+            _ => Err(Refusal::NotAsked),
+        }
+    }
 }
 
 impl Operations for Histories {
@@ -60,20 +109,17 @@ impl Operations for Histories {
             "schema" => self.make_schema(arguments),
             "create" => self.create(arguments),
             "open" => self.open(),
-            "open-until" => self.open_until(arguments),
             "add" => self.add(arguments),
             "add-text" => self.add_text(arguments),
             "add-values" => self.add_values(arguments),
             "delete" => self.delete(arguments),
             "commit" => self.commit(),
             "merge" => self.merge(arguments),
-            "crash" => self.crash(arguments),
-            "crash-merge" => self.crash_merge(arguments),
             "search" => self.search(arguments),
             "count" => self.count(arguments),
             "counts" => self.counts(),
             "state" => self.state(),
-            _ => Err(Refusal::NotAsked),
+            _ => self.answer_to_crash(operation, arguments),
         }
     }
 }

@@ -3,10 +3,10 @@
 #![tactic(auto)]
 
 mod changes;
+mod crash_images;
 mod crashes;
 mod histories;
 mod searches;
-mod stopping_device;
 
 use case_lines::answers;
 use histories::Histories;
@@ -23,6 +23,7 @@ fn main(rt: HostRuntime) -> ExitCode {
         alloc,
         schema: Value::Null,
         index: None,
+        device: None,
     };
     let Ok(answers) = answers(alloc, &mut histories, &text) else {
         return ExitCode::FAILURE;
