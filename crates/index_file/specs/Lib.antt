@@ -3,6 +3,7 @@ pub mod Frames
 pub mod Outcomes
 pub mod Kept
 pub mod HandedBack
+pub mod FreshPlaces
 -- How the bodies of segments are read.
 pub mod Parts
 pub mod Bodies

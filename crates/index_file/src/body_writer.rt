@@ -1,12 +1,14 @@
 //! The encoder of bodies that list segments.
 
-ghost use Rattle.std.specs.Prelude.{◌++◌, ◌∷◌, ◌≡◌, ◌≤◌, IfOk, OnOk, flat_map, length};
+ghost use Rattle.std.specs.Prelude.{◌++◌, ◌∷◌, ◌≡◌, ◌≤◌, IfOk, List, OnOk, drop, flat_map, length, take, ℕ};
 ghost use Rattle.definitions.specs.NumberCodes.{u32_bytes};
 ghost use Rattle.layouts.specs.AliveSets.{alive_bytes};
 ghost use Rattle.index_file.specs.Frames.{frame_bytes};
+ghost use Rattle.index_file.specs.FreshPlaces.{StandsAt, begun_fresh};
 ghost use Rattle.segment_definitions.specs.SegmentBodies.{fresh, kept, part_bytes};
 
-use crate::frame::{finish_frame, start_frame};
+use crate::frame::{LENGTH_BYTES, finish_frame, overwrite, start_frame};
+use crate::fresh_place::FreshPlace;
 use common::{AliveBitSet, put_u32, put_u64};
 use std::alloc::{AllocError, Global};
 use std::marker::Model;
@@ -48,14 +50,53 @@ impl SegmentsBodyWriter {
         put_u32(&mut self.frame, place)
     }
 
-    /// Appends a new segment: code 1, its length and its bytes.
-    pub fn put_fresh(&mut self, segment: &[u8]) -> Result<(), AllocError>
-        ensures { OnOk result (self.new ≡ self.old ++ part_bytes (fresh segment.now)) }
+    /// Appends a new segment: code 1, its length and its bytes. Returns where it stands.
+    pub fn put_fresh(&mut self, segment: &[u8]) -> Result<FreshPlace, AllocError>
+        ensures put { OnOk result (self.new ≡ self.old ++ part_bytes (fresh segment.now)) }
+        ensures place { IfOk result (StandsAt self.new segment.now) }
     {
         self.frame.reserve(segment.len().saturating_add(9))?;
         self.frame.push(1)?;
         put_u64(&mut self.frame, segment.len() as u64)?;
-        self.frame.extend_from_slice(segment)
+        let start = self.frame.len() - LENGTH_BYTES;
+        self.frame.extend_from_slice(segment)?;
+        let end = self.frame.len() - LENGTH_BYTES;
+        Ok(FreshPlace { start, end })
+    }
+
+    /// Begins a new segment: code 1, and room for its length. Returns the frame so far; the segment is encoded behind it,
+    /// and then `end_fresh` goes on.
+    pub fn begin_fresh(self) -> Result<Vec<u8>, AllocError>
+        ensures room { IfOk result (λ frame. 17 ≤ length frame.items) }
+        ensures begun { IfOk result (λ frame. drop 8 frame.items ≡ begun_fresh self) }
+    {
+        let SegmentsBodyWriter { mut frame, .. } = self;
+        frame.push(1)?;
+        put_u64(&mut frame, 0)?;
+        Ok(frame)
+    }
+
+    /// Ends a new segment, which `frame` holds from `start` on: writes its length. Returns the body so far, and where the
+    /// segment stands in it.
+    pub fn end_fresh(
+        alloc: Global,
+        frame: Vec<u8>,
+        start: usize,
+    ) -> (SegmentsBodyWriter, FreshPlace)
+        requires room { 17 ≤ start }
+        requires within { start ≤ length frame.items }
+        ensures put { (before : List ℕ) → drop 8 (take start frame.items) ≡ begun_fresh before
+            → result.0 ≡ before ++ part_bytes (fresh (drop start frame.items)) }
+        ensures place { StandsAt result.0 (drop start frame.items) result.1 }
+    {
+        let mut frame = frame;
+        let length = (frame.len() - start) as u64;
+        overwrite(&mut frame, start - LENGTH_BYTES, &u64::to_le_bytes(length));
+        let place = FreshPlace {
+            start: start - LENGTH_BYTES,
+            end: frame.len() - LENGTH_BYTES,
+        };
+        (SegmentsBodyWriter { alloc, frame }, place)
     }
 
     /// Appends the alive set of each segment.

@@ -37,8 +37,8 @@ pub fn finish_frame(frame: &mut Vec<u8>) -> Result<(), AllocError>
     Ok(())
 }
 
-// Overwrites the bytes at offset `at`.
-fn overwrite(frame: &mut Vec<u8>, at: usize, bytes: &[u8])
+/// Overwrites the bytes at offset `at`.
+pub(crate) fn overwrite(frame: &mut Vec<u8>, at: usize, bytes: &[u8])
     requires { at + length bytes.now ≤ length frame.old.items }
     ensures { frame.new.items ≡ overwritten at bytes.now frame.old.items }
 {

@@ -56,7 +56,9 @@ fn frame_of(alloc: Global, body: &Value) -> Result<Vec<u8>, Refusal> {
 fn put_part(alloc: Global, body: &mut SegmentsBodyWriter, part: &Value) -> Result<(), Refusal> {
     match part.as_u64() {
         Some(place) => body.put_kept(u32::try_from(place).ok().ok_or(Refusal::NotAsked)?)?,
-        None => body.put_fresh(&bytes_of_digits(alloc, part)?)?,
+        None => {
+            body.put_fresh(&bytes_of_digits(alloc, part)?)?;
+        }
     }
     Ok(())
 }

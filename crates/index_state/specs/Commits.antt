@@ -19,7 +19,7 @@ sets_in prepared = prepared.alive.items
 
 -- its frame
 abbrev pub frame_in : Prepared → List ℕ
-frame_in prepared = prepared.frame.items
+frame_in prepared = prepared.frame
 
 -- the members with these alive sets
 abbrev pub members_with : {A : Type 0} {a : analyzers.Ghosts A} → IndexState A a → Prepared → List Member

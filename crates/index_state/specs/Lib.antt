@@ -6,9 +6,11 @@ pub mod Given
 pub mod Bodies
 pub mod Limits
 pub mod Pending
+pub mod NewSegments
 pub mod Statuses
 pub mod Parts
 pub mod Standing
 pub mod Commits
+pub mod CommitRecords
 pub mod Merges
 pub mod Records

@@ -10,6 +10,7 @@ use Rattle.segment.specs.declared.segment.Segment as code
 use Rattle.segment_definitions.specs.SegmentBodies.{Member}
 use Rattle.segment.specs.Limits.{DocumentsPass}
 use Rattle.index_state.specs.Standing.{members_of}
+use Rattle.index_state.specs.declared.new_segments.NewSegment.{NewSegment}
 use Rattle.index_state.specs.declared.prepared_merge.PreparedMerge.{PreparedMerge}
 use Rattle.index_state.specs.declared.index_state.IndexState.{IndexState}
 
@@ -33,7 +34,11 @@ range_fault from to count = if nat_le to from || nat_lt count to then Some fault
 
 -- its frame
 abbrev pub merge_frame_in : PreparedMerge → List ℕ
-merge_frame_in prepared = prepared.frame.items
+merge_frame_in prepared = prepared.frame
+
+-- the alive sets after it
+abbrev pub sets_merged : PreparedMerge → List (List Bool)
+sets_merged prepared = prepared.alive.items
 
 -- its new segment, or none
 abbrev pub new_in : PreparedMerge → List code.Segment
@@ -49,6 +54,10 @@ pub record Replaces {A : Type 0} {a : analyzers.Ghosts A} (index : IndexState A 
   pub within : prepared.to ≤ length index.alive.items
   pub opened : IfSome prepared.segment (IsOpened index.schema)
   pub sets : prepared.alive.items ≡ replaced prepared.from prepared.to (map all_alive (new_in prepared)) index.alive.items
+
+-- the flags of new segments, of which all documents are alive
+abbrev pub new_flags : Option NewSegment → List (List Bool)
+new_flags new = map (λ (n : NewSegment). replicate n.num_docs true) (option_to_list new)
 
 -- ---- what it is of
 

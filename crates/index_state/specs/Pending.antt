@@ -1,5 +1,5 @@
 -- What is pending while changes are taken: segments that are full, as bytes, and one that isn't.
-use Rattle.std.specs.Prelude.{[], ◌*◌, ◌++◌, ◌+◌, ◌/◌, ◌<◌, ◌∷◌, ◌≡◌, ◌≤◌, ◌⊎◌, List, MatchOption, drop, length, ℕ}
+use Rattle.std.specs.Prelude.{[], ◌*◌, ◌++◌, ◌+◌, ◌/◌, ◌<◌, ◌∷◌, ◌≡◌, ◌≤◌, ◌⊎◌, List, MatchOption, drop, length, option_to_list, ℕ}
 use Rattle.std.specs.List.{AllZip}
 use Rattle.definitions.specs.Analyzers.{Analyzer}
 use Rattle.definitions.specs.Schema.{Schema}
@@ -8,12 +8,21 @@ use Rattle.definitions.specs.Values.{Document}
 use Rattle.segment.specs.Writers.{HasWritten}
 use Rattle.segment_definitions.specs.Segments.{IsSegmentOf}
 use Rattle.segment_definitions.specs.Waiting.{docs_of}
+use Rattle.index_state.specs.declared.pending_segments.FullSegment.{FullSegment}
 use Rattle.index_state.specs.declared.pending_segments.PendingSegments.{PendingSegments}
+
+-- a full segment is of these documents, and tells how many they are
+abbrev pub IsFull : Schema → Analyzer → List Document → FullSegment → Type 0
+IsFull schema analyze docs segment = IsSegmentOf schema analyze docs segment.bytes × (segment.num_docs ≡ length docs)
+
+-- how many segments there are, full or not
+abbrev pub num_segments_in : PendingSegments → ℕ
+num_segments_in pending = length pending.full.items + length (option_to_list pending.writer)
 
 -- each full segment is of its documents, and the open one holds the last; there is none without documents
 pub record Holds (schema : Schema) (analyze : Analyzer) (block_size : ℕ) (pending : PendingSegments)
     (full : List (List Document)) (last : List Document) : Type 0 where
-  pub closed : AllZip (IsSegmentOf schema analyze) full pending.full.items
+  pub closed : AllZip (IsFull schema analyze) full pending.full.items
   pub writer : MatchOption pending.writer (last ≡ []) (λ writer. (0 < length last) × HasWritten schema analyze block_size writer last)
 
 -- some documents are held

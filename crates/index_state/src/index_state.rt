@@ -27,9 +27,9 @@ ghost use Rattle.segment_definitions.specs.Segments.{IsSegment};
 ghost use Rattle.segment_search.specs.Hits.{hit_of, scored};
 
 use crate::add_checks::{check_document, check_slot};
-use crate::commit_frame::commit_frame;
-use crate::committed_alive_sets::next_sets;
+use crate::commit_record::commit_record;
 use crate::deletions::{Deletion, check_deletion};
+use crate::living_counts::count_alive;
 use crate::parts::parted;
 use crate::pending_segments::PendingSegments;
 use crate::prepared::Prepared;
@@ -44,6 +44,7 @@ use segment::Segment;
 use segment_search::{Hit, count, search};
 use settings::Settings;
 use std::alloc::Global;
+use std::mem;
 use terms::Term;
 
 /// The most segments that an index commits.
@@ -299,16 +300,20 @@ impl<A: Analyzer + Drop> IndexState<A> {
     {
         self.check_writer()?;
         self.status = Status::WriterClosed;
-        self.pending.close(&self.schema)?;
-        let cache_num_blocks = self.settings.cache_blocks() as usize;
-        self.pending
-            .open_into(&self.schema, cache_num_blocks, &mut self.segments)?;
-        if self.segments.len() > MAX_SEGMENTS {
+        // Only a commit that failed leaves more segments than alive sets.
+        self.segments.truncate(self.alive.len());
+        if self.pending.num_segments() > MAX_SEGMENTS - self.alive.len() {
             return Err(Fault::Limit);
         }
-        let alive = next_sets(self.alloc, &self.segments, &self.alive, &self.deletions)?;
-        let frame = commit_frame(self.alloc, &self.segments, self.alive.len(), &alive)?;
-        Ok(Prepared { frame, alive })
+        commit_record(
+            self.alloc,
+            &self.schema,
+            self.settings.cache_blocks() as usize,
+            &mut self.segments,
+            &self.alive,
+            mem::replace(&mut self.pending, PendingSegments::new(self.alloc)),
+            &self.deletions,
+        )
     }
 
     /// Installs `prepared`: searches see it, and changes are accepted again. It takes no memory.
@@ -352,12 +357,7 @@ impl<A: Analyzer + Drop> IndexState<A> {
         ensures { (c : calls.Configuration) (x : calls.Index) → Stands A.analyze self.now c x
             → result ≡ states.num_docs x.state }
     {
-        let mut count = 0;
-        for set in &self.alive {
-            let _documents = set.len();
-            count += set.num_alive() as u64;
-        }
-        count
+        count_alive(&self.alive)
     }
 
     /// Returns the best `limit` of the committed documents that match, by score, and then in the order of addition. The

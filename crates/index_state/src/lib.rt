@@ -3,12 +3,15 @@
 
 mod add_checks;
 mod commit_frame;
+mod commit_record;
 mod committed_alive_sets;
 mod deletions;
 mod index_state;
+mod living_counts;
 mod merge;
-mod merge_frame;
+mod merge_record;
 mod merged_alive_sets;
+mod new_segments;
 mod parts;
 mod pending_segments;
 mod prepared;

@@ -1,28 +1,24 @@
 //! Merges of neighbouring committed segments.
 
-ghost use Rattle.std.specs.Prelude.{[], ◌<◌, ◌≡◌, ◌≢◌, ◌≤◌, Err, IfErr, IfOk, IfSome, List, MatchOption, None, OnOk, Some, length, ℕ};
+ghost use Rattle.std.specs.Prelude.{◌<◌, ◌≡◌, ◌≢◌, ◌≤◌, Err, IfErr, IfOk, List, None, OnOk, Some, ℕ};
 ghost use Rattle.std.specs.Result.{result_err};
 ghost use Rattle.definitions.specs.Calls as calls;
 ghost use Rattle.definitions.specs.declared.fault.Fault.TheVariants as faults;
 ghost use Rattle.index_file.specs.Frames.{frame_bytes};
-ghost use Rattle.segment.specs.Opened.{IsOpened, StandsFor};
 ghost use Rattle.index_state.specs.Merges.{range_fault};
 ghost use Rattle.segment_definitions.specs.SegmentBodies.{Makes};
 ghost use Rattle.segment_definitions.specs.Segments.{IsSegment};
 
 use crate::index_state::IndexState;
-use crate::merge_frame::merge_frame;
-use crate::merged_alive_sets::merged_sets;
 use crate::prepared_merge::PreparedMerge;
 use crate::replaced_segments::replace_range;
 use common::Analyzer;
 use definitions::Fault;
-use segment::{Segment, merge_lists};
 
 impl<A: Analyzer + Drop> IndexState<A> {
-    ghost use Rattle.index_state.specs.Merges.{Joins, MergePasses, Replaces, joined_groups, members_merged, merge_frame_in};
+    ghost use Rattle.index_state.specs.Merges.{Joins, MergePasses, Replaces, members_merged, merge_frame_in};
     ghost use Rattle.index_state.specs.Records.{IsMergeBody};
-    ghost use Rattle.index_state.specs.Standing.{IsMadeAlike, Stands, alive_of, analyzer_of, members_of, schema_of};
+    ghost use Rattle.index_state.specs.Standing.{IsMadeAlike, Stands, members_of};
 
     /// Prepares a merge of the committed segments `from..to`: makes what it writes and installs, in memory, and
     /// allocates all that it needs. `BadRange` if the range names no segment, or more than there are; `Limit` if one
@@ -50,39 +46,7 @@ impl<A: Analyzer + Drop> IndexState<A> {
     {
         self.check_writer()?;
         check_range(from, to, self.alive.len())?;
-        let segment = self.merged_segment(from, to)?;
-        let alive = merged_sets(self.alloc, &self.alive, from, to, &segment)?;
-        let frame = merge_frame(self.alloc, self.alive.len(), from, to, &segment, &alive)?;
-        Ok(PreparedMerge {
-            frame,
-            segment,
-            from,
-            to,
-            alive,
-        })
-    }
-
-    /// Merges the living documents of the committed segments `from..to` into a segment, if there are any.
-    fn merged_segment(&self, from: usize, to: usize) -> Result<Option<Segment>, Fault>
-        requires some { from < to }
-        requires within { to ≤ length (alive_of self.now) }
-        ensures opened { IfOk result (λ merged. IfSome merged (IsOpened (schema_of self.now))) }
-        ensures of { (c : calls.Configuration) (x : calls.Index) → Stands A.analyze self.now c x
-            → IfOk result (λ merged. MatchOption merged (joined_groups from to x.state.groups ≡ [])
-            (StandsFor (schema_of self.now) (A.analyze (analyzer_of self.now)) (joined_groups from to x.state.groups))) }
-        ensures fault { IfErr result (λ fault. fault ≢ faults.Device) }
-        ensures limit { (c : calls.Configuration) (x : calls.Index) → Stands A.analyze self.now c x
-            → IfErr result (λ fault. fault ≢ faults.OutOfMemory → (fault ≡ faults.Limit)
-            × MergePasses A.analyze self.now from to x.state.groups) }
-    {
-        merge_lists(
-            self.alloc,
-            &self.schema,
-            self.settings.block_size() as usize,
-            self.settings.cache_blocks() as usize,
-            &self.segments[from..to],
-            &self.alive[from..to],
-        )
+        self.merge_record(from, to)
     }
 
     /// Installs `prepared`: searches see it; what is pending stays. It takes no memory.

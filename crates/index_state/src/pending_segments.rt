@@ -8,33 +8,45 @@ ghost use Rattle.definitions.specs.State.{as_group};
 ghost use Rattle.definitions.specs.Values.{Document};
 ghost use Rattle.definitions.specs.declared.fault.Fault.TheVariants as faults;
 ghost use Rattle.index_state.specs.Limits.{OneMorePasses, TermsPass};
+ghost use Rattle.index_state.specs.NewSegments.{AreKnown, ArePut, IsNew};
+ghost use Rattle.index_state.specs.Pending.{IsFull};
+ghost use Rattle.index_state.specs.declared.pending_segments.FullSegment as full_segments;
 ghost use Rattle.segment.specs.Opened.{IsOpened, StandsFor};
 ghost use Rattle.segment.specs.Writers.{HasWritten, IsWithin};
 ghost use Rattle.segment.specs.declared.segment.Segment as code;
 ghost use Rattle.segment_definitions.specs.Segments.{IsSegmentOf, IsTaken};
 ghost use Rattle.segment_definitions.specs.Slots.{slot};
 
+use crate::new_segments::{NewSegment, put_full, put_open};
 use bytes::Bytes;
 use common::Analyzer;
 use definitions::Fault;
 use document::CompactDoc;
+use index_file::SegmentsBodyWriter;
 use schema::Schema;
 use segment::{Segment, SegmentWriter};
 use settings::Settings;
 use std::alloc::{AllocError, Global};
 
+/// A full segment of pending documents: its bytes, and how many documents it has.
+#[derive(Drop)]
+pub(crate) struct FullSegment {
+    pub(crate) bytes: Bytes,
+    pub(crate) num_docs: u32,
+}
+
 /// The segments of the pending documents: those that are full, as their bytes, and the one that isn't, in which a
 /// document is indexed when it is added. After a refused call they are of no use.
 #[derive(Drop)]
 pub struct PendingSegments {
-    alloc: Global,
-    pub(crate) full: Vec<Bytes>,
+    pub(crate) alloc: Global,
+    pub(crate) full: Vec<FullSegment>,
     // None as long as it has no document.
     pub(crate) writer: Option<SegmentWriter>,
 }
 
 impl PendingSegments {
-    ghost use Rattle.index_state.specs.Pending.{Holds, HoldsLast, HoldsSome};
+    ghost use Rattle.index_state.specs.Pending.{Holds, HoldsLast, HoldsSome, num_segments_in};
 
     /// Returns no segments.
     pub(crate) fn new(alloc: Global) -> PendingSegments
@@ -55,6 +67,13 @@ impl PendingSegments {
             → Holds schema analyze block_size self.now full last → result ≡ length full }
     {
         self.full.len()
+    }
+
+    /// Returns the number of segments, full or not.
+    pub(crate) fn num_segments(&self) -> usize
+        ensures { result ≡ num_segments_in self.now }
+    {
+        self.full.len() + usize::from(self.writer.is_some())
     }
 
     /// Returns the number of documents of the segment that isn't full.
@@ -126,16 +145,17 @@ impl PendingSegments {
             × HasWritten schema.now analyze block_size writer docs × (0 < length docs)) ∥₁ }
         ensures ok { (analyze : definitions.Analyzer) (block_size : ℕ) (docs : List Document)
             → HasWritten schema.now analyze block_size writer docs
-            → OnOk result ((bytes : List ℕ) × IsSegmentOf schema.now analyze docs bytes
-            × (self.new.full.items ≡ self.old.full.items ++ bytes ∷ [])) }
+            → OnOk result ((segment : full_segments.FullSegment) × IsFull schema.now analyze docs segment
+            × (self.new.full.items ≡ self.old.full.items ++ segment ∷ [])) }
         ensures err { IfErr result (λ fault. (fault ≡ faults.OutOfMemory) ⊎ (fault ≡ faults.Limit)) }
         ensures limit { (analyze : definitions.Analyzer) (block_size : ℕ) (docs : List Document)
             → HasWritten schema.now analyze block_size writer docs
             → IfErr result (λ fault. fault ≡ faults.Limit → TermsPass schema.now analyze docs) }
         ensures writer { self.new.writer ≡ self.old.writer }
     {
-        let bytes = writer.close(schema)?;
-        self.full.push(Bytes::from_vec(bytes)?)?;
+        let num_docs = writer.num_docs();
+        let bytes = Bytes::from_vec(writer.close(schema)?)?;
+        self.full.push(FullSegment { bytes, num_docs })?;
         Ok(())
     }
 
@@ -157,6 +177,43 @@ impl PendingSegments {
             Some(writer) => self.push(writer, schema),
             None => Ok(()),
         }
+    }
+
+    /// Encodes the segments in order, each as a new one of `body`, which is returned with them. Each is freed once its
+    /// bytes stand there.
+    pub(crate) fn encode(
+        self,
+        schema: &Schema,
+        body: SegmentsBodyWriter,
+    ) -> Result<(SegmentsBodyWriter, Vec<NewSegment>), Fault>
+        requires held { ∥ ((analyze : definitions.Analyzer) × (block_size : ℕ)
+            × HoldsSome schema.now analyze block_size self) ∥₁ }
+        ensures put { IfOk result (λ put. ArePut body put.0 put.1.items) }
+        ensures count { IfOk result (λ put. length put.1.items ≡ num_segments_in self) }
+        ensures known { IfOk result (λ put. ∥ AreKnown schema.now put.0 put.1.items ∥₁) }
+        ensures ok { (analyze : definitions.Analyzer) (block_size : ℕ)
+            (full : List (List Document)) (last : List Document)
+            → Holds schema.now analyze block_size self full last
+            → IfOk result (λ put. AllZip (IsNew schema.now analyze put.0) (full ++ as_group last) put.1.items) }
+        ensures err { IfErr result (λ fault. (fault ≡ faults.OutOfMemory) ⊎ (fault ≡ faults.Limit)) }
+        ensures limit { (analyze : definitions.Analyzer) (block_size : ℕ)
+            (full : List (List Document)) (last : List Document)
+            → Holds schema.now analyze block_size self full last
+            → IfErr result (λ fault. fault ≡ faults.Limit → TermsPass schema.now analyze last) }
+    {
+        let PendingSegments {
+            alloc,
+            full,
+            writer,
+        } = self;
+        let mut body = body;
+        let mut news = put_full(alloc, &mut body, full)?;
+        let Some(writer) = writer else {
+            return Ok((body, news));
+        };
+        let (body, new) = put_open(alloc, schema, body, writer)?;
+        news.push(new)?;
+        Ok((body, news))
     }
 
     /// Opens the full segments, and appends them to `segments`; some of them if out of memory.
@@ -183,8 +240,9 @@ impl PendingSegments {
             → OnErr result ((some : List (List Document))
             × AllZip (StandsFor schema.now analyze) (docs ++ some) segments.new.items) }
     {
-        for bytes in &self.full {
-            let segment = Segment::new(self.alloc, schema, bytes.clone()?, cache_num_blocks)?;
+        for full in &self.full {
+            let bytes = full.bytes.clone()?;
+            let segment = Segment::new(self.alloc, schema, bytes, cache_num_blocks)?;
             segments.push(segment)?;
         }
         Ok(())

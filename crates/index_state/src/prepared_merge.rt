@@ -3,13 +3,14 @@
 ghost use Rattle.std.specs.Prelude.{◌≡◌};
 ghost use Rattle.index_state.specs.Merges.{merge_frame_in};
 
+use bytes::Bytes;
 use common::AliveBitSet;
 use segment::Segment;
 
 /// A prepared merge: what it writes and then installs.
 #[derive(Drop)]
 pub struct PreparedMerge {
-    pub(crate) frame: Vec<u8>,
+    pub(crate) frame: Bytes,
     // Replaces the committed segments `from..to`; none if no document is alive.
     pub(crate) segment: Option<Segment>,
     pub(crate) from: usize,
@@ -23,6 +24,6 @@ impl PreparedMerge {
     pub fn frame(&self) -> &[u8]
         ensures { result.now ≡ merge_frame_in self.now }
     {
-        &self.frame
+        self.frame.as_slice()
     }
 }

@@ -1,6 +1,7 @@
 -- Lemmas behind the writing of segments.
 pub mod Adding
 pub mod SlicesInFront
+pub mod BehindPrefixes
 -- Lemmas behind segments.
 pub mod SectionsBack
 pub mod Opening

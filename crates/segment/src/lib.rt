@@ -20,7 +20,7 @@ mod segment_writer;
 
 pub use deletions::delete_in;
 pub use documents::is_taken;
-pub use merger::{merge_lists, merge_segments};
+pub use merger::{merge_behind, merge_segments};
 pub use section_list::Sections;
 pub use segment::Segment;
 pub use segment_writer::SegmentWriter;

@@ -1,6 +1,6 @@
 //! Merges of segments.
 
-ghost use Rattle.std.specs.Prelude.{[], ◌<◌, ◌≡◌, ◌≢◌, ◌≤◌, IfErr, IfOk, IfSome, List, MatchOption, None, length, map, ℕ};
+ghost use Rattle.std.specs.Prelude.{[], ◌<◌, ◌≡◌, ◌≢◌, ◌≤◌, IfErr, IfOk, IfSome, List, MatchOption, None, drop, length, map, take, ℕ};
 ghost use Rattle.std.specs.List.{zip};
 ghost use Rattle.definitions.specs.Alive as alive;
 ghost use Rattle.definitions.specs.Alive.{live};
@@ -57,26 +57,28 @@ pub fn merge_segments(
     merge_members(alloc, schema, block_size, cache_num_blocks, &members)
 }
 
-/// Like `merge_segments`, but with the segments and their alive sets in two lists: the set of each segment is at its
-/// index.
-pub fn merge_lists(
+/// Encodes the segment of the living documents of `segments`, in order and at least one, behind `prefix`, in one piece
+/// of memory with it; the set of each segment is at its index. Blocks of its store are closed when their documents'
+/// bytes exceed `block_size`; those of segments whose documents are all alive stay as they are, without a look at their
+/// slots. Too many documents are `Limit` before anything is written.
+pub fn merge_behind(
     alloc: Global,
     schema: &Schema,
     block_size: usize,
-    cache_num_blocks: usize,
     segments: &[Segment],
     sets: &[AliveBitSet],
-) -> Result<Option<Segment>, Fault>
+    prefix: Vec<u8>,
+) -> Result<Vec<u8>, Fault>
     requires each { length segments.now ≡ length sets.now }
     requires opened { ∥ AreOpened schema.now (zip segments.now sets.now) ∥₁ }
-    ensures living { IfOk result (λ merged. MatchOption merged (living_count (zip segments.now sets.now) ≡ 0)
-        (λ segment. (0 < living_count (zip segments.now sets.now))
-        × (num_docs_of segment ≡ living_count (zip segments.now sets.now)))) }
-    ensures opened { IfOk result (λ merged. IfSome merged (IsOpened schema.now)) }
+    requires some { 0 < living_count (zip segments.now sets.now) }
+    ensures front { IfOk result (λ bytes. take (length prefix.items) bytes.items ≡ prefix.items) }
+    ensures known { IfOk result (λ bytes. ∥ IsSegment schema.now (living_count (zip segments.now sets.now))
+        (drop (length prefix.items) bytes.items) ∥₁) }
+    ensures few { IfOk result (λ _. living_count (zip segments.now sets.now) ≤ max_docs) }
     ensures stands { (analyze : Analyzer) (rows : List alive.Segment)
         → StandFor schema.now analyze (zip segments.now sets.now) rows
-        → IfOk result (λ merged. MatchOption merged (live rows ≡ [])
-        (StandsFor schema.now analyze (live rows))) }
+        → IfOk result (λ bytes. IsSegmentOf schema.now analyze (live rows) (drop (length prefix.items) bytes.items)) }
     ensures err { IfErr result (λ fault. fault ≢ faults.OutOfMemory → fault ≢ faults.Limit
         → (fault ≡ faults.Damaged None)
         × ((all : List (List (List ℕ))) → ¬ AreHeld (zip segments.now sets.now) all)) }
@@ -86,7 +88,8 @@ pub fn merge_lists(
         × DocumentsPass schema.now analyze block_size (live rows)) }
 {
     let members = members_of_lists(alloc, segments, sets)?;
-    merge_members(alloc, schema, block_size, cache_num_blocks, &members)
+    let num_docs = num_living(&members)?;
+    merged_bytes(alloc, schema, block_size, &members, num_docs, prefix)
 }
 
 /// Like `merge_segments`, but with borrowed members.
@@ -118,29 +121,34 @@ fn merge_members(
     if num_docs == 0 {
         return Ok(None);
     }
-    let bytes = merged_bytes(alloc, schema, block_size, members, num_docs)?;
+    let prefix = Vec::new(alloc);
+    let bytes = merged_bytes(alloc, schema, block_size, members, num_docs, prefix)?;
     let bytes = Bytes::from_vec(bytes)?;
     let segment = Segment::new(alloc, schema, bytes, cache_num_blocks)?;
     Ok(Some(segment))
 }
 
-/// Encodes the segment of the `num_docs` living documents of `members`.
+/// Encodes the segment of the `num_docs` living documents of `members` behind `prefix`.
 fn merged_bytes(
     alloc: Global,
     schema: &Schema,
     block_size: usize,
     members: &[MemberSegment<'_>],
     num_docs: u32,
+    prefix: Vec<u8>,
 ) -> Result<Vec<u8>, Fault>
     requires opened { ∥ AreOpened schema.now (map member_of members.now) ∥₁ }
     requires living { num_docs ≡ living_count (map member_of members.now) }
     requires some { 0 < num_docs }
     requires few { num_docs ≤ max_docs }
-    ensures written { IfOk result (λ bytes. (sections : layout.Sections) × AreWritten num_docs sections bytes.items) }
-    ensures known { IfOk result (λ bytes. ∥ IsSegment schema.now num_docs bytes.items ∥₁) }
+    ensures front { IfOk result (λ bytes. take (length prefix.items) bytes.items ≡ prefix.items) }
+    ensures written { IfOk result (λ bytes. (sections : layout.Sections)
+        × AreWritten num_docs sections (drop (length prefix.items) bytes.items)) }
+    ensures known { IfOk result (λ bytes. ∥ IsSegment schema.now num_docs (drop (length prefix.items) bytes.items) ∥₁) }
     ensures stands { (analyze : Analyzer) (segments : List alive.Segment)
         → StandFor schema.now analyze (map member_of members.now) segments
-        → IfOk result (λ bytes. IsSegmentOf schema.now analyze (live segments) bytes.items) }
+        → IfOk result (λ bytes. IsSegmentOf schema.now analyze (live segments)
+        (drop (length prefix.items) bytes.items)) }
     ensures err { IfErr result (λ fault. fault ≢ faults.OutOfMemory → fault ≢ faults.Limit
         → (fault ≡ faults.Damaged None)
         × ((all : List (List (List ℕ))) → ¬ AreHeld (map member_of members.now) all)) }
@@ -160,5 +168,5 @@ fn merged_bytes(
         norms,
         store: merge_slots(alloc, block_size, members)?,
     };
-    Ok(sections.into_segment(alloc, num_docs)?)
+    Ok(sections.put_behind(prefix, num_docs)?)
 }

@@ -5,7 +5,7 @@ ghost use Rattle.segment_definitions.specs.Segments.{Sections, section_bytes, se
 ghost use Rattle.segment.specs.Written.{sections_of};
 
 use common::{put_u32, put_u64};
-use std::alloc::{AllocError, Global};
+use std::alloc::AllocError;
 
 /// The five sections of a segment.
 #[derive(Drop)]
@@ -18,11 +18,11 @@ pub struct Sections {
 }
 
 impl Sections {
-    /// Encodes the segment of `num_docs` documents with these sections. Each section but the store is freed once it is
-    /// copied, and what comes before the store is moved in front of it within the store's own memory: at no time are
+    /// Encodes the segment of `num_docs` documents with these sections behind `prefix`. Each section but the store is
+    /// freed once it is copied; the store, or what stands before it, whichever is longer, isn't copied: at no time are
     /// the segment's bytes held twice.
-    pub fn into_segment(self, alloc: Global, num_docs: u32) -> Result<Vec<u8>, AllocError>
-        ensures whole { IfOk result (λ bytes. bytes.items ≡ segment_bytes num_docs (sections_of self)) }
+    pub fn put_behind(self, prefix: Vec<u8>, num_docs: u32) -> Result<Vec<u8>, AllocError>
+        ensures whole { IfOk result (λ bytes. bytes.items ≡ prefix.items ++ segment_bytes num_docs (sections_of self)) }
         ensures short { IfOk result (λ bytes. length bytes.items < 2 ^ 64) }
     {
         let Sections {
@@ -32,17 +32,30 @@ impl Sections {
             norms,
             store,
         } = self;
-        let mut front = Vec::new(alloc);
+        let mut front = prefix;
         put_u32(&mut front, num_docs)?;
         put_section(&mut front, terms)?;
         put_section(&mut front, postings)?;
         put_section(&mut front, positions)?;
         put_section(&mut front, norms)?;
         put_u64(&mut front, store.len() as u64)?;
-        let mut bytes = store;
-        put_front(&mut bytes, &front)?;
-        Ok(bytes)
+        joined(front, store)
     }
+}
+
+/// Appends `store` to `front`, within the memory of the longer of the two.
+fn joined(front: Vec<u8>, store: Vec<u8>) -> Result<Vec<u8>, AllocError>
+    ensures whole { IfOk result (λ bytes. bytes.items ≡ front.items ++ store.items) }
+    ensures short { IfOk result (λ bytes. length bytes.items < 2 ^ 64) }
+{
+    if front.len() > store.len() {
+        let mut bytes = front;
+        bytes.extend_from_slice(&store)?;
+        return Ok(bytes);
+    }
+    let mut bytes = store;
+    put_front(&mut bytes, &front)?;
+    Ok(bytes)
 }
 
 /// Appends `section` after its length, and frees it.

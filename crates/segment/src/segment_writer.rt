@@ -1,6 +1,6 @@
 //! A segment while it is written.
 
-ghost use Rattle.std.specs.Prelude.{[], ◌++◌, ◌<◌, ◌∷◌, ◌≡◌, IfErr, IfOk, List, OnErr, OnOk, length, ℕ};
+ghost use Rattle.std.specs.Prelude.{[], ◌++◌, ◌<◌, ◌∷◌, ◌≡◌, IfErr, IfOk, List, OnErr, OnOk, drop, length, take, ℕ};
 ghost use Rattle.definitions.specs.Analyzers as definitions;
 ghost use Rattle.definitions.specs.KeptLengths.{norms_of};
 ghost use Rattle.definitions.specs.Postings.{postings};
@@ -98,6 +98,23 @@ impl SegmentWriter {
             → IfErr result (λ fault. IsSerializeRefusal fault schema.now (norms_of schema.now analyze docs)
             (λ t. postings schema.now analyze t docs)) }
     {
+        let prefix = Vec::new(self.alloc);
+        self.close_behind(schema, prefix)
+    }
+
+    /// Encodes the segment of the documents added behind `prefix`, in one piece of memory with it.
+    pub fn close_behind(self, schema: &Schema, prefix: Vec<u8>) -> Result<Vec<u8>, Fault>
+        requires { ∥ ((analyze : definitions.Analyzer) × (block_size : ℕ) × (docs : List Document)
+            × HasWritten schema.now analyze block_size self docs × (0 < length docs)) ∥₁ }
+        ensures front { IfOk result (λ bytes. take (length prefix.items) bytes.items ≡ prefix.items) }
+        ensures ok { (analyze : definitions.Analyzer) (block_size : ℕ) (docs : List Document)
+            → HasWritten schema.now analyze block_size self docs
+            → IfOk result (λ bytes. IsSegmentOf schema.now analyze docs (drop (length prefix.items) bytes.items)) }
+        ensures err { (analyze : definitions.Analyzer) (block_size : ℕ) (docs : List Document)
+            → HasWritten schema.now analyze block_size self docs
+            → IfErr result (λ fault. IsSerializeRefusal fault schema.now (norms_of schema.now analyze docs)
+            (λ t. postings schema.now analyze t docs)) }
+    {
         let SegmentWriter {
             alloc,
             indexer,
@@ -114,6 +131,6 @@ impl SegmentWriter {
             norms,
             store: store.close(alloc)?,
         };
-        Ok(sections.into_segment(alloc, num_docs)?)
+        Ok(sections.put_behind(prefix, num_docs)?)
     }
 }

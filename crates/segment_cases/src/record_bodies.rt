@@ -29,9 +29,12 @@ pub(crate) fn put(alloc: Global, arguments: &Arguments) -> Result<Value, Refusal
 /// Appends a part to a body.
 fn put_part(body: &mut SegmentsBodyWriter, part: &Part<'_>) -> Result<(), AllocError> {
     match *part {
-        Part::Kept(place) => body.put_kept(place),
-        Part::Fresh(segment) => body.put_fresh(segment),
+        Part::Kept(place) => body.put_kept(place)?,
+        Part::Fresh(segment) => {
+            body.put_fresh(segment)?;
+        }
     }
+    Ok(())
 }
 
 /// The parts and the alive sets of a body.

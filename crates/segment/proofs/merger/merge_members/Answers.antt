@@ -3,6 +3,7 @@ use Rattle.std.proofs.Math.Logic.{∥∥₁_map}
 use Rattle.std.proofs.lemmas.Result.{err_from_is_err_and}
 use Rattle.definitions.specs.Alive.{live}
 use Rattle.definitions.specs.Values.{Document}
+use Rattle.segment.proofs.BehindPrefixes.{behind_none}
 use Rattle.segment.proofs.Opening.{one_segment}
 use Rattle.segment.specs.Opened.{bytes_of}
 use Rattle.segment_definitions.specs.Segments.{AreWritten, IsSegment, IsSegmentOf}
@@ -30,7 +31,9 @@ returns-then-num_docs-eq0-clause-stands c analyze segments stand =
     none_of (live segments) (omega (arith, many, count, none))
 
 pub new-requires : goal.new-requires
-new-requires c = ∥∥₁_map c.in_ok-bytes.ensures.known (λ is. (c.in_ok-num_docs.num_docs, subst (IsSegment c.args.schema.now c.in_ok-num_docs.num_docs) (sym c.in_ok-bytes-2.ensures.ok) is))
+new-requires c =
+    let same = behind_none c.new-prefix.result.items c.in_ok-bytes.bytes.items c.new-prefix.ensures.items in
+    ∥∥₁_map c.in_ok-bytes.ensures.known (λ is. (c.in_ok-num_docs.num_docs, subst (IsSegment c.args.schema.now c.in_ok-num_docs.num_docs) (same ∙ sym c.in_ok-bytes-2.ensures.ok) is))
 
 pub returns-clause-living : goal.returns-clause-living
 returns-clause-living c =
@@ -38,12 +41,15 @@ returns-clause-living c =
     let ours = c.in_ok-bytes.ensures.written in
     let count = c.in_ok-num_docs.ensures.ok.0 in
     let some = c.if-num_docs-eq0.false in
-    let there = subst (AreWritten c.in_ok-num_docs.num_docs ours.0) (sym (c.in_ok-segment.ensures.bytes ∙ c.in_ok-bytes-2.ensures.ok)) ours.1 in
+    let whole = behind_none c.new-prefix.result.items c.in_ok-bytes.bytes.items c.new-prefix.ensures.items in
+    let there = subst (AreWritten c.in_ok-num_docs.num_docs ours.0) (whole ∙ sym (c.in_ok-segment.ensures.bytes ∙ c.in_ok-bytes-2.ensures.ok)) ours.1 in
     let same = one_segment c.in_ok-segment.segment.num_docs c.in_ok-num_docs.num_docs opened.sections ours.0 (bytes_of c.in_ok-segment.segment) opened.written there in
     (omega (arith, count, some), same.0 ∙ count)
 
 pub returns-clause-stands : goal.returns-clause-stands
-returns-clause-stands c analyze segments stand = record {
-  opened = c.in_ok-segment.ensures.ok;
-  bytes_are = subst (IsSegmentOf c.args.schema.now analyze (live segments)) (sym (c.in_ok-segment.ensures.bytes ∙ c.in_ok-bytes-2.ensures.ok)) (c.in_ok-bytes.ensures.stands analyze segments stand);
-}
+returns-clause-stands c analyze segments stand =
+    let whole = behind_none c.new-prefix.result.items c.in_ok-bytes.bytes.items c.new-prefix.ensures.items in
+    record {
+      opened = c.in_ok-segment.ensures.ok;
+      bytes_are = subst (IsSegmentOf c.args.schema.now analyze (live segments)) (whole ∙ sym (c.in_ok-segment.ensures.bytes ∙ c.in_ok-bytes-2.ensures.ok)) (c.in_ok-bytes.ensures.stands analyze segments stand);
+    }

@@ -1,4 +1,4 @@
-use Rattle.std.proofs.Common.{List, arith, inl, inr, length, subst, sym, ◌≡◌, ◌∙◌, ℕ, map}
+use Rattle.std.proofs.Common.{List, arith, drop, inl, inr, length, subst, sym, ◌≡◌, ◌∙◌, ℕ, map}
 use Rattle.std.proofs.Math.Logic.{∥∥₁_elim, ∥∥₁_map}
 use Rattle.std.proofs.Props.{props}
 use Rattle.std.proofs.lemmas.Result.{err_from_is_err_and}
@@ -14,6 +14,7 @@ use Rattle.layouts.specs.InvertedIndexes.{AreSections}
 use Rattle.postings_writer.specs.Limits.{IsSerializeRefusal}
 use Rattle.segment.proofs.Opening.{norms_over}
 use Rattle.segment_definitions.specs.Segments.{AreWritten, IsSegment, Sections}
+use Rattle.segment.proofs.BehindPrefixes.{front_stands, written_behind}
 use Rattle.segment.proofs.MergedSegments.{living_is, none_damaged, segment_is, segment_of}
 use Rattle.segment.proofs.LongSlots.{long_slot}
 use Rattle.segment.proofs.MergedStores.{slots_of, standing_held}
@@ -81,19 +82,22 @@ returns-in_err-merge_slots-clause-limit c analyze segments stand =
       ]
     ])
 
+pub returns-clause-front : goal.returns-clause-front
+returns-clause-front c = front_stands c.args.prefix.items _ c.in_ok-put_behind.field-0.items c.in_ok-put_behind.ensures.whole
+
 pub returns-clause-written : goal.returns-clause-written
 returns-clause-written c =
     let sections : Sections = record { terms = c.in_ok-terms.terms.items; postings = c.in_ok-terms.postings.items; positions = c.in_ok-terms.positions.items; norms = c.in_ok-norms.norms.items; store = c.in_ok-merge_slots.field-0.items } in
-    (sections, record { some = c.requires.some; few = c.requires.few; short = c.in_ok-into_segment.ensures.short; whole = c.in_ok-into_segment.ensures.whole })
+    (sections, written_behind c.args.num_docs sections c.args.prefix.items c.in_ok-put_behind.field-0.items c.requires.some c.requires.few c.in_ok-put_behind.ensures.short c.in_ok-put_behind.ensures.whole)
 
 pub returns-clause-known : goal.returns-clause-known
 returns-clause-known c =
     let schema = c.args.schema.now in
     let ms = map member_of c.args.members.now in
     let many = living_count ms in
-    let bytes = c.in_ok-into_segment.field-0.items in
+    let bytes = drop (length c.args.prefix.items) c.in_ok-put_behind.field-0.items in
     let sections : Sections = record { terms = c.in_ok-terms.terms.items; postings = c.in_ok-terms.postings.items; positions = c.in_ok-terms.positions.items; norms = c.in_ok-norms.norms.items; store = c.in_ok-merge_slots.field-0.items } in
-    let written : AreWritten c.args.num_docs sections bytes = record { some = c.requires.some; few = c.requires.few; short = c.in_ok-into_segment.ensures.short; whole = c.in_ok-into_segment.ensures.whole } in
+    let written : AreWritten c.args.num_docs sections bytes = written_behind c.args.num_docs sections c.args.prefix.items c.in_ok-put_behind.field-0.items c.requires.some c.requires.few c.in_ok-put_behind.ensures.short c.in_ok-put_behind.ensures.whole in
     let blocks = c.in_ok-merge_slots.ensures.blocks in
     ∥∥₁_map c.requires.opened (λ opened.
     (let found = c.in_ok-norms.ensures.opened schema (c.deref.ensures.value ∙ c.in_ok-fields.ensures) opened in
@@ -106,9 +110,9 @@ pub returns-clause-stands : goal.returns-clause-stands
 returns-clause-stands c analyze segments stand =
     let schema = c.args.schema.now in
     let ms = map member_of c.args.members.now in
-    let bytes = c.in_ok-into_segment.field-0.items in
+    let bytes = drop (length c.args.prefix.items) c.in_ok-put_behind.field-0.items in
     let sections : Sections = record { terms = c.in_ok-terms.terms.items; postings = c.in_ok-terms.postings.items; positions = c.in_ok-terms.positions.items; norms = c.in_ok-norms.norms.items; store = c.in_ok-merge_slots.field-0.items } in
-    let written : AreWritten c.args.num_docs sections bytes = record { some = c.requires.some; few = c.requires.few; short = c.in_ok-into_segment.ensures.short; whole = c.in_ok-into_segment.ensures.whole } in
+    let written : AreWritten c.args.num_docs sections bytes = written_behind c.args.num_docs sections c.args.prefix.items c.in_ok-put_behind.field-0.items c.requires.some c.requires.few c.in_ok-put_behind.ensures.short c.in_ok-put_behind.ensures.whole in
     let norms = norms_of schema analyze (live segments) in
     let documents = c.in_ok-norms.ensures.stands schema analyze segments (c.deref.ensures.value ∙ c.in_ok-fields.ensures) stand in
     let readers = c.new-readers.ensures norms (lent schema c.args.num_docs (living_count ms) c.deref-3.result.now c.in_ok-norms.norms.items c.deref-2.result.now norms c.requires.living (c.deref-3.ensures.value ∙ c.in_ok-fields.ensures) c.deref-2.ensures.value documents) in
