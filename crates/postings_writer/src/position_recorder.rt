@@ -1,9 +1,9 @@
 //! The recorder of a term with positions: its documents and positions, as bytes.
 //!
 //! Of each occurrence two numbers of seven bits a byte are kept: how far its document is after that of the occurrence
-//! before it, and the position. Most take a byte each.
+//! before it, and the position. Most take a byte or two each.
 
-ghost use Rattle.std.specs.Prelude.{[], ◌++◌, ◌<◌, ◌^◌, ◌≡◌, ◌∷◌, IfErr, IsSomeAnd, List, OnErr, OnOk, Some, length, ℕ};
+ghost use Rattle.std.specs.Prelude.{[], ◌++◌, ◌+◌, ◌<◌, ◌^◌, ◌≡◌, ◌≤◌, ◌∷◌, IfErr, IsSomeAnd, List, OnErr, OnOk, Some, length, vec_capacity, ℕ};
 ghost use Rattle.definitions.specs.NumberCodes.{take_vint, vint_bytes};
 ghost use Rattle.postings_writer.specs.Recorders.{IsCountRefusal};
 
@@ -12,17 +12,43 @@ use definitions::Fault;
 use std::alloc::{AllocError, Global};
 use std::marker::Model;
 
+/// The least number of four bytes.
+const FOUR_BYTES: u32 = 2097152;
+
+/// Appends a number of at most three bytes, for which there is room.
+#[inline]
+fn put_short(bytes: &mut Vec<u8>, number: u32)
+    requires short { number < 2097152 }
+    requires room { length bytes.old.items + 3 ≤ vec_capacity bytes.old }
+    ensures items { bytes.new.items ≡ bytes.old.items ++ vint_bytes number }
+    ensures len { length bytes.new.items ≤ length bytes.old.items + 3 }
+    ensures capacity { vec_capacity bytes.new ≡ vec_capacity bytes.old }
+{
+    if number < 128 {
+        bytes.push_reserved(128 + number as u8);
+        return;
+    }
+    bytes.push_reserved((number % 128) as u8);
+    let high = number / 128;
+    if high < 128 {
+        bytes.push_reserved(128 + high as u8);
+        return;
+    }
+    bytes.push_reserved((high % 128) as u8);
+    bytes.push_reserved(128 + (high / 128) as u8);
+}
+
 /// Appends two numbers; nothing if out of memory.
 fn put_two(bytes: &mut Vec<u8>, first: u32, second: u32) -> Result<(), AllocError>
     ensures ok { OnOk result (bytes.new.items ≡ bytes.old.items ++ vint_bytes first ++ vint_bytes second) }
     ensures err { OnErr result (bytes.new.items ≡ bytes.old.items) }
 {
-    if first >= 128 || second >= 128 {
+    if first >= FOUR_BYTES || second >= FOUR_BYTES {
         return put_long(bytes, first, second);
     }
-    bytes.reserve(2)?;
-    bytes.push_reserved(128 + first as u8);
-    bytes.push_reserved(128 + second as u8);
+    bytes.reserve(6)?;
+    put_short(bytes, first);
+    put_short(bytes, second);
     Ok(())
 }
 
@@ -39,7 +65,7 @@ fn put_long(bytes: &mut Vec<u8>, first: u32, second: u32) -> Result<(), AllocErr
     Ok(())
 }
 
-/// Decodes the first number, mostly of one byte; returns it and the bytes after it.
+/// Decodes the first number, mostly of one byte or two; returns it and the bytes after it.
 #[inline]
 fn take_number(bytes: &[u8]) -> (u32, &[u8])
     requires { IsSomeAnd (take_vint bytes.now) (λ p. p.0 < 2 ^ 32) }
@@ -48,6 +74,11 @@ fn take_number(bytes: &[u8]) -> (u32, &[u8])
     if let Some((byte, rest)) = bytes.split_first() {
         if *byte >= 128 {
             return (u32::from(*byte) - 128, rest);
+        }
+        if let Some((high, after)) = rest.split_first() {
+            if *high >= 128 {
+                return (u32::from(*byte) + 128 * (u32::from(*high) - 128), after);
+            }
         }
     }
     match take_vint(bytes) {
