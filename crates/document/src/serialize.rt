@@ -27,11 +27,23 @@ impl CompactDoc {
         ensures read_back { read_document (document_bytes (stored_pairs schema.now self.now))
             ≡ Some (stored_pairs schema.now self.now) }
     {
-        let count = self.stored_count(schema);
-        let mut bytes = Vec::with_capacity(alloc, self.serialized_at_most())?;
-        put_vint(&mut bytes, count as u64)?;
-        self.put_stored(&mut bytes, schema)?;
+        let mut bytes = Vec::new(alloc);
+        self.serialize_into(&mut bytes, schema)?;
         Ok(bytes)
+    }
+
+    /// Appends what `serialize` encodes. If memory is wanting, what stands in `out` is of no use.
+    pub fn serialize_into(&self, out: &mut Vec<u8>, schema: &Schema) -> Result<(), AllocError>
+        requires nests { IsShallow self.now }
+        ensures ok { OnOk result (out.new.items
+            ≡ out.old.items ++ document_bytes (stored_pairs schema.now self.now)) }
+        ensures read_back { read_document (document_bytes (stored_pairs schema.now self.now))
+            ≡ Some (stored_pairs schema.now self.now) }
+    {
+        let count = self.stored_count(schema);
+        out.reserve(self.serialized_at_most())?;
+        put_vint(out, count as u64)?;
+        self.put_stored(out, schema)
     }
 
     /// Returns how many bytes the pairs take in memory, and ten for their count. No schema's binary form is longer.

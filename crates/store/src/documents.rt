@@ -18,6 +18,7 @@ use definitions::Fault;
 use document::CompactDoc;
 use schema::Schema;
 use std::alloc::Global;
+use std::mem;
 
 impl StoreWriter {
     /// Adds the pairs of stored fields of `doc`, of which no value may nest more than 128 deep. Their slot reads back as
@@ -34,8 +35,12 @@ impl StoreWriter {
         ensures read_back { read_document (document_bytes (stored_pairs schema.now doc.now))
             ≡ Some (stored_pairs schema.now doc.now) }
     {
-        let bytes = doc.serialize(alloc, schema)?;
-        self.store_bytes(bytes.as_slice())
+        let mut bytes = mem::replace(&mut self.slot, Vec::new(alloc));
+        bytes.clear();
+        doc.serialize_into(&mut bytes, schema)?;
+        let stored = self.store_bytes(bytes.as_slice());
+        self.slot = bytes;
+        stored
     }
 }
 

@@ -14,11 +14,13 @@ use definitions::Fault;
 use std::alloc::{AllocError, Global};
 use std::marker::Model;
 
-/// A store while it is written: the blocks that are closed, and the documents of the next one.
+/// A store while it is written: the blocks that are closed, and the documents of the next one. A slot is encoded in
+/// bytes that are kept for the next one.
 #[derive(Drop)]
 pub struct StoreWriter {
     parts: Parts,
     block_size: usize,
+    pub(crate) slot: Vec<u8>,
 }
 
 impl Model for StoreWriter {
@@ -39,6 +41,7 @@ impl StoreWriter {
         StoreWriter {
             parts: Parts::new(alloc),
             block_size,
+            slot: Vec::new(alloc),
         }
     }
 
