@@ -1,43 +1,6 @@
-use Rattle.std.proofs.Common.{ap, arith, length, ◌∙◌, ◌<◌, ◌≡◌}
-use Rattle.std.proofs.Math.Logic.{∥∥₁_elim, ∥∥₁_map}
-use Rattle.std.proofs.Props.{props}
-use Rattle.definitions.specs.KeptLengths.{norms_of}
-use Rattle.segment_definitions.proofs.DocumentKeys.{indexed_keyed}
-use Rattle.segment_definitions.specs.Segments.{Sections, segment_bytes}
-use Rattle.segment_definitions.specs.Slots.{slots}
-use Rattle.segment.proofs.Adding.{docs_counted}
-use Rattle.store.proofs.SlotLaws.{slots_kept}
-use Rattle.store.specs.Writing.{blocks_of}
+use Rattle.std.proofs.Common.{IfOk, drop, length, subst}
+use Rattle.segment_definitions.specs.Segments.{IsSegmentOf}
 use Rattle.segment.proofs.segment_writer.SegmentWriter.close.Goals as goal
 
-pub serialize-requires : goal.serialize-requires
-serialize-requires c = ∥∥₁_map c.requires (λ given. (given.0, given.2, given.3.indexed))
-
 pub returns-clause-ok : goal.returns-clause-ok
-returns-clause-ok c analyze block_size docs h =
-    let schema = c.args.schema.now in
-    let w = c.args.self.store in
-    let count : c.num_docs-num_docs.result ≡ length docs = c.num_docs-num_docs.ensures.count ∙ docs_counted w schema docs h.stored in
-    let some : 0 < length docs = ∥∥₁_elim c.requires (hlevel props) (λ given.
-    let asked = c.num_docs-num_docs.ensures.count ∙ docs_counted w schema given.2 given.3.stored in
-    let least = given.4 in
-    omega (arith, count, asked, least)) in
-    let sections : Sections = record { terms = c.in_ok-terms.terms.items; postings = c.in_ok-terms.postings.items; positions = c.in_ok-terms.positions.items; norms = c.in_ok-terms.norms.items; store = c.in_ok-close.field-0.items } in
-    let terms = c.in_ok-terms.ensures.ok analyze docs h.indexed in
-    let kept = slots_kept w.blocks w.pending (slots schema docs) w.block_size c.num_docs-num_docs.ensures.valid h.stored in
-    record {
-      sections = sections;
-      fields = terms.0;
-      taken = h.taken;
-      written = record {
-        some = some;
-        few = h.few;
-        short = c.in_ok-into_segment.ensures.short;
-        whole = c.in_ok-into_segment.ensures.whole ∙ ap (λ n. segment_bytes n sections) count;
-      };
-      terms_are = terms.1;
-      keyed = indexed_keyed schema analyze (h.texts some) docs h.taken (length docs) (norms_of schema analyze docs) terms.0 terms.1.each terms.2;
-      indexed = terms.2;
-      norms_are = c.in_ok-terms.ensures.lengths analyze docs h.indexed;
-      store_is = (blocks_of w, kept.0, kept.1, c.in_ok-close.ensures);
-    }
+returns-clause-ok c analyze block_size docs h = subst (λ front. IfOk c.close_behind.result (λ bytes. IsSegmentOf c.args.schema.now analyze docs (drop (length front) bytes.items))) c.new-prefix.ensures.items (c.close_behind.ensures.ok analyze block_size docs h)
