@@ -1,6 +1,5 @@
 -- One document more.
 use Rattle.std.proofs.Common.{[], ◌++◌, ◌+◌, ◌<◌, ◌==◌, ◌^◌, ◌≡◌, ◌≤◌, ◌∙◌, ◌∷◌, Bool, IfSome, List, None, Option, Some, ap, ap₂, arith, bytes_eq, cond, false, filter, inl, inr, length, map, min, ne_eqb, refl, subst, sym, true, ℕ}
-use Rattle.std.specs.List.{AllByRecursion}
 use Rattle.std.specs.Map.{lookup}
 use Rattle.std.specs.Option.{option_map_or}
 use Rattle.std.proofs.lemmas.List.{length-map, map-append}
@@ -11,9 +10,9 @@ use Rattle.definitions.specs.Recorded.{occurrences}
 use Rattle.definitions.specs.Schema.{Schema, max_fields}
 use Rattle.definitions.specs.Values.{Document}
 use Rattle.definitions.specs.declared.fault.Fault.{Fault}
-use Rattle.postings_writer.specs.Occurrences.{Occurrence, by_document, last_count, places_of}
+use Rattle.postings_writer.specs.Occurrences.{Occurrence, by_document, docs_of, ends_in, last_count, places_of}
 use Rattle.document_indexer.specs.Contexts.{AreBefore, Context, HasStarts, Holds, IsRefusal, Positions, Records, Refuses}
-use Rattle.document_indexer.specs.Indexed.{AreCounted, HasRecorded, IsAddRefusal, doc_places, places_in}
+use Rattle.document_indexer.specs.Indexed.{HasRecorded, IsAddRefusal, doc_places, places_in}
 use Rattle.document_indexer.specs.Runs.{AreStepsWithin, no_starts, occurrence_at, occurrences_at, run_terms}
 use Rattle.document_indexer.specs.Steps.{steps_of}
 use Rattle.document_indexer.proofs.DocRuns.{doc_run}
@@ -98,10 +97,6 @@ module _ (schema : Schema) (analyze : Analyzer) (was now : Context) (docs : List
 
   -- ---- it is refused
 
-  all_positions : (t : List ℕ) (xs : List ℕ) (ds : List Document) → length xs ≤ length (occurrences schema analyze t doc) → AllByRecursion (λ d. length (occurrences schema analyze t d) < 2 ^ 32) (ds ++ doc ∷ []) → AllByRecursion (λ ns. length ns < 2 ^ 32) (positions schema analyze t ds ++ xs ∷ [])
-  all_positions t xs [] within all = ((let below = all.0 in omega arith), tt)
-  all_positions t xs (d ∷ ds) within all = (all.0, all_positions t xs ds within all.1)
-
   part_within : (xs ys zs : List ℕ) → xs ++ ys ≡ zs → length xs ≤ length zs
   part_within xs ys zs is = (let long = ap length is in let both = go xs in omega arith)
     where
@@ -109,17 +104,19 @@ module _ (schema : Schema) (analyze : Analyzer) (was now : Context) (docs : List
       go [] = (let e : length ys ≡ 0 + length ys = omega arith in e)
       go (w ∷ ws) = (let ih = go ws in omega arith)
 
-  -- the counts of a part of the document's terms are below the bound that all keep
-  counts_below : (t : List ℕ) (some rest : List Placed) → run_terms no_starts (steps_of schema analyze doc) ≡ some ++ rest → AreCounted schema analyze (docs ++ doc ∷ []) → last_count (by_document (places_of t (h.written.os ++ occurrences_at was.doc some))) < 2 ^ 32
-  counts_below t some rest split counted =
+  -- the count of a part of the document's terms is below the bound that the whole keeps
+  counts_below : (t : List ℕ) (some rest : List Placed) → run_terms no_starts (steps_of schema analyze doc) ≡ some ++ rest → length (occurrences schema analyze t doc) < 2 ^ 32 → ends_in was.doc (docs_of (places_of t (h.written.os ++ occurrences_at was.doc some))) ≡ true → last_count (by_document (places_of t (h.written.os ++ occurrences_at was.doc some))) < 2 ^ 32
+  counts_below t some rest split counted ends =
       let xs : List ℕ = at t some in
       let xss : List (List ℕ) = positions schema analyze t docs in
       let whole : xs ++ at t rest ≡ occurrences schema analyze t doc = sym (at-append t some rest) ∙ ap (at t) (sym split) ∙ doc_run analyze t schema few_fields doc in
+      let last : was.doc ≡ length xss = h.count ∙ sym (length-map docs (occurrences schema analyze t)) in
       let here : places_of t (h.written.os ++ occurrences_at was.doc some) ≡ places_from 0 (xss ++ xs ∷ []) =
       places-append t h.written.os (occurrences_at was.doc some)
-      ∙ ap₂ (λ ps qs. ps ++ qs) (h.written.occurrences_are t ∙ places_are schema analyze t 0 docs) (doc_at t was.doc some ∙ ap (λ n. placed (n, xs)) (h.count ∙ sym (length-map docs (occurrences schema analyze t))))
+      ∙ ap₂ (λ ps qs. ps ++ qs) (h.written.occurrences_are t ∙ places_are schema analyze t 0 docs) (doc_at t was.doc some ∙ ap (λ n. placed (n, xs)) last)
       ∙ sym (one_more placed xss xs) in
-      subst (λ ps. last_count (by_document ps) < 2 ^ 32) (sym here) (last_count_below (2 ^ 32) 0 (xss ++ xs ∷ []) (omega arith) (all_positions t xs docs (part_within xs (at t rest) (occurrences schema analyze t doc) whole) (counted t)))
+      let within = part_within xs (at t rest) (occurrences schema analyze t doc) whole in
+      subst (λ ps. last_count (by_document ps) < 2 ^ 32) (sym here) (last_count_below (2 ^ 32) was.doc xss xs last (omega arith) (subst (λ ps. ends_in was.doc (docs_of ps) ≡ true) here ends))
 
   pub document_refused : (fault : Fault) → Refuses schema was (steps_of schema analyze doc) fault → IsAddRefusal fault schema analyze docs doc
   document_refused fault refused = go (refused h.written.os no_starts begun)
@@ -127,4 +124,4 @@ module _ (schema : Schema) (analyze : Analyzer) (was now : Context) (docs : List
       go : IsRefusal fault h.written.os was.doc no_starts (steps_of schema analyze doc) → IsAddRefusal fault schema analyze docs doc
       go (inl memory) = inl memory
       go (inr (limit, inl past)) = inr (limit, inr (inl past))
-      go (inr (limit, inr count)) = inr (limit, inr (inr (λ counted. (let below = counts_below count.term count.before count.after count.split counted in let past = count.past in absurd (omega arith)))))
+      go (inr (limit, inr count)) = inr (limit, inr (inr (λ counted. (let below = counts_below count.term count.before count.after count.split (counted count.term) count.past.0 in let past = count.past.1 in absurd (omega arith)))))

@@ -1,8 +1,8 @@
 -- Places of documents in order, grouped by document.
-use Rattle.std.proofs.Common.{[], ◌++◌, ◌+◌, ◌<◌, ◌≡◌, ◌∙◌, ◌∷◌, Bool, List, ap, append-nil, append_assoc, arith, cond, false, filter, flat_map, length, map, nat_eq, refl, sym, true, ℕ}
-use Rattle.std.specs.List.{AllByRecursion, enumerate_from}
+use Rattle.std.proofs.Common.{[], ◌++◌, ◌+◌, ◌<◌, ◌≡◌, ◌∙◌, ◌∷◌, Bool, List, ap, append-nil, append_assoc, arith, cond, false, filter, flat_map, length, map, nat_eq, refl, subst, sym, true, ℕ}
+use Rattle.std.specs.List.{enumerate_from}
 use Rattle.std.proofs.lemmas.Bool.Decides.{nat_tests}
-use Rattle.postings_writer.specs.Occurrences.{by_document, grouped, last_count}
+use Rattle.postings_writer.specs.Occurrences.{by_document, docs_of, ends_in, grouped, last_count}
 
 -- a document's places
 abbrev pub placed : ℕ × List ℕ → List (ℕ × ℕ)
@@ -44,18 +44,24 @@ all_grouped k ((x ∷ xs) ∷ xss) = first_grouped k x xs xss (all_grouped (k + 
 
 -- ---- counts
 
--- the last count is below what all are
-last_below : (bound k : ℕ) (xss : List (List ℕ)) → 0 < bound → AllByRecursion (λ xs. length xs < bound) xss → last_count (groups_from k xss) < bound
-last_below bound k [] some all = some
-last_below bound k ([] ∷ xss) some all = last_below bound (k + 1) xss some all.1
-last_below bound k ((x ∷ xs) ∷ xss) some all = go (groups_from (k + 1) xss) (last_below bound (k + 1) xss some all.1)
-  where
-    go : (gs : List (ℕ × List ℕ)) → last_count gs < bound → last_count ((k, x ∷ xs) ∷ gs) < bound
-    go [] below = all.0
-    go (g ∷ gs) below = below
+abbrev docs : List (ℕ × List ℕ) → List ℕ
+docs gs = map (λ g. g.0) gs
 
-pub last_count_below : (bound k : ℕ) (xss : List (List ℕ)) → 0 < bound → AllByRecursion (λ xs. length xs < bound) xss → last_count (by_document (places_from k xss)) < bound
-last_count_below bound k xss some all = (let e = ap last_count (all_grouped k xss) in let below = last_below bound k xss some all in omega arith)
+-- the last count is of the last document, where this has places
+last_here : (bound k n : ℕ) (xss : List (List ℕ)) (xs : List ℕ) → n ≡ k + length xss → length xs < bound → ends_in n (docs (groups_from k (xss ++ xs ∷ []))) ≡ true → last_count (groups_from k (xss ++ xs ∷ [])) < bound
+last_here bound k n [] [] is below ends = cc
+last_here bound k n [] (x ∷ xs) is below ends = below
+last_here bound k n ([] ∷ xss) xs is below ends = last_here bound (k + 1) n xss xs (omega arith) below ends
+last_here bound k n ((y ∷ ys) ∷ xss) xs is below ends = go (groups_from (k + 1) (xss ++ xs ∷ [])) (λ later. last_here bound (k + 1) n xss xs (omega arith) below later) ends
+  where
+    go : (gs : List (ℕ × List ℕ)) → (ends_in n (docs gs) ≡ true → last_count gs < bound) → ends_in n (docs ((k, y ∷ ys) ∷ gs)) ≡ true → last_count ((k, y ∷ ys) ∷ gs) < bound
+    go [] later same = (let apart : nat_eq k n ≡ false = grind (arith, nat_tests) in cc)
+    go (g ∷ gs) later same = later same
+
+pub last_count_below : (bound n : ℕ) (xss : List (List ℕ)) (xs : List ℕ) → n ≡ length xss → length xs < bound → ends_in n (docs_of (places_from 0 (xss ++ xs ∷ []))) ≡ true → last_count (by_document (places_from 0 (xss ++ xs ∷ []))) < bound
+last_count_below bound n xss xs is below ends =
+    let e = all_grouped 0 (xss ++ xs ∷ []) in
+    subst (λ gs. last_count gs < bound) (sym e) (last_here bound 0 n xss xs (omega arith) below (subst (λ gs. ends_in n (docs gs) ≡ true) e ends))
 
 -- ---- one document more
 

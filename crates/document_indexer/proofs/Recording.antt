@@ -10,10 +10,11 @@ use Rattle.definitions.specs.Schema.{Kind, Schema}
 use Rattle.definitions.specs.Terms.{term_bytes}
 use Rattle.definitions.specs.Values.{Token}
 use Rattle.definitions.specs.declared.fault.Fault.{Fault}
-use Rattle.postings_writer.specs.Occurrences.{Occurrence, by_document, last_count, places_of}
+use Rattle.postings_writer.specs.Occurrences.{Occurrence, PassesCount, places_of}
 use Rattle.postings_writer.specs.Recorders.{IsCountRefusal}
 use Rattle.postings_writer.specs.Texts.{AreWithin, IsTextRefusal, text_occurrences}
 use Rattle.postings_writer.specs.Writers.{HasFields, IsIndexedTerm, Stands, Writer}
+use Rattle.postings_writer.proofs.Groups.{ends_push}
 use Rattle.postings_writer.proofs.Standing.{places_of-push}
 use Rattle.document_indexer.specs.Contexts.{AreBefore, CanIndex, Context, HasStarts, Holds, IsReady, IsRefusal, Positions, Records, Refuses, context, start_of}
 use Rattle.document_indexer.specs.Runs.{AreStepsWithin, Starts, occurrence_at, occurrences_at, next_starts, run_terms, starts_after, step_terms}
@@ -134,7 +135,7 @@ refused_next schema a b xs ys fault r refused os starts h =
         after = count.after;
         term = count.term;
         split = run-append starts xs ys ∙ ap (λ ps. first ++ ps) count.split ∙ sym (append_assoc first count.before count.after);
-        past = subst (λ os. 2 ^ 32 ≤ last_count (by_document (places_of count.term os))) (joined a.doc os first count.before) count.past;
+        past = subst (λ os. PassesCount a.doc (places_of count.term os)) (joined a.doc os first count.before) count.past;
       }),
     )
 
@@ -168,7 +169,7 @@ term_refused (Err fault) schema w positions doc t err = λ os starts h. go os st
         after = [];
         term = t;
         split = refl;
-        past = subst (λ ps. 2 ^ 32 ≤ last_count (by_document ps)) (sym (here os)) limit.1;
+        past = subst (PassesCount doc) (sym (here os)) (ends_push (places_of t os) doc 0, limit.1);
       }),
     )
 
@@ -247,6 +248,6 @@ text_refused fault schema w positions doc prefix gap start ts start_is err os st
         after = map place count.after;
         term = count.term;
         split = append-nil (map place ts) ∙ ap (map place) count.split ∙ map-append place count.before count.after;
-        past = subst (λ more. 2 ^ 32 ≤ last_count (by_document (places_of count.term (os ++ more)))) (sym (tokens_recorded doc prefix (starts prefix) count.before)) count.past;
+        past = subst (λ more. PassesCount doc (places_of count.term (os ++ more))) (sym (tokens_recorded doc prefix (starts prefix) count.before)) count.past;
       }),
     )

@@ -7,7 +7,7 @@ use Rattle.definitions.specs.Postings.{terminated}
 use Rattle.definitions.specs.Schema.{Entry, Kind, Schema, is_indexed}
 use Rattle.definitions.specs.declared.fault.Fault.{Fault}
 use Rattle.definitions.specs.declared.fault.Fault.TheVariants as faults
-use Rattle.postings_writer.specs.Occurrences.{Occurrence, by_document, last_count, places_of}
+use Rattle.postings_writer.specs.Occurrences.{Occurrence, PassesCount, places_of}
 use Rattle.postings_writer.specs.Writers.{HasFields, Stands, Writer}
 use Rattle.document_indexer.specs.Runs.{AreStepsWithin, Starts, occurrences_at, run_terms, starts_after}
 use Rattle.document_indexer.specs.Steps.{Step}
@@ -70,13 +70,13 @@ pub record Records (schema : Schema) (was now : Context) (ss : List Step) : Type
   pub next : now.writer.num_docs ≤ was.doc + 1
   pub before : AreBefore (was.doc + 1) was.positions → AreBefore (was.doc + 1) now.positions
 
--- a count of one of the terms passes 32 bits, when so many of them are recorded
+-- the document's count of one of the terms passes 32 bits, when so many of them are recorded
 pub record CountPasses (os : List Occurrence) (doc : ℕ) (ps : List Placed) : Type 0 where
   pub before : List Placed
   pub after : List Placed
   pub term : List ℕ
   pub split : ps ≡ before ++ after
-  pub past : 2 ^ 32 ≤ last_count (by_document (places_of term (os ++ occurrences_at doc before)))
+  pub past : PassesCount doc (places_of term (os ++ occurrences_at doc before))
 
 -- memory was wanting, or a limit would be passed
 abbrev pub IsRefusal : Fault → List Occurrence → ℕ → Starts → List Step → Type 0

@@ -1,6 +1,6 @@
 -- What an indexer stands for.
-use Rattle.std.specs.Prelude.{[], ◌++◌, ◌<◌, ◌^◌, ◌∷◌, ◌≡◌, ◌≤◌, ◌⊎◌, List, flat_map, length, map, ℕ}
-use Rattle.std.specs.List.{AllByRecursion, enumerate_from}
+use Rattle.std.specs.Prelude.{◌<◌, ◌^◌, ◌≡◌, ◌≤◌, ◌⊎◌, List, flat_map, length, map, ℕ}
+use Rattle.std.specs.List.{enumerate_from}
 use Rattle.definitions.specs.Analyzers.{Analyzer}
 use Rattle.definitions.specs.Postings.{terminated}
 use Rattle.definitions.specs.Recorded.{occurrences}
@@ -39,13 +39,13 @@ pub record HasRecorded (schema : Schema) (analyze : Analyzer) (c : Context) (doc
   pub count : c.doc ≡ length docs
   pub before : AreBefore c.doc c.positions
 
--- no document has a term more often than 32 bits tell
-abbrev pub AreCounted : Schema → Analyzer → List Document → Type 0
-AreCounted schema analyze docs = (t : List ℕ) → AllByRecursion (λ doc. length (occurrences schema analyze t doc) < 2 ^ 32) docs
+-- a document has no term more often than 32 bits tell
+abbrev pub IsCounted : Schema → Analyzer → Document → Type 0
+IsCounted schema analyze doc = (t : List ℕ) → length (occurrences schema analyze t doc) < 2 ^ 32
 
--- a limit that one document more would pass: the number of documents, the greatest position, or a count
+-- a limit that one document more would pass: the number of documents, or by itself the greatest position or a count
 abbrev pub PassesLimit : Schema → Analyzer → List Document → Document → Type 0
-PassesLimit schema analyze docs doc = (terminated ≤ length docs) ⊎ (AreStepsWithin no_starts (steps_of schema analyze doc) → ⊥) ⊎ (AreCounted schema analyze (docs ++ doc ∷ []) → ⊥)
+PassesLimit schema analyze docs doc = (terminated ≤ length docs) ⊎ (AreStepsWithin no_starts (steps_of schema analyze doc) → ⊥) ⊎ (IsCounted schema analyze doc → ⊥)
 
 -- with one document more neither the number of documents nor the greatest position is passed
 abbrev pub IsWithinLimits : Schema → Analyzer → List Document → Document → Type 0

@@ -127,6 +127,19 @@ docs_of-counts ps = go (by_document ps)
     go [] = refl
     go (g ∷ gs) = ap (λ ds. g.0 ∷ ds) (go gs)
 
+ends_more : (doc : ℕ) (ds : List ℕ) → ends_in doc (ds ++ doc ∷ []) ≡ true
+ends_more doc [] = grind (arith, nat_tests)
+ends_more doc (d ∷ []) = grind (arith, nat_tests)
+ends_more doc (d ∷ e ∷ ds) = ends_more doc (e ∷ ds)
+
+-- the document of one place more is the last one
+pub ends_push : (ps : List (ℕ × ℕ)) (doc position : ℕ) → ends_in doc (docs_of (ps ++ (doc, position) ∷ [])) ≡ true
+ends_push ps doc position = go (ends_in doc (docs_of ps)) refl
+  where
+    go : (b : Bool) → ends_in doc (docs_of ps) ≡ b → ends_in doc (docs_of (ps ++ (doc, position) ∷ [])) ≡ true
+    go true again = ap (ends_in doc) (docs_of-again ps doc position again) ∙ again
+    go false new = ap (ends_in doc) (docs_of-new ps doc position new) ∙ ends_more doc (docs_of ps)
+
 -- a count that would pass 32 bits is the last one
 pub count_past : (ps items : List (ℕ × ℕ)) (doc position m : ℕ) → items ≡ counts_of ps → ends_in doc (docs_of ps) ≡ true → length (counts_of ps) ≡ suc m → 2 ^ 32 ≤ (get_or items m (0, 0)).1 + 1 → 2 ^ 32 ≤ last_count (by_document (ps ++ (doc, position) ∷ []))
 count_past ps items doc position m is again long past =

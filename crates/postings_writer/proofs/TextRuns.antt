@@ -9,10 +9,11 @@ use Rattle.definitions.specs.Places.{ends, greatest_from, next_start}
 use Rattle.definitions.specs.Schema.{Schema}
 use Rattle.definitions.specs.Values.{Token}
 use Rattle.definitions.specs.declared.fault.Fault.{Fault}
-use Rattle.postings_writer.specs.Occurrences.{Occurrence, by_document, last_count, places_of}
+use Rattle.postings_writer.specs.Occurrences.{Occurrence, PassesCount, places_of}
 use Rattle.postings_writer.specs.Recorders.{IsCountRefusal}
 use Rattle.postings_writer.specs.Texts.{AreWithin, CountPasses, EndsPast, IsTextRefusal, occurrence_of, text_occurrences}
 use Rattle.postings_writer.specs.Writers.{Stands, Writer}
+use Rattle.postings_writer.proofs.Groups.{ends_push}
 use Rattle.postings_writer.proofs.Standing.{places_of-push}
 
 -- ---- where tokens end
@@ -56,7 +57,7 @@ one_refused fault os doc prefix gap start t position at (inr limit) = inr (
     after = [];
     term = prefix ++ t.text;
     split = refl;
-    past = subst (λ ps. 2 ^ 32 ≤ last_count (by_document ps)) (sym here) limit.1;
+    past = subst (PassesCount doc) (sym here) (ends_push (places_of (prefix ++ t.text) os) doc position, limit.1);
   }),
 )
   where
@@ -118,7 +119,7 @@ indexed_refused fault schema was now os doc prefix gap start end num_tokens all 
       after = count.after ++ kept after;
       term = count.term;
       split = whole ∙ ap (λ ts. before.seen ++ (ts ++ kept after)) count.split ∙ ap (λ ts. before.seen ++ ts) (append_assoc count.before count.after (kept after)) ∙ sym (append_assoc before.seen count.before (count.after ++ kept after));
-      past = subst (λ xs. 2 ^ 32 ≤ last_count (by_document (places_of count.term xs))) (joined doc prefix start os before.seen count.before) count.past;
+      past = subst (λ xs. PassesCount doc (places_of count.term xs)) (joined doc prefix start os before.seen count.before) count.past;
     })
 
 -- ---- a start that was cut
@@ -156,7 +157,7 @@ cut_next gap start real end next ts is within end_is next_is = go (cut gap start
 pub cut_refused : (fault : Fault) (os : List Occurrence) (doc : ℕ) (prefix : List ℕ) (gap start real : ℕ) (ts : List Token) → start ≡ min (2 ^ 31) real → IsTextRefusal fault os doc prefix gap start ts → IsTextRefusal fault os doc prefix gap real ts
 cut_refused fault os doc prefix gap start real ts is (inl memory) = inl memory
 cut_refused fault os doc prefix gap start real [] is (inr (limit, inl past)) = inr (limit, inl past)
-cut_refused fault os doc prefix gap start real [] is (inr (limit, inr count)) = inr (limit, inr (record { before = []; after = []; term = count.term; split = refl; past = subst (λ ts. 2 ^ 32 ≤ last_count (by_document (places_of count.term (os ++ text_occurrences doc prefix start ts)))) (empty count.before count.after count.split) count.past }))
+cut_refused fault os doc prefix gap start real [] is (inr (limit, inr count)) = inr (limit, inr (record { before = []; after = []; term = count.term; split = refl; past = subst (λ ts. PassesCount doc (places_of count.term (os ++ text_occurrences doc prefix start ts))) (empty count.before count.after count.split) count.past }))
   where
     empty : (xs ys : List Token) → none ≡ xs ++ ys → xs ≡ none
     empty [] ys e = refl

@@ -1,5 +1,5 @@
 -- What is recorded, occurrence by occurrence, and the postings that it gives.
-use Rattle.std.specs.Prelude.{[], ◌∷◌, Bool, List, bytes_eq, false, filter, if◌then◌else◌, length, map, nat_eq, ℕ}
+use Rattle.std.specs.Prelude.{[], ◌^◌, ◌≡◌, ◌≤◌, ◌∷◌, Bool, List, bytes_eq, false, filter, if◌then◌else◌, length, map, nat_eq, true, ℕ}
 use Rattle.definitions.specs.Postings.{Posting}
 use Rattle.definitions.specs.Recorded.{ascending}
 use Rattle.definitions.specs.Schema.{IndexRecordOption, has_freq, has_positions}
@@ -43,6 +43,10 @@ abbrev pub ends_in : ℕ → List ℕ → Bool
 ends_in doc [] = false
 ends_in doc (d ∷ []) = nat_eq d doc
 ends_in doc (d ∷ e ∷ ds) = ends_in doc (e ∷ ds)
+
+-- the last of these places' documents is that one, and its count passes 32 bits
+abbrev pub PassesCount : ℕ → List (ℕ × ℕ) → Type 0
+PassesCount doc ps = (ends_in doc (docs_of ps) ≡ true) × (2 ^ 32 ≤ last_count (by_document ps))
 
 -- what is recorded of the places of one document
 abbrev pub posting_in : IndexRecordOption → ℕ × List ℕ → Posting

@@ -1,10 +1,10 @@
 -- The occurrences that a text gives, and why it is refused.
-use Rattle.std.specs.Prelude.{◌+◌, ◌++◌, ◌<◌, ◌^◌, ◌≡◌, ◌≤◌, ◌⊎◌, List, map, ℕ}
+use Rattle.std.specs.Prelude.{◌+◌, ◌++◌, ◌<◌, ◌^◌, ◌≡◌, ◌⊎◌, List, map, ℕ}
 use Rattle.std.specs.List.{AllByRecursion}
 use Rattle.definitions.specs.Values.{Token}
 use Rattle.definitions.specs.declared.fault.Fault.{Fault}
 use Rattle.definitions.specs.declared.fault.Fault.TheVariants as faults
-use Rattle.postings_writer.specs.Occurrences.{Occurrence, by_document, last_count, places_of}
+use Rattle.postings_writer.specs.Occurrences.{Occurrence, PassesCount, places_of}
 
 -- a token behind a term's first bytes, in a value that begins at a start
 abbrev pub occurrence_of : ℕ → List ℕ → ℕ → Token → Occurrence
@@ -26,13 +26,13 @@ AreWithin gap start ts = AllByRecursion (λ t. end_of gap start t < 2 ^ 31) ts
 abbrev pub EndsPast : ℕ → ℕ → List Token → Type 0
 EndsPast gap start ts = AllByRecursion (λ t. end_of gap start t < 2 ^ 31) ts → ⊥
 
--- a count of one of the terms passes 32 bits, when so many tokens are recorded
+-- the document's count of one of the terms passes 32 bits, when so many tokens are recorded
 pub record CountPasses (os : List Occurrence) (doc : ℕ) (prefix : List ℕ) (start : ℕ) (ts : List Token) : Type 0 where
   pub before : List Token
   pub after : List Token
   pub term : List ℕ
   pub split : ts ≡ before ++ after
-  pub past : 2 ^ 32 ≤ last_count (by_document (places_of term (os ++ text_occurrences doc prefix start before)))
+  pub past : PassesCount doc (places_of term (os ++ text_occurrences doc prefix start before))
 
 -- memory was wanting, or a limit would be passed
 abbrev pub IsTextRefusal : Fault → List Occurrence → ℕ → List ℕ → ℕ → ℕ → List Token → Type 0
