@@ -1,5 +1,5 @@
 -- What the file of an index says: one list of segments, and with one record more the list that it makes.
-use Rattle.std.proofs.Common.{[], List, Option, Some, ap, refl, subst, sym, ◌++◌, ◌∙◌, ◌∷◌, ◌≡◌, ◌≢◌, ℕ}
+use Rattle.std.proofs.Common.{[], List, Option, Some, ap, inl, inr, refl, subst, sym, ◌++◌, ◌∙◌, ◌∷◌, ◌≡◌, ◌≢◌, ℕ}
 use Rattle.std.proofs.lemmas.Option.{same_Some}
 use Rattle.std.specs.List.{AllZip, last_or}
 use Rattle.definitions.specs.Analyzers.{Analyzer}
@@ -8,8 +8,8 @@ use Rattle.definitions.specs.Settings.{Settings}
 use Rattle.definitions.specs.Values.{Document}
 use Rattle.layouts.proofs.FilesOfRecords.{files_are_indexes, files_are_whole, one_reading}
 use Rattle.layouts.specs.RecordBodies.{first_in}
-use Rattle.layouts.specs.RecordFiles.{IsDamaged, IsFile, IsNoIndex}
-use Rattle.engine.specs.Files.{BodiesLeave, IsFileOf, LeavesMembers, Rests, SayGroups}
+use Rattle.layouts.specs.RecordFiles.{IsDamaged, IsFile, IsFresh, IsNoIndex}
+use Rattle.engine.specs.Files.{BodiesLeave, IsFileOf, LeavesMembers, Rests, SayGroups, is_first}
 use Rattle.definitions.specs.Disk.{Unsynced}
 use Rattle.index_file.specs.Lists.{LeavesList}
 use Rattle.segment_definitions.proofs.OneList.{bodies_taken, one_history}
@@ -64,6 +64,14 @@ one_list s t u v m n bytes (bodies, file, l) (others, other, k) =
     let follow : AreMade (IsSegment s) [] l.later k.lists = subst (λ q. AreMade (IsSegment q) [] l.later k.lists) (sym schema) (subst (λ ls. AreMade (IsSegment t) [] ls k.lists) (sym tails) k.follow) in
     let lists : l.lists ≡ k.lists = one_history (IsSegment s) [] l.later l.lists k.lists l.follow follow in
     (schema, ap (λ (p : Schema × Settings). p.1) made, same_Some _ _ (sym l.last ∙ ap (last_or (Some [])) lists ∙ k.last))
+
+-- what may be left of a file that was being created leaves no segments
+pub fresh_leaves_none : (s : Schema) (u : Settings) (m : List Member) (bytes : List ℕ) → LeavesMembers s u m bytes → IsFresh is_first bytes → m ≡ []
+fresh_leaves_none s u m bytes (bodies, file, l) (inl none) = absurd (files_are_indexes l.first l.later bytes (subst (λ bs. IsFile bs bytes) l.are file) none)
+fresh_leaves_none s u m bytes (bodies, file, l) (inr (body, takes, one)) =
+    let both : l.first ∷ l.later ≡ body ∷ [] = sym l.are ∙ one_reading bodies (body ∷ []) bytes file one in
+    let heads : l.first ≡ body = cc in
+    (one_list s s u u m [] bytes (bodies, file, l) (body ∷ [], one, leave_first s u body (ap first_in (sym heads) ∙ l.made))).2
 
 -- ---- groups
 

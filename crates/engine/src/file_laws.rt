@@ -1,6 +1,6 @@
 //! Laws of the file of an index.
 
-ghost use Rattle.std.specs.Prelude.{[], ◌++◌, ◌<◌, ◌^◌, ◌∷◌, ◌≡◌, List, ℕ};
+ghost use Rattle.std.specs.Prelude.{[], ◌++◌, ◌<◌, ◌^◌, ◌∷◌, ◌≡◌, ◌⊎◌, IsTrue, List, ℕ};
 ghost use Rattle.std.specs.List.{AllZip};
 ghost use Rattle.definitions.specs.Analyzers.{Analyzer};
 ghost use Rattle.definitions.specs.Calls.{commit_pending};
@@ -8,9 +8,11 @@ ghost use Rattle.definitions.specs.Schema.{Schema};
 ghost use Rattle.definitions.specs.Scoring.{Similarity};
 ghost use Rattle.definitions.specs.Settings.{Settings};
 ghost use Rattle.definitions.specs.State.{added};
+ghost use Rattle.definitions.specs.Step.{configuration_of, reopened};
 ghost use Rattle.definitions.specs.Values.{Document};
-ghost use Rattle.engine.specs.Files.{IsFileOf, LeavesMembers};
-ghost use Rattle.engine.specs.Indexes.{PassesFile, gate_of, members_of};
+ghost use Rattle.engine.specs.Files.{IsFileOf, LeavesMembers, is_first};
+ghost use Rattle.engine.specs.Indexes.{CrashLeavesEither, IndexStands, IsOpened, PassesFile, analyzer_of, device_of, gate_of, members_of, schema_of, settings_of};
+ghost use Rattle.layouts.specs.RecordFiles.{IsFresh};
 ghost use Rattle.segment_definitions.specs.SegmentBodies.{Member};
 ghost use Rattle.segment_definitions.specs.SegmentFiles.{IsGroup, LeavesGroups};
 
@@ -54,4 +56,31 @@ pub fn the_least_commit_fits<D: Device, A: Analyzer>(index: &Index<D, A>)
         → ¬ PassesFile
         (record { schema = []; analyze = analyze; similarity = similarity; docs_per_segment = docs_per_segment })
         (record { groups = []; pending = added [] ∷ [] }) commit_pending index.now }
+{}
+
+/// States what a crash leaves at any moment of a commit or a merge, from `old` to `new`: `opened` on an honest device that
+/// holds it, the index stands for the groups before the call or for those after it, and for nothing else.
+pub fn a_crashed_call_leaves_one_of_two<D: Device, A: Analyzer>(
+    old: &Index<D, A>,
+    new: &Index<D, A>,
+    opened: &Index<D, A>,
+)
+    ensures { (one other : List (List Document)) (image : List ℕ) (device : D)
+        → CrashLeavesEither A.analyze old.now new.now one other
+        → D.left_since (device_of new.now) (D.moment (device_of old.now)) image
+        → IsTrue (D.honest device) → D.content device ≡ image
+        → IsOpened A.analyze (A.analyze (analyzer_of old.now)) device opened.now
+        → IndexStands A.analyze opened.now
+        (configuration_of (schema_of old.now) (A.analyze (analyzer_of old.now)) (settings_of old.now)) (reopened one)
+        ⊎ IndexStands A.analyze opened.now
+        (configuration_of (schema_of old.now) (A.analyze (analyzer_of old.now)) (settings_of old.now)) (reopened other) }
+{}
+
+/// States what is left where a crash of a `create`, or of an opening after one, leaves an index at all: `opened` on an
+/// honest device that holds it, the index stands for one without documents.
+pub fn a_crashed_create_leaves_no_documents<D: Device, A: Analyzer>(opened: &Index<D, A>)
+    ensures { (analyze : Analyzer) (image : List ℕ) (device : D) → IsFresh is_first image
+        → IsTrue (D.honest device) → D.content device ≡ image → IsOpened A.analyze analyze device opened.now
+        → IndexStands A.analyze opened.now
+        (configuration_of (schema_of opened.now) analyze (settings_of opened.now)) (reopened []) }
 {}
