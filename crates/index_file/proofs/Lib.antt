@@ -22,3 +22,4 @@ pub mod PartsTaken
 pub mod ListsMade
 pub mod BodiesTaken
 pub mod FilesRead
+pub mod FreshPlaces

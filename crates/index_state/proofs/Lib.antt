@@ -16,5 +16,9 @@ pub mod LongSlots
 pub mod MergedLists
 pub mod MergeMade
 pub mod MergedGroups
+pub mod NothingDeleted
+pub mod CutSegments
+pub mod CommitPrepared
+pub mod MergePlaces
 pub mod PendingPieces
 pub mod RecordsMade
