@@ -313,7 +313,7 @@ pub record RangeStands {A : Type 0} {a : analyzers.Ghosts A} (analyze : A → An
   pub stand : merger.StandFor index.schema (analyze index.analyzer) (zip (take (to - from) (drop from index.segments.items)) (take (to - from) (drop from index.alive.items))) rows
   pub whole : live rows ≡ joined_groups from to groups
 
-length-range : {X : Type 0} (from to : ℕ) (xs : List X) → to ≤ length xs → length (take (to - from) (drop from xs)) ≡ to - from
+pub length-range : {X : Type 0} (from to : ℕ) (xs : List X) → to ≤ length xs → length (take (to - from) (drop from xs)) ≡ to - from
 length-range from to xs l =
     let rest = length-drop from xs in
     length-take-le (to - from) (drop from xs) (omega (arith, rest, l))

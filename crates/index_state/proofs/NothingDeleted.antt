@@ -26,9 +26,9 @@ use Rattle.index_state.specs.declared.deletions.Deletion.{Deletion}
 -- ---- nothing is deleted
 
 -- a list of which a test tells that it is empty
-pub emptied : {X : Type 0} (xs : List X) (b : Bool) → b ≡ (length xs == 0) → b ≡ true → xs ≡ []
-emptied [] b is empty = refl
-emptied (x ∷ xs) b is empty = absurd (let test : (length (x ∷ xs) == 0) ≡ true = sym is ∙ empty in let none : length (x ∷ xs) ≡ 0 = grind (arith, nat_tests, test) in omega (arith, none))
+pub emptied : {X : Type 0} (xs : List X) (n : ℕ) (b : Bool) → length xs ≡ n → b ≡ (n == 0) → b ≡ true → xs ≡ []
+emptied [] n b len is empty = refl
+emptied (x ∷ xs) n b len is empty = absurd (let test : (n == 0) ≡ true = sym is ∙ empty in let none : n ≡ 0 = grind (arith, nat_tests, test) in omega (arith, len, none))
 
 -- rows stay as they are
 rows_kept : (has : List ℕ → Document → Bool) (rows : List Segment) → map (left_rows has []) rows ≡ rows

@@ -1,4 +1,4 @@
-use Rattle.std.proofs.Common.{◌∙◌}
+use Rattle.std.proofs.Common.{refl}
 use Rattle.std.proofs.lemmas.Result.{IfOk-weaker}
 use Rattle.index_state.proofs.NothingDeleted.{all_counted, all_flagged, all_left, emptied}
 use Rattle.index_state.proofs.commit_record.commit_record.Goals as goal
@@ -16,5 +16,5 @@ returns-then-is_empty-clause-each c =
 pub returns-then-is_empty-clause-rows : goal.returns-then-is_empty-clause-rows
 returns-then-is_empty-clause-rows c =
     let behind = c.record_in_place.ensures.behind in
-    let none = emptied c.args.deletions.now c.is_empty.result c.is_empty.ensures c.if-is_empty.true in
+    let none = emptied c.args.deletions.now _ _ refl c.is_empty.ensures c.if-is_empty.true in
     IfOk-weaker c.record_in_place.result _ _ (λ prepared are. all_left c.args.segments.now.items behind.0 c.record_in_place.new.segments.items c.args.alive.now prepared.alive.items behind.1 c.requires.each are c.args.deletions.now none) c.record_in_place.ensures.sets
