@@ -64,8 +64,8 @@ module _ {A : Type 0} {a : analyzers.Ghosts A} (index : IndexState A a) (from to
   -- they are opened
   pub range_known : ∥ AllByRecursion (IsOpened index.schema) index.segments.items ∥₁ → ∥ AreOpened index.schema (zip (take (to - from) (drop from segments)) (take (to - from) (drop from sets))) ∥₁
   range_known opened = ∥∥₁_map opened (λ all.
-  subst (λ ss. AreOpened index.schema (zip (take (to - from) (drop from ss)) (take (to - from) (drop from sets)))) (sym lent)
-  (subst (λ fs. AreOpened index.schema (zip (take (to - from) (drop from index.segments.items)) (take (to - from) (drop from fs)))) (sym flags) (range_opened index from (to - from) all)))
+      subst (λ ss. AreOpened index.schema (zip (take (to - from) (drop from ss)) (take (to - from) (drop from sets)))) (sym lent)
+      (subst (λ fs. AreOpened index.schema (zip (take (to - from) (drop from index.segments.items)) (take (to - from) (drop from fs)))) (sym flags) (range_opened index from (to - from) all)))
 
   -- and stand for the documents of the groups of the range
   pub range_of : (analyze : A → Analyzer) (c : calls.Configuration) (x : calls.Index) → Stands analyze index c x

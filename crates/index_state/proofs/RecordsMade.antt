@@ -116,8 +116,8 @@ open_counted schema analyze block_size (Some writer) (doc ∷ docs) h = refl
 pub pending_counted : (schema : Schema) (analyze : Analyzer) (block_size : ℕ) (pending : PendingSegments) (full : List (List Document)) (last : List Document) → Holds schema analyze block_size pending full last → num_segments_in pending ≡ length full + length (as_group last)
 pending_counted schema analyze block_size pending full last h =
     let closed = zip_length (IsFull schema analyze) full pending.full.items h.closed in
-    let open = open_counted schema analyze block_size pending.writer last h.writer in
-    omega (arith, closed, open)
+    let opened = open_counted schema analyze block_size pending.writer last h.writer in
+    omega (arith, closed, opened)
 
 -- the groups after a commit are as many as the committed and the pending segments
 pub groups_counted : {A : Type 0} {a : analyzers.Ghosts A} (analyze : A → Analyzer) (old : IndexState A a) (c : calls.Configuration) (x : calls.Index) (s : Stands analyze old c x) (p : IsPending analyze old x.state.pending)

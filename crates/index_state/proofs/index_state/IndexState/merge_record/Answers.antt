@@ -29,7 +29,7 @@ count_alive-requires g c =
     let same = ap (λ fs. length (take (to - from) (drop from fs))) c.deref.ensures.value in
     let long = length-range from to index.alive.items c.requires.within in
     let within = c.requires.within in
-    omega (arith, few, same, long, within)
+    record { few = omega (arith, few, same, long, within) }
 
 pub put_merged-requires-clause-living : goal.put_merged-requires-clause-living
 put_merged-requires-clause-living g c =
@@ -42,7 +42,7 @@ open_if_any-requires g c =
     let kept = flat_map part_bytes (kept_from c.args.to (c.len.result - c.args.to)) in
     let sets = flat_map alive_bytes c.deref-3.result.now in
     let whole = c.in_ok-frame.ensures.ok ∙ c.in_ok-framed.ensures ∙ ap (λ b. frame_bytes (b ++ sets)) c.in_ok-put_kept-2.ensures ∙ ap frame_bytes (append_assoc mid kept sets) in
-    new_known mid (kept ++ sets) c.in_ok-frame.frame whole index.schema c.in_ok-put_merged.field-0.1 c.in_ok-put_merged.ensures.put.within c.in_ok-put_merged.ensures.known
+    record { known = new_known mid (kept ++ sets) c.in_ok-frame.frame whole index.schema c.in_ok-put_merged.field-0.1 c.in_ok-put_merged.ensures.put.within c.in_ok-put_merged.ensures.known }
 
 pub returns-clause-of : goal.returns-clause-of
 returns-clause-of g c k x s =
