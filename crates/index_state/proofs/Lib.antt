@@ -9,6 +9,7 @@ pub mod Committing
 pub mod BodyMade
 pub mod Members
 pub mod PendingDocs
+pub mod NewSegments
 pub mod OpenDocs
 pub mod Parted
 pub mod Searching
