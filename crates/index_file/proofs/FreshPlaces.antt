@@ -68,17 +68,6 @@ stands_put front segment whole place room is from to =
       bytes_are = ap (λ l. bytes_at l place) rest ∙ ap₂ (slice_range (body ++ segment)) first last ∙ last_part body segment;
     }
 
--- the code of a new segment, and eight bytes behind it
-pub begun_put : (old mid new spelled : List ℕ) → 8 ≤ length old → mid ≡ old ++ 1 ∷ [] → new ≡ mid ++ spelled → drop 8 new ≡ drop 8 old ++ 1 ∷ spelled
-begun_put old mid new spelled room first second =
-    rest_put old (1 ∷ spelled) new room (second ∙ ap (λ l. l ++ spelled) first ∙ append_assoc old (1 ∷ []) spelled)
-
--- a new segment, behind its code and its length
-pub fresh_put : (old mid next new segment : List ℕ) → 8 ≤ length old → mid ≡ old ++ 1 ∷ [] → next ≡ mid ++ u64_bytes (length segment) → new ≡ next ++ segment → drop 8 new ≡ drop 8 old ++ part_bytes (fresh segment)
-fresh_put old mid next new segment room first second third =
-    let spelled = u64_bytes (length segment) in
-    begun_put old mid new (spelled ++ segment) room first (third ∙ ap (λ l. l ++ segment) second ∙ append_assoc mid spelled segment)
-
 -- ---- a length that is written late
 
 -- before the room for a length stands what stood there, and the code

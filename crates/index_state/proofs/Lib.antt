@@ -10,6 +10,7 @@ pub mod BodyMade
 pub mod Members
 pub mod PendingDocs
 pub mod NewSegments
+pub mod RecordsLaid
 pub mod OpenDocs
 pub mod Parted
 pub mod Searching

@@ -228,3 +228,12 @@ sets_opened k news old new long counted =
     let many : length were ≡ k = length-map old num_docs_of ∙ long in
     let behind : map num_docs_of (drop k new) ≡ counts = drop_counts k new ∙ ap (drop k) counted ∙ ap (λ m. drop m (were ++ counts)) (sym many) ∙ drop-append_seam were counts in
     new_counts news ∙ ap (map (λ (n : ℕ). replicate n true)) (sym behind) ∙ sym (alive_counts (drop k new))
+
+-- ---- all that is pending
+
+module _ (schema : Schema) (analyze : Analyzer) (before body : List ℕ) (full : List (List Document)) (segments : List FullSegment) (news : List NewSegment) (put : ArePut before body news) (same : map (told_at body) news ≡ map told_of segments) (closed : AllZip (IsFull schema analyze) full segments) where
+  -- full segments, and the open one behind them
+  pub all_new : (next : List ℕ) (new : NewSegment) (last : List Document) → next ≡ body ++ part_bytes (fresh (segment_at next new)) → IsNew schema analyze next last new → AllZip (IsNew schema analyze next) (full ++ last ∷ []) (news ++ new ∷ [])
+  all_new next new last whole is =
+      let still = told_next body next (part_bytes (fresh (segment_at next new))) news put.within whole in
+      zip_more (IsNew schema analyze next) full (last ∷ []) news (new ∷ []) (new_full schema analyze next full segments news (still ∙ same) closed) (is, tt)

@@ -3,7 +3,7 @@ use Rattle.std.proofs.Common.{[], ◌++◌, ◌+◌, ◌<◌, ◌^◌, ◌∙◌
 use Rattle.std.proofs.Math.Logic.{∥∥₁_elim, ∥∥₁_map}
 use Rattle.std.proofs.lemmas.List.{take_more}
 use Rattle.std.specs.List.{AllByRecursion, AllZip}
-use Rattle.std.specs.Prelude.{MatchOption}
+use Rattle.std.specs.Prelude.{MatchOption, option_to_list}
 use Rattle.definitions.proofs.Lists.{all_push}
 use Rattle.definitions.specs.Analyzers.{Analyzer}
 use Rattle.definitions.specs.Calls as calls
@@ -81,13 +81,22 @@ group_of [] some = absurd (omega (arith, some))
 group_of (doc ∷ docs) some = refl
 
 -- an open segment has these documents, and none is open where there are none
-abbrev IsOpen : Schema → Analyzer → ℕ → List Document → Option SegmentWriter → Type 0
+abbrev pub IsOpen : Schema → Analyzer → ℕ → List Document → Option SegmentWriter → Type 0
 IsOpen schema analyze block_size docs o = MatchOption o (docs ≡ []) (λ writer. (0 < length docs) × HasWritten schema analyze block_size writer docs)
+
+-- an open segment makes one group more
+pub open_counted : (schema : Schema) (analyze : Analyzer) (block_size : ℕ) (o : Option SegmentWriter) (last : List Document) → IsOpen schema analyze block_size last o → length (as_group last) ≡ length (option_to_list o)
+open_counted schema analyze block_size None last none = ap (λ ds. length (as_group ds)) none
+open_counted schema analyze block_size (Some writer) last some = ap length (group_of last some.0)
 
 module _ (schema : Schema) (analyze : Analyzer) (block_size : ℕ) (pending : PendingSegments) (full : List (List Document)) (last : List Document) (h : Holds schema analyze block_size pending full last) where
   -- a writer has the last documents, which are some
   pub writer_holds : (writer : SegmentWriter) → pending.writer ≡ Some writer → (0 < length last) × HasWritten schema analyze block_size writer last
   writer_holds writer is = subst (IsOpen schema analyze block_size last) is h.writer
+
+  -- where there is no writer there are none
+  pub writer_none : pending.writer ≡ None → last ≡ []
+  writer_none is = subst (IsOpen schema analyze block_size last) is h.writer
 
   -- as many segments are full
   pub full_counted : length full ≡ length pending.full.items
