@@ -1,5 +1,5 @@
 -- New segments in the body of a record, and in its frame.
-use Rattle.std.proofs.Common.{[], ◌++◌, ◌+◌, ◌-◌, ◌<◌, ◌∙◌, ◌∷◌, ◌≡◌, ◌≤◌, List, ap, ap₂, append_assoc, arith, drop, length, length-append, length-drop, slice_range, sym, take, ℕ}
+use Rattle.std.proofs.Common.{[], ◌++◌, ◌+◌, ◌-◌, ◌<◌, ◌∙◌, ◌∷◌, ◌≡◌, ◌≤◌, List, ap, ap₂, append_assoc, arith, drop, inl, inr, length, length-append, length-drop, slice_range, sym, take, ℕ}
 use Rattle.std.proofs.Math.Seq.{drop-append-add, take-append_seam}
 use Rattle.std.proofs.lemmas.Bool.{cases_lt}
 use Rattle.std.proofs.lemmas.List.{drop-append-le, drop-take, length-take-le, take-append-drop, take-append-le}
@@ -108,7 +108,6 @@ module _ (frame new spelled : List ℕ) (start n : ℕ) (room : 17 ≤ start) (i
       is
       ∙ ap (λ l. overwritten (start - 8) l frame) lengthy
       ∙ ap (λ k. take (start - 8) frame ++ u64_bytes (length (drop start frame)) ++ drop k frame) back
-      ∙ sym (append_assoc (take (start - 8) frame) (u64_bytes (length (drop start frame))) (drop start frame))
 
   cut_sized : length (take (start - 8) frame) ≡ start - 8
   cut_sized = length-take-le (start - 8) frame (omega (arith, inside))

@@ -23,20 +23,12 @@ use Rattle.index_state.proofs.BodyMade.{length-kept, parts_more}
 use Rattle.index_state.proofs.PendingDocs.{got_at}
 use Rattle.index_state.specs.Bodies.{kept_from, next_parts}
 use Rattle.index_state.specs.Merges.{all_alive}
-use Rattle.index_state.specs.NewSegments.{AreKnown, ArePut, AreWithin, IsKnownIn, IsNew, segment_at, segment_in}
+use Rattle.index_state.specs.NewSegments.{AreKnown, ArePut, AreWithin, IsKnownIn, IsNew, segment_at, segment_in, told_at, told_of}
 use Rattle.index_state.specs.Pending.{IsFull}
 use Rattle.index_state.specs.declared.new_segments.NewSegment.{NewSegment}
 use Rattle.index_state.specs.declared.pending_segments.FullSegment.{FullSegment}
 
 -- ---- put into a body
-
--- the bytes of a new segment, and how many documents it has
-abbrev pub told_at : List ℕ → NewSegment → List ℕ × ℕ
-told_at body new = (segment_at body new, new.num_docs)
-
--- those of a full segment
-abbrev pub told_of : FullSegment → List ℕ × ℕ
-told_of segment = (segment.bytes, segment.num_docs)
 
 -- what was put stands there still when more is put behind it
 there_still : (body more : List ℕ) (news : List NewSegment) → AreWithin body news → map (segment_at (body ++ more)) news ≡ map (segment_at body) news

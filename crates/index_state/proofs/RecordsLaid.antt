@@ -46,6 +46,14 @@ no_limit r schema pending is = err_has r faults.OutOfMemory (LastPasses schema p
 abbrev pub AreEncoded : Schema → PendingSegments → List ℕ → List NewSegment → Type 0
 AreEncoded schema pending body news = (analyze : Analyzer) (block_size : ℕ) (full : List (List Document)) (last : List Document) → Holds schema analyze block_size pending full last → AllZip (IsNew schema analyze body) (full ++ as_group last) news
 
+-- new segments are opened behind others
+abbrev pub OpensAll : Schema → List ℕ → List NewSegment → List code.Segment → List code.Segment → Type 0
+OpensAll schema frame news old new = (analyze : Analyzer) (docs some : List (List Document)) → AllZip (StandsFor schema analyze) docs old → AllZip (IsNewIn schema analyze frame) some news → AllZip (StandsFor schema analyze) (docs ++ some) new
+
+-- or some of them
+abbrev pub OpensSome : Schema → List ℕ → List NewSegment → List code.Segment → List code.Segment → Type 0
+OpensSome schema frame news old new = (analyze : Analyzer) (docs some : List (List Document)) → AllZip (StandsFor schema analyze) docs old → AllZip (IsNewIn schema analyze frame) some news → (first : List (List Document)) × AllZip (StandsFor schema analyze) (docs ++ first) new
+
 module _ (schema : Schema) (pending : PendingSegments) (body more frame : List ℕ) (news : List NewSegment) (old new : List code.Segment) (framed : frame ≡ frame_bytes (body ++ more)) (within : AreWithin body news) (encoded : AreEncoded schema pending body news) where
   -- opened over their bytes all of them stand behind
   pub all_behind : ((analyze : Analyzer) (docs some : List (List Document)) → AllZip (StandsFor schema analyze) docs old → AllZip (IsNewIn schema analyze frame) some news → AllZip (StandsFor schema analyze) (docs ++ some) new) → StandBehind schema pending old new
@@ -79,5 +87,5 @@ closed_counted schema pending closed held closes = ∥∥₁_elim held (hlevel p
     let were = full_counted schema h.0 h.1 pending full last holds in
     let are = full_counted schema h.0 h.1 closed (full ++ as_group last) [] after in
     let both = length-append full (as_group last) in
-    let open = open_counted schema h.0 h.1 pending.writer last holds.writer in
-    omega (arith, were, are, both, open))
+    let opened = open_counted schema h.0 h.1 pending.writer last holds.writer in
+    omega (arith, were, are, both, opened))

@@ -1,7 +1,7 @@
 use Rattle.std.proofs.Common.{[], List, ap, map, refl, subst, sym, ◌++◌, ◌∙◌, ◌∷◌, ◌≡◌, ℕ}
 use Rattle.segment_definitions.specs.SegmentBodies.{fresh, part_bytes}
-use Rattle.index_state.proofs.NewSegments.{put_more, put_none, told_at, told_more, told_of}
-use Rattle.index_state.specs.NewSegments.{ArePut}
+use Rattle.index_state.proofs.NewSegments.{put_more, put_none, told_more}
+use Rattle.index_state.specs.NewSegments.{ArePut, told_at, told_of}
 use Rattle.index_state.specs.declared.new_segments.NewSegment.{NewSegment}
 use Rattle.index_state.proofs.new_segments.put_full.Goals as goal
 

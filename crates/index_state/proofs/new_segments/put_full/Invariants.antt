@@ -1,7 +1,6 @@
 -- Those so far stand in the body one behind another, and they and those left are told like all of them.
 use Rattle.std.proofs.Common.{length, map, ◌++◌, ◌≡◌}
-use Rattle.index_state.proofs.NewSegments.{told_at, told_of}
-use Rattle.index_state.specs.NewSegments.{ArePut}
+use Rattle.index_state.specs.NewSegments.{ArePut, told_at, told_of}
 use Rattle.index_state.proofs.new_segments.put_full.Given as goal
 
 abbrev pub invariant-loop-segment : goal.invariant-loop-segment

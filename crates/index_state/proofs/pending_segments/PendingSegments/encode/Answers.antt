@@ -69,10 +69,10 @@ returns-clause-known c =
     let put = c.in_ok-put_open.field-0 in
     let schema = c.args.schema.now in
     ∥∥₁_map c.requires.held (λ h.
-      let w = writer_holds schema h.0 h.1 c.args.self h.2.0 h.2.1 h.2.2 c.in-Some.writer c.in-Some.is in
-      let is = c.in_ok-put_open.ensures.ok h.0 h.1 h.2.1 w.1 in
-      let all = all_new schema h.0 c.args.body c.put_full.new.body h.2.0 c.args.self.full.items c.in_ok-news.news.items c.in_ok-news.ensures.put c.in_ok-news.ensures.same h.2.2.closed put.0 put.1 h.2.1 c.in_ok-put_open.ensures.put is in
-      subst (AreKnown schema put.0) (sym c.in_ok-push.ensures.items) (new_known schema h.0 put.0 (h.2.0 ++ h.2.1 ∷ []) (c.in_ok-news.news.items ++ put.1 ∷ []) all))
+    let w = writer_holds schema h.0 h.1 c.args.self h.2.0 h.2.1 h.2.2 c.in-Some.writer c.in-Some.is in
+    let is = c.in_ok-put_open.ensures.ok h.0 h.1 h.2.1 w.1 in
+    let all = all_new schema h.0 c.args.body c.put_full.new.body h.2.0 c.args.self.full.items c.in_ok-news.news.items c.in_ok-news.ensures.put c.in_ok-news.ensures.same h.2.2.closed put.0 put.1 h.2.1 c.in_ok-put_open.ensures.put is in
+    subst (AreKnown schema put.0) (sym c.in_ok-push.ensures.items) (new_known schema h.0 put.0 (h.2.0 ++ h.2.1 ∷ []) (c.in_ok-news.news.items ++ put.1 ∷ []) all))
 
 pub returns-clause-ok : goal.returns-clause-ok
 returns-clause-ok c analyze block_size full last h =
