@@ -20,7 +20,6 @@ use Rattle.segment_definitions.specs.SegmentBodies.{fresh, part_bytes, segments_
 use Rattle.segment_definitions.specs.Segments.{IsSegment, IsSegmentOf}
 use Rattle.segment_search.proofs.Places.{zip_length, zip_more}
 use Rattle.index_state.proofs.BodyMade.{length-kept, parts_more}
-use Rattle.index_state.proofs.PendingDocs.{got_at}
 use Rattle.index_state.specs.Bodies.{kept_from, next_parts}
 use Rattle.index_state.specs.Merges.{all_alive}
 use Rattle.index_state.specs.NewSegments.{AreKnown, ArePut, AreWithin, IsKnownIn, IsNew, segment_at, segment_in, told_at, told_of}
@@ -167,35 +166,43 @@ frame_put begun kept body frame sets k n news old new begins count kept_is are f
 -- ---- opened
 
 -- where one more stands for its place in another list
-pub map_next : {X Y Z : Type 0} (f : X → Z) (g : Y → Z) (old was : List X) (s : X) (ys : List Y) (i : ℕ) (y : Y) → i < length ys → y ≡ get_or ys i y → map f was ≡ map f old ++ map g (take i ys) → f s ≡ g y → map f (was ++ s ∷ []) ≡ map f old ++ map g (take (i + 1) ys)
-map_next {X} {Y} {Z} f g old was s ys i y inside here so same =
-    let next : take i ys ++ y ∷ [] ≡ take (i + 1) ys = ap (λ (z : Y). take i ys ++ z ∷ []) here ∙ sym (take_more ys i y inside) in
+pub map_next : {X Y Z : Type 0} (f : X → Z) (g : Y → Z) (old was : List X) (s : X) (ys : List Y) (i : ℕ) (d : Y) → i < length ys → map f was ≡ map f old ++ map g (take i ys) → f s ≡ g (get_or ys i d) → map f (was ++ s ∷ []) ≡ map f old ++ map g (take (i + 1) ys)
+map_next {X} {Y} {Z} f g old was s ys i d inside so same =
+    let y = get_or ys i d in
     map-append f was (s ∷ [])
     ∙ ap₂ (λ (zs : List Z) (z : Z). zs ++ z ∷ []) so same
     ∙ append_assoc (map f old) (map g (take i ys)) (g y ∷ [])
     ∙ ap (λ (zs : List Z). map f old ++ zs) (sym (map-append g (take i ys) (y ∷ [])))
-    ∙ ap (λ (zs : List Y). map f old ++ map g zs) next
+    ∙ ap (λ (zs : List Y). map f old ++ map g zs) (sym (take_more ys i d inside))
+
+-- what stands at a place stands for what stands there
+got_both : {X Y : Type 0} (R : X → Y → Type 0) (xs : List X) (ys : List Y) (i : ℕ) (d : X) (e : Y) → AllZip R xs ys → i < length ys → R (get_or xs i d) (get_or ys i e)
+got_both R [] [] i d e h l = absurd (omega (arith, l))
+got_both R [] (y ∷ ys) i d e h l = absurd h
+got_both R (x ∷ xs) [] i d e h l = absurd h
+got_both R (x ∷ xs) (y ∷ ys) zero d e h l = h.0
+got_both R (x ∷ xs) (y ∷ ys) (suc i) d e h l = got_both R xs ys i d e h.1 (omega (arith, l))
 
 -- one more is opened, behind those of the documents so far
-pub new_opened : (schema : Schema) (analyze : Analyzer) (frame : List ℕ) (some : List (List Document)) (news : List NewSegment) (i : ℕ) (new : NewSegment) (docs : List (List Document)) (was : List code.Segment) (s : code.Segment) → AllZip (IsNewIn schema analyze frame) some news → i < length news → new ≡ get_or news i new
-    → AllZip (StandsFor schema analyze) (docs ++ take i some) was → IsOpened schema s → bytes_of s ≡ segment_in frame new → AllZip (StandsFor schema analyze) (docs ++ take (i + 1) some) (was ++ s ∷ [])
-new_opened schema analyze frame some news i new docs was s are inside here before opened same =
+pub new_opened : (schema : Schema) (analyze : Analyzer) (frame : List ℕ) (some : List (List Document)) (news : List NewSegment) (i : ℕ) (d : NewSegment) (docs : List (List Document)) (was : List code.Segment) (s : code.Segment) → AllZip (IsNewIn schema analyze frame) some news → i < length news
+    → AllZip (StandsFor schema analyze) (docs ++ take i some) was → IsOpened schema s → bytes_of s ≡ segment_in frame (get_or news i d) → AllZip (StandsFor schema analyze) (docs ++ take (i + 1) some) (was ++ s ∷ [])
+new_opened schema analyze frame some news i d docs was s are inside before opened same =
     let one = get_or some i [] in
     let many = zip_length (IsNewIn schema analyze frame) some news are in
-    let is : IsNewIn schema analyze frame one new = got_at (IsNewIn schema analyze frame) some news i [] new are inside here in
+    let is : IsNewIn schema analyze frame one (get_or news i d) = got_both (IsNewIn schema analyze frame) some news i [] d are inside in
     let stands : StandsFor schema analyze one s = record { opened = opened; bytes_are = subst (IsSegmentOf schema analyze one) (sym same) is } in
     let next = zip_more (StandsFor schema analyze) (docs ++ take i some) (one ∷ []) was (s ∷ []) before (stands, tt) in
     let docs_are : (docs ++ take i some) ++ one ∷ [] ≡ docs ++ take (i + 1) some = append_assoc docs (take i some) (one ∷ []) ∙ ap (λ (ds : List (List Document)). docs ++ ds) (sym (take_more some i [] (omega (arith, inside, many)))) in
     subst (λ ds. AllZip (StandsFor schema analyze) ds (was ++ s ∷ [])) docs_are next
 
 -- one that is known at a place
-pub known_at : (schema : Schema) (frame : List ℕ) (news : List NewSegment) (i : ℕ) (new : NewSegment) → ∥ AllByRecursion (IsKnownIn schema frame) news ∥₁ → i < length news → new ≡ get_or news i new → ∥ IsKnownIn schema frame new ∥₁
-known_at schema frame news i new known inside here = ∥∥₁_map known (λ are. got news i are inside here)
+pub known_at : (schema : Schema) (frame : List ℕ) (news : List NewSegment) (i : ℕ) (d : NewSegment) → ∥ AllByRecursion (IsKnownIn schema frame) news ∥₁ → i < length news → ∥ IsKnownIn schema frame (get_or news i d) ∥₁
+known_at schema frame news i d known inside = ∥∥₁_map known (λ are. got news i are inside)
   where
-    got : (news : List NewSegment) (i : ℕ) → AllByRecursion (IsKnownIn schema frame) news → i < length news → new ≡ get_or news i new → IsKnownIn schema frame new
-    got [] i are inside here = absurd (omega (arith, inside))
-    got (n ∷ news) zero are inside here = subst (IsKnownIn schema frame) (sym here) are.0
-    got (n ∷ news) (suc i) are inside here = got news i are.1 (omega (arith, inside)) here
+    got : (news : List NewSegment) (i : ℕ) → AllByRecursion (IsKnownIn schema frame) news → i < length news → IsKnownIn schema frame (get_or news i d)
+    got [] i are inside = absurd (omega (arith, inside))
+    got (n ∷ news) zero are inside = are.0
+    got (n ∷ news) (suc i) are inside = got news i are.1 (omega (arith, inside))
 
 -- ---- the alive sets of new segments
 

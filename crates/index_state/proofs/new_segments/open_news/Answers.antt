@@ -11,7 +11,7 @@ use Rattle.index_state.proofs.new_segments.open_news.Goals as goal
 
 pub open_new-requires : goal.open_new-requires
 open_new-requires c =
-    record { known = known_at c.args.schema.now c.args.frame.now c.args.news.now c.loop-new.new-index c.new-item.result c.requires.known c.loop-new-test.true c.new-item.is }
+    record { known = known_at c.args.schema.now c.args.frame.now c.args.news.now c.loop-new.new-index _ c.requires.known c.loop-new-test.true }
 
 pub loop-new-preserved : goal.loop-new-preserved
 loop-new-preserved c =
@@ -19,9 +19,7 @@ loop-new-preserved c =
     let frame = c.args.frame.now in
     let news = c.args.news.now in
     let i = c.loop-new.new-index in
-    let new = c.new-item.result in
     let inside : i < length news = c.loop-new-test.true in
-    let here = c.new-item.is in
     let old = c.args.segments.now.items in
     let was = c.loop-new.segments.items in
     let segment = c.in_ok-segment.segment in
@@ -32,9 +30,9 @@ loop-new-preserved c =
     record {
       opened = λ all. opened_more schema was c.push.new.self.items segment (invariant.opened all) opened pushed;
       behind = (invariant.behind.0 ++ segment ∷ [], pushed ∙ (ap (λ ss. ss ++ segment ∷ []) invariant.behind.1 ∙ append_assoc old invariant.behind.0 (segment ∷ [])));
-      bytes = ap (map bytes_of) pushed ∙ map_next bytes_of (segment_in frame) old was segment news i new inside here invariant.bytes same;
-      counted = ap (map num_docs_of) pushed ∙ map_next num_docs_of (λ (n : NewSegment). n.num_docs) old was segment news i new inside here invariant.counted c.in_ok-segment.ensures.counted;
-      stand = λ analyze docs some stand are. subst (AllZip (StandsFor schema analyze) (docs ++ take (i + 1) some)) (sym pushed) (new_opened schema analyze frame some news i new docs was segment are inside here (invariant.stand analyze docs some stand are) opened same);
+      bytes = ap (map bytes_of) pushed ∙ map_next bytes_of (segment_in frame) old was segment news i _ inside invariant.bytes same;
+      counted = ap (map num_docs_of) pushed ∙ map_next num_docs_of (λ (n : NewSegment). n.num_docs) old was segment news i _ inside invariant.counted c.in_ok-segment.ensures.counted;
+      stand = λ analyze docs some stand are. subst (AllZip (StandsFor schema analyze) (docs ++ take (i + 1) some)) (sym pushed) (new_opened schema analyze frame some news i _ docs was segment are inside (invariant.stand analyze docs some stand are) opened same);
     }
 
 pub returns-in_err-segment-clause-err : goal.returns-in_err-segment-clause-err

@@ -16,13 +16,14 @@ taken_within n bytes front taken count = elim (cases_lt (length bytes) n) [
   | inr within ↦ within
 ]
 
-pub end_fresh-requires-clause-room : goal.end_fresh-requires-clause-room
-end_fresh-requires-clause-room c = (let room = c.in_ok-prefix.ensures.room in let len = c.len-start.ensures in omega (arith, room, len))
+pub end_fresh-body-requires-clause-room : goal.end_fresh-body-requires-clause-room
+end_fresh-body-requires-clause-room c = (let room = c.in_ok-prefix.ensures.room in let len = c.len-start.ensures ∙ c.in_ok-prefix.prefix.ok.0 in omega (arith, room, len))
 
-pub end_fresh-requires-clause-within : goal.end_fresh-requires-clause-within
-end_fresh-requires-clause-within c =
+pub end_fresh-body-requires-clause-within : goal.end_fresh-body-requires-clause-within
+end_fresh-body-requires-clause-within c =
     let front = c.in_ok-frame.ensures.front in
-    taken_within c.len-start.result c.in_ok-frame.frame.items c.in_ok-prefix.prefix.items (ap (λ n. take n c.in_ok-frame.frame.items) c.len-start.ensures ∙ front) c.len-start.ensures
+    let len = c.len-start.ensures ∙ c.in_ok-prefix.prefix.ok.0 in
+    taken_within c.len-start.result c.in_ok-frame.frame.items c.in_ok-prefix.prefix.items (ap (λ n. take n c.in_ok-frame.frame.items) len ∙ front) len
 
 pub returns-in_err-frame-clause-err : goal.returns-in_err-frame-clause-err
 returns-in_err-frame-clause-err c =
@@ -39,16 +40,16 @@ returns-in_err-frame-clause-limit c analyze block_size docs written =
 pub returns-clause-put : goal.returns-clause-put
 returns-clause-put c =
     let bytes = c.in_ok-frame.frame.items in
-    let started : take c.len-start.result bytes ≡ c.in_ok-prefix.prefix.items = ap (λ n. take n bytes) c.len-start.ensures ∙ c.in_ok-frame.ensures.front in
-    c.end_fresh.ensures.put c.args.body (ap (λ (l : List ℕ). drop 8 l) started ∙ c.in_ok-prefix.ensures.begun)
-    ∙ ap (λ s. c.args.body ++ part_bytes (fresh s)) (sym c.end_fresh.ensures.place.bytes_are)
+    let started : take c.len-start.result bytes ≡ c.in_ok-prefix.prefix.items = ap (λ n. take n bytes) (c.len-start.ensures ∙ c.in_ok-prefix.prefix.ok.0) ∙ c.in_ok-frame.ensures.front in
+    c.end_fresh-body.ensures.put c.args.body (ap (λ (l : List ℕ). drop 8 l) started ∙ c.in_ok-prefix.ensures.begun)
+    ∙ ap (λ s. c.args.body ++ part_bytes (fresh s)) (sym c.end_fresh-body.ensures.place.bytes_are)
 
 pub returns-clause-within : goal.returns-clause-within
-returns-clause-within c = (c.end_fresh.ensures.place.forward, c.end_fresh.ensures.place.within)
+returns-clause-within c = (c.end_fresh-body.ensures.place.forward, c.end_fresh-body.ensures.place.within)
 
 pub returns-clause-ok : goal.returns-clause-ok
 returns-clause-ok c analyze block_size docs written =
     let bytes = c.in_ok-frame.frame.items in
     let schema = c.args.schema.now in
-    let from = ap (λ n. drop n bytes) c.len-start.ensures in
-    (subst (IsSegmentOf schema analyze docs) (sym from ∙ sym c.end_fresh.ensures.place.bytes_are) (c.in_ok-frame.ensures.ok analyze block_size docs written), c.num_docs.ensures schema analyze block_size docs written)
+    let from = ap (λ n. drop n bytes) (c.len-start.ensures ∙ c.in_ok-prefix.prefix.ok.0) in
+    (subst (IsSegmentOf schema analyze docs) (sym from ∙ sym c.end_fresh-body.ensures.place.bytes_are) (c.in_ok-frame.ensures.ok analyze block_size docs written), c.num_docs-num_docs.ensures schema analyze block_size docs written)
