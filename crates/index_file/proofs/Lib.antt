@@ -10,6 +10,7 @@ pub mod PlainData
 pub mod PartsBack
 pub mod SetsBack
 pub mod BodiesBack
+pub mod FreshPlaces
 pub mod PlacesFollow
 pub mod FilesCut
 -- Lemmas behind what makes and opens an index.
@@ -22,4 +23,3 @@ pub mod PartsTaken
 pub mod ListsMade
 pub mod BodiesTaken
 pub mod FilesRead
-pub mod FreshPlaces

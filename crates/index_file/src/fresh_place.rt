@@ -21,6 +21,7 @@ impl FreshPlace {
         requires within { 8 + self.now.end ≤ length frame.now }
         ensures { IfOk result (λ bytes. bytes ≡ framed_at frame.now self.now) }
     {
+        let _bytes = frame.len();
         frame.slice(LENGTH_BYTES + self.start..LENGTH_BYTES + self.end)
     }
 }

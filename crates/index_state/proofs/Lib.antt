@@ -9,6 +9,8 @@ pub mod Committing
 pub mod BodyMade
 pub mod Members
 pub mod PendingDocs
+pub mod NewSegments
+pub mod RecordsLaid
 pub mod OpenDocs
 pub mod Parted
 pub mod Searching
