@@ -150,6 +150,7 @@ new_stands schema analyze body frame (Some new) (Some s) docs opened bytes same 
     head : List (List ℕ) → List ℕ
     head [] = []
     head (xs ∷ rest) = xs
+
     first_of : (xs ys : List ℕ) → xs ∷ [] ≡ ys ∷ [] → xs ≡ ys
     first_of xs ys e = ap head e
 

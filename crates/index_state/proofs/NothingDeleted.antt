@@ -12,7 +12,7 @@ use Rattle.segment.specs.Opened.{StandsFor, num_docs_of}
 use Rattle.segment.specs.declared.segment.Segment as code
 use Rattle.segment_definitions.proofs.Deletings.{left_end}
 use Rattle.segment_definitions.specs.Rows.{flagged, left_rows}
-use Rattle.segment_definitions.specs.Waiting.{Numbered, numbered_rows, pending_rows}
+use Rattle.segment_definitions.specs.Waiting.{numbered_rows, pending_rows}
 use Rattle.segment_search.proofs.Places.{zip_length}
 use Rattle.segment_search.proofs.RowsRead.{docs_counted}
 use Rattle.index_state.proofs.MergedGroups.{flagged_alive, flagged_both}

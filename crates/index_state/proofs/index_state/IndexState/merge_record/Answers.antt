@@ -1,4 +1,4 @@
-use Rattle.std.proofs.Common.{List, ap, append_assoc, arith, drop, flat_map, length, map, refl, sum_by, sym, take, ◌+◌, ◌++◌, ◌-◌, ◌∙◌, ◌≡◌, [], ℕ}
+use Rattle.std.proofs.Common.{ap, append_assoc, arith, drop, flat_map, length, map, sum_by, sym, take, ◌+◌, ◌++◌, ◌-◌, ◌∙◌, ◌≡◌}
 use Rattle.std.proofs.lemmas.List.{length-map}
 use Rattle.std.specs.Prelude.{option_to_list}
 use Rattle.common.specs.BitSets.{count_set}
@@ -8,9 +8,8 @@ use Rattle.segment.specs.Opened.{bytes_of}
 use Rattle.segment_definitions.specs.SegmentBodies.{part_bytes, segments_body}
 use Rattle.index_state.proofs.MergePlaces.{counted_if, merge_written, new_known, new_stands, same_places}
 use Rattle.index_state.proofs.MergedGroups.{length-range}
-use Rattle.index_state.proofs.Outcomes.{err_has}
 use Rattle.index_state.specs.Bodies.{kept_from, merged_parts}
-use Rattle.index_state.specs.Merges.{MergePasses, all_alive, joined_groups, replaced}
+use Rattle.index_state.specs.Merges.{all_alive, joined_groups, replaced}
 use Rattle.index_state.specs.NewSegments.{segment_at}
 use Rattle.index_state.proofs.index_state.IndexState.merge_record.Goals as goal
 

@@ -1,4 +1,4 @@
-use Rattle.std.proofs.Common.{List, ap, arith, false, inl, inr, length, map, refl, subst, sym, ⊎_elim, ◌+◌, ◌++◌, ◌∙◌, ◌<◌, ◌^◌, ◌≡◌, ◌≤◌, ◌⊎◌, ℕ}
+use Rattle.std.proofs.Common.{List, ap, arith, false, inl, inr, length, map, refl, subst, sym, ⊎_elim, ◌+◌, ◌++◌, ◌∙◌, ◌<◌, ◌^◌, ◌≡◌, ◌⊎◌, ℕ}
 use Rattle.std.proofs.Math.Logic.{∥∥₁_map}
 use Rattle.std.proofs.lemmas.Grind.{merely}
 use Rattle.std.proofs.lemmas.Result.{IfErr-at_err, IfErr-weaker, IfOk-at_ok}
@@ -15,20 +15,19 @@ use Rattle.segment_definitions.specs.Segments.{IsSegment}
 use Rattle.segment_search.proofs.Flagging.{flagged_within}
 use Rattle.segment_search.proofs.Places.{zip_length}
 use Rattle.index_state.proofs.BodyMade.{members_behind}
-use Rattle.index_state.proofs.CommitPrepared.{all_behind, cut_stands, last_passes, some_behind}
+use Rattle.index_state.proofs.CommitPrepared.{all_behind, last_passes, some_behind}
 use Rattle.index_state.proofs.Committing.{commit_body, half_left, next_rows, prepared_stands, refused_left}
 use Rattle.index_state.proofs.CutSegments.{cut_counted, cut_flagged, cut_members, cut_opened, cut_whole}
 use Rattle.index_state.proofs.Outcomes.{commit_taken, if_err, if_ok, ready_of, writer_is_not_ready}
 use Rattle.index_state.proofs.RecordsMade.{commit_says, groups_counted}
 use Rattle.index_state.proofs.Standings.{all_docs, all_opened_for, flagged_behind, groups_more, opened_each, sets_within, stands_stopped}
 use Rattle.index_state.specs.CommitRecords.{LastPasses, LeavesRows, SomeStandBehind, StandBehind, commit_frame_bytes}
-use Rattle.index_state.specs.Commits.{IsPrepared, frame_in, sets_in}
+use Rattle.index_state.specs.Commits.{frame_in, sets_in}
 use Rattle.index_state.specs.Deletions.{numbered}
 use Rattle.index_state.specs.Flags.{AreFlagged, members}
-use Rattle.index_state.specs.Limits.{TermsPass}
-use Rattle.index_state.specs.Pending.{HoldsSome, num_segments_in, open_docs}
+use Rattle.index_state.specs.Pending.{HoldsSome, num_segments_in}
 use Rattle.index_state.specs.Records.{IsCommitBody}
-use Rattle.index_state.specs.Standing.{Stands, members_of, status_of}
+use Rattle.index_state.specs.Standing.{members_of, status_of}
 use Rattle.index_state.specs.declared.prepared.Prepared.{Prepared}
 use Rattle.index_state.proofs.index_state.IndexState.prepare.Goals as goal
 
@@ -40,8 +39,8 @@ returns-in_err-check_writer-clause-left g c k x s =
 
 -- ---- too many segments
 
-pub invariant_of-self-2 : goal.invariant_of-self-2
-invariant_of-self-2 g c =
+pub invariant_of-self : goal.invariant_of-self
+invariant_of-self g c =
     let old = c.args.self.now in
     let cut = c.truncate.new.self.items in
     let counted : c.len.result ≡ length old.alive.items = c.len.ensures ∙ old.alive.ok.0 in
@@ -52,30 +51,29 @@ invariant_of-self-2 g c =
       few = old.few;
     }
 
-pub returns-then-num_segments-gt-sub-clause-left : goal.returns-then-num_segments-gt-sub-clause-left
-returns-then-num_segments-gt-sub-clause-left g c k x s =
+pub returns-then-num_segments-len-clause-left : goal.returns-then-num_segments-len-clause-left
+returns-then-num_segments-len-clause-left g c k x s =
     let old = c.args.self.now in
     let cut = c.truncate.new.self.items in
     let counted : c.len.result ≡ length old.alive.items = c.len.ensures ∙ old.alive.ok.0 in
     let none = ap (λ status. calls.status_fault status false) s.status ∙ sym c.check_writer.ensures.value ∙ ap result_err c.in_ok-check_writer.was in
     let p = s.pending (ready_of x.status none) in
     let whole = cut_whole old.segments.items cut old.alive.items c.len.result c.truncate.ensures.items counted in
-    let few = sets_within old.schema (g.A.Analyzer.analyze old.analyzer) s.docs old.segments.items old.alive.items s.segments old.flagged in
     half_left g.A.Analyzer.analyze old _ (record { analyzer = refl; schema = refl; settings = refl }) k x s faults.Limit (inr refl) none refl refl s.docs (subst (AllZip (StandsFor old.schema (g.A.Analyzer.analyze old.analyzer)) s.docs) (sym (whole p.committed)) s.segments) s.groups calls.commit_pending (commit_taken k x none) refl
 
-pub returns-then-num_segments-gt-sub-clause-limit : goal.returns-then-num_segments-gt-sub-clause-limit
-returns-then-num_segments-gt-sub-clause-limit g c k x s is =
+pub returns-then-num_segments-len-clause-limit : goal.returns-then-num_segments-len-clause-limit
+returns-then-num_segments-len-clause-limit g c k x s is =
     let old = c.args.self.now in
     let none = ap (λ status. calls.status_fault status false) s.status ∙ sym c.check_writer.ensures.value ∙ ap result_err c.in_ok-check_writer.was in
     let p = s.pending (ready_of x.status none) in
     let groups = groups_counted g.A.Analyzer.analyze old k x s p in
-    let most = c.if-num_segments-gt-sub.true in
+    let most = c.if-num_segments-len.true in
     let pending = c.num_segments.ensures in
     let len = c.len-2.ensures ∙ old.alive.ok.0 in
     inr (omega (arith, groups, most, pending, len))
 
-pub returns-then-num_segments-gt-sub-clause-members : goal.returns-then-num_segments-gt-sub-clause-members
-returns-then-num_segments-gt-sub-clause-members g c =
+pub returns-then-num_segments-len-clause-members : goal.returns-then-num_segments-len-clause-members
+returns-then-num_segments-len-clause-members g c =
     let old = c.args.self.now in
     let cut = c.truncate.new.self.items in
     let counted : c.len.result ≡ length old.alive.items = c.len.ensures ∙ old.alive.ok.0 in
@@ -107,7 +105,7 @@ commit_record-requires-clause-each g c =
 pub commit_record-requires-clause-few : goal.commit_record-requires-clause-few
 commit_record-requires-clause-few g c =
     let old = c.args.self.now in
-    let most = c.if-num_segments-gt-sub.false in
+    let most = c.if-num_segments-len.false in
     let pending = c.num_segments.ensures in
     let same = ap num_segments_in c.replace.ensures.value in
     let sets = ap length c.deref.ensures.value in
@@ -115,8 +113,8 @@ commit_record-requires-clause-few g c =
     let few = old.few in
     omega (arith, most, pending, same, sets, len, few)
 
-pub invariant_of-self-3 : goal.invariant_of-self-3
-invariant_of-self-3 g c =
+pub invariant_of-self-2 : goal.invariant_of-self-2
+invariant_of-self-2 g c =
     let old = c.args.self.now in
     let cut = c.truncate.new.self.items in
     let counted : c.len.result ≡ length old.alive.items = c.len.ensures ∙ old.alive.ok.0 in
@@ -160,7 +158,6 @@ returns-clause-limit g c k x s =
     let none = ap (λ status. calls.status_fault status false) s.status ∙ sym c.check_writer.ensures.value ∙ ap result_err c.in_ok-check_writer.was in
     let p = s.pending (ready_of x.status none) in
     let whole = cut_whole old.segments.items cut old.alive.items c.len.result c.truncate.ensures.items counted in
-    let few = sets_within old.schema (g.A.Analyzer.analyze old.analyzer) s.docs old.segments.items old.alive.items s.segments old.flagged in
     let segments = c.commit_record.new.segments.items in
     let r = c.commit_record.result in
     if_err r _ (λ fault is limit. inl (last_passes g.A.Analyzer.analyze old k x s p cut segments c.replace.result whole c.replace.ensures.value fault (IfErr-at_err (LastPasses old.schema c.replace.result) is c.commit_record.ensures.limit) limit))
@@ -194,7 +191,6 @@ returns-clause-prepared g c k x s =
     let none = ap (λ status. calls.status_fault status false) s.status ∙ sym c.check_writer.ensures.value ∙ ap result_err c.in_ok-check_writer.was in
     let p = s.pending (ready_of x.status none) in
     let whole = cut_whole old.segments.items cut old.alive.items c.len.result c.truncate.ensures.items counted in
-    let few = sets_within old.schema (g.A.Analyzer.analyze old.analyzer) s.docs old.segments.items old.alive.items s.segments old.flagged in
     let segments = c.commit_record.new.segments.items in
     let r = c.commit_record.result in
     let v = all_docs g.A.Analyzer.analyze old k x s p in
@@ -220,7 +216,7 @@ returns-clause-few g c =
     (let each = IfOk-at_ok (λ (q : Prepared). length (sets_in q) ≡ length segments) is c.commit_record.ensures.each in
     let count = IfOk-at_ok (λ (q : Prepared). length segments ≡ length cut + num_segments_in c.replace.result) is c.commit_record.ensures.count in
     let first = cut_counted old.segments.items cut old.alive.items c.len.result c.truncate.ensures.items counted old.flagged in
-    let most = c.if-num_segments-gt-sub.false in
+    let most = c.if-num_segments-len.false in
     let pending = c.num_segments.ensures in
     let same = ap num_segments_in c.replace.ensures.value in
     let len = c.len-2.ensures ∙ old.alive.ok.0 in
@@ -235,7 +231,6 @@ returns-clause-body g c k x s =
     let none = ap (λ status. calls.status_fault status false) s.status ∙ sym c.check_writer.ensures.value ∙ ap result_err c.in_ok-check_writer.was in
     let p = s.pending (ready_of x.status none) in
     let whole = cut_whole old.segments.items cut old.alive.items c.len.result c.truncate.ensures.items counted in
-    let few = sets_within old.schema (g.A.Analyzer.analyze old.analyzer) s.docs old.segments.items old.alive.items s.segments old.flagged in
     let segments = c.commit_record.new.segments.items in
     let r = c.commit_record.result in
     let cutter = g.A.Analyzer.analyze old.analyzer in
@@ -256,7 +251,7 @@ returns-clause-body g c k x s =
     let framed = IfOk-at_ok (λ (q : Prepared). frame_in q ≡ commit_frame_bytes c.deref.result.now segments (sets_in q)) is c.commit_record.ensures.frame in
     let count = IfOk-at_ok (λ (q : Prepared). length segments ≡ length cut + num_segments_in c.replace.result) is c.commit_record.ensures.count in
     let first = cut_counted old.segments.items cut alive c.len.result c.truncate.ensures.items counted old.flagged in
-    let most = c.if-num_segments-gt-sub.false in
+    let most = c.if-num_segments-len.false in
     let pending = c.num_segments.ensures in
     let held = ap num_segments_in c.replace.ensures.value in
     let len = c.len-2.ensures ∙ old.alive.ok.0 in
@@ -276,4 +271,3 @@ returns-clause-members g c =
     let behind = c.commit_record.ensures.behind in
     let marked = cut_flagged old.segments.items cut old.alive.items c.len.result c.truncate.ensures.items counted old.flagged in
     members_behind cut behind.0 c.commit_record.new.segments.items old.alive.items behind.1 marked ∙ cut_members old.segments.items cut old.alive.items c.len.result c.truncate.ensures.items counted
-

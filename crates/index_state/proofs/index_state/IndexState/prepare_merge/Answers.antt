@@ -110,7 +110,7 @@ returns-clause-replaces g c =
       within = omega (arith, inside, count, ends);
       opened = IfOk-at_ok (λ (q : PreparedMerge). IfSome q.segment (IsOpened index.schema)) is c.merge_record.ensures.opened;
       sets = IfOk-at_ok (λ (q : PreparedMerge). sets_merged q ≡ replaced from to (map all_alive (new_in q)) index.alive.items) is c.merge_record.ensures.sets
-      ∙ ap₂ (λ (i j : ℕ). replaced i j (map all_alive (new_in prepared)) index.alive.items) (sym begins) (sym ends);
+          ∙ ap₂ (λ (i j : ℕ). replaced i j (map all_alive (new_in prepared)) index.alive.items) (sym begins) (sym ends);
     }))
 
 pub returns-clause-body : goal.returns-clause-body

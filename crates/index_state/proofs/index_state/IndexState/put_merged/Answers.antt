@@ -1,12 +1,7 @@
-use Rattle.std.proofs.Common.{ap, arith, drop, length, refl, subst, sum_by, sym, take, ◌-◌, ◌∙◌, ◌≡◌, ◌≢◌, []}
+use Rattle.std.proofs.Common.{ap, arith, drop, length, refl, subst, sym, ◌-◌, ◌∙◌, ◌≡◌, ◌≢◌}
 use Rattle.std.proofs.Math.Logic.{∥∥₁_map}
-use Rattle.std.proofs.lemmas.Result.{err_from_is_err_and}
-use Rattle.std.specs.List.{zip}
-use Rattle.definitions.specs.declared.fault.Fault.{Fault}
 use Rattle.definitions.specs.declared.fault.Fault.TheVariants as faults
-use Rattle.common.specs.BitSets.{count_set}
 use Rattle.segment.specs.Limits.{DocumentsPass}
-use Rattle.segment.specs.Members.{living_count}
 use Rattle.segment_definitions.specs.Segments.{IsSegment, IsSegmentOf}
 use Rattle.segment_search.proofs.Flagging.{flagged_within}
 use Rattle.index_state.proofs.MergePlaces.{front_within, no_documents, put_ended, range_documents, range_each, range_known, range_living, range_of}
