@@ -27,7 +27,7 @@ use Rattle.index_state.proofs.EachFlagged.{length-each}
 use Rattle.index_state.proofs.MergedGroups.{none_stands}
 use Rattle.index_state.proofs.MergedLists.{zip_drop}
 use Rattle.index_state.proofs.PendingPieces.{length-pending, pieces_waiting}
-use Rattle.index_state.proofs.Standings.{AllDocs, all_docs}
+use Rattle.index_state.proofs.Standings.{AllDocs, all_docs, all_docs_are}
 use Rattle.index_state.specs.Bodies.{kept_from, next_parts}
 use Rattle.index_state.specs.Deletions.{numbered}
 use Rattle.index_state.specs.Flags.{flagged_each, members}
@@ -122,14 +122,13 @@ pending_counted schema analyze block_size pending full last h =
 -- the groups after a commit are as many as the committed and the pending segments
 pub groups_counted : {A : Type 0} {a : analyzers.Ghosts A} (analyze : A → Analyzer) (old : IndexState A a) (c : calls.Configuration) (x : calls.Index) (s : Stands analyze old c x) (p : IsPending analyze old x.state.pending)
     → length (calls.after c x.state calls.commit_pending).groups ≡ length old.alive.items + num_segments_in old.pending
-unfolding all_docs
 groups_counted analyze old c x s p =
-    let groups : length (calls.after c x.state calls.commit_pending).groups ≡ length ((s.docs ++ p.full) ++ as_group p.last) = groups_written analyze old c x s (all_docs analyze old c x s p) in
+    let groups : length (calls.after c x.state calls.commit_pending).groups ≡ length (s.docs ++ (p.full ++ as_group p.last)) = groups_written analyze old c x s (all_docs analyze old c x s p) ∙ ap length (all_docs_are analyze old c x s p) in
     let counted = pending_counted old.schema (analyze old.analyzer) old.settings.block_size old.pending p.full p.last p.holds in
     let docs = zip_length (StandsFor old.schema (analyze old.analyzer)) s.docs old.segments.items s.segments in
     let each = p.committed in
-    let both = length-append (s.docs ++ p.full) (as_group p.last) in
-    let first = length-append s.docs p.full in
+    let both = length-append s.docs (p.full ++ as_group p.last) in
+    let first = length-append p.full (as_group p.last) in
     omega (arith, groups, counted, docs, each, both, first)
 
 -- ---- a merge

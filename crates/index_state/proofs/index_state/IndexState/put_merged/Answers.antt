@@ -45,23 +45,30 @@ merge_behind-requires-clause-some g c =
     let some = c.if-num_living-eq0.false in
     omega (arith, many, living, some)
 
-pub end_fresh-requires-clause-within : goal.end_fresh-requires-clause-within
-end_fresh-requires-clause-within g c =
+pub overflow_cast-num_docs : goal.overflow_cast-num_docs
+overflow_cast-num_docs g c =
+    let few = c.in_ok-frame.ensures.few in
+    let many = range_living c.args.self.now c.args.from c.args.to c.requires.within c.deref.result.now c.deref-2.result.now c.deref.ensures.value c.deref-2.ensures.value in
+    let living = c.requires.living in
+    omega (arith, few, many, living)
+
+pub end_fresh-body-requires-clause-within : goal.end_fresh-body-requires-clause-within
+end_fresh-body-requires-clause-within g c =
     let inside = front_within c.in_ok-prefix.prefix.items c.in_ok-frame.frame.items c.in_ok-frame.ensures.front in
-    let start = c.len.ensures ∙ c.in_ok-prefix.prefix.ok.0 in
+    let start = c.len-start.ensures ∙ c.in_ok-prefix.prefix.ok.0 in
     omega (arith, inside, start)
 
 pub returns-clause-put : goal.returns-clause-put
 returns-clause-put g c =
-    put_ended c.args.body c.end_fresh.result.0 c.in_ok-prefix.prefix.items c.in_ok-frame.frame.items c.len.result _ (c.len.ensures ∙ c.in_ok-prefix.prefix.ok.0) c.in_ok-frame.ensures.front c.in_ok-prefix.ensures.begun c.end_fresh.ensures.put c.end_fresh.ensures.place
+    put_ended c.args.body c.end_fresh-body.result.0 c.in_ok-prefix.prefix.items c.in_ok-frame.frame.items c.len-start.result _ (c.len-start.ensures ∙ c.in_ok-prefix.prefix.ok.0) c.in_ok-frame.ensures.front c.in_ok-prefix.ensures.begun c.end_fresh-body.ensures.put c.end_fresh-body.ensures.place
 
 pub returns-clause-known : goal.returns-clause-known
 returns-clause-known g c =
     let index = c.args.self.now in
     let frame = c.in_ok-frame.frame.items in
     let many = range_living index c.args.from c.args.to c.requires.within c.deref.result.now c.deref-2.result.now c.deref.ensures.value c.deref-2.ensures.value ∙ sym c.requires.living in
-    let start = c.len.ensures ∙ c.in_ok-prefix.prefix.ok.0 in
-    let same = c.end_fresh.ensures.place.bytes_are ∙ ap (λ n. drop n frame) start in
+    let start = c.len-start.ensures ∙ c.in_ok-prefix.prefix.ok.0 in
+    let same = c.end_fresh-body.ensures.place.bytes_are ∙ ap (λ n. drop n frame) start in
     ∥∥₁_map c.in_ok-frame.ensures.known (λ is. (subst (λ n. IsSegment index.schema n _) many (subst (IsSegment index.schema _) (sym same) is), tt))
 
 pub returns-clause-of : goal.returns-clause-of
@@ -73,15 +80,15 @@ returns-clause-of g c k x s =
     let frame = c.in_ok-frame.frame.items in
     let r = range_of index from to c.requires.within c.deref.result.now c.deref-2.result.now c.deref.ensures.value c.deref-2.ensures.value g.A.Analyzer.analyze k x s in
     let many = range_documents index from to c.requires.within index.segments.items index.alive.items refl refl g.A.Analyzer.analyze k x s in
-    let start = c.len.ensures ∙ c.in_ok-prefix.prefix.ok.0 in
-    let same = c.end_fresh.ensures.place.bytes_are ∙ ap (λ n. drop n frame) start in
+    let start = c.len-start.ensures ∙ c.in_ok-prefix.prefix.ok.0 in
+    let same = c.end_fresh-body.ensures.place.bytes_are ∙ ap (λ n. drop n frame) start in
     let is = subst (λ ds. IsSegmentOf index.schema cut ds (drop (length c.in_ok-prefix.prefix.items) frame)) r.2 (c.in_ok-frame.ensures.stands cut r.0 r.1) in
     (subst (IsSegmentOf index.schema cut (joined_groups from to x.state.groups)) (sym same) is, c.requires.living ∙ many)
 
 -- ---- refusals
 
 pub returns-in_err-frame-clause-fault : goal.returns-in_err-frame-clause-fault
-returns-in_err-frame-clause-fault g c = err_has c.from_residual-in_err-frame.result c.in_err-frame.field-0 (λ f. f ≢ faults.Device) c.from_residual-in_err-frame.ensures.1 (refused_otherwise c.in_err-frame.field-0 (λ memory limit. (c.in_err-frame.ensures.err memory limit).0))
+returns-in_err-frame-clause-fault g c = err_has c.from_residual-in_err-frame.result c.in_err-frame.field-0.0 (λ f. f ≢ faults.Device) c.from_residual-in_err-frame.ensures.1 (refused_otherwise c.in_err-frame.field-0.0 (λ memory limit. (c.in_err-frame.ensures.err memory limit).0))
 
 pub returns-in_err-frame-clause-limit : goal.returns-in_err-frame-clause-limit
 returns-in_err-frame-clause-limit g c k x s =
@@ -89,7 +96,7 @@ returns-in_err-frame-clause-limit g c k x s =
     let from = c.args.from in
     let to = c.args.to in
     let cut = g.A.Analyzer.analyze index.analyzer in
-    let fault = c.in_err-frame.field-0 in
+    let fault = c.in_err-frame.field-0.0 in
     let r = range_of index from to c.requires.within c.deref.result.now c.deref-2.result.now c.deref.ensures.value c.deref-2.ensures.value g.A.Analyzer.analyze k x s in
     let limit : fault ≢ faults.OutOfMemory → (fault ≡ faults.Limit) × DocumentsPass index.schema cut index.settings.block_size (joined_groups from to x.state.groups) =
     subst (λ size. fault ≢ faults.OutOfMemory → (fault ≡ faults.Limit) × DocumentsPass index.schema cut size (joined_groups from to x.state.groups)) c.block_size.ensures
