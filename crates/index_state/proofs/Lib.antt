@@ -9,6 +9,8 @@ pub mod Committing
 pub mod BodyMade
 pub mod Members
 pub mod PendingDocs
+pub mod NewSegments
+pub mod RecordsLaid
 pub mod OpenDocs
 pub mod Parted
 pub mod Searching
@@ -16,5 +18,9 @@ pub mod LongSlots
 pub mod MergedLists
 pub mod MergeMade
 pub mod MergedGroups
+pub mod NothingDeleted
+pub mod CutSegments
+pub mod CommitPrepared
+pub mod MergePlaces
 pub mod PendingPieces
 pub mod RecordsMade

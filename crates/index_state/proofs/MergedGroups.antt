@@ -140,7 +140,7 @@ groups_replaced schema analyze from to o docs sets groups l k are of =
 
 -- ---- flags
 
-flagged_both : (segments more : List code.Segment) (sets others : List (List Bool)) → length segments ≡ length sets → AreFlagged segments sets → AreFlagged more others → AreFlagged (segments ++ more) (sets ++ others)
+pub flagged_both : (segments more : List code.Segment) (sets others : List (List Bool)) → length segments ≡ length sets → AreFlagged segments sets → AreFlagged more others → AreFlagged (segments ++ more) (sets ++ others)
 flagged_both [] more [] others e f g = g
 flagged_both [] more (flags ∷ sets) others e f g = absurd f
 flagged_both (s ∷ segments) more [] others e f g = absurd (omega (arith, e))
@@ -159,7 +159,7 @@ flagged_drop (suc n) segments [] f = tt
 flagged_drop (suc n) [] (flags ∷ sets) f = absurd f
 flagged_drop (suc n) (s ∷ segments) (flags ∷ sets) f = flagged_drop n segments sets f.1
 
-flagged_alive : (news : List code.Segment) → AreFlagged news (map all_alive news)
+pub flagged_alive : (news : List code.Segment) → AreFlagged news (map all_alive news)
 flagged_alive [] = tt
 flagged_alive (s ∷ news) = (length-replicate (num_docs_of s) true, flagged_alive news)
 
@@ -313,7 +313,7 @@ pub record RangeStands {A : Type 0} {a : analyzers.Ghosts A} (analyze : A → An
   pub stand : merger.StandFor index.schema (analyze index.analyzer) (zip (take (to - from) (drop from index.segments.items)) (take (to - from) (drop from index.alive.items))) rows
   pub whole : live rows ≡ joined_groups from to groups
 
-length-range : {X : Type 0} (from to : ℕ) (xs : List X) → to ≤ length xs → length (take (to - from) (drop from xs)) ≡ to - from
+pub length-range : {X : Type 0} (from to : ℕ) (xs : List X) → to ≤ length xs → length (take (to - from) (drop from xs)) ≡ to - from
 length-range from to xs l =
     let rest = length-drop from xs in
     length-take-le (to - from) (drop from xs) (omega (arith, rest, l))

@@ -1,5 +1,5 @@
 -- How calls end.
-use Rattle.std.proofs.Common.{Bool, Err, IfErr, None, Ok, Result, Some, ap, false, is_none, refl, subst, sym, true, true≢false, ⊎_elim, ◌∙◌, ◌≡◌, ◌≢◌, ◌⊎◌, ◌||◌}
+use Rattle.std.proofs.Common.{Bool, Err, IfErr, IfOk, None, Ok, Result, Some, ap, false, is_none, refl, subst, sym, true, true≢false, ⊎_elim, ◌∙◌, ◌≡◌, ◌≢◌, ◌⊎◌, ◌||◌}
 use Rattle.std.specs.Bool.{⊤}
 use Rattle.std.specs.Option.{option_or}
 use Rattle.std.specs.Result.{IsErrAnd}
@@ -66,3 +66,13 @@ closed_is_no_memory e = cc
 -- what holds of no limit
 pub err_no_limit : {T : Type 0} (r : Result T Fault) (fault : Fault) (P : Type 0) → IsErrAnd r (λ e. e ≡ fault) → (fault ≡ faults.Limit → ⊥) → IfErr r (λ e. e ≡ faults.Limit → P)
 err_no_limit r fault P is other = err_has r fault (λ e. e ≡ faults.Limit → P) is (λ limit. absurd (other limit))
+
+-- what holds of each value that is returned
+pub if_ok : {T E : Type 0} (r : Result T E) (P : T → Type 0) → ((t : T) → r ≡ Ok t → P t) → IfOk r P
+if_ok (Ok t) P h = h t refl
+if_ok (Err e) P h = tt
+
+-- and of each error
+pub if_err : {T E : Type 0} (r : Result T E) (P : E → Type 0) → ((e : E) → r ≡ Err e → P e) → IfErr r P
+if_err (Ok t) P h = tt
+if_err (Err e) P h = h e refl

@@ -3,7 +3,7 @@ use Rattle.std.proofs.Common.{[], ◌++◌, ◌+◌, ◌<◌, ◌^◌, ◌∙◌
 use Rattle.std.proofs.Math.Logic.{∥∥₁_elim, ∥∥₁_map}
 use Rattle.std.proofs.lemmas.List.{take_more}
 use Rattle.std.specs.List.{AllByRecursion, AllZip}
-use Rattle.std.specs.Prelude.{MatchOption}
+use Rattle.std.specs.Prelude.{MatchOption, option_to_list}
 use Rattle.definitions.proofs.Lists.{all_push}
 use Rattle.definitions.specs.Analyzers.{Analyzer}
 use Rattle.definitions.specs.Calls as calls
@@ -26,7 +26,8 @@ use Rattle.segment_search.proofs.Places.{zip_length, zip_more}
 use Rattle.index_state.proofs.Outcomes.{memory_is_no_limit}
 use Rattle.index_state.specs.Given.{IsGiven}
 use Rattle.index_state.specs.Limits.{OneMorePasses, TermsPass}
-use Rattle.index_state.specs.Pending.{Holds}
+use Rattle.index_state.specs.Pending.{Holds, IsFull}
+use Rattle.index_state.specs.declared.pending_segments.FullSegment.{FullSegment}
 use Rattle.index_state.specs.declared.pending_segments.PendingSegments.{PendingSegments}
 
 -- ---- documents that an add takes
@@ -80,23 +81,32 @@ group_of [] some = absurd (omega (arith, some))
 group_of (doc ∷ docs) some = refl
 
 -- an open segment has these documents, and none is open where there are none
-abbrev IsOpen : Schema → Analyzer → ℕ → List Document → Option SegmentWriter → Type 0
+abbrev pub IsOpen : Schema → Analyzer → ℕ → List Document → Option SegmentWriter → Type 0
 IsOpen schema analyze block_size docs o = MatchOption o (docs ≡ []) (λ writer. (0 < length docs) × HasWritten schema analyze block_size writer docs)
+
+-- an open segment makes one group more
+pub open_counted : (schema : Schema) (analyze : Analyzer) (block_size : ℕ) (o : Option SegmentWriter) (last : List Document) → IsOpen schema analyze block_size last o → length (as_group last) ≡ length (option_to_list o)
+open_counted schema analyze block_size None last none = ap (λ ds. length (as_group ds)) none
+open_counted schema analyze block_size (Some writer) last some = ap length (group_of last some.0)
 
 module _ (schema : Schema) (analyze : Analyzer) (block_size : ℕ) (pending : PendingSegments) (full : List (List Document)) (last : List Document) (h : Holds schema analyze block_size pending full last) where
   -- a writer has the last documents, which are some
   pub writer_holds : (writer : SegmentWriter) → pending.writer ≡ Some writer → (0 < length last) × HasWritten schema analyze block_size writer last
   writer_holds writer is = subst (IsOpen schema analyze block_size last) is h.writer
 
+  -- where there is no writer there are none
+  pub writer_none : pending.writer ≡ None → last ≡ []
+  writer_none is = subst (IsOpen schema analyze block_size last) is h.writer
+
   -- as many segments are full
   pub full_counted : length full ≡ length pending.full.items
-  full_counted = zip_length (IsSegmentOf schema analyze) full pending.full.items h.closed
+  full_counted = zip_length (IsFull schema analyze) full pending.full.items h.closed
 
 -- one segment more is full, and none is open
-pub one_full : (schema : Schema) (analyze : Analyzer) (block_size : ℕ) (new : PendingSegments) (full : List (List Document)) (was : List (List ℕ)) (docs : List Document) (bytes : List ℕ) → AllZip (IsSegmentOf schema analyze) full was → IsSegmentOf schema analyze docs bytes → new.full.items ≡ was ++ bytes ∷ [] → new.writer ≡ None
+pub one_full : (schema : Schema) (analyze : Analyzer) (block_size : ℕ) (new : PendingSegments) (full : List (List Document)) (was : List FullSegment) (docs : List Document) (segment : FullSegment) → AllZip (IsFull schema analyze) full was → IsFull schema analyze docs segment → new.full.items ≡ was ++ segment ∷ [] → new.writer ≡ None
     → Holds schema analyze block_size new (full ++ docs ∷ []) []
-one_full schema analyze block_size new full was docs bytes closed is items none = record {
-  closed = subst (AllZip (IsSegmentOf schema analyze) (full ++ docs ∷ [])) (sym items) (zip_more (IsSegmentOf schema analyze) full (docs ∷ []) was (bytes ∷ []) closed (is, tt));
+one_full schema analyze block_size new full was docs segment closed is items none = record {
+  closed = subst (AllZip (IsFull schema analyze) (full ++ docs ∷ [])) (sym items) (zip_more (IsFull schema analyze) full (docs ∷ []) was (segment ∷ []) closed (is, tt));
   writer = subst (IsOpen schema analyze block_size []) (sym none) refl;
 }
 
@@ -110,21 +120,21 @@ got_at R (x ∷ xs) [] i d y h l e = absurd h
 got_at R (x ∷ xs) (z ∷ ys) zero d y h l e = subst (λ w. R x w) (sym e) h.0
 got_at R (x ∷ xs) (z ∷ ys) (suc i) d y h l e = got_at R xs ys i d y h.1 (omega (arith, l)) e
 
-module _ (schema : Schema) (analyze : Analyzer) (block_size : ℕ) (pending : PendingSegments) (full : List (List Document)) (last : List Document) (h : Holds schema analyze block_size pending full last) (i : ℕ) (bytes : List ℕ) (inside : i < length pending.full.items) (e : bytes ≡ get_or pending.full.items i bytes) where
-  -- the bytes of a full segment are of its documents
-  pub bytes_at : IsSegmentOf schema analyze (get_or full i []) bytes
-  bytes_at = got_at (IsSegmentOf schema analyze) full pending.full.items i [] bytes h.closed inside e
+module _ (schema : Schema) (analyze : Analyzer) (block_size : ℕ) (pending : PendingSegments) (full : List (List Document)) (last : List Document) (h : Holds schema analyze block_size pending full last) (i : ℕ) (segment : FullSegment) (inside : i < length pending.full.items) (e : segment ≡ get_or pending.full.items i segment) where
+  -- a full segment is of its documents
+  pub full_at : IsFull schema analyze (get_or full i []) segment
+  full_at = got_at (IsFull schema analyze) full pending.full.items i [] segment h.closed inside e
 
-  -- so they are a segment
-  pub segment_at : (copy : List ℕ) → copy ≡ bytes → (n : ℕ) × IsSegment schema n copy
-  segment_at copy same = (length (get_or full i []), subst (IsSegment schema (length (get_or full i []))) (sym same) (segment_known schema analyze (get_or full i []) bytes bytes_at))
+  -- so its bytes are a segment
+  pub segment_at : (copy : List ℕ) → copy ≡ segment.bytes → (n : ℕ) × IsSegment schema n copy
+  segment_at copy same = (length (get_or full i []), subst (IsSegment schema (length (get_or full i []))) (sym same) (segment_known schema analyze (get_or full i []) segment.bytes full_at.0))
 
   -- and opened they stand for these behind others
-  pub opened_next : (docs : List (List Document)) (was : List code.Segment) (s : code.Segment) → AllZip (StandsFor schema analyze) (docs ++ take i full) was → IsOpened schema s → bytes_of s ≡ bytes → AllZip (StandsFor schema analyze) (docs ++ take (i + 1) full) (was ++ s ∷ [])
+  pub opened_next : (docs : List (List Document)) (was : List code.Segment) (s : code.Segment) → AllZip (StandsFor schema analyze) (docs ++ take i full) was → IsOpened schema s → bytes_of s ≡ segment.bytes → AllZip (StandsFor schema analyze) (docs ++ take (i + 1) full) (was ++ s ∷ [])
   opened_next docs was s before opened same =
       let one = get_or full i [] in
-      let many = zip_length (IsSegmentOf schema analyze) full pending.full.items h.closed in
-      let stands : StandsFor schema analyze one s = record { opened = opened; bytes_are = subst (IsSegmentOf schema analyze one) (sym same) bytes_at } in
+      let many = zip_length (IsFull schema analyze) full pending.full.items h.closed in
+      let stands : StandsFor schema analyze one s = record { opened = opened; bytes_are = subst (IsSegmentOf schema analyze one) (sym same) full_at.0 } in
       let next = zip_more (StandsFor schema analyze) (docs ++ take i full) (one ∷ []) was (s ∷ []) before (stands, tt) in
       let docs_are : (docs ++ take i full) ++ one ∷ [] ≡ docs ++ take (i + 1) full = append_assoc docs (take i full) (one ∷ []) ∙ ap (λ ds. docs ++ ds) (sym (take_more full i [] (omega (arith, inside, many)))) in
       subst (λ ds. AllZip (StandsFor schema analyze) ds (was ++ s ∷ [])) docs_are next

@@ -1,5 +1,5 @@
 -- What the bodies of a commit and of a merge say.
-use Rattle.std.proofs.Common.{[], ◌++◌, ◌+◌, ◌∙◌, ◌∷◌, ◌≡◌, ◌≤◌, Bool, List, None, Option, Some, ap, ap₂, arith, drop, length, length-append, map, refl, replicate, subst, sym, take, true, ℕ}
+use Rattle.std.proofs.Common.{[], ◌++◌, ◌+◌, ◌<◌, ◌∙◌, ◌∷◌, ◌≡◌, ◌≤◌, Bool, List, None, Option, Some, ap, ap₂, arith, drop, length, length-append, map, refl, replicate, subst, sym, take, true, ℕ}
 use Rattle.std.specs.Prelude.{MatchOption, option_to_list}
 use Rattle.std.proofs.lemmas.List.{drop-append-le, length-drop, length-map, take-append-drop}
 use Rattle.std.specs.List.{AllZip, zip}
@@ -12,7 +12,9 @@ use Rattle.definitions.specs.State.{Pending, as_group, deleted_terms, living}
 use Rattle.definitions.specs.State as states
 use Rattle.definitions.specs.Values.{Document}
 use Rattle.segment.specs.Opened.{StandsFor, bytes_of}
+use Rattle.segment.specs.Writers.{HasWritten}
 use Rattle.segment.specs.declared.segment.Segment as code
+use Rattle.segment.specs.declared.segment_writer.SegmentWriter.{SegmentWriter}
 use Rattle.segment_definitions.proofs.Commits.{commit_groups}
 use Rattle.segment_definitions.specs.Rows.{left_rows}
 use Rattle.segment_definitions.specs.SegmentBodies.{Member, segments_body, fresh}
@@ -25,14 +27,16 @@ use Rattle.index_state.proofs.EachFlagged.{length-each}
 use Rattle.index_state.proofs.MergedGroups.{none_stands}
 use Rattle.index_state.proofs.MergedLists.{zip_drop}
 use Rattle.index_state.proofs.PendingPieces.{length-pending, pieces_waiting}
-use Rattle.index_state.proofs.Standings.{AllDocs}
+use Rattle.index_state.proofs.Standings.{AllDocs, all_docs, all_docs_are}
 use Rattle.index_state.specs.Bodies.{kept_from, next_parts}
 use Rattle.index_state.specs.Deletions.{numbered}
 use Rattle.index_state.specs.Flags.{flagged_each, members}
 use Rattle.index_state.specs.Merges.{alive_member}
+use Rattle.index_state.specs.Pending.{Holds, IsFull, num_segments_in}
 use Rattle.index_state.specs.Records.{IsAlive, IsCommitBody}
-use Rattle.index_state.specs.Standing.{Stands}
+use Rattle.index_state.specs.Standing.{IsPending, Stands}
 use Rattle.index_state.specs.declared.index_state.IndexState.{IndexState}
+use Rattle.index_state.specs.declared.pending_segments.PendingSegments.{PendingSegments}
 
 -- ---- a commit
 
@@ -75,11 +79,10 @@ commit_says schema analyze n pending docs last dels segments alive sets stand fe
       whole = ap₂ (λ (i : ℕ) (fs : List (List Bool)). segments_body (kept_from 0 i ++ map fresh (drop k bytes)) fs) (sym (length-zip bytes alive inside)) (sym (zip_flags bytes sets (omega (arith, whole))));
     }
 
--- after a commit there are as many groups as segments
-pub groups_written : {A : Type 0} {a : analyzers.Ghosts A} (analyze : A → Analyzer) (old : IndexState A a) (c : calls.Configuration) (x : calls.Index) (s : Stands analyze old c x) (v : AllDocs old x.state) (segments : List code.Segment)
-    → AllZip (StandsFor old.schema (analyze old.analyzer)) (v.docs ++ as_group v.last) segments
-    → length (calls.after c x.state calls.commit_pending).groups ≡ length segments
-groups_written analyze old c x s v segments stand =
+-- after a commit there are as many groups as lists of documents
+pub groups_written : {A : Type 0} {a : analyzers.Ghosts A} (analyze : A → Analyzer) (old : IndexState A a) (c : calls.Configuration) (x : calls.Index) (s : Stands analyze old c x) (v : AllDocs old x.state)
+    → length (calls.after c x.state calls.commit_pending).groups ≡ length (v.docs ++ as_group v.last)
+groups_written analyze old c x s v =
     let w = v.waiting.waits in
     let few = v.few in
     let n = old.settings.docs_per_segment in
@@ -100,9 +103,33 @@ groups_written analyze old c x s v segments stand =
     let parts = length-append full (as_group v.last) in
     let rest = length-drop k v.docs in
     let docs = length-append v.docs (as_group v.last) in
-    let each = zip_length (StandsFor old.schema cut) (v.docs ++ as_group v.last) segments stand in
-    let count : length (states.after_commit old.schema cut n x.state).groups ≡ length segments = ap length groups ∙ omega (arith, all, both, first, flagged, behind, parts, rest, docs, each, few) in
-    subst (λ (m : calls.Configuration). length (calls.after m x.state calls.commit_pending).groups ≡ length segments) (sym s.made) count
+    let count : length (states.after_commit old.schema cut n x.state).groups ≡ length (v.docs ++ as_group v.last) = ap length groups ∙ omega (arith, all, both, first, flagged, behind, parts, rest, docs, few) in
+    subst (λ (m : calls.Configuration). length (calls.after m x.state calls.commit_pending).groups ≡ length (v.docs ++ as_group v.last)) (sym s.made) count
+
+-- the open segment is one where it has documents
+open_counted : (schema : Schema) (analyze : Analyzer) (block_size : ℕ) (o : Option SegmentWriter) (last : List Document) → MatchOption o (last ≡ []) (λ writer. (0 < length last) × HasWritten schema analyze block_size writer last) → length (option_to_list o) ≡ length (as_group last)
+open_counted schema analyze block_size None last none = ap (λ ds. length (as_group ds)) (sym none)
+open_counted schema analyze block_size (Some writer) [] h = absurd (let some = h.0 in omega (arith, some))
+open_counted schema analyze block_size (Some writer) (doc ∷ docs) h = refl
+
+-- as many segments are pending as there are lists of pending documents
+pub pending_counted : (schema : Schema) (analyze : Analyzer) (block_size : ℕ) (pending : PendingSegments) (full : List (List Document)) (last : List Document) → Holds schema analyze block_size pending full last → num_segments_in pending ≡ length full + length (as_group last)
+pending_counted schema analyze block_size pending full last h =
+    let closed = zip_length (IsFull schema analyze) full pending.full.items h.closed in
+    let opened = open_counted schema analyze block_size pending.writer last h.writer in
+    omega (arith, closed, opened)
+
+-- the groups after a commit are as many as the committed and the pending segments
+pub groups_counted : {A : Type 0} {a : analyzers.Ghosts A} (analyze : A → Analyzer) (old : IndexState A a) (c : calls.Configuration) (x : calls.Index) (s : Stands analyze old c x) (p : IsPending analyze old x.state.pending)
+    → length (calls.after c x.state calls.commit_pending).groups ≡ length old.alive.items + num_segments_in old.pending
+groups_counted analyze old c x s p =
+    let groups : length (calls.after c x.state calls.commit_pending).groups ≡ length (s.docs ++ (p.full ++ as_group p.last)) = groups_written analyze old c x s (all_docs analyze old c x s p) ∙ ap length (all_docs_are analyze old c x s p) in
+    let counted = pending_counted old.schema (analyze old.analyzer) old.settings.block_size old.pending p.full p.last p.holds in
+    let docs = zip_length (StandsFor old.schema (analyze old.analyzer)) s.docs old.segments.items s.segments in
+    let each = p.committed in
+    let both = length-append s.docs (p.full ++ as_group p.last) in
+    let first = length-append p.full (as_group p.last) in
+    omega (arith, groups, counted, docs, each, both, first)
 
 -- ---- a merge
 

@@ -252,3 +252,9 @@ pub all_opened_for : {A : Type 0} {a : analyzers.Ghosts A} (analyze : A → Anal
     → AllZip (StandsFor old.schema (analyze old.analyzer)) ((all_docs analyze old c x s p).docs ++ states.as_group (all_docs analyze old c x s p).last) segments
 unfolding all_docs
 all_opened_for analyze old c x s p segments h = subst (λ ds. AllZip (StandsFor old.schema (analyze old.analyzer)) ds segments) (sym (append_assoc s.docs p.full (states.as_group p.last))) h
+
+-- the documents of all of them, one after another
+pub all_docs_are : {A : Type 0} {a : analyzers.Ghosts A} (analyze : A → Analyzer) (old : IndexState A a) (c : calls.Configuration) (x : calls.Index) (s : Stands analyze old c x) (p : IsPending analyze old x.state.pending)
+    → (all_docs analyze old c x s p).docs ++ states.as_group (all_docs analyze old c x s p).last ≡ s.docs ++ (p.full ++ states.as_group p.last)
+unfolding all_docs
+all_docs_are analyze old c x s p = append_assoc s.docs p.full (states.as_group p.last)

@@ -8,10 +8,19 @@ use Rattle.index_file.specs.FreshPlaces.{bytes_at, framed_at}
 use Rattle.segment_definitions.specs.SegmentBodies.{fresh, part_bytes}
 use Rattle.segment_definitions.specs.Segments.{IsSegment, IsSegmentOf}
 use Rattle.index_state.specs.declared.new_segments.NewSegment.{NewSegment}
+use Rattle.index_state.specs.declared.pending_segments.FullSegment.{FullSegment}
 
 -- the bytes of a new segment in a body
 abbrev pub segment_at : List ℕ → NewSegment → List ℕ
 segment_at body new = bytes_at body new.place
+
+-- these bytes, and how many documents it has
+abbrev pub told_at : List ℕ → NewSegment → List ℕ × ℕ
+told_at body new = (segment_at body new, new.num_docs)
+
+-- those of a full segment
+abbrev pub told_of : FullSegment → List ℕ × ℕ
+told_of segment = (segment.bytes, segment.num_docs)
 
 -- they stand within a body
 abbrev pub AreWithin : List ℕ → List NewSegment → Type 0

@@ -44,6 +44,7 @@ pub(crate) fn commit_record(
     ensures opened { StayOpened schema.now segments.old.items segments.new.items }
     ensures behind { (more : List code.Segment) × (segments.new.items ≡ segments.old.items ++ more) }
     ensures ok { OnOk result (StandBehind schema.now pending segments.old.items segments.new.items) }
+    ensures count { OnOk result (length segments.new.items ≡ length segments.old.items + num_segments_in pending) }
     ensures err { OnErr result (SomeStandBehind schema.now pending segments.old.items segments.new.items) }
     ensures fault { IfErr result (λ fault. (fault ≡ faults.OutOfMemory) ⊎ (fault ≡ faults.Limit)) }
     ensures limit { IfErr result (LastPasses schema.now pending) }
@@ -86,6 +87,7 @@ fn record_in_place(
     ensures opened { StayOpened schema.now segments.old.items segments.new.items }
     ensures behind { (more : List code.Segment) × (segments.new.items ≡ segments.old.items ++ more) }
     ensures ok { OnOk result (StandBehind schema.now pending segments.old.items segments.new.items) }
+    ensures count { OnOk result (length segments.new.items ≡ length segments.old.items + num_segments_in pending) }
     ensures err { OnErr result (SomeStandBehind schema.now pending segments.old.items segments.new.items) }
     ensures fault { IfErr result (λ fault. (fault ≡ faults.OutOfMemory) ⊎ (fault ≡ faults.Limit)) }
     ensures limit { IfErr result (LastPasses schema.now pending) }
@@ -139,6 +141,7 @@ fn record_of_opened(
     ensures opened { StayOpened schema.now segments.old.items segments.new.items }
     ensures behind { (more : List code.Segment) × (segments.new.items ≡ segments.old.items ++ more) }
     ensures ok { OnOk result (StandBehind schema.now pending segments.old.items segments.new.items) }
+    ensures count { OnOk result (length segments.new.items ≡ length segments.old.items + num_segments_in pending) }
     ensures err { OnErr result (SomeStandBehind schema.now pending segments.old.items segments.new.items) }
     ensures fault { IfErr result (λ fault. (fault ≡ faults.OutOfMemory) ⊎ (fault ≡ faults.Limit)) }
     ensures limit { IfErr result (LastPasses schema.now pending) }

@@ -11,7 +11,7 @@ ghost use Rattle.segment.specs.declared.segment.Segment as code;
 ghost use Rattle.segment_definitions.specs.SegmentBodies.{fresh, part_bytes};
 ghost use Rattle.segment_definitions.specs.Segments.{IsSegmentOf};
 ghost use Rattle.index_state.specs.Limits.{TermsPass};
-ghost use Rattle.index_state.specs.NewSegments.{ArePut, IsKnownIn, IsNew, segment_at, segment_in};
+ghost use Rattle.index_state.specs.NewSegments.{ArePut, IsKnownIn, IsNew, segment_at, segment_in, told_at, told_of};
 
 use crate::pending_segments::FullSegment;
 use bytes::Bytes;
@@ -36,8 +36,7 @@ pub(crate) fn put_full(
     full: Vec<FullSegment>,
 ) -> Result<Vec<NewSegment>, AllocError>
     ensures put { IfOk result (λ news. ArePut body.old body.new news.items) }
-    ensures same { IfOk result (λ news. map (λ new. (segment_at body.new new, new.num_docs)) news.items
-        ≡ map (λ segment. (segment.bytes, segment.num_docs)) full.items) }
+    ensures same { IfOk result (λ news. map (told_at body.new) news.items ≡ map told_of full.items) }
 {
     let mut news = Vec::with_capacity(alloc, full.len())?;
     let mut left = VecDeque::from_vec(full);

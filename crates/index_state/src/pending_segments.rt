@@ -228,6 +228,8 @@ impl PendingSegments {
         ensures opened { ∥ AllByRecursion (IsOpened schema.now) segments.old.items ∥₁
             → ∥ AllByRecursion (IsOpened schema.now) segments.new.items ∥₁ }
         ensures behind { (more : List code.Segment) × (segments.new.items ≡ segments.old.items ++ more) }
+        ensures count { OnOk result (length segments.new.items
+            ≡ length segments.old.items + length self.now.full.items) }
         ensures ok { (analyze : definitions.Analyzer) (block_size : ℕ)
             (docs full : List (List Document)) (last : List Document)
             → AllZip (StandsFor schema.now analyze) docs segments.old.items

@@ -1,5 +1,4 @@
-use Rattle.std.proofs.Common.{ap, arith, length, sum_by, sym, ◌∙◌, ◌≤◌}
-use Rattle.std.proofs.lemmas.List.{take_all}
+use Rattle.std.proofs.Common.{ap, length, sum_by, sym, ◌∙◌}
 use Rattle.common.specs.BitSets.{count_set}
 use Rattle.definitions.proofs.Joins.{joined}
 use Rattle.index_state.proofs.Groups.{length-groups}
@@ -8,11 +7,7 @@ use Rattle.index_state.proofs.index_state.IndexState.num_docs.Goals as goal
 
 pub returns : goal.returns
 returns g c k x s =
-    let l = c.loop-set in
     let index = c.args.self.now in
     let sets = index.alive.items in
     let flags = have_flags index.schema (g.A.Analyzer.analyze index.analyzer) s.docs index.segments.items sets s.segments index.flagged in
-    let same = ap length c.deref-set-items.ensures.value in
-    let past = c.loop-set-test.false in
-    let all : length sets ≤ l.set-index = omega (arith, same, past) in
-    l.invariant.0 ∙ ap (λ xs. sum_by count_set xs) (take_all l.set-index sets all) ∙ sym (length-groups s.docs sets flags) ∙ sym (ap (λ gs. length (joined gs)) s.groups)
+    c.count_alive.ensures ∙ ap (λ xs. sum_by count_set xs) c.deref.ensures.value ∙ sym (length-groups s.docs sets flags) ∙ sym (ap (λ gs. length (joined gs)) s.groups)

@@ -2,8 +2,8 @@ use Rattle.std.proofs.Common.{[], arith, inl, inr, length, length-append, subst,
 use Rattle.std.specs.List.{AllZip}
 use Rattle.std.proofs.Math.Logic.{∥∥₁_map}
 use Rattle.std.proofs.lemmas.Result.{err_from_is_err_and, on_ok_weaker}
-use Rattle.segment_definitions.specs.Segments.{IsSegmentOf}
 use Rattle.index_state.proofs.PendingDocs.{add_err, add_passes, full_passes, one_full, one_more, want_known}
+use Rattle.index_state.specs.Pending.{IsFull}
 use Rattle.index_state.proofs.pending_segments.PendingSegments.add.Goals as goal
 
 pub add-requires-clause-written : goal.add-requires-clause-written
@@ -38,7 +38,7 @@ returns-then-num_docs-docs_per_segment-clause-ok g c full last h =
     inl (
       omega (arith, count, short, size),
       record {
-        closed = subst (AllZip (IsSegmentOf schema analyze) full) (sym c.in_ok-writer.ensures.full) h.closed;
+        closed = subst (AllZip (IsFull schema analyze) full) (sym c.in_ok-writer.ensures.full) h.closed;
         writer = (one_more last c.args.doc.now, written);
       },
     )
@@ -67,9 +67,9 @@ returns-clause-ok g c full last h =
     let long = c.if-num_docs-docs_per_segment.false in
     let size = c.docs_per_segment.ensures.value in
     let many : c.args.settings.now.docs_per_segment ≤ length more = omega (arith, count, long, size) in
-    let closed = subst (AllZip (IsSegmentOf schema analyze) full) (sym c.in_ok-writer.ensures.full) h.closed in
+    let closed = subst (AllZip (IsFull schema analyze) full) (sym c.in_ok-writer.ensures.full) h.closed in
     on_ok_weaker c.push.result
-    (λ bytes. inr (many, one_full schema analyze block_size c.push.new.self full was.full.items more bytes.0 closed bytes.1 bytes.2 (c.push.ensures.writer ∙ c.in_ok-writer.ensures.none)))
+    (λ closing. inr (many, one_full schema analyze block_size c.push.new.self full was.full.items more closing.0 closed closing.1 closing.2 (c.push.ensures.writer ∙ c.in_ok-writer.ensures.none)))
     (c.push.ensures.ok analyze block_size more written)
 
 pub returns-clause-within : goal.returns-clause-within
@@ -77,7 +77,7 @@ returns-clause-within g c full last h =
     let analyze = g.A.Analyzer.analyze c.args.analyzer.now in
     let block_size = c.args.settings.now.block_size in
     let before = c.in_ok-writer.ensures.ok analyze full last h in
-    on_ok_weaker c.push.result (λ bytes. c.in_ok-add.ensures.within block_size last before) (c.push.ensures.ok analyze block_size (last ++ c.args.doc.now ∷ []) (c.in_ok-add.ensures.ok block_size last before))
+    on_ok_weaker c.push.result (λ closing. c.in_ok-add.ensures.within block_size last before) (c.push.ensures.ok analyze block_size (last ++ c.args.doc.now ∷ []) (c.in_ok-add.ensures.ok block_size last before))
 
 pub returns-clause-limit : goal.returns-clause-limit
 returns-clause-limit g c full last h =

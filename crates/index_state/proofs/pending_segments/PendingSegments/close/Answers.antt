@@ -19,8 +19,8 @@ returns-in-Some-clause-ok c analyze block_size full last h =
     let new = c.push.new.self in
     let w = writer_holds schema analyze block_size c.args.self.now full last h c.in-Some.writer (sym c.in-Some.ensures.value) in
     on_ok_weaker c.push.result
-    (λ bytes. subst (λ (group : List (List Document)). Holds schema analyze block_size new (full ++ group) []) (sym (group_of last w.0))
-    (one_full schema analyze block_size new full c.args.self.now.full.items last bytes.0 h.closed bytes.1 bytes.2 (c.push.ensures.writer ∙ c.in-Some.ensures.after)))
+    (λ closing. subst (λ (group : List (List Document)). Holds schema analyze block_size new (full ++ group) []) (sym (group_of last w.0))
+    (one_full schema analyze block_size new full c.args.self.now.full.items last closing.0 h.closed closing.1 closing.2 (c.push.ensures.writer ∙ c.in-Some.ensures.after)))
     (c.push.ensures.ok analyze block_size last w.1)
 
 pub returns-in-Some-clause-limit : goal.returns-in-Some-clause-limit

@@ -1,4 +1,4 @@
-use Rattle.std.proofs.Common.{List, take, ◌++◌, ◌≡◌, ℕ}
+use Rattle.std.proofs.Common.{List, length, take, ◌++◌, ◌+◌, ◌≡◌, ℕ}
 use Rattle.std.specs.List.{AllByRecursion, AllZip}
 use Rattle.definitions.specs.Analyzers.{Analyzer}
 use Rattle.definitions.specs.Values.{Document}
@@ -8,9 +8,10 @@ use Rattle.index_state.specs.Pending.{Holds}
 use Rattle.index_state.proofs.pending_segments.PendingSegments.open_into.Given as goal
 
 -- those so far were opened, and stand behind those that were there
-abbrev pub invariant-loop-bytes : goal.invariant-loop-bytes
-invariant-loop-bytes l = record {
+abbrev pub invariant-loop-full : goal.invariant-loop-full
+invariant-loop-full l = record {
   opened : ∥ AllByRecursion (IsOpened l.schema) l.fn.segments.items ∥₁ → ∥ AllByRecursion (IsOpened l.schema) l.segments.items ∥₁;
   behind : (more : List code.Segment) × (l.segments.items ≡ l.fn.segments.items ++ more);
-  stand : (analyze : Analyzer) (block_size : ℕ) (docs full : List (List Document)) (last : List Document) → AllZip (StandsFor l.schema analyze) docs l.fn.segments.items → Holds l.schema analyze block_size l.self full last → AllZip (StandsFor l.schema analyze) (docs ++ take l.bytes-index full) l.segments.items;
+  counted : length l.segments.items ≡ length l.fn.segments.items + l.full-index;
+  stand : (analyze : Analyzer) (block_size : ℕ) (docs full : List (List Document)) (last : List Document) → AllZip (StandsFor l.schema analyze) docs l.fn.segments.items → Holds l.schema analyze block_size l.self full last → AllZip (StandsFor l.schema analyze) (docs ++ take l.full-index full) l.segments.items;
 }
