@@ -15,8 +15,8 @@ loop-segment-init c =
       same = ap (λ ns. map (told_at body) ns ++ map told_of c.from_vec-left.result.items) none ∙ ap (map told_of) left;
     }
 
-pub loop-segment-preserved : goal.loop-segment-preserved
-loop-segment-preserved c =
+pub loop-segment-preserved-in_ok-push : goal.loop-segment-preserved-in_ok-push
+loop-segment-preserved-in_ok-push c =
     let l = c.loop-segment in
     let segment = c.in-Some.segment in
     let next = c.put_fresh.new.self in
