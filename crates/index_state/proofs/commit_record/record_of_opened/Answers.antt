@@ -61,8 +61,7 @@ commit_frame-requires-clause-within c =
     let count = c.in_ok-open_into.ensures.count in
     let each = c.requires.each in
     let same = ap length c.deref-2.ensures.value in
-    let k = c.len.ensures in
-    omega (arith, count, each, same, k)
+    omega (arith, count, each, same)
 
 pub returns-in_err-frame-clause-err : goal.returns-in_err-frame-clause-err
 returns-in_err-frame-clause-err c =
@@ -98,11 +97,10 @@ returns-clause-rows c = subst (λ (ss : List Segment). LeavesRows c.args.alive.n
 
 pub returns-clause-frame : goal.returns-clause-frame
 returns-clause-frame c =
-    let k = c.len.result in
+    let k = length c.args.alive.now in
     c.in_ok-from_vec.ensures.ok
     ∙ c.in_ok-frame.ensures
     ∙ ap₂ (λ (ss : List Segment) (fs : List (List Bool)). frame_bytes (segments_body (next_parts k (map bytes_of ss)) fs)) c.deref-2.ensures.value c.deref-3.ensures.value
-    ∙ ap (λ n. frame_bytes (segments_body (next_parts n (map bytes_of c.open_into.new.segments.items)) c.in_ok-sets.sets.items)) c.len.ensures
 
 pub returns-clause-count : goal.returns-clause-count
 returns-clause-count c =

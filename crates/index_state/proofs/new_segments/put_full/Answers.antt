@@ -31,3 +31,21 @@ loop-segment-preserved c =
       put = subst (ArePut c.args.body.now next) (sym pushed) (put_more c.args.body.now l.body next l.news.items new l.invariant.put whole stands.forward stands.within);
       same = ap (λ ns. map (told_at next) ns ++ map told_of rest) pushed ∙ told_more l.body next (part_bytes (fresh c.as_slice.result.now)) l.news.items new segment l.left.items rest l.invariant.put.within put same refl c.in-Some.ensures.items ∙ l.invariant.same;
     }
+
+-- the same, where the segment is let go after the push
+pub loop-segment-preserved-in_ok-push : goal.loop-segment-preserved-in_ok-push
+loop-segment-preserved-in_ok-push c =
+    let l = c.loop-segment in
+    let segment = c.in-Some.segment in
+    let next = c.put_fresh.new.self in
+    let stands = c.in_ok-place.ensures.place in
+    let new : NewSegment = record { place = c.in_ok-place.place; num_docs = segment.num_docs } in
+    let put = c.in_ok-place.ensures.put in
+    let whole = put ∙ ap (λ (bs : List ℕ). l.body ++ part_bytes (fresh bs)) (sym stands.bytes_are) in
+    let same = stands.bytes_are ∙ c.as_slice.ensures in
+    let rest = c.pop_front.new.self.items in
+    let pushed = c.in_ok-push.ensures.items in
+    record {
+      put = subst (ArePut c.args.body.now next) (sym pushed) (put_more c.args.body.now l.body next l.news.items new l.invariant.put whole stands.forward stands.within);
+      same = ap (λ ns. map (told_at next) ns ++ map told_of rest) pushed ∙ told_more l.body next (part_bytes (fresh c.as_slice.result.now)) l.news.items new segment l.left.items rest l.invariant.put.within put same refl c.in-Some.ensures.items ∙ l.invariant.same;
+    }

@@ -21,5 +21,5 @@ pub returns-clause-ok : goal.returns-clause-ok
 returns-clause-ok c analyze block_size docs written =
     let shared = c.in_ok-bytes.ensures.ok in
     let is = subst (IsSegmentOf c.args.schema.now analyze docs) (sym shared) (c.in_ok-close.ensures.ok analyze block_size docs written) in
-    let count = c.num_docs.ensures c.args.schema.now analyze block_size docs written in
-    (record { bytes = c.in_ok-bytes.bytes; num_docs = c.num_docs.result }, (is, count), c.in_ok-push.ensures.items)
+    let count = c.num_docs-num_docs.ensures c.args.schema.now analyze block_size docs written in
+    (record { bytes = c.in_ok-bytes.bytes; num_docs = c.num_docs-num_docs.result }, (is, count), c.in_ok-push.ensures.items)
