@@ -53,7 +53,12 @@ fn serve_file(rt: &HostRuntime) -> Option<Result<(), RunFault>> {
     let alloc = rt.alloc();
     let mut reader = BufReader::with_capacity(alloc, BUFFER_LEN, rt.reader()).ok()?;
     let mut writer = BufWriter::with_capacity(alloc, BUFFER_LEN, io::writer(rt)).ok()?;
-    Some(run(alloc, &mut reader, &mut writer, device, RawAndDefault))
+    let outcome = run(alloc, &mut reader, &mut writer, device, RawAndDefault);
+    if matches!(outcome, Err(RunFault::WriteFault)) {
+        // Nothing is written behind a reply that couldn't be: what is left in the buffer is dropped.
+        let _ = writer.into_parts();
+    }
+    Some(outcome)
 }
 
 /// The device over the file that the argument names, with room for its path.
