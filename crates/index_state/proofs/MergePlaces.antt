@@ -165,3 +165,7 @@ merge_written count from to n news sets begun before mid put begins counted firs
     let front : before ≡ begun ++ flat_map part_bytes (kept_from 0 from) = first ∙ ap (λ k. begun ++ flat_map part_bytes (kept_from 0 k)) all_kept in
     let all = parts_more begun before put (kept_from 0 from) (map fresh news ++ kept_from to (count - to)) front (parts_more before mid put (map fresh news) (kept_from to (count - to)) second third) in
     is_written (merged_parts count from to news) sets begun put n begins (counted ∙ sym (length-merged count from to news)) all
+
+-- bytes are a segment by another name of them and of how many documents it has
+pub known_at : (schema : Schema) (n many : ℕ) (bytes at : List ℕ) → n ≡ many → at ≡ bytes → IsSegment schema n bytes → IsSegment schema many at
+known_at schema n many bytes at counted same is = subst (λ k. IsSegment schema k at) counted (subst (IsSegment schema n) (sym same) is)

@@ -2,9 +2,9 @@ use Rattle.std.proofs.Common.{ap, arith, drop, length, refl, subst, sym, ◌-◌
 use Rattle.std.proofs.Math.Logic.{∥∥₁_map}
 use Rattle.definitions.specs.declared.fault.Fault.TheVariants as faults
 use Rattle.segment.specs.Limits.{DocumentsPass}
-use Rattle.segment_definitions.specs.Segments.{IsSegment, IsSegmentOf}
+use Rattle.segment_definitions.specs.Segments.{IsSegmentOf}
 use Rattle.segment_search.proofs.Flagging.{flagged_within}
-use Rattle.index_state.proofs.MergePlaces.{front_within, no_documents, put_ended, range_documents, range_each, range_known, range_living, range_of}
+use Rattle.index_state.proofs.MergePlaces.{front_within, known_at, no_documents, put_ended, range_documents, range_each, range_known, range_living, range_of}
 use Rattle.index_state.proofs.MergedGroups.{refused_otherwise}
 use Rattle.index_state.proofs.Outcomes.{err_has}
 use Rattle.index_state.specs.Merges.{MergePasses, joined_groups}
@@ -69,7 +69,7 @@ returns-clause-known g c =
     let many = range_living index c.args.from c.args.to c.requires.within c.deref.result.now c.deref-2.result.now c.deref.ensures.value c.deref-2.ensures.value ∙ sym c.requires.living in
     let start = c.len-start.ensures ∙ c.in_ok-prefix.prefix.ok.0 in
     let same = c.end_fresh-body.ensures.place.bytes_are ∙ ap (λ n. drop n frame) start in
-    ∥∥₁_map c.in_ok-frame.ensures.known (λ is. (subst (λ n. IsSegment index.schema n _) many (subst (IsSegment index.schema _) (sym same) is), tt))
+    ∥∥₁_map c.in_ok-frame.ensures.known (λ is. (known_at index.schema _ _ _ _ many same is, tt))
 
 pub returns-clause-of : goal.returns-clause-of
 returns-clause-of g c k x s =
