@@ -23,12 +23,15 @@ impl Histories {
 
     /// Makes an index of the schema and of settings, over a device of its own.
     pub(crate) fn create(&mut self, arguments: &Arguments) -> Result<Value, Refusal> {
-        self.index = None;
-        self.device = None;
-        let schema = Schema::from_json_value(self.alloc, &self.schema)?;
-        let settings = Settings::from_json_value(self.alloc, &schema, arguments.value(0)?)?;
-        let device = FuseDevice::new(MemoryDevice::new(self.alloc), u64::MAX);
-        self.put(Index::create(self.alloc, device, RawAndDefault, schema, settings))?;
+        self.put_new(arguments.value(0)?, u64::MAX)?;
+        Ok(flag(true))
+    }
+
+    /// Makes an index of the schema and of settings, over the device that stands.
+    pub(crate) fn create_here(&mut self, arguments: &Arguments) -> Result<Value, Refusal> {
+        let configuration = self.configuration(arguments.value(0)?)?;
+        let device = self.take_device()?;
+        self.put_created(device, u64::MAX, configuration)?;
         Ok(flag(true))
     }
 
@@ -79,10 +82,42 @@ impl Histories {
         Ok(flag(true))
     }
 
+    /// Lets an index of settings stand over a device of its own, under a fuse that blows at the k-th call.
+    pub(crate) fn put_new(&mut self, settings: &Value, k: u64) -> Result<(), Fault> {
+        self.index = None;
+        self.device = None;
+        let configuration = self.configuration(settings)?;
+        self.put_created(MemoryDevice::new(self.alloc), k, configuration)
+    }
+
+    /// Reads the schema that was kept, and settings.
+    fn configuration(&self, settings: &Value) -> Result<(Schema, Settings), Fault> {
+        let schema = Schema::from_json_value(self.alloc, &self.schema)?;
+        let settings = Settings::from_json_value(self.alloc, &schema, settings)?;
+        Ok((schema, settings))
+    }
+
+    /// Makes an index over a device, under a fuse that blows at the k-th call, and lets it stand.
+    fn put_created(
+        &mut self,
+        device: MemoryDevice,
+        k: u64,
+        configuration: (Schema, Settings),
+    ) -> Result<(), Fault> {
+        let fused = FuseDevice::new(device, k);
+        let (schema, settings) = configuration;
+        self.put(Index::create(self.alloc, fused, RawAndDefault, schema, settings))
+    }
+
     /// Lets the index of a device's file stand, over a fuse that blows at the k-th call.
     pub(crate) fn put_opened(&mut self, device: MemoryDevice, k: u64) -> Result<(), Fault> {
         let fused = FuseDevice::new(device, k);
         self.put(Index::open(self.alloc, fused, RawAndDefault))
+    }
+
+    /// Lets a device stand whose file isn't opened.
+    pub(crate) fn put_closed(&mut self, device: MemoryDevice) {
+        self.device = Some(FuseDevice::new(device, u64::MAX));
     }
 
     /// Lets an index stand that was made or opened; of one that wasn't, the device is kept.

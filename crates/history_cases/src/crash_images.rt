@@ -1,6 +1,6 @@
 //! What a crash leaves of a device.
 
-ghost use Rattle.std.specs.Prelude.{◌≡◌, IfOk, length};
+ghost use Rattle.std.specs.Prelude.{◌≡◌, ◌≤◌, IfOk, length};
 ghost use Rattle.definitions.specs.Disk.{IsImage, settled};
 ghost use Rattle.common.specs.MemoryDevices.{content_of, unsynced_of};
 
@@ -33,6 +33,22 @@ pub(crate) fn after_crash(
         Left::Least => least,
         Left::Greatest => greatest,
     };
+    after_crash_to_length(alloc, device, len, byte)
+}
+
+/// The same of one of the lengths that a crash may leave.
+pub(crate) fn after_crash_to_length(
+    alloc: Global,
+    device: &MemoryDevice,
+    len: usize,
+    byte: u8,
+) -> Result<MemoryDevice, Fault>
+    requires no_shorter { (unsynced_of device.now).least ≤ len }
+    requires no_longer { len ≤ (unsynced_of device.now).greatest }
+    ensures image { IfOk result (λ after.
+        IsImage (content_of device.now) (unsynced_of device.now) (content_of after)) }
+    ensures settled { IfOk result (λ after. unsynced_of after ≡ settled (length (content_of after))) }
+{
     let image = device.crash(alloc, len, byte)?;
     let mut after = MemoryDevice::new(alloc);
     write_synced(&mut after, 0, &image)?;

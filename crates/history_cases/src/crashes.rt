@@ -1,4 +1,4 @@
-//! Openings, commits and merges that a failing device or a crash cuts off.
+//! Creates, openings, commits and merges that a failing device or a crash cuts off.
 
 use crate::crash_images::{Left, after_crash};
 use crate::histories::Histories;
@@ -7,6 +7,13 @@ use definitions::Fault;
 use serde_json::Value;
 
 impl Histories {
+    /// Makes an index of settings over a device of its own that takes so many calls, and fails the next.
+    pub(crate) fn create_until(&mut self, arguments: &Arguments) -> Result<Value, Refusal> {
+        let calls = arguments.number(0)?;
+        self.put_new(arguments.value(1)?, calls.saturating_add(1))?;
+        Ok(flag(true))
+    }
+
     /// Opens the file of the index that stands over a device that takes so many calls from then on, and fails the next.
     pub(crate) fn open_until(&mut self, arguments: &Arguments) -> Result<Value, Refusal> {
         let calls = arguments.number(0)?;
@@ -49,6 +56,20 @@ impl Histories {
         self.open_after_crash(byte, left, ended)
     }
 
+    /// Makes an index over a device that takes so many calls. What a crash leaves then stands, and isn't opened.
+    pub(crate) fn crash_create(
+        &mut self,
+        arguments: &Arguments,
+        left: Left,
+    ) -> Result<Value, Refusal> {
+        let byte = arguments.byte(0)?;
+        let calls = arguments.number(1)?;
+        let ended = self.put_new(arguments.value(2)?, calls.saturating_add(1));
+        let device = after_crash(self.alloc, &self.take_device()?, byte, left)?;
+        self.put_closed(device);
+        Ok(text(self.alloc, ending(ended))?)
+    }
+
     /// Opens what a crash leaves after a call that ended so.
     fn open_after_crash(
         &mut self,
@@ -56,12 +77,16 @@ impl Histories {
         left: Left,
         ended: Result<(), Fault>,
     ) -> Result<Value, Refusal> {
-        let outcome = match ended {
-            Ok(()) => "Ok",
-            Err(fault) => fault.name(),
-        };
         let device = after_crash(self.alloc, &self.take_device()?, byte, left)?;
         self.put_opened(device, u64::MAX)?;
-        Ok(text(self.alloc, outcome)?)
+        Ok(text(self.alloc, ending(ended))?)
+    }
+}
+
+/// The name of how a call ended.
+pub(crate) fn ending(ended: Result<(), Fault>) -> &'static str {
+    match ended {
+        Ok(()) => "Ok",
+        Err(fault) => fault.name(),
     }
 }

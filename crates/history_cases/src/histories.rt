@@ -90,6 +90,7 @@ impl Histories {
         arguments: &Arguments,
     ) -> Result<Value, Refusal> {
         match operation {
+            "create-until" => self.create_until(arguments),
             "open-until" => self.open_until(arguments),
             "crash" => self.crash(arguments, Left::Greatest),
             "crash-least" => self.crash(arguments, Left::Least),
@@ -97,6 +98,10 @@ impl Histories {
             "crash-merge-least" => self.crash_merge(arguments, Left::Least),
             "crash-open" => self.crash_open(arguments, Left::Greatest),
             "crash-open-least" => self.crash_open(arguments, Left::Least),
+            "crash-create" => self.crash_create(arguments, Left::Greatest),
+            "crash-create-least" => self.crash_create(arguments, Left::Least),
+            "crash-each" => self.crash_each(arguments),
+            "crash-merge-each" => self.crash_merge_each(arguments),
             "calls" => self.calls(),
             _ => Err(Refusal::NotAsked),
         }
@@ -108,6 +113,7 @@ impl Operations for Histories {
         match operation {
             "schema" => self.make_schema(arguments),
             "create" => self.create(arguments),
+            "create-here" => self.create_here(arguments),
             "open" => self.open(),
             "add" => self.add(arguments),
             "add-text" => self.add_text(arguments),

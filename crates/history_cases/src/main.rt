@@ -4,6 +4,7 @@
 
 mod changes;
 mod crash_images;
+mod crash_lengths;
 mod crashes;
 mod histories;
 mod searches;

@@ -9,8 +9,12 @@ use std::alloc::{AllocError, Global};
 impl Histories {
     /// The best hits of a query, so many at most, each as its score and what is stored.
     pub(crate) fn search(&mut self, arguments: &Arguments) -> Result<Value, Refusal> {
-        let limit = arguments.number(0)?;
-        let query = query_by_steps(self.alloc, arguments.list(1)?)?;
+        self.best(arguments.number(0)?, arguments.list(1)?)
+    }
+
+    /// The best hits of the query of these steps.
+    pub(crate) fn best(&mut self, limit: u64, steps: &[Value]) -> Result<Value, Refusal> {
+        let query = query_by_steps(self.alloc, steps)?;
         let alloc = self.alloc;
         let hits = self.standing_mut()?.search(&query, limit as usize)?;
         Ok(shown(alloc, &hits)?)
