@@ -51,6 +51,7 @@ pub mod Blocks
 pub mod Sinks
 pub mod ScoredLists
 pub mod Answers
+pub mod TermBlocks
 pub mod Prefixes
 pub mod QueryTerms
 pub mod KeptLengths

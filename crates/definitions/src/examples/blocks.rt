@@ -3,9 +3,11 @@
 ghost use Rattle.std.specs.Prelude.{[], ◌++◌, ◌∷◌, ◌≡◌, List, length, map, negsuc, pos, replicate, ℕ};
 ghost use Rattle.definitions.specs.Analyzers.{raw_and_default};
 ghost use Rattle.definitions.specs.Blocks.{blocks, bound_of, bound_score};
-ghost use Rattle.definitions.specs.Examples.{best_threshold, book, books, falling_blocks, head_or, keep_best, three_books, title_term, year_term};
+ghost use Rattle.definitions.specs.Examples.{best_threshold, book, books, falling_blocks, head_or, keep_best, three_books, title_term, weighing, year_term};
 ghost use Rattle.definitions.specs.Postings.{postings};
+ghost use Rattle.definitions.specs.Schema.{with_freqs};
 ghost use Rattle.definitions.specs.Sinks.{blocks_above, fed, later_blocks_above};
+ghost use Rattle.definitions.specs.TermBlocks.{scored_blocks};
 
 /// The documents that have a term, each with its count and positions.
 pub fn postings_list_documents()
@@ -56,4 +58,17 @@ pub fn blocks_above_the_threshold_are_counted()
     ensures one_more { later_blocks_above (best_threshold 129) (keep_best 129) [] falling_blocks ≡ 1 }
     ensures empty { blocks_above (best_threshold 1) (keep_best 1) [] ((40, []) ∷ []) ≡ 0 }
     ensures none { later_blocks_above (best_threshold 1) (keep_best 1) [] [] ≡ 0 }
+{}
+
+/// The documents of a term stand in blocks, each with the score of its bound.
+pub fn blocks_have_scored_documents()
+    ensures rest { scored_blocks books raw_and_default (weighing 60) 1 (title_term "sea") with_freqs three_books
+        ≡ (60, (0, 30) ∷ (1, 40) ∷ []) ∷ [] }
+    ensures boosted { scored_blocks books raw_and_default (weighing 60) 3 (title_term "sea") with_freqs three_books
+        ≡ (180, (0, 90) ∷ (1, 120) ∷ []) ∷ [] }
+    ensures bounds { map (λ block. block.0) (scored_blocks books raw_and_default (weighing 60) 1 (title_term "a")
+        with_freqs (replicate 130 (book "a" 1))) ≡ 30 ∷ 60 ∷ [] }
+    ensures lengths { map (λ block. length block.1) (scored_blocks books raw_and_default (weighing 60) 1
+        (title_term "a") with_freqs (replicate 130 (book "a" 1))) ≡ 128 ∷ 2 ∷ [] }
+    ensures nothing { scored_blocks books raw_and_default (weighing 60) 1 (title_term "x") with_freqs three_books ≡ [] }
 {}
