@@ -14,14 +14,14 @@ use Rattle.definitions.specs.Sinks.{ScoredBlocks}
 use Rattle.definitions.specs.State.{State, nothing_yet}
 use Rattle.definitions.specs.Stored.{stored_values}
 use Rattle.definitions.specs.Terms.{signed_bytes, term_bytes, whole_seconds}
-use Rattle.definitions.specs.Values.{Document, Members, Value, array, member, no_members, no_values, null, object, str, u64, value}
+use Rattle.definitions.specs.Values.{Document, Members, Value, array, member, no_members, no_values, null, object, pre_tok_str, str, u64, value}
 use Prim.Native.String.{String}
 
 -- ---- fields
 
 -- a field of that name and kind without an option
 abbrev pub bare : String → Kind → Entry
-bare field_name field_kind = record { name = codes field_name; kind = field_kind; stored = false; indexed = false; fieldnorms = false; fast = false; coerce = false; record_option = basic; tokenizer = []; expand_dots = false }
+bare field_name field_kind = record { name = codes field_name; kind = field_kind; stored = false; indexed = false; fieldnorms = false; fast = false; coerce = false; record_option = basic; tokenizer = []; gap = 1; expand_dots = false }
 
 -- a text in words, with positions and lengths, that is stored
 abbrev pub text_entry : String → Entry
@@ -38,6 +38,10 @@ coercing e = record e { coerce = true }
 -- a title and a year
 abbrev pub books : Schema
 books = text_entry "title" ∷ indexed_entry "year" u64_kind ∷ []
+
+-- the same with another gap between titles
+abbrev pub books_apart : ℕ → Schema
+books_apart places = record (text_entry "title") { gap = places } ∷ indexed_entry "year" u64_kind ∷ []
 
 -- one field, `data`, of that kind
 abbrev pub data_of : Kind → Schema
@@ -74,6 +78,14 @@ three_books = old_sea ∷ sea_wind ∷ wind ∷ []
 -- a value for each title
 abbrev pub titled : List String → Document
 titled titles = map (λ title. (0, str (codes title))) titles
+
+-- two titles of a document
+abbrev pub two_titles : Document
+two_titles = titled ("a b" ∷ "c" ∷ [])
+
+-- two titles of a token each, of which the first has no length
+abbrev pub sea_on_wind : Document
+sea_on_wind = (0, pre_tok_str [] (record { position = 0; position_length = 0; text = codes "sea" } ∷ [])) ∷ (0, str (codes "wind")) ∷ []
 
 -- five titles of letters
 abbrev pub letters : List Document
@@ -185,6 +197,10 @@ best k docs q = scan books raw_and_default (weighing 60) docs q k
 -- how many match
 abbrev pub count_in : List Document → Query → ℕ
 count_in docs q = scan_count books raw_and_default docs q
+
+-- the best 10 of one document with weight 60, where titles stand so far apart
+abbrev pub best_apart : ℕ → Document → Query → List Hit
+best_apart places doc q = scan (books_apart places) raw_and_default (weighing 60) (doc ∷ []) q 10
 
 -- a document's hit with that score
 abbrev pub hit : Document → ℕ → Hit

@@ -12,7 +12,7 @@ use Rattle.serde_json.specs.Data as json
 
 -- an indexed field of that name and kind, whose texts are cut into words
 abbrev pub field_of_kind : String → Kind → Entry
-field_of_kind field_name field_kind = record { name = codes field_name; kind = field_kind; stored = true; indexed = true; fieldnorms = has_lengths field_kind; fast = false; coerce = false; record_option = basic; tokenizer = []; expand_dots = false }
+field_of_kind field_name field_kind = record { name = codes field_name; kind = field_kind; stored = true; indexed = true; fieldnorms = has_lengths field_kind; fast = false; coerce = false; record_option = basic; tokenizer = []; gap = 1; expand_dots = false }
 
 -- a text in words, with positions and lengths
 abbrev pub text_field : String → Entry

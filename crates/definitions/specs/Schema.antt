@@ -52,7 +52,8 @@ has_positions with_freqs = false
 has_positions with_freqs_and_positions = true
 
 -- A field of a schema. An option that its kind lacks is unset. `indexed` says of a text or JSON field
--- that it has an indexing; what is recorded and the tokenizer are those of that indexing.
+-- that it has an indexing; what is recorded and the tokenizer are those of that indexing. `gap` is what
+-- stands between two values of a text field that is indexed, and 1 of any other field.
 pub record Entry : Type 0 where
   pub name : List ℕ
   pub kind : Kind
@@ -63,6 +64,7 @@ pub record Entry : Type 0 where
   pub coerce : Bool
   pub record_option : IndexRecordOption
   pub tokenizer : List ℕ
+  pub gap : ℕ
   pub expand_dots : Bool
 
 -- the fields, each at its number
@@ -90,7 +92,11 @@ is_text _ = false
 
 -- what stands between two values of a text field
 abbrev pub gap_of : Entry → ℕ
-gap_of e = 1
+gap_of e = e.gap
+
+-- the greatest gap that a field has
+abbrev pub max_gap : ℕ
+max_gap = 1000
 
 -- whether there is a field of that number, and it passes
 abbrev pub field_has : (Entry → Bool) → Schema → ℕ → Bool
@@ -118,11 +124,11 @@ with_field schema e = if is_some (field_named schema e.name) then Err DuplicateN
 
 -- what stands without an indexing
 abbrev pub without_indexing : Entry → Entry
-without_indexing e = record e { record_option = basic; tokenizer = [] }
+without_indexing e = record e { record_option = basic; tokenizer = []; gap = 1 }
 
 -- without an indexing nothing is recorded
 abbrev pub indexing_cleaned : Entry → Entry
-indexing_cleaned e = if e.indexed then e else record e { fieldnorms = false; record_option = basic; tokenizer = [] }
+indexing_cleaned e = if e.indexed then e else record e { fieldnorms = false; record_option = basic; tokenizer = []; gap = 1 }
 
 -- the entry with the options that its kind has, and no others
 abbrev pub cleaned_as : Kind → Entry → Entry
@@ -131,14 +137,15 @@ cleaned_as u64_kind e = record (without_indexing e) { expand_dots = false }
 cleaned_as i64_kind e = record (without_indexing e) { expand_dots = false }
 cleaned_as bool_kind e = record (without_indexing e) { expand_dots = false }
 cleaned_as facet_kind e = record (without_indexing e) { indexed = true; fieldnorms = false; fast = false; coerce = false; expand_dots = false }
-cleaned_as json_kind e = record (indexing_cleaned e) { coerce = false }
+cleaned_as json_kind e = record (indexing_cleaned e) { coerce = false; gap = 1 }
 cleaned_as _ e = record (without_indexing e) { coerce = false; expand_dots = false }
 
--- an entry of a schema: its name is good, its texts are texts, and it has the options of its kind alone
+-- an entry of a schema: its name is good, its texts are texts, its gap isn't too great, and it has the options of its kind alone
 pub record IsEntry (e : Entry) : Type 0 where
   pub good_name : IsTrue (is_valid_field_name e.name)
   pub text_name : IsUtf8 e.name
   pub text_tokenizer : IsUtf8 e.tokenizer
+  pub few_apart : e.gap ≤ max_gap
   pub only_its_options : cleaned_as e.kind e ≡ e
 
 -- no entry has the name of one after it

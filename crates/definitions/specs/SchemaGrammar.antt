@@ -1,9 +1,10 @@
 -- Schemas as JSON: an array of fields, each an object of its name, its type and its options.
-use Rattle.std.specs.Prelude.{[], ◌++◌, ◌∷◌, Bool, Err, List, None, Ok, Option, Result, Some, codes, false, if◌then◌else◌, is_some, map, true, ℕ}
+use Rattle.std.specs.Prelude.{[], ◌++◌, ◌+◌, ◌∷◌, Bool, Err, List, None, Ok, Option, Result, Some, codes, false, if◌then◌else◌, is_some, map, true, ℕ}
 use Rattle.std.specs.Result.{result_map_both}
-use Rattle.definitions.specs.Json.{at_or, has_only, named, object_of, only_if, text_at, ◌>>=◌}
+use Rattle.definitions.specs.Json.{at_or, has_only, named, number_below, object_of, only_if, text_at, ◌>>=◌}
 use Rattle.definitions.specs.QueryGrammar.{record_option_in}
-use Rattle.definitions.specs.Schema.{Entry, IndexRecordOption, Kind, Schema, all_kinds, basic, bool_kind, facet_kind, i64_kind, json_kind, kind_name, text_kind, u64_kind, with_field, with_freqs, with_freqs_and_positions}
+use Rattle.definitions.specs.Replies.{number_data}
+use Rattle.definitions.specs.Schema.{Entry, IndexRecordOption, Kind, Schema, all_kinds, basic, bool_kind, facet_kind, i64_kind, json_kind, kind_name, max_gap, text_kind, u64_kind, with_field, with_freqs, with_freqs_and_positions}
 use Rattle.definitions.specs.declared.fault.Fault.{Fault}
 use Rattle.definitions.specs.declared.fault.Fault.TheVariants as faults
 use Rattle.serde_json.specs.Find.{as_bool, as_null, as_object, as_str, get}
@@ -29,7 +30,7 @@ has_coerce _ = false
 
 -- a field with no option set
 abbrev pub entry_named : List ℕ → Kind → Entry
-entry_named name kind = record { name = name; kind = kind; stored = false; indexed = false; fieldnorms = false; fast = false; coerce = false; record_option = basic; tokenizer = []; expand_dots = false }
+entry_named name kind = record { name = name; kind = kind; stored = false; indexed = false; fieldnorms = false; fast = false; coerce = false; record_option = basic; tokenizer = []; gap = 1; expand_dots = false }
 
 -- the option at a key, true or false; where it is absent, this
 abbrev pub flag_or : Bool → List ℕ → json.Data → Option Bool
@@ -47,9 +48,16 @@ with_indexing_in e d = only_if (is_some (as_object d)) (do
   tokenizer ← at_or (codes "default") as_str (codes "tokenizer") d
   Some (record e { indexed = true; fieldnorms = lengths; record_option = option; tokenizer = tokenizer }))
 
--- how a text or JSON field is indexed; null says that it isn't
-abbrev pub indexing_in : Entry → json.Data → Option Entry
-indexing_in e d = if is_some (as_null d) then Some e else with_indexing_in e d
+-- the field with an indexing, which says the gap too
+abbrev pub with_text_indexing_in : Entry → json.Data → Option Entry
+with_text_indexing_in e d = do
+  indexed_field ← with_indexing_in e d
+  number ← at_or 1 (number_below (max_gap + 1)) (codes "gap") d
+  Some (record indexed_field { gap = number })
+
+-- how a field is indexed, as an indexing is read there; null says that it isn't
+abbrev pub indexing_in : (Entry → json.Data → Option Entry) → Entry → json.Data → Option Entry
+indexing_in read_as e d = if is_some (as_null d) then Some e else read_as e d
 
 -- how a field of values is indexed; lengths are kept where nothing else is said and it is
 abbrev pub values_in : Entry → json.Data → Option Entry
@@ -60,10 +68,10 @@ values_in e options = do
 
 -- the options that fields of one kind have beside those of other kinds
 abbrev pub own_options_in : Kind → Entry → json.Data → Option Entry
-own_options_in text_kind e options = at_or e (indexing_in e) (codes "indexing") options
+own_options_in text_kind e options = at_or e (indexing_in with_text_indexing_in e) (codes "indexing") options
 own_options_in json_kind e options = do
   dots ← flag_or false (codes "expand_dots") options
-  at_or (record e { expand_dots = dots }) (indexing_in (record e { expand_dots = dots })) (codes "indexing") options
+  at_or (record e { expand_dots = dots }) (indexing_in with_indexing_in (record e { expand_dots = dots })) (codes "indexing") options
 own_options_in facet_kind e options = Some (record e { indexed = true })
 own_options_in _ e options = values_in e options
 
@@ -139,14 +147,14 @@ flag_data key flag = (key, json.boolean flag) ∷ []
 abbrev pub flag_data_if : Bool → List ℕ → Bool → List (List ℕ × json.Data)
 flag_data_if has key flag = if has then flag_data key flag else []
 
--- how a text or JSON field is indexed
-abbrev pub indexing_data : Entry → json.Data
-indexing_data e = if e.indexed then object_of ((codes "record", json.string (record_option_name e.record_option)) ∷ (codes "fieldnorms", json.boolean e.fieldnorms) ∷ (codes "tokenizer", json.string e.tokenizer) ∷ []) else json.null
+-- how a text or JSON field is indexed, with what an indexing says of this kind alone
+abbrev pub indexing_data : List (List ℕ × json.Data) → Entry → json.Data
+indexing_data own e = if e.indexed then object_of ((codes "record", json.string (record_option_name e.record_option)) ∷ (codes "fieldnorms", json.boolean e.fieldnorms) ∷ (codes "tokenizer", json.string e.tokenizer) ∷ own) else json.null
 
 -- the options that fields of one kind have beside those of other kinds
 abbrev pub own_options_data : Kind → Entry → List (List ℕ × json.Data)
-own_options_data text_kind e = (codes "indexing", indexing_data e) ∷ []
-own_options_data json_kind e = (codes "indexing", indexing_data e) ∷ flag_data (codes "expand_dots") e.expand_dots
+own_options_data text_kind e = (codes "indexing", indexing_data ((codes "gap", number_data e.gap) ∷ []) e) ∷ []
+own_options_data json_kind e = (codes "indexing", indexing_data [] e) ∷ flag_data (codes "expand_dots") e.expand_dots
 own_options_data facet_kind e = []
 own_options_data _ e = flag_data (codes "indexed") e.indexed ++ flag_data (codes "fieldnorms") e.fieldnorms
 

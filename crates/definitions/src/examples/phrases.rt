@@ -2,7 +2,7 @@
 
 ghost use Rattle.std.specs.Prelude.{[], ◌∷◌, ◌≡◌, codes, false, map, true};
 ghost use Rattle.definitions.specs.Analyzers.{one_token, raw_and_default};
-ghost use Rattle.definitions.specs.Examples.{begun, best, books, count_in, hit, in_a_row, old_sea, sea_wind, three_books, title_term, titled, words};
+ghost use Rattle.definitions.specs.Examples.{begun, best, best_apart, books, count_in, hit, in_a_row, old_sea, sea_on_wind, sea_wind, three_books, title_term, titled, two_titles, words};
 ghost use Rattle.definitions.specs.Indexing.{terms_of};
 ghost use Rattle.definitions.specs.Phrases.{phrase_count, prefix_matches};
 ghost use Rattle.definitions.specs.Places.{places};
@@ -43,6 +43,26 @@ pub fn gaps_between_values()
         ∷ []) ≡ (codes "a", 0) ∷ (codes "b", 1) ∷ (codes "c", 2) ∷ [] }
     ensures three { places 3 ((one_token 0 (codes "a") ∷ []) ∷ [] ∷ (one_token 0 (codes "c") ∷ []) ∷ [])
         ≡ (codes "a", 0) ∷ (codes "c", 7) ∷ [] }
+{}
+
+/// The gap is the field's own: a phrase goes from one value to the next where its offsets leave out as many places.
+pub fn gaps_are_chosen_by_field()
+    ensures none { best_apart 0 two_titles (words ("b" ∷ "c" ∷ []) 0) ≡ hit two_titles 60 ∷ [] }
+    ensures one { best_apart 1 two_titles (words ("b" ∷ "c" ∷ []) 0) ≡ [] }
+    ensures two_slop_one { best_apart 2 two_titles (words ("b" ∷ "c" ∷ []) 1) ≡ [] }
+    ensures two_slop_two { best_apart 2 two_titles (words ("b" ∷ "c" ∷ []) 2) ≡ hit two_titles 60 ∷ [] }
+    ensures thousand { best_apart 1000 two_titles (phrase ((0, title_term "b") ∷ (1001, title_term "c") ∷ []) 0)
+        ≡ hit two_titles 60 ∷ [] }
+    ensures empty_value { best_apart 0 (titled ("" ∷ "a" ∷ [])) (begun ("a" ∷ "a" ∷ [])) ≡ [] }
+{}
+
+/// With no gap, tokens of length 0 leave the next value at their own place.
+pub fn values_may_share_a_place()
+    ensures exact { best_apart 0 sea_on_wind (phrase ((0, title_term "sea") ∷ (0, title_term "wind") ∷ []) 0)
+        ≡ hit sea_on_wind 60 ∷ [] }
+    ensures beside { best_apart 0 sea_on_wind (words ("sea" ∷ "wind" ∷ []) 0) ≡ [] }
+    ensures slop { best_apart 0 sea_on_wind (words ("sea" ∷ "wind" ∷ []) 1) ≡ hit sea_on_wind 60 ∷ [] }
+    ensures one { best_apart 1 sea_on_wind (words ("sea" ∷ "wind" ∷ []) 0) ≡ hit sea_on_wind 60 ∷ [] }
 {}
 
 /// The next value begins after the greatest end of a token, which needn't be the last token's.

@@ -6,7 +6,7 @@ ghost use Rattle.definitions.specs.Addresses.{mapped};
 ghost use Rattle.definitions.specs.Examples.{bare, books, coercing, indexed_entry, json_data, last_member, old_sea, one_member, text_entry, titled};
 ghost use Rattle.definitions.specs.Facets.{facet_of_path, facet_of_steps, is_prefix_of, path_of, root};
 ghost use Rattle.definitions.specs.Printed.{printed, printed_named};
-ghost use Rattle.definitions.specs.Schema.{IsSchema, bool_kind, cleaned_as, date_kind, facet_kind, field_named, is_valid_field_name, text_kind, u64_kind};
+ghost use Rattle.definitions.specs.Schema.{IsSchema, bool_kind, cleaned_as, date_kind, facet_kind, field_named, is_valid_field_name, json_kind, text_kind, u64_kind};
 ghost use Rattle.definitions.specs.Stored.{stored_values};
 ghost use Rattle.definitions.specs.Values.{IsDocument, array, bool, bytes, date, facet, i64, ip_addr, member, no_values, null, object, pre_tok_str, str, u64, value};
 ghost use Rattle.serde_json.specs.Written.{compact_text};
@@ -104,6 +104,10 @@ pub fn entries_have_options_of_their_kind()
     ensures coerce { (cleaned_as date_kind (coercing (indexed_entry "data" date_kind))).coerce ≡ false }
     ensures coerced_bool { cleaned_as bool_kind (coercing (indexed_entry "data" bool_kind))
         ≡ coercing (indexed_entry "data" bool_kind) }
+    ensures gap { (cleaned_as text_kind (record (text_entry "title") { gap = 5 })).gap ≡ 5 }
+    ensures unindexed_gap { (cleaned_as text_kind (record (text_entry "title") { indexed = false; gap = 5 })).gap ≡ 1 }
+    ensures json_gap { (cleaned_as json_kind (record (indexed_entry "data" json_kind) { gap = 5 })).gap ≡ 1 }
+    ensures number_gap { (cleaned_as u64_kind (record (indexed_entry "year" u64_kind) { gap = 5 })).gap ≡ 1 }
 {}
 
 /// The fields and documents of these examples are fields and documents.
