@@ -32,6 +32,9 @@ pub struct FileDevice {
 impl FileDevice {
     /// Opens the file at `path` for reading and writing, creates it if it is absent, and locks it for this device
     /// alone.
+    ///
+    /// Where the file holds no byte its folder is synced, so that a file which was just made keeps its name over a loss
+    /// of power. A folder that can't be read or synced is passed over, since the file can be used all the same.
     pub fn open(rt: &HostRuntime, path: &str) -> Result<Self, Fault>
         ensures failed { IfOk result (λ device. ⟦<FileDevice as Device>⟧.failed device ≡ 0) }
         ensures fault { IfErr result (λ fault. fault ≡ faults.Device) }
@@ -42,12 +45,16 @@ impl FileDevice {
             .create(true)
             .open(rt, path)
         {
-            Ok(file) => FileDevice::new(file),
+            Ok(file) => {
+                let device = FileDevice::new(file)?;
+                keep_name(rt, path, &device.file);
+                Ok(device)
+            }
             Err(_) => Err(Fault::Device),
         }
     }
 
-    /// Locks the open `file` for this device alone.
+    /// Locks the open `file` for this device alone; `Device` if it is no regular file.
     ///
     /// The lock is the advisory one on the whole file (`flock`); it is freed when the device is dropped or the process
     /// ends. A file that another device holds is an error, and its bytes stay as they are.
@@ -55,11 +62,38 @@ impl FileDevice {
         ensures failed { IfOk result (λ device. ⟦<FileDevice as Device>⟧.failed device ≡ 0) }
         ensures fault { IfErr result (λ fault. fault ≡ faults.Device) }
     {
-        match beyond_streams(file).and_then(held_alone) {
+        match regular(file).and_then(beyond_streams).and_then(held_alone) {
             Ok(file) => Ok(FileDevice { file, failed: 0 }),
             Err(_) => Err(Fault::Device),
         }
     }
+}
+
+// Syncs the folder of an empty file. What refuses that is passed over.
+fn keep_name(rt: &HostRuntime, path: &str, file: &File) {
+    if let Ok(metadata) = file.metadata()
+        && metadata.len() == 0
+    {
+        let _ = sync_folder(rt, path);
+    }
+}
+
+// Syncs the folder that `path` names a file of.
+fn sync_folder(rt: &HostRuntime, path: &str) -> io::Result<()> {
+    let folder = match path.rsplit_once('/') {
+        Some(("", _)) => "/",
+        Some((folder, _)) => folder,
+        None => ".",
+    };
+    File::open(rt, folder)?.sync_all()
+}
+
+// Refuses what isn't a regular file: `/dev/zero` has no end, and a pipe no bytes at an offset.
+fn regular(file: File) -> io::Result<File> {
+    if file.metadata()?.is_file() {
+        return Ok(file);
+    }
+    Err(io::Error::from(ErrorKind::InvalidInput))
 }
 
 // Moves the file to a descriptor above the standard streams': output for a stream that was closed must not go into it.
