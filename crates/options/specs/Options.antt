@@ -3,11 +3,12 @@ use Rattle.std.specs.Prelude.{⊤, ◌||◌, ◌≡◌, ◌⊎◌, Bool, List, N
 use Rattle.std.specs.Option.{option_or}
 use Rattle.definitions.specs.Schema.{IndexRecordOption, basic, with_freqs_and_positions}
 
--- how a text field is indexed
+-- how the texts of a text or JSON field are indexed; `gap` is of text fields alone
 pub record Indexing : Type 0 where
   pub tokenizer : List ℕ
   pub fieldnorms : Bool
   pub record_option : IndexRecordOption
+  pub gap : ℕ
 
 -- what the options of a text field say
 pub record TextData : Type 0 where
@@ -51,9 +52,9 @@ abbrev pub HasKnownTokenizer : Option Indexing → Type 0
 HasKnownTokenizer None = ⊤
 HasKnownTokenizer (Some i) = IsKnownTokenizer i.tokenizer
 
--- the analyzer `default`, documents and lengths
+-- the analyzer `default`, documents and lengths, and a gap of 1
 abbrev pub default_indexing : Indexing
-default_indexing = record { tokenizer = codes "default"; fieldnorms = true; record_option = basic }
+default_indexing = record { tokenizer = codes "default"; fieldnorms = true; record_option = basic; gap = 1 }
 
 -- nothing set
 abbrev pub default_text : TextData

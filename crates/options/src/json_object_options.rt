@@ -35,8 +35,10 @@ impl JsonObjectOptions {
         }
     }
 
-    /// Lets documents be found by the leaves of their objects; texts by their tokens.
+    /// Lets documents be found by the leaves of their objects; texts by their tokens. The gap is 1: texts of one path
+    /// have no other.
     pub fn set_indexing_options(self, indexing: TextFieldIndexing) -> Self
+        requires { indexing.gap ≡ 1 }
         ensures { result ≡ record self { indexing = Some indexing } }
     {
         JsonObjectOptions {

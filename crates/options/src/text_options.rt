@@ -1,7 +1,8 @@
 //! The options of text fields.
-ghost use Rattle.std.specs.Prelude.{◌≡◌, IfOk, IsOk, true};
+ghost use Rattle.std.specs.Prelude.{◌≡◌, ◌≤◌, IfOk, IsOk, true};
 ghost use Rattle.std.specs.Cow.{IsBorrowedStr, cow_str_bytes};
 ghost use Rattle.std.specs.Option.{option_copied};
+ghost use Rattle.definitions.specs.Schema.{max_gap};
 ghost use Rattle.options.specs.Options.{HasKnownTokenizer, Indexing, IsKnownTokenizer, TextData, default_indexing, default_text, text_or};
 ghost use Rattle.options.specs.RecordOption.{record_option_of};
 
@@ -18,12 +19,13 @@ pub struct TextFieldIndexing {
     tokenizer: CowStr<'static>,
     fieldnorms: bool,
     index_option: IndexRecordOption,
+    gap: u32,
 }
 
 impl Model for TextFieldIndexing {
     ghost Value = { Indexing };
 
-    ghost view = { λ i. record { tokenizer = cow_str_bytes i.tokenizer; fieldnorms = i.fieldnorms; record_option = record_option_of i.index_option } };
+    ghost view = { λ i. record { tokenizer = cow_str_bytes i.tokenizer; fieldnorms = i.fieldnorms; record_option = record_option_of i.index_option; gap = i.gap } };
 
     // The names of the two analyzers that are always available take no memory.
     ghost invariant = { λ i. IsKnownTokenizer (cow_str_bytes i.tokenizer) → IsBorrowedStr i.tokenizer };
@@ -80,6 +82,21 @@ impl TextFieldIndexing {
     {
         self.index_option
     }
+
+    /// Sets how many positions are left out between two values of a text field: at most 1000.
+    pub fn set_gap(self, gap: u32) -> Self
+        requires { gap ≤ max_gap }
+        ensures { result ≡ record self { gap = gap } }
+    {
+        TextFieldIndexing { gap, ..self }
+    }
+
+    /// Returns how many positions are left out between two values of a text field.
+    pub fn gap(&self) -> u32
+        ensures { result ≡ self.now.gap }
+    {
+        self.gap
+    }
 }
 
 impl Default for TextFieldIndexing {
@@ -90,6 +107,7 @@ impl Default for TextFieldIndexing {
             tokenizer: CowStr::Borrowed("default"),
             fieldnorms: true,
             index_option: IndexRecordOption::Basic,
+            gap: 1,
         }
     }
 }
@@ -108,6 +126,7 @@ impl Clone for TextFieldIndexing {
             tokenizer,
             fieldnorms: self.fieldnorms,
             index_option: self.index_option,
+            gap: self.gap,
         })
     }
 }
@@ -316,6 +335,7 @@ pub const TEXT: TextOptions = TextOptions {
         tokenizer: CowStr::Borrowed("default"),
         fieldnorms: true,
         index_option: IndexRecordOption::WithFreqsAndPositions,
+        gap: 1,
     }),
     fast: false,
     coerce: false,
@@ -328,6 +348,7 @@ pub const STRING: TextOptions = TextOptions {
         tokenizer: CowStr::Borrowed("raw"),
         fieldnorms: true,
         index_option: IndexRecordOption::Basic,
+        gap: 1,
     }),
     fast: false,
     coerce: false,
