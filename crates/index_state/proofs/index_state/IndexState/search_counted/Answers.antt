@@ -17,7 +17,7 @@ use Rattle.index_state.proofs.Searching.{live_committed, ok_both, query_refused,
 use Rattle.index_state.proofs.Standings.{pending_kept, stands_with}
 use Rattle.index_state.specs.Flags.{AreFlagged, flagged_each}
 use Rattle.segment_search.specs.Hits.{hit_of, scored}
-use Rattle.index_state.proofs.index_state.IndexState.search.Goals as goal
+use Rattle.index_state.proofs.index_state.IndexState.search_counted.Goals as goal
 
 pub returns-in_err-check_open-clause-err : goal.returns-in_err-check_open-clause-err
 returns-in_err-check_open-clause-err g c k x s =
@@ -29,11 +29,11 @@ returns-in_err-check_open-clause-err g c k x s =
 pub invariant_of-self : goal.invariant_of-self
 invariant_of-self g c =
     let index = c.args.self.now in
-    let kept = c.search.ensures.kept in
-    let held = segments_held index.segments c.deref_mut.result.now c.search.new.segments c.deref_mut.ensures.len kept in
+    let kept = c.search_counted.ensures.kept in
+    let held = segments_held index.segments c.deref_mut.result.now c.search_counted.new.segments c.deref_mut.ensures.len kept in
     record {
       opened = ∥∥₁_map index.opened (λ all. subst (AllByRecursion (IsOpened index.schema)) (sym held) (kept.opened index.schema (subst (AllByRecursion (IsOpened index.schema)) (sym c.deref_mut.ensures.value) all)));
-      flagged = subst (λ ss. AreFlagged ss index.alive.items) (sym held) (subst (AreFlagged c.search.new.segments) c.deref.ensures.value c.search.ensures.flagged);
+      flagged = subst (λ ss. AreFlagged ss index.alive.items) (sym held) (subst (AreFlagged c.search_counted.new.segments) c.deref.ensures.value c.search_counted.ensures.flagged);
       held = index.held;
       few = index.few;
     }
@@ -47,13 +47,13 @@ returns-clause-ok g c k x s =
     let ready = ap (λ status. calls.status_fault status true) s.status ∙ sym c.check_open.ensures.value ∙ ap result_err c.in_ok-check_open.was in
     let stands = subst (AllZip (StandsFor index.schema analyze) s.docs) (sym c.deref_mut.ensures.value) s.segments in
     let seen = ap (λ sets. live (flagged_each s.docs sets)) c.deref.ensures.value ∙ live_committed g.A.Analyzer.analyze index k x s in
-    ok_both c.search.result _ _ _
-    (λ hits taken told. (
+    ok_both c.search_counted.result _ _ _
+    (λ found taken told. (
       own_refuses k x call ready ∙ query_taken g.A.Analyzer.analyze index k x s q taken,
-      subst (λ (m : calls.Configuration). map hit_of hits.items ≡ map scored (scan m.schema m.analyze m.similarity (states.committed x.state) q c.args.limit)) (sym s.made)
+      subst (λ (m : calls.Configuration). map hit_of found.0.items ≡ map scored (scan m.schema m.analyze m.similarity (states.committed x.state) q c.args.limit)) (sym s.made)
           (told ∙ ap (λ ds. map scored (scan index.schema analyze (similarity_of index.settings) ds q c.args.limit)) seen),
     ))
-    c.search.ensures.accepted (c.search.ensures.ok analyze s.docs stands)
+    c.search_counted.ensures.accepted (c.search_counted.ensures.ok analyze s.docs stands)
 
 pub returns-clause-err : goal.returns-clause-err
 returns-clause-err g c k x s =
@@ -63,26 +63,26 @@ returns-clause-err g c k x s =
     let call = calls.search_best q c.args.limit in
     let ready = ap (λ status. calls.status_fault status true) s.status ∙ sym c.check_open.ensures.value ∙ ap result_err c.in_ok-check_open.was in
     let stands = subst (AllZip (StandsFor index.schema analyze) s.docs) (sym c.deref_mut.ensures.value) s.segments in
-    err_map c.search.result _ _ (λ fault told other. own_refuses k x call ready ∙ query_refused g.A.Analyzer.analyze index k x s q fault (told other)) (c.search.ensures.refused analyze s.docs stands)
+    err_map c.search_counted.result _ _ (λ fault told other. own_refuses k x call ready ∙ query_refused g.A.Analyzer.analyze index k x s q fault (told other)) (c.search_counted.ensures.refused analyze s.docs stands)
 
 pub returns-clause-left : goal.returns-clause-left
 returns-clause-left g c k x s =
     let index = c.args.self.now in
     let analyze = g.A.Analyzer.analyze index.analyzer in
-    let kept = c.search.ensures.kept in
-    let held = segments_held index.segments c.deref_mut.result.now c.search.new.segments c.deref_mut.ensures.len kept in
+    let kept = c.search_counted.ensures.kept in
+    let held = segments_held index.segments c.deref_mut.result.now c.search_counted.new.segments c.deref_mut.ensures.len kept in
     let stands = subst (AllZip (StandsFor index.schema analyze) s.docs) (sym c.deref_mut.ensures.value) s.segments in
     stands_with g.A.Analyzer.analyze index _ (record { analyzer = refl; schema = refl; settings = refl }) k x s x s.docs
     (subst (AllZip (StandsFor index.schema analyze) s.docs) (sym held) (kept.stands index.schema analyze s.docs stands)) s.status s.groups
     (λ ready.
     let p = s.pending ready in
-    pending_kept g.A.Analyzer.analyze index _ (record { analyzer = refl; schema = refl; settings = refl }) k x s refl refl (ap length held ∙ segments_counted c.deref_mut.result.now c.search.new.segments kept ∙ ap length c.deref_mut.ensures.value ∙ p.committed) p)
+    pending_kept g.A.Analyzer.analyze index _ (record { analyzer = refl; schema = refl; settings = refl }) k x s refl refl (ap length held ∙ segments_counted c.deref_mut.result.now c.search_counted.new.segments kept ∙ ap length c.deref_mut.ensures.value ∙ p.committed) p)
 
 pub returns-clause-members : goal.returns-clause-members
 returns-clause-members g c =
     let index = c.args.self.now in
-    let kept = c.search.ensures.kept in
-    let held = segments_held index.segments c.deref_mut.result.now c.search.new.segments c.deref_mut.ensures.len kept in
+    let kept = c.search_counted.ensures.kept in
+    let held = segments_held index.segments c.deref_mut.result.now c.search_counted.new.segments c.deref_mut.ensures.len kept in
     ap (λ bs. zip bs index.alive.items) (ap (map bytes_of) held ∙ kept.bytes ∙ ap (map bytes_of) c.deref_mut.ensures.value)
 
 pub returns-in_err-check_open-clause-own : goal.returns-in_err-check_open-clause-own
@@ -92,7 +92,7 @@ returns-in_err-check_open-clause-own g c k x s =
     (λ memory. absurd (closed_is_no_memory (sym c.in_err-check_open.ensures.fault ∙ memory)))
 
 pub returns-clause-faults : goal.returns-clause-faults
-returns-clause-faults g c = err_map c.search.result _ _ (λ fault told. inr told) c.search.ensures.faults
+returns-clause-faults g c = err_map c.search_counted.result _ _ (λ fault told. inr told) c.search_counted.ensures.faults
 
 pub returns-clause-own : goal.returns-clause-own
 returns-clause-own g c k x s =
@@ -100,7 +100,7 @@ returns-clause-own g c k x s =
     let q = query_of c.args.query.now in
     let call = calls.search_best q c.args.limit in
     let ready = ap (λ status. calls.status_fault status true) s.status ∙ sym c.check_open.ensures.value ∙ ap result_err c.in_ok-check_open.was in
-    err_map c.search.result _ _ (λ fault told memory. own_refuses k x call ready ∙ query_taken g.A.Analyzer.analyze index k x s q (told memory)) c.search.ensures.own
+    err_map c.search_counted.result _ _ (λ fault told memory. own_refuses k x call ready ∙ query_taken g.A.Analyzer.analyze index k x s q (told memory)) c.search_counted.ensures.own
 
 pub returns-in_err-check_open-clause-memory : goal.returns-in_err-check_open-clause-memory
 returns-in_err-check_open-clause-memory g c =
@@ -109,7 +109,10 @@ returns-in_err-check_open-clause-memory g c =
     (λ memory. absurd (closed_is_no_memory (sym c.in_err-check_open.ensures.fault ∙ memory)))
 
 pub returns-clause-accepted : goal.returns-clause-accepted
-returns-clause-accepted g c = c.search.ensures.accepted
+returns-clause-accepted g c = c.search_counted.ensures.accepted
 
 pub returns-clause-memory : goal.returns-clause-memory
-returns-clause-memory g c = c.search.ensures.own
+returns-clause-memory g c = c.search_counted.ensures.own
+
+pub returns-clause-uncounted : goal.returns-clause-uncounted
+returns-clause-uncounted g c other = c.search_counted.ensures.uncounted other
