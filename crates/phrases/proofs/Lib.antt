@@ -11,6 +11,7 @@ pub mod BlockLaws
 pub mod EntryCuts
 pub mod ScorerBlocks
 pub mod BlockWalks
+pub mod FedBelow
 pub mod RowLaws
 pub mod WindowLaws
 pub mod MergeLaws

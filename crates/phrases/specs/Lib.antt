@@ -11,6 +11,7 @@ pub mod PrefixWindows
 pub mod Standings
 pub mod Blocks
 pub mod BlocksLeft
+pub mod Feeding
 -- Laws that clauses and proofs of types must name.
 pub mod MergeLaws
 pub mod PlaceLaws
