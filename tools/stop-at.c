@@ -3,12 +3,14 @@
 //
 // STOP_AT is the number of the call, counted from 1, and STOP_HOW is `before` or `after` (killed there), `half` (killed
 // when half of the bytes are written), `full` (half of the bytes are written, and no byte of any later call: the disk
-// is full) or `fails` (an error of the disk). The file STOP_LOG gets a letter of each call: w, s or c.
+// is full) or `fails` (an error of the disk). The file STOP_LOG gets a letter of each call: w, s or c, and f where a
+// folder is synced.
 #include <errno.h>
 #include <fcntl.h>
 #include <signal.h>
 #include <stdlib.h>
 #include <string.h>
+#include <sys/stat.h>
 #include <sys/syscall.h>
 #include <sys/types.h>
 #include <unistd.h>
@@ -58,9 +60,14 @@ ssize_t pwrite(int file, const void *bytes, size_t len, off_t at) {
 
 ssize_t pwrite64(int file, const void *bytes, size_t len, off_t at) { return pwrite(file, bytes, len, at); }
 
-int fsync(int file) { return stopped("s", SYS_fsync, file, 0); }
+static const char *letter_of_sync(int file) {
+  struct stat kind;
+  return fstat(file, &kind) == 0 && S_ISDIR(kind.st_mode) ? "f" : "s";
+}
 
-int fdatasync(int file) { return stopped("s", SYS_fdatasync, file, 0); }
+int fsync(int file) { return stopped(letter_of_sync(file), SYS_fsync, file, 0); }
+
+int fdatasync(int file) { return stopped(letter_of_sync(file), SYS_fdatasync, file, 0); }
 
 int ftruncate(int file, off_t len) { return stopped("c", SYS_ftruncate, file, len); }
 

@@ -64,11 +64,18 @@ pub(crate) fn index_text<A: Analyzer>(
 {
     match value {
         CompactDocValue::Str(text) => {
-            indexer.index_text(schema, analyzer, field, entry.tokenizer(), text)
+            indexer.index_text(
+                schema,
+                analyzer,
+                field,
+                entry.tokenizer(),
+                entry.gap(),
+                text,
+            )
         }
         CompactDocValue::PreTokStr(text) => {
             let owned = text.to_pre_tokenized_string(indexer.alloc())?;
-            indexer.index_tokens(schema, field, owned.tokens())
+            indexer.index_tokens(schema, field, entry.gap(), owned.tokens())
         }
         _ => Ok(0),
     }

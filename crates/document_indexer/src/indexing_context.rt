@@ -1,6 +1,6 @@
 //! The state of the indexing of a document: the terms of its values are written into one buffer, and recorded.
 
-ghost use Rattle.std.specs.Prelude.{[], ◌++◌, ◌+◌, ◌<◌, ◌∷◌, ◌≡◌, IfErr, IfOk, List, OnOk, length, map, ℕ};
+ghost use Rattle.std.specs.Prelude.{[], ◌++◌, ◌+◌, ◌<◌, ◌^◌, ◌∷◌, ◌≡◌, IfErr, IfOk, List, OnOk, length, map, ℕ};
 ghost use Rattle.common.specs.Token.{token_of};
 ghost use Rattle.definitions.specs.Analyzers.{kept};
 ghost use Rattle.definitions.specs.Postings.{terminated};
@@ -12,7 +12,7 @@ ghost use Rattle.document_indexer.specs.Contexts.{CanIndex, IsReady, Records, Re
 ghost use Rattle.document_indexer.specs.FieldLengths.{cut};
 ghost use Rattle.document_indexer.specs.Steps.{path_step, term_step, text_step};
 
-use crate::indexing_positions::{IndexingPositions, POSITION_GAP};
+use crate::indexing_positions::{IndexingPositions, PATH_GAP};
 use crate::json_field::JsonField;
 use common::{Analyzer, BufferedStream, Token, TokenBuffer};
 use definitions::Fault;
@@ -109,22 +109,24 @@ impl IndexingContext {
     }
 
     /// Records the tokens of a text of a text field, except those that are too long, and returns how many were
-    /// recorded.
+    /// recorded. `gap` positions are left out before the field's next text.
     pub(crate) fn index_text<A: Analyzer>(
         &mut self,
         schema: &Schema,
         analyzer: &A,
         field: Field,
         tokenizer: &str,
+        gap: u32,
         text: &str,
     ) -> Result<u32, Fault>
-        requires { CanIndex schema.now self.old field text_kind }
+        requires can { CanIndex schema.now self.old field text_kind }
+        requires small { gap < 2 ^ 31 }
         ensures ok { OnOk result (Records schema.now self.old self.new
-            (text_step (term_bytes field text_kind []) 1 (kept (A.analyze analyzer.now tokenizer.now text.now)) ∷ [])) }
+            (text_step (term_bytes field text_kind []) gap (kept (A.analyze analyzer.now tokenizer.now text.now)) ∷ [])) }
         ensures num_tokens { IfOk result (λ n. n
             ≡ cut (length (kept (A.analyze analyzer.now tokenizer.now text.now)))) }
         ensures err { IfErr result (Refuses schema.now self.old
-            (text_step (term_bytes field text_kind []) 1 (kept (A.analyze analyzer.now tokenizer.now text.now)) ∷ [])) }
+            (text_step (term_bytes field text_kind []) gap (kept (A.analyze analyzer.now tokenizer.now text.now)) ∷ [])) }
     {
         analyzer.tokens_into(self.alloc, tokenizer, text, &mut self.tokens)?;
         self.term_buffer.clear();
@@ -137,6 +139,7 @@ impl IndexingContext {
             &self.tokens,
             &mut self.postings_writer,
             &mut self.positions,
+            gap,
         )
     }
 
@@ -145,14 +148,16 @@ impl IndexingContext {
         &mut self,
         schema: &Schema,
         field: Field,
+        gap: u32,
         tokens: &[Token],
     ) -> Result<u32, Fault>
-        requires { CanIndex schema.now self.old field text_kind }
+        requires can { CanIndex schema.now self.old field text_kind }
+        requires small { gap < 2 ^ 31 }
         ensures ok { OnOk result (Records schema.now self.old self.new
-            (text_step (term_bytes field text_kind []) 1 (kept (map token_of tokens.now)) ∷ [])) }
+            (text_step (term_bytes field text_kind []) gap (kept (map token_of tokens.now)) ∷ [])) }
         ensures num_tokens { IfOk result (λ n. n ≡ cut (length (kept (map token_of tokens.now)))) }
         ensures err { IfErr result (Refuses schema.now self.old
-            (text_step (term_bytes field text_kind []) 1 (kept (map token_of tokens.now)) ∷ [])) }
+            (text_step (term_bytes field text_kind []) gap (kept (map token_of tokens.now)) ∷ [])) }
     {
         self.tokens.put_tokens(tokens)?;
         self.term_buffer.clear();
@@ -165,6 +170,7 @@ impl IndexingContext {
             &self.tokens,
             &mut self.postings_writer,
             &mut self.positions,
+            gap,
         )
     }
 
@@ -216,6 +222,7 @@ impl IndexingContext {
             &self.tokens,
             &mut self.postings_writer,
             &mut self.positions,
+            PATH_GAP,
         )?;
         Ok(())
     }
@@ -239,6 +246,7 @@ fn begin_leaf(
 }
 
 /// Records the tokens after the first bytes in `term_buffer`, except too long ones; returns how many were recorded.
+/// `gap` positions are left out before the next text with these first bytes.
 fn record_text(
     alloc: Global,
     schema: &Schema,
@@ -247,26 +255,21 @@ fn record_text(
     tokens: &TokenBuffer,
     postings_writer: &mut PostingsWriter,
     positions: &mut IndexingPositions,
+    gap: u32,
 ) -> Result<u32, Fault>
     requires ready { IsReady schema.now (context postings_writer.old positions.old doc) }
+    requires small { gap < 2 ^ 31 }
     requires known { (text : List ℕ) → IsIndexedTerm schema.now (term_buffer.old.items ++ text) }
     ensures ok { OnOk result (Records schema.now (context postings_writer.old positions.old doc)
         (context postings_writer.new positions.new doc)
-        (text_step term_buffer.old.items 1 (kept tokens.now.1) ∷ [])) }
+        (text_step term_buffer.old.items gap (kept tokens.now.1) ∷ [])) }
     ensures num_tokens { IfOk result (λ n. n ≡ cut (length (kept tokens.now.1))) }
     ensures err { IfErr result (Refuses schema.now (context postings_writer.old positions.old doc)
-        (text_step term_buffer.old.items 1 (kept tokens.now.1) ∷ [])) }
+        (text_step term_buffer.old.items gap (kept tokens.now.1) ∷ [])) }
 {
     let start = positions.start_of(doc, term_buffer);
     let mut stream = BufferedStream::new(tokens);
-    let text = postings_writer.index_text(
-        schema,
-        doc,
-        term_buffer,
-        &mut stream,
-        start,
-        POSITION_GAP,
-    )?;
+    let text = postings_writer.index_text(schema, doc, term_buffer, &mut stream, start, gap)?;
     positions.set_start(alloc, doc, term_buffer, text.next_start)?;
     Ok(text.num_tokens)
 }

@@ -8,8 +8,8 @@ use std::alloc::{AllocError, Global};
 use std::collections::HashMap;
 use std::marker::Model;
 
-/// The number of positions between two texts of one field or path.
-pub(crate) const POSITION_GAP: u32 = 1;
+/// The number of positions that are left out between two texts of one path of a JSON field.
+pub(crate) const PATH_GAP: u32 = 1;
 
 /// A map from the first bytes of a text's terms to the last document with such a text, and the start of its next one.
 #[derive(Drop)]

@@ -3,6 +3,7 @@ pub mod Tokens
 pub mod Inside
 pub mod Skips
 pub mod WholeItems
+pub mod LastItems
 pub mod WrittenParts
 pub mod OwnedParts
 pub mod WholePairs

@@ -7,7 +7,7 @@ ghost use Rattle.document_values.specs.Docs.{IsWhole, pairs_at};
 ghost use Rattle.layouts.specs.DocumentReading.{items_at, take_held, take_member};
 
 use crate::compact_value::CompactDocValue;
-use crate::value_reader::{take, take_any};
+use crate::value_reader::{take, take_any, take_last};
 use common::{take_text, take_u32};
 use std::marker::Model;
 use terms::Field;
@@ -76,6 +76,11 @@ impl<'a> Iterator for CompactDocArrayIter<'a> {
 
     fn next(&mut self) -> Option<CompactDocValue<'a>> {
         let left = self.left.checked_sub(1)?;
+        if left == 0 {
+            let value = take_last(self.tokens, self.depth, self.bytes)?;
+            self.left = 0;
+            return Some(value);
+        }
         let (value, rest) = take(self.tokens, self.depth, self.bytes).ok()?;
         self.left = left;
         self.bytes = rest;
@@ -148,6 +153,11 @@ impl<'a> Iterator for CompactDocObjectIter<'a> {
     fn next(&mut self) -> Option<(&'a str, CompactDocValue<'a>)> {
         let left = self.left.checked_sub(1)?;
         let (key, behind) = take_text(self.bytes).ok()?;
+        if left == 0 {
+            let value = take_last(self.tokens, self.depth, behind)?;
+            self.left = 0;
+            return Some((key, value));
+        }
         let (value, rest) = take(self.tokens, self.depth, behind).ok()?;
         self.left = left;
         self.bytes = rest;

@@ -1,9 +1,10 @@
 //! Values decoded from the bytes that hold them.
 
-ghost use Rattle.std.specs.Prelude.{[], ◌≡◌, ◌∷◌, IfErr, IfOk, None, Some, suc};
+ghost use Rattle.std.specs.Prelude.{[], ◌≡◌, ◌∷◌, IfErr, IfOk, MatchOption, None, Some, suc};
 ghost use Rattle.definitions.specs.declared.fault.Fault.TheVariants as faults;
+ghost use Rattle.document_values.specs.Docs.{IsWhole};
 ghost use Rattle.document_values.specs.Shown.{value_of};
-ghost use Rattle.layouts.specs.DocumentReading.{skip_many, take_any, take_held, take_member, take_pair, take_value};
+ghost use Rattle.layouts.specs.DocumentReading.{items_at, skip_many, take_any, take_held, take_member, take_pair, take_value};
 
 use crate::compact_value::CompactDocValue;
 use crate::heads::{Head, take_head};
@@ -77,6 +78,29 @@ pub(crate) fn take(
             let after = skip_members(tokens, depth, count, rest)?;
             let members = CompactDocObjectIter::new(tokens, depth, count, rest);
             Ok((CompactDocValue::Object(members), after))
+        }
+    }
+}
+
+/// Decodes the value at the start of `bytes`, which hold it whole; its end isn't looked for. So a walk down values that
+/// are each the last of their array or object passes each byte once.
+pub(crate) fn take_last(tokens: bool, depth: usize, bytes: &[u8]) -> Option<CompactDocValue<'_>>
+    requires { IsWhole (take_held tokens depth) 1 bytes.now }
+    ensures { MatchOption result (items_at (take_held tokens depth) 1 bytes.now ≡ [])
+        (λ value. items_at (take_held tokens depth) 1 bytes.now ≡ value_of value ∷ []) }
+{
+    let (head, rest) = take_head(tokens, bytes).ok()?;
+    match head {
+        Head::Leaf(value) => Some(value),
+        Head::Array(count) => {
+            let depth = depth.checked_sub(1)?;
+            let values = CompactDocArrayIter::new(tokens, depth, count, rest);
+            Some(CompactDocValue::Array(values))
+        }
+        Head::Object(count) => {
+            let depth = depth.checked_sub(1)?;
+            let members = CompactDocObjectIter::new(tokens, depth, count, rest);
+            Some(CompactDocValue::Object(members))
         }
     }
 }

@@ -2,17 +2,21 @@
 
 use common::{Device, FileDevice};
 use definitions::Fault;
+use std::fs::File;
 use std::test::Fail;
 
 // A file that two devices ask for.
 const SHARED: &str = "shared_books.idx";
 
-// Where nothing can be written.
-const FULL: &str = "/dev/full";
+// A regular file that is only read, and can't be synced.
+const READ_ONLY: &str = "/proc/self/status";
+
+// No regular file.
+const ENDLESS: &str = "/dev/zero";
 
 #[test]
 fn refused_calls_are_counted(rt: HostRuntime) -> Result<(), Fail> {
-    let mut device = FileDevice::open(&rt, FULL)?;
+    let mut device = FileDevice::new(File::open(&rt, READ_ONLY)?)?;
     let written = device.write_at(0, b"a");
     let cut = device.cut(0);
     let synced = device.sync();
@@ -25,7 +29,9 @@ fn refused_calls_are_counted(rt: HostRuntime) -> Result<(), Fail> {
 
 #[test]
 fn what_is_no_file_is_not_opened(rt: HostRuntime) -> Result<(), Fail> {
-    assert!(rt; FileDevice::open(&rt, "missing/books.idx").err() == Some(Fault::Device));
+    let missing = FileDevice::open(&rt, "missing/books.idx").err();
+    let endless = FileDevice::open(&rt, ENDLESS).err();
+    assert!(rt; missing == Some(Fault::Device) && endless == Some(Fault::Device));
     Ok(())
 }
 

@@ -8,6 +8,10 @@ pub mod Adjusted
 pub mod MeetingEntries
 pub mod SuffixCounts
 pub mod BlockLaws
+pub mod EntryCuts
+pub mod ScorerBlocks
+pub mod BlockWalks
+pub mod FedBelow
 pub mod RowLaws
 pub mod WindowLaws
 pub mod MergeLaws

@@ -10,6 +10,8 @@ pub mod Windows
 pub mod PrefixWindows
 pub mod Standings
 pub mod Blocks
+pub mod BlocksLeft
+pub mod Feeding
 -- Laws that clauses and proofs of types must name.
 pub mod MergeLaws
 pub mod PlaceLaws

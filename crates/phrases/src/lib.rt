@@ -3,6 +3,7 @@
 
 mod adjusted_terms;
 mod block_sink;
+mod block_wand;
 mod next_rows;
 mod one_term_phrase;
 mod phrase_documents;
@@ -23,6 +24,7 @@ mod suffixes;
 mod window;
 
 pub use block_sink::{BlockSink, for_each_docset_buffered};
+pub use block_wand::block_wand_single_scorer;
 pub use intersections::Positioned;
 pub use one_term_phrase::OneTermPhrase;
 pub use phrase_kind::PhraseKind;

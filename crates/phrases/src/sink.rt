@@ -62,8 +62,6 @@ pub fn for_each_pruning_scorer<S: Scorer, K: Sink>(scorer: &mut S, threshold: Sc
     requires threshold { threshold ≡ K.limit (K.state sink.old) }
     requires room { length (S.entries scorer.old) ≤ K.room sink.old }
     ensures state { K.state sink.new ≡ fed K.limit K.taken (K.state sink.old) (pairs_of (S.entries scorer.old)) }
-    ensures done { S.entries scorer.new ≡ [] }
-    ensures room { K.room sink.old ≤ K.room sink.new + length (S.entries scorer.old) }
 {
     let mut threshold = threshold;
     let mut doc = scorer.doc();

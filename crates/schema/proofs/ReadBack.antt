@@ -1,11 +1,14 @@
 -- A schema that is written is read back.
-use Rattle.std.proofs.Common.{ℕ, List, [], ◌∷◌, ◌++◌, ◌≡◌, ◌≢◌, ◌≤◌, ◌+◌, Bool, true, false, cond, not, Option, Some, None, is_some, IsTrue, String, length, map, refl, sym, ap, ◌∙◌, subst, arith, append_assoc, append-nil, nat_le, bytes_eq, length-append, Ok, Err}
+use Rattle.std.proofs.Common.{ℕ, List, [], ◌∷◌, ◌++◌, ◌≡◌, ◌≢◌, ◌≤◌, ◌+◌, Bool, true, false, cond, not, Option, Some, None, is_some, IsTrue, String, length, map, refl, sym, ap, ◌∙◌, subst, arith, append_assoc, append-nil, nat_le, nat_lt, bytes_eq, length-append, Ok, Err}
 use Rattle.std.specs.List.{AllByRecursion, position_from}
 use Rattle.std.specs.Result.{result_map_both}
+use Rattle.std.proofs.Math.Nat.{min-le_right}
 use Rattle.std.proofs.lemmas.Bool.Decides.{nat_tests}
 use Rattle.std.proofs.lemmas.Slice.Eq.{bytes_eq-Decides}
 use Rattle.definitions.specs.declared.fault.Fault.TheVariants as faults
-use Rattle.definitions.specs.Schema.{AreDistinct, Entry, IndexRecordOption, IsEntry, IsSchema, Kind, Schema, basic, bool_kind, bytes_kind, cleaned_as, date_kind, facet_kind, field_named, i64_kind, ip_addr_kind, is_valid_field_name, json_kind, max_fields, text_kind, u64_kind, with_freqs, with_freqs_and_positions}
+use Rattle.definitions.specs.Json.{number_below, ◌>>=◌}
+use Rattle.definitions.specs.Replies.{number_data}
+use Rattle.definitions.specs.Schema.{AreDistinct, Entry, IndexRecordOption, IsEntry, IsSchema, Kind, Schema, basic, bool_kind, bytes_kind, cleaned_as, date_kind, facet_kind, field_named, i64_kind, ip_addr_kind, is_valid_field_name, json_kind, max_fields, max_gap, text_kind, u64_kind, with_freqs, with_freqs_and_positions}
 use Rattle.definitions.specs.SchemaGrammar.{entry_data, entry_in, schema_data, schema_in, fault_read, then_with, with_entries_in, with_entry}
 use Rattle.serde_json.specs.View.{items_of}
 use Rattle.std.specs.HashMap.{HashMap}
@@ -21,26 +24,37 @@ use Rattle.schema.specs.declared.field_entry.FieldType.TheVariants as types
 -- ---- one field
 
 -- a field of these
-abbrev entry_with : List ℕ → Kind → Bool → Bool → Bool → Bool → Bool → IndexRecordOption → List ℕ → Bool → Entry
-entry_with name kind stored indexed fieldnorms fast coerce option tokenizer dots = record { name = name; kind = kind; stored = stored; indexed = indexed; fieldnorms = fieldnorms; fast = fast; coerce = coerce; record_option = option; tokenizer = tokenizer; expand_dots = dots }
+abbrev entry_with : List ℕ → Kind → Bool → Bool → Bool → Bool → Bool → IndexRecordOption → List ℕ → ℕ → Bool → Entry
+entry_with name kind stored indexed fieldnorms fast coerce option tokenizer gap dots = record { name = name; kind = kind; stored = stored; indexed = indexed; fieldnorms = fieldnorms; fast = fast; coerce = coerce; record_option = option; tokenizer = tokenizer; gap = gap; expand_dots = dots }
+
+-- a gap that isn't too great is read as it is written
+gap_back : (gap : ℕ) → gap ≤ max_gap → number_below (max_gap + 1) (number_data gap) ≡ Some gap
+gap_back gap few = ap (λ small. cond small (Some gap) None) (below gap few)
+  where
+    below : (n : ℕ) → n ≤ max_gap → nat_lt n (max_gap + 1) ≡ true
+    below n is = grind (arith, nat_tests)
+
+-- what is read of a text field beside its gap, and then its gap
+text_back : (name : List ℕ) (stored fieldnorms fast coerce : Bool) (option : IndexRecordOption) (tokenizer : List ℕ) (gap : ℕ) → gap ≤ max_gap → (number_below (max_gap + 1) (number_data gap) >>= λ (n : ℕ). Some (entry_with name text_kind stored true fieldnorms fast coerce option tokenizer n false)) ≡ Some (entry_with name text_kind stored true fieldnorms fast coerce option tokenizer gap false)
+text_back name stored fieldnorms fast coerce option tokenizer gap few = ap (λ o. o >>= λ (n : ℕ). Some (entry_with name text_kind stored true fieldnorms fast coerce option tokenizer n false)) (gap_back gap few)
 
 -- a field whose options its kind has is read back
-entry_back : (name : List ℕ) (kind : Kind) (stored indexed fieldnorms fast coerce : Bool) (option : IndexRecordOption) (tokenizer : List ℕ) (dots : Bool) → cleaned_as kind (entry_with name kind stored indexed fieldnorms fast coerce option tokenizer dots) ≡ (entry_with name kind stored indexed fieldnorms fast coerce option tokenizer dots) → entry_in (entry_data (entry_with name kind stored indexed fieldnorms fast coerce option tokenizer dots)) ≡ Some (entry_with name kind stored indexed fieldnorms fast coerce option tokenizer dots)
-entry_back name text_kind stored true fieldnorms fast coerce basic tokenizer dots clean = ap Some clean
-entry_back name text_kind stored true fieldnorms fast coerce with_freqs tokenizer dots clean = ap Some clean
-entry_back name text_kind stored true fieldnorms fast coerce with_freqs_and_positions tokenizer dots clean = ap Some clean
-entry_back name text_kind stored false fieldnorms fast coerce option tokenizer dots clean = ap Some clean
-entry_back name u64_kind stored indexed fieldnorms fast coerce option tokenizer dots clean = ap Some clean
-entry_back name i64_kind stored indexed fieldnorms fast coerce option tokenizer dots clean = ap Some clean
-entry_back name bool_kind stored indexed fieldnorms fast coerce option tokenizer dots clean = ap Some clean
-entry_back name date_kind stored indexed fieldnorms fast coerce option tokenizer dots clean = ap Some clean
-entry_back name facet_kind stored indexed fieldnorms fast coerce option tokenizer dots clean = ap Some clean
-entry_back name bytes_kind stored indexed fieldnorms fast coerce option tokenizer dots clean = ap Some clean
-entry_back name json_kind stored true fieldnorms fast coerce basic tokenizer dots clean = ap Some clean
-entry_back name json_kind stored true fieldnorms fast coerce with_freqs tokenizer dots clean = ap Some clean
-entry_back name json_kind stored true fieldnorms fast coerce with_freqs_and_positions tokenizer dots clean = ap Some clean
-entry_back name json_kind stored false fieldnorms fast coerce option tokenizer dots clean = ap Some clean
-entry_back name ip_addr_kind stored indexed fieldnorms fast coerce option tokenizer dots clean = ap Some clean
+entry_back : (name : List ℕ) (kind : Kind) (stored indexed fieldnorms fast coerce : Bool) (option : IndexRecordOption) (tokenizer : List ℕ) (gap : ℕ) (dots : Bool) → gap ≤ max_gap → cleaned_as kind (entry_with name kind stored indexed fieldnorms fast coerce option tokenizer gap dots) ≡ (entry_with name kind stored indexed fieldnorms fast coerce option tokenizer gap dots) → entry_in (entry_data (entry_with name kind stored indexed fieldnorms fast coerce option tokenizer gap dots)) ≡ Some (entry_with name kind stored indexed fieldnorms fast coerce option tokenizer gap dots)
+entry_back name text_kind stored true fieldnorms fast coerce basic tokenizer gap dots few clean = text_back name stored fieldnorms fast coerce basic tokenizer gap few ∙ ap Some clean
+entry_back name text_kind stored true fieldnorms fast coerce with_freqs tokenizer gap dots few clean = text_back name stored fieldnorms fast coerce with_freqs tokenizer gap few ∙ ap Some clean
+entry_back name text_kind stored true fieldnorms fast coerce with_freqs_and_positions tokenizer gap dots few clean = text_back name stored fieldnorms fast coerce with_freqs_and_positions tokenizer gap few ∙ ap Some clean
+entry_back name text_kind stored false fieldnorms fast coerce option tokenizer gap dots few clean = ap Some clean
+entry_back name u64_kind stored indexed fieldnorms fast coerce option tokenizer gap dots few clean = ap Some clean
+entry_back name i64_kind stored indexed fieldnorms fast coerce option tokenizer gap dots few clean = ap Some clean
+entry_back name bool_kind stored indexed fieldnorms fast coerce option tokenizer gap dots few clean = ap Some clean
+entry_back name date_kind stored indexed fieldnorms fast coerce option tokenizer gap dots few clean = ap Some clean
+entry_back name facet_kind stored indexed fieldnorms fast coerce option tokenizer gap dots few clean = ap Some clean
+entry_back name bytes_kind stored indexed fieldnorms fast coerce option tokenizer gap dots few clean = ap Some clean
+entry_back name json_kind stored true fieldnorms fast coerce basic tokenizer gap dots few clean = ap Some clean
+entry_back name json_kind stored true fieldnorms fast coerce with_freqs tokenizer gap dots few clean = ap Some clean
+entry_back name json_kind stored true fieldnorms fast coerce with_freqs_and_positions tokenizer gap dots few clean = ap Some clean
+entry_back name json_kind stored false fieldnorms fast coerce option tokenizer gap dots few clean = ap Some clean
+entry_back name ip_addr_kind stored indexed fieldnorms fast coerce option tokenizer gap dots few clean = ap Some clean
 
 -- a field with a good name that is read back as it is written
 pub record ReadsBack (e : Entry) : Type 0 where
@@ -48,8 +62,8 @@ pub record ReadsBack (e : Entry) : Type 0 where
   pub back : entry_in (entry_data e) ≡ Some e
 
 -- the options that a field has beside its name are those of its kind
-pub reads_back : (e : Entry) → IsTrue (is_valid_field_name e.name) → cleaned_as e.kind e ≡ e → ReadsBack e
-reads_back e valid clean = record { name = valid; back = entry_back e.name e.kind e.stored e.indexed e.fieldnorms e.fast e.coerce e.record_option e.tokenizer e.expand_dots clean }
+pub reads_back : (e : Entry) → IsTrue (is_valid_field_name e.name) → e.gap ≤ max_gap → cleaned_as e.kind e ≡ e → ReadsBack e
+reads_back e valid few clean = record { name = valid; back = entry_back e.name e.kind e.stored e.indexed e.fieldnorms e.fast e.coerce e.record_option e.tokenizer e.gap e.expand_dots few clean }
 
 -- ---- the list of fields
 
@@ -103,7 +117,7 @@ schema_back s all distinct few = entries_back [] s all distinct few
 
 all_back : (s : Schema) → AllByRecursion IsEntry s → AllByRecursion ReadsBack s
 all_back [] all = tt
-all_back (e ∷ es) all = (reads_back e all.0.good_name all.0.only_its_options, all_back es all.1)
+all_back (e ∷ es) all = (reads_back e all.0.good_name all.0.few_apart all.0.only_its_options, all_back es all.1)
 
 pub written_back : (s : Schema) → IsSchema s → schema_in (schema_data s) ≡ Ok s
 written_back s schema = schema_back s (all_back s schema.entries) schema.distinct schema.few
@@ -130,13 +144,30 @@ typed_clean name (types.JsonObject o) = go o.indexing
     go (Some i) = refl
 typed_clean name (types.IpAddr o) = refl
 
+-- no field has more than the greatest gap
+typed_few : (name : List ℕ) (t : FieldType) → (entry_of name t).gap ≤ max_gap
+typed_few name (types.Str o) = go o.indexing
+  where
+    go : (i : Option Indexing) → (text_entry name (record o { indexing = i })).gap ≤ max_gap
+    go None = omega arith
+    go (Some i) = min-le_right i.gap max_gap
+typed_few name (types.U64 o) = omega arith
+typed_few name (types.I64 o) = omega arith
+typed_few name (types.Bool o) = omega arith
+typed_few name (types.Date o) = omega arith
+typed_few name (types.Facet o) = omega arith
+typed_few name (types.Bytes o) = omega arith
+typed_few name (types.JsonObject o) = omega arith
+typed_few name (types.IpAddr o) = omega arith
+
 typed_back : (fields : Schema) → AllByRecursion IsTyped fields → AllByRecursion (λ e. IsTrue (is_valid_field_name e.name)) fields → AllByRecursion ReadsBack fields
 typed_back [] typed valid = tt
 typed_back (e ∷ es) typed valid =
     let t = typed.0.0 in
     let is : entry_of e.name t ≡ e = sym typed.0.1 in
     let clean : cleaned_as e.kind e ≡ e = subst (λ f. cleaned_as f.kind f ≡ f) is (typed_clean e.name t) in
-    (reads_back e valid.0 clean, typed_back es typed.1 valid.1)
+    let few : e.gap ≤ max_gap = subst (λ f. f.gap ≤ max_gap) is (typed_few e.name t) in
+    (reads_back e valid.0 few clean, typed_back es typed.1 valid.1)
 
 pub numbered_back : (numbers : HashMap (String Global) ℕ (BuildHasherDefault FoldHasher)) (fields : Schema) → Numbers numbers fields → schema_in (schema_data fields) ≡ Ok fields
 numbered_back numbers fields h = schema_back fields (typed_back fields h.typed h.valid) h.distinct h.few

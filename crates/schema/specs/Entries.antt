@@ -1,8 +1,8 @@
 -- Entries of a schema, by a field's name and options.
-use Rattle.std.specs.Prelude.{[], ◌≡◌, List, None, Option, Some, codes, false, is_some, true, ℕ}
+use Rattle.std.specs.Prelude.{[], ◌≡◌, List, None, Option, Some, codes, false, is_some, min, true, ℕ}
 use Rattle.std.specs.Option.{option_map_or}
 use Rattle.definitions.specs.Json.{◌>>=◌}
-use Rattle.definitions.specs.Schema.{Entry, Kind, basic, bool_kind, bytes_kind, date_kind, facet_kind, i64_kind, ip_addr_kind, json_kind, text_kind, u64_kind}
+use Rattle.definitions.specs.Schema.{Entry, Kind, basic, bool_kind, bytes_kind, date_kind, facet_kind, i64_kind, ip_addr_kind, json_kind, max_gap, text_kind, u64_kind}
 use Rattle.definitions.specs.SchemaGrammar.{entry_named, flag_or}
 use Rattle.serde_json.specs.Data as json
 use Rattle.options.specs.Options.{FacetData, Indexing, JsonData, NumericData, TextData, ValueData}
@@ -13,14 +13,21 @@ use Rattle.schema.specs.declared.field_entry.FieldType.TheVariants.{Bool, Bytes,
 abbrev pub with_indexing : Entry → Option Indexing → Entry
 with_indexing e i = record e { indexed = is_some i; fieldnorms = option_map_or (λ x. x.fieldnorms) i false; record_option = option_map_or (λ x. x.record_option) i basic; tokenizer = option_map_or (λ x. x.tokenizer) i [] }
 
--- the same, by cases
-abbrev pub indexed_by : Entry → Option Indexing → Entry
-indexed_by e None = e
-indexed_by e (Some i) = record e { indexed = true; fieldnorms = i.fieldnorms; record_option = i.record_option; tokenizer = i.tokenizer }
+-- the gap that an indexing says, which is at most the greatest
+abbrev pub gap_in : Indexing → ℕ
+gap_in i = min i.gap max_gap
+
+-- the field with an indexing
+abbrev pub indexed_by : Entry → Indexing → Entry
+indexed_by e i = record e { indexed = true; fieldnorms = i.fieldnorms; record_option = i.record_option; tokenizer = i.tokenizer }
+
+-- the text field with an indexing
+abbrev pub text_indexed_by : Entry → Indexing → Entry
+text_indexed_by e i = record (indexed_by e i) { gap = gap_in i }
 
 -- a text field
 abbrev pub text_entry : List ℕ → TextData → Entry
-text_entry name o = with_indexing (record (entry_named name text_kind) { stored = o.stored; fast = o.fast; coerce = o.coerce }) o.indexing
+text_entry name o = with_indexing (record (entry_named name text_kind) { stored = o.stored; fast = o.fast; coerce = o.coerce; gap = option_map_or gap_in o.indexing 1 }) o.indexing
 
 -- a field of numbers or bools
 abbrev pub numeric_entry : Kind → List ℕ → NumericData → Entry

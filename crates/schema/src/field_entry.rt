@@ -1,7 +1,7 @@
 //! Field entries: a field's name, type and options.
 
-ghost use Rattle.std.specs.Prelude.{[], if◌then◌else◌, option_map, string_bytes, ◌↔◌, ◌≡◌, IsTrue, None, Some};
-ghost use Rattle.definitions.specs.Schema.{bytes_kind, date_kind, has_lengths, ip_addr_kind, is_indexed, is_text, json_kind, keeps_length};
+ghost use Rattle.std.specs.Prelude.{[], if◌then◌else◌, option_map, string_bytes, ◌↔◌, ◌≡◌, ◌≤◌, IsTrue, None, Some};
+ghost use Rattle.definitions.specs.Schema.{bytes_kind, date_kind, gap_of, has_lengths, ip_addr_kind, is_indexed, is_text, json_kind, keeps_length, max_gap};
 ghost use Rattle.options.specs.RecordOption.{record_option_of};
 ghost use Rattle.schema.specs.Entries.{entry_of};
 ghost use Rattle.terms.specs.Kinds.{kind_of};
@@ -199,6 +199,22 @@ impl FieldEntry {
         match indexing {
             Some(indexing) => indexing.tokenizer(),
             None => "",
+        }
+    }
+
+    /// Returns how many positions are left out between two values of a text field: at most 1000. Of other fields, and
+    /// where texts aren't indexed, it is 1.
+    pub fn gap(&self) -> u32
+        ensures value { result ≡ gap_of self.now }
+        ensures few { result ≤ max_gap }
+    {
+        let indexing = match &self.field_type {
+            FieldType::Str(options) => options.get_indexing_options(),
+            _ => None,
+        };
+        match indexing {
+            Some(indexing) => indexing.gap().min(1000),
+            None => 1,
         }
     }
 

@@ -24,7 +24,9 @@ pub fn schemas_are_written()
       record_option = with_freqs_and_positions;
       tokenizer = codes "default";
     } ∷ []))
-        ≡ codes "[{\"name\":\"t\",\"options\":{\"coerce\":true,\"fast\":false,\"indexing\":{\"fieldnorms\":true,\"record\":\"position\",\"tokenizer\":\"default\"},\"stored\":true},\"type\":\"text\"}]" }
+        ≡ codes "[{\"name\":\"t\",\"options\":{\"coerce\":true,\"fast\":false,\"indexing\":{\"fieldnorms\":true,\"gap\":1,\"record\":\"position\",\"tokenizer\":\"default\"},\"stored\":true},\"type\":\"text\"}]" }
+    ensures gap { compact_text (schema_data (record (entry_named (codes "t") text_kind) { indexed = true; gap = 1000 } ∷ []))
+        ≡ codes "[{\"name\":\"t\",\"options\":{\"coerce\":false,\"fast\":false,\"indexing\":{\"fieldnorms\":false,\"gap\":1000,\"record\":\"basic\",\"tokenizer\":\"\"},\"stored\":false},\"type\":\"text\"}]" }
     ensures unindexed { compact_text (schema_data (entry_named (codes "a") text_kind ∷ []))
         ≡ codes "[{\"name\":\"a\",\"options\":{\"coerce\":false,\"fast\":false,\"indexing\":null,\"stored\":false},\"type\":\"text\"}]" }
     ensures number { compact_text (schema_data (record (entry_named (codes "n") u64_kind)
@@ -81,9 +83,51 @@ pub fn unknown_options_are_ignored()
     ensures facet { option_map schema_in
         (read (codes "[{\"name\":\"f\",\"type\":\"facet\",\"options\":{\"fast\":5,\"indexed\":false,\"fieldnorms\":0}}]")) ≡ Some (Ok (record (entry_named (codes "f") facet_kind) { indexed = true } ∷ [])) }
     ensures indexing { option_map schema_in
-        (read (codes "[{\"name\":\"t\",\"type\":\"text\",\"options\":{\"indexing\":{\"gap\":\"x\"}}}]"))
+        (read (codes "[{\"name\":\"t\",\"type\":\"text\",\"options\":{\"indexing\":{\"slop\":\"x\"}}}]"))
         ≡ Some (Ok (record (entry_named (codes "t") text_kind)
         { indexed = true; fieldnorms = true; tokenizer = codes "default" } ∷ [])) }
+    ensures json_gap { option_map schema_in
+        (read (codes "[{\"name\":\"j\",\"type\":\"json_object\",\"options\":{\"indexing\":{\"gap\":\"x\"}}}]"))
+        ≡ Some (Ok (record (entry_named (codes "j") json_kind)
+        { indexed = true; fieldnorms = true; tokenizer = codes "default" } ∷ [])) }
+    ensures json_gap_number { option_map schema_in
+        (read (codes "[{\"name\":\"j\",\"type\":\"json_object\",\"options\":{\"indexing\":{\"gap\":7}}}]"))
+        ≡ Some (Ok (record (entry_named (codes "j") json_kind)
+        { indexed = true; fieldnorms = true; tokenizer = codes "default" } ∷ [])) }
+{}
+
+/// States, by examples, that the indexing of a text field has a gap from 0 to 1000.
+pub fn gaps_are_read()
+    ensures none { option_map schema_in
+        (read (codes "[{\"name\":\"t\",\"type\":\"text\",\"options\":{\"indexing\":{\"gap\":0}}}]"))
+        ≡ Some (Ok (record (entry_named (codes "t") text_kind)
+        { indexed = true; fieldnorms = true; tokenizer = codes "default"; gap = 0 } ∷ [])) }
+    ensures greatest { option_map schema_in
+        (read (codes "[{\"name\":\"t\",\"type\":\"text\",\"options\":{\"indexing\":{\"gap\":1000}}}]"))
+        ≡ Some (Ok (record (entry_named (codes "t") text_kind)
+        { indexed = true; fieldnorms = true; tokenizer = codes "default"; gap = 1000 } ∷ [])) }
+    ensures last_key { option_map schema_in
+        (read (codes "[{\"name\":\"t\",\"type\":\"text\",\"options\":{\"indexing\":{\"gap\":7,\"gap\":8}}}]"))
+        ≡ Some (Ok (record (entry_named (codes "t") text_kind)
+        { indexed = true; fieldnorms = true; tokenizer = codes "default"; gap = 8 } ∷ [])) }
+    ensures greater { option_map schema_in
+        (read (codes "[{\"name\":\"t\",\"type\":\"text\",\"options\":{\"indexing\":{\"gap\":1001}}}]"))
+        ≡ Some (Err faults.BadSchema) }
+    ensures negative { option_map schema_in
+        (read (codes "[{\"name\":\"t\",\"type\":\"text\",\"options\":{\"indexing\":{\"gap\":-1}}}]"))
+        ≡ Some (Err faults.BadSchema) }
+    ensures text { option_map schema_in
+        (read (codes "[{\"name\":\"t\",\"type\":\"text\",\"options\":{\"indexing\":{\"gap\":\"1\"}}}]"))
+        ≡ Some (Err faults.BadSchema) }
+    ensures null { option_map schema_in
+        (read (codes "[{\"name\":\"t\",\"type\":\"text\",\"options\":{\"indexing\":{\"gap\":null}}}]"))
+        ≡ Some (Err faults.BadSchema) }
+    ensures fraction { option_map schema_in
+        (read (codes "[{\"name\":\"t\",\"type\":\"text\",\"options\":{\"indexing\":{\"gap\":1.0}}}]"))
+        ≡ Some (Err faults.BadSchema) }
+    ensures flag { option_map schema_in
+        (read (codes "[{\"name\":\"t\",\"type\":\"text\",\"options\":{\"indexing\":{\"gap\":true}}}]"))
+        ≡ Some (Err faults.BadSchema) }
 {}
 
 /// States, by examples, that JSON of other forms isn't a schema.

@@ -1,15 +1,17 @@
 //! Schemas read from JSON.
 
-ghost use Rattle.std.specs.Prelude.{[], false, is_some, true, ◌≡◌, ◌≢◌, IfErr, IfOk, List, None, OnOk, Some, map, option_map, ℕ};
+ghost use Rattle.std.specs.Prelude.{[], codes, false, ◌+◌, ◌≡◌, ◌≢◌, IfErr, IfOk, List, None, OnOk, Option, Some, map, option_map, ℕ};
+ghost use Rattle.std.specs.Option.{option_map_or};
+ghost use Rattle.definitions.specs.Json.{at_or, number_below};
 ghost use Rattle.definitions.specs.QueryGrammar.{record_option_in};
 ghost use Rattle.definitions.specs.Making.{has_tokens};
-ghost use Rattle.definitions.specs.Schema.{Entry, facet_kind, json_kind, text_kind};
+ghost use Rattle.definitions.specs.Schema.{Entry, facet_kind, json_kind, max_gap, text_kind};
 ghost use Rattle.definitions.specs.SchemaGrammar as definitions;
 ghost use Rattle.definitions.specs.declared.fault.Fault.TheVariants as faults;
 ghost use Rattle.options.specs.RecordOption.{record_option_of};
-ghost use Rattle.serde_json.specs.Find.{as_object};
+ghost use Rattle.serde_json.specs.Data.{Data};
 ghost use Rattle.serde_json.specs.View.{items_view, view};
-ghost use Rattle.schema.specs.Entries.{entry_of, facet_entry, indexed_by, json_entry, json_flags_in, numeric_options_in, text_entry, text_flags_in, value_options_in};
+ghost use Rattle.schema.specs.Entries.{entry_of, facet_entry, indexed_by, json_entry, json_flags_in, numeric_options_in, text_entry, text_flags_in, text_indexed_by, value_options_in};
 ghost use Rattle.terms.specs.Kinds.{kind_of};
 
 use crate::field_entry::FieldType;
@@ -170,11 +172,11 @@ fn read_text_options(alloc: Global, options: &Value) -> Result<TextOptions, Faul
         ≡ None)) }
 {
     let text = read_text_flags(options).ok_or(Fault::BadSchema)?;
-    match options.get("indexing") {
-        Some(indexing) => match read_indexing(alloc, indexing)? {
-            Some(indexing) => Ok(text.set_indexing_options(indexing)),
-            None => Ok(text),
-        },
+    match indexing_at(options) {
+        Some(indexing) => {
+            let indexing = read_text_indexing(alloc, indexing)?;
+            Ok(text.set_indexing_options(indexing))
+        }
         None => Ok(text),
     }
 }
@@ -209,11 +211,11 @@ fn read_json_options(alloc: Global, options: &Value) -> Result<JsonObjectOptions
         ≡ None)) }
 {
     let json = read_json_flags(options).ok_or(Fault::BadSchema)?;
-    match options.get("indexing") {
-        Some(indexing) => match read_indexing(alloc, indexing)? {
-            Some(indexing) => Ok(json.set_indexing_options(indexing)),
-            None => Ok(json),
-        },
+    match indexing_at(options) {
+        Some(indexing) => {
+            let indexing = read_indexing(alloc, indexing)?;
+            Ok(json.set_indexing_options(indexing))
+        }
         None => Ok(json),
     }
 }
@@ -238,30 +240,56 @@ fn read_json_flags(options: &Value) -> Option<JsonObjectOptions>
     Some(json)
 }
 
-/// Reads how a text field is indexed; for null it isn't.
-fn read_indexing(alloc: Global, value: &Value) -> Result<Option<TextFieldIndexing>, Fault>
-    ensures ok { IfOk result (λ indexing. (e : Entry)
-        → definitions.indexing_in e (view value.now) ≡ Some (indexed_by e indexing)) }
-    ensures err { IfErr result (λ fault. fault ≢ faults.OutOfMemory → (fault ≡ faults.BadSchema)
-        × ((e : Entry) → definitions.indexing_in e (view value.now) ≡ None)) }
+/// Returns the indexing of a text or JSON field; `None` where it is absent or null.
+fn indexing_at(options: &Value) -> Option<&Value>
+    ensures { (read_as : Entry → Data → Option Entry) (e : Entry)
+        → at_or e (definitions.indexing_in read_as e) (codes "indexing") (view options.now)
+        ≡ option_map_or (λ indexing. read_as e (view indexing.now)) result (Some e) }
 {
-    if value.is_null() {
-        return Ok(None);
+    let indexing = options.get("indexing")?;
+    if indexing.is_null() {
+        None
+    } else {
+        Some(indexing)
     }
-    if !value.is_object() {
-        return Err(Fault::BadSchema);
-    }
-    Ok(Some(read_set_indexing(alloc, value)?))
 }
 
-/// Reads the indexing in an object.
-fn read_set_indexing(alloc: Global, value: &Value) -> Result<TextFieldIndexing, Fault>
-    requires { is_some (as_object (view value.now)) ≡ true }
+/// Reads the indexing of a text field, which says its gap.
+fn read_text_indexing(alloc: Global, value: &Value) -> Result<TextFieldIndexing, Fault>
     ensures ok { IfOk result (λ indexing. (e : Entry)
-        → definitions.with_indexing_in e (view value.now) ≡ Some (indexed_by e (Some indexing))) }
+        → definitions.with_text_indexing_in e (view value.now) ≡ Some (text_indexed_by e indexing)) }
+    ensures err { IfErr result (λ fault. fault ≢ faults.OutOfMemory → (fault ≡ faults.BadSchema)
+        × ((e : Entry) → definitions.with_text_indexing_in e (view value.now) ≡ None)) }
+{
+    let indexing = read_indexing(alloc, value)?;
+    let gap = read_gap(value).ok_or(Fault::BadSchema)?;
+    Ok(indexing.set_gap(gap))
+}
+
+/// Reads the gap of an indexing: a whole number from 0 to 1000, or 1 where it is absent.
+fn read_gap(value: &Value) -> Option<u32>
+    ensures { result ≡ at_or 1 (number_below (max_gap + 1)) (codes "gap") (view value.now) }
+{
+    match value.get("gap") {
+        Some(gap) => {
+            let gap = gap.as_u64()?;
+            if gap <= 1000 { Some(gap as u32) } else { None }
+        }
+        None => Some(1),
+    }
+}
+
+/// Reads an indexing without its gap.
+fn read_indexing(alloc: Global, value: &Value) -> Result<TextFieldIndexing, Fault>
+    ensures ok { IfOk result (λ indexing. (e : Entry)
+        → definitions.with_indexing_in e (view value.now) ≡ Some (indexed_by e indexing)) }
+    ensures gap { IfOk result (λ indexing. indexing.gap ≡ 1) }
     ensures err { IfErr result (λ fault. fault ≢ faults.OutOfMemory → (fault ≡ faults.BadSchema)
         × ((e : Entry) → definitions.with_indexing_in e (view value.now) ≡ None)) }
 {
+    if !value.is_object() {
+        return Err(Fault::BadSchema);
+    }
     let option = match value.get("record") {
         Some(name) => read_record_option(name).ok_or(Fault::BadSchema)?,
         None => IndexRecordOption::Basic,

@@ -1,11 +1,12 @@
 //! Schemas written as JSON.
 
-ghost use Rattle.std.specs.Prelude.{[], ◌≡◌, IfOk, Ok, Some, false, map};
-ghost use Rattle.definitions.specs.Schema.{bytes_kind, date_kind, ip_addr_kind, text_kind, u64_kind};
+ghost use Rattle.std.specs.Prelude.{[], ◌∷◌, ◌≡◌, IfOk, Ok, codes, map};
+ghost use Rattle.definitions.specs.Schema.{bytes_kind, date_kind, ip_addr_kind, json_kind, text_kind, u64_kind};
+ghost use Rattle.definitions.specs.Replies.{number_data};
 ghost use Rattle.definitions.specs.SchemaGrammar.{entry_data, entry_named, indexing_data, options_data, record_option_name, schema_data, schema_in};
 ghost use Rattle.options.specs.RecordOption.{record_option_of};
 ghost use Rattle.serde_json.specs.View.{items_of, items_view, view};
-ghost use Rattle.schema.specs.Entries.{entry_of, facet_entry, json_entry, numeric_entry, text_entry, value_entry, with_indexing};
+ghost use Rattle.schema.specs.Entries.{entry_of, facet_entry, gap_in, indexed_by, json_entry, numeric_entry, text_entry, value_entry};
 
 use crate::field_entry::{FieldEntry, FieldType};
 use crate::schema::Schema;
@@ -68,7 +69,7 @@ fn text_value(alloc: Global, options: &TextOptions) -> Result<Value, AllocError>
     ensures { IfOk result (λ value. view value ≡ options_data (text_entry [] options.now)) }
 {
     let indexing = match options.get_indexing_options() {
-        Some(indexing) => indexing_value(alloc, indexing)?,
+        Some(indexing) => text_indexing_value(alloc, indexing)?,
         None => Value::Null,
     };
     json!(in alloc; {
@@ -84,7 +85,7 @@ fn json_value(alloc: Global, options: &JsonObjectOptions) -> Result<Value, Alloc
     ensures { IfOk result (λ value. view value ≡ options_data (json_entry [] options.now)) }
 {
     let indexing = match options.get_text_indexing_options() {
-        Some(indexing) => indexing_value(alloc, indexing)?,
+        Some(indexing) => json_indexing_value(alloc, indexing)?,
         None => Value::Null,
     };
     json!(in alloc; {
@@ -95,10 +96,23 @@ fn json_value(alloc: Global, options: &JsonObjectOptions) -> Result<Value, Alloc
     })
 }
 
-/// Writes an indexing.
-fn indexing_value(alloc: Global, indexing: &TextFieldIndexing) -> Result<Value, AllocError>
+/// Writes the indexing of a text field.
+fn text_indexing_value(alloc: Global, indexing: &TextFieldIndexing) -> Result<Value, AllocError>
+    ensures { IfOk result (λ value. view value ≡ indexing_data ((codes "gap", number_data (gap_in indexing.now)) ∷ [])
+        (indexed_by (entry_named [] text_kind) indexing.now)) }
+{
+    json!(in alloc; {
+        "record": record_option_name(indexing.index_option()),
+        "fieldnorms": indexing.fieldnorms(),
+        "tokenizer": indexing.tokenizer(),
+        "gap": indexing.gap().min(1000)
+    })
+}
+
+/// Writes the indexing of a JSON field.
+fn json_indexing_value(alloc: Global, indexing: &TextFieldIndexing) -> Result<Value, AllocError>
     ensures { IfOk result (λ value. view value
-        ≡ indexing_data (with_indexing (entry_named [] text_kind) (Some indexing.now))) }
+        ≡ indexing_data [] (indexed_by (entry_named [] json_kind) indexing.now)) }
 {
     json!(in alloc; {
         "record": record_option_name(indexing.index_option()),

@@ -20,8 +20,8 @@ returns-in_err-text-clause-err c =
     let start = c.start_of-start.result in
     let p = err_from_is_err_and c.from_residual.result c.from_residual.ensures.1 in
     let stream : kept (c.new-stream.result.1) ≡ ts = ap (λ (s : _). kept s.1) c.new-stream.ensures in
-    let Q : List Token → Type 0 = λ xs. (os : List Occurrence) (real : ℕ) → Stands c.args.schema.now c.args.postings_writer.now os → start ≡ min (2 ^ 31) real → IsTextRefusal fault os doc prefix 1 real xs in
-    rw (p.1, p.2) (text_refused fault c.args.schema.now c.args.postings_writer.now c.args.positions.now doc prefix 1 start ts (c.start_of-start.ensures ∙ ap (λ bs. start_of doc bs c.args.positions.now) c.deref.ensures.value) (subst Q stream c.in_err-text.ensures.err))
+    let Q : List Token → Type 0 = λ xs. (os : List Occurrence) (real : ℕ) → Stands c.args.schema.now c.args.postings_writer.now os → start ≡ min (2 ^ 31) real → IsTextRefusal fault os doc prefix c.args.gap real xs in
+    rw (p.1, p.2) (text_refused fault c.args.schema.now c.args.postings_writer.now c.args.positions.now doc prefix c.args.gap start ts (c.start_of-start.ensures ∙ ap (λ bs. start_of doc bs c.args.positions.now) c.deref.ensures.value) (subst Q stream c.in_err-text.ensures.err))
 
 pub returns-clause-ok : goal.returns-clause-ok
 returns-clause-ok c =
@@ -32,11 +32,11 @@ returns-clause-ok c =
     let next = c.in_ok-text.text.next_start in
     let stream : kept (c.new-stream.result.1) ≡ ts = ap (λ (s : _). kept s.1) c.new-stream.ensures in
     let Q : List Token → Type 0 = λ xs. (os : List Occurrence) (real : ℕ) → Stands c.args.schema.now c.args.postings_writer.now os → start ≡ min (2 ^ 31) real → Stands c.args.schema.now c.index_text.new.self (os ++ text_occurrences doc prefix real xs) in
-    let R : List Token → Type 0 = λ xs. (real : ℕ) → start ≡ min (2 ^ 31) real → next ≡ min (2 ^ 31) (next_start 1 real xs) in
-    let W : List Token → Type 0 = λ xs. (real : ℕ) → start ≡ min (2 ^ 31) real → AreWithin 1 real xs in
+    let R : List Token → Type 0 = λ xs. (real : ℕ) → start ≡ min (2 ^ 31) real → next ≡ min (2 ^ 31) (next_start c.args.gap real xs) in
+    let W : List Token → Type 0 = λ xs. (real : ℕ) → start ≡ min (2 ^ 31) real → AreWithin c.args.gap real xs in
     let same = c.in_ok-text.ensures.same in
     let S : List ℕ → Type 0 = λ bs. (other : List ℕ) → lookup (bytes_eq other) c.set_start.new.self ≡ cond (bytes_eq bs other) (Some (doc, next)) (lookup (bytes_eq other) c.args.positions.now) in
-    (text_recorded c.args.schema.now c.args.postings_writer.now c.index_text.new.self c.args.positions.now c.set_start.new.self doc prefix 1 start next ts
+    (text_recorded c.args.schema.now c.args.postings_writer.now c.index_text.new.self c.args.positions.now c.set_start.new.self doc prefix c.args.gap start next ts
     (c.start_of-start.ensures ∙ ap (λ bs. start_of doc bs c.args.positions.now) c.deref.ensures.value)
     (subst Q stream c.in_ok-text.ensures.ok)
     (subst R stream c.in_ok-text.ensures.next)

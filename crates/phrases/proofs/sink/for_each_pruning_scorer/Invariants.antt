@@ -1,4 +1,4 @@
-use Rattle.std.proofs.Common.{length, ◌+◌, ◌≡◌, ◌≤◌}
+use Rattle.std.proofs.Common.{length, ◌≡◌, ◌≤◌}
 use Rattle.docsets.specs.Entries.{first}
 use Rattle.definitions.specs.Sinks.{fed}
 use Rattle.docsets.specs.ScoredEntries.{pairs_of}
@@ -10,7 +10,6 @@ invariant-loop-doc g l = record {
   at : l.doc ≡ first (g.S.DocSet.entries l.scorer);
   limit : l.threshold ≡ g.K.Sink.limit (g.K.Sink.state l.sink);
   left : length (g.S.DocSet.entries l.scorer) ≤ g.K.Sink.room l.sink;
-  room : g.K.Sink.room l.fn.sink + length (g.S.DocSet.entries l.scorer) ≤ g.K.Sink.room l.sink + length (g.S.DocSet.entries l.fn.scorer);
   fed : fed g.K.Sink.limit g.K.Sink.taken (g.K.Sink.state l.sink) (pairs_of (g.S.DocSet.entries l.scorer)) ≡ fed g.K.Sink.limit g.K.Sink.taken (g.K.Sink.state l.fn.sink) (pairs_of (g.S.DocSet.entries l.fn.scorer));
 }
 

@@ -10,14 +10,14 @@ use Rattle.document_indexer.proofs.PathTerms.{known_token}
 use Rattle.document_indexer.proofs.indexing_context.IndexingContext.index_tokens.Goals as goal
 
 pub record_text-requires-clause-ready : goal.record_text-requires-clause-ready
-record_text-requires-clause-ready c = (let P : Context → Type 0 = λ x. CanIndex c.args.schema.now x c.args.field text_kind in (subst P (sym c.self.view_is) c.requires).0)
+record_text-requires-clause-ready c = (let P : Context → Type 0 = λ x. CanIndex c.args.schema.now x c.args.field text_kind in (subst P (sym c.self.view_is) c.requires.can).0)
 
 pub record_text-requires-clause-known : goal.record_text-requires-clause-known
 record_text-requires-clause-known c =
     let was : Context = context c.self.inside.postings_writer c.self.inside.positions c.self.inside.doc in
     let buffer : c.push_term_header.new.bytes.items ≡ term_bytes c.args.field text_kind [] = search rules in
     let P : Context → Type 0 = λ x. CanIndex c.args.schema.now x c.args.field text_kind in
-    known_token c.args.schema.now was c.args.field c.push_term_header.new.bytes.items (subst P (sym c.self.view_is) c.requires) buffer
+    known_token c.args.schema.now was c.args.field c.push_term_header.new.bytes.items (subst P (sym c.self.view_is) c.requires.can) buffer
 
 pub returns-clause-ok : goal.returns-clause-ok
 returns-clause-ok c =
@@ -25,9 +25,9 @@ returns-clause-ok c =
     let was : Context = context c.self.inside.postings_writer c.self.inside.positions c.self.inside.doc in
     let now : Context = context c.record_text.new.postings_writer c.record_text.new.positions c.self.inside.doc in
     let buffer : c.push_term_header.new.bytes.items ≡ term_bytes c.args.field text_kind [] = search rules in
-    let P : Context → Type 0 = λ x. OnOk c.record_text.result (Records c.args.schema.now x now (text_step (term_bytes c.args.field text_kind []) 1 ts ∷ [])) in
-    let Q : List ℕ → Type 0 = λ bs. OnOk c.record_text.result (Records c.args.schema.now was now (text_step bs 1 ts ∷ [])) in
-    let R : List Token → Type 0 = λ xs. OnOk c.record_text.result (Records c.args.schema.now was now (text_step c.push_term_header.new.bytes.items 1 (kept xs) ∷ [])) in
+    let P : Context → Type 0 = λ x. OnOk c.record_text.result (Records c.args.schema.now x now (text_step (term_bytes c.args.field text_kind []) c.args.gap ts ∷ [])) in
+    let Q : List ℕ → Type 0 = λ bs. OnOk c.record_text.result (Records c.args.schema.now was now (text_step bs c.args.gap ts ∷ [])) in
+    let R : List Token → Type 0 = λ xs. OnOk c.record_text.result (Records c.args.schema.now was now (text_step c.push_term_header.new.bytes.items c.args.gap (kept xs) ∷ [])) in
     subst P c.self.view_is (subst Q buffer (subst R c.in_ok-put_tokens.ensures c.record_text.ensures.ok))
 
 pub returns-clause-err : goal.returns-clause-err
@@ -35,7 +35,7 @@ returns-clause-err c =
     let ts = kept (map token_of c.args.tokens.now) in
     let was : Context = context c.self.inside.postings_writer c.self.inside.positions c.self.inside.doc in
     let buffer : c.push_term_header.new.bytes.items ≡ term_bytes c.args.field text_kind [] = search rules in
-    let P : Context → Type 0 = λ x. IfErr c.record_text.result (Refuses c.args.schema.now x (text_step (term_bytes c.args.field text_kind []) 1 ts ∷ [])) in
-    let Q : List ℕ → Type 0 = λ bs. IfErr c.record_text.result (Refuses c.args.schema.now was (text_step bs 1 ts ∷ [])) in
-    let R : List Token → Type 0 = λ xs. IfErr c.record_text.result (Refuses c.args.schema.now was (text_step c.push_term_header.new.bytes.items 1 (kept xs) ∷ [])) in
+    let P : Context → Type 0 = λ x. IfErr c.record_text.result (Refuses c.args.schema.now x (text_step (term_bytes c.args.field text_kind []) c.args.gap ts ∷ [])) in
+    let Q : List ℕ → Type 0 = λ bs. IfErr c.record_text.result (Refuses c.args.schema.now was (text_step bs c.args.gap ts ∷ [])) in
+    let R : List Token → Type 0 = λ xs. IfErr c.record_text.result (Refuses c.args.schema.now was (text_step c.push_term_header.new.bytes.items c.args.gap (kept xs) ∷ [])) in
     subst P c.self.view_is (subst Q buffer (subst R c.in_ok-put_tokens.ensures c.record_text.ensures.err))

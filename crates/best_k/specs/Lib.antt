@@ -1,0 +1,5 @@
+-- Words of the contracts.
+pub mod Kept
+pub mod Contents
+-- Laws that the type of `BestK` must name.
+pub mod KeptLaws
