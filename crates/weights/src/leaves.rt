@@ -5,6 +5,7 @@ ghost use Rattle.definitions.specs.Query.{phrase, phrase_prefix, term};
 ghost use Rattle.definitions.specs.Scoring.{max_score, weight_sum};
 ghost use Rattle.node_scorers.specs.Scores.{Scores};
 ghost use Rattle.term_scorer.specs.ScoredTerms.{scored_left};
+ghost use Rattle.term_weight.specs.TermWeights.{ScoresBy, option_asked, term_of, weight_in};
 ghost use Rattle.tree_scorers.specs.Accepted.{IsAccepted};
 ghost use Rattle.weights.specs.Weighed.{under};
 
@@ -44,6 +45,26 @@ fn weight_under<S: Statistics>(statistics: &S, terms: &[(usize, Term)], boost: u
     sum_of_weights(statistics, terms)
 }
 
+/// Returns the weight of a term, by the weights and norms of `statistics`.
+pub fn term_weight<'q, 'a, S: Statistics>(
+    statistics: &'a S,
+    query: &'q TermQuery,
+) -> TermWeight<'q, 'a>
+    ensures term { term_of result ≡ query.now.0 }
+    ensures option { option_asked result ≡ query.now.1 }
+    ensures weight { weight_in result ≡ (S.similarity statistics.now).weight query.now.0 }
+    ensures scores { ScoresBy (S.similarity statistics.now) result }
+{
+    let term = query.term();
+    let weight = statistics.weight_of(term);
+    TermWeight::new(
+        term,
+        query.index_record_option(),
+        weight,
+        statistics.norms(),
+    )
+}
+
 /// Returns a scorer of the documents that hold a term, with their scores under `boost`; `None` if no document holds it.
 pub fn term_query_scorer<'a, S: Statistics>(
     reader: &SegmentReader<'a>,
@@ -58,11 +79,7 @@ pub fn term_query_scorer<'a, S: Statistics>(
     ensures none { IfNone result
         (Scores (S.similarity statistics.now) boost (term query.now.0 query.now.1) reader.now []) }
 {
-    let term = query.term();
-    let weight = statistics.weight_of(term);
-    let option = query.index_record_option();
-    let term = TermWeight::new(term, option, weight, statistics.norms());
-    term.term_scorer(reader, boost as Score)
+    term_weight(statistics, query).term_scorer(reader, boost as Score)
 }
 
 /// Returns a scorer of the documents where a phrase occurs, with their scores under `boost`; `None` if one of its terms

@@ -5,4 +5,4 @@ mod index_weights;
 mod leaves;
 
 pub use index_weights::IndexWeights;
-pub use leaves::{phrase_query_scorer, prefix_query_scorer, term_query_scorer};
+pub use leaves::{phrase_query_scorer, prefix_query_scorer, term_query_scorer, term_weight};

@@ -16,26 +16,26 @@ term_scorer-requires-clause-fits g c =
     let small = c.requires.small in
     let boost : natural (to_z w64 c.args.boost) ≡ c.args.boost = ap natural (to_z_pos w64 c.args.boost (omega (arith, small))) in
     let most = fits sim.weight c.args.boost (term c.args.query.now.0 c.args.query.now.1) c.requires.accepted in
-    let weight : c.new-term.result.weight ≡ sim.weight c.args.query.now.0 = c.new-term.ensures.weight ∙ (c.weight_of-weight.ensures.value ∙ ap sim.weight c.term-term.ensures) in
-    subst (λ n. n * c.new-term.result.weight ≤ max_score) (sym boost) (subst (λ w. c.args.boost * w ≤ max_score) (sym weight) most)
+    let weight : c.term_weight.result.weight ≡ sim.weight c.args.query.now.0 = c.term_weight.ensures.weight in
+    subst (λ n. n * c.term_weight.result.weight ≤ max_score) (sym boost) (subst (λ w. c.args.boost * w ≤ max_score) (sym weight) most)
 
 pub returns-clause-some : goal.returns-clause-some
 returns-clause-some g c =
     let sim = g.S.Statistics.similarity c.args.statistics.now in
     let small = c.requires.small in
     let boost : natural (to_z w64 c.args.boost) ≡ c.args.boost = ap natural (to_z_pos w64 c.args.boost (omega (arith, small))) in
-    let weight : c.new-term.result.weight ≡ sim.weight c.args.query.now.0 = c.new-term.ensures.weight ∙ (c.weight_of-weight.ensures.value ∙ ap sim.weight c.term-term.ensures) in
-    let same : term c.new-term.result.term.now (option_asked c.new-term.result) ≡ term c.args.query.now.0 c.args.query.now.1 = ap (λ t. term t (option_asked c.new-term.result)) (c.new-term.ensures.term ∙ c.term-term.ensures) ∙ ap (term c.args.query.now.0) (c.new-term.ensures.option ∙ c.index_record_option-option.ensures) in
-    let scores = c.new-term.ensures.scores sim (sym c.weight_of-weight.ensures.value) (sym c.norms.ensures.value) in
-    some_scores scored_left sim c.args.boost (term c.args.query.now.0 c.args.query.now.1) c.args.reader.now c.term_scorer.result (natural (to_z w64 c.args.boost) * c.new-term.result.weight)
-    (λ schema analyze docs stands passes. some_same scored_left c.term_scorer.result _ _ (ap (λ n. answers schema analyze sim n (term c.new-term.result.term.now (option_asked c.new-term.result)) docs) boost ∙ ap (λ q. answers schema analyze sim c.args.boost q docs) same) (c.term_scorer.ensures.some schema analyze sim docs stands scores))
-    c.term_scorer.ensures.within c.term_scorer.ensures.bounded (ap (λ n. n * c.new-term.result.weight) boost ∙ ap (λ w. c.args.boost * w) weight)
+    let weight : c.term_weight.result.weight ≡ sim.weight c.args.query.now.0 = c.term_weight.ensures.weight in
+    let same : term c.term_weight.result.term.now (option_asked c.term_weight.result) ≡ term c.args.query.now.0 c.args.query.now.1 = ap (λ t. term t (option_asked c.term_weight.result)) c.term_weight.ensures.term ∙ ap (term c.args.query.now.0) c.term_weight.ensures.option in
+    let scores = c.term_weight.ensures.scores in
+    some_scores scored_left sim c.args.boost (term c.args.query.now.0 c.args.query.now.1) c.args.reader.now c.term_scorer.result (natural (to_z w64 c.args.boost) * c.term_weight.result.weight)
+    (λ schema analyze docs stands passes. some_same scored_left c.term_scorer.result _ _ (ap (λ n. answers schema analyze sim n (term c.term_weight.result.term.now (option_asked c.term_weight.result)) docs) boost ∙ ap (λ q. answers schema analyze sim c.args.boost q docs) same) (c.term_scorer.ensures.some schema analyze sim docs stands scores))
+    c.term_scorer.ensures.within c.term_scorer.ensures.bounded (ap (λ n. n * c.term_weight.result.weight) boost ∙ ap (λ w. c.args.boost * w) weight)
 
 pub returns-clause-none : goal.returns-clause-none
 returns-clause-none g c =
     let sim = g.S.Statistics.similarity c.args.statistics.now in
     let small = c.requires.small in
     let boost : natural (to_z w64 c.args.boost) ≡ c.args.boost = ap natural (to_z_pos w64 c.args.boost (omega (arith, small))) in
-    let same : term c.new-term.result.term.now (option_asked c.new-term.result) ≡ term c.args.query.now.0 c.args.query.now.1 = ap (λ t. term t (option_asked c.new-term.result)) (c.new-term.ensures.term ∙ c.term-term.ensures) ∙ ap (term c.args.query.now.0) (c.new-term.ensures.option ∙ c.index_record_option-option.ensures) in
+    let same : term c.term_weight.result.term.now (option_asked c.term_weight.result) ≡ term c.args.query.now.0 c.args.query.now.1 = ap (λ t. term t (option_asked c.term_weight.result)) c.term_weight.ensures.term ∙ ap (term c.args.query.now.0) c.term_weight.ensures.option in
     nothing_scores sim c.args.boost (term c.args.query.now.0 c.args.query.now.1) c.args.reader.now c.term_scorer.result
-    (λ schema analyze docs stands. none_same c.term_scorer.result _ _ (ap (λ n. answers schema analyze sim n (term c.new-term.result.term.now (option_asked c.new-term.result)) docs) boost ∙ ap (λ q. answers schema analyze sim c.args.boost q docs) same) (c.term_scorer.ensures.none schema analyze sim docs stands))
+    (λ schema analyze docs stands. none_same c.term_scorer.result _ _ (ap (λ n. answers schema analyze sim n (term c.term_weight.result.term.now (option_asked c.term_weight.result)) docs) boost ∙ ap (λ q. answers schema analyze sim c.args.boost q docs) same) (c.term_scorer.ensures.none schema analyze sim docs stands))
