@@ -15,13 +15,13 @@ ghost use Rattle.tree_scorers.specs.Accepted.{IsAccepted};
 
 use crate::readers::readers_of;
 use common::AliveBitSet;
+use leaf_weights::IndexWeights;
 use query_trees::AnyQuery;
 use segment::Segment;
 use segment_reader::DocAddress;
 use settings::Statistics;
 use std::alloc::{AllocError, Global};
 use top_docs::top_docs;
-use weights::IndexWeights;
 
 /// Returns the best `limit` living documents of the first segments that match `query`, each with its score: by score,
 /// and then by segment and document id.

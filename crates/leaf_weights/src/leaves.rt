@@ -6,7 +6,7 @@ ghost use Rattle.definitions.specs.Scoring.{max_score, weight_sum};
 ghost use Rattle.node_scorers.specs.Scores.{Scores};
 ghost use Rattle.term_scorer.specs.ScoredTerms.{scored_left};
 ghost use Rattle.tree_scorers.specs.Accepted.{IsAccepted};
-ghost use Rattle.weights.specs.Weighed.{under};
+ghost use Rattle.leaf_weights.specs.Weighed.{under};
 
 use common::Score;
 use docsets::DocSet;

@@ -20,7 +20,7 @@ pub struct IndexWeights<'a, S: Statistics> {
 }
 
 impl<'a, S: Statistics> IndexWeights<'a, S> {
-    ghost use Rattle.weights.specs.Scored.{statistics_of};
+    ghost use Rattle.leaf_weights.specs.Scored.{statistics_of};
 
     /// Returns the weights from `statistics`.
     pub fn new(statistics: &'a S) -> IndexWeights<'a, S>

@@ -1,5 +1,5 @@
 -- What tells the weights of an index.
-use Rattle.weights.specs.declared.index_weights.IndexWeights.{IndexWeights}
+use Rattle.leaf_weights.specs.declared.index_weights.IndexWeights.{IndexWeights}
 
 -- its statistics
 abbrev pub statistics_of : {S : Type 0} → IndexWeights S → S

@@ -7,10 +7,10 @@ use Rattle.definitions.specs.Answers.{answers}
 use Rattle.definitions.specs.Query.{phrase}
 use Rattle.definitions.specs.Scoring.{greatest_of, max_score, natural, weight_sum}
 use Rattle.tree_scorers.proofs.AcceptedParts.{fits}
-use Rattle.weights.proofs.AcceptedTerms.{phrase_near}
-use Rattle.weights.proofs.LeafScores.{norms_under, ok_none_same, ok_nothing_scores, ok_some_same, ok_some_scores, phrase_answers_same, small_if_boosted, small_under, weighs_same}
-use Rattle.weights.specs.Weighed.{under}
-use Rattle.weights.proofs.leaves.phrase_query_scorer.Goals as goal
+use Rattle.leaf_weights.proofs.AcceptedTerms.{phrase_near}
+use Rattle.leaf_weights.proofs.LeafScores.{norms_under, ok_none_same, ok_nothing_scores, ok_some_same, ok_some_scores, phrase_answers_same, small_if_boosted, small_under, weighs_same}
+use Rattle.leaf_weights.specs.Weighed.{under}
+use Rattle.leaf_weights.proofs.leaves.phrase_query_scorer.Goals as goal
 
 pub weight_under-weight-requires : goal.weight_under-weight-requires
 weight_under-weight-requires g c some =

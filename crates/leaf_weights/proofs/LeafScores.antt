@@ -21,7 +21,7 @@ use Rattle.phrase_weights.specs.PlacedAnswers.{whole_weight}
 use Rattle.reader_scorers.proofs.FormScores.{none_scores}
 use Rattle.segment_reader.specs.SegmentReaders.{StandsFor, max_doc_of}
 use Rattle.segment_reader.specs.declared.segment_reader.SegmentReader.{SegmentReader}
-use Rattle.weights.specs.Weighed.{under}
+use Rattle.leaf_weights.specs.Weighed.{under}
 
 -- under no boost weights tell nothing
 zero_times : (x y : ℕ) → 0 * x ≡ 0 * y
