@@ -1,0 +1,1 @@
+-- Lemmas behind the weights.
