@@ -1,1 +1,5 @@
 -- Lemmas behind the weights.
+pub mod AcceptedWeights
+pub mod MovedScores
+pub mod LeafWeights
+pub mod Rescored

@@ -9,6 +9,7 @@ mod boosts;
 mod const_weight;
 mod disjunction_max_weight;
 mod empty_weight;
+mod feeding;
 mod phrase;
 mod phrase_prefix;
 mod term;

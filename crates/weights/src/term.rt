@@ -26,11 +26,12 @@ impl<'q, 'a> Weight<'a> for TermWeight<'q, 'a> {
         reader: &SegmentReader<'a>,
         boost: Score,
     ) -> Result<AnyScorer<'a>, AllocError> {
-        let found = match self.term_scorer(reader, boost) {
-            Some(scorer) => TermOrEmptyOrAllScorer::TermScorer(scorer),
-            None => TermOrEmptyOrAllScorer::Empty,
-        };
-        Ok(found.into_boxed_scorer(alloc))
+        match self.term_scorer(reader, boost) {
+            Some(scorer) => {
+                Ok(TermOrEmptyOrAllScorer::TermScorer(scorer).into_boxed_scorer(alloc))
+            }
+            None => Ok(TermOrEmptyOrAllScorer::Empty.into_boxed_scorer(alloc)),
+        }
     }
 
     fn count(&self, _alloc: Global, reader: &SegmentReader<'a>) -> Result<u32, AllocError> {

@@ -22,6 +22,7 @@ ghost use Rattle.segment_reader.specs.SegmentReaders.{StandsFor, max_doc_of};
 ghost use Rattle.term_scorer.specs.Explaining.{explained_value};
 ghost use Rattle.weights.specs.Accepting.{IsAcceptedBy};
 
+use crate::feeding::feed;
 use common::{DocId, Score};
 use definitions::Fault;
 use docsets::{AllScorer, BoostScorer, DocSet};
@@ -164,7 +165,7 @@ pub trait Weight<'a> {
         ensures same { OnErr result (sink.new ≡ sink.old) }
     {
         let mut scorer = self.scorer(alloc, reader, 1)?;
-        scorer_answers::for_each_pruning(&mut scorer, threshold, sink);
+        feed(&mut scorer, reader, threshold, sink);
         Ok(())
     }
 }
