@@ -13,7 +13,7 @@ use Rattle.definitions.specs.Scoring.{max_score, natural, weight_sum}
 use Rattle.definitions.specs.declared.fault.Fault.{Fault}
 use Rattle.definitions.specs.declared.fault.Fault.TheVariants as faults
 
-nothing : List ℕ → ℕ
+abbrev pub nothing : List ℕ → ℕ
 nothing t = 0
 
 -- ---- bounds

@@ -1,1 +1,2 @@
 -- Lemmas behind what queries answer.
+pub mod Asked

@@ -16,6 +16,7 @@ ghost use Rattle.scorer_answers.specs.Earned.{score_at};
 ghost use Rattle.scorer_answers.specs.Rows.{HasRows};
 ghost use Rattle.segment_reader.specs.Searchers.{readers_in, statistics_of};
 ghost use Rattle.segment_reader.specs.SegmentReaders.{StandsFor};
+ghost use Rattle.segment_reader.specs.declared.segment_reader.SegmentReader.{SegmentReader};
 ghost use Rattle.term_scorer.specs.Explaining.{explained_value};
 ghost use Rattle.tree_scorers.specs.Accepted.{IsAccepted};
 ghost use Rattle.weights.specs.Weighs.{WeighsBy, query_weighed};
@@ -50,19 +51,19 @@ pub trait Query: QueryTree {
     ) -> Result<Explanation, Fault>
         requires segment { doc_address.segment_ord < length (readers_in searcher.now) }
         requires accepted { IsAccepted (S.similarity (statistics_of searcher.now)).weight 1 (Self.tree self.now) }
-        ensures ok { (schema : Schema) (analyze : Analyzer) (docs : List (List Document))
-            → AllZip (StandsFor schema analyze) docs (readers_in searcher.now)
+        ensures ok { (schema : Schema) (analyze : Analyzer) (docs : List Document) (reader : SegmentReader)
+            → slice_get (readers_in searcher.now) doc_address.segment_ord ≡ Some reader
+            → StandsFor schema analyze docs reader
             → tree_fault schema (S.similarity (statistics_of searcher.now)).weight 1 (Self.tree self.now) ≡ None
-            → IfOk result (λ explanation. (segment : List Document)
-            → slice_get docs doc_address.segment_ord ≡ Some segment
-            → option_map pos (score_at schema analyze (S.similarity (statistics_of searcher.now)) 1
-            (Self.tree self.now) segment doc_address.doc_id) ≡ Some (explained_value explanation)) }
-        ensures err { (schema : Schema) (analyze : Analyzer) (docs : List (List Document))
-            → AllZip (StandsFor schema analyze) docs (readers_in searcher.now)
+            → IfOk result (λ explanation. option_map pos (score_at schema analyze
+            (S.similarity (statistics_of searcher.now)) 1 (Self.tree self.now) docs doc_address.doc_id)
+            ≡ Some (explained_value explanation)) }
+        ensures err { (schema : Schema) (analyze : Analyzer) (docs : List Document) (reader : SegmentReader)
+            → slice_get (readers_in searcher.now) doc_address.segment_ord ≡ Some reader
+            → StandsFor schema analyze docs reader
             → tree_fault schema (S.similarity (statistics_of searcher.now)).weight 1 (Self.tree self.now) ≡ None
-            → IfErr result (λ fault. fault ≢ faults.OutOfMemory → (segment : List Document)
-            → slice_get docs doc_address.segment_ord ≡ Some segment
-            → score_at schema analyze (S.similarity (statistics_of searcher.now)) 1 (Self.tree self.now) segment
+            → IfErr result (λ fault. fault ≢ faults.OutOfMemory
+            → score_at schema analyze (S.similarity (statistics_of searcher.now)) 1 (Self.tree self.now) docs
             doc_address.doc_id ≡ None) }
         ensures fault { IfErr result (λ fault. fault ≢ faults.OutOfMemory → fault ≡ faults.InvalidArgument) }
     {
