@@ -16,9 +16,9 @@ use std::alloc::{AllocError, Global};
 use weights::Weight;
 
 /// Counts the living documents of each of `readers` that match, added up.
-pub(crate) fn count_each<'a, W: Weight<'a>>(
+pub(crate) fn count_each<W: Weight>(
     alloc: Global,
-    readers: &[SegmentReader<'a>],
+    readers: &[SegmentReader<'_>],
     weight: &W,
 ) -> Result<u64, AllocError>
     requires few { length readers.now < 2 ^ 32 }

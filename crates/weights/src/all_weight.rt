@@ -12,7 +12,7 @@ use std::alloc::{AllocError, Global};
 #[derive(Clone, Copy, Debug)]
 pub struct AllWeight;
 
-impl<'a> Weight<'a> for AllWeight {
+impl Weight for AllWeight {
     ghost use Rattle.std.specs.Prelude.{⊤};
     ghost use Rattle.definitions.specs.Query as definitions;
 
@@ -24,16 +24,16 @@ impl<'a> Weight<'a> for AllWeight {
         "every document"
     }
 
-    fn scorer(
-        &self,
+    fn scorer<'r>(
+        &'r self,
         _alloc: Global,
-        reader: &SegmentReader<'a>,
+        reader: &SegmentReader<'r>,
         boost: Score,
-    ) -> Result<AnyScorer<'a>, AllocError> {
+    ) -> Result<AnyScorer<'r>, AllocError> {
         Ok(AnyScorer::Leaf(Leaf::All(all_scorer(reader, boost))))
     }
 
-    fn count(&self, _alloc: Global, reader: &SegmentReader<'a>) -> Result<u32, AllocError> {
+    fn count(&self, _alloc: Global, reader: &SegmentReader<'_>) -> Result<u32, AllocError> {
         Ok(count_all(reader))
     }
 }

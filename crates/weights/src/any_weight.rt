@@ -37,7 +37,7 @@ pub enum AnyWeight<'q, 'a, S: Statistics> {
     Const(ConstWeight<'q, 'a, S>),
 }
 
-impl<'q, 'a, S: Statistics> Weight<'a> for AnyWeight<'q, 'a, S> {
+impl<'q, 'a, S: Statistics> Weight for AnyWeight<'q, 'a, S> {
     ghost use Rattle.weights.specs.Weighs.{WeighsBy, query_weighed};
 
     ghost query = { query_weighed };
@@ -58,12 +58,12 @@ impl<'q, 'a, S: Statistics> Weight<'a> for AnyWeight<'q, 'a, S> {
         }
     }
 
-    fn scorer(
-        &self,
+    fn scorer<'r>(
+        &'r self,
         alloc: Global,
-        reader: &SegmentReader<'a>,
+        reader: &SegmentReader<'r>,
         boost: Score,
-    ) -> Result<AnyScorer<'a>, AllocError> {
+    ) -> Result<AnyScorer<'r>, AllocError> {
         match self {
             AnyWeight::All(weight) => weight.scorer(alloc, reader, boost),
             AnyWeight::Empty(weight) => weight.scorer(alloc, reader, boost),

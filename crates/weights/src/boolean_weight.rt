@@ -56,7 +56,7 @@ impl<'q, 'a, S: Statistics> BooleanWeight<'q, 'a, S> {
     }
 }
 
-impl<'q, 'a, S: Statistics> Weight<'a> for BooleanWeight<'q, 'a, S> {
+impl<'q, 'a, S: Statistics> Weight for BooleanWeight<'q, 'a, S> {
     ghost use Rattle.leaf_weights.specs.Given.{similarity_given};
     ghost use Rattle.weights.specs.QueriesWeighed.{boolean_query_of, boolean_statistics};
 
@@ -68,12 +68,12 @@ impl<'q, 'a, S: Statistics> Weight<'a> for BooleanWeight<'q, 'a, S> {
         "clauses"
     }
 
-    fn scorer(
-        &self,
+    fn scorer<'r>(
+        &'r self,
         alloc: Global,
-        reader: &SegmentReader<'a>,
+        reader: &SegmentReader<'r>,
         boost: Score,
-    ) -> Result<AnyScorer<'a>, AllocError> {
+    ) -> Result<AnyScorer<'r>, AllocError> {
         let weights = GivenWeights::new(self.statistics);
         let scorers = ReaderScorers::new(reader, &weights);
         boolean_scorer(

@@ -44,7 +44,7 @@ impl<'q, 'a, S: Statistics> ConstWeight<'q, 'a, S> {
     }
 }
 
-impl<'q, 'a, S: Statistics> Weight<'a> for ConstWeight<'q, 'a, S> {
+impl<'q, 'a, S: Statistics> Weight for ConstWeight<'q, 'a, S> {
     ghost use Rattle.leaf_weights.specs.Given.{similarity_given};
     ghost use Rattle.weights.specs.QueriesWeighed.{constant_query_of, constant_statistics};
 
@@ -56,12 +56,12 @@ impl<'q, 'a, S: Statistics> Weight<'a> for ConstWeight<'q, 'a, S> {
         "a constant"
     }
 
-    fn scorer(
-        &self,
+    fn scorer<'r>(
+        &'r self,
         alloc: Global,
-        reader: &SegmentReader<'a>,
+        reader: &SegmentReader<'r>,
         boost: Score,
-    ) -> Result<AnyScorer<'a>, AllocError> {
+    ) -> Result<AnyScorer<'r>, AllocError> {
         let weights = GivenWeights::new(self.statistics);
         let scorers = ReaderScorers::new(reader, &weights);
         constant_scorer(alloc, &scorers, self.query, self.score, factor(boost))

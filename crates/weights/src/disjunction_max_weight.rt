@@ -44,7 +44,7 @@ impl<'q, 'a, S: Statistics> DisjunctionMaxWeight<'q, 'a, S> {
     }
 }
 
-impl<'q, 'a, S: Statistics> Weight<'a> for DisjunctionMaxWeight<'q, 'a, S> {
+impl<'q, 'a, S: Statistics> Weight for DisjunctionMaxWeight<'q, 'a, S> {
     ghost use Rattle.leaf_weights.specs.Given.{similarity_given};
     ghost use Rattle.weights.specs.QueriesWeighed.{best_query_of, best_statistics};
 
@@ -56,12 +56,12 @@ impl<'q, 'a, S: Statistics> Weight<'a> for DisjunctionMaxWeight<'q, 'a, S> {
         "the best of several queries"
     }
 
-    fn scorer(
-        &self,
+    fn scorer<'r>(
+        &'r self,
         alloc: Global,
-        reader: &SegmentReader<'a>,
+        reader: &SegmentReader<'r>,
         boost: Score,
-    ) -> Result<AnyScorer<'a>, AllocError> {
+    ) -> Result<AnyScorer<'r>, AllocError> {
         let weights = GivenWeights::new(self.statistics);
         let scorers = ReaderScorers::new(reader, &weights);
         max_scorer(

@@ -20,7 +20,7 @@ pub(crate) fn no_documents<'a>(alloc: Global) -> AnyScorer<'a>
     AnyScorer::Leaf(Leaf::List(ListScorer::new(Vec::new(alloc))))
 }
 
-impl<'a> Weight<'a> for EmptyWeight {
+impl Weight for EmptyWeight {
     ghost use Rattle.std.specs.Prelude.{⊤};
     ghost use Rattle.definitions.specs.Query as definitions;
 
@@ -32,12 +32,12 @@ impl<'a> Weight<'a> for EmptyWeight {
         "no document"
     }
 
-    fn scorer(
-        &self,
+    fn scorer<'r>(
+        &'r self,
         alloc: Global,
-        _reader: &SegmentReader<'a>,
+        _reader: &SegmentReader<'r>,
         _boost: Score,
-    ) -> Result<AnyScorer<'a>, AllocError> {
+    ) -> Result<AnyScorer<'r>, AllocError> {
         Ok(no_documents(alloc))
     }
 }

@@ -8,7 +8,7 @@ use phrase_weights::PhraseWeight;
 use segment_reader::SegmentReader;
 use std::alloc::{AllocError, Global};
 
-impl<'q, 'a> Weight<'a> for PhraseWeight<'q, 'a> {
+impl<'q, 'a> Weight for PhraseWeight<'q, 'a> {
     ghost use Rattle.definitions.specs.Query as definitions;
     ghost use Rattle.phrase_weights.specs.PhraseWeights.{ScoresBy, slop_of, terms_of};
 
@@ -20,12 +20,12 @@ impl<'q, 'a> Weight<'a> for PhraseWeight<'q, 'a> {
         "a phrase"
     }
 
-    fn scorer(
-        &self,
+    fn scorer<'r>(
+        &'r self,
         alloc: Global,
-        reader: &SegmentReader<'a>,
+        reader: &SegmentReader<'r>,
         boost: Score,
-    ) -> Result<AnyScorer<'a>, AllocError> {
+    ) -> Result<AnyScorer<'r>, AllocError> {
         match self.phrase_scorer(alloc, reader, boost)? {
             Some(scorer) => Ok(AnyScorer::Leaf(Leaf::Phrase(scorer))),
             None => Ok(no_documents(alloc)),

@@ -8,7 +8,7 @@ use phrase_weights::PhrasePrefixWeight;
 use segment_reader::SegmentReader;
 use std::alloc::{AllocError, Global};
 
-impl<'q, 'a> Weight<'a> for PhrasePrefixWeight<'q, 'a> {
+impl<'q, 'a> Weight for PhrasePrefixWeight<'q, 'a> {
     ghost use Rattle.definitions.specs.Query as definitions;
     ghost use Rattle.phrase_weights.specs.PhrasePrefixWeights.{ScoresPrefixBy, limit_of, prefix_terms_of};
 
@@ -20,12 +20,12 @@ impl<'q, 'a> Weight<'a> for PhrasePrefixWeight<'q, 'a> {
         "a phrase with a prefix"
     }
 
-    fn scorer(
-        &self,
+    fn scorer<'r>(
+        &'r self,
         alloc: Global,
-        reader: &SegmentReader<'a>,
+        reader: &SegmentReader<'r>,
         boost: Score,
-    ) -> Result<AnyScorer<'a>, AllocError> {
+    ) -> Result<AnyScorer<'r>, AllocError> {
         match self.phrase_prefix_scorer(alloc, reader, boost)? {
             Some(scorer) => Ok(AnyScorer::Leaf(Leaf::PhrasePrefix(scorer))),
             None => Ok(no_documents(alloc)),

@@ -8,7 +8,7 @@ use segment_reader::SegmentReader;
 use std::alloc::{AllocError, Global};
 use term_weight::TermWeight;
 
-impl<'q, 'a> Weight<'a> for TermWeight<'q, 'a> {
+impl<'q, 'a> Weight for TermWeight<'q, 'a> {
     ghost use Rattle.definitions.specs.Query as definitions;
     ghost use Rattle.term_weight.specs.TermWeights.{ScoresBy, option_asked, term_of};
 
@@ -20,12 +20,12 @@ impl<'q, 'a> Weight<'a> for TermWeight<'q, 'a> {
         "a term"
     }
 
-    fn scorer(
-        &self,
+    fn scorer<'r>(
+        &'r self,
         alloc: Global,
-        reader: &SegmentReader<'a>,
+        reader: &SegmentReader<'r>,
         boost: Score,
-    ) -> Result<AnyScorer<'a>, AllocError> {
+    ) -> Result<AnyScorer<'r>, AllocError> {
         match self.term_scorer(reader, boost) {
             Some(scorer) => {
                 Ok(TermOrEmptyOrAllScorer::TermScorer(scorer).into_boxed_scorer(alloc))
@@ -34,7 +34,7 @@ impl<'q, 'a> Weight<'a> for TermWeight<'q, 'a> {
         }
     }
 
-    fn count(&self, _alloc: Global, reader: &SegmentReader<'a>) -> Result<u32, AllocError> {
+    fn count(&self, _alloc: Global, reader: &SegmentReader<'_>) -> Result<u32, AllocError> {
         Ok(count_term(self.term(), reader))
     }
 }

@@ -42,7 +42,7 @@ pub type AnyScorer<'a> = reader_scorers::AnyScorer<
 >;
 
 /// A query with what its scores come from. It answers in each segment which documents match, and with what scores.
-pub trait Weight<'a> {
+pub trait Weight {
     // The query.
     ghost query: { Self → definitions.Query };
 
@@ -53,24 +53,24 @@ pub trait Weight<'a> {
     fn description(&self) -> &'static str;
 
     /// Returns a scorer of the documents of the segment that match, with their scores under `boost`.
-    fn scorer(
-        &self,
+    fn scorer<'r>(
+        &'r self,
         alloc: Global,
-        reader: &SegmentReader<'a>,
+        reader: &SegmentReader<'r>,
         boost: Score,
-    ) -> Result<AnyScorer<'a>, AllocError>
+    ) -> Result<AnyScorer<'r>, AllocError>
         requires positive { pos 0 ≤ℤ boost }
         requires small { natural boost ≤ max_score }
         requires accepted { IsAcceptedBy (scores_by self.now) (natural boost) (query self.now) }
         ensures { (sim : scoring.Similarity) → scores_by self.now sim
             → IfOk result (λ scorer. Scores sim (natural boost) (query self.now) reader.now
-            (⟦<AnyScorer<'a> as DocSet>⟧.entries scorer)) };
+            (⟦<AnyScorer<'r> as DocSet>⟧.entries scorer)) };
 
     /// Explains the score of `doc`; `InvalidArgument` if `doc` doesn't match.
     fn explain(
         &self,
         alloc: Global,
-        reader: &SegmentReader<'a>,
+        reader: &SegmentReader<'_>,
         doc: DocId,
     ) -> Result<Explanation, Fault>
         requires { IsAcceptedBy (scores_by self.now) 1 (query self.now) }
@@ -93,7 +93,7 @@ pub trait Weight<'a> {
     }
 
     /// Counts the living documents of the segment that match.
-    fn count(&self, alloc: Global, reader: &SegmentReader<'a>) -> Result<u32, AllocError>
+    fn count(&self, alloc: Global, reader: &SegmentReader<'_>) -> Result<u32, AllocError>
         requires { IsAcceptedBy (scores_by self.now) 1 (query self.now) }
         ensures { (sim : scoring.Similarity) → scores_by self.now sim
             → (schema : Schema) (analyze : Analyzer) (rows : Segment)
@@ -109,7 +109,7 @@ pub trait Weight<'a> {
     fn for_each(
         &self,
         alloc: Global,
-        reader: &SegmentReader<'a>,
+        reader: &SegmentReader<'_>,
     ) -> Result<Vec<(DocId, Score)>, AllocError>
         requires { IsAcceptedBy (scores_by self.now) 1 (query self.now) }
         ensures { (sim : scoring.Similarity) → scores_by self.now sim
@@ -127,7 +127,7 @@ pub trait Weight<'a> {
     fn for_each_no_score<K: BlockSink>(
         &self,
         alloc: Global,
-        reader: &SegmentReader<'a>,
+        reader: &SegmentReader<'_>,
         sink: &mut K,
     ) -> Result<(), AllocError>
         requires { IsAcceptedBy (scores_by self.now) 1 (query self.now) }
@@ -150,7 +150,7 @@ pub trait Weight<'a> {
         &self,
         alloc: Global,
         threshold: Score,
-        reader: &SegmentReader<'a>,
+        reader: &SegmentReader<'_>,
         sink: &mut K,
     ) -> Result<(), AllocError>
         requires accepted { IsAcceptedBy (scores_by self.now) 1 (query self.now) }
