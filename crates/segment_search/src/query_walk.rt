@@ -16,13 +16,13 @@ ghost use Rattle.segment_search.specs.Counted.{IsTermQuery};
 ghost use Rattle.tree_scorers.specs.Accepted.{IsAccepted};
 
 use common::Score;
+use leaf_weights::{IndexWeights, weigh_term};
 use phrases::Sink;
 use query_trees::AnyQuery;
 use reader_scorers::ReaderScorers;
 use segment_reader::SegmentReader;
 use settings::Statistics;
 use std::alloc::{AllocError, Global};
-use weights::{IndexWeights, term_weight};
 
 /// Feeds each document of `reader` that matches `query` with its score to `sink`, in order, if the score is above the
 /// sink's threshold by then. Returns how many blocks of postings were decoded if the query is one term, and else 0.
@@ -52,7 +52,7 @@ pub(crate) fn feed_query<'a, S: Statistics, K: Sink>(
     ensures uncounted { (¬ IsTermQuery (query_of query.now)) → IfOk result (λ blocks. blocks ≡ 0) }
 {
     if let AnyQuery::Term(query) = query {
-        return term_weight(statistics, query).for_each_pruning_counted(threshold, reader, sink);
+        return weigh_term(query, statistics).for_each_pruning_counted(threshold, reader, sink);
     }
     let weights = IndexWeights::new(statistics);
     let scorers = ReaderScorers::new(reader, &weights);
