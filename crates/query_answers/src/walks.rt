@@ -8,7 +8,7 @@ ghost use Rattle.definitions.specs.Schema.{Schema};
 ghost use Rattle.definitions.specs.Sinks.{fed};
 ghost use Rattle.definitions.specs.Values.{Document};
 ghost use Rattle.phrases.specs.Blocks.{IsFedInBlocks};
-ghost use Rattle.query_answers.specs.Feeding.{IsFedBelow};
+ghost use Rattle.phrases.specs.Feeding.{IsFedBelow};
 ghost use Rattle.query_trees.specs.Queries.{query_of};
 ghost use Rattle.scorer_answers.specs.Listed.{signed_pairs};
 ghost use Rattle.scorer_answers.specs.Matching.{matching};
@@ -80,7 +80,7 @@ pub fn for_each_pruning<F: SegmentScorers, K: Sink>(
         (K.state sink.new)) }
     ensures same { OnErr result (sink.new ≡ sink.old) }
 {
-    let mut scorer = scorer_of(alloc, forms, query, 1)?;
-    scorer_answers::for_each_pruning(&mut scorer, threshold, sink);
+    let scorer = scorer_of(alloc, forms, query, 1)?;
+    F::feed(scorer, threshold, sink);
     Ok(())
 }
