@@ -2,6 +2,7 @@
 pub mod Places
 pub mod Flagging
 pub mod RowsRead
+pub mod BestPlaces
 pub mod BestFound
 pub mod HitsRead
 pub mod Counts

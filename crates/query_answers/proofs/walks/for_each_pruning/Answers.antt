@@ -1,6 +1,8 @@
 use Rattle.std.proofs.Common.{arith}
+use Rattle.phrases.proofs.FedBelow.{fed_below}
 use Rattle.query_trees.specs.Queries.{query_of}
 use Rattle.scorer_answers.proofs.AnswerLaws.{few_documents}
+use Rattle.segment_reader.specs.SegmentReaders.{max_doc_of}
 use Rattle.query_answers.proofs.walks.for_each_pruning.Goals as goal
 
 pub for_each_pruning-requires-clause-room : goal.for_each_pruning-requires-clause-room
@@ -9,9 +11,9 @@ for_each_pruning-requires-clause-room g c =
     let few = few_documents (g.F.SegmentScorers.similarity c.args.forms.now) 1 (query_of c.args.query.now) (g.F.SegmentScorers.segment c.args.forms.now) (g.F.Scorer.DocSet.entries scorer) (g.met.F.Scorer.DocSet.rising scorer) c.in_ok-scorer.ensures in
     omega (arith, few, c.requires.room)
 
-pub returns-clause-room : goal.returns-clause-room
-returns-clause-room g c =
+pub returns-clause-listed : goal.returns-clause-listed
+returns-clause-listed g c =
     let scorer = c.in_ok-scorer.scorer in
-    let few = few_documents (g.F.SegmentScorers.similarity c.args.forms.now) 1 (query_of c.args.query.now) (g.F.SegmentScorers.segment c.args.forms.now) (g.F.Scorer.DocSet.entries scorer) (g.met.F.Scorer.DocSet.rising scorer) c.in_ok-scorer.ensures in
-    let room = c.for_each_pruning.ensures.room in
-    omega (arith, few, room)
+    let es = g.F.Scorer.DocSet.entries scorer in
+    let scores = c.in_ok-scorer.ensures in
+    fed_below g.K.Sink.limit g.K.Sink.taken (g.K.Sink.state c.args.sink.now) (g.K.Sink.state c.for_each_pruning.new.sink) (max_doc_of (g.F.SegmentScorers.segment c.args.forms.now)) es (g.met.F.Scorer.DocSet.rising scorer) scores.within c.for_each_pruning.ensures.state

@@ -7,7 +7,7 @@ use Rattle.segment_search.proofs.BestFound.{best_scanned, best_within}
 use Rattle.segment_search.proofs.Flagging.{flagged_kept}
 use Rattle.segment_search.proofs.HitsRead.{held_alive}
 use Rattle.segment_search.specs.Hits.{IsHeld}
-use Rattle.top_docs.specs.Collected.{IsFound, place_at}
+use Rattle.segment_search.specs.Best.{IsFound, place_at}
 use Rattle.segment_search.proofs.searching.search.Goals as goal
 
 pub read_hits-requires : goal.read_hits-requires
