@@ -9,7 +9,7 @@ ghost use Rattle.query_trees.specs.Queries.{query_of};
 ghost use Rattle.tree_scorers.specs.Accepted.{IsAccepted};
 
 use definitions::Fault;
-use query::check_query;
+use query_checks::check_query;
 use query_trees::AnyQuery;
 use schema::Schema;
 use settings::Statistics;

@@ -9,7 +9,7 @@ ghost use Rattle.definitions.specs.State.{committed};
 ghost use Rattle.definitions.specs.declared.fault.Fault.TheVariants as faults;
 ghost use Rattle.query_trees.specs.Queries.{query_of};
 ghost use Rattle.engine.specs.Indexes.{IndexStands, KeepsFile, KeepsMaking, schema_of, settings_of};
-ghost use Rattle.index_state.specs.Hits.{hit_of, scored};
+ghost use Rattle.index_state.specs.Hits.{IsTermQuery, hit_of, scored};
 
 use crate::index::Index;
 use common::{Analyzer, Device};
@@ -40,7 +40,36 @@ impl<D: Device + Drop, A: Analyzer + Drop> Index<D, A> {
         ensures made { KeepsMaking self.old self.new }
         ensures file { KeepsFile self.old self.new }
     {
-        self.index_state.search(query, k)
+        let (hits, _decoded_blocks) = self.search_counted(query, k)?;
+        Ok(hits)
+    }
+
+    /// Returns the best `k` as `search` does, and beside them how many blocks of postings were decoded for them.
+    ///
+    /// The blocks are counted where the query is one term: in each segment that has it the first block, and each later
+    /// one whose bound is above the score that a document has to exceed by then. For any other query the count is 0.
+    pub fn search_counted(&mut self, query: &AnyQuery, k: usize) -> Result<(Vec<Hit>, u64), Fault>
+        ensures ok { (c : calls.Configuration) (x : calls.Index) → IndexStands A.analyze self.old c x
+            → IfOk result (λ found.
+            (calls.call_fault c x (calls.search_best (query_of query.now) k) ≡ None)
+            × (map hit_of found.0.items
+            ≡ map scored (scanning.scan c.schema c.analyze c.similarity (committed x.state) (query_of query.now) k))) }
+        ensures uncounted { (¬ IsTermQuery (query_of query.now)) → IfOk result (λ found. found.1 ≡ 0) }
+        ensures err { (c : calls.Configuration) (x : calls.Index) → IndexStands A.analyze self.old c x
+            → IfErr result (λ fault. fault ≢ faults.OutOfMemory
+            → calls.call_fault c x (calls.search_best (query_of query.now) k) ≡ Some fault) }
+        ensures faults { IfErr result (λ fault. (fault ≡ faults.Closed) ⊎ (fault ≡ faults.OutOfMemory)
+            ⊎ (fault ≡ faults.Damaged None) ⊎ (refusal (schema_of self.old)
+            (similarity_of (settings_of self.old)).weight (query_of query.now) ≡ Some fault)) }
+        ensures own { (c : calls.Configuration) (x : calls.Index) → IndexStands A.analyze self.old c x
+            → IfErr result (λ fault. fault ≡ faults.OutOfMemory
+            → calls.call_fault c x (calls.search_best (query_of query.now) k) ≡ None) }
+        ensures left { (c : calls.Configuration) (x : calls.Index) → IndexStands A.analyze self.old c x
+            → IndexStands A.analyze self.new c x }
+        ensures made { KeepsMaking self.old self.new }
+        ensures file { KeepsFile self.old self.new }
+    {
+        self.index_state.search_counted(query, k)
     }
 
     /// Returns the number of committed documents that match.

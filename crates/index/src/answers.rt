@@ -22,7 +22,7 @@ use crate::requests::IndexRequest;
 use common::{Analyzer, Device};
 use definitions::Fault;
 use engine::{Hit, Index};
-use query::read_query;
+use query_checks::read_query;
 use reply_texts::hits_text;
 use serde_json::Value as Json;
 use settings::read_term;

@@ -13,7 +13,7 @@ pub use document::NamedDocument;
 pub use document_values::OwnedValue;
 pub use engine::{Hit, Index, Refused, Status, file_laws};
 pub use exit_status::status_of;
-pub use query::read_query;
+pub use query_checks::read_query;
 pub use query_trees::{
     AllQuery, AnyQuery, BooleanQuery, BoostQuery, ConstScoreQuery, DisjunctionMaxQuery, EmptyQuery,
     Occur, PhrasePrefixQuery, PhraseQuery, TermQuery,

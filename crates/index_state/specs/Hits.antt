@@ -1,2 +1,3 @@
 -- The words for hits, handed on to the crates above, which needn't name that of searches.
+pub use Rattle.segment_search.specs.Counted.{IsTermQuery}
 pub use Rattle.segment_search.specs.Hits.{hit_of, scored}

@@ -24,6 +24,7 @@ ghost use Rattle.index_file.specs.Lists.{IsListed, member_of};
 ghost use Rattle.segment_definitions.specs.SegmentBodies.{Makes};
 ghost use Rattle.segment_definitions.specs.SegmentFiles.{IsGroup};
 ghost use Rattle.segment_definitions.specs.Segments.{IsSegment};
+ghost use Rattle.segment_search.specs.Counted.{IsTermQuery};
 ghost use Rattle.segment_search.specs.Hits.{hit_of, scored};
 
 use crate::add_checks::{check_document, check_slot};
@@ -41,7 +42,7 @@ use index_file::Member;
 use query_trees::AnyQuery;
 use schema::Schema;
 use segment::Segment;
-use segment_search::{Hit, count, search};
+use segment_search::{Hit, count, search_counted};
 use settings::Settings;
 use std::alloc::Global;
 use std::mem;
@@ -360,15 +361,17 @@ impl<A: Analyzer + Drop> IndexState<A> {
         count_alive(&self.alive)
     }
 
-    /// Returns the best `limit` of the committed documents that match, by score, and then in the order of addition. The
-    /// caches of the segments' stores keep the blocks that are read.
-    pub fn search(&mut self, query: &AnyQuery, limit: usize) -> Result<Vec<Hit>, Fault>
+    /// Returns the best `limit` of the committed documents that match, by score, and then in the order of addition, and
+    /// beside them how many blocks of postings were decoded for them, which is counted where the query is one term, and
+    /// is 0 for any other. The caches of the segments' stores keep the blocks that are read.
+    pub fn search_counted(&mut self, query: &AnyQuery, limit: usize) -> Result<(Vec<Hit>, u64), Fault>
         ensures ok { (c : calls.Configuration) (x : calls.Index) → Stands A.analyze self.old c x
-            → IfOk result (λ hits.
+            → IfOk result (λ found.
             (calls.call_fault c x (calls.search_best (query_of query.now) limit) ≡ None)
-            × (map hit_of hits.items
+            × (map hit_of found.0.items
             ≡ map scored (scanning.scan c.schema c.analyze c.similarity (states.committed x.state) (query_of query.now)
             limit))) }
+        ensures uncounted { (¬ IsTermQuery (query_of query.now)) → IfOk result (λ found. found.1 ≡ 0) }
         ensures err { (c : calls.Configuration) (x : calls.Index) → Stands A.analyze self.old c x
             → IfErr result (λ fault. fault ≢ faults.OutOfMemory
             → calls.call_fault c x (calls.search_best (query_of query.now) limit) ≡ Some fault) }
@@ -378,7 +381,7 @@ impl<A: Analyzer + Drop> IndexState<A> {
         ensures own { (c : calls.Configuration) (x : calls.Index) → Stands A.analyze self.old c x
             → IfErr result (λ fault. fault ≡ faults.OutOfMemory
             → calls.call_fault c x (calls.search_best (query_of query.now) limit) ≡ None) }
-        ensures accepted { IfOk result (λ hits. refusal (schema_of self.old)
+        ensures accepted { IfOk result (λ found. refusal (schema_of self.old)
             (similarity_of (settings_of self.old)).weight (query_of query.now) ≡ None) }
         ensures memory { IfErr result (λ fault. fault ≡ faults.OutOfMemory → refusal (schema_of self.old)
             (similarity_of (settings_of self.old)).weight (query_of query.now) ≡ None) }
@@ -388,7 +391,7 @@ impl<A: Analyzer + Drop> IndexState<A> {
         ensures members { members_of self.new ≡ members_of self.old }
     {
         self.check_open()?;
-        search(
+        search_counted(
             self.alloc,
             &self.schema,
             &mut self.segments,

@@ -73,6 +73,16 @@ impl<'q, 'a> PhraseWeight<'q, 'a> {
         }
     }
 
+    /// Sets the number of positions that the terms may be off together.
+    pub fn slop(&mut self, slop: u32)
+        ensures terms { terms_of self.new ≡ terms_of self.old }
+        ensures slop { slop_of self.new ≡ slop }
+        ensures weight { weight_in self.new ≡ weight_in self.old }
+        ensures scores { (sim : scoring.Similarity) → ScoresBy sim self.old → ScoresBy sim self.new }
+    {
+        self.slop = slop;
+    }
+
     /// Returns the documents of the segment where the phrase occurs, with their scores under `boost`; `None` if one of
     /// its terms is in no document.
     pub fn phrase_scorer(

@@ -1,13 +1,2 @@
-pub mod Numbers
-pub mod PhraseSteps
-pub mod QueryForms
-pub mod QuerySteps
--- Lemmas behind the laws.
-pub mod Orders
--- Lemmas on query trees.
-pub mod TermKinds
-pub mod Positions
-pub mod Tests
-pub mod ScaledBounds
-pub mod Depths
-pub mod NodeFaults
+-- Lemmas behind what queries answer.
+pub mod Asked

@@ -1,25 +1,18 @@
-//! Query trees: read from JSON, and which of them are refused, and by what.
+//! Queries: their trees, which of them are refused, and what they answer.
 #![tactic(auto)]
 
-mod bounds;
-mod checks;
-mod json_booleans;
-mod json_phrases;
-mod json_queries;
-mod node_tests;
-mod query_forms;
-mod refusal_laws;
-mod term_queries;
-mod term_tests;
+mod counts;
+mod query;
+mod single_queries;
+mod statistics_asked;
+mod tree;
+mod weighed;
 
-pub use checks::check_query;
-pub use json_queries::read_query;
-pub use query_trees::{
+pub use query::Query;
+pub use query_checks::{
     AllQuery, AnyQuery, BooleanQuery, BoostQuery, ConstScoreQuery, DisjunctionMaxQuery, EmptyQuery,
-    Occur, PhrasePrefixQuery, PhraseQuery, Query, QueryClone, TermQuery, are_phrase_terms,
+    Occur, PhrasePrefixQuery, PhraseQuery, QueryClone, QueryTree, Statistics, TermQuery,
+    a_node_is_refused_by_its_first_fault, a_query_is_refused_by_its_first_node, are_phrase_terms,
+    check_query, depths_are_tested_first, read_query,
 };
-pub use refusal_laws::{
-    a_node_is_refused_by_its_first_fault, a_query_is_refused_by_its_first_node,
-    depths_are_tested_first,
-};
-pub use settings::Statistics;
+pub use weighed::specialized_weight;

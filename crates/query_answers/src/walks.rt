@@ -1,6 +1,6 @@
 //! Walks of the documents of a query, into a list or a sink.
 
-ghost use Rattle.std.specs.Prelude.{◌+◌, ◌≡◌, ◌≤◌, IfOk, List, None, OnErr, OnOk};
+ghost use Rattle.std.specs.Prelude.{◌≡◌, ◌≤◌, IfOk, List, None, OnErr, OnOk};
 ghost use Rattle.definitions.specs.Analyzers.{Analyzer};
 ghost use Rattle.definitions.specs.Answers.{answers};
 ghost use Rattle.definitions.specs.Refusing.{tree_fault};
@@ -8,6 +8,7 @@ ghost use Rattle.definitions.specs.Schema.{Schema};
 ghost use Rattle.definitions.specs.Sinks.{fed};
 ghost use Rattle.definitions.specs.Values.{Document};
 ghost use Rattle.phrases.specs.Blocks.{IsFedInBlocks};
+ghost use Rattle.phrases.specs.Feeding.{IsFedBelow};
 ghost use Rattle.query_trees.specs.Queries.{query_of};
 ghost use Rattle.scorer_answers.specs.Listed.{signed_pairs};
 ghost use Rattle.scorer_answers.specs.Matching.{matching};
@@ -75,10 +76,11 @@ pub fn for_each_pruning<F: SegmentScorers, K: Sink>(
         → tree_fault schema (F.similarity forms.now).weight 1 (query_of query.now) ≡ None
         → OnOk result (K.state sink.new ≡ fed K.limit K.taken (K.state sink.old)
         (answers schema analyze (F.similarity forms.now) 1 (query_of query.now) docs)) }
-    ensures room { K.room sink.old ≤ K.room sink.new + max_doc_of (F.segment forms.now) }
+    ensures listed { OnOk result (IsFedBelow K.limit K.taken (K.state sink.old) (max_doc_of (F.segment forms.now))
+        (K.state sink.new)) }
     ensures same { OnErr result (sink.new ≡ sink.old) }
 {
-    let mut scorer = scorer_of(alloc, forms, query, 1)?;
-    scorer_answers::for_each_pruning(&mut scorer, threshold, sink);
+    let scorer = scorer_of(alloc, forms, query, 1)?;
+    F::feed(scorer, threshold, sink);
     Ok(())
 }

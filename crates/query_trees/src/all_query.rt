@@ -2,7 +2,7 @@
 
 ghost use Rattle.definitions.specs.Query as definitions;
 
-use crate::query::{Query, QueryClone};
+use crate::query_tree::{QueryClone, QueryTree};
 use std::alloc::{AllocError, Global};
 use terms::Term;
 
@@ -16,10 +16,10 @@ impl QueryClone for AllQuery {
     }
 }
 
-impl Query for AllQuery {
+impl QueryTree for AllQuery {
     ghost tree = { λ q. definitions.all };
 
-    fn query_terms(&self, alloc: Global) -> Result<Vec<(&Term, bool)>, AllocError> {
+    fn needed_terms(&self, alloc: Global) -> Result<Vec<(&Term, bool)>, AllocError> {
         Ok(Vec::new(alloc))
     }
 }

@@ -11,8 +11,8 @@ use crate::disjunction_max_query::DisjunctionMaxQuery;
 use crate::empty_query::EmptyQuery;
 use crate::phrase_prefix_query::PhrasePrefixQuery;
 use crate::phrase_query::PhraseQuery;
-use crate::query::{Query, QueryClone};
 use crate::query_terms::push_query_terms;
+use crate::query_tree::{QueryClone, QueryTree};
 use crate::term_query::TermQuery;
 use std::alloc::{AllocError, Global};
 use terms::Term;
@@ -47,10 +47,10 @@ impl QueryClone for AnyQuery {
     }
 }
 
-impl Query for AnyQuery {
+impl QueryTree for AnyQuery {
     ghost tree = { query_of };
 
-    fn query_terms(&self, alloc: Global) -> Result<Vec<(&Term, bool)>, AllocError> {
+    fn needed_terms(&self, alloc: Global) -> Result<Vec<(&Term, bool)>, AllocError> {
         let mut found = Vec::new(alloc);
         push_query_terms(&mut found, self)?;
         Ok(found)

@@ -9,8 +9,8 @@ ghost use Rattle.query_trees.specs.declared.any_query.AnyQuery.TheVariants as fo
 use crate::any_query::AnyQuery;
 use crate::copies::copied_boolean;
 use crate::occur::Occur;
-use crate::query::{Query, QueryClone};
 use crate::query_terms::push_clauses_terms;
+use crate::query_tree::{QueryClone, QueryTree};
 use crate::term_query::TermQuery;
 use options::IndexRecordOption;
 use std::alloc::{AllocError, Global};
@@ -201,10 +201,10 @@ impl QueryClone for BooleanQuery {
     }
 }
 
-impl Query for BooleanQuery {
+impl QueryTree for BooleanQuery {
     ghost tree = { λ q. definitions.boolean q.0 q.1 };
 
-    fn query_terms(&self, alloc: Global) -> Result<Vec<(&Term, bool)>, AllocError> {
+    fn needed_terms(&self, alloc: Global) -> Result<Vec<(&Term, bool)>, AllocError> {
         let mut found = Vec::new(alloc);
         push_clauses_terms(&mut found, self.clauses())?;
         Ok(found)

@@ -6,8 +6,8 @@ ghost use Rattle.query_trees.specs.Queries.{query_of};
 
 use crate::any_query::AnyQuery;
 use crate::copies::copied_const_score;
-use crate::query::{Query, QueryClone};
 use crate::query_terms::push_query_terms;
+use crate::query_tree::{QueryClone, QueryTree};
 use std::alloc::{AllocError, Global};
 use std::marker::Model;
 use terms::Term;
@@ -73,10 +73,10 @@ impl QueryClone for ConstScoreQuery {
     }
 }
 
-impl Query for ConstScoreQuery {
+impl QueryTree for ConstScoreQuery {
     ghost tree = { λ q. definitions.const_score q.1 q.0 };
 
-    fn query_terms(&self, alloc: Global) -> Result<Vec<(&Term, bool)>, AllocError> {
+    fn needed_terms(&self, alloc: Global) -> Result<Vec<(&Term, bool)>, AllocError> {
         let mut found = Vec::new(alloc);
         push_query_terms(&mut found, self.query())?;
         Ok(found)

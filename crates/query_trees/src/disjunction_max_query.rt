@@ -6,8 +6,8 @@ ghost use Rattle.query_trees.specs.Queries.{queries_of};
 
 use crate::any_query::AnyQuery;
 use crate::copies::copied_max;
-use crate::query::{Query, QueryClone};
 use crate::query_terms::push_disjuncts_terms;
+use crate::query_tree::{QueryClone, QueryTree};
 use std::alloc::{AllocError, Global};
 use std::marker::Model;
 use terms::Term;
@@ -82,10 +82,10 @@ impl QueryClone for DisjunctionMaxQuery {
     }
 }
 
-impl Query for DisjunctionMaxQuery {
+impl QueryTree for DisjunctionMaxQuery {
     ghost tree = { λ q. definitions.disjunction_max q.0 q.1 };
 
-    fn query_terms(&self, alloc: Global) -> Result<Vec<(&Term, bool)>, AllocError> {
+    fn needed_terms(&self, alloc: Global) -> Result<Vec<(&Term, bool)>, AllocError> {
         let mut found = Vec::new(alloc);
         push_disjuncts_terms(&mut found, self.disjuncts())?;
         Ok(found)

@@ -13,8 +13,8 @@ mod occur;
 mod phrase_prefix_query;
 mod phrase_query;
 mod phrase_terms;
-mod query;
 mod query_terms;
+mod query_tree;
 mod term_query;
 
 pub use all_query::AllQuery;
@@ -28,5 +28,5 @@ pub use occur::Occur;
 pub use phrase_prefix_query::PhrasePrefixQuery;
 pub use phrase_query::PhraseQuery;
 pub use phrase_terms::are_phrase_terms;
-pub use query::{Query, QueryClone};
+pub use query_tree::{QueryClone, QueryTree};
 pub use term_query::TermQuery;

@@ -8,8 +8,8 @@ ghost use Rattle.definitions.specs.Scoring.{phrase_field};
 ghost use Rattle.query_trees.specs.PhraseTerms.{ArePhraseTerms, are_phrase_terms};
 
 use crate::phrase_terms::{copied_places, copied_terms, in_a_row, show_terms, sort_by_offset};
-use crate::query::{Query, QueryClone};
 use crate::query_terms::push_with_positions;
+use crate::query_tree::{QueryClone, QueryTree};
 use std::alloc::{AllocError, Global};
 use std::fmt;
 use std::marker::Model;
@@ -126,10 +126,10 @@ impl QueryClone for PhrasePrefixQuery {
     }
 }
 
-impl Query for PhrasePrefixQuery {
+impl QueryTree for PhrasePrefixQuery {
     ghost tree = { λ q. definitions.phrase_prefix q.0 q.1 };
 
-    fn query_terms(&self, alloc: Global) -> Result<Vec<(&Term, bool)>, AllocError> {
+    fn needed_terms(&self, alloc: Global) -> Result<Vec<(&Term, bool)>, AllocError> {
         let mut found = Vec::new(alloc);
         push_with_positions(&mut found, self.whole_terms())?;
         Ok(found)

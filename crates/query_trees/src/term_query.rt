@@ -5,8 +5,8 @@ ghost use Rattle.std.specs.Prelude.{◌≡◌, IfOk};
 ghost use Rattle.options.specs.RecordOption.{record_option_of};
 
 use crate::phrase_terms::copied;
-use crate::query::{Query, QueryClone};
 use crate::query_terms::push_term;
+use crate::query_tree::{QueryClone, QueryTree};
 use options::IndexRecordOption;
 use std::alloc::{AllocError, Global};
 use std::fmt;
@@ -70,10 +70,10 @@ impl QueryClone for TermQuery {
     }
 }
 
-impl Query for TermQuery {
+impl QueryTree for TermQuery {
     ghost tree = { λ q. definitions.term q.0 q.1 };
 
-    fn query_terms(&self, alloc: Global) -> Result<Vec<(&Term, bool)>, AllocError> {
+    fn needed_terms(&self, alloc: Global) -> Result<Vec<(&Term, bool)>, AllocError> {
         let mut found = Vec::new(alloc);
         push_term(&mut found, &self.term)?;
         Ok(found)

@@ -5,6 +5,7 @@ mod any_query_scorer;
 mod forms;
 mod leaf_weights;
 mod reader_scorers;
+mod scorer_walks;
 mod terms_alone;
 
 pub use any_query_scorer::AnyScorer;

@@ -10,10 +10,12 @@ ghost use Rattle.node_scorers.specs.Scores.{AllScore, Scores};
 use crate::any_query_scorer::AnyScorer;
 use crate::forms::{of_all, of_list, of_none, of_phrase, of_phrase_prefix, of_term, with_score};
 use crate::leaf_weights::LeafWeights;
+use crate::scorer_walks::feed_any;
 use crate::terms_alone::{are_terms, into_terms};
 use common::Score;
 use docsets::{AllScorer, BoostScorer, DocSet};
 use node_scorers::{all_scorer, best_scorer, clauses_scorer};
+use phrases::Sink;
 use query_trees::{PhrasePrefixQuery, PhraseQuery, TermQuery};
 use segment_reader::SegmentReader;
 use std::alloc::{AllocError, Global};
@@ -155,5 +157,9 @@ impl<'r, 'a, W: LeafWeights<'a>> SegmentScorers for ReaderScorers<'r, 'a, W> {
         score: u64,
     ) -> Result<ScorerBy<'a, W>, AllocError> {
         with_score(alloc, scorer, score)
+    }
+
+    fn feed<K: Sink>(scorer: ScorerBy<'a, W>, threshold: Score, sink: &mut K) {
+        feed_any(scorer, threshold, sink)
     }
 }

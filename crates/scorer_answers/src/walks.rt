@@ -1,6 +1,6 @@
 //! Walks of a scorer, into a list or a sink.
 
-ghost use Rattle.std.specs.Prelude.{[], ◌+◌, ◌≡◌, ◌≤◌, IfOk, List, None, length, map, ℕ};
+ghost use Rattle.std.specs.Prelude.{[], ◌≡◌, ◌≤◌, IfOk, List, None, length, map, ℕ};
 ghost use Rattle.definitions.specs.Analyzers.{Analyzer};
 ghost use Rattle.definitions.specs.Answers.{answers};
 ghost use Rattle.definitions.specs.Query.{Query};
@@ -9,6 +9,7 @@ ghost use Rattle.definitions.specs.Schema.{Schema};
 ghost use Rattle.definitions.specs.Scoring as scoring;
 ghost use Rattle.definitions.specs.Sinks.{fed};
 ghost use Rattle.definitions.specs.Values.{Document};
+ghost use Rattle.docsets.specs.ScoredEntries.{pairs_of};
 ghost use Rattle.node_scorers.specs.Scores.{Scores};
 ghost use Rattle.phrases.specs.Blocks.{IsFedInBlocks};
 ghost use Rattle.scorer_answers.specs.Listed.{signed_pairs};
@@ -59,8 +60,7 @@ pub fn for_each_pruning<S: Scorer, K: Sink>(scorer: &mut S, threshold: Score, si
         → tree_fault schema sim.weight b q ≡ None
         → Scores sim b q r (S.entries scorer.old)
         → K.state sink.new ≡ fed K.limit K.taken (K.state sink.old) (answers schema analyze sim b q docs) }
-    ensures done { S.entries scorer.new ≡ [] }
-    ensures room { K.room sink.old ≤ K.room sink.new + length (S.entries scorer.old) }
+    ensures state { K.state sink.new ≡ fed K.limit K.taken (K.state sink.old) (pairs_of (S.entries scorer.old)) }
 {
     for_each_pruning_scorer(scorer, threshold, sink)
 }

@@ -18,6 +18,7 @@ mod sections;
 mod segment;
 mod segment_writer;
 
+pub use best_k::BestK;
 pub use deletions::delete_in;
 pub use documents::is_taken;
 pub use merger::{merge_behind, merge_segments};

@@ -7,6 +7,7 @@ ghost use Rattle.segment.specs.Opened.{num_docs_of};
 ghost use Rattle.segment_reader.specs.SegmentReaders.{max_doc_of};
 ghost use Rattle.term_scorer.specs.ScoredTerms.{scored_left};
 
+use crate::best_hits::best;
 use crate::held::Held;
 use crate::record_bodies::alive_set;
 use crate::segments::opened;
@@ -57,6 +58,9 @@ fn over<'a>(
 {
     let norms = [1; 256];
     let reader = segment.reader(Some(alive));
+    if operation == "term-best" {
+        return best(alloc, &reader, alive, term, arguments.small_number(2)?);
+    }
     let scorer = scorer_of(&reader, term, &norms);
     told(alloc, &reader, term, scorer, operation, arguments)
 }
@@ -83,7 +87,7 @@ fn told(
 }
 
 /// The scorer of a term in a segment; none where no document holds it.
-fn scorer_of<'a>(
+pub(crate) fn scorer_of<'a>(
     reader: &SegmentReader<'a>,
     term: &'a Term,
     norms: &'a [u32; 256],

@@ -13,7 +13,7 @@ use Rattle.definitions.specs.Schema.{Schema}
 use Rattle.definitions.specs.Scoring.{Similarity}
 use Rattle.definitions.specs.Stored.{Named, stored_values}
 use Rattle.definitions.specs.Values.{Document}
-use Rattle.segment_reader.specs.declared.doc_address.DocAddress.{DocAddress}
+use Rattle.best_k.specs.Kept.{ScoredAddress}
 use Rattle.segment.specs.Opened.{StandsFor}
 use Rattle.segment.specs.declared.segment.Segment as code
 use Rattle.segment_definitions.proofs.FoundLive.{best_is_scan}
@@ -22,7 +22,7 @@ use Rattle.segment_definitions.specs.Rows.{flagged}
 use Rattle.segment_search.proofs.RowsRead.{docs_counted}
 use Rattle.segment_search.specs.Flags.{AreFlagged, flagged_each}
 use Rattle.segment_search.specs.Hits.{IsWithin, scored, shown_of}
-use Rattle.top_docs.specs.Collected.{IsFound, best_places, place_at}
+use Rattle.segment_search.specs.Best.{IsFound, best_places, place_at}
 
 -- ---- places are of documents that are there
 
@@ -109,20 +109,20 @@ module _ (schema : Schema) (analyze : Analyzer) where
 
   module _ (docs : List (List Document)) (segments : List code.Segment) (sets : List (List Bool)) (stands : AllZip (StandsFor schema analyze) docs segments) (flagged_are : AreFlagged segments sets) where
     -- what is shown of documents is what is shown of their places
-    each_shown : (best : List (ℕ × DocAddress)) → AllByRecursion (IsFound sets) best → map (shown_of schema docs) best ≡ map scored (map (shown_at schema (flagged_each docs sets)) (map place_at best))
+    each_shown : (best : List ScoredAddress) → AllByRecursion (IsFound sets) best → map (shown_of schema docs) best ≡ map scored (map (shown_at schema (flagged_each docs sets)) (map place_at best))
     each_shown [] found = refl
     each_shown (m ∷ best) found =
-        let same = each_document docs segments sets m.1.segment_ord m.1.doc_id stands flagged_are found.0.0 in
+        let same = each_document docs segments sets m.1 m.2 stands flagged_are found.0.0 in
         ap₂ (λ (doc : Document) (hits : List (ℤ × Named)). scored (m.0, stored_values schema doc) ∷ hits) (sym same) (each_shown best found.1)
 
     -- there are such documents
-    each_within : (best : List (ℕ × DocAddress)) → AllByRecursion (IsFound sets) best → AllByRecursion (IsThere (flagged_each docs sets)) (map place_at best) → AllByRecursion (IsWithin docs) best
+    each_within : (best : List ScoredAddress) → AllByRecursion (IsFound sets) best → AllByRecursion (IsThere (flagged_each docs sets)) (map place_at best) → AllByRecursion (IsWithin docs) best
     each_within [] found there = tt
     each_within (m ∷ best) found there =
-        let same = each_length docs segments sets m.1.segment_ord stands flagged_are found.0.0 in
-        (subst (λ n. m.1.doc_id < n) same there.0, each_within best found.1 there.1)
+        let same = each_length docs segments sets m.1 stands flagged_are found.0.0 in
+        (subst (λ n. m.2 < n) same there.0, each_within best found.1 there.1)
 
-    module _ (sim : Similarity) (q : Query) (k : ℕ) (best : List (ℕ × DocAddress)) (found : AllByRecursion (IsFound sets) best) (is : map place_at best ≡ best_places k (places_from schema analyze sim q 0 (flagged_each docs sets))) where
+    module _ (sim : Similarity) (q : Query) (k : ℕ) (best : List ScoredAddress) (found : AllByRecursion (IsFound sets) best) (is : map place_at best ≡ best_places k (places_from schema analyze sim q 0 (flagged_each docs sets))) where
       -- the best documents, shown, are a scan of the living ones
       pub best_scanned : map (shown_of schema docs) best ≡ map scored (scan schema analyze sim (live (flagged_each docs sets)) q k)
       best_scanned = each_shown best found ∙ ap (λ ps. map scored (map (shown_at schema (flagged_each docs sets)) ps)) is ∙ ap (map scored) (best_is_scan schema analyze sim q (flagged_each docs sets) k)

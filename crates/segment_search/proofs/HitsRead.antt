@@ -12,13 +12,13 @@ use Rattle.definitions.specs.declared.fault.Fault.TheVariants as faults
 use Rattle.segment.specs.Opened.{IsOpened, StandsFor, blocks_of, bytes_of, num_docs_of}
 use Rattle.segment.specs.SlotDocuments.{IsDocumentFault}
 use Rattle.segment.specs.declared.segment.Segment as code
-use Rattle.segment_reader.specs.declared.doc_address.DocAddress.{DocAddress}
+use Rattle.best_k.specs.Kept.{ScoredAddress}
 use Rattle.segment_search.proofs.Flagging.{flagged_within}
 use Rattle.segment_search.specs.Flags.{AreFlagged}
 use Rattle.segment_search.specs.Hits.{IsHeld, KeepsSegments}
 use Rattle.store.proofs.Opened.{count_is}
 use Rattle.store.specs.Writing.{count_of}
-use Rattle.top_docs.specs.Collected.{IsFound}
+use Rattle.segment_search.specs.Best.{IsFound}
 
 -- what stands for the element at a place
 pub stands_at : {X Y : Type 0} (R : X → Y → Type 0) (none : X) (other : Y) (xs : List X) (ys : List Y) (i : ℕ) → AllZip R xs ys → i < length ys → R (get_or xs i none) (get_or ys i other)
@@ -109,13 +109,13 @@ stored_at segments i doc other inside l =
     omega (arith, counted, held)
 
 -- one is there in as many segments of as many documents
-pub held_kept : (old new : List code.Segment) (m : ℕ × DocAddress) → map num_docs_of new ≡ map num_docs_of old → IsHeld old m → IsHeld new m
+pub held_kept : (old new : List code.Segment) (m : ScoredAddress) → map num_docs_of new ≡ map num_docs_of old → IsHeld old m → IsHeld new m
 held_kept old new m same h =
     let long = length-map new num_docs_of in
     let as_long = length-map old num_docs_of in
     let counted = ap length same in
     let inside = h.0 in
-    (omega (arith, long, as_long, counted, inside), h.1, subst (λ counts. m.1.doc_id < get_or counts m.1.segment_ord 0) (sym same) h.2)
+    (omega (arith, long, as_long, counted, inside), h.1, subst (λ counts. m.2 < get_or counts m.1 0) (sym same) h.2)
 
 flag_there : (flags : List Bool) (j : ℕ) → get_or flags j false ≡ true → j < length flags
 flag_there [] j e = absurd (true≢false (sym e))
@@ -129,11 +129,11 @@ flags_counted (s ∷ segments) (flags ∷ sets) zero h l = h.0
 flags_counted (s ∷ segments) (flags ∷ sets) (suc i) h l = flags_counted segments sets i h.1 (omega (arith, l))
 
 -- a living document is there
-pub held_alive : (segments : List code.Segment) (sets : List (List Bool)) → AreFlagged segments sets → (m : ℕ × DocAddress) → IsFound sets m → IsHeld segments m
+pub held_alive : (segments : List code.Segment) (sets : List (List Bool)) → AreFlagged segments sets → (m : ScoredAddress) → IsFound sets m → IsHeld segments m
 held_alive segments sets flagged m found =
     let few = flagged_within segments sets flagged in
     let inside = found.0 in
-    (omega (arith, few, inside), found.1, subst (λ n. m.1.doc_id < n) (flags_counted segments sets m.1.segment_ord flagged found.0) (flag_there (get_or sets m.1.segment_ord []) m.1.doc_id found.2))
+    (omega (arith, few, inside), found.1, subst (λ n. m.2 < n) (flags_counted segments sets m.1 flagged found.0) (flag_there (get_or sets m.1 []) m.2 found.2))
 
 -- ---- hits, one after the other
 

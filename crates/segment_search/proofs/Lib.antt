@@ -2,6 +2,8 @@
 pub mod Places
 pub mod Flagging
 pub mod RowsRead
+pub mod BestPlaces
+pub mod BlocksCounted
 pub mod BestFound
 pub mod HitsRead
 pub mod Counts

@@ -1,13 +1,13 @@
 -- Hits, and the documents that they are of.
 use Rattle.std.specs.Prelude.{[], ◌<◌, ◌≡◌, ◌≤◌, List, length, map, pos, slice_index_or, ℕ, ℤ}
 use Rattle.std.specs.List.{AllByRecursion, AllZip}
+use Rattle.best_k.specs.Kept.{ScoredAddress}
 use Rattle.definitions.specs.Analyzers.{Analyzer}
 use Rattle.definitions.specs.Scanning as scanning
 use Rattle.definitions.specs.Schema.{Schema}
 use Rattle.definitions.specs.Scoring.{max_score}
 use Rattle.definitions.specs.Stored.{Named, stored_values}
 use Rattle.definitions.specs.Values.{Document}
-use Rattle.segment_reader.specs.declared.doc_address.DocAddress.{DocAddress}
 use Rattle.segment.specs.Opened.{IsOpened, StandsFor, bytes_of, num_docs_of}
 use Rattle.segment.specs.declared.segment.Segment as code
 use Rattle.segment_search.specs.declared.hits.Hit.{Hit}
@@ -20,21 +20,21 @@ hit_of h = (h.score, h.doc)
 abbrev pub scored : scanning.Hit → ℤ × Named
 scored h = (pos h.0, h.1)
 
--- the document at an address, in segments of these documents
-abbrev pub document_at : List (List Document) → DocAddress → Document
-document_at docs address = slice_index_or (slice_index_or docs address.segment_ord []) address.doc_id []
+-- the document that was found, in segments of these documents
+abbrev pub document_at : List (List Document) → ScoredAddress → Document
+document_at docs found = slice_index_or (slice_index_or docs found.1 []) found.2 []
 
--- what is shown of a document with its score
-abbrev pub shown_of : Schema → List (List Document) → ℕ × DocAddress → ℤ × Named
-shown_of schema docs m = (pos m.0, stored_values schema (document_at docs m.1))
+-- what is shown of it, with its score
+abbrev pub shown_of : Schema → List (List Document) → ScoredAddress → ℤ × Named
+shown_of schema docs found = (pos found.0, stored_values schema (document_at docs found))
 
--- a document of one of the segments, with its score
-abbrev pub IsHeld : List code.Segment → ℕ × DocAddress → Type 0
-IsHeld segments m = (m.1.segment_ord < length segments) × (m.0 ≤ max_score) × (m.1.doc_id < slice_index_or (map num_docs_of segments) m.1.segment_ord 0)
+-- it is a document of one of the segments, with a score in range
+abbrev pub IsHeld : List code.Segment → ScoredAddress → Type 0
+IsHeld segments found = (found.1 < length segments) × (found.0 ≤ max_score) × (found.2 < slice_index_or (map num_docs_of segments) found.1 0)
 
 -- there is such a document
-abbrev pub IsWithin : List (List Document) → ℕ × DocAddress → Type 0
-IsWithin docs m = m.1.doc_id < length (slice_index_or docs m.1.segment_ord [])
+abbrev pub IsWithin : List (List Document) → ScoredAddress → Type 0
+IsWithin docs found = found.2 < length (slice_index_or docs found.1 [])
 
 -- segments that are read: they stand for what they stood for, with the same bytes
 pub record KeepsSegments (old new : List code.Segment) : Type 0 where

@@ -1,3 +1,5 @@
 -- Words of the contracts.
 pub mod Flags
+pub mod Best
+pub mod Counted
 pub mod Hits

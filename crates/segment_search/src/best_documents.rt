@@ -1,30 +1,45 @@
 //! The best documents of segments that match a query.
 
-ghost use Rattle.std.specs.Prelude.{◌<◌, ◌^◌, ◌≡◌, IfOk, List, None, length, map};
+ghost use Rattle.std.specs.Prelude.{◌+◌, ◌++◌, ◌<◌, ◌^◌, ◌≡◌, ◌≤◌, Bool, IfOk, List, None, OnOk, Some, length, map, slice_get, ℕ};
 ghost use Rattle.std.specs.List.{AllByRecursion, AllZip};
+ghost use Rattle.best_k.specs.Contents.{best_in};
+ghost use Rattle.best_k.specs.Kept as kept;
+ghost use Rattle.definitions.specs.Alive.{Segment as Rows};
 ghost use Rattle.definitions.specs.Analyzers.{Analyzer};
+ghost use Rattle.definitions.specs.Answers.{answers};
+ghost use Rattle.definitions.specs.Merging.{documents_in};
+ghost use Rattle.definitions.specs.Query.{term};
 ghost use Rattle.definitions.specs.Refusing.{tree_fault};
-ghost use Rattle.definitions.specs.Schema.{Schema};
+ghost use Rattle.definitions.specs.Schema.{IndexRecordOption as Asked, Schema};
+ghost use Rattle.definitions.specs.Sinks.{fed, later_blocks_above};
+ghost use Rattle.definitions.specs.TermBlocks.{scored_blocks};
 ghost use Rattle.definitions.specs.Values.{Document};
 ghost use Rattle.query_trees.specs.Queries.{query_of};
+ghost use Rattle.scorer_answers.specs.Rows.{HasRows, flags_in};
 ghost use Rattle.segment.specs.Opened.{StandsFor};
-ghost use Rattle.segment_definitions.specs.Found.{places_from};
+ghost use Rattle.segment_definitions.specs.Found.{places_from, places_in};
+ghost use Rattle.segment_search.specs.Best.{IsFound, best_places, place_at};
+ghost use Rattle.segment_search.specs.Counted.{IsTermQuery, decoded_at_most, nothing_kept};
 ghost use Rattle.segment_search.specs.Flags.{AreFlagged, flagged_each};
-ghost use Rattle.top_docs.specs.Collected.{IsFound, best_places, place_at};
 ghost use Rattle.tree_scorers.specs.Accepted.{IsAccepted};
 
+use crate::query_walk::feed_query;
 use crate::readers::readers_of;
-use common::AliveBitSet;
+use best_k::BestK;
+use common::{AliveBitSet, DocId};
+use phrases::Sink;
 use query_trees::AnyQuery;
 use segment::Segment;
-use segment_reader::DocAddress;
+use segment_reader::SegmentReader;
 use settings::Statistics;
 use std::alloc::{AllocError, Global};
-use top_docs::top_docs;
-use weights::IndexWeights;
 
-/// Returns the best `limit` living documents of the first segments that match `query`, each with its score: by score,
-/// and then by segment and document id.
+/// The documents that were found, each with its score, its segment's index and its document id, and how many blocks of
+/// postings were decoded for them, if the query is one term.
+pub(crate) type Found = (Vec<(u64, u32, DocId)>, u64);
+
+/// Returns the best `limit` living documents of the first segments that match `query`: by score, and then by segment
+/// and document id.
 pub(crate) fn best_documents<'a, S: Statistics>(
     alloc: Global,
     segments: &'a [Segment],
@@ -32,19 +47,100 @@ pub(crate) fn best_documents<'a, S: Statistics>(
     statistics: &'a S,
     query: &AnyQuery,
     limit: usize,
-) -> Result<Vec<(u64, DocAddress)>, AllocError>
+) -> Result<Found, AllocError>
     requires flagged { AreFlagged segments.now alive.now }
     requires few { length alive.now < 2 ^ 32 }
     requires accepted { IsAccepted (S.similarity statistics.now).weight 1 (query_of query.now) }
     ensures best { (schema : Schema) (analyze : Analyzer) (docs : List (List Document))
         → AllZip (StandsFor schema analyze) docs segments.now
         → tree_fault schema (S.similarity statistics.now).weight 1 (query_of query.now) ≡ None
-        → IfOk result (λ best. map place_at best.items ≡ best_places limit
+        → IfOk result (λ found. map place_at found.0.items ≡ best_places limit
         (places_from schema analyze (S.similarity statistics.now) (query_of query.now) 0
         (flagged_each docs alive.now))) }
-    ensures found { IfOk result (λ best. AllByRecursion (IsFound alive.now) best.items) }
+    ensures found { IfOk result (λ found. AllByRecursion (IsFound alive.now) found.0.items) }
+    ensures counted { (schema : Schema) (analyze : Analyzer) (docs : List (List Document)) (t : List ℕ) (option : Asked)
+        → AllZip (StandsFor schema analyze) docs segments.now
+        → tree_fault schema (S.similarity statistics.now).weight 1 (query_of query.now) ≡ None
+        → query_of query.now ≡ term t option
+        → IfOk result (λ found. found.1 ≤ decoded_at_most schema analyze (S.similarity statistics.now) t option
+        (nothing_kept limit) 0 (flagged_each docs alive.now)) }
+    ensures uncounted { (¬ IsTermQuery (query_of query.now)) → IfOk result (λ found. found.1 ≡ 0) }
 {
     let readers = readers_of(alloc, segments, alive)?;
-    let weights = IndexWeights::new(statistics);
-    top_docs(alloc, &readers, &weights, query, limit)
+    best_of_each(alloc, &readers, alive, statistics, query, limit)
+}
+
+/// Returns the best `limit` documents of `readers` that match `query` and are alive by the sets at the same places.
+fn best_of_each<'a, S: Statistics>(
+    alloc: Global,
+    readers: &[SegmentReader<'a>],
+    alive: &[AliveBitSet],
+    statistics: &'a S,
+    query: &AnyQuery,
+    limit: usize,
+) -> Result<Found, AllocError>
+    requires flags { map flags_in readers.now ≡ alive.now }
+    requires few { length alive.now < 2 ^ 32 }
+    requires accepted { IsAccepted (S.similarity statistics.now).weight 1 (query_of query.now) }
+    ensures best { (schema : Schema) (analyze : Analyzer) (rows : List Rows)
+        → AllZip (HasRows schema analyze) rows readers.now
+        → tree_fault schema (S.similarity statistics.now).weight 1 (query_of query.now) ≡ None
+        → IfOk result (λ found. map place_at found.0.items ≡ best_places limit
+        (places_from schema analyze (S.similarity statistics.now) (query_of query.now) 0 rows)) }
+    ensures found { IfOk result (λ found. AllByRecursion (IsFound alive.now) found.0.items) }
+    ensures counted { (schema : Schema) (analyze : Analyzer) (rows : List Rows) (t : List ℕ) (option : Asked)
+        → AllZip (HasRows schema analyze) rows readers.now
+        → tree_fault schema (S.similarity statistics.now).weight 1 (query_of query.now) ≡ None
+        → query_of query.now ≡ term t option
+        → IfOk result (λ found. found.1 ≤ decoded_at_most schema analyze (S.similarity statistics.now) t option
+        (nothing_kept limit) 0 rows) }
+    ensures uncounted { (¬ IsTermQuery (query_of query.now)) → IfOk result (λ found. found.1 ≡ 0) }
+{
+    let mut best = BestK::new(alloc, limit);
+    let mut decoded_blocks: u64 = 0;
+    for (segment_ord, reader) in readers.iter().enumerate() {
+        best.enter(segment_ord as u32, &alive[segment_ord]);
+        let blocks = feed_segment(alloc, reader, statistics, query, &mut best)?;
+        decoded_blocks = decoded_blocks.saturating_add(blocks);
+    }
+    Ok((best.into_hits(), decoded_blocks))
+}
+
+/// Feeds the documents of `reader` that match `query` to `best`, which has entered this segment. Returns how many blocks
+/// of postings were decoded if the query is one term, and else 0.
+fn feed_segment<'a, S: Statistics>(
+    alloc: Global,
+    reader: &SegmentReader<'a>,
+    statistics: &'a S,
+    query: &AnyQuery,
+    best: &mut BestK<'_>,
+) -> Result<u64, AllocError>
+    requires accepted { IsAccepted (S.similarity statistics.now).weight 1 (query_of query.now) }
+    requires alive { (best_in best.old).alive ≡ flags_in reader.now }
+    ensures best { (schema : Schema) (analyze : Analyzer) (rows : Rows)
+        → HasRows schema analyze rows reader.now
+        → tree_fault schema (S.similarity statistics.now).weight 1 (query_of query.now) ≡ None
+        → OnOk result (map place_at (best_in best.new).hits ≡ best_places (best_in best.old).wanted
+        (map place_at (best_in best.old).hits ++ places_in schema analyze (S.similarity statistics.now)
+        (query_of query.now) (best_in best.old).segment rows)) }
+    ensures fed { (schema : Schema) (analyze : Analyzer) (rows : Rows)
+        → HasRows schema analyze rows reader.now
+        → tree_fault schema (S.similarity statistics.now).weight 1 (query_of query.now) ≡ None
+        → OnOk result (best_in best.new ≡ fed kept.limit kept.taken (best_in best.old)
+        (answers schema analyze (S.similarity statistics.now) 1 (query_of query.now) (documents_in rows))) }
+    ensures found { (sets : List (List Bool))
+        → slice_get sets (best_in best.old).segment ≡ Some (best_in best.old).alive
+        → AllByRecursion (IsFound sets) (best_in best.old).hits
+        → OnOk result (AllByRecursion (IsFound sets) (best_in best.new).hits) }
+    ensures wanted { OnOk result ((best_in best.new).wanted ≡ (best_in best.old).wanted) }
+    ensures counted { (schema : Schema) (analyze : Analyzer) (rows : Rows) (t : List ℕ) (option : Asked)
+        → HasRows schema analyze rows reader.now
+        → query_of query.now ≡ term t option
+        → IfOk result (λ blocks. blocks ≤ 1 + later_blocks_above kept.limit kept.taken (best_in best.old)
+        (scored_blocks schema analyze (S.similarity statistics.now) 1 t option (documents_in rows))) }
+    ensures uncounted { (¬ IsTermQuery (query_of query.now)) → IfOk result (λ blocks. blocks ≡ 0) }
+{
+    best.reserve(reader.max_doc() as usize)?;
+    let threshold = best.threshold();
+    feed_query(alloc, reader, statistics, query, threshold, best)
 }

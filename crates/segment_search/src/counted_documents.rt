@@ -16,13 +16,13 @@ ghost use Rattle.tree_scorers.specs.Accepted.{IsAccepted};
 
 use crate::readers::readers_of;
 use common::AliveBitSet;
+use leaf_weights::IndexWeights;
 use query_trees::AnyQuery;
 use reader_scorers::{LeafWeights, ReaderScorers};
 use segment::Segment;
 use segment_reader::SegmentReader;
 use settings::Statistics;
 use std::alloc::{AllocError, Global};
-use weights::IndexWeights;
 
 /// Counts the living documents of the first segments that match `query`.
 pub(crate) fn counted_documents<'a, S: Statistics>(

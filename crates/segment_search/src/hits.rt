@@ -8,12 +8,11 @@ ghost use Rattle.definitions.specs.declared.fault.Fault.TheVariants as faults;
 ghost use Rattle.segment.specs.Opened.{StandsFor};
 ghost use Rattle.segment_search.specs.Hits.{IsHeld, IsWithin, KeepsSegments, hit_of, shown_of};
 
-use common::Score;
+use common::{DocId, Score};
 use definitions::Fault;
 use document::NamedDocument;
 use schema::Schema;
 use segment::Segment;
-use segment_reader::DocAddress;
 use std::alloc::Global;
 
 /// A document that was found.
@@ -25,13 +24,13 @@ pub struct Hit {
     pub doc: NamedDocument,
 }
 
-/// Reads the hits of the documents `best`, each with its score. The caches of the segments' stores keep the blocks that
+/// Reads the hits of the documents `best`, each with its score, its segment's index and its document id. The caches of the segments' stores keep the blocks that
 /// are read.
 pub(crate) fn read_hits(
     alloc: Global,
     schema: &Schema,
     segments: &mut [Segment],
-    best: &[(u64, DocAddress)],
+    best: &[(u64, u32, DocId)],
 ) -> Result<Vec<Hit>, Fault>
     requires held { AllByRecursion (IsHeld segments.old) best.now }
     ensures hits { (analyze : Analyzer) (docs : List (List Document))
@@ -45,33 +44,34 @@ pub(crate) fn read_hits(
     ensures kept { KeepsSegments segments.old segments.new }
 {
     let mut hits = Vec::with_capacity(alloc, best.len())?;
-    for (score, address) in best {
-        hits.push(read_hit(alloc, schema, segments, *score, *address)?)?;
+    for found in best {
+        hits.push(read_hit(alloc, schema, segments, *found)?)?;
     }
     Ok(hits)
 }
 
-/// Reads the hit at `address`, with `score`. The cache of its segment's store keeps the block that is read.
+/// Reads the hit of the document `found`: its score, its segment's index and its document id. The cache of its segment's
+/// store keeps the block that is read.
 fn read_hit(
     alloc: Global,
     schema: &Schema,
     segments: &mut [Segment],
-    score: u64,
-    address: DocAddress,
+    found: (u64, u32, DocId),
 ) -> Result<Hit, Fault>
-    requires held { IsHeld segments.old (score, address) }
+    requires held { IsHeld segments.old found }
     ensures hit { (analyze : Analyzer) (docs : List (List Document))
         → AllZip (StandsFor schema.now analyze) docs segments.old
-        → IfOk result (λ hit. hit_of hit ≡ shown_of schema.now docs (score, address)) }
+        → IfOk result (λ hit. hit_of hit ≡ shown_of schema.now docs found) }
     ensures fault { (analyze : Analyzer) (docs : List (List Document))
         → AllZip (StandsFor schema.now analyze) docs segments.old
-        → IsWithin docs (score, address)
+        → IsWithin docs found
         → IfErr result (λ fault. fault ≡ faults.OutOfMemory) }
     ensures faults { IfErr result (λ fault. (fault ≡ faults.OutOfMemory) ⊎ (fault ≡ faults.Damaged None)) }
     ensures kept { KeepsSegments segments.old segments.new }
 {
-    let segment = &mut segments[address.segment_ord as usize];
-    let doc = segment.document(alloc, schema, address.doc_id)?;
+    let (score, segment_ord, doc_id) = found;
+    let segment = &mut segments[segment_ord as usize];
+    let doc = segment.document(alloc, schema, doc_id)?;
     Ok(Hit {
         score: score as Score,
         doc: doc.to_named_doc(alloc, schema)?,

@@ -5,9 +5,10 @@ mod best_documents;
 mod counted_documents;
 mod counting;
 mod hits;
+mod query_walk;
 mod readers;
 mod searching;
 
 pub use counting::count;
 pub use hits::Hit;
-pub use searching::search;
+pub use searching::search_counted;

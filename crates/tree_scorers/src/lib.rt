@@ -5,4 +5,4 @@ mod segment_scorers;
 mod trees;
 
 pub use segment_scorers::SegmentScorers;
-pub use trees::scorer_of;
+pub use trees::{boolean_scorer, boosted_scorer, constant_scorer, max_scorer, scorer_of};

@@ -1,9 +1,11 @@
 //! Makers of the scorers of each kind of query in a segment.
 
-ghost use Rattle.std.specs.Prelude.{◌*◌, ◌+◌, ◌≡◌, ◌≤ℤ◌, ◌≤◌, IfOk, map, pos, ℕ, ℤ};
+ghost use Rattle.std.specs.Prelude.{◌*◌, ◌+◌, ◌≡◌, ◌≤ℤ◌, ◌≤◌, IfOk, length, map, pos, ℕ, ℤ};
 ghost use Rattle.definitions.specs.Query as definitions;
 ghost use Rattle.definitions.specs.Scoring.{Similarity, max_score, natural};
+ghost use Rattle.definitions.specs.Sinks.{fed};
 ghost use Rattle.docsets.specs.Members.{greatest_sum};
+ghost use Rattle.docsets.specs.ScoredEntries.{pairs_of};
 ghost use Rattle.node_scorers.specs.Asked.{asked, each_query};
 ghost use Rattle.node_scorers.specs.Scores.{AllScore, Scores};
 ghost use Rattle.segment_reader.specs.declared.segment_reader.SegmentReader.{SegmentReader};
@@ -11,6 +13,7 @@ ghost use Rattle.tree_scorers.specs.Accepted.{IsAccepted};
 
 use common::Score;
 use docsets::Scorer;
+use phrases::Sink;
 use query_trees::{PhrasePrefixQuery, PhraseQuery, TermQuery};
 use std::alloc::{AllocError, Global};
 
@@ -121,4 +124,12 @@ pub trait SegmentScorers {
             → Scores (similarity self.now) b query (segment self.now) (Self.Scorer.entries scorer)
             → IfOk result (λ scored. Scores (similarity self.now) b (definitions.const_score constant query)
             (segment self.now) (Self.Scorer.entries scored)) };
+
+    /// Feeds each document of `scorer` with its score to `sink`, in order, if the score is above the sink's threshold by
+    /// then. The kind of scorer is looked at once, and not for each document.
+    fn feed<K: Sink>(scorer: Self::Scorer, threshold: Score, sink: &mut K)
+        requires threshold { threshold ≡ K.limit (K.state sink.old) }
+        requires room { length (Self.Scorer.entries scorer) ≤ K.room sink.old }
+        ensures { K.state sink.new
+            ≡ fed K.limit K.taken (K.state sink.old) (pairs_of (Self.Scorer.entries scorer)) };
 }

@@ -12,9 +12,7 @@ ghost use Rattle.tree_scorers.specs.Accepted.{AreAccepted, AreAcceptedClauses, I
 use crate::segment_scorers::SegmentScorers;
 use common::Score;
 use docsets::Scorer;
-use query_trees::{
-    AnyQuery, BooleanQuery, BoostQuery, ConstScoreQuery, DisjunctionMaxQuery, Occur,
-};
+use query_trees::{AnyQuery, Occur};
 use std::alloc::{AllocError, Global};
 
 /// Returns a scorer of the documents of a segment that match `query`, with their scores under `boost`. Calls nest as
@@ -37,33 +35,49 @@ pub fn scorer_of<F: SegmentScorers>(
         AnyQuery::Term(query) => Ok(forms.term_scorer(alloc, query, boost)),
         AnyQuery::Phrase(query) => forms.phrase_scorer(alloc, query, boost),
         AnyQuery::PhrasePrefix(query) => forms.phrase_prefix_scorer(alloc, query, boost),
-        AnyQuery::Boolean(query) => boolean_scorer(alloc, forms, query, boost),
-        AnyQuery::DisjunctionMax(query) => max_scorer(alloc, forms, query, boost),
-        AnyQuery::Boost(query) => boosted_scorer(alloc, forms, query, boost),
-        AnyQuery::ConstScore(query) => constant_scorer(alloc, forms, query, boost),
+        AnyQuery::Boolean(query) => {
+            let minimum = query.get_minimum_number_should_match();
+            boolean_scorer(alloc, forms, query.clauses(), minimum, boost)
+        }
+        AnyQuery::DisjunctionMax(query) => {
+            max_scorer(alloc, forms, query.disjuncts(), query.tie_breaker(), boost)
+        }
+        AnyQuery::Boost(query) => {
+            boosted_scorer(alloc, forms, query.query(), query.boost(), boost)
+        }
+        AnyQuery::ConstScore(query) => {
+            constant_scorer(alloc, forms, query.query(), query.score(), boost)
+        }
     }
 }
 
-/// Returns a scorer of the documents that match the clauses of `query`.
+/// Returns a scorer of the documents that match `clauses`, and at least `minimum_number_should_match` of the `Should`
+/// ones.
 #[cycle(scorer_of)]
-fn boolean_scorer<F: SegmentScorers>(
+pub fn boolean_scorer<F: SegmentScorers>(
     alloc: Global,
     forms: &F,
-    query: &BooleanQuery,
+    clauses: &[(Occur, AnyQuery)],
+    minimum_number_should_match: usize,
     boost: u64,
 ) -> Result<F::Scorer, AllocError>
     requires small { boost ≤ max_score }
     requires accepted { IsAccepted (F.similarity forms.now).weight boost
-        (definitions.boolean query.now.0 query.now.1) }
+        (definitions.boolean (clauses_of clauses.now) minimum_number_should_match) }
     ensures { IfOk result (λ scorer. Scores (F.similarity forms.now) boost
-        (definitions.boolean query.now.0 query.now.1) (F.segment forms.now) (F.Scorer.entries scorer)) }
+        (definitions.boolean (clauses_of clauses.now) minimum_number_should_match) (F.segment forms.now)
+        (F.Scorer.entries scorer)) }
 {
-    let clauses = query.clauses();
     let musts = scorers_asked(alloc, forms, clauses, Occur::Must, boost)?;
     let shoulds = scorers_asked(alloc, forms, clauses, Occur::Should, boost)?;
     let must_nots = scorers_asked(alloc, forms, clauses, Occur::MustNot, boost)?;
-    let minimum = query.get_minimum_number_should_match();
-    forms.clauses_scorer(alloc, musts, shoulds, must_nots, minimum)
+    forms.clauses_scorer(
+        alloc,
+        musts,
+        shoulds,
+        must_nots,
+        minimum_number_should_match,
+    )
 }
 
 /// Returns the scorers of the clauses that ask `occur`, in order.
@@ -96,22 +110,25 @@ fn is_same(one: Occur, other: Occur) -> bool
     one == other
 }
 
-/// Returns a scorer of the documents that match one of several queries.
+/// Returns a scorer of the documents that match one of `disjuncts`, by the best score and `tie_breaker` thousandths of
+/// the others.
 #[cycle(scorer_of)]
-fn max_scorer<F: SegmentScorers>(
+pub fn max_scorer<F: SegmentScorers>(
     alloc: Global,
     forms: &F,
-    query: &DisjunctionMaxQuery,
+    disjuncts: &[AnyQuery],
+    tie_breaker: Score,
     boost: u64,
 ) -> Result<F::Scorer, AllocError>
     requires small { boost ≤ max_score }
     requires accepted { IsAccepted (F.similarity forms.now).weight boost
-        (definitions.disjunction_max query.now.0 query.now.1) }
+        (definitions.disjunction_max (queries_of disjuncts.now) tie_breaker) }
     ensures { IfOk result (λ scorer. Scores (F.similarity forms.now) boost
-        (definitions.disjunction_max query.now.0 query.now.1) (F.segment forms.now) (F.Scorer.entries scorer)) }
+        (definitions.disjunction_max (queries_of disjuncts.now) tie_breaker) (F.segment forms.now)
+        (F.Scorer.entries scorer)) }
 {
-    let disjuncts = scorers_of(alloc, forms, query.disjuncts(), boost)?;
-    forms.best_scorer(alloc, disjuncts, query.tie_breaker())
+    let scorers = scorers_of(alloc, forms, disjuncts, boost)?;
+    forms.best_scorer(alloc, scorers, tie_breaker)
 }
 
 /// Returns the scorers of `queries`, in order.
@@ -134,40 +151,41 @@ fn scorers_of<F: SegmentScorers>(
     Ok(scorers)
 }
 
-/// Returns a scorer of the documents that match a query, boosted once more.
+/// Returns a scorer of the documents that match `query`, boosted once more by `factor`.
 #[cycle(scorer_of)]
-fn boosted_scorer<F: SegmentScorers>(
+pub fn boosted_scorer<F: SegmentScorers>(
     alloc: Global,
     forms: &F,
-    query: &BoostQuery,
+    query: &AnyQuery,
+    factor: Score,
     boost: u64,
 ) -> Result<F::Scorer, AllocError>
     requires small { boost ≤ max_score }
     requires accepted { IsAccepted (F.similarity forms.now).weight boost
-        (definitions.boost query.now.1 query.now.0) }
+        (definitions.boost factor (query_of query.now)) }
     ensures { IfOk result (λ scorer. Scores (F.similarity forms.now) boost
-        (definitions.boost query.now.1 query.now.0) (F.segment forms.now) (F.Scorer.entries scorer)) }
+        (definitions.boost factor (query_of query.now)) (F.segment forms.now) (F.Scorer.entries scorer)) }
 {
-    let boost = product(boost, query.boost());
-    scorer_of(alloc, forms, query.query(), boost)
+    scorer_of(alloc, forms, query, product(boost, factor))
 }
 
-/// Returns a scorer of the documents that match a query, with one score.
+/// Returns a scorer of the documents that match `query`, each with the score `constant` under `boost`.
 #[cycle(scorer_of)]
-fn constant_scorer<F: SegmentScorers>(
+pub fn constant_scorer<F: SegmentScorers>(
     alloc: Global,
     forms: &F,
-    query: &ConstScoreQuery,
+    query: &AnyQuery,
+    constant: Score,
     boost: u64,
 ) -> Result<F::Scorer, AllocError>
     requires small { boost ≤ max_score }
     requires accepted { IsAccepted (F.similarity forms.now).weight boost
-        (definitions.const_score query.now.1 query.now.0) }
+        (definitions.const_score constant (query_of query.now)) }
     ensures { IfOk result (λ scorer. Scores (F.similarity forms.now) boost
-        (definitions.const_score query.now.1 query.now.0) (F.segment forms.now) (F.Scorer.entries scorer)) }
+        (definitions.const_score constant (query_of query.now)) (F.segment forms.now) (F.Scorer.entries scorer)) }
 {
-    let scorer = scorer_of(alloc, forms, query.query(), boost)?;
-    forms.constant_scorer(alloc, scorer, product(boost, query.score()))
+    let scorer = scorer_of(alloc, forms, query, boost)?;
+    forms.constant_scorer(alloc, scorer, product(boost, constant))
 }
 
 /// Returns the product of `boost` and `factor`.

@@ -13,6 +13,7 @@ use bytes::Bytes;
 use case_lines::{Arguments, Refusal, items_in, number, pair, query_by_steps};
 use common::{AliveBitSet, Score};
 use definitions::Fault;
+use leaf_weights::IndexWeights;
 use query_answers::{count, explain, for_each, for_each_no_score, for_each_pruning};
 use query_trees::AnyQuery;
 use reader_scorers::{LeafWeights, ReaderScorers};
@@ -23,7 +24,6 @@ use serde_json::Value;
 use settings::Settings;
 use std::alloc::Global;
 use tree_scorers::SegmentScorers;
-use weights::IndexWeights;
 
 /// How many blocks the caches of segments keep.
 const CACHE_NUM_BLOCKS: usize = 2;

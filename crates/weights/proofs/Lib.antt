@@ -1,3 +1,5 @@
 -- Lemmas behind the weights.
-pub mod AcceptedTerms
-pub mod LeafScores
+pub mod AcceptedWeights
+pub mod MovedScores
+pub mod LeafWeights
+pub mod Rescored

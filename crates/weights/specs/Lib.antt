@@ -1,3 +1,5 @@
 -- Words of the contracts.
-pub mod Weighed
-pub mod Scored
+pub mod Accepting
+pub mod QueriesWeighed
+pub mod TermsFound
+pub mod Weighs

@@ -1,11 +1,6 @@
-use Rattle.std.proofs.Common.{ap, arith, length, refl, subst, sym, ◌<◌}
-use Rattle.query_trees.specs.Queries.{query_of}
-use Rattle.tree_scorers.specs.Accepted.{IsAccepted}
+use Rattle.std.proofs.Common.{ap, map, ◌∙◌}
+use Rattle.scorer_answers.specs.Rows.{flags_in}
 use Rattle.segment_search.proofs.best_documents.best_documents.Goals as goal
 
-pub top_docs-requires : goal.top_docs-requires
-top_docs-requires g c κs =
-    let same = ap length c.deref.ensures.value in
-    let len = c.in_ok-readers.ensures.len in
-    let few : length c.args.alive.now < 4294967296 = c.requires.few in
-    ((refl, tt), (omega (arith, same, len, few), subst (λ s. IsAccepted (g.S.Statistics.similarity s).weight 1 (query_of c.args.query.now)) (sym c.new-weights.ensures) c.requires.accepted))
+pub best_of_each-requires-clause-flags : goal.best_of_each-requires-clause-flags
+best_of_each-requires-clause-flags g c = ap (map flags_in) c.deref.ensures.value ∙ c.in_ok-readers.ensures.flags

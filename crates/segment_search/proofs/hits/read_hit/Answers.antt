@@ -10,37 +10,37 @@ use Rattle.segment_search.proofs.hits.read_hit.Goals as goal
 pub returns-in_err-doc-clause-fault : goal.returns-in_err-doc-clause-fault
 returns-in_err-doc-clause-fault c analyze docs stands within =
     let p = err_from_is_err_and c.from_residual.result c.from_residual.ensures.1 in
-    let there = stands_at (StandsFor c.args.schema.now analyze) [] c.index-segments-address.result docs c.args.segments.now c.args.address.segment_ord stands c.requires.held.0 in
-    rw (p.1, p.2) (not_past _ c.args.address.doc_id _ within (c.in_err-doc.ensures.refused analyze _ there))
+    let there = stands_at (StandsFor c.args.schema.now analyze) [] c.index-segments-segment_ord.result docs c.args.segments.now c.args.found.1 stands c.requires.held.0 in
+    rw (p.1, p.2) (not_past _ c.args.found.2 _ within (c.in_err-doc.ensures.refused analyze _ there))
 
 pub returns-in_err-doc-clause-faults : goal.returns-in_err-doc-clause-faults
 returns-in_err-doc-clause-faults c =
     let p = err_from_is_err_and c.from_residual.result c.from_residual.ensures.1 in
     let segments = c.args.segments.now in
-    let i = c.args.address.segment_ord in
-    let other = c.index-segments-address.result in
-    let there = stored_at segments i c.args.address.doc_id other c.requires.held.0 c.requires.held.2 in
-    rw (p.1, p.2) (slot_faults c.args.schema.now (get_or segments i other) c.args.address.doc_id _ there c.in_err-doc.ensures.err)
+    let i = c.args.found.1 in
+    let other = c.index-segments-segment_ord.result in
+    let there = stored_at segments i c.args.found.2 other c.requires.held.0 c.requires.held.2 in
+    rw (p.1, p.2) (slot_faults c.args.schema.now (get_or segments i other) c.args.found.2 _ there c.in_err-doc.ensures.err)
 
 pub returns-in_err-doc-clause-kept : goal.returns-in_err-doc-clause-kept
 returns-in_err-doc-clause-kept c =
     let same = c.document.ensures.same in
-    kept_set c.args.segments.now c.args.address.segment_ord c.index-segments-address.result c.document.new.self c.requires.held.0 c.document.ensures.stands c.document.ensures.opened same.0 same.1
+    kept_set c.args.segments.now c.args.found.1 c.index-segments-segment_ord.result c.document.new.self c.requires.held.0 c.document.ensures.stands c.document.ensures.opened same.0 same.1
 
 pub returns-in_err-to_named_doc-clause-kept : goal.returns-in_err-to_named_doc-clause-kept
 returns-in_err-to_named_doc-clause-kept c =
     let same = c.document.ensures.same in
-    kept_set c.args.segments.now c.args.address.segment_ord c.index-segments-address.result c.document.new.self c.requires.held.0 c.document.ensures.stands c.document.ensures.opened same.0 same.1
+    kept_set c.args.segments.now c.args.found.1 c.index-segments-segment_ord.result c.document.new.self c.requires.held.0 c.document.ensures.stands c.document.ensures.opened same.0 same.1
 
 pub returns-clause-hit : goal.returns-clause-hit
 returns-clause-hit c analyze docs stands =
-    let there = stands_at (StandsFor c.args.schema.now analyze) [] c.index-segments-address.result docs c.args.segments.now c.args.address.segment_ord stands c.requires.held.0 in
-    let shown = told_there (stored_values c.args.schema.now) [] _ c.args.address.doc_id _ (c.in_ok-doc.ensures.shown analyze _ there) in
-    let small : c.args.score ≤ 1000000000000000 = c.requires.held.1 in
-    let fits : c.args.score < 2 ^ 63 = omega (arith, small) in
-    ap₂ (λ z (named : Named). (z, named)) (to_z_pos w64 c.args.score fits) (c.in_ok-to_named_doc.ensures ∙ sym shown)
+    let there = stands_at (StandsFor c.args.schema.now analyze) [] c.index-segments-segment_ord.result docs c.args.segments.now c.args.found.1 stands c.requires.held.0 in
+    let shown = told_there (stored_values c.args.schema.now) [] _ c.args.found.2 _ (c.in_ok-doc.ensures.shown analyze _ there) in
+    let small : c.args.found.0 ≤ 1000000000000000 = c.requires.held.1 in
+    let fits : c.args.found.0 < 2 ^ 63 = omega (arith, small) in
+    ap₂ (λ z (named : Named). (z, named)) (to_z_pos w64 c.args.found.0 fits) (c.in_ok-to_named_doc.ensures ∙ sym shown)
 
 pub returns-clause-kept : goal.returns-clause-kept
 returns-clause-kept c =
     let same = c.document.ensures.same in
-    kept_set c.args.segments.now c.args.address.segment_ord c.index-segments-address.result c.document.new.self c.requires.held.0 c.document.ensures.stands c.document.ensures.opened same.0 same.1
+    kept_set c.args.segments.now c.args.found.1 c.index-segments-segment_ord.result c.document.new.self c.requires.held.0 c.document.ensures.stands c.document.ensures.opened same.0 same.1

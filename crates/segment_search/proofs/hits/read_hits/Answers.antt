@@ -1,5 +1,5 @@
 use Rattle.std.proofs.Common.{map, ℕ}
-use Rattle.segment_reader.specs.declared.doc_address.DocAddress.{DocAddress}
+use Rattle.best_k.specs.Kept.{ScoredAddress}
 use Rattle.segment_search.proofs.HitsRead.{held_kept, kept_then, one_at, read_next}
 use Rattle.segment_search.specs.Hits.{IsHeld, hit_of, shown_of}
 use Rattle.segment_search.proofs.hits.read_hits.Goals as goal
@@ -7,26 +7,26 @@ use Rattle.segment_search.proofs.hits.read_hits.Goals as goal
 pub read_hit-requires : goal.read_hit-requires
 read_hit-requires c =
     let segments = c.args.segments.now in
-    let l = c.loop-score in
-    record { held = held_kept segments l.segments _ l.invariant.kept.counts (one_at (IsHeld segments) _ c.args.best.now l.score-index c.requires.held c.loop-score-test.true) }
+    let l = c.loop-found in
+    record { held = held_kept segments l.segments _ l.invariant.kept.counts (one_at (IsHeld segments) _ c.args.best.now l.found-index c.requires.held c.loop-found-test.true) }
 
 -- src/hits.rt:48:19
 pub returns-in_err-read_hit-clause-kept : goal.returns-in_err-read_hit-clause-kept
-returns-in_err-read_hit-clause-kept c = kept_then c.args.segments.now c.loop-score.segments c.read_hit.new.segments c.loop-score.invariant.kept c.read_hit.ensures.kept
+returns-in_err-read_hit-clause-kept c = kept_then c.args.segments.now c.loop-found.segments c.read_hit.new.segments c.loop-found.invariant.kept c.read_hit.ensures.kept
 
 -- src/hits.rt:48:9
 pub returns-in_err-push-clause-kept : goal.returns-in_err-push-clause-kept
-returns-in_err-push-clause-kept c = kept_then c.args.segments.now c.loop-score.segments c.read_hit.new.segments c.loop-score.invariant.kept c.read_hit.ensures.kept
+returns-in_err-push-clause-kept c = kept_then c.args.segments.now c.loop-found.segments c.read_hit.new.segments c.loop-found.invariant.kept c.read_hit.ensures.kept
 
 -- src/hits.rt:47:5
-pub loop-score-preserved : goal.loop-score-preserved
-loop-score-preserved c =
-    let l = c.loop-score in
+pub loop-found-preserved : goal.loop-found-preserved
+loop-found-preserved c =
+    let l = c.loop-found in
     let schema = c.args.schema.now in
-    let other : ℕ × DocAddress = (0, record { segment_ord = 0; doc_id = 0 }) in
+    let other : ScoredAddress = (0, 0, 0) in
     record {
       hits = λ analyze docs stands.
           let told = c.in_ok-read_hit.ensures.hit analyze docs (l.invariant.kept.stands schema analyze docs stands) in
-          read_next hit_of (shown_of schema docs) l.hits.items c.push.new.self.items c.args.best.now l.score-index c.in_ok-read_hit.field-0 other (map (shown_of schema docs) c.args.best.now) c.in_ok-push.ensures.items told c.loop-score-test.true (l.invariant.hits analyze docs stands);
+          read_next hit_of (shown_of schema docs) l.hits.items c.push.new.self.items c.args.best.now l.found-index c.in_ok-read_hit.field-0 other (map (shown_of schema docs) c.args.best.now) c.in_ok-push.ensures.items told c.loop-found-test.true (l.invariant.hits analyze docs stands);
       kept = kept_then c.args.segments.now l.segments c.read_hit.new.segments l.invariant.kept c.read_hit.ensures.kept;
     }

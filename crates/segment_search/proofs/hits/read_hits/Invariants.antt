@@ -7,8 +7,8 @@ use Rattle.segment_search.specs.Hits.{KeepsSegments, hit_of, shown_of}
 use Rattle.segment_search.proofs.hits.read_hits.Given as goal
 
 -- the hits so far, and behind them those of the documents that are left, are all
-abbrev pub invariant-loop-score : goal.invariant-loop-score
-invariant-loop-score l = record {
-  hits : (analyze : Analyzer) (docs : List (List Document)) → AllZip (StandsFor l.schema analyze) docs l.fn.segments → map hit_of l.hits.items ++ map (shown_of l.schema docs) (drop l.score-index l.best) ≡ map (shown_of l.schema docs) l.best;
+abbrev pub invariant-loop-found : goal.invariant-loop-found
+invariant-loop-found l = record {
+  hits : (analyze : Analyzer) (docs : List (List Document)) → AllZip (StandsFor l.schema analyze) docs l.fn.segments → map hit_of l.hits.items ++ map (shown_of l.schema docs) (drop l.found-index l.best) ≡ map (shown_of l.schema docs) l.best;
   kept : KeepsSegments l.fn.segments l.segments;
 }

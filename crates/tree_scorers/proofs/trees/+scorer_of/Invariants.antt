@@ -10,24 +10,24 @@ abbrev pub decreases-scorer_of : goal.decreases-scorer_of
 decreases-scorer_of g l = 4 * depth (query_of l.query.now)
 
 abbrev pub decreases-boolean_scorer : goal.decreases-boolean_scorer
-decreases-boolean_scorer g l = 4 * clauses_depth l.query.now.0 + 3
+decreases-boolean_scorer g l = 4 * clauses_depth (clauses_of l.clauses.now) + 3
 
 -- clauses are as deep as the deepest of their queries
 abbrev pub decreases-scorers_asked : goal.decreases-scorers_asked
 decreases-scorers_asked g l = 4 * clauses_depth (clauses_of l.clauses.now) + 2
 
 abbrev pub decreases-max_scorer : goal.decreases-max_scorer
-decreases-max_scorer g l = 4 * queries_depth l.query.now.0 + 3
+decreases-max_scorer g l = 4 * queries_depth (queries_of l.disjuncts.now) + 3
 
 -- so are queries in order
 abbrev pub decreases-scorers_of : goal.decreases-scorers_of
 decreases-scorers_of g l = 4 * queries_depth (queries_of l.queries.now) + 2
 
 abbrev pub decreases-boosted_scorer : goal.decreases-boosted_scorer
-decreases-boosted_scorer g l = 4 * depth l.query.now.0 + 1
+decreases-boosted_scorer g l = 4 * depth (query_of l.query.now) + 1
 
 abbrev pub decreases-constant_scorer : goal.decreases-constant_scorer
-decreases-constant_scorer g l = 4 * depth l.query.now.0 + 1
+decreases-constant_scorer g l = 4 * depth (query_of l.query.now) + 1
 
 -- a scorer for each clause before that asks this
 abbrev pub invariant-scorers_asked-loop-asks : goal.invariant-scorers_asked-loop-asks

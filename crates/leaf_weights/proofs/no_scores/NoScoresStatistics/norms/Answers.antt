@@ -1,0 +1,5 @@
+use Rattle.leaf_weights.proofs.NoScores.{no_similarity}
+use Rattle.leaf_weights.proofs.no_scores.NoScoresStatistics.norms.Goals as goal
+
+pub returns-clause-similarity : goal.returns-clause-similarity
+returns-clause-similarity g c = no_similarity

@@ -1,0 +1,4 @@
+-- Words of the contracts.
+pub mod Weighed
+pub mod Scored
+pub mod Given

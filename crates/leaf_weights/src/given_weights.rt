@@ -1,0 +1,82 @@
+//! The maker of the scorers of queries that hold no other, by statistics that may be left out.
+
+ghost use Rattle.std.specs.Prelude.{◌≡◌};
+
+use crate::leaves::{phrase_query_scorer, prefix_query_scorer, term_query_scorer};
+use crate::no_scores::NoScores;
+use phrase_weights::WholePhrase;
+use phrases::{PhrasePrefixScorer, PhraseScorer, PostingsWithOffset};
+use query_trees::{PhrasePrefixQuery, PhraseQuery, TermQuery};
+use reader_scorers::LeafWeights;
+use segment_postings::SegmentPostings;
+use segment_reader::SegmentReader;
+use settings::Statistics;
+use std::alloc::{AllocError, Global};
+use term_scorer::TermScorer;
+
+/// The weights from statistics; without statistics no term weighs anything.
+#[derive(Drop)]
+pub struct GivenWeights<'a, S: Statistics> {
+    statistics: Option<&'a S>,
+}
+
+impl<'a, S: Statistics> GivenWeights<'a, S> {
+    ghost use Rattle.leaf_weights.specs.Given.{statistics_in};
+
+    /// Returns the weights from `statistics`.
+    pub fn new(statistics: Option<&'a S>) -> GivenWeights<'a, S>
+        ensures { statistics_in result ≡ statistics }
+    {
+        GivenWeights { statistics }
+    }
+}
+
+impl<'a, S: Statistics> LeafWeights<'a> for GivenWeights<'a, S> {
+    ghost use Rattle.leaf_weights.specs.Given.{similarity_given};
+
+    type Term = TermScorer<'a>;
+
+    type Phrase = PhraseScorer<'a, PostingsWithOffset<SegmentPostings<'a>>>;
+
+    type PhrasePrefix = PhrasePrefixScorer<WholePhrase<'a>, SegmentPostings<'a>>;
+
+    ghost similarity = { λ w. similarity_given S.similarity w.statistics };
+
+    fn term_scorer(
+        &self,
+        reader: &SegmentReader<'a>,
+        query: &TermQuery,
+        boost: u64,
+    ) -> Option<TermScorer<'a>> {
+        match self.statistics {
+            Some(statistics) => term_query_scorer(reader, statistics, query, boost),
+            None => term_query_scorer(reader, &NoScores, query, boost),
+        }
+    }
+
+    fn phrase_scorer(
+        &self,
+        alloc: Global,
+        reader: &SegmentReader<'a>,
+        query: &PhraseQuery,
+        boost: u64,
+    ) -> Result<Option<PhraseScorer<'a, PostingsWithOffset<SegmentPostings<'a>>>>, AllocError> {
+        match self.statistics {
+            Some(statistics) => phrase_query_scorer(alloc, reader, statistics, query, boost),
+            None => phrase_query_scorer(alloc, reader, &NoScores, query, boost),
+        }
+    }
+
+    fn phrase_prefix_scorer(
+        &self,
+        alloc: Global,
+        reader: &SegmentReader<'a>,
+        query: &PhrasePrefixQuery,
+        boost: u64,
+    ) -> Result<Option<PhrasePrefixScorer<WholePhrase<'a>, SegmentPostings<'a>>>, AllocError> {
+        match self.statistics {
+            Some(statistics) => prefix_query_scorer(alloc, reader, statistics, query, boost),
+            None => prefix_query_scorer(alloc, reader, &NoScores, query, boost),
+        }
+    }
+}

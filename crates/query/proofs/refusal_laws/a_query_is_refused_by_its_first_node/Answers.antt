@@ -1,5 +1,0 @@
-use Rattle.query.proofs.Orders.{tree_by_nodes}
-use Rattle.query.proofs.refusal_laws.a_query_is_refused_by_its_first_node.Goals as goal
-
-pub returns : goal.returns
-returns c = tree_by_nodes

@@ -1,0 +1,46 @@
+use Rattle.std.proofs.Common.{ap, map, subst, sym, ◌∙◌}
+use Rattle.std.proofs.lemmas.Result.{IfErr-weaker, IfOk-weaker}
+use Rattle.std.specs.List.{AllByRecursion}
+use Rattle.definitions.proofs.Ranking.{All_weaker}
+use Rattle.query_trees.specs.Queries.{query_of}
+use Rattle.segment_search.proofs.BestFound.{best_scanned, best_within}
+use Rattle.segment_search.proofs.Flagging.{flagged_kept}
+use Rattle.segment_search.proofs.HitsRead.{held_alive}
+use Rattle.segment_search.specs.Hits.{IsHeld}
+use Rattle.segment_search.specs.Best.{IsFound, place_at}
+use Rattle.segment_search.proofs.searching.search_counted.Goals as goal
+
+pub read_hits-requires : goal.read_hits-requires
+read_hits-requires g c =
+    let segments = c.args.segments.now in
+    let sets = c.args.alive.now in
+    let found = subst (AllByRecursion (IsFound sets)) (sym c.deref.ensures.value) c.in_ok-best.ensures.found in
+    record { held = All_weaker (IsFound sets) (IsHeld segments) (held_alive segments sets c.requires.flagged) c.deref.result.now found }
+
+-- src/searching.rt:32:1
+pub returns-clause-ok : goal.returns-clause-ok
+returns-clause-ok g c analyze docs stands =
+    let schema = c.args.schema.now in
+    let sets = c.args.alive.now in
+    let sim = g.S.Statistics.similarity c.args.statistics.now in
+    let q = query_of c.args.query.now in
+    let found = subst (AllByRecursion (IsFound sets)) (sym c.deref.ensures.value) c.in_ok-best.ensures.found in
+    let places = ap (map place_at) c.deref.ensures.value ∙ c.in_ok-best.ensures.best schema analyze docs stands c.in_ok-accept_query.ensures.passed in
+    let scanned = best_scanned schema analyze docs c.args.segments.now sets stands c.requires.flagged sim q c.args.limit c.deref.result.now found places in
+    IfOk-weaker c.read_hits.result _ _ (λ hits told. told ∙ scanned) (c.read_hits.ensures.hits analyze docs stands)
+
+-- src/searching.rt:32:1
+pub returns-clause-refused : goal.returns-clause-refused
+returns-clause-refused g c analyze docs stands =
+    let schema = c.args.schema.now in
+    let sets = c.args.alive.now in
+    let sim = g.S.Statistics.similarity c.args.statistics.now in
+    let q = query_of c.args.query.now in
+    let found = subst (AllByRecursion (IsFound sets)) (sym c.deref.ensures.value) c.in_ok-best.ensures.found in
+    let places = ap (map place_at) c.deref.ensures.value ∙ c.in_ok-best.ensures.best schema analyze docs stands c.in_ok-accept_query.ensures.passed in
+    let within = best_within schema analyze docs c.args.segments.now sets stands c.requires.flagged sim q c.args.limit c.deref.result.now found places in
+    IfErr-weaker c.read_hits.result _ _ (λ fault is other. absurd (other is)) (c.read_hits.ensures.fault analyze docs stands within)
+
+-- src/searching.rt:32:1
+pub returns-clause-flagged : goal.returns-clause-flagged
+returns-clause-flagged g c = flagged_kept c.args.segments.now c.read_hits.new.segments c.args.alive.now c.read_hits.ensures.kept.counts c.requires.flagged

@@ -1,3 +1,0 @@
--- Lemmas behind the best documents.
-pub mod BestPlaces
-pub mod Living

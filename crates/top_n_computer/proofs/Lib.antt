@@ -1,2 +1,0 @@
--- Lemmas behind the best of items.
-pub mod Bests
