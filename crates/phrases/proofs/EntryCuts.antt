@@ -80,9 +80,16 @@ up_to-first t low [] l r = refl
 up_to-first t low (e ∷ es) l r = up_to-out t e es l ∙ up_to-low t (e.doc + 1) es (omega (arith, l)) r.3
 
 -- the first, and then what is left before a document
-pub fed_next : {S : Type 0} (limit : S → ℤ) (taken : S → ℕ × ℕ → S) (s : S) (until : ℕ) (es : List Entry) → first es < terminated → first es < until → fed limit taken (fed limit taken s ((first es, first_score es) ∷ [])) (pairs_of (up_to until (drop 1 es))) ≡ fed limit taken s (pairs_of (up_to until es))
+fed_next : {S : Type 0} (limit : S → ℤ) (taken : S → ℕ × ℕ → S) (s : S) (until : ℕ) (es : List Entry) → first es < terminated → first es < until → fed limit taken (fed limit taken s ((first es, first_score es) ∷ [])) (pairs_of (up_to until (drop 1 es))) ≡ fed limit taken s (pairs_of (up_to until es))
 fed_next limit taken s until [] on early = absurd (omega (arith, on))
 fed_next limit taken s until (e ∷ es) on early = sym (ap (λ xs. fed limit taken s (pairs_of xs)) (up_to-in until e es early))
+
+-- the same as a walk meets them: a score is asked for, and then the cursor goes on
+pub fed_step : {S : Type 0} (limit : S → ℤ) (taken : S → ℕ × ℕ → S) (s next : S) (until : ℕ) (es told after : List Entry) → first es < terminated → first es < until → next ≡ fed limit taken s ((first es, first_score es) ∷ []) → told ≡ es → after ≡ drop 1 told → fed limit taken next (pairs_of (up_to until after)) ≡ fed limit taken s (pairs_of (up_to until es))
+fed_step limit taken s next until es told after on early given same rest =
+    ap (λ (xs : List Entry). fed limit taken next (pairs_of (up_to until xs))) (rest ∙ ap (drop 1) same)
+    ∙ (ap (λ u. fed limit taken u (pairs_of (up_to until (drop 1 es)))) given
+    ∙ fed_next limit taken s until es on early)
 
 -- the first alone, where the next isn't before it
 pub fed_last : {S : Type 0} (limit : S → ℤ) (taken : S → ℕ × ℕ → S) (s : S) (until low : ℕ) (es : List Entry) → first es < terminated → until ≡ first es + 1 → Rising low es → fed limit taken s ((first es, first_score es) ∷ []) ≡ fed limit taken s (pairs_of (up_to until es))

@@ -2,6 +2,7 @@
 //! case, an operation and its arguments, and the line of standard output with the same number is its answer.
 #![tactic(auto)]
 
+mod counted_walks;
 mod held;
 mod merged_segments;
 mod operations;

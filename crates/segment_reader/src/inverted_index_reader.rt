@@ -294,6 +294,7 @@ impl InvertedIndexReader {
         ensures ok { (contents : Contents self.now)
             → entries_left result
             ≡ map (entry_as (record_option_of option)) (postings_in contents.fields field value_bytes.now) }
+        ensures present { 0 < length (entries_left result) }
         ensures decoded { cursor_blocks_decoded result ≡ 1 }
         ensures doc_freq { cursor_doc_freq result ≡ term_info.now.doc_freq }
         ensures within { (contents : Contents self.now)
@@ -329,6 +330,7 @@ impl InvertedIndexReader {
             ≡ map (entry_as (record_option_of option)) (postings_held contents.schema contents.fields term.now)) }
         ensures none { (contents : Contents self.now)
             → IfNone result (postings_held contents.schema contents.fields term.now ≡ []) }
+        ensures present { IfSome result (λ p. 0 < length (entries_left p)) }
         ensures decoded { IfSome result (λ p. cursor_blocks_decoded p ≡ 1) }
         ensures within { (contents : Contents self.now)
             → IfSome result (λ p. from contents.num_docs (entries_left p) ≡ []) }

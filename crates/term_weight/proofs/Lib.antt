@@ -2,3 +2,4 @@
 pub mod TermAnswers
 pub mod TermsFound
 pub mod BoundsFound
+pub mod BlocksFound

@@ -42,6 +42,15 @@ all_within r index n es lent many within =
 pub scored_within : (n : ℕ) (sim : TermSimilarity) (ids : List ℕ) (es : List Entry) → from n es ≡ [] → from n (term_scored sim ids es) ≡ []
 scored_within n sim ids es within = from-rescored (entry_score sim ids) n es ∙ ap (term_scored sim ids) within
 
+pub length-scored : (sim : TermSimilarity) (ids : List ℕ) (es : List Entry) → length (term_scored sim ids es) ≡ length es
+length-scored sim ids [] = refl
+length-scored sim ids (e ∷ es) = ap suc (length-scored sim ids es)
+
+-- where nothing is answered, no entry is left
+pub none_left : (es : List Entry) (ps : List (ℕ × ℕ)) → pairs_of es ≡ ps → ps ≡ [] → length es ≡ 0
+none_left [] ps are none = refl
+none_left (e ∷ es) ps are none = absurd (let no : ⊥ = cc in no)
+
 -- ---- what is weighed
 
 abbrev weighing : ℕ → ℕ → List ℕ → TermSimilarity

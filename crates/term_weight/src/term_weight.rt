@@ -1,18 +1,21 @@
 //! The weight of a term.
 
-ghost use Rattle.std.specs.Prelude.{[], ◌*◌, ◌≡◌, ◌≤ℤ◌, ◌≤◌, IfNone, IfSome, List, Some, length, map, pos};
+ghost use Rattle.std.specs.Prelude.{[], ◌*◌, ◌+◌, ◌<◌, ◌≡◌, ◌≤ℤ◌, ◌≤◌, IfNone, IfOk, IfSome, List, OnErr, OnOk, Some, length, map, pos};
 ghost use Rattle.definitions.specs.Analyzers.{Analyzer};
 ghost use Rattle.definitions.specs.Answers.{answers};
 ghost use Rattle.definitions.specs.Query.{term};
 ghost use Rattle.definitions.specs.Schema.{Schema};
 ghost use Rattle.definitions.specs.Scoring.{DontFall, max_score, natural};
 ghost use Rattle.definitions.specs.Scoring as scoring;
+ghost use Rattle.definitions.specs.Sinks.{fed, later_blocks_above};
+ghost use Rattle.definitions.specs.TermBlocks.{scored_blocks};
 ghost use Rattle.definitions.specs.Values.{Document};
 ghost use Rattle.docsets.specs.Entries.{from};
 ghost use Rattle.docsets.proofs.EntryLaws.{DontFall-prop};
 ghost use Rattle.docsets.specs.ScoredEntries.{greatest_score, pairs_of};
 ghost use Rattle.options.specs.RecordOption.{record_option_of};
 ghost use Rattle.layouts.specs.TermPostings.{bound_in};
+ghost use Rattle.phrases.specs.Feeding.{IsFedBelow};
 ghost use Rattle.segment_postings.specs.Cursors.{cursor_blocks, cursor_blocks_decoded, cursor_place, skips_left};
 ghost use Rattle.segment_reader.specs.Readers.{full_bounds};
 ghost use Rattle.segment_reader.specs.SegmentReaders.{StandsFor, max_doc_of};
@@ -20,6 +23,7 @@ ghost use Rattle.term_scorer.specs.ScoredTerms.{cursor_of, scored_left, similari
 
 use common::{DocId, Score};
 use options::IndexRecordOption;
+use phrases::{Sink, block_wand_single_scorer};
 use segment_reader::{SegmentReader, lengths_of_field};
 use std::alloc::{AllocError, Global};
 use term_scorer::{Similarity, TermScorer};
@@ -87,6 +91,7 @@ impl<'q, 'a> TermWeight<'q, 'a> {
             → StandsFor schema analyze docs reader.now
             → IfNone result
             (answers schema analyze sim (natural boost) (term (term_of self.now) (option_asked self.now)) docs ≡ []) }
+        ensures present { IfSome result (λ scorer. 0 < length (scored_left scorer)) }
         ensures within { IfSome result (λ scorer. from (max_doc_of reader.now) (scored_left scorer) ≡ []) }
         ensures bounded { IfSome result (λ scorer. greatest_score (scored_left scorer)
             ≤ natural boost * weight_in self.now) }
@@ -108,5 +113,44 @@ impl<'q, 'a> TermWeight<'q, 'a> {
             lengths_of_field(reader, self.term.field()),
             similarity,
         ))
+    }
+
+    /// Feeds each document of the segment that holds the term with its score to `sink`, in order, if the score is above
+    /// the sink's threshold by then. Returns the number of blocks that were decoded, including the first; 0 if no
+    /// document holds the term.
+    pub fn for_each_pruning_counted<K: Sink>(
+        &self,
+        threshold: Score,
+        reader: &SegmentReader<'a>,
+        sink: &mut K,
+    ) -> Result<u64, AllocError>
+        requires threshold { threshold ≡ K.limit (K.state sink.old) }
+        requires room { max_doc_of reader.now ≤ K.room sink.old }
+        ensures fed { (schema : Schema) (analyze : Analyzer) (sim : scoring.Similarity) (docs : List Document)
+            → StandsFor schema analyze docs reader.now
+            → ScoresBy sim self.now
+            → OnOk result (K.state sink.new ≡ fed K.limit K.taken (K.state sink.old)
+            (answers schema analyze sim 1 (term (term_of self.now) (option_asked self.now)) docs)) }
+        ensures listed { OnOk result (IsFedBelow K.limit K.taken (K.state sink.old) (max_doc_of reader.now)
+            (K.state sink.new)) }
+        ensures counted { (schema : Schema) (analyze : Analyzer) (sim : scoring.Similarity) (docs : List Document)
+            → StandsFor schema analyze docs reader.now
+            → ScoresBy sim self.now
+            → IfOk result (λ n. n ≤ 1 + later_blocks_above K.limit K.taken (K.state sink.old)
+            (scored_blocks schema analyze sim 1 (term_of self.now) (option_asked self.now) docs)) }
+        ensures absent { (schema : Schema) (analyze : Analyzer) (sim : scoring.Similarity) (docs : List Document)
+            → StandsFor schema analyze docs reader.now
+            → ScoresBy sim self.now
+            → answers schema analyze sim 1 (term (term_of self.now) (option_asked self.now)) docs ≡ []
+            → IfOk result (λ n. n ≡ 0) }
+        ensures same { OnErr result (sink.new ≡ sink.old) }
+    {
+        match self.term_scorer(reader, 1) {
+            Some(mut scorer) => {
+                block_wand_single_scorer(&mut scorer, threshold, sink);
+                Ok(scorer.decoded_blocks())
+            }
+            None => Ok(0),
+        }
     }
 }

@@ -7,7 +7,7 @@ use Rattle.definitions.specs.Sinks.{fed}
 use Rattle.docsets.proofs.EntryLaws.{drop-one, first_at_most, from-first, from-from, from-step}
 use Rattle.docsets.specs.Entries.{Entry, first, first_score, from}
 use Rattle.docsets.specs.ScoredEntries.{pairs_of}
-use Rattle.phrases.proofs.EntryCuts.{fed_last, fed_next, up_to-first}
+use Rattle.phrases.proofs.EntryCuts.{fed_last, fed_step, up_to-first}
 use Rattle.phrases.proofs.ScorerBlocks.{held_behind, kept_same, moved_inside, next_inside, place_inside, stands_already, stands_sought, stays_in}
 use Rattle.phrases.specs.BlocksLeft.{StandsInBlock, docs_held, skips_held, up_to}
 use Rattle.segment_postings.specs.Reading.{below}
@@ -102,10 +102,7 @@ loop-doc-preserved g c =
       limit = to_z-of_z fits ∙ c.offer-threshold.ensures.next;
       room = omega (arith, less, rest, cut, left, room);
       left = ap (from until) (c.advance-doc.ensures.rest ∙ ap (drop 1) same) ∙ (from-step until es before ∙ c.loop-doc.invariant.left);
-      fed = ap (λ (xs : List Entry). fed limit taken next (pairs_of (up_to until xs))) (c.advance-doc.ensures.rest ∙ ap (drop 1) same)
-          ∙ (ap (λ u. fed limit taken u (pairs_of (up_to until (drop 1 es)))) given
-          ∙ (fed_next limit taken s until es some before
-          ∙ c.loop-doc.invariant.fed));
+      fed = fed_step limit taken s next until es (scored_left told) (scored_left c.advance-doc.new.self) some before given same c.advance-doc.ensures.rest ∙ c.loop-doc.invariant.fed;
       block = stays_in c.args.target c.args.scorer.now told c.advance-doc.new.self moved block;
     }
 

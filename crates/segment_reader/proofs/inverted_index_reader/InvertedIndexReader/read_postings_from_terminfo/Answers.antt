@@ -1,11 +1,14 @@
-use Rattle.std.proofs.Common.{[], List, ap, subst, sym, ◌≡◌, ◌∙◌}
-use Rattle.std.proofs.Math.Logic.{∥∥₁_map}
+use Rattle.std.proofs.Common.{[], List, ap, arith, length, subst, sym, ◌≡◌, ◌∙◌}
+use Rattle.std.proofs.Math.Logic.{∥∥₁_elim, ∥∥₁_map}
+use Rattle.std.proofs.Props.{props}
+use Rattle.std.proofs.lemmas.List.{length-map}
+use Rattle.definitions.specs.Postings.{Posting}
 use Rattle.docsets.specs.Entries.{Entry, from}
 use Rattle.layouts.specs.InvertedIndexes.{field_ids}
 use Rattle.options.specs.RecordOption.{record_option_of}
 use Rattle.segment_reader.proofs.PostingsFound.{has_term, is_info, option_told}
 use Rattle.segment_reader.proofs.OpenedPostings.{entries_within}
-use Rattle.segment_reader.specs.OpenedTerms.{entries_of_postings}
+use Rattle.segment_reader.specs.OpenedTerms.{entries_of_postings, entry_as}
 use Rattle.segment_reader.specs.Readers.{postings_in}
 use Rattle.segment_reader.proofs.inverted_index_reader.InvertedIndexReader.read_postings_from_terminfo.Goals as goal
 
@@ -17,6 +20,16 @@ open_term-requires c = ∥∥₁_map c.option_of-recorded.ensures.known (λ cont
 
 pub returns-clause-ok : goal.returns-clause-ok
 returns-clause-ok c contents = c.open_term.ensures.entries (postings_in contents.fields c.args.field c.args.value_bytes.now) (has_term c.args.self.now c.args.field c.args.value_bytes.now c.args.term_info.now contents (record_option_of c.option_of-recorded.result) c.bytes_of.result.0.now c.bytes_of.result.1.now c.requires c.option_of-recorded.ensures.option c.bytes_of.ensures.postings c.bytes_of.ensures.positions)
+
+pub returns-clause-present : goal.returns-clause-present
+returns-clause-present c =
+    ∥∥₁_elim c.option_of-recorded.ensures.known (hlevel props) (λ contents.
+    (let ps : List Posting = postings_in contents.fields c.args.field c.args.value_bytes.now in
+    let known = has_term c.args.self.now c.args.field c.args.value_bytes.now c.args.term_info.now contents (record_option_of c.option_of-recorded.result) c.bytes_of.result.0.now c.bytes_of.result.1.now c.requires c.option_of-recorded.ensures.option c.bytes_of.ensures.postings c.bytes_of.ensures.positions in
+    let some = known.is.some in
+    let same = ap length (c.open_term.ensures.entries ps known) in
+    let long = length-map ps (entry_as (record_option_of c.args.option)) in
+    omega (arith, some, same, long)))
 
 pub returns-clause-within : goal.returns-clause-within
 returns-clause-within c contents =

@@ -1,4 +1,4 @@
-use Rattle.std.proofs.Common.{ap, arith, map, of_z, refl, rules, subst, sym, to_z, ◌*◌, ◌≡◌, ◌∙◌}
+use Rattle.std.proofs.Common.{ap, arith, length, map, of_z, refl, rules, subst, sym, to_z, ◌*◌, ◌≡◌, ◌∙◌}
 use Rattle.std.proofs.lemmas.Int.{to_z-of_z, to_z_pos}
 use mir.Syntax.{w64}
 use mir.Val.{SFits}
@@ -14,7 +14,7 @@ use Rattle.segment_reader.specs.LengthIds.{AreIds}
 use Rattle.term_scorer.proofs.TermScoreLaws.{greatest-below}
 use Rattle.term_weight.specs.TermWeights.{option_asked, term_of}
 use Rattle.term_weight.proofs.BoundsFound.{bounds_found, full_bounds_found}
-use Rattle.term_weight.proofs.TermsFound.{all_within, if_none, none_found, scored_found, scored_within, weighed}
+use Rattle.term_weight.proofs.TermsFound.{all_within, if_none, length-scored, none_found, scored_found, scored_within, weighed}
 use Rattle.term_weight.proofs.term_weight.TermWeight.term_scorer.Goals as goal
 
 pub returns-in_err-postings-clause-none : goal.returns-in_err-postings-clause-none
@@ -37,6 +37,13 @@ returns-clause-some c schema analyze sim docs stands scores =
     let boost : natural (to_z w64 (of_z w64 c.args.boost)) ≡ natural c.args.boost = ap natural (to_z-of_z w64 c.args.boost fits) in
     ap pairs_of c.new.ensures.entries
     ∙ scored_found schema analyze docs c.args.reader.now stands sim (natural c.args.boost) (term_of c.args.self.now) (option_asked c.args.self.now) c.inverted_index-index.result.now (similarity_data c.new-similarity.result) c.lengths_of_field.result (entries_left c.in_ok-postings.postings) c.inverted_index-index.ensures (c.new-similarity.ensures ∙ weighed _ _ _ _ _ _ weight boost (sym scores.norms_are)) (subst (λ field. AreIds (length_id schema analyze field) docs c.lengths_of_field.result) c.field.ensures (c.lengths_of_field.ensures.ids schema analyze docs stands)) c.in_ok-postings.ensures.some
+
+pub returns-clause-present : goal.returns-clause-present
+returns-clause-present c =
+    let same = ap length c.new.ensures.entries in
+    let long = length-scored (similarity_data c.new-similarity.result) c.lengths_of_field.result (entries_left c.in_ok-postings.postings) in
+    let some = c.in_ok-postings.ensures.present in
+    omega (arith, same, long, some)
 
 pub returns-clause-within : goal.returns-clause-within
 returns-clause-within c =
