@@ -1,11 +1,11 @@
 //! The best hits of a term in the segment that is held, by the walk that leaves blocks out.
 
 use crate::term_answers::WEIGHT;
-use best_k::BestK;
 use case_lines::{Refusal, number, pair};
 use common::AliveBitSet;
 use phrases::Sink;
 use schema::{IndexRecordOption, Term};
+use segment::BestK;
 use segment_reader::SegmentReader;
 use serde_json::Value;
 use std::alloc::{AllocError, Global};
