@@ -1,5 +1,5 @@
 -- Lemmas behind the weights.
 pub mod AcceptedTerms
 pub mod LeafScores
-pub mod NoScores
+pub mod Unscored
 pub mod WithoutScores

@@ -1,4 +1,4 @@
-use Rattle.leaf_weights.proofs.NoScores.{no_similarity}
+use Rattle.leaf_weights.proofs.Unscored.{no_similarity}
 use Rattle.leaf_weights.proofs.no_scores.NoScoresStatistics.norms.Goals as goal
 
 pub returns-clause-similarity : goal.returns-clause-similarity
