@@ -19,7 +19,7 @@ use common::Score;
 use leaf_weights::{IndexWeights, weigh_term};
 use phrases::Sink;
 use query_trees::AnyQuery;
-use reader_scorers::ReaderScorers;
+use reader_scorers::{LeafWeights, ReaderScorers};
 use segment_reader::SegmentReader;
 use settings::Statistics;
 use std::alloc::{AllocError, Global};
@@ -55,7 +55,30 @@ pub(crate) fn feed_query<'a, S: Statistics, K: Sink>(
         return weigh_term(query, statistics).for_each_pruning_counted(threshold, reader, sink);
     }
     let weights = IndexWeights::new(statistics);
-    let scorers = ReaderScorers::new(reader, &weights);
-    query_answers::for_each_pruning(alloc, &scorers, query, threshold, sink)?;
+    feed_by_weights(alloc, reader, &weights, query, threshold, sink)?;
     Ok(0)
+}
+
+/// Like `feed_query`, but by `weights`, and counts nothing.
+fn feed_by_weights<'a, W: LeafWeights<'a>, K: Sink>(
+    alloc: Global,
+    reader: &SegmentReader<'a>,
+    weights: &W,
+    query: &AnyQuery,
+    threshold: Score,
+    sink: &mut K,
+) -> Result<(), AllocError>
+    requires accepted { IsAccepted (W.similarity weights.now).weight 1 (query_of query.now) }
+    requires threshold { threshold ≡ K.limit (K.state sink.old) }
+    requires room { max_doc_of reader.now ≤ K.room sink.old }
+    ensures fed { (schema : Schema) (analyze : Analyzer) (docs : List Document)
+        → StandsFor schema analyze docs reader.now
+        → tree_fault schema (W.similarity weights.now).weight 1 (query_of query.now) ≡ None
+        → OnOk result (K.state sink.new ≡ fed K.limit K.taken (K.state sink.old)
+        (answers schema analyze (W.similarity weights.now) 1 (query_of query.now) docs)) }
+    ensures listed { OnOk result (IsFedBelow K.limit K.taken (K.state sink.old) (max_doc_of reader.now)
+        (K.state sink.new)) }
+{
+    let scorers = ReaderScorers::new(reader, weights);
+    query_answers::for_each_pruning(alloc, &scorers, query, threshold, sink)
 }
