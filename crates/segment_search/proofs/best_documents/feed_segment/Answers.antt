@@ -1,11 +1,10 @@
-use Rattle.std.proofs.Common.{List, Some, ap, map, slice_get, subst, sym, ◌++◌, ◌∙◌, ◌≡◌}
+use Rattle.std.proofs.Common.{Some, ap, map, slice_get, subst, sym, ◌++◌, ◌∙◌, ◌≡◌}
 use Rattle.std.proofs.lemmas.Result.{on_ok_weaker}
 use Rattle.std.specs.List.{AllByRecursion}
 use Rattle.best_k.specs.Contents.{best_in}
 use Rattle.best_k.specs.Kept.{Best}
 use Rattle.definitions.specs.Merging.{documents_in}
 use Rattle.query_trees.specs.Queries.{query_of}
-use Rattle.scorer_answers.specs.Rows.{flags_in}
 use Rattle.segment_definitions.specs.Found.{places_in}
 use Rattle.segment_reader.specs.SegmentReaders.{StandsFor}
 use Rattle.segment_search.proofs.BestPlaces.{all_found, segment_placed, still_wanted}
