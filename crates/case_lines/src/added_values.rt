@@ -127,18 +127,26 @@ fn nested(alloc: Global, depth: u64) -> Result<OwnedValue, Refusal> {
     Ok(value)
 }
 
-/// A text with its tokens: `[TEXT, [[PLACE, TEXT], ..]]`.
+/// A text with its tokens: `[TEXT, [[PLACE, TEXT], ..]]`, or `[PLACE, TEXT, LENGTH]` where that isn't 1.
 fn tokens_in(alloc: Global, value: &Value) -> Result<PreTokenizedString, Refusal> {
     let mut tokens = Vec::new(alloc);
     for token in part(value, 1)?.as_array().ok_or(Refusal::NotAsked)? {
         tokens.push(Token {
             position: number_in(part(token, 0)?)? as usize,
-            position_length: 1,
+            position_length: length_in(token)?,
             text: String::from_str(alloc, text_in(part(token, 1)?)?)?,
         })?;
     }
     let text = String::from_str(alloc, text_in(part(value, 0)?)?)?;
     Ok(PreTokenizedString::new(text, tokens)?)
+}
+
+/// The length of a token, which is 1 where none is given.
+fn length_in(token: &Value) -> Result<usize, Refusal> {
+    match token.get(2) {
+        Some(length) => Ok(number_in(length)? as usize),
+        None => Ok(1),
+    }
 }
 
 /// The number of an address, by its bytes, the highest first.

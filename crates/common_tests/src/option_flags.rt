@@ -56,13 +56,39 @@ fn flags_of_texts(rt: HostRuntime) {
     assert!(rt; texts_join());
 }
 
+/// The gap of a text field; 2000 where it isn't indexed.
+fn gap_of(options: &TextOptions) -> u32 {
+    options
+        .get_indexing_options()
+        .map_or(2000, TextFieldIndexing::gap)
+}
+
+/// Whether the gap is 1 unless another is set, and the last one that is set counts.
+fn gaps_are_set() -> bool {
+    let indexing = TextFieldIndexing::default();
+    let set = TextFieldIndexing::default().set_gap(7).set_gap(1000);
+    indexing.gap() == 1
+        && gap_of(&TEXT) == 1
+        && gap_of(&STRING) == 1
+        && indexing.set_gap(0).gap() == 0
+        && gap_of(&(STORED | TextOptions::default().set_indexing_options(set))) == 1000
+}
+
+#[test]
+fn gaps_of_texts(rt: HostRuntime) {
+    assert!(rt; gaps_are_set());
+}
+
 /// Whether calls that may find no memory answer what was set.
 fn names_are_kept(alloc: Global) -> Result<bool, AllocError> {
-    let indexing = TextFieldIndexing::default().set_tokenizer(alloc, "words")?;
+    let indexing = TextFieldIndexing::default()
+        .set_gap(9)
+        .set_tokenizer(alloc, "words")?;
     let options = TextOptions::default().set_indexing_options(indexing.clone()?);
     let again = options.clone()?;
     Ok(
         indexing.tokenizer() == "words"
+            && gap_of(&again) == 9
             && is_indexed(&again, false, "words", IndexRecordOption::Basic),
     )
 }

@@ -40,8 +40,8 @@ fn built(alloc: Global) -> Result<Schema, Fault> {
 
 /// The fields of that schema.
 const BUILT: [&str; 10] = [
-    r#"{"name":"t","options":{"coerce":true,"fast":false,"indexing":{"fieldnorms":true,"record":"position","tokenizer":"default"},"stored":true},"type":"text"}"#,
-    r#"{"name":"s","options":{"coerce":false,"fast":true,"indexing":{"fieldnorms":true,"record":"basic","tokenizer":"raw"},"stored":false},"type":"text"}"#,
+    r#"{"name":"t","options":{"coerce":true,"fast":false,"indexing":{"fieldnorms":true,"gap":1,"record":"position","tokenizer":"default"},"stored":true},"type":"text"}"#,
+    r#"{"name":"s","options":{"coerce":false,"fast":true,"indexing":{"fieldnorms":true,"gap":1,"record":"basic","tokenizer":"raw"},"stored":false},"type":"text"}"#,
     r#"{"name":"n","options":{"coerce":false,"fast":true,"fieldnorms":true,"indexed":true,"stored":false},"type":"u64"}"#,
     r#"{"name":"i","options":{"coerce":true,"fast":false,"fieldnorms":true,"indexed":false,"stored":false},"type":"i64"}"#,
     r#"{"name":"o","options":{"coerce":false,"fast":false,"fieldnorms":false,"indexed":false,"stored":true},"type":"bool"}"#,

@@ -171,19 +171,19 @@ settings_plain schema s =
 
 -- ---- schemas
 
-indexing_plain : (e : Entry) → IsPlain 1 (indexing_data e)
-indexing_plain e = go e.indexed
+indexing_plain : (own : List (List ℕ × json.Data)) (e : Entry) → ArePlain 0 own → IsPlain 1 (indexing_data own e)
+indexing_plain own e plain = go e.indexed
   where
-    go : (t : Bool) → IsPlain 1 (if t then object_of ((codes "record", json.string (record_option_name e.record_option)) ∷ (codes "fieldnorms", json.boolean e.fieldnorms) ∷ (codes "tokenizer", json.string e.tokenizer) ∷ []) else json.null)
+    go : (t : Bool) → IsPlain 1 (if t then object_of ((codes "record", json.string (record_option_name e.record_option)) ∷ (codes "fieldnorms", json.boolean e.fieldnorms) ∷ (codes "tokenizer", json.string e.tokenizer) ∷ own) else json.null)
     go false = null_plain 1
-    go true = object_plain 0 ((codes "record", json.string (record_option_name e.record_option)) ∷ (codes "fieldnorms", json.boolean e.fieldnorms) ∷ (codes "tokenizer", json.string e.tokenizer) ∷ []) (string_plain 0 (record_option_name e.record_option), (flag_plain 0 e.fieldnorms, (string_plain 0 e.tokenizer, tt)))
+    go true = object_plain 0 ((codes "record", json.string (record_option_name e.record_option)) ∷ (codes "fieldnorms", json.boolean e.fieldnorms) ∷ (codes "tokenizer", json.string e.tokenizer) ∷ own) (string_plain 0 (record_option_name e.record_option), (flag_plain 0 e.fieldnorms, (string_plain 0 e.tokenizer, plain)))
 
 options_plain : (e : Entry) → IsPlain 2 (options_data e)
 options_plain e = go e.kind
   where
     go : (kind : Kind) → IsPlain 2 (options_data (record e { kind = kind }))
-    go text_kind = object_plain 1 ((codes "stored", json.boolean e.stored) ∷ (codes "fast", json.boolean e.fast) ∷ (codes "coerce", json.boolean e.coerce) ∷ (codes "indexing", indexing_data e) ∷ []) (flag_plain 1 e.stored, (flag_plain 1 e.fast, (flag_plain 1 e.coerce, (indexing_plain e, tt))))
-    go json_kind = object_plain 1 ((codes "stored", json.boolean e.stored) ∷ (codes "fast", json.boolean e.fast) ∷ (codes "indexing", indexing_data e) ∷ (codes "expand_dots", json.boolean e.expand_dots) ∷ []) (flag_plain 1 e.stored, (flag_plain 1 e.fast, (indexing_plain e, (flag_plain 1 e.expand_dots, tt))))
+    go text_kind = object_plain 1 ((codes "stored", json.boolean e.stored) ∷ (codes "fast", json.boolean e.fast) ∷ (codes "coerce", json.boolean e.coerce) ∷ (codes "indexing", indexing_data ((codes "gap", number_data e.gap) ∷ []) e) ∷ []) (flag_plain 1 e.stored, (flag_plain 1 e.fast, (flag_plain 1 e.coerce, (indexing_plain ((codes "gap", number_data e.gap) ∷ []) e (number_plain 0 e.gap, tt), tt))))
+    go json_kind = object_plain 1 ((codes "stored", json.boolean e.stored) ∷ (codes "fast", json.boolean e.fast) ∷ (codes "indexing", indexing_data [] e) ∷ (codes "expand_dots", json.boolean e.expand_dots) ∷ []) (flag_plain 1 e.stored, (flag_plain 1 e.fast, (indexing_plain [] e tt, (flag_plain 1 e.expand_dots, tt))))
     go facet_kind = object_plain 1 ((codes "stored", json.boolean e.stored) ∷ []) (flag_plain 1 e.stored, tt)
     go u64_kind = object_plain 1 ((codes "stored", json.boolean e.stored) ∷ (codes "fast", json.boolean e.fast) ∷ (codes "coerce", json.boolean e.coerce) ∷ (codes "indexed", json.boolean e.indexed) ∷ (codes "fieldnorms", json.boolean e.fieldnorms) ∷ []) (flag_plain 1 e.stored, (flag_plain 1 e.fast, (flag_plain 1 e.coerce, (flag_plain 1 e.indexed, (flag_plain 1 e.fieldnorms, tt)))))
     go i64_kind = object_plain 1 ((codes "stored", json.boolean e.stored) ∷ (codes "fast", json.boolean e.fast) ∷ (codes "coerce", json.boolean e.coerce) ∷ (codes "indexed", json.boolean e.indexed) ∷ (codes "fieldnorms", json.boolean e.fieldnorms) ∷ []) (flag_plain 1 e.stored, (flag_plain 1 e.fast, (flag_plain 1 e.coerce, (flag_plain 1 e.indexed, (flag_plain 1 e.fieldnorms, tt)))))

@@ -53,7 +53,7 @@ fn options_of_fields(alloc: Global, schema: &Schema) -> Result<Value, Refusal> {
     Ok(Value::Array(list))
 }
 
-/// A field's name, whether it is stored, indexed and keeps lengths, what is recorded of its terms, and its type.
+/// A field's name, whether it is stored, indexed and keeps lengths, what is recorded of its terms, its type and its gap.
 fn options_of(alloc: Global, entry: &FieldEntry) -> Result<Value, Refusal> {
     let recorded = match entry.field_type().get_index_record_option() {
         Some(option) => text(alloc, recorded_name(option))?,
@@ -66,6 +66,7 @@ fn options_of(alloc: Global, entry: &FieldEntry) -> Result<Value, Refusal> {
         flag(entry.has_fieldnorms()),
         recorded,
         text(alloc, entry.field_type().value_type().name())?,
+        number(u64::from(entry.gap())),
     ]?))
 }
 

@@ -1,6 +1,6 @@
 //! Walks of a scorer, into a list or a sink.
 
-ghost use Rattle.std.specs.Prelude.{[], ◌≡◌, ◌≤◌, IfOk, List, None, length, map, ℕ};
+ghost use Rattle.std.specs.Prelude.{[], ◌≡◌, ◌≤◌, IfOk, List, None, length, ℕ};
 ghost use Rattle.definitions.specs.Analyzers.{Analyzer};
 ghost use Rattle.definitions.specs.Answers.{answers};
 ghost use Rattle.definitions.specs.Query.{Query};

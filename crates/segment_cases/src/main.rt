@@ -3,6 +3,7 @@
 #![tactic(auto)]
 
 mod best_hits;
+mod counted_walks;
 mod held;
 mod merged_segments;
 mod operations;

@@ -8,6 +8,7 @@ ghost use Rattle.segment_reader.specs.SegmentReaders.{max_doc_of};
 ghost use Rattle.term_scorer.specs.ScoredTerms.{scored_left};
 
 use crate::best_hits::best;
+use crate::counted_walks::best_counted;
 use crate::held::Held;
 use crate::record_bodies::alive_set;
 use crate::segments::opened;
@@ -27,7 +28,7 @@ use term_scorer::TermScorer;
 use term_weight::TermWeight;
 
 /// The weight of every term.
-const WEIGHT: u64 = 60;
+pub(crate) const WEIGHT: u64 = 60;
 
 /// What an operation on a term answers.
 pub(crate) fn answer(
@@ -60,6 +61,9 @@ fn over<'a>(
     let reader = segment.reader(Some(alive));
     if operation == "term-best" {
         return best(alloc, &reader, alive, term, arguments.small_number(2)?);
+    }
+    if operation == "term-best-counted" {
+        return best_counted(alloc, &reader, alive, term, arguments.small_number(2)?);
     }
     let scorer = scorer_of(&reader, term, &norms);
     told(alloc, &reader, term, scorer, operation, arguments)

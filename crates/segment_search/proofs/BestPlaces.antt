@@ -1,5 +1,5 @@
 -- The best places, from the best that a sink keeps.
-use Rattle.std.proofs.Common.{[], Bool, List, Some, ap, arith, drop, false, filter, get_or, if◌then◌else◌, length, map, option_map, refl, slice_get, slice_index_or, subst, suc, sym, take, true, ◌+◌, ◌++◌, ◌∙◌, ◌∷◌, ◌≡◌, ◌≤◌, ℕ}
+use Rattle.std.proofs.Common.{[], Bool, List, Some, ap, arith, false, filter, get_or, if◌then◌else◌, length, map, option_map, refl, slice_get, slice_index_or, subst, suc, sym, take, true, ◌+◌, ◌++◌, ◌∙◌, ◌∷◌, ◌≡◌, ◌≤◌, ℕ}
 use Rattle.std.proofs.lemmas.List.{append-nil, append_assoc, map-append, take-map}
 use Rattle.std.proofs.lemmas.Option.{get_or_from_slice_get, slice_get-map, slice_get_within}
 use Rattle.std.specs.List.{AllByRecursion}

@@ -1,5 +1,5 @@
 -- Hits, and the documents that they are of.
-use Rattle.std.specs.Prelude.{[], ◌<◌, ◌≡◌, ◌≤◌, List, length, map, pos, slice_index_or, ℕ, ℤ}
+use Rattle.std.specs.Prelude.{[], ◌<◌, ◌≡◌, ◌≤◌, List, length, map, pos, slice_index_or, ℤ}
 use Rattle.std.specs.List.{AllByRecursion, AllZip}
 use Rattle.best_k.specs.Kept.{ScoredAddress}
 use Rattle.definitions.specs.Analyzers.{Analyzer}

@@ -1,4 +1,4 @@
-use Rattle.std.proofs.Common.{map, ℕ}
+use Rattle.std.proofs.Common.{map}
 use Rattle.best_k.specs.Kept.{ScoredAddress}
 use Rattle.segment_search.proofs.HitsRead.{held_kept, kept_then, one_at, read_next}
 use Rattle.segment_search.specs.Hits.{IsHeld, hit_of, shown_of}
