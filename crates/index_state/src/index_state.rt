@@ -364,7 +364,11 @@ impl<A: Analyzer + Drop> IndexState<A> {
     /// Returns the best `limit` of the committed documents that match, by score, and then in the order of addition, and
     /// beside them how many blocks of postings were decoded for them, which is counted where the query is one term, and
     /// is 0 for any other. The caches of the segments' stores keep the blocks that are read.
-    pub fn search_counted(&mut self, query: &AnyQuery, limit: usize) -> Result<(Vec<Hit>, u64), Fault>
+    pub fn search_counted(
+        &mut self,
+        query: &AnyQuery,
+        limit: usize,
+    ) -> Result<(Vec<Hit>, u64), Fault>
         ensures ok { (c : calls.Configuration) (x : calls.Index) → Stands A.analyze self.old c x
             → IfOk result (λ found.
             (calls.call_fault c x (calls.search_best (query_of query.now) limit) ≡ None)

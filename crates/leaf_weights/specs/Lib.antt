@@ -1,4 +1,3 @@
 -- Words of the contracts.
 pub mod Weighed
 pub mod Scored
-pub mod Given

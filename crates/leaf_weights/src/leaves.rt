@@ -5,10 +5,10 @@ ghost use Rattle.definitions.specs.Query.{phrase, phrase_prefix, term};
 ghost use Rattle.definitions.specs.Scoring.{max_score, weight_sum};
 ghost use Rattle.node_scorers.specs.Scores.{Scores};
 ghost use Rattle.term_scorer.specs.ScoredTerms.{scored_left};
+ghost use Rattle.term_weight.specs.TermWeights.{ScoresBy, option_asked, term_of};
 ghost use Rattle.tree_scorers.specs.Accepted.{IsAccepted};
 ghost use Rattle.leaf_weights.specs.Weighed.{under};
 
-use crate::weighed_leaves::weigh_term;
 use common::Score;
 use docsets::DocSet;
 use phrase_weights::{PhrasePrefixWeight, PhraseWeight, WholePhrase};
@@ -19,10 +19,11 @@ use segment_reader::SegmentReader;
 use settings::Statistics;
 use std::alloc::{AllocError, Global};
 use term_scorer::TermScorer;
+use term_weight::TermWeight;
 use terms::Term;
 
 /// Returns the sum of the weights of `terms`, repeats counted.
-pub(crate) fn sum_of_weights<S: Statistics>(statistics: &S, terms: &[(usize, Term)]) -> u64
+fn sum_of_weights<S: Statistics>(statistics: &S, terms: &[(usize, Term)]) -> u64
     requires { weight_sum (S.similarity statistics.now).weight terms.now ≤ max_score }
     ensures { result ≡ weight_sum (S.similarity statistics.now).weight terms.now }
 {
@@ -42,6 +43,25 @@ fn weight_under<S: Statistics>(statistics: &S, terms: &[(usize, Term)], boost: u
         return 0;
     }
     sum_of_weights(statistics, terms)
+}
+
+/// Returns the weight of a term, by `statistics`.
+pub fn weigh_term<'q, 'a, S: Statistics>(
+    query: &'q TermQuery,
+    statistics: &'a S,
+) -> TermWeight<'q, 'a>
+    ensures term { term_of result ≡ query.now.0 }
+    ensures option { option_asked result ≡ query.now.1 }
+    ensures scores { ScoresBy (S.similarity statistics.now) result }
+{
+    let term = query.term();
+    let weight = statistics.weight_of(term);
+    TermWeight::new(
+        term,
+        query.index_record_option(),
+        weight,
+        statistics.norms(),
+    )
 }
 
 /// Returns a scorer of the documents that hold a term, with their scores under `boost`; `None` if no document holds it.

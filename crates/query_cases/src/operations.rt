@@ -4,7 +4,7 @@ use case_lines::{
     Arguments, Cell, Operations, Refusal, cells, flag, hex, items_in, number, pair, query_by_steps,
     settings_in, text,
 };
-use query_checks::{AnyQuery, Query, QueryClone, check_query, read_query};
+use query::{AnyQuery, Query, QueryClone, check_query, read_query};
 use schema::Schema;
 use serde_json::Value;
 use settings::Settings;

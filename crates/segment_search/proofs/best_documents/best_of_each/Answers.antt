@@ -43,7 +43,7 @@ loop-segment_ord-preserved g c =
     let i = l.segment_ord in
     let k = c.args.limit in
     let old = best_in l.best in
-    let new = best_in c.feed_segment-blocks.new.best in
+    let new = best_in c.feed_segment.new.best in
     let entered = c.enter.ensures.best in
     record {
       best = λ schema analyze rows zip passes.

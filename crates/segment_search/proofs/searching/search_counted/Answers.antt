@@ -1,5 +1,5 @@
 use Rattle.std.proofs.Common.{ap, map, subst, sym, ◌∙◌}
-use Rattle.std.proofs.lemmas.Result.{IfErr-weaker, IfOk-weaker}
+use Rattle.std.proofs.lemmas.Result.{err_from_is_err_and}
 use Rattle.std.specs.List.{AllByRecursion}
 use Rattle.definitions.proofs.Ranking.{All_weaker}
 use Rattle.query_trees.specs.Queries.{query_of}
@@ -17,7 +17,6 @@ read_hits-requires g c =
     let found = subst (AllByRecursion (IsFound sets)) (sym c.deref.ensures.value) c.in_ok-best.ensures.found in
     record { held = All_weaker (IsFound sets) (IsHeld segments) (held_alive segments sets c.requires.flagged) c.deref.result.now found }
 
--- src/searching.rt:32:1
 pub returns-clause-ok : goal.returns-clause-ok
 returns-clause-ok g c analyze docs stands =
     let schema = c.args.schema.now in
@@ -27,11 +26,10 @@ returns-clause-ok g c analyze docs stands =
     let found = subst (AllByRecursion (IsFound sets)) (sym c.deref.ensures.value) c.in_ok-best.ensures.found in
     let places = ap (map place_at) c.deref.ensures.value ∙ c.in_ok-best.ensures.best schema analyze docs stands c.in_ok-accept_query.ensures.passed in
     let scanned = best_scanned schema analyze docs c.args.segments.now sets stands c.requires.flagged sim q c.args.limit c.deref.result.now found places in
-    IfOk-weaker c.read_hits.result _ _ (λ hits told. told ∙ scanned) (c.read_hits.ensures.hits analyze docs stands)
+    c.in_ok-hits.ensures.hits analyze docs stands ∙ scanned
 
--- src/searching.rt:32:1
-pub returns-clause-refused : goal.returns-clause-refused
-returns-clause-refused g c analyze docs stands =
+pub returns-in_err-hits-clause-refused : goal.returns-in_err-hits-clause-refused
+returns-in_err-hits-clause-refused g c analyze docs stands =
     let schema = c.args.schema.now in
     let sets = c.args.alive.now in
     let sim = g.S.Statistics.similarity c.args.statistics.now in
@@ -39,8 +37,12 @@ returns-clause-refused g c analyze docs stands =
     let found = subst (AllByRecursion (IsFound sets)) (sym c.deref.ensures.value) c.in_ok-best.ensures.found in
     let places = ap (map place_at) c.deref.ensures.value ∙ c.in_ok-best.ensures.best schema analyze docs stands c.in_ok-accept_query.ensures.passed in
     let within = best_within schema analyze docs c.args.segments.now sets stands c.requires.flagged sim q c.args.limit c.deref.result.now found places in
-    IfErr-weaker c.read_hits.result _ _ (λ fault is other. absurd (other is)) (c.read_hits.ensures.fault analyze docs stands within)
+    let told = c.in_err-hits.ensures.fault analyze docs stands within in
+    let e = err_from_is_err_and c.from_residual-in_err-hits.result c.from_residual-in_err-hits.ensures.1 in
+    rw (e.1, e.2) (λ other. absurd (other told))
 
--- src/searching.rt:32:1
 pub returns-clause-flagged : goal.returns-clause-flagged
 returns-clause-flagged g c = flagged_kept c.args.segments.now c.read_hits.new.segments c.args.alive.now c.read_hits.ensures.kept.counts c.requires.flagged
+
+pub returns-in_err-hits-clause-flagged : goal.returns-in_err-hits-clause-flagged
+returns-in_err-hits-clause-flagged g c = flagged_kept c.args.segments.now c.read_hits.new.segments c.args.alive.now c.read_hits.ensures.kept.counts c.requires.flagged

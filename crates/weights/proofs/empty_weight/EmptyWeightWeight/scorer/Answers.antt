@@ -1,6 +1,0 @@
-use Rattle.definitions.specs.Scoring.{natural}
-use Rattle.reader_scorers.proofs.FormScores.{empty_scores}
-use Rattle.weights.proofs.empty_weight.EmptyWeightWeight.scorer.Goals as goal
-
-pub returns : goal.returns
-returns c sim by = empty_scores sim (natural c.args.boost) c.args._reader.now _ c.no_documents.ensures
