@@ -1,4 +1,4 @@
-//! Operations that ask the index: `search`, `count`, `settings` and `term`.
+//! Operations that ask the index: `search`, `search-counted`, `count`, `settings` and `term`.
 
 use crate::answers::json_in;
 use crate::cases::Cases;
@@ -17,6 +17,7 @@ impl Cases {
     ) -> Result<Option<String>, Fault> {
         let answer = match operation {
             "search" => self.search(arguments)?,
+            "search-counted" => self.search_counted(arguments)?,
             "count" => self.count(arguments)?,
             "settings" => self.settings(arguments)?,
             "term" => self.term(arguments)?,
@@ -31,15 +32,34 @@ impl Cases {
         read_query(self.alloc, self.standing()?.schema(), &json)
     }
 
-    /// The best hits of a query; the arguments are how many, and the query.
-    fn search(&mut self, arguments: &str) -> Result<String, Fault> {
+    /// How many hits are asked for, and the query.
+    fn limit_and_query(&self, arguments: &str) -> Result<(usize, AnyQuery), Fault> {
         let (k, query) = arguments.split_once(' ').ok_or(Fault::BadRequest)?;
         let Ok(k) = k.parse::<usize>() else {
             return Err(Fault::BadRequest);
         };
-        let query = self.query(query)?;
+        Ok((k, self.query(query)?))
+    }
+
+    /// The best hits of a query; the arguments are how many, and the query.
+    fn search(&mut self, arguments: &str) -> Result<String, Fault> {
+        let (k, query) = self.limit_and_query(arguments)?;
         let hits = self.standing_mut()?.search(&query, k)?;
         Ok(hits_text(self.alloc, &hits)?)
+    }
+
+    /// How many blocks were decoded for the best hits of a query, how many hits there are, and the score of the last.
+    fn search_counted(&mut self, arguments: &str) -> Result<String, Fault> {
+        let (k, query) = self.limit_and_query(arguments)?;
+        let (hits, blocks) = self.standing_mut()?.search_counted(&query, k)?;
+        let found = hits.len();
+        match hits.last() {
+            Some(last) => Ok(format!(in self.alloc;
+                "blocks {blocks} hits {found} last {}",
+                last.score
+            )?),
+            None => Ok(format!(in self.alloc; "blocks {blocks} hits 0")?),
+        }
     }
 
     /// How many documents match a query.
