@@ -11,6 +11,7 @@ impl Operations for Held {
         match operation {
             "index-each-cut" => damage::each_cut(alloc, self, arguments),
             "index-each-change" => damage::each_change(alloc, self, arguments),
+            "schema-read" => made(alloc, &mut self.schema, "read", arguments),
             "schema-built" => made(alloc, &mut self.schema, "built", arguments),
             "documents-none" => indexes::documents_none(alloc, self),
             "documents-added" => indexes::documents_added(alloc, self, arguments),
