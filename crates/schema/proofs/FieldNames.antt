@@ -1,10 +1,8 @@
 -- Names of fields, as fields are added.
 use Rattle.std.proofs.Common.{ℕ, zero, suc, ok_or, option_map, slice_get, ◌↔◌, zero-add, List, [], ◌∷◌, ◌++◌, ◌≡◌, ◌≢◌, ◌≤◌, ◌<◌, ◌+◌, Bool, true, false, cond, not, Option, Some, None, is_some, IsTrue, length, refl, sym, ap, ◌∙◌, subst, arith, String, nat_le, bytes_eq, add-zero, length-append, Result, Ok, Err, leb-false}
 use Rattle.std.specs.List.{AllByRecursion, position_from}
-use Rattle.std.specs.HashMap.{HashMap, get_by_text}
+use Rattle.std.specs.BTreeMap.{BTreeMap, get_by_text}
 use Rattle.std.specs.Map.{update}
-use Rattle.std.specs.declared.hash.FoldHasher.{FoldHasher}
-use Rattle.std.specs.declared.hash.BuildHasherDefault.{BuildHasherDefault}
 use Rattle.std.specs.declared.alloc.Global.{Global}
 use Rattle.std.proofs.lemmas.Slice.Eq.{bytes_eq-Decides}
 use Rattle.definitions.specs.declared.fault.Fault.TheVariants.{BadName, DuplicateName, TooManyFields}
@@ -88,7 +86,7 @@ may_be_added fields more e h = go (field_named fields e.name) (is_valid_field_na
     go None true false a b c k = record { fresh = a; valid = b; room = c }
 
 -- what is kept of names after a field is added
-pub numbers_with : (old new : HashMap (String Global) ℕ (BuildHasherDefault FoldHasher)) (fields : Schema) (e : Entry) → Numbers old fields → MayBeAdded fields e → IsTyped e → ((name : List ℕ) → get_by_text new name ≡ update bytes_eq (get_by_text old) e.name (Some (length fields)) name) → Numbers new (fields ++ (e ∷ []))
+pub numbers_with : (old new : BTreeMap (String Global) ℕ) (fields : Schema) (e : Entry) → Numbers old fields → MayBeAdded fields e → IsTyped e → ((name : List ℕ) → get_by_text new name ≡ update bytes_eq (get_by_text old) e.name (Some (length fields)) name) → Numbers new (fields ++ (e ∷ []))
 numbers_with old new fields e before may typed updated = record {
   by_name = λ name. updated name ∙ ap (cond (bytes_eq e.name name) (Some (length fields))) (before.by_name name) ∙ sym (field_named-push fields e name may.fresh);
   distinct = distinct-push fields e before.distinct (none_passes (λ f. bytes_eq f.name e.name) 0 fields may.fresh);

@@ -11,9 +11,7 @@ use Rattle.definitions.specs.Replies.{number_data}
 use Rattle.definitions.specs.Schema.{AreDistinct, Entry, IndexRecordOption, IsEntry, IsSchema, Kind, Schema, basic, bool_kind, bytes_kind, cleaned_as, date_kind, facet_kind, field_named, i64_kind, ip_addr_kind, is_valid_field_name, json_kind, max_fields, max_gap, text_kind, u64_kind, with_freqs, with_freqs_and_positions}
 use Rattle.definitions.specs.SchemaGrammar.{entry_data, entry_in, schema_data, schema_in, fault_read, then_with, with_entries_in, with_entry}
 use Rattle.serde_json.specs.View.{items_of}
-use Rattle.std.specs.HashMap.{HashMap}
-use Rattle.std.specs.declared.hash.FoldHasher.{FoldHasher}
-use Rattle.std.specs.declared.hash.BuildHasherDefault.{BuildHasherDefault}
+use Rattle.std.specs.BTreeMap.{BTreeMap}
 use Rattle.std.specs.declared.alloc.Global.{Global}
 use Rattle.options.specs.Options.{Indexing}
 use Rattle.schema.specs.Entries.{IsTyped, entry_of, json_entry, text_entry}
@@ -169,5 +167,5 @@ typed_back (e ∷ es) typed valid =
     let few : e.gap ≤ max_gap = subst (λ f. f.gap ≤ max_gap) is (typed_few e.name t) in
     (reads_back e valid.0 few clean, typed_back es typed.1 valid.1)
 
-pub numbered_back : (numbers : HashMap (String Global) ℕ (BuildHasherDefault FoldHasher)) (fields : Schema) → Numbers numbers fields → schema_in (schema_data fields) ≡ Ok fields
+pub numbered_back : (numbers : BTreeMap (String Global) ℕ) (fields : Schema) → Numbers numbers fields → schema_in (schema_data fields) ≡ Ok fields
 numbered_back numbers fields h = schema_back fields (typed_back fields h.typed h.valid) h.distinct h.few

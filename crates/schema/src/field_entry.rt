@@ -3,7 +3,7 @@
 ghost use Rattle.std.specs.Prelude.{[], if◌then◌else◌, option_map, string_bytes, ◌↔◌, ◌≡◌, ◌≤◌, IsTrue, None, Some};
 ghost use Rattle.definitions.specs.Schema.{bytes_kind, date_kind, gap_of, has_lengths, ip_addr_kind, is_indexed, is_text, json_kind, keeps_length, max_gap};
 ghost use Rattle.options.specs.RecordOption.{record_option_of};
-ghost use Rattle.schema.specs.Entries.{entry_of};
+ghost use Rattle.schema.specs.Entries.{entry_of, gap_in};
 ghost use Rattle.terms.specs.Kinds.{kind_of};
 
 use options::{
@@ -12,6 +12,9 @@ use options::{
 };
 use std::marker::Model;
 use terms::Type;
+
+/// The most positions that are left out between two values of a text field.
+pub(crate) const MAX_GAP: u32 = 1000;
 
 /// The type of a field, with its options.
 #[derive(Drop)]
@@ -151,7 +154,7 @@ pub struct FieldEntry {
 impl Model for FieldEntry {
     ghost use Rattle.std.specs.Prelude.{string_bytes};
     ghost use Rattle.definitions.specs.Schema.{Entry};
-    ghost use Rattle.schema.specs.Entries.{entry_of};
+    ghost use Rattle.schema.specs.Entries.{entry_of, gap_in};
 
     ghost Value = { Entry };
 
@@ -213,7 +216,7 @@ impl FieldEntry {
             _ => None,
         };
         match indexing {
-            Some(indexing) => indexing.gap().min(1000),
+            Some(indexing) => gap_within(indexing),
             None => 1,
         }
     }
@@ -273,4 +276,11 @@ impl FieldEntry {
             _ => false,
         }
     }
+}
+
+/// Returns how many positions an indexing leaves out between two values: at most `MAX_GAP`.
+pub(crate) fn gap_within(indexing: &TextFieldIndexing) -> u32
+    ensures { result ≡ gap_in indexing.now }
+{
+    indexing.gap().min(MAX_GAP)
 }

@@ -14,7 +14,7 @@ ghost use Rattle.serde_json.specs.View.{items_view, view};
 ghost use Rattle.schema.specs.Entries.{entry_of, facet_entry, indexed_by, json_entry, json_flags_in, numeric_options_in, text_entry, text_flags_in, text_indexed_by, value_options_in};
 ghost use Rattle.terms.specs.Kinds.{kind_of};
 
-use crate::field_entry::FieldType;
+use crate::field_entry::{FieldType, MAX_GAP};
 use crate::schema::Schema;
 use crate::{flag_or, has_only, object_at, text_at};
 use definitions::Fault;
@@ -266,14 +266,18 @@ fn read_text_indexing(alloc: Global, value: &Value) -> Result<TextFieldIndexing,
     Ok(indexing.set_gap(gap))
 }
 
-/// Reads the gap of an indexing: a whole number from 0 to 1000, or 1 where it is absent.
+/// Reads the gap of an indexing: a whole number from 0 to `MAX_GAP`, or 1 where it is absent.
 fn read_gap(value: &Value) -> Option<u32>
     ensures { result ≡ at_or 1 (number_below (max_gap + 1)) (codes "gap") (view value.now) }
 {
     match value.get("gap") {
         Some(gap) => {
             let gap = gap.as_u64()?;
-            if gap <= 1000 { Some(gap as u32) } else { None }
+            if gap <= u64::from(MAX_GAP) {
+                Some(gap as u32)
+            } else {
+                None
+            }
         }
         None => Some(1),
     }

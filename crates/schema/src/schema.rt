@@ -18,7 +18,7 @@ use options::{
     TextOptions,
 };
 use std::alloc::Global;
-use std::collections::HashMap;
+use std::collections::BTreeMap;
 use std::marker::Model;
 use terms::Field;
 
@@ -29,7 +29,7 @@ const MAX_FIELDS: usize = 4294967295;
 #[derive(Drop)]
 pub struct Schema {
     fields: Vec<FieldEntry>,
-    numbers: HashMap<String, Field>,
+    numbers: BTreeMap<String, Field>,
 }
 
 impl Model for Schema {
@@ -67,7 +67,7 @@ impl SchemaBuilder {
             alloc,
             schema: Schema {
                 fields: Vec::new(alloc),
-                numbers: HashMap::new(alloc),
+                numbers: BTreeMap::new(alloc),
             },
         }
     }

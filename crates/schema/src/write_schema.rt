@@ -8,7 +8,7 @@ ghost use Rattle.options.specs.RecordOption.{record_option_of};
 ghost use Rattle.serde_json.specs.View.{items_of, items_view, view};
 ghost use Rattle.schema.specs.Entries.{entry_of, facet_entry, gap_in, indexed_by, json_entry, numeric_entry, text_entry, value_entry};
 
-use crate::field_entry::{FieldEntry, FieldType};
+use crate::field_entry::{FieldEntry, FieldType, gap_within};
 use crate::schema::Schema;
 use options::{
     BytesOptions, DateOptions, FacetOptions, IndexRecordOption, IpAddrOptions, JsonObjectOptions,
@@ -105,7 +105,7 @@ fn text_indexing_value(alloc: Global, indexing: &TextFieldIndexing) -> Result<Va
         "record": record_option_name(indexing.index_option()),
         "fieldnorms": indexing.fieldnorms(),
         "tokenizer": indexing.tokenizer(),
-        "gap": indexing.gap().min(1000)
+        "gap": gap_within(indexing)
     })
 }
 

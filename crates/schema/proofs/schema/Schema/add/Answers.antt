@@ -1,8 +1,8 @@
 -- A field that is added keeps the names.
 use Rattle.std.proofs.Common.{ap, ap₂, rules, subst, sym, ◌∙◌, ◌≡◌, ◌++◌, ◌∷◌, [], List, string_bytes, Ok, Some, length, bytes_eq}
-use Rattle.std.specs.HashMap.{get_by_text}
+use Rattle.std.specs.BTreeMap.{get_by_text}
 use Rattle.std.specs.Map.{update}
-use Rattle.std.proofs.lemmas.Map.Text.{hash_map_updates_text}
+use Rattle.std.proofs.lemmas.Map.Text.{btree_map_updates_text}
 use Rattle.definitions.specs.Schema.{Entry, with_field}
 use Rattle.schema.specs.Entries.{IsTyped, entry_of}
 use Rattle.schema.specs.Names.{Numbers}
@@ -19,5 +19,5 @@ invariant_of-self-2 c =
     let added : with_field fields e ≡ Ok (fields ++ (e ∷ [])) = subst (λ (l : List Entry). with_field l e ≡ Ok (l ++ (e ∷ []))) (sym c.self.view_is) (c.in_ok-check.ensures e named) in
     let number : c.from_field_id-field.result ≡ length fields = search rules in
     let key : string_bytes c.in_ok-key.key ≡ e.name = c.in_ok-key.ensures.ok ∙ sym named in
-    let updated = hash_map_updates_text (string_bytes c.in_ok-key.key) c.self.inside.numbers c.insert.new.self _ c.in_ok-insert.ensures.updates in
+    let updated = btree_map_updates_text (string_bytes c.in_ok-key.key) c.self.inside.numbers c.insert.new.self _ c.in_ok-insert.ensures.updates in
     subst (λ l. Numbers c.insert.new.self l) (sym items) (numbers_with c.self.inside.numbers c.insert.new.self fields e c.self.invariant (may_be_added fields _ e added) typed (λ q. updated q ∙ ap₂ (λ bs n. update bytes_eq (get_by_text c.self.inside.numbers) bs (Some n) q) key number))
