@@ -46,32 +46,34 @@ to_come limit taken sink target s = counted limit taken sink (nat_lt (below targ
 
 -- ---- one block of a list of blocks
 
-at_least : (b : Bool) (n : ℕ) → n ≤ (if b then 1 else 0) + n
-at_least true n = omega arith
-at_least false n = omega arith
-
--- a block that changes nothing
-pub block_left_out : {S : Type 0} (limit : S → ℤ) (taken : S → ℕ × ℕ → S) (s : S) (held : Bool) (bound : ℕ) (ps : List (ℕ × ℕ)) (blocks : ScoredBlocks) → fed limit taken s ps ≡ s → blocks_above limit taken s blocks ≤ counted limit taken s held ((bound, ps) ∷ blocks)
-block_left_out limit taken s true bound ps blocks same = (let is = ap (λ u. blocks_above limit taken u blocks) same in omega (arith, is))
-block_left_out limit taken s false bound ps blocks same =
+-- a block that changes nothing and whose bound isn't above the threshold
+pub block_left_out : {S : Type 0} (limit : S → ℤ) (taken : S → ℕ × ℕ → S) (s : S) (held : Bool) (bound : ℕ) (ps : List (ℕ × ℕ)) (blocks : ScoredBlocks) → fed limit taken s ps ≡ s → int_lt (limit s) (pos bound) ≡ false → blocks_above limit taken s blocks ≡ counted limit taken s held ((bound, ps) ∷ blocks)
+block_left_out limit taken s true bound ps blocks same low = ap (λ u. blocks_above limit taken u blocks) (sym same)
+block_left_out limit taken s false bound ps blocks same low =
     let is = ap (λ u. blocks_above limit taken u blocks) same in
-    let more = at_least (nat_lt 0 (length ps) && int_lt (limit s) (pos bound)) (blocks_above limit taken (fed limit taken s ps) blocks) in
-    omega (arith, is, more)
+    let counts : Bool → ℕ = λ b. if nat_lt 0 (length ps) && b then 1 else 0 in
+    let none : counts (int_lt (limit s) (pos bound)) ≡ counts false = ap counts low in
+    let zero : counts false ≡ 0 = uncounted (nat_lt 0 (length ps)) in
+    omega (arith, is, none, zero)
+  where
+    uncounted : (b : Bool) → ◌≡◌ {A = ℕ} (if b && false then 1 else 0) 0
+    uncounted true = refl
+    uncounted false = refl
 
 -- a block that is fed, and was decoded unless it was held
-pub block_fed : {S : Type 0} (limit : S → ℤ) (taken : S → ℕ × ℕ → S) (s after : S) (held : Bool) (bound decoded : ℕ) (ps : List (ℕ × ℕ)) (blocks : ScoredBlocks) → after ≡ fed limit taken s ps → int_lt (limit s) (pos bound) ≡ true → decoded ≤ (if held then 0 else min 1 (length ps)) → decoded + blocks_above limit taken after blocks ≤ counted limit taken s held ((bound, ps) ∷ blocks)
-block_fed limit taken s after true bound decoded ps blocks is above few = (let same = ap (λ u. blocks_above limit taken u blocks) is in omega (arith, same, few))
-block_fed limit taken s after false bound decoded ps blocks is above few =
+pub block_fed : {S : Type 0} (limit : S → ℤ) (taken : S → ℕ × ℕ → S) (s after : S) (held : Bool) (bound decoded : ℕ) (ps : List (ℕ × ℕ)) (blocks : ScoredBlocks) → after ≡ fed limit taken s ps → int_lt (limit s) (pos bound) ≡ true → decoded ≡ (if held then 0 else min 1 (length ps)) → decoded + blocks_above limit taken after blocks ≡ counted limit taken s held ((bound, ps) ∷ blocks)
+block_fed limit taken s after true bound decoded ps blocks is above exact = (let same = ap (λ u. blocks_above limit taken u blocks) is in omega (arith, same, exact))
+block_fed limit taken s after false bound decoded ps blocks is above exact =
     let same = ap (λ u. blocks_above limit taken u blocks) is in
-    some ps same few
+    some ps same exact
   where
-    some : (ps : List (ℕ × ℕ)) → blocks_above limit taken after blocks ≡ blocks_above limit taken (fed limit taken s ps) blocks → decoded ≤ min 1 (length ps) → decoded + blocks_above limit taken after blocks ≤ (if nat_lt 0 (length ps) && int_lt (limit s) (pos bound) then 1 else 0) + blocks_above limit taken (fed limit taken s ps) blocks
-    some [] same few = omega (arith, same, few)
-    some (p ∷ ps) same few =
+    some : (ps : List (ℕ × ℕ)) → blocks_above limit taken after blocks ≡ blocks_above limit taken (fed limit taken s ps) blocks → decoded ≡ min 1 (length ps) → decoded + blocks_above limit taken after blocks ≡ (if nat_lt 0 (length ps) && int_lt (limit s) (pos bound) then 1 else 0) + blocks_above limit taken (fed limit taken s ps) blocks
+    some [] same exact = omega (arith, same, exact)
+    some (p ∷ ps) same exact =
         let many : nat_lt 0 (length (p ∷ ps)) ≡ true = grind (arith, nat_tests) in
         let counts : Bool → Bool → ℕ = λ a b. if a && b then 1 else 0 in
         let one : counts (nat_lt 0 (length (p ∷ ps))) (int_lt (limit s) (pos bound)) ≡ counts true true = ap₂ counts many above in
-        omega (arith, same, few, one)
+        omega (arith, same, exact, one)
 
 -- ---- blocks without entries
 
@@ -97,6 +99,10 @@ pub nothing_counted : {S : Type 0} (limit : S → ℤ) (taken : S → ℕ × ℕ
 nothing_counted limit taken s false sim place skips es none = none_above limit taken s sim place skips es none
 nothing_counted limit taken s true sim place [] es none = refl
 nothing_counted limit taken s true sim place (e ∷ skips) es none = none_above limit taken (fed limit taken s (pairs_of (take (block_len - place) es))) sim 0 skips (drop (block_len - place) es) (ap (drop (block_len - place)) none ∙ drop-none (block_len - place))
+
+-- behind the end nothing is decoded any more
+pub nothing_to_come : {S : Type 0} (limit : S → ℤ) (taken : S → ℕ × ℕ → S) (s : S) (target : ℕ) (scorer : TermScorer) → terminated ≤ target → to_come limit taken s target scorer ≡ 0
+nothing_to_come limit taken s target scorer late = nothing_counted limit taken s (nat_lt (below target (docs_held scorer)) block_len) (similarity_of scorer) (below target (docs_held scorer) % block_len) (drop (below target (docs_held scorer) / block_len) (skips_held scorer)) (from target (scored_left scorer)) (none_behind target 0 (scored_left scorer) late (rising_scored scorer))
 
 -- ---- documents that are left out
 
@@ -129,7 +135,7 @@ tail_of sim (e ∷ skips) es = blocks_of sim 0 skips es
 -- what is left from a document on begins with its block
 pub record IsSplit (target until : ℕ) (s : TermScorer) (found : List SkipEntry) : Type 0 where
   pub blocks : blocks_from target s ≡ (block_score (similarity_of s) found, pairs_of (up_to until (from target (scored_left s)))) ∷ tail_of (similarity_of s) found (from until (scored_left s))
-  pub some : block_len ≤ below target (docs_held s) → min 1 (length (drop (block_len * (below target (docs_held s) / block_len)) (docs_held s))) ≤ min 1 (length (pairs_of (up_to until (from target (scored_left s)))))
+  pub some : block_len ≤ below target (docs_held s) → min 1 (length (drop (block_len * (below target (docs_held s) / block_len)) (docs_held s))) ≡ min 1 (length (pairs_of (up_to until (from target (scored_left s)))))
 
 pub split_block : (target until : ℕ) (s : TermScorer) (found : List SkipEntry) → BeginsBlock target s → target ≤ until → until ≡ until_of found → found ≡ drop (below target (docs_held s) / block_len) (skips_held s) → (0 < length found → below (last_doc found + 1) (docs_held s) ≡ block_len * (below target (docs_held s) / block_len + 1)) → IsSplit target until s found
 split_block target until s found begins far end reached ends =
@@ -173,15 +179,14 @@ split_block target until s found begins far end reached ends =
         }
 
 -- the block is decoded if it isn't held and has documents
-pub few_decoded : (target until : ℕ) (s after : TermScorer) (found : List SkipEntry) → IsSplit target until s found → StandsInBlock target s after → (if nat_lt (below target (docs_held s)) block_len then 0 else min 1 (length (docs_held after))) ≤ (if nat_lt (below target (docs_held s)) block_len then 0 else min 1 (length (pairs_of (up_to until (from target (scored_left s))))))
-few_decoded target until s after found split block = go (nat_lt (below target (docs_held s)) block_len) refl
+pub block_decoded : (target until : ℕ) (s after : TermScorer) (found : List SkipEntry) → IsSplit target until s found → StandsInBlock target s after → (if nat_lt (below target (docs_held s)) block_len then 0 else min 1 (length (docs_held after))) ≡ (if nat_lt (below target (docs_held s)) block_len then 0 else min 1 (length (pairs_of (up_to until (from target (scored_left s))))))
+block_decoded target until s after found split block = go (nat_lt (below target (docs_held s)) block_len) refl
   where
-    go : (b : Bool) → nat_lt (below target (docs_held s)) block_len ≡ b → (if b then 0 else min 1 (length (docs_held after))) ≤ (if b then 0 else min 1 (length (pairs_of (up_to until (from target (scored_left s))))))
-    go true early = omega arith
+    go : (b : Bool) → nat_lt (below target (docs_held s)) block_len ≡ b → (if b then 0 else min 1 (length (docs_held after))) ≡ (if b then 0 else min 1 (length (pairs_of (up_to until (from target (scored_left s))))))
+    go true early = refl
     go false late =
         let some = split.some (grind (arith, nat_tests)) in
-        let len = ap length block.docs in
-        omega (arith, some, len)
+        ap (λ ds. min 1 (length ds)) block.docs ∙ some
 
 -- ---- the block after one
 
@@ -202,8 +207,7 @@ next_begins until found after next =
 -- what a walk may decode from that block on
 pub comes_next : {S : Type 0} (limit : S → ℤ) (taken : S → ℕ × ℕ → S) (sink : S) (until : ℕ) (found : List SkipEntry) (s after : TermScorer) → until ≡ until_of found → similarity_of after ≡ similarity_of s → from until (scored_left after) ≡ from until (scored_left s) → (0 < length found → IsNext until found after) → to_come limit taken sink until after ≡ blocks_above limit taken sink (tail_of (similarity_of s) found (from until (scored_left s)))
 comes_next limit taken sink until [] s after end sim left next =
-    let last : terminated ≤ until = omega (arith, end) in
-    nothing_counted limit taken sink (nat_lt (below until (docs_held after)) block_len) (similarity_of after) (below until (docs_held after) % block_len) (drop (below until (docs_held after) / block_len) (skips_held after)) (from until (scored_left after)) (none_behind until 0 (scored_left after) last (rising_scored after))
+    nothing_to_come limit taken sink until after (omega (arith, end))
 comes_next limit taken sink until (e ∷ skips) s after end sim left next =
     let is = next (omega arith) in
     let m = below until (docs_held after) in
@@ -258,9 +262,15 @@ starts s on =
     let inside = place_inside s in
     record { ahead = omega (arith, own); begins = λ late. absurd (omega (arith, own, inside, late)) }
 
-pub comes_first : {S : Type 0} (limit : S → ℤ) (taken : S → ℕ × ℕ → S) (sink : S) (target : ℕ) (s : TermScorer) → target ≡ first (scored_left s) → to_come limit taken sink target s ≤ later_blocks_above limit taken sink (blocks_left s)
-comes_first limit taken sink target s at = by_order terminated target (to_come limit taken sink target s ≤ later_blocks_above limit taken sink (blocks_left s))
-    (λ late. (let none = nothing_counted limit taken sink (nat_lt (below target (docs_held s)) block_len) (similarity_of s) (below target (docs_held s) % block_len) (drop (below target (docs_held s) / block_len) (skips_held s)) (from target (scored_left s)) (none_behind target 0 (scored_left s) late (rising_scored s)) in omega (arith, none)))
+pub comes_first : {S : Type 0} (limit : S → ℤ) (taken : S → ℕ × ℕ → S) (sink : S) (target : ℕ) (s : TermScorer) → target ≡ first (scored_left s) → to_come limit taken sink target s ≡ later_blocks_above limit taken sink (blocks_left s)
+comes_first limit taken sink target s at =
+    let whole = from-first target 0 (scored_left s) (omega (arith, at)) (rising_scored s) in
+    by_order terminated target (to_come limit taken sink target s ≡ later_blocks_above limit taken sink (blocks_left s))
+    (λ late.
+    (let behind = none_behind target 0 (scored_left s) late (rising_scored s) in
+    let none = nothing_to_come limit taken sink target s late in
+    let empty = nothing_counted limit taken sink true (similarity_of s) (cursor_place (cursor_of s)) (skips_held s) (scored_left s) (sym whole ∙ behind) in
+    none ∙ sym empty))
     (λ on.
     (let own = first_place s (omega (arith, at, on)) in
     let same = ap (λ t. below t (docs_held s)) at in
@@ -269,8 +279,6 @@ comes_first limit taken sink target s at = by_order terminated target (to_come l
     let place : p % block_len ≡ cursor_place (cursor_of s) = omega (arith, own, same, inside) in
     let none : p / block_len ≡ 0 = omega (arith, own, same, inside) in
     let held : nat_lt p block_len ≡ true = (let early : p < block_len = omega (arith, own, same, inside) in grind (arith, nat_tests)) in
-    let whole = from-first target 0 (scored_left s) (omega (arith, at)) (rising_scored s) in
-    let is : to_come limit taken sink target s ≡ later_blocks_above limit taken sink (blocks_left s) = ap (λ b. counted limit taken sink b (blocks_from target s)) held
+    ap (λ b. counted limit taken sink b (blocks_from target s)) held
     ∙ (ap₂ (λ k m. later_blocks_above limit taken sink (blocks_of (similarity_of s) k (drop m (skips_held s)) (from target (scored_left s)))) place none
-    ∙ ap (λ es. later_blocks_above limit taken sink (blocks_of (similarity_of s) (cursor_place (cursor_of s)) (skips_held s) es)) whole) in
-    omega (arith, is)))
+    ∙ ap (λ es. later_blocks_above limit taken sink (blocks_of (similarity_of s) (cursor_place (cursor_of s)) (skips_held s) es)) whole)))

@@ -28,7 +28,7 @@ pub fn block_wand_single_scorer<K: Sink>(
     requires threshold { threshold ≡ K.limit (K.state sink.old) }
     requires room { length (scored_left scorer.old) ≤ K.room sink.old }
     ensures state { K.state sink.new ≡ fed K.limit K.taken (K.state sink.old) (pairs_of (scored_left scorer.old)) }
-    ensures counted { blocks_decoded_by scorer.new ≤ blocks_decoded_by scorer.old
+    ensures counted { blocks_decoded_by scorer.new ≡ blocks_decoded_by scorer.old
         + later_blocks_above K.limit K.taken (K.state sink.old) (blocks_left scorer.old) }
 {
     let mut threshold = threshold;

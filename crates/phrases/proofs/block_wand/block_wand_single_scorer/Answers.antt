@@ -1,4 +1,4 @@
-use Rattle.std.proofs.Common.{[], List, ap, ap₂, arith, if◌then◌else◌, length, min, nat_lt, pos, refl, rules, subst, sym, to_z-of_z, true, w64, ◌+◌, ◌/◌, ◌<◌, ◌∙◌, ◌∷◌, ◌≡◌, ◌≤◌, ◌≤ℤ◌, ℕ, ℤ}
+use Rattle.std.proofs.Common.{[], List, ap, ap₂, arith, false, if◌then◌else◌, length, min, nat_lt, pos, refl, rules, subst, sym, to_z-of_z, true, w64, ◌+◌, ◌/◌, ◌<◌, ◌∙◌, ◌∷◌, ◌≡◌, ◌≤◌, ◌≤ℤ◌, ℕ, ℤ}
 use Rattle.std.specs.Prelude.{int_lt}
 use mir.Val.{SFits}
 use Rattle.std.proofs.lemmas.Int.{ints}
@@ -9,7 +9,7 @@ use Rattle.docsets.proofs.EntryLaws.{first_at_most, from-first, from-from}
 use Rattle.docsets.specs.Entries.{Entry, first, from}
 use Rattle.docsets.specs.EntryLaws.{Rising-from}
 use Rattle.docsets.specs.ScoredEntries.{pairs_of}
-use Rattle.phrases.proofs.BlockWalks.{block_fed, block_left_out, comes_first, comes_next, counted, few_decoded, low_fed, next_begins, next_of_block, next_of_stayed, not_less, some_found, split_block, starts, tail_of}
+use Rattle.phrases.proofs.BlockWalks.{block_decoded, block_fed, block_left_out, comes_first, comes_next, counted, low_fed, next_begins, next_of_block, next_of_stayed, not_less, nothing_to_come, some_found, split_block, starts, tail_of}
 use Rattle.phrases.proofs.EntryCuts.{fed_cut, length-from, none_behind}
 use Rattle.phrases.proofs.ScorerBlocks.{IsSameBlock, stands_from}
 use Rattle.phrases.specs.BlocksLeft.{docs_held, skips_found, up_to}
@@ -69,7 +69,7 @@ loop-target-preserved-then-block_max_score-threshold g c =
     let above : int_lt (limit s) (pos (block_score (similarity_of here) found)) ≡ true = ap₂ int_lt (sym c.loop-target.invariant.limit) (sym bound) ∙ c.if-block_max_score-threshold.true in
     let behind = next_of_block target until found here after end reached ends block in
     let come = comes_next limit taken next until found here after end block.similarity left behind in
-    let few = block_fed limit taken s next (nat_lt (below target (docs_held here)) block_len) (block_score (similarity_of here) found) _ (pairs_of (up_to until (from target es))) (tail_of (similarity_of here) found (from until es)) given above (few_decoded target until here after found split block) in
+    let exact = block_fed limit taken s next (nat_lt (below target (docs_held here)) block_len) (block_score (similarity_of here) found) _ (pairs_of (up_to until (from target es))) (tail_of (similarity_of here) found (from until es)) given above (block_decoded target until here after found split block) in
     let was = ap (counted limit taken s (nat_lt (below target (docs_held here)) block_len)) split.blocks in
     let decoded = block.decoded in
     let so_far = c.loop-target.invariant.counted in
@@ -83,7 +83,7 @@ loop-target-preserved-then-block_max_score-threshold g c =
           ∙ (ap (λ (xs : List Entry). fed limit taken (fed limit taken s (pairs_of (up_to until (from target es)))) (pairs_of xs)) (sym (from-from target until es far))
           ∙ (fed_cut limit taken s until 0 (from target es) (Rising-from target 0 es (rising_scored here))
           ∙ c.loop-target.invariant.fed)));
-      counted = omega (arith, come, few, was, decoded, so_far);
+      counted = omega (arith, come, exact, was, decoded, so_far);
     }
 
 pub loop-target-preserved : goal.loop-target-preserved
@@ -109,11 +109,12 @@ loop-target-preserved g c =
     let stayed = c.seek_block.ensures.stayed in
     let fits : SFits w64 c.block_max_score.result = search rules in
     let low : pos bound ≤ℤ limit s = subst (λ u. pos bound ≤ℤ u) c.loop-target.invariant.limit (not_less _ _ (pos bound) c.if-block_max_score-threshold.false (to_z-of_z fits ∙ c.block_max_score.ensures)) in
+    let under : int_lt (limit s) (pos (block_score (similarity_of here) found)) ≡ false = ap₂ int_lt (sym c.loop-target.invariant.limit) (sym (to_z-of_z fits ∙ (c.block_max_score.ensures ∙ ap (λ sim. pos (block_score sim found)) c.seek_block.ensures.similarity))) ∙ c.if-block_max_score-threshold.false in
     let same : fed limit taken s (pairs_of (up_to until (from target es))) ≡ s = low_fed limit taken s bound target until es low (subst (λ u. Covers target u bound es) (sym end) (c.seek_block.ensures.covers more)) in
     let left : from until (scored_left looked) ≡ from until es = ap (from until) c.seek_block.ensures.same in
     let behind = next_of_stayed target until found here looked end reached ends stayed.docs stayed.entries in
     let come = comes_next limit taken s until found here looked end c.seek_block.ensures.similarity left behind in
-    let out = block_left_out limit taken s (nat_lt (below target (docs_held here)) block_len) (block_score (similarity_of here) found) (pairs_of (up_to until (from target es))) (tail_of (similarity_of here) found (from until es)) same in
+    let out = block_left_out limit taken s (nat_lt (below target (docs_held here)) block_len) (block_score (similarity_of here) found) (pairs_of (up_to until (from target es))) (tail_of (similarity_of here) found (from until es)) same under in
     let was = ap (counted limit taken s (nat_lt (below target (docs_held here)) block_len)) split.blocks in
     let decoded = stayed.decoded in
     let so_far = c.loop-target.invariant.counted in
@@ -140,3 +141,9 @@ returns-clause-state g c =
     let late = c.loop-target-test.false in
     let none = none_behind c.loop-target.target 0 es (omega (arith, late)) (rising_scored c.loop-target.scorer) in
     sym (ap (λ (xs : List Entry). fed g.K.Sink.limit g.K.Sink.taken (g.K.Sink.state c.loop-target.sink) (pairs_of xs)) none) ∙ c.loop-target.invariant.fed
+
+pub returns-clause-counted : goal.returns-clause-counted
+returns-clause-counted g c =
+    let none = nothing_to_come g.K.Sink.limit g.K.Sink.taken (g.K.Sink.state c.loop-target.sink) c.loop-target.target c.loop-target.scorer (omega (arith, c.loop-target-test.false)) in
+    let so_far = c.loop-target.invariant.counted in
+    omega (arith, none, so_far)

@@ -9,8 +9,8 @@ use Rattle.phrases.specs.BlocksLeft.{blocks_decoded_by, blocks_left}
 use Rattle.term_scorer.specs.ScoredTerms.{scored_left}
 use Rattle.phrases.proofs.block_wand.block_wand_single_scorer.Given as goal
 
--- what the sink has come to and what is left to feed make what all make, and what was decoded and may yet be decoded is
--- no more than at the start
+-- what the sink has come to and what is left to feed make what all make, and what was decoded and will yet be decoded is
+-- what was to be at the start
 abbrev pub invariant-loop-target : goal.invariant-loop-target
 invariant-loop-target g l = record {
   limit : l.threshold ≡ g.K.Sink.limit (g.K.Sink.state l.sink);
@@ -18,7 +18,7 @@ invariant-loop-target g l = record {
   small : l.target ≤ terminated;
   begins : l.target < terminated → BeginsBlock l.target l.scorer;
   fed : fed g.K.Sink.limit g.K.Sink.taken (g.K.Sink.state l.sink) (pairs_of (from l.target (scored_left l.scorer))) ≡ fed g.K.Sink.limit g.K.Sink.taken (g.K.Sink.state l.fn.sink) (pairs_of (scored_left l.fn.scorer));
-  counted : blocks_decoded_by l.scorer + to_come g.K.Sink.limit g.K.Sink.taken (g.K.Sink.state l.sink) l.target l.scorer ≤ blocks_decoded_by l.fn.scorer + later_blocks_above g.K.Sink.limit g.K.Sink.taken (g.K.Sink.state l.fn.sink) (blocks_left l.fn.scorer);
+  counted : blocks_decoded_by l.scorer + to_come g.K.Sink.limit g.K.Sink.taken (g.K.Sink.state l.sink) l.target l.scorer ≡ blocks_decoded_by l.fn.scorer + later_blocks_above g.K.Sink.limit g.K.Sink.taken (g.K.Sink.state l.fn.sink) (blocks_left l.fn.scorer);
 }
 
 abbrev pub decreases-loop-target : goal.decreases-loop-target
