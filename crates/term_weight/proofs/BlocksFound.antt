@@ -28,6 +28,7 @@ use Rattle.term_scorer.specs.ScoredTerms.{cursor_of, scored_left, similarity_of}
 use Rattle.term_scorer.specs.TermScores.{TermSimilarity}
 use Rattle.term_scorer.specs.declared.term_scorer.TermScorer.{TermScorer}
 use Rattle.term_weight.proofs.TermAnswers.{by_term}
+use Rattle.term_weight.specs.DecodedBlocks.{decoded_for}
 
 -- ---- pieces
 
@@ -122,6 +123,13 @@ blocks_alike limit taken sim (suc k) xs es skips same many bounds =
         let rest : map bound_in l ≡ map bound_of (take k (pieces 128 (drop 128 xs))) = cc in
         let bound = ap (λ o. bound_score sim.boost sim.weight sim.norms o) here in
         then_alike limit taken _ _ _ _ (ap (λ (n : ℕ). (n, pairs_of (take 128 es)) ∷ blocks_of sim 0 l (drop 128 es)) bound) (one_more limit taken (score_of sim (take 128 xs), pairs_of (take 128 es)) _ _ (ih l rest)) (sym whole)
+
+-- ---- the first block
+
+-- where there is a document, the first block counts
+pub first_counted : {S : Type 0} (limit : S → ℤ) (taken : S → ℕ × ℕ → S) (s : S) (es : List Entry) (ps : List (ℕ × ℕ)) (blocks : ScoredBlocks) → pairs_of es ≡ ps → 0 < length es → decoded_for limit taken s ps blocks ≡ 1 + later_blocks_above limit taken s blocks
+first_counted limit taken s [] ps blocks same some = absurd (omega (arith, some))
+first_counted limit taken s (e ∷ es) ps blocks same some = ap (λ (xs : List (ℕ × ℕ)). decoded_for limit taken s xs blocks) (sym same)
 
 -- ---- documents
 

@@ -46,11 +46,6 @@ pub length-scored : (sim : TermSimilarity) (ids : List ℕ) (es : List Entry) �
 length-scored sim ids [] = refl
 length-scored sim ids (e ∷ es) = ap suc (length-scored sim ids es)
 
--- where nothing is answered, no entry is left
-pub none_left : (es : List Entry) (ps : List (ℕ × ℕ)) → pairs_of es ≡ ps → ps ≡ [] → length es ≡ 0
-none_left [] ps are none = refl
-none_left (e ∷ es) ps are none = absurd (let no : ⊥ = cc in no)
-
 -- ---- what is weighed
 
 abbrev weighing : ℕ → ℕ → List ℕ → TermSimilarity

@@ -1,2 +1,3 @@
 -- Words of the contracts.
+pub mod DecodedBlocks
 pub mod TermWeights

@@ -1,13 +1,13 @@
 //! The weight of a term.
 
-ghost use Rattle.std.specs.Prelude.{[], ◌*◌, ◌+◌, ◌<◌, ◌≡◌, ◌≤ℤ◌, ◌≤◌, IfNone, IfOk, IfSome, List, OnErr, OnOk, Some, length, map, pos};
+ghost use Rattle.std.specs.Prelude.{[], ◌*◌, ◌<◌, ◌≡◌, ◌≤ℤ◌, ◌≤◌, IfNone, IfOk, IfSome, List, OnErr, OnOk, Some, length, map, pos};
 ghost use Rattle.definitions.specs.Analyzers.{Analyzer};
 ghost use Rattle.definitions.specs.Answers.{answers};
 ghost use Rattle.definitions.specs.Query.{term};
 ghost use Rattle.definitions.specs.Schema.{Schema};
 ghost use Rattle.definitions.specs.Scoring.{DontFall, max_score, natural};
 ghost use Rattle.definitions.specs.Scoring as scoring;
-ghost use Rattle.definitions.specs.Sinks.{fed, later_blocks_above};
+ghost use Rattle.definitions.specs.Sinks.{fed};
 ghost use Rattle.definitions.specs.TermBlocks.{scored_blocks};
 ghost use Rattle.definitions.specs.Values.{Document};
 ghost use Rattle.docsets.specs.Entries.{from};
@@ -43,6 +43,7 @@ pub struct TermWeight<'q, 'a> {
 }
 
 impl<'q, 'a> TermWeight<'q, 'a> {
+    ghost use Rattle.term_weight.specs.DecodedBlocks.{decoded_for};
     ghost use Rattle.term_weight.specs.TermWeights.{ScoresBy, option_asked, term_of, weight_in};
 
     /// Returns the weight of `term`: what is read of its postings, `weight`, which is at most `MAX_SCORE`, and 256
@@ -136,13 +137,9 @@ impl<'q, 'a> TermWeight<'q, 'a> {
         ensures counted { (schema : Schema) (analyze : Analyzer) (sim : scoring.Similarity) (docs : List Document)
             → StandsFor schema analyze docs reader.now
             → ScoresBy sim self.now
-            → IfOk result (λ n. n ≤ 1 + later_blocks_above K.limit K.taken (K.state sink.old)
+            → IfOk result (λ n. n ≡ decoded_for K.limit K.taken (K.state sink.old)
+            (answers schema analyze sim 1 (term (term_of self.now) (option_asked self.now)) docs)
             (scored_blocks schema analyze sim 1 (term_of self.now) (option_asked self.now) docs)) }
-        ensures absent { (schema : Schema) (analyze : Analyzer) (sim : scoring.Similarity) (docs : List Document)
-            → StandsFor schema analyze docs reader.now
-            → ScoresBy sim self.now
-            → answers schema analyze sim 1 (term (term_of self.now) (option_asked self.now)) docs ≡ []
-            → IfOk result (λ n. n ≡ 0) }
         ensures same { OnErr result (sink.new ≡ sink.old) }
     {
         match self.term_scorer(reader, 1) {
