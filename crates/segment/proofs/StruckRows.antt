@@ -1,29 +1,21 @@
--- Where the documents of a term's postings die, the rows are those of the deletion.
-use Rattle.std.proofs.Common.{[], ◌&&◌, ◌++◌, ◌+◌, ◌∷◌, ◌≡◌, ◌∙◌, Bool, List, None, Some, append_assoc, ap, arith, false, filter_map, if◌then◌else◌, length, length-append, map, not, refl, slice_set, sym, true, ℕ}
+-- Where the documents of a term's postings before an end die, the rows are those of a deletion.
+use Rattle.std.proofs.Common.{[], ◌&&◌, ◌++◌, ◌+◌, ◌-◌, ◌<◌, ◌∷◌, ◌≡◌, ◌≤◌, ◌∙◌, Bool, List, None, Some, append_assoc, ap, arith, false, filter_map, if◌then◌else◌, length, length-append, map, nat_lt, not, refl, slice_set, suc, sym, true, zero, ℕ}
+use Rattle.std.proofs.lemmas.Bool.Decides.{nat_tests}
 use Rattle.std.specs.List.{cons_option, enumerate_from}
 use Rattle.definitions.specs.Analyzers.{Analyzer}
 use Rattle.definitions.specs.Postings.{Posting, posting_of, postings}
 use Rattle.definitions.specs.Recorded.{count_of, holds, positions_of}
 use Rattle.definitions.specs.Schema.{Schema}
 use Rattle.definitions.specs.Values.{Document}
-use Rattle.segment_definitions.specs.Rows.{flagged, struck}
-use Rattle.segment.specs.Killed.{killed}
+use Rattle.segment_definitions.proofs.Deletings.{cut_rows}
+use Rattle.segment_definitions.specs.Rows.{cut_flags, flagged}
+use Rattle.segment_definitions.specs.Waiting.{struck_from}
+use Rattle.segment.specs.Killed.{before, killed}
 
 -- a flag behind others
 set_behind : (before flags : List Bool) (flag new : Bool) → slice_set (before ++ flag ∷ flags) (length before) new ≡ before ++ new ∷ flags
 set_behind [] flags flag new = refl
 set_behind (b ∷ before) flags flag new = ap (λ more. b ∷ more) (set_behind before flags flag new)
-
--- flags of documents after those that pass a test died
-abbrev spared : (Document → Bool) → List Document → List Bool → List Bool
-spared test [] flags = flags
-spared test (doc ∷ docs) [] = []
-spared test (doc ∷ docs) (flag ∷ flags) = (flag && not (test doc)) ∷ spared test docs flags
-
-spared_rows : (test : Document → Bool) (docs : List Document) (flags : List Bool) → flagged docs (spared test docs flags) ≡ map (struck test) (flagged docs flags)
-spared_rows test [] flags = refl
-spared_rows test (doc ∷ docs) [] = refl
-spared_rows test (doc ∷ docs) (flag ∷ flags) = ap (λ more. (doc, flag && not (test doc)) ∷ more) (spared_rows test docs flags)
 
 alive_still : (b : Bool) → (b && true) ≡ b
 alive_still true = refl
@@ -33,32 +25,72 @@ dead_now : (b : Bool) → (b && false) ≡ false
 dead_now true = refl
 dead_now false = refl
 
-module _ (schema : Schema) (analyze : Analyzer) (t : List ℕ) where
+-- ---- flags that are cut
+
+cut_nothing : (k : ℕ) (flags : List Bool) → cut_flags k [] flags ≡ flags
+cut_nothing zero flags = refl
+cut_nothing (suc k) flags = refl
+
+cut_step : (end n : ℕ) (l flag : Bool) (left flags : List Bool) → n < end → cut_flags (end - n) (l ∷ left) (flag ∷ flags) ≡ (flag && l) ∷ cut_flags (end - (n + 1)) left flags
+cut_step end n l flag left flags early = (let more : end - n ≡ suc (end - (n + 1)) = omega (arith, early) in ap (λ k. cut_flags k (l ∷ left) (flag ∷ flags)) more)
+
+cut_stop : (end n : ℕ) (left flags : List Bool) → end ≤ n → cut_flags (end - n) left flags ≡ flags
+cut_stop end n left flags late = (let none : end - n ≡ 0 = omega (arith, late) in ap (λ k. cut_flags k left flags) none)
+
+module _ (schema : Schema) (analyze : Analyzer) (t : List ℕ) (end : ℕ) where
   -- the documents of the postings, numbered from one on
   abbrev listed : ℕ → List Document → List ℕ
   listed n docs = map (λ (x : Posting). x.doc) (filter_map (posting_of schema analyze t) (enumerate_from n docs))
 
-  killed_from : (docs : List Document) (before flags : List Bool) (n : ℕ) → n ≡ length before → length flags ≡ length docs → killed (listed n docs) (before ++ flags) ≡ before ++ spared (holds schema analyze t) docs flags
-  killed_from [] before flags n at long = refl
-  killed_from (doc ∷ docs) before [] n at long = absurd (omega (arith, long))
-  killed_from (doc ∷ docs) before (flag ∷ flags) n at long = go (λ b. step b (killed_from docs (before ++ b ∷ []) flags (n + 1) (let last = length-append before (b ∷ []) in omega (arith, at, last)) (omega (arith, long)))) (holds schema analyze t doc)
+  -- which documents don't hold the term
+  abbrev spared : List Document → List Bool
+  spared docs = map (λ doc. not (holds schema analyze t doc)) docs
+
+  killed_from : (docs : List Document) (ahead flags : List Bool) (n : ℕ) → n ≡ length ahead → length flags ≡ length docs → killed (before end (listed n docs)) (ahead ++ flags) ≡ ahead ++ cut_flags (end - n) (spared docs) flags
+  killed_from [] ahead flags n at long = ap (λ fs. ahead ++ fs) (sym (cut_nothing (end - n) flags))
+  killed_from (doc ∷ docs) ahead [] n at long = absurd (omega (arith, long))
+  killed_from (doc ∷ docs) ahead (flag ∷ flags) n at long = go (λ b. step b (killed_from docs (ahead ++ b ∷ []) flags (n + 1) (let last = length-append ahead (b ∷ []) in omega (arith, at, last)) (omega (arith, long)))) (holds schema analyze t doc) (nat_lt n end) refl
     where
       left : List Bool
-      left = spared (holds schema analyze t) docs flags
+      left = cut_flags (end - (n + 1)) (spared docs) flags
 
-      step : (b : Bool) → killed (listed (n + 1) docs) ((before ++ b ∷ []) ++ flags) ≡ (before ++ b ∷ []) ++ left → killed (listed (n + 1) docs) (before ++ b ∷ flags) ≡ before ++ b ∷ left
+      more : List ℕ
+      more = before end (listed (n + 1) docs)
+
+      step : (b : Bool) → killed more ((ahead ++ b ∷ []) ++ flags) ≡ (ahead ++ b ∷ []) ++ left → killed more (ahead ++ b ∷ flags) ≡ ahead ++ b ∷ left
       step b further =
-          ap (λ (l : List Bool). killed (listed (n + 1) docs) l) (sym (append_assoc before (b ∷ []) flags))
+          ap (λ (l : List Bool). killed more l) (sym (append_assoc ahead (b ∷ []) flags))
           ∙ further
-          ∙ append_assoc before (b ∷ []) left
+          ∙ append_assoc ahead (b ∷ []) left
 
-      go : ((b : Bool) → killed (listed (n + 1) docs) (before ++ b ∷ flags) ≡ before ++ b ∷ left)
-          → (h : Bool) → killed (map (λ (x : Posting). x.doc) (cons_option (if h then Some (record { doc = n; count = count_of schema analyze t doc; positions = positions_of schema analyze t doc }) else None) (filter_map (posting_of schema analyze t) (enumerate_from (n + 1) docs)))) (before ++ flag ∷ flags) ≡ before ++ (flag && not h) ∷ left
-      go next true =
-          ap (λ (l : List Bool). killed (listed (n + 1) docs) l) (ap (λ i. slice_set (before ++ flag ∷ flags) i false) at ∙ set_behind before flags flag false)
+      passed : (h : Bool) → nat_lt n end ≡ false → ahead ++ flag ∷ left ≡ ahead ++ cut_flags (end - n) (not h ∷ spared docs) (flag ∷ flags)
+      passed h late =
+          let over : end ≤ n = grind (arith, nat_tests) in
+          ap (λ fs. ahead ++ flag ∷ fs) (cut_stop end (n + 1) (spared docs) flags (omega (arith, over)))
+          ∙ ap (λ fs. ahead ++ fs) (sym (cut_stop end n (not h ∷ spared docs) (flag ∷ flags) over))
+
+      go : ((b : Bool) → killed more (ahead ++ b ∷ flags) ≡ ahead ++ b ∷ left)
+          → (h b : Bool) → nat_lt n end ≡ b → killed (before end (map (λ (x : Posting). x.doc) (cons_option (if h then Some (record { doc = n; count = count_of schema analyze t doc; positions = positions_of schema analyze t doc }) else None) (filter_map (posting_of schema analyze t) (enumerate_from (n + 1) docs))))) (ahead ++ flag ∷ flags) ≡ ahead ++ cut_flags (end - n) (not h ∷ spared docs) (flag ∷ flags)
+      go next true true early =
+          ap (λ (b : Bool). killed (if b then n ∷ more else more) (ahead ++ flag ∷ flags)) early
+          ∙ ap (λ (l : List Bool). killed more l) (ap (λ i. slice_set (ahead ++ flag ∷ flags) i false) at ∙ set_behind ahead flags flag false)
           ∙ next false
-          ∙ ap (λ b. before ++ b ∷ left) (sym (dead_now flag))
-      go next false = next flag ∙ ap (λ b. before ++ b ∷ left) (sym (alive_still flag))
+          ∙ ap (λ b. ahead ++ b ∷ left) (sym (dead_now flag))
+          ∙ ap (λ fs. ahead ++ fs) (sym (cut_step end n false flag (spared docs) flags (grind (arith, nat_tests))))
+      go next false true early =
+          next flag
+          ∙ ap (λ b. ahead ++ b ∷ left) (sym (alive_still flag))
+          ∙ ap (λ fs. ahead ++ fs) (sym (cut_step end n true flag (spared docs) flags (grind (arith, nat_tests))))
+      go next true false late =
+          ap (λ (b : Bool). killed (if b then n ∷ more else more) (ahead ++ flag ∷ flags)) late
+          ∙ next flag
+          ∙ passed true late
+      go next false false late = next flag ∙ passed false late
 
-  pub killed_rows : (docs : List Document) (flags : List Bool) → length flags ≡ length docs → flagged docs (killed (map (λ (x : Posting). x.doc) (postings schema analyze t docs)) flags) ≡ map (struck (holds schema analyze t)) (flagged docs flags)
-  killed_rows docs flags long = ap (flagged docs) (killed_from docs [] flags 0 refl long) ∙ spared_rows (holds schema analyze t) docs flags
+  -- where the documents of a term's postings before an end die, the rows are those that a deletion leaves which was made
+  -- before the document at the end
+  pub killed_rows : (i : ℕ) (docs : List Document) (flags : List Bool) → length flags ≡ length docs → flagged docs (killed (before end (map (λ (x : Posting). x.doc) (postings schema analyze t docs))) flags) ≡ struck_from (holds schema analyze) ((t, i + end) ∷ []) i (flagged docs flags)
+  killed_rows i docs flags long =
+      let all : end - 0 ≡ end = omega arith in
+      ap (flagged docs) (killed_from docs [] flags 0 refl long ∙ ap (λ k. cut_flags k (spared docs) flags) all)
+      ∙ cut_rows (holds schema analyze) t end i docs flags

@@ -19,7 +19,7 @@ mod segment;
 mod segment_writer;
 
 pub use best_k::BestK;
-pub use deletions::delete_in;
+pub use deletions::{delete_before, delete_in};
 pub use documents::is_taken;
 pub use merger::{merge_behind, merge_segments};
 pub use section_list::Sections;
