@@ -1,0 +1,166 @@
+-- What each call of an index does, from what its own clauses say.
+use Rattle.std.proofs.Common.{Err, IfErr, IfOk, IsTrue, List, None, Ok, OnOk, Option, Result, Some, ap, false, inl, inr, length, map, refl, subst, sym, true, true≢false, ◌∙◌, ◌≡◌, ◌≢◌, ◌⊎◌, ⊎_elim, ℕ, ℤ}
+use Rattle.std.specs.Bool.{⊤}
+use Rattle.std.specs.Option.{option_or}
+use Rattle.common.specs.declared.analyzer.Analyzer as analyzers
+use Rattle.common.specs.declared.device.Device as devices
+use Rattle.definitions.proofs.OwnFaults.{is_failure, refused_by_no_failure}
+use Rattle.definitions.specs.Analyzers.{Analyzer}
+use Rattle.definitions.specs.Calls as calls
+use Rattle.definitions.specs.Disk.{IsImage, settled}
+use Rattle.definitions.specs.Moments.{LeavesOnly}
+use Rattle.definitions.specs.Query.{Query}
+use Rattle.definitions.specs.Scanning.{scan, scan_count}
+use Rattle.definitions.specs.State.{State, committed}
+use Rattle.definitions.specs.Stored.{Named}
+use Rattle.definitions.specs.Values.{Document}
+use Rattle.definitions.specs.declared.fault.Fault.{Fault}
+use Rattle.definitions.specs.declared.fault.Fault.TheVariants as faults
+use Rattle.index_state.specs.Hits.{scored}
+use Rattle.index_file.proofs.CallByCall.{resting}
+use Rattle.index_file.proofs.Faults.{memory_or_other}
+use Rattle.layouts.specs.RecordFiles.{IsAtRest, IsOneOf}
+use Rattle.engine.proofs.Commits.{stands_groups}
+use Rattle.engine.proofs.FileSayings.{leave_same, rests_say}
+use Rattle.histories.specs.Calls.{Answer, IsCalled, answer_to, done, ending, groups_after, hits, number, outcome_of, unless_refused}
+use Rattle.engine.specs.Indexes.{CrashLeavesEither, IndexRests, IndexStands, KeepsFile, KeepsMaking, analyzer_of, device_of, gate_of, members_of, schema_of, settings_of}
+use Rattle.engine.specs.Writes.{Writes}
+use Rattle.engine.specs.declared.index.Index.{Index}
+
+-- ---- what a call leaves
+
+-- a call that isn't refused isn't refused by the status
+not_by_status : (o p : Option Fault) → option_or o p ≡ None → o ≡ None
+not_by_status None p is = refl
+not_by_status (Some fault) p is = is
+
+-- want of memory in a call that changes nothing by halves, or its own refusal
+pub error_leaves : (c : calls.Configuration) (x : calls.Index) (call : calls.Call) (fault : Fault) → calls.is_commit call ≡ false → (fault ≢ faults.OutOfMemory → calls.call_fault c x call ≡ Some fault) → (fault ≡ faults.OutOfMemory → calls.call_fault c x call ≡ None)
+    → calls.Leaves c x call (Err fault) x
+error_leaves c x call fault no_commit other memory = ⊎_elim
+    (λ (is : fault ≡ faults.OutOfMemory). subst (λ f. calls.Leaves c x call (Err f) x) (sym is) (calls.memory_refused (not_by_status (calls.status_fault x.status (calls.only_reads call)) (calls.own_fault c x.state call) (memory is)) no_commit))
+    (λ (is : fault ≢ faults.OutOfMemory). calls.refused fault (other is))
+    (memory_or_other fault)
+
+-- a call isn't refused, or it ended with an error that isn't the device's
+taken_or_kept : (c : calls.Configuration) (x y : calls.Index) (call : calls.Call) (r : Result ⊤ Fault) → calls.Leaves c x call r y → (calls.call_fault c x call ≡ None) ⊎ ((fault : Fault) × (r ≡ Err fault) × (fault ≢ faults.Device))
+taken_or_kept c x y call r (calls.Leaves.refused fault is) = inr (fault, refl, λ device. true≢false (sym (ap is_failure device) ∙ refused_by_no_failure c x call fault is))
+taken_or_kept c x y call r (calls.Leaves.answered is) = inl is
+taken_or_kept c x y call r (calls.Leaves.memory_refused open_ writes) = inr (faults.OutOfMemory, refl, λ device. cc)
+taken_or_kept c x y call r (calls.Leaves.limit_refused is writes) = inl is
+taken_or_kept c x y call r (calls.Leaves.half_written fault want is writes) = inl is
+taken_or_kept c x y call r (calls.Leaves.device_failed is writes) = inl is
+taken_or_kept c x y call r (calls.Leaves.slot_damaged is reads) = inl is
+
+if_err_at : {T : Type 0} (r : Result T Fault) (fault : Fault) (P : Fault → Type 0) → r ≡ Err fault → IfErr r P → P fault
+if_err_at r fault P is h = subst (λ q. IfErr q P) is h
+
+-- a change that isn't refused answers that it is done
+pub change_stands : (r : Result ⊤ Fault) (c : calls.Configuration) (x : calls.Index) (call : calls.Call) (P : calls.Index → Type 0) → answer_to c x.state call ≡ done → (y : calls.Index) × calls.Leaves c x call r y × P y
+    → (y : calls.Index) × calls.Leaves c x call (ending (outcome_of (λ (u : ⊤). done) r)) y × IfOk (outcome_of (λ (u : ⊤). done) r) (λ answer. answer ≡ answer_to c x.state call) × P y
+change_stands (Ok u) c x call P is (y, leaves, p) = (y, leaves, sym is, p)
+change_stands (Err fault) c x call P is (y, leaves, p) = (y, leaves, tt, p)
+
+change_err : (r : Result ⊤ Fault) (P : Fault → Type 0) → IfErr r P → IfErr (outcome_of (λ (u : ⊤). done) r) P
+change_err (Ok u) P h = tt
+change_err (Err fault) P h = h
+
+change_ok : (r : Result ⊤ Fault) (P : Type 0) → OnOk r P → OnOk (outcome_of (λ (u : ⊤). done) r) P
+change_ok (Ok u) P h = h
+change_ok (Err fault) P h = tt
+
+pub any_err : {T : Type 0} (r : Result T Fault) (P : Fault → Type 0) → ((fault : Fault) → P fault) → IfErr r P
+any_err (Ok u) P h = tt
+any_err (Err fault) P h = h fault
+
+any_ok : {T : Type 0} (r : Result T Fault) (P : Type 0) → P → OnOk r P
+any_ok (Ok u) P p = p
+any_ok (Err fault) P p = tt
+
+ok_map : {T : Type 0} (r : Result T Fault) (P Q : T → Type 0) → ((t : T) → P t → Q t) → IfOk r P → IfOk r Q
+ok_map (Ok t) P Q f p = f t p
+ok_map (Err fault) P Q f p = tt
+
+-- a call that only reads answers what the definitions do, or its own refusal, or wants memory
+pub read_stands : {T : Type 0} (answer : T → Answer) (r : Result T Fault) (c : calls.Configuration) (x : calls.Index) (call : calls.Call) (P : calls.Index → Type 0) → calls.is_commit call ≡ false → calls.after c x.state call ≡ x.state
+    → IfOk r (λ t. (calls.call_fault c x call ≡ None) × (answer t ≡ answer_to c x.state call)) → IfErr r (λ fault. fault ≢ faults.OutOfMemory → calls.call_fault c x call ≡ Some fault) → IfErr r (λ fault. fault ≡ faults.OutOfMemory → calls.call_fault c x call ≡ None) → P x
+    → (y : calls.Index) × calls.Leaves c x call (ending (outcome_of answer r)) y × IfOk (outcome_of answer r) (λ told. told ≡ answer_to c x.state call) × P y
+read_stands answer (Ok t) c x call P no_commit same ok err own p = (x, subst (λ s. calls.Leaves c x call (Ok tt) (record { state = s; status = x.status })) same (calls.answered ok.0), ok.1, p)
+read_stands answer (Err fault) c x call P no_commit same ok err own p = (x, error_leaves c x call fault no_commit err own, tt, p)
+
+-- a count is answered as a number
+pub counted_so : (r : Result ℕ Fault) (c : calls.Configuration) (x : calls.Index) (q : Query) → IfOk r (λ n. (calls.call_fault c x (calls.count_all q) ≡ None) × (n ≡ scan_count c.schema c.analyze (committed x.state) q))
+    → IfOk r (λ n. (calls.call_fault c x (calls.count_all q) ≡ None) × (number n ≡ answer_to c x.state (calls.count_all q)))
+counted_so r c x q ok = ok_map r _ _ (λ n h. (h.0, ap number h.1)) ok
+
+-- and a search as its hits
+pub found_so : {T : Type 0} (shown : T → List (ℤ × Named)) (r : Result T Fault) (c : calls.Configuration) (x : calls.Index) (q : Query) (k : ℕ) → IfOk r (λ t. (calls.call_fault c x (calls.search_best q k) ≡ None) × (shown t ≡ map scored (scan c.schema c.analyze c.similarity (committed x.state) q k)))
+    → IfOk r (λ t. (calls.call_fault c x (calls.search_best q k) ≡ None) × (hits (shown t) ≡ answer_to c x.state (calls.search_best q k)))
+found_so shown r c x q k ok = ok_map r _ _ (λ t h. (h.0, ap hits h.1)) ok
+
+-- ---- the file
+
+module _ {D A : Type 0} {d : devices.Ghosts D} {a : analyzers.Ghosts A} (analyze : A → Analyzer)
+    (only_now : (device : D) (image : List ℕ) → IsTrue (d.honest device) → d.left_since device (d.moment device) image → IsImage (d.content device) (d.unsynced device) image) where
+  -- nothing was done to the file
+  still : (old new : Index D A d a) (c : calls.Configuration) (x : calls.Index) (other : List (List Document)) → IndexStands analyze old c x → KeepsFile old new → IsTrue (d.honest (device_of old)) → IndexRests old
+      → CrashLeavesEither analyze old new x.state.groups other
+  still old new c x other s (same, gate, members) h rests =
+      let device = device_of old in
+      let says = rests_say (schema_of old) (settings_of old) (analyze (analyzer_of old)) (members_of old) x.state.groups (d.content device) (d.unsynced device) (gate_of old) rests (stands_groups analyze old.index_state c x s) in
+      record {
+        first = rests.bodies;
+        second = rests.bodies;
+        says_one = says;
+        says_other = inl says;
+        images = subst (λ (q : D). LeavesOnly d.moment d.left_since device q (IsOneOf rests.bodies rests.bodies)) (sym same)
+            (resting d.moment d.left_since d.content d.unsynced device (gate_of old) rests.bodies rests.bodies rests.at_rest rests.synced (λ image left. only_now device image h left));
+      }
+
+  -- and it rests again
+  pub rests_still : (old new : Index D A d a) → KeepsMaking old new → KeepsFile old new → IndexRests old → IndexRests new
+  rests_still old new made (same, gate, members) rests = record {
+    bodies = rests.bodies;
+    at_rest = subst (λ (q : D). IsAtRest (d.content q) (gate_of new) rests.bodies) (sym same) (subst (λ n. IsAtRest (d.content (device_of old)) n rests.bodies) (sym gate) rests.at_rest);
+    leave = leave_same (schema_of old) (schema_of new) (settings_of old) (settings_of new) rests.bodies (members_of old) (members_of new) made.schema made.settings members rests.leave;
+    synced = subst (λ (q : D). d.unsynced q ≡ settled (length (d.content q))) (sym same) rests.synced;
+  }
+
+  -- a call that doesn't touch the file
+  pub kept_called : (old new : Index D A d a) (call : calls.Call) (outcome : Result Answer Fault)
+      → ((c : calls.Configuration) (x : calls.Index) → IndexStands analyze old c x → (y : calls.Index) × calls.Leaves c x call (ending outcome) y × IfOk outcome (λ answer. answer ≡ answer_to c x.state call) × IndexStands analyze new c y)
+      → KeepsMaking old new → KeepsFile old new → IsCalled analyze old new call outcome
+  kept_called old new call outcome stands made file = record {
+    stands = stands;
+    made = made;
+    honest = ap d.honest file.0;
+    kept = any_err outcome _ (λ fault other. file);
+    rests = λ c x s h rests. any_ok outcome _ (rests_still old new made file rests);
+    any_moment = λ c x s h rests. still old new c x (groups_after c x call) s file h rests;
+  }
+
+  -- a change that doesn't touch the file
+  pub change_called : (old new : Index D A d a) (call : calls.Call) (r : Result ⊤ Fault) → ((c : calls.Configuration) (s : State) → answer_to c s call ≡ done)
+      → ((c : calls.Configuration) (x : calls.Index) → IndexStands analyze old c x → (y : calls.Index) × calls.Leaves c x call r y × IndexStands analyze new c y)
+      → KeepsMaking old new → KeepsFile old new → IsCalled analyze old new call (outcome_of (λ (u : ⊤). done) r)
+  change_called old new call r is left made file =
+      kept_called old new call (outcome_of (λ (u : ⊤). done) r) (λ c x s. change_stands r c x call (IndexStands analyze new c) (is c x.state) (left c x s)) made file
+
+  -- a call that writes a record
+  pub writes_called : (old new : Index D A d a) (call : calls.Call) (r : Result ⊤ Fault) → ((c : calls.Configuration) (s : State) → answer_to c s call ≡ done)
+      → ((c : calls.Configuration) (x : calls.Index) → IndexStands analyze old c x → Writes analyze c x call old new r)
+      → KeepsMaking old new → d.honest (device_of new) ≡ d.honest (device_of old) → IfErr r (λ fault. fault ≢ faults.Device → KeepsFile old new)
+      → IsCalled analyze old new call (outcome_of (λ (u : ⊤). done) r)
+  writes_called old new call r is writes made honest kept = record {
+    stands = λ c x s. change_stands r c x call (IndexStands analyze new c) (is c x.state) (writes c x s).left;
+    made = made;
+    honest = honest;
+    kept = change_err r _ kept;
+    rests = λ c x s h rest. change_ok r _ ((writes c x s).rests h rest);
+    any_moment = λ c x s h rest. (
+        let w = writes c x s in
+        ⊎_elim
+        (λ (taken : calls.call_fault c x call ≡ None). subst (λ o. CrashLeavesEither analyze old new x.state.groups (unless_refused o (calls.after c x.state call).groups x.state.groups)) (sym taken) (w.any_moment h rest))
+        (λ refused. still old new c x (groups_after c x call) s (if_err_at r refused.0 (λ fault. fault ≢ faults.Device → KeepsFile old new) refused.1 kept refused.2) h rest)
+        (taken_or_kept c x w.left.0 call r w.left.1));
+  }

@@ -1,0 +1,5 @@
+-- Lemmas behind histories of an index.
+pub mod Calling
+pub mod Devices
+pub mod Following
+pub mod Scans

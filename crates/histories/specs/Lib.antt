@@ -1,0 +1,4 @@
+-- What happens to an index, and what stands then.
+pub mod Calls
+pub mod Events
+pub mod Leading
