@@ -1,5 +1,6 @@
 -- Calls alone: the state that they lead to, and what is left where the last one is cut off.
 use Rattle.std.proofs.Common.{[], Err, List, None, Ok, Option, Result, Some, ap, false, inl, inr, refl, subst, sym, true≢false, ◌++◌, ◌∙◌, ◌∷◌, ◌≡◌, ◌≢◌, ◌⊎◌, ℕ, ℤ}
+use Rattle.std.proofs.lemmas.List.{append-nil}
 use Rattle.std.specs.List.{AllByRecursion}
 use Rattle.common.specs.declared.analyzer.Analyzer as analyzers
 use Rattle.common.specs.declared.device.Device as devices
@@ -8,13 +9,12 @@ use Rattle.definitions.specs.Calls as calls
 use Rattle.definitions.specs.State.{State}
 use Rattle.definitions.specs.Values.{Document}
 use Rattle.definitions.specs.declared.fault.Fault.{Fault}
-use Rattle.definitions.specs.declared.fault.Fault.TheVariants as faults
 use Rattle.definitions.specs.Stored.{Named}
 use Rattle.histories.specs.Calls.{done, hits, number, unless_refused}
 use Rattle.engine.specs.Indexes.{IndexStands}
 use Rattle.engine.specs.declared.index.Index.{Index}
 use Rattle.histories.proofs.Devices.{other_kept}
-use Rattle.histories.specs.Events.{Event, MayLead, Outcome, Standing, all_called, called, cut_off, other_after, other_within, standing_of, state_after}
+use Rattle.histories.specs.Events.{Event, IsSmooth, MayLead, Outcome, Standing, all_called, called, cut_off, opened, other_after, other_within, standing_of, state_after}
 use Rattle.histories.specs.Leading.{LeadsTo}
 
 abbrev groups_in : calls.Index → List (List Document)
@@ -22,7 +22,7 @@ groups_in x = x.state.groups
 
 -- indexes that calls lead to stand for the state after these
 pub calls_lead : {D A : Type 0} (d : devices.Ghosts D) (a : analyzers.Ghosts A) (c : calls.Configuration) (s : State) (x : calls.Index) (first last : Index D A d a) (cs : List (calls.Call × Outcome)) → x.state ≡ s → IndexStands a.analyze first c x → LeadsTo d a first (all_called cs) last
-    → (y : calls.Index) × (y.state ≡ state_after c s cs) × IndexStands a.analyze last c y
+    → (y : calls.Index) × (y.state ≡ state_after c s (all_called cs)) × IndexStands a.analyze last c y
 calls_lead d a c s x first last [] same stands leads = (x, same, subst (λ index. IndexStands a.analyze index c x) (sym leads) stands)
 calls_lead d a c s x first last ((call, Ok answer) ∷ cs) same stands (mid, did, rest) =
     let told = did.stands c x stands in
@@ -32,19 +32,28 @@ calls_lead d a c s x first last ((call, Err fault) ∷ cs) same stands (mid, did
     let told = did.stands c x stands in
     calls_lead d a c s told.0 mid last cs (left_state c x call fault told.1 refl ∙ same) told.3 rest
 
--- where no device failed, the file has what is committed
-pub may_calls : (c : calls.Configuration) (s t : Standing) (cs : List (calls.Call × Outcome)) (events : List Event) → s.other ≡ s.index.state.groups → AllByRecursion (λ p. p.1 ≢ Err faults.Device) cs → MayLead c s (all_called cs ++ events) t
-    → (r : Standing) × (r.index.state ≡ state_after c s.index.state cs) × (r.other ≡ r.index.state.groups) × MayLead c r events t
-may_calls c s t [] events same none leads = (s, refl, same, leads)
-may_calls c s t ((call, Ok answer) ∷ cs) events same none (y, leaves, told, rest) =
+-- without crashes and failures of the device the file has what is committed
+pub smooth_leads : (c : calls.Configuration) (s t : Standing) (events more : List Event) → s.other ≡ s.index.state.groups → AllByRecursion IsSmooth events → MayLead c s (events ++ more) t
+    → (r : Standing) × (r.index.state ≡ state_after c s.index.state events) × (r.other ≡ r.index.state.groups) × MayLead c r more t
+smooth_leads c s t [] more same smooth leads = (s, refl, same, leads)
+smooth_leads c s t (called call (Ok answer) ∷ events) more same smooth (y, leaves, told, rest) =
     let is = (left_answered c s.index call leaves refl).1 in
-    let on = may_calls c (record { index = y; other = (calls.after c s.index.state call).groups }) t cs events (sym (ap groups_in is)) none.1 rest in
-    (on.0, on.1 ∙ ap (λ (z : calls.Index). state_after c z.state cs) is, on.2, on.3)
-may_calls c s t ((call, Err fault) ∷ cs) events same none (y, leaves, told, rest) =
+    let on = smooth_leads c (record { index = y; other = (calls.after c s.index.state call).groups }) t events more (sym (ap groups_in is)) smooth.1 rest in
+    (on.0, on.1 ∙ ap (λ (z : calls.Index). state_after c z.state events) is, on.2, on.3)
+smooth_leads c s t (called call (Err fault) ∷ events) more same smooth (y, leaves, told, rest) =
     let state = left_state c s.index call fault leaves refl in
-    let other = other_kept c s call fault (λ device. none.0 (ap Err device)) in
-    let on = may_calls c (record { index = y; other = other_after c s call (Err fault) }) t cs events (other ∙ (same ∙ sym (ap (λ (z : State). z.groups) state))) none.1 rest in
-    (on.0, on.1 ∙ ap (λ (z : State). state_after c z cs) state, on.2, on.3)
+    let other = other_kept c s call fault (λ device. smooth.0 (ap Err device)) in
+    let on = smooth_leads c (record { index = y; other = other_after c s call (Err fault) }) t events more (other ∙ (same ∙ sym (ap (λ (z : State). z.groups) state))) smooth.1 rest in
+    (on.0, on.1 ∙ ap (λ (z : State). state_after c z events) state, on.2, on.3)
+smooth_leads c s t (cut_off call ∷ events) more same smooth leads = absurd smooth.0
+smooth_leads c s t (opened ∷ events) more same smooth (inl rest) = smooth_leads c (standing_of s.index.state.groups) t events more refl smooth.1 rest
+smooth_leads c s t (opened ∷ events) more same smooth (inr rest) =
+    smooth_leads c (standing_of s.index.state.groups) t events more refl smooth.1 (subst (λ groups. MayLead c (standing_of groups) (events ++ more) t) same rest)
+
+pub smooth_ends : (c : calls.Configuration) (s t : Standing) (events : List Event) → s.other ≡ s.index.state.groups → AllByRecursion IsSmooth events → MayLead c s events t → t.index.state ≡ state_after c s.index.state events
+smooth_ends c s t events same smooth leads =
+    let at = smooth_leads c s t events [] same smooth (subst (λ es. MayLead c s es t) (sym (append-nil events)) leads) in
+    ap (λ (z : Standing). z.index.state) at.3 ∙ at.1
 
 -- a call that is cut off leaves the groups before it, or those after it
 one_of_two : (o : Option Fault) (after other : List (List Document)) → (unless_refused o after other ≡ other) ⊎ (unless_refused o after other ≡ after)

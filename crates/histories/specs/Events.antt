@@ -1,5 +1,5 @@
 -- What may happen to an index, one event after another, and what the definitions let stand then.
-use Rattle.std.specs.Prelude.{[], ◌∷◌, ◌≡◌, ◌⊎◌, Err, IfOk, List, Ok, Result, map}
+use Rattle.std.specs.Prelude.{[], ⊤, ◌∷◌, ◌≡◌, ◌≢◌, ◌⊎◌, Err, IfOk, List, Ok, Result, map}
 use Rattle.definitions.specs.Calls as calls
 use Rattle.definitions.specs.State.{State}
 use Rattle.definitions.specs.Step.{reopened}
@@ -12,15 +12,15 @@ use Rattle.histories.specs.Calls.{Answer, answer_to, ending, unless_refused}
 abbrev pub Outcome : Type 0
 Outcome = Result Answer Fault
 
--- A call ended so; a crash cut a call off, and the index was opened from what it left; or the index was let go, and opened
--- again.
+-- A call ended so; a crash cut a call off, and the index was opened from what it left; or the index was let go, and
+-- opened again.
 pub data Event : Type 0 where
   called : calls.Call → Outcome → Event
   cut_off : calls.Call → Event
   opened : Event
 
--- What stands: an index, and the groups that its file may have in place of those committed. They are others only after a
--- commit or a merge in which the device failed.
+-- What stands: an index, and the groups that its file may have in place of those committed. They are others only after
+-- a commit or a merge in which the device failed.
 pub record Standing : Type 0 where
   pub index : calls.Index
   pub other : List (List Document)
@@ -37,10 +37,11 @@ other_after c s call (Err fault) = s.other
 
 -- and during a call
 abbrev pub other_within : calls.Configuration → Standing → calls.Call → List (List Document)
-other_within c s call = unless_refused (calls.call_fault c s.index call) (calls.after c s.index.state call).groups s.other
+other_within c s call =
+    unless_refused (calls.call_fault c s.index call) (calls.after c s.index.state call).groups s.other
 
--- From one standing the events may lead to another. Of a call that is Ok the answer is the definitions'. An opening finds
--- what is committed, or what the file may have in its place.
+-- From one standing the events may lead to another. Of a call that is Ok the answer is the definitions'. An opening
+-- finds what is committed, or what the file may have in its place.
 abbrev pub MayLead : calls.Configuration → Standing → List Event → Standing → Type 0
 MayLead c s [] t = t ≡ s
 MayLead c s (called call outcome ∷ events) t =
@@ -52,14 +53,23 @@ MayLead c s (cut_off call ∷ events) t =
 MayLead c s (opened ∷ events) t =
     MayLead c (standing_of s.index.state.groups) events t ⊎ MayLead c (standing_of s.other) events t
 
--- ---- calls alone
+-- ---- without crashes
 
 -- calls, each with how it ended, as events
 abbrev pub all_called : List (calls.Call × Outcome) → List Event
 all_called cs = map (λ p. called p.0 p.1) cs
 
--- the state after calls that ended so: those that are Ok change it, in their order, and no other does
-abbrev pub state_after : calls.Configuration → State → List (calls.Call × Outcome) → State
+-- no crash cut a call off, and in no call the device failed
+abbrev pub IsSmooth : Event → Type 0
+IsSmooth (called call outcome) = outcome ≢ Err faults.Device
+IsSmooth (cut_off call) = ⊥
+IsSmooth opened = ⊤
+
+-- The state after events: calls that are Ok change it, in their order, and no other call does; an opening, and a call
+-- that is cut off, loses what waits.
+abbrev pub state_after : calls.Configuration → State → List Event → State
 state_after c s [] = s
-state_after c s ((call, Ok answer) ∷ cs) = state_after c (calls.after c s call) cs
-state_after c s ((call, Err fault) ∷ cs) = state_after c s cs
+state_after c s (called call (Ok answer) ∷ events) = state_after c (calls.after c s call) events
+state_after c s (called call (Err fault) ∷ events) = state_after c s events
+state_after c s (cut_off call ∷ events) = state_after c (reopened s.groups).state events
+state_after c s (opened ∷ events) = state_after c (reopened s.groups).state events

@@ -1,6 +1,6 @@
 //! Laws of histories: what stands after any calls, crashes and openings, and what is answered on the way.
 
-ghost use Rattle.std.specs.Prelude.{[], ◌++◌, ◌∷◌, ◌≡◌, ◌≢◌, ◌⊎◌, Err, IsTrue, List, Ok, false, map, ℕ, ℤ};
+ghost use Rattle.std.specs.Prelude.{[], ◌++◌, ◌∷◌, ◌≡◌, ◌⊎◌, IsTrue, List, Ok, false, map, ℕ, ℤ};
 ghost use Rattle.std.specs.List.{AllByRecursion};
 ghost use Rattle.definitions.specs.Calls.{Call, Configuration, after, commit_pending, count_all, is_commit, is_merge, search_best};
 ghost use Rattle.definitions.specs.Query.{Query};
@@ -9,11 +9,10 @@ ghost use Rattle.definitions.specs.State.{committed};
 ghost use Rattle.definitions.specs.Step.{reopened};
 ghost use Rattle.definitions.specs.Stored.{Named};
 ghost use Rattle.definitions.specs.Values.{Document};
-ghost use Rattle.definitions.specs.declared.fault.Fault.TheVariants as faults;
 ghost use Rattle.histories.specs.Calls.{IsCalled, done, hits, number};
 ghost use Rattle.engine.specs.HandedOn.{scored};
 ghost use Rattle.engine.specs.Indexes.{IndexRests, IndexStands, device_of};
-ghost use Rattle.histories.specs.Events.{Event, MayLead, Outcome, Standing, all_called, called, cut_off, standing_of, state_after};
+ghost use Rattle.histories.specs.Events.{Event, IsSmooth, MayLead, Outcome, Standing, all_called, called, cut_off, standing_of, state_after};
 ghost use Rattle.histories.specs.Leading.{LeadsTo};
 
 use common::{Analyzer, Device};
@@ -32,8 +31,8 @@ pub fn every_history_is_that_of_the_definitions<D: Device, A: Analyzer>(
         → (t : Standing) × MayLead c (standing_of groups) events t × IndexStands A.analyze last.now c t.index }
 {}
 
-/// States that after any calls, refused ones too, a search finds what a plain scan finds over the documents that the last
-/// commit left, and a count counts them. `last` was asked, and `asked` is what it was then.
+/// States that after any calls, refused ones too, a search finds what a plain scan finds over the documents that the
+/// last commit left, and a count counts them. `last` was asked, and `asked` is what it was then.
 pub fn calls_are_answered_as_a_plain_scan<D: Device, A: Analyzer>(
     first: &Index<D, A>,
     last: &Index<D, A>,
@@ -45,28 +44,51 @@ pub fn calls_are_answered_as_a_plain_scan<D: Device, A: Analyzer>(
         → LeadsTo D.Device A.Analyzer first.now (all_called cs) last.now
         → IsCalled A.analyze last.now asked.now (search_best q k) (Ok (hits shown))
         → shown ≡ map scored (scan c.schema c.analyze c.similarity
-        (committed (state_after c (reopened groups).state cs)) q k) }
+        (committed (state_after c (reopened groups).state (all_called cs))) q k) }
     ensures count { (c : Configuration) (groups : List (List Document)) (cs : List (Call × Outcome)) (q : Query)
         (n : ℕ)
         → IndexStands A.analyze first.now c (reopened groups)
         → LeadsTo D.Device A.Analyzer first.now (all_called cs) last.now
         → IsCalled A.analyze last.now asked.now (count_all q) (Ok (number n))
-        → n ≡ scan_count c.schema c.analyze (committed (state_after c (reopened groups).state cs)) q }
+        → n ≡ scan_count c.schema c.analyze (committed (state_after c (reopened groups).state (all_called cs))) q }
 {}
 
-/// States that after calls in which no device failed, and a crash at any moment of one call more, an index that is opened
-/// stands for the groups of the last commit or merge, or for those of the call that was cut off.
+/// States the same of calls and openings on an honest device that didn't fail: an opening loses what waits, and nothing
+/// else.
+pub fn openings_are_answered_as_a_plain_scan<D: Device, A: Analyzer>(
+    first: &Index<D, A>,
+    last: &Index<D, A>,
+    asked: &Index<D, A>,
+)
+    ensures search { (c : Configuration) (groups : List (List Document)) (events : List Event) (q : Query)
+        (k : ℕ) (shown : List (ℤ × Named))
+        → IsTrue (D.honest (device_of first.now)) → IndexStands A.analyze first.now c (reopened groups)
+        → IndexRests first.now → AllByRecursion IsSmooth events
+        → LeadsTo D.Device A.Analyzer first.now events last.now
+        → IsCalled A.analyze last.now asked.now (search_best q k) (Ok (hits shown))
+        → shown ≡ map scored (scan c.schema c.analyze c.similarity
+        (committed (state_after c (reopened groups).state events)) q k) }
+    ensures count { (c : Configuration) (groups : List (List Document)) (events : List Event) (q : Query) (n : ℕ)
+        → IsTrue (D.honest (device_of first.now)) → IndexStands A.analyze first.now c (reopened groups)
+        → IndexRests first.now → AllByRecursion IsSmooth events
+        → LeadsTo D.Device A.Analyzer first.now events last.now
+        → IsCalled A.analyze last.now asked.now (count_all q) (Ok (number n))
+        → n ≡ scan_count c.schema c.analyze (committed (state_after c (reopened groups).state events)) q }
+{}
+
+/// States that after calls and openings on a device that didn't fail, and a crash at any moment of one call more, an
+/// index that is opened stands for the groups before that call, or for those after it.
 pub fn a_crash_inside_the_last_call_leaves_one_of_two<D: Device, A: Analyzer>(
     first: &Index<D, A>,
     last: &Index<D, A>,
 )
-    ensures { (c : Configuration) (groups : List (List Document)) (cs : List (Call × Outcome)) (call : Call)
+    ensures { (c : Configuration) (groups : List (List Document)) (events : List Event) (call : Call)
         → IsTrue (D.honest (device_of first.now)) → IndexStands A.analyze first.now c (reopened groups)
-        → IndexRests first.now → AllByRecursion (λ p. p.1 ≢ Err faults.Device) cs
-        → LeadsTo D.Device A.Analyzer first.now (all_called cs ++ cut_off call ∷ []) last.now
-        → IndexStands A.analyze last.now c (reopened (state_after c (reopened groups).state cs).groups)
+        → IndexRests first.now → AllByRecursion IsSmooth events
+        → LeadsTo D.Device A.Analyzer first.now (events ++ cut_off call ∷ []) last.now
+        → IndexStands A.analyze last.now c (reopened (state_after c (reopened groups).state events).groups)
         ⊎ IndexStands A.analyze last.now c
-        (reopened (after c (state_after c (reopened groups).state cs) call).groups) }
+        (reopened (after c (state_after c (reopened groups).state events) call).groups) }
 {}
 
 /// States that what an acknowledged commit installed is there after a crash of any call that doesn't write.
