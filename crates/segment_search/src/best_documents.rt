@@ -1,6 +1,6 @@
 //! The best documents of segments that match a query.
 
-ghost use Rattle.std.specs.Prelude.{◌+◌, ◌++◌, ◌<◌, ◌^◌, ◌≡◌, ◌≤◌, Bool, IfOk, List, None, OnOk, Some, length, map, slice_get, ℕ};
+ghost use Rattle.std.specs.Prelude.{◌++◌, ◌<◌, ◌^◌, ◌≡◌, Bool, IfOk, List, None, OnOk, Some, length, map, min, slice_get, ℕ};
 ghost use Rattle.std.specs.List.{AllByRecursion, AllZip};
 ghost use Rattle.best_k.specs.Contents.{best_in};
 ghost use Rattle.best_k.specs.Kept as kept;
@@ -11,7 +11,7 @@ ghost use Rattle.definitions.specs.Merging.{documents_in};
 ghost use Rattle.definitions.specs.Query.{term};
 ghost use Rattle.definitions.specs.Refusing.{tree_fault};
 ghost use Rattle.definitions.specs.Schema.{IndexRecordOption as Asked, Schema};
-ghost use Rattle.definitions.specs.Sinks.{fed, later_blocks_above};
+ghost use Rattle.definitions.specs.Sinks.{fed};
 ghost use Rattle.definitions.specs.TermBlocks.{scored_blocks};
 ghost use Rattle.definitions.specs.Values.{Document};
 ghost use Rattle.query_trees.specs.Queries.{query_of};
@@ -19,8 +19,9 @@ ghost use Rattle.scorer_answers.specs.Rows.{HasRows, flags_in};
 ghost use Rattle.segment.specs.Opened.{StandsFor};
 ghost use Rattle.segment_definitions.specs.Found.{places_from, places_in};
 ghost use Rattle.segment_search.specs.Best.{IsFound, best_places, place_at};
-ghost use Rattle.segment_search.specs.Counted.{IsTermQuery, decoded_at_most, nothing_kept};
+ghost use Rattle.segment_search.specs.Counted.{IsTermQuery, blocks_decoded, greatest_count, nothing_kept};
 ghost use Rattle.segment_search.specs.Flags.{AreFlagged, flagged_each};
+ghost use Rattle.term_weight.specs.DecodedBlocks.{decoded_for};
 ghost use Rattle.tree_scorers.specs.Accepted.{IsAccepted};
 
 use crate::query_walk::feed_query;
@@ -62,8 +63,8 @@ pub(crate) fn best_documents<'a, S: Statistics>(
         → AllZip (StandsFor schema analyze) docs segments.now
         → tree_fault schema (S.similarity statistics.now).weight 1 (query_of query.now) ≡ None
         → query_of query.now ≡ term t option
-        → IfOk result (λ found. found.1 ≤ decoded_at_most schema analyze (S.similarity statistics.now) t option
-        (nothing_kept limit) 0 (flagged_each docs alive.now)) }
+        → IfOk result (λ found. found.1 ≡ min greatest_count (blocks_decoded schema analyze
+        (S.similarity statistics.now) t option (nothing_kept limit) 0 (flagged_each docs alive.now))) }
     ensures uncounted { (¬ IsTermQuery (query_of query.now)) → IfOk result (λ found. found.1 ≡ 0) }
 {
     let readers = readers_of(alloc, segments, alive)?;
@@ -92,8 +93,8 @@ fn best_of_each<'a, S: Statistics>(
         → AllZip (HasRows schema analyze) rows readers.now
         → tree_fault schema (S.similarity statistics.now).weight 1 (query_of query.now) ≡ None
         → query_of query.now ≡ term t option
-        → IfOk result (λ found. found.1 ≤ decoded_at_most schema analyze (S.similarity statistics.now) t option
-        (nothing_kept limit) 0 rows) }
+        → IfOk result (λ found. found.1 ≡ min greatest_count (blocks_decoded schema analyze
+        (S.similarity statistics.now) t option (nothing_kept limit) 0 rows)) }
     ensures uncounted { (¬ IsTermQuery (query_of query.now)) → IfOk result (λ found. found.1 ≡ 0) }
 {
     let mut best = BestK::new(alloc, limit);
@@ -136,7 +137,8 @@ fn feed_segment<'a, S: Statistics>(
     ensures counted { (schema : Schema) (analyze : Analyzer) (rows : Rows) (t : List ℕ) (option : Asked)
         → HasRows schema analyze rows reader.now
         → query_of query.now ≡ term t option
-        → IfOk result (λ blocks. blocks ≤ 1 + later_blocks_above kept.limit kept.taken (best_in best.old)
+        → IfOk result (λ blocks. blocks ≡ decoded_for kept.limit kept.taken (best_in best.old)
+        (answers schema analyze (S.similarity statistics.now) 1 (query_of query.now) (documents_in rows))
         (scored_blocks schema analyze (S.similarity statistics.now) 1 t option (documents_in rows))) }
     ensures uncounted { (¬ IsTermQuery (query_of query.now)) → IfOk result (λ blocks. blocks ≡ 0) }
 {

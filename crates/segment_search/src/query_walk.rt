@@ -1,18 +1,19 @@
 //! The walk of the documents of a query in one segment, into a sink.
 
-ghost use Rattle.std.specs.Prelude.{◌+◌, ◌≡◌, ◌≤◌, IfOk, List, None, OnOk, ℕ};
+ghost use Rattle.std.specs.Prelude.{◌≡◌, ◌≤◌, IfOk, List, None, OnOk, ℕ};
 ghost use Rattle.definitions.specs.Analyzers.{Analyzer};
 ghost use Rattle.definitions.specs.Answers.{answers};
 ghost use Rattle.definitions.specs.Query.{term};
 ghost use Rattle.definitions.specs.Refusing.{tree_fault};
 ghost use Rattle.definitions.specs.Schema.{IndexRecordOption as Asked, Schema};
-ghost use Rattle.definitions.specs.Sinks.{fed, later_blocks_above};
+ghost use Rattle.definitions.specs.Sinks.{fed};
 ghost use Rattle.definitions.specs.TermBlocks.{scored_blocks};
 ghost use Rattle.definitions.specs.Values.{Document};
 ghost use Rattle.phrases.specs.Feeding.{IsFedBelow};
 ghost use Rattle.query_trees.specs.Queries.{query_of};
 ghost use Rattle.segment_reader.specs.SegmentReaders.{StandsFor, max_doc_of};
 ghost use Rattle.segment_search.specs.Counted.{IsTermQuery};
+ghost use Rattle.term_weight.specs.DecodedBlocks.{decoded_for};
 ghost use Rattle.tree_scorers.specs.Accepted.{IsAccepted};
 
 use common::Score;
@@ -47,7 +48,8 @@ pub(crate) fn feed_query<'a, S: Statistics, K: Sink>(
     ensures counted { (schema : Schema) (analyze : Analyzer) (docs : List Document) (t : List ℕ) (option : Asked)
         → StandsFor schema analyze docs reader.now
         → query_of query.now ≡ term t option
-        → IfOk result (λ blocks. blocks ≤ 1 + later_blocks_above K.limit K.taken (K.state sink.old)
+        → IfOk result (λ blocks. blocks ≡ decoded_for K.limit K.taken (K.state sink.old)
+        (answers schema analyze (S.similarity statistics.now) 1 (query_of query.now) docs)
         (scored_blocks schema analyze (S.similarity statistics.now) 1 t option docs)) }
     ensures uncounted { (¬ IsTermQuery (query_of query.now)) → IfOk result (λ blocks. blocks ≡ 0) }
 {

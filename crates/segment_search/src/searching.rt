@@ -1,6 +1,6 @@
 //! Searches over segments.
 
-ghost use Rattle.std.specs.Prelude.{◌<◌, ◌^◌, ◌≡◌, ◌≢◌, ◌≤◌, ◌⊎◌, IfErr, IfOk, List, None, Some, length, map, ℕ};
+ghost use Rattle.std.specs.Prelude.{◌<◌, ◌^◌, ◌≡◌, ◌≢◌, ◌⊎◌, IfErr, IfOk, List, None, Some, length, map, min, ℕ};
 ghost use Rattle.std.specs.List.{AllZip};
 ghost use Rattle.definitions.specs.Alive.{live};
 ghost use Rattle.definitions.specs.Analyzers.{Analyzer};
@@ -12,7 +12,7 @@ ghost use Rattle.definitions.specs.Values.{Document};
 ghost use Rattle.definitions.specs.declared.fault.Fault.TheVariants as faults;
 ghost use Rattle.query_trees.specs.Queries.{query_of};
 ghost use Rattle.segment.specs.Opened.{StandsFor};
-ghost use Rattle.segment_search.specs.Counted.{IsTermQuery, decoded_at_most, nothing_kept};
+ghost use Rattle.segment_search.specs.Counted.{IsTermQuery, blocks_decoded, greatest_count, nothing_kept};
 ghost use Rattle.segment_search.specs.Flags.{AreFlagged, flagged_each};
 ghost use Rattle.segment_search.specs.Hits.{KeepsSegments, hit_of, scored};
 
@@ -50,8 +50,8 @@ pub fn search_counted<S: Statistics>(
     ensures counted { (analyze : Analyzer) (docs : List (List Document)) (t : List ℕ) (option : Asked)
         → AllZip (StandsFor schema.now analyze) docs segments.old
         → query_of query.now ≡ term t option
-        → IfOk result (λ found. found.1 ≤ decoded_at_most schema.now analyze (S.similarity statistics.now) t option
-        (nothing_kept limit) 0 (flagged_each docs alive.now)) }
+        → IfOk result (λ found. found.1 ≡ min greatest_count (blocks_decoded schema.now analyze
+        (S.similarity statistics.now) t option (nothing_kept limit) 0 (flagged_each docs alive.now))) }
     ensures uncounted { (¬ IsTermQuery (query_of query.now)) → IfOk result (λ found. found.1 ≡ 0) }
     ensures refused { (analyze : Analyzer) (docs : List (List Document))
         → AllZip (StandsFor schema.now analyze) docs segments.old

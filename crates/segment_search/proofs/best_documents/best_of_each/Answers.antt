@@ -1,4 +1,4 @@
-use Rattle.std.proofs.Common.{Some, ap, arith, drop, length, map, refl, slice_get, subst, sym, ◌+◌, ◌++◌, ◌<◌, ◌∙◌, ◌≡◌, ◌≤◌}
+use Rattle.std.proofs.Common.{Some, ap, ap₂, arith, drop, length, map, refl, slice_get, subst, sym, ◌+◌, ◌++◌, ◌<◌, ◌∙◌, ◌≡◌, ◌≤◌}
 use Rattle.std.proofs.lemmas.List.{length-map}
 use Rattle.std.proofs.lemmas.Option.{slice_get_read}
 use Rattle.std.specs.List.{AllByRecursion}
@@ -6,7 +6,8 @@ use Rattle.best_k.specs.Contents.{best_in}
 use Rattle.best_k.specs.Kept.{Best, limit, taken}
 use Rattle.definitions.specs.Answers.{answers}
 use Rattle.definitions.specs.Merging.{documents_in}
-use Rattle.definitions.specs.Sinks.{fed, later_blocks_above}
+use Rattle.definitions.specs.Query.{term}
+use Rattle.definitions.specs.Sinks.{fed}
 use Rattle.definitions.specs.TermBlocks.{scored_blocks}
 use Rattle.query_trees.specs.Queries.{query_of}
 use Rattle.scorer_answers.specs.Rows.{HasRows, flags_in}
@@ -15,7 +16,8 @@ use Rattle.segment_search.proofs.BestPlaces.{after_segment, all_segments, flags_
 use Rattle.segment_search.proofs.BlocksCounted.{all_counted, one_more}
 use Rattle.segment_search.proofs.Places.{nothing_left, zip_at, zip_length}
 use Rattle.segment_search.specs.Best.{IsFound, best_places, place_at}
-use Rattle.segment_search.specs.Counted.{at_segment}
+use Rattle.segment_search.specs.Counted.{at_segment, blocks_decoded, greatest_count}
+use Rattle.term_weight.specs.DecodedBlocks.{decoded_for}
 use Rattle.segment_search.proofs.best_documents.best_of_each.Goals as goal
 
 pub bounds-alive-segment_ord : goal.bounds-alive-segment_ord
@@ -67,10 +69,13 @@ loop-segment_ord-preserved g c =
           let there = slice_get_read readers (length readers) i c.index-readers-segment_ord.result refl c.loop-segment_ord-test.true c.index-readers-segment_ord.is in
           let flags = flags_there readers sets i c.index-readers-segment_ord.result c.index-alive-segment_ord.result c.requires.flags there c.index-alive-segment_ord.is ∙ sym found.stands.flags_are in
           let at = entered ∙ ap (λ fs. record old { segment = i; alive = fs }) flags in
-          let few = subst (λ (b : Best). c.in_ok-blocks.blocks ≤ 1 + later_blocks_above limit taken b (scored_blocks schema analyze sim 1 t option docs)) at (c.in_ok-blocks.ensures.counted schema analyze found.one t option found.stands is) in
+          let exact : c.in_ok-blocks.blocks ≡ decoded_for limit taken (at_segment i found.one old) (answers schema analyze sim 1 (term t option) docs) (scored_blocks schema analyze sim 1 t option docs) =
+          c.in_ok-blocks.ensures.counted schema analyze found.one t option found.stands is
+          ∙ ap₂ (λ (b : Best) p. decoded_for limit taken b (answers schema analyze sim 1 p docs) (scored_blocks schema analyze sim 1 t option docs)) at is in
           let now = c.in_ok-blocks.ensures.fed schema analyze found.one found.stands passes ∙ ap (λ (b : Best). fed limit taken b (answers schema analyze sim 1 q docs)) at ∙ ap (λ p. fed limit taken (at_segment i found.one old) (answers schema analyze sim 1 p docs)) is in
           let summed = c.saturating_add-decoded_blocks.ensures in
-          one_more schema analyze sim t option old new i found.one (drop i rows) (drop (i + 1) rows) l.decoded_blocks c.in_ok-blocks.blocks c.saturating_add-decoded_blocks.result _ found.here few now (omega (arith, summed)) (l.invariant.counted schema analyze rows t option zip passes is);
+          one_more schema analyze sim t option old new i found.one (drop i rows) (drop (i + 1) rows) l.decoded_blocks c.in_ok-blocks.blocks c.saturating_add-decoded_blocks.result _ found.here exact now (omega (arith, summed)) (l.invariant.counted schema analyze rows t option zip passes is);
+      few = (let summed = c.saturating_add-decoded_blocks.ensures in omega (arith, summed));
       uncounted = λ other.
           let summed = c.saturating_add-decoded_blocks.ensures in
           let before = l.invariant.uncounted other in
@@ -92,4 +97,8 @@ returns-clause-best g c schema analyze rows zip passes =
 pub returns-clause-counted : goal.returns-clause-counted
 returns-clause-counted g c schema analyze rows t option zip passes is =
     let l = c.loop-segment_ord in
-    all_counted schema analyze (g.S.Statistics.similarity c.args.statistics.now) t option (best_in l.best) l.segment_ord (drop l.segment_ord rows) l.decoded_blocks _ (l.invariant.counted schema analyze rows t option zip passes is)
+    let sim = g.S.Statistics.similarity c.args.statistics.now in
+    let past = c.loop-segment_ord-test.false in
+    let same = zip_length (HasRows schema analyze) rows c.args.readers.now zip in
+    let none = ap (blocks_decoded schema analyze sim t option (best_in l.best) l.segment_ord) (nothing_left rows l.segment_ord (omega (arith, same, past))) in
+    all_counted l.decoded_blocks _ _ l.invariant.few none (l.invariant.counted schema analyze rows t option zip passes is)

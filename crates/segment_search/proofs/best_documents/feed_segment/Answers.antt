@@ -1,4 +1,4 @@
-use Rattle.std.proofs.Common.{List, Some, ap, map, slice_get, subst, sym, ◌+◌, ◌++◌, ◌∙◌, ◌≡◌, ◌≤◌}
+use Rattle.std.proofs.Common.{List, Some, ap, map, slice_get, subst, sym, ◌++◌, ◌∙◌, ◌≡◌}
 use Rattle.std.proofs.lemmas.Result.{IfOk-weaker, on_ok_weaker}
 use Rattle.std.specs.List.{AllByRecursion}
 use Rattle.best_k.specs.Contents.{best_in}
@@ -6,13 +6,14 @@ use Rattle.best_k.specs.Kept as kept
 use Rattle.best_k.specs.Kept.{Best}
 use Rattle.definitions.specs.Answers.{answers}
 use Rattle.definitions.specs.Merging.{documents_in}
-use Rattle.definitions.specs.Sinks.{fed, later_blocks_above}
+use Rattle.definitions.specs.Sinks.{fed}
 use Rattle.definitions.specs.TermBlocks.{scored_blocks}
 use Rattle.query_trees.specs.Queries.{query_of}
 use Rattle.scorer_answers.specs.Rows.{flags_in}
 use Rattle.segment_definitions.specs.Found.{places_in}
 use Rattle.segment_search.proofs.BestPlaces.{all_found, segment_placed, still_wanted}
 use Rattle.segment_search.specs.Best.{IsFound, best_places, place_at}
+use Rattle.term_weight.specs.DecodedBlocks.{decoded_for}
 use Rattle.segment_search.proofs.best_documents.feed_segment.Goals as goal
 
 pub returns-clause-best : goal.returns-clause-best
@@ -45,5 +46,7 @@ returns-clause-fed g c schema analyze rows has passes =
 
 pub returns-clause-counted : goal.returns-clause-counted
 returns-clause-counted g c schema analyze rows t option has is =
-    let blocks = scored_blocks schema analyze (g.S.Statistics.similarity c.args.statistics.now) 1 t option (documents_in rows) in
-    IfOk-weaker c.feed_query.result _ _ (λ n told. subst (λ (b : Best). n ≤ 1 + later_blocks_above kept.limit kept.taken b blocks) c.reserve.ensures.same told) (c.feed_query.ensures.counted schema analyze (documents_in rows) t option has.stands is)
+    let sim = g.S.Statistics.similarity c.args.statistics.now in
+    let pairs = answers schema analyze sim 1 (query_of c.args.query.now) (documents_in rows) in
+    let blocks = scored_blocks schema analyze sim 1 t option (documents_in rows) in
+    IfOk-weaker c.feed_query.result _ _ (λ n told. told ∙ ap (λ (b : Best). decoded_for kept.limit kept.taken b pairs blocks) c.reserve.ensures.same) (c.feed_query.ensures.counted schema analyze (documents_in rows) t option has.stands is)

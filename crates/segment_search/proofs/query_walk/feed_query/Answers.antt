@@ -1,4 +1,4 @@
-use Rattle.std.proofs.Common.{[], List, ap, refl, rules, subst, sym, ◌+◌, ◌∙◌, ◌≡◌, ◌≤◌, ℕ}
+use Rattle.std.proofs.Common.{[], List, ap, ap₂, refl, rules, subst, sym, ◌∙◌, ◌≡◌, ℕ}
 use Rattle.std.proofs.lemmas.Int.{to_z-of_z}
 use Rattle.std.proofs.lemmas.Result.{IfOk-weaker, on_ok_weaker}
 use mir.Syntax.{w64}
@@ -7,9 +7,10 @@ use Rattle.definitions.specs.Answers.{answers}
 use Rattle.definitions.specs.Query.{Query, term}
 use Rattle.definitions.specs.Refusing.{tree_fault}
 use Rattle.definitions.specs.Schema.{IndexRecordOption, basic}
-use Rattle.definitions.specs.Sinks.{fed, later_blocks_above}
+use Rattle.definitions.specs.Sinks.{fed}
 use Rattle.definitions.specs.TermBlocks.{scored_blocks}
 use Rattle.query_trees.specs.Queries.{query_of}
+use Rattle.term_weight.specs.DecodedBlocks.{decoded_for}
 use Rattle.term_weight.specs.TermWeights.{option_asked, term_of}
 use Rattle.tree_scorers.specs.Accepted.{IsAccepted}
 use Rattle.segment_search.proofs.query_walk.feed_query.Goals as goal
@@ -46,7 +47,8 @@ returns-in-Term-clause-counted g c schema analyze docs t option stands is =
     let w = c.weigh_term.result in
     let same : term (term_of w) (option_asked w) ≡ term t option = ap (λ t. term t (option_asked w)) c.weigh_term.ensures.term ∙ ap (term c.in-Term.query.0) c.weigh_term.ensures.option ∙ ap query_of (sym c.in-Term.is) ∙ is in
     let blocks : scored_blocks schema analyze sim 1 (term_of w) (option_asked w) docs ≡ scored_blocks schema analyze sim 1 t option docs = ap (λ q. scored_blocks schema analyze sim 1 (term_in q) (option_in q) docs) same in
-    IfOk-weaker c.for_each_pruning_counted.result _ _ (λ n told. subst (λ bs. n ≤ 1 + later_blocks_above g.K.Sink.limit g.K.Sink.taken (g.K.Sink.state c.args.sink.now) bs) blocks told) (c.for_each_pruning_counted.ensures.counted schema analyze sim docs stands c.weigh_term.ensures.scores)
+    let pairs = ap (λ q. answers schema analyze sim 1 q docs) (same ∙ sym is) in
+    IfOk-weaker c.for_each_pruning_counted.result _ _ (λ n told. told ∙ ap₂ (λ ps bs. decoded_for g.K.Sink.limit g.K.Sink.taken (g.K.Sink.state c.args.sink.now) ps bs) pairs blocks) (c.for_each_pruning_counted.ensures.counted schema analyze sim docs stands c.weigh_term.ensures.scores)
 
 pub returns-in-Term-clause-uncounted : goal.returns-in-Term-clause-uncounted
 returns-in-Term-clause-uncounted g c other = absurd (other (c.in-Term.query.0, c.in-Term.query.1, ap query_of c.in-Term.is))
