@@ -1,14 +1,17 @@
 //! Searches of an index.
 
-ghost use Rattle.std.specs.Prelude.{◌≡◌, ◌≢◌, ◌⊎◌, IfErr, IfOk, None, Some, map};
+ghost use Rattle.std.specs.Prelude.{◌≡◌, ◌≢◌, ◌⊎◌, IfErr, IfOk, List, None, Some, map, ℕ};
 ghost use Rattle.definitions.specs.Calls as calls;
+ghost use Rattle.definitions.specs.Query.{term};
 ghost use Rattle.definitions.specs.Refusing.{refusal};
 ghost use Rattle.definitions.specs.Scanning as scanning;
+ghost use Rattle.definitions.specs.Schema.{IndexRecordOption as Asked};
 ghost use Rattle.definitions.specs.Settings.{similarity_of};
 ghost use Rattle.definitions.specs.State.{committed};
 ghost use Rattle.definitions.specs.declared.fault.Fault.TheVariants as faults;
 ghost use Rattle.query_trees.specs.Queries.{query_of};
-ghost use Rattle.engine.specs.Indexes.{IndexStands, KeepsFile, KeepsMaking, schema_of, settings_of};
+ghost use Rattle.engine.specs.Indexes.{IndexStands, KeepsFile, KeepsMaking, members_of, schema_of, settings_of};
+ghost use Rattle.index_state.specs.DecodedBlocks.{AreDecoded};
 ghost use Rattle.index_state.specs.Hits.{IsTermQuery, hit_of, scored};
 
 use crate::index::Index;
@@ -54,6 +57,9 @@ impl<D: Device + Drop, A: Analyzer + Drop> Index<D, A> {
             (calls.call_fault c x (calls.search_best (query_of query.now) k) ≡ None)
             × (map hit_of found.0.items
             ≡ map scored (scanning.scan c.schema c.analyze c.similarity (committed x.state) (query_of query.now) k))) }
+        ensures counted { (c : calls.Configuration) (x : calls.Index) (t : List ℕ) (option : Asked)
+            → IndexStands A.analyze self.old c x → query_of query.now ≡ term t option
+            → IfOk result (λ found. AreDecoded c x.state.groups (members_of self.old) t option k found.1) }
         ensures uncounted { (¬ IsTermQuery (query_of query.now)) → IfOk result (λ found. found.1 ≡ 0) }
         ensures err { (c : calls.Configuration) (x : calls.Index) → IndexStands A.analyze self.old c x
             → IfErr result (λ fault. fault ≢ faults.OutOfMemory

@@ -1,6 +1,7 @@
 -- What searches over an index see.
-use Rattle.std.proofs.Common.{[], Err, IfOk, List, None, Ok, Result, Some, ap, flat_map, length, refl, subst, sym, ◌++◌, ◌∙◌, ◌∷◌, ◌≡◌}
+use Rattle.std.proofs.Common.{[], Bool, Err, IfOk, List, None, Ok, Result, Some, ap, flat_map, length, refl, subst, sym, ◌++◌, ◌∙◌, ◌∷◌, ◌≡◌}
 use Rattle.std.proofs.lemmas.List.{length-map, with_items_is}
+use Rattle.std.specs.List.{AllZip}
 use Rattle.std.specs.Vec.{with_items, vec_len}
 use Rattle.std.proofs.Common.{Vec}
 use Rattle.common.specs.declared.analyzer.Analyzer as analyzers
@@ -9,13 +10,18 @@ use Rattle.definitions.specs.Analyzers.{Analyzer}
 use Rattle.definitions.specs.Calls as calls
 use Rattle.definitions.specs.Query.{Query}
 use Rattle.definitions.specs.Refusing.{refusal}
+use Rattle.definitions.specs.Schema.{Schema}
 use Rattle.definitions.specs.Settings.{similarity_of}
 use Rattle.definitions.specs.State as states
+use Rattle.definitions.specs.Values.{Document}
 use Rattle.definitions.specs.declared.fault.Fault.{Fault}
-use Rattle.segment.specs.Opened.{bytes_of}
+use Rattle.segment.specs.Opened.{StandsFor, bytes_of}
 use Rattle.segment.specs.declared.segment.Segment as code
+use Rattle.segment_definitions.specs.Segments.{IsSegmentOf}
+use Rattle.segment_search.proofs.RowsRead.{docs_counted, documents_flagged, flags_flagged}
 use Rattle.segment_search.specs.Hits.{KeepsSegments}
-use Rattle.index_state.specs.Flags.{flagged_each}
+use Rattle.index_state.specs.DecodedBlocks.{HasRows}
+use Rattle.index_state.specs.Flags.{AreFlagged, flagged_each, members}
 use Rattle.index_state.specs.Standing.{Stands}
 use Rattle.index_state.specs.declared.index_state.IndexState.{IndexState}
 
@@ -49,3 +55,15 @@ module _ {A : Type 0} {a : analyzers.Ghosts A} (analyze : A → Analyzer) (index
 
     pub query_refused : (fault : Fault) → refusal index.schema (similarity_of index.settings).weight q ≡ Some fault → refusal c.schema c.similarity.weight q ≡ Some fault
     query_refused fault some = subst (λ (m : calls.Configuration). refusal m.schema m.similarity.weight q ≡ Some fault) (sym s.made) some
+
+-- ---- segments with their flags
+
+-- the bytes of the first segments, each with its flags, are of the rows of their documents
+pub members_rows : (schema : Schema) (analyze : Analyzer) (docs : List (List Document)) (segments : List code.Segment) (sets : List (List Bool)) → AllZip (StandsFor schema analyze) docs segments → AreFlagged segments sets → AllZip (HasRows schema analyze) (flagged_each docs sets) (members segments sets)
+members_rows schema analyze docs [] [] h f = tt
+members_rows schema analyze docs (s ∷ segments) [] h f = tt
+members_rows schema analyze docs [] (flags ∷ sets) h f = absurd f
+members_rows schema analyze [] (s ∷ segments) (flags ∷ sets) h f = absurd h
+members_rows schema analyze (ds ∷ docs) (s ∷ segments) (flags ∷ sets) h f =
+    let long = f.0 ∙ sym (docs_counted schema analyze ds s h.0) in
+    ((subst (λ xs. IsSegmentOf schema analyze xs (bytes_of s)) (sym (documents_flagged ds flags long)) h.0.bytes_are, flags_flagged ds flags long), members_rows schema analyze docs segments sets h.1 f.1)

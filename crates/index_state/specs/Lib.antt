@@ -1,4 +1,5 @@
 -- Words of the contracts.
+pub mod DecodedBlocks
 pub mod Deletions
 pub mod Flags
 pub mod Hits

@@ -126,6 +126,6 @@ fn new_set(
         ≡ numbered_rows (holds schema analyze) (map (numbered n) deletions.now) (n * number) docs) }
 {
     let mut set = AliveBitSet::for_max_doc(alloc, segment.num_docs())?;
-    delete_pending(alloc, segment, number, deletions, &mut set)?;
+    delete_pending(segment, number, deletions, &mut set);
     Ok(set)
 }

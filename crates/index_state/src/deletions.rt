@@ -1,6 +1,6 @@
 //! Deletions by term: their checks, those that are pending, and their effect on alive sets.
 
-ghost use Rattle.std.specs.Prelude.{[], ◌*◌, ◌+◌, ◌∷◌, ◌≡◌, ◌≤◌, List, OnOk, length, map, ℕ};
+ghost use Rattle.std.specs.Prelude.{[], ◌*◌, ◌∷◌, ◌≡◌, ◌≤◌, List, length, map, ℕ};
 ghost use Rattle.std.specs.List.{AllByRecursion};
 ghost use Rattle.std.specs.Result.{result_err};
 ghost use Rattle.definitions.specs.Analyzers.{Analyzer};
@@ -10,14 +10,13 @@ ghost use Rattle.definitions.specs.Schema.{Schema};
 ghost use Rattle.definitions.specs.Values.{Document};
 ghost use Rattle.segment.specs.Opened.{StandsFor, num_docs_of};
 ghost use Rattle.index_state.specs.Deletions.{IsSmall, numbered, term_of};
-ghost use Rattle.segment_definitions.specs.Rows.{cut_flags, flagged, left_rows};
+ghost use Rattle.segment_definitions.specs.Rows.{flagged, left_rows};
 ghost use Rattle.segment_definitions.specs.Waiting.{struck_from};
 
-use common::{AliveBitSet, DocId};
+use common::AliveBitSet;
 use definitions::Fault;
 use schema::Schema;
-use segment::{Segment, delete_in};
-use std::alloc::{AllocError, Global};
+use segment::{Segment, delete_before, delete_in};
 use terms::Term;
 
 /// A deletion of the documents with a term that were added before it: those of the first `segments` full pending
@@ -58,80 +57,38 @@ pub(crate) fn delete_all(segment: &Segment, deletions: &[Deletion], alive: &mut 
 
 /// Applies every deletion to the alive set of the pending segment of index `number`.
 pub(crate) fn delete_pending(
-    alloc: Global,
     segment: &Segment,
     number: usize,
     deletions: &[Deletion],
     alive: &mut AliveBitSet,
-) -> Result<(), AllocError>
+)
     requires flagged { length alive.old ≡ num_docs_of segment.now }
     ensures long { length alive.new ≡ length alive.old }
     ensures dead { (schema : Schema) (analyze : Analyzer) (n : ℕ) (docs : List Document)
         → StandsFor schema analyze docs segment.now → length docs ≤ n → AllByRecursion (IsSmall n) deletions.now
-        → OnOk result (flagged docs alive.new
-        ≡ struck_from (holds schema analyze) (map (numbered n) deletions.now) (n * number) (flagged docs alive.old)) }
+        → flagged docs alive.new
+        ≡ struck_from (holds schema analyze) (map (numbered n) deletions.now) (n * number) (flagged docs alive.old) }
 {
     for deletion in deletions {
-        delete_one(alloc, segment, number, deletion, alive)?;
+        delete_one(segment, number, deletion, alive);
     }
-    Ok(())
 }
 
 /// Applies a deletion to pending segment `number`: all of it if made during a later segment, none if during an earlier.
-fn delete_one(
-    alloc: Global,
-    segment: &Segment,
-    number: usize,
-    deletion: &Deletion,
-    alive: &mut AliveBitSet,
-) -> Result<(), AllocError>
+fn delete_one(segment: &Segment, number: usize, deletion: &Deletion, alive: &mut AliveBitSet)
     requires flagged { length alive.old ≡ num_docs_of segment.now }
     ensures long { length alive.new ≡ length alive.old }
     ensures dead { (schema : Schema) (analyze : Analyzer) (n : ℕ) (docs : List Document)
         → StandsFor schema analyze docs segment.now → length docs ≤ n → IsSmall n deletion.now
-        → OnOk result (flagged docs alive.new
-        ≡ struck_from (holds schema analyze) (numbered n deletion.now ∷ []) (n * number) (flagged docs alive.old)) }
+        → flagged docs alive.new
+        ≡ struck_from (holds schema analyze) (numbered n deletion.now ∷ []) (n * number) (flagged docs alive.old) }
 {
     if deletion.segments > number {
         delete_in(segment, &deletion.term, alive);
-        return Ok(());
+        return;
     }
-    if deletion.segments == number {
-        return delete_before(alloc, segment, &deletion.term, deletion.docs, alive);
+    if deletion.segments < number {
+        return;
     }
-    Ok(())
-}
-
-/// Marks those of the first `docs` documents dead that hold `term`.
-fn delete_before(
-    alloc: Global,
-    segment: &Segment,
-    term: &Term,
-    docs: usize,
-    alive: &mut AliveBitSet,
-) -> Result<(), AllocError>
-    requires flagged { length alive.old ≡ num_docs_of segment.now }
-    ensures long { length alive.new ≡ length alive.old }
-    ensures dead { (schema : Schema) (analyze : Analyzer) (i : ℕ) (ds : List Document)
-        → StandsFor schema analyze ds segment.now
-        → OnOk result (flagged ds alive.new
-        ≡ struck_from (holds schema analyze) ((term.now, i + docs) ∷ []) i (flagged ds alive.old)) }
-{
-    let mut left = AliveBitSet::for_max_doc(alloc, segment.num_docs())?;
-    delete_in(segment, term, &mut left);
-    kill_before(alive, &left, docs);
-    Ok(())
-}
-
-/// Marks those of the first `docs` documents dead that are dead in `left`.
-fn kill_before(alive: &mut AliveBitSet, left: &AliveBitSet, docs: usize)
-    requires { length alive.old ≡ length left.now }
-    ensures { alive.new ≡ cut_flags docs left.now alive.old }
-{
-    let end = docs.min(left.len()) as DocId;
-    for doc in 0..end {
-        if !left.is_alive(doc) {
-            alive.kill(doc);
-        }
-    }
+    delete_before(segment, &deletion.term, deletion.docs, alive);
 }

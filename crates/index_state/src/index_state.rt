@@ -5,8 +5,10 @@ ghost use Rattle.std.specs.List.{AllByRecursion, AllByRecursion-prop, AllZip};
 ghost use Rattle.std.specs.Result.{result_err};
 ghost use Rattle.definitions.specs.Alive.{live_groups};
 ghost use Rattle.definitions.specs.Calls as calls;
+ghost use Rattle.definitions.specs.Query.{term};
 ghost use Rattle.definitions.specs.Refusing.{refusal};
 ghost use Rattle.definitions.specs.Scanning as scanning;
+ghost use Rattle.definitions.specs.Schema.{IndexRecordOption as Asked};
 ghost use Rattle.definitions.specs.Settings.{similarity_of};
 ghost use Rattle.definitions.specs.State as states;
 ghost use Rattle.definitions.specs.Step.{configuration_of, fresh_index, reopened};
@@ -16,6 +18,7 @@ ghost use Rattle.document_indexer.specs.Indexed.{IsWithinLimits};
 ghost use Rattle.query_trees.specs.Queries.{query_of};
 ghost use Rattle.index_file.specs.Frames.{frame_bytes};
 ghost use Rattle.segment.specs.Opened.{IsOpened, StandsFor};
+ghost use Rattle.index_state.specs.DecodedBlocks.{AreDecoded};
 ghost use Rattle.index_state.specs.Flags.{AreFlagged, AreFlagged-prop, flagged_each, members};
 ghost use Rattle.index_state.specs.Limits.{TermsPass};
 ghost use Rattle.index_state.specs.Pending.{HoldsSome, open_docs};
@@ -375,6 +378,9 @@ impl<A: Analyzer + Drop> IndexState<A> {
             × (map hit_of found.0.items
             ≡ map scored (scanning.scan c.schema c.analyze c.similarity (states.committed x.state) (query_of query.now)
             limit))) }
+        ensures counted { (c : calls.Configuration) (x : calls.Index) (t : List ℕ) (option : Asked)
+            → Stands A.analyze self.old c x → query_of query.now ≡ term t option
+            → IfOk result (λ found. AreDecoded c x.state.groups (members_of self.old) t option limit found.1) }
         ensures uncounted { (¬ IsTermQuery (query_of query.now)) → IfOk result (λ found. found.1 ≡ 0) }
         ensures err { (c : calls.Configuration) (x : calls.Index) → Stands A.analyze self.old c x
             → IfErr result (λ fault. fault ≢ faults.OutOfMemory

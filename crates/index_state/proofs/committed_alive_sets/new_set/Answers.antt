@@ -13,6 +13,6 @@ returns-clause-rows c schema analyze n docs stands few small =
     let dels = map (numbered n) c.args.deletions.now in
     let from = n * c.args.number in
     let all : c.in_ok-set.set ≡ replicate (length docs) true = c.in_ok-set.ensures ∙ ap (λ k. replicate k true) (c.num_docs.ensures ∙ sym (docs_counted schema analyze docs c.args.segment.now stands)) in
-    c.in_ok-delete_pending.ensures.dead schema analyze n docs stands few small
+    c.delete_pending.ensures.dead schema analyze n docs stands few small
     ∙ ap (λ flags. struck_from has dels from (flagged docs flags)) all
     ∙ sym (rows_struck has dels from docs)

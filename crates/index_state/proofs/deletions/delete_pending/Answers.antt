@@ -14,14 +14,14 @@ loop-deletion-preserved c =
     let d = c.deletion-item.result in
     let rest = drop (l.deletion-index + 1) c.args.deletions.now in
     let here : drop l.deletion-index c.args.deletions.now ≡ d ∷ rest = rest_is c.args.deletions.now l.deletion-index d c.loop-deletion-test.true c.deletion-item.is in (
-      c.in_ok-delete_one.ensures.long ∙ l.invariant.0,
+      c.delete_one.ensures.long ∙ l.invariant.0,
       λ schema analyze n docs stands few small.
           let has = holds schema analyze in
           let before = l.invariant.1 schema analyze n docs stands few small in
           let smalls = all_first (IsSmall n) (drop l.deletion-index c.args.deletions.now) d rest here before.0 in
           let from = n * c.args.number in (
             smalls.1,
-            ap (struck_from has (map (numbered n) rest) from) (c.in_ok-delete_one.ensures.dead schema analyze n docs stands few smalls.0)
+            ap (struck_from has (map (numbered n) rest) from) (c.delete_one.ensures.dead schema analyze n docs stands few smalls.0)
                 ∙ sym (struck_next has (numbered n d) (map (numbered n) rest) from (flagged docs l.alive))
                 ∙ ap (λ ds. struck_from has (map (numbered n) ds) from (flagged docs l.alive)) (sym here)
                 ∙ before.1,

@@ -1,4 +1,5 @@
-use Rattle.std.proofs.Common.{None, Some, ap, inr, length, map, refl, subst, sym, true, ◌∙◌, ◌≡◌, ◌≢◌}
+use Rattle.std.proofs.Common.{Bool, List, None, Some, ap, ap₂, inr, length, map, min, refl, subst, sym, true, ◌∙◌, ◌≡◌, ◌≢◌, ℕ}
+use Rattle.std.proofs.lemmas.Result.{IfOk-weaker}
 use Rattle.std.proofs.Math.Logic.{∥∥₁_map}
 use Rattle.std.specs.List.{AllByRecursion, AllZip, zip}
 use Rattle.std.specs.Result.{result_err}
@@ -13,9 +14,12 @@ use Rattle.query_trees.specs.Queries.{query_of}
 use Rattle.segment.specs.Opened.{IsOpened, StandsFor, bytes_of}
 use Rattle.index_state.proofs.Outcomes.{closed_is_no_memory, err_has, own_refuses, status_refuses}
 use Rattle.definitions.proofs.Lists.{err_map}
-use Rattle.index_state.proofs.Searching.{live_committed, ok_both, query_refused, query_taken, segments_counted, segments_held}
+use Rattle.index_state.proofs.Searching.{live_committed, members_rows, ok_both, query_refused, query_taken, segments_counted, segments_held}
 use Rattle.index_state.proofs.Standings.{pending_kept, stands_with}
+use Rattle.index_state.specs.DecodedBlocks.{HasRows}
 use Rattle.index_state.specs.Flags.{AreFlagged, flagged_each}
+use Rattle.index_state.specs.Standing.{members_of}
+use Rattle.segment_search.specs.Counted.{blocks_decoded, greatest_count, nothing_kept}
 use Rattle.segment_search.specs.Hits.{hit_of, scored}
 use Rattle.index_state.proofs.index_state.IndexState.search_counted.Goals as goal
 
@@ -54,6 +58,21 @@ returns-clause-ok g c k x s =
           (told ∙ ap (λ ds. map scored (scan index.schema analyze (similarity_of index.settings) ds q c.args.limit)) seen),
     ))
     c.search_counted.ensures.accepted (c.search_counted.ensures.ok analyze s.docs stands)
+
+pub returns-clause-counted : goal.returns-clause-counted
+returns-clause-counted g c k x t option s is =
+    let index = c.args.self.now in
+    let analyze = g.A.Analyzer.analyze index.analyzer in
+    let stands = subst (AllZip (StandsFor index.schema analyze) s.docs) (sym c.deref_mut.ensures.value) s.segments in
+    let decoded : calls.Configuration → List (List Bool) → ℕ = λ m sets. min greatest_count (blocks_decoded m.schema m.analyze m.similarity t option (nothing_kept c.args.limit) 0 (flagged_each s.docs sets)) in
+    IfOk-weaker c.search_counted.result _ _
+    (λ found told. record {
+      rows = flagged_each s.docs index.alive.items;
+      are = subst (λ (m : calls.Configuration). AllZip (HasRows m.schema m.analyze) (flagged_each s.docs index.alive.items) (members_of index)) (sym s.made) (members_rows index.schema analyze s.docs index.segments.items index.alive.items s.segments index.flagged);
+      living = s.groups;
+      counted = told ∙ ap₂ decoded (sym s.made) c.deref.ensures.value;
+    })
+    (c.search_counted.ensures.counted analyze s.docs t option stands is)
 
 pub returns-clause-err : goal.returns-clause-err
 returns-clause-err g c k x s =
