@@ -193,7 +193,7 @@ module _ {D A : Type 0} {d : devices.Ghosts D} {a : analyzers.Ghosts A} where
         analysis = index.analysis ∙ ap (analysis_of a.knows_name a.analyze) (sym made.analyzer);
         fields = made.schema ∙ index.fields;
         numbers = made.settings ∙ index.numbers;
-        stands = stands;
+        stands = inl stands;
         rests = rests;
         known = inr (held_kept d.honest d.content s.analysis.analyze (device_of old) (device_of new) (steps.file_of fields numbers y.state.groups)
             (subst (λ (state : State). HasHeld d.honest d.content s.analysis.analyze (device_of old) (steps.file_of fields numbers state.groups)) (sym state) (index_held d a a.knows_name a.analyze s.analysis old fields numbers x index honest)) (ap d.honest left.file.0) (ap d.content left.file.0));

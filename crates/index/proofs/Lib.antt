@@ -8,3 +8,6 @@ pub mod KeptDevices
 pub mod Leavings
 pub mod SessionSteps
 pub mod RunReplies
+pub mod Asked
+pub mod Failures
+pub mod LineCrashes

@@ -1,5 +1,5 @@
 -- What a run over lines has done, by what each reply says.
-use Rattle.std.proofs.Common.{Bool, Err, IfSome, IsTrue, List, None, Ok, OnOk, Option, Result, Some, ap, append_assoc, arith, false, if◌then◌else◌, inl, inr, nat_lt, refl, subst, sym, true, [], ◌++◌, ◌<◌, ◌∙◌, ◌∷◌, ◌≡◌, ◌≢◌, ◌≤◌, ◌⊎◌, ℕ}
+use Rattle.std.proofs.Common.{Bool, Err, IfSome, IsTrue, List, None, Ok, OnOk, Option, Result, Some, ap, append_assoc, arith, false, if◌then◌else◌, inl, inr, nat_lt, refl, subst, sym, true, [], ◌++◌, ◌<◌, ◌∙◌, ◌∷◌, ◌≡◌, ◌≢◌, ◌≤◌, ◌⊎◌, ⊎_elim, ℕ}
 use Rattle.std.specs.Bool.{⊤}
 use Rattle.std.specs.Option.{is_none, option_map_or}
 use Rattle.std.proofs.lemmas.Bool.Decides.{nat_tests}
@@ -13,7 +13,8 @@ use Rattle.definitions.specs.Step as steps
 use Rattle.definitions.specs.declared.fault.Fault.{Fault}
 use Rattle.definitions.specs.declared.fault.Fault.TheVariants as faults
 use Rattle.index.specs.Runs.{EndsAfter, IsRun, IsRunOver, MeetsLimitOnWay}
-use Rattle.index.specs.Sessions.{HasHeld, IsLeft, IsReplied, MeetsLimitAt, StandsFor, analysis_of, failures_of, honest_of, parts_of, session_on}
+use Rattle.index.specs.Replied.{IsReplied}
+use Rattle.index.specs.Sessions.{HasHeld, IsLeft, MeetsLimitAt, StandsFor, analysis_of, closed_session, failures_of, honest_of, parts_of, session_on}
 use Rattle.index.specs.declared.session.Session.{Session}
 use Rattle.index.proofs.Causes.{limit_no_memory}
 use Rattle.index.proofs.Leavings.{memory_stays}
@@ -50,7 +51,8 @@ module _ {D A : Type 0} {d : devices.Ghosts D} {a : analyzers.Ghosts A} where
   IsStep session next s line answer =
       ((answer ≡ reply_to steps.answer_of steps.after_line s line) × StandsFor next (state_after steps.answer_of steps.after_line s line))
       ⊎ ((fault : Fault) × HasReason (MeetsLimitAt session) (Rose (failures_of session) (failures_of next)) s line fault × (answer ≡ reply_text fault)
-      × (IsTrue (honest_of session) → fault ≢ faults.Device → (t : steps.Session) × IsLeft s (steps.line_request line) fault t × StandsFor next t))
+      × (IsTrue (honest_of session) → fault ≢ faults.Device → (t : steps.Session) × IsLeft s (steps.line_request line) fault t × StandsFor next t)
+      × (IsTrue (honest_of session) → fault ≡ faults.Device → steps.is_ready s.stage ≡ true → StandsFor next (closed_session s) ⊎ StandsFor next (closed_session (steps.after_line s line))))
 
   step_of : (session next : Session D A d a) (s : steps.Session) (line answer : List ℕ) → StandsFor session s → Answers IsReplied session next line answer → IsStep session next s line answer
   step_of session next s line answer stands (inl (text, (Ok reply, is, same))) =
@@ -68,6 +70,7 @@ module _ {D A : Type 0} {d : devices.Ghosts D} {a : analyzers.Ghosts A} where
         },
         same,
         (is.replies s stands).left,
+        λ honest device ready. (is.replies s stands).failed honest ready (ap Err device),
       )
   step_of session next s line answer stands (inr (stays, (fault, inl memory, same))) =
       inr (
@@ -79,6 +82,7 @@ module _ {D A : Type 0} {d : devices.Ghosts D} {a : analyzers.Ghosts A} where
         },
         same,
         λ honest other. (s, (refl, inl (memory_stays s.stage (steps.line_request line) fault memory, refl)), subst (λ (m : Session D A d a). StandsFor m s) (sym stays) stands),
+        λ honest device ready. absurd (device_failed (sym device ∙ memory)),
       )
   step_of session next s line answer stands (inr (stays, (fault, inr refused, same))) =
       inl (
@@ -125,7 +129,7 @@ module _ {D A : Type 0} {d : devices.Ghosts D} {a : analyzers.Ghosts A} where
 
         at : IsStep session next s line answer → EndsAfter first last lines out s (line ∷ left) part
         at (inl (told, standing)) = inl (rest, split ∙ ap (λ (x : List ℕ). output_line x ++ rest) told, onward (state_after steps.answer_of steps.after_line s line) standing)
-        at (inr (fault, reason, told, leaves)) =
+        at (inr (fault, reason, told, leaves, closes)) =
             inr (
               fault,
               record {
@@ -136,6 +140,10 @@ module _ {D A : Type 0} {d : devices.Ghosts D} {a : analyzers.Ghosts A} where
               rest,
               split ∙ ap (λ (x : List ℕ). output_line x ++ rest) told,
               λ honest other. let t = leaves (subst IsTrue (sym (answers_honest done first session sent before)) honest) other in (t.0, t.1, onward t.0 t.2),
+              λ honest device ready. ⊎_elim
+                  (λ closed. inl (onward (closed_session s) closed))
+                  (λ closed. inr (onward (closed_session (steps.after_line s line)) closed))
+                  (closes (subst IsTrue (sym (answers_honest done first session sent before)) honest) device ready),
             )
 
     -- the lines that are left, after some
@@ -153,7 +161,7 @@ module _ {D A : Type 0} {d : devices.Ghosts D} {a : analyzers.Ghosts A} where
         → AreReplies steps.answer_of steps.after_line (MeetsLimitOnWay first last lines out) (Rose (failures_of first) (failures_of last)) s left part
     are_replies [] s part h = h.0
     are_replies (line ∷ left) s part (inl (rest, is, h)) = inl (rest, is, are_replies left (state_after steps.answer_of steps.after_line s line) rest h)
-    are_replies (line ∷ left) s part (inr (fault, reason, rest, is, h)) = inr (fault, reason, rest, is)
+    are_replies (line ∷ left) s part (inr (fault, reason, rest, is, leaves, closes)) = inr (fault, reason, rest, is)
 
   -- lines that are all answered in turn are a run
   run_of : (first last : Session D A d a) (lines : List (List ℕ)) (old new : Option (List ℕ)) → ServesAll IsReplied first last lines old new → IsRun first last lines old new

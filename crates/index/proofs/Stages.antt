@@ -26,7 +26,7 @@ use Rattle.segment_definitions.specs.SegmentBodies.{Member}
 use Rattle.segment_definitions.specs.SegmentFiles.{IsGroup, TakesSegments}
 use Rattle.engine.specs.Indexes.{IndexRests, IndexStands, IsOpened, analyzer_after, analyzer_of, device_after, device_of, ending_of, gate_of, members_of, schema_of, settings_of}
 use Rattle.index.specs.Replying.{change_text}
-use Rattle.index.specs.Sessions.{HasHeld, HasStage, IsIndex, IsSpare, IsStage, LeavesStage, analysis_of, analyzer_on, device_on, left_by, parts_on, stage_after}
+use Rattle.index.specs.Sessions.{HasHeld, HasStage, IsIndex, IsSpare, IsStage, LeavesStage, StandsAs, analysis_of, analyzer_on, device_on, left_by, parts_on, stage_after}
 use Rattle.engine.specs.declared.index.Index.{Index}
 use Rattle.engine.specs.declared.refused.Refused.{Refused}
 use Rattle.index.specs.declared.stage.Stage.{Stage}
@@ -34,6 +34,7 @@ use Rattle.index.specs.declared.stage.Stage.TheVariants.{Spare, Standing}
 use Rattle.index.proofs.Answering.{going_on}
 use Rattle.index.proofs.Causes.{error_in, making_goes_on}
 use Rattle.index_file.proofs.Faults.{is_limit}
+use Rattle.index_state.proofs.Outcomes.{closed_is_not_ready}
 use Rattle.engine.proofs.Commits.{stands_groups}
 use Rattle.engine.proofs.FileSayings.{file_is_index, file_is_whole, no_bytes, of_its_groups, rests_say}
 use Rattle.layouts.proofs.FilesOfRecords.{files_are_indexes, files_are_whole, one_damage}
@@ -113,7 +114,7 @@ module _ {D A : Type 0} (d : devices.Ghosts D) (an : analyzers.Ghosts A) (knows 
         analysis = spare.0 ∙ ap (analysis_of knows analyze) (sym by);
         fields = of.0;
         numbers = of.1;
-        stands = subst (λ (b : steps.Analysis). IndexStands analyze index (steps.configuration_of s b.analyze u) steps.fresh_index) (sym spare.0) stands;
+        stands = inl (subst (λ (b : steps.Analysis). IndexStands analyze index (steps.configuration_of s b.analyze u) steps.fresh_index) (sym spare.0) stands);
         rests = λ h ready. rests spare.1.0;
         known = inl refl;
       })
@@ -173,7 +174,7 @@ module _ {D A : Type 0} (d : devices.Ghosts D) (an : analyzers.Ghosts A) (knows 
         analysis = spare.0 ∙ ap (analysis_of knows analyze) (sym by);
         fields = is.0;
         numbers = is.1;
-        stands = subst (λ (b : steps.Analysis). IndexStands analyze index (steps.configuration_of s b.analyze u) (steps.reopened e)) (sym spare.0) stand;
+        stands = inl (subst (λ (b : steps.Analysis). IndexStands analyze index (steps.configuration_of s b.analyze u) (steps.reopened e)) (sym spare.0) stand);
         rests = λ h ready. opened.rests spare.1.0;
         known = inl refl;
       })
@@ -241,13 +242,18 @@ module _ {D A : Type 0} (d : devices.Ghosts D) (an : analyzers.Ghosts A) (knows 
 
   -- ---- the device
 
+  -- a ready index stands for itself
+  pub open_stands : (index : Index D A d an) (c : calls.Configuration) (x : calls.Index) → x.status ≡ calls.ready → StandsAs knows analyze index c x → IndexStands analyze index c x
+  open_stands index c x ready (inl stands) = stands
+  open_stands index c x ready (inr (closed, y, also, stands)) = absurd (closed_is_not_ready (sym closed ∙ ready))
+
   -- what an honest device of an index holds
   pub index_held : (a : steps.Analysis) (index : Index D A d an) (s : Schema) (u : Settings) (x : calls.Index) → IsIndex knows analyze a index s u x → IsTrue (d.honest (device_of index)) → HasHeld d.honest d.content a.analyze (device_of index) (steps.file_of s u x.state.groups)
   index_held a index s u x h honest = elim h.known [
     | inl ready ↦
         let rests = h.rests honest ready in
         let cut : a.analyze ≡ analyze (analyzer_of index) = ap (λ (b : steps.Analysis). b.analyze) h.analysis in
-        let are = stands_groups analyze index.index_state (steps.configuration_of s a.analyze u) x h.stands in
+        let are = stands_groups analyze index.index_state (steps.configuration_of s a.analyze u) x (open_stands index (steps.configuration_of s a.analyze u) x ready h.stands) in
         let says = rests_say (schema_of index) (settings_of index) (analyze (analyzer_of index)) (members_of index) x.state.groups (d.content (device_of index)) (d.unsynced (device_of index)) (gate_of index) rests are in
         let file : IsFileOf (schema_of index) (settings_of index) (analyze (analyzer_of index)) x.state.groups (d.content (device_of index)) = (rests.bodies, rests.at_rest.file, says) in
         (honest, subst (λ (t : Schema). IsFileOf t u a.analyze x.state.groups (d.content (device_of index))) h.fields (subst (λ (v : Settings). IsFileOf (schema_of index) v a.analyze x.state.groups (d.content (device_of index))) h.numbers (subst (λ (k : Analyzer). IsFileOf (schema_of index) (settings_of index) k x.state.groups (d.content (device_of index))) (sym cut) file)))

@@ -2,4 +2,6 @@
 pub mod AskedRequests
 pub mod Replying
 pub mod Sessions
+pub mod Asking
+pub mod Replied
 pub mod Runs

@@ -1,5 +1,5 @@
 -- What is replied to requests of an index.
-use Rattle.std.specs.Prelude.{Bool, Err, IfOk, List, None, Ok, OnOk, Option, Result, Some, [], codes, false, true, ⊤, ℕ, ◌++◌, ◌∷◌, ◌≡◌, ◌≢◌, ◌⊎◌}
+use Rattle.std.specs.Prelude.{Bool, Err, IfOk, IsTrue, List, None, Ok, OnOk, Option, Result, Some, [], codes, false, true, ⊤, ℕ, ◌++◌, ◌∷◌, ◌≡◌, ◌≢◌, ◌⊎◌}
 use Rattle.std.specs.Cow.{cow_str_bytes}
 use Rattle.std.specs.declared.borrow.CowStr.{CowStr}
 use Rattle.common.specs.declared.analyzer.Analyzer as analyzers
@@ -16,7 +16,7 @@ use Rattle.definitions.specs.Step as steps
 use Rattle.definitions.specs.Values.{Document}
 use Rattle.definitions.specs.declared.fault.Fault.{Fault}
 use Rattle.definitions.specs.declared.fault.Fault.TheVariants as faults
-use Rattle.engine.specs.Indexes.{AddPasses, CommitPasses, IndexStands, KeepsFile, settings_of}
+use Rattle.engine.specs.Indexes.{AddPasses, CommitPasses, CrashLeavesEither, IndexRests, IndexStands, KeepsFile, device_of, settings_of}
 use Rattle.engine.specs.Merges.{MergePasses}
 use Rattle.engine.specs.declared.index.Index.{Index}
 use Rattle.definitions.specs.Replying.{stops}
@@ -59,6 +59,19 @@ IsUnwritten asked (Err fault) = fault ≢ faults.Device
 -- an index without its writer
 abbrev pub closed_writer : calls.Index → calls.Index
 closed_writer x = record { state = x.state; status = calls.writer_closed }
+
+-- an index that takes no call
+abbrev pub closed_index : calls.Index → calls.Index
+closed_index x = record { state = x.state; status = calls.closed }
+
+-- a failed device closed the index; over an honest device, where it rested, a crash at any moment left a file of the
+-- groups before what was asked, or of those after it
+pub record IsFailed {D A : Type 0} {d : devices.Ghosts D} {an : analyzers.Ghosts A} (analyze : A → Analyzer)
+    (old new : Index D A d an) (c : calls.Configuration) (x : calls.Index) (r : requests.Request) : Type 0 where
+  pub stands : IndexStands analyze new c (closed_index x)
+  pub files :
+      IsTrue (d.honest (device_of old)) → IndexRests old
+      → CrashLeavesEither analyze old new x.state.groups (steps.index_step c x r).1.state.groups
 
 -- a value is a document whose slot is too long beside a block
 abbrev pub HasLongSlot : Schema → Settings → json.Data → Type 0

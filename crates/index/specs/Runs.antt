@@ -1,5 +1,5 @@
 -- What a run over lines says of the states for which its sessions stand.
-use Rattle.std.specs.Prelude.{[], ◌++◌, ◌∷◌, ◌≡◌, ◌≢◌, ◌⊎◌, IsTrue, List, Option, Some, ℕ}
+use Rattle.std.specs.Prelude.{[], ◌++◌, ◌∷◌, ◌≡◌, ◌≢◌, ◌⊎◌, IsTrue, List, Option, Some, true, ℕ}
 use Rattle.std.specs.Io.KnownBytes.{Appends}
 use Rattle.common.specs.declared.analyzer.Analyzer as analyzers
 use Rattle.common.specs.declared.device.Device as devices
@@ -9,7 +9,8 @@ use Rattle.definitions.specs.Replying.{AreReplies, HasReason, output_line, reply
 use Rattle.definitions.specs.Step as steps
 use Rattle.definitions.specs.declared.fault.Fault.{Fault}
 use Rattle.definitions.specs.declared.fault.Fault.TheVariants as faults
-use Rattle.index.specs.Sessions.{HasHeld, IsLeft, IsReplied, MeetsLimitAt, StandsFor, analysis_of, failures_of, honest_of, parts_of, session_on}
+use Rattle.index.specs.Replied.{IsReplied}
+use Rattle.index.specs.Sessions.{HasHeld, IsLeft, MeetsLimitAt, StandsFor, analysis_of, closed_session, failures_of, honest_of, parts_of, session_on}
 use Rattle.index.specs.declared.session.Session.{Session}
 use Rattle.serve_lines.specs.Serving.{AnswersAll, ComesTo}
 
@@ -23,7 +24,8 @@ module _ {D A : Type 0} {d : devices.Ghosts D} {a : analyzers.Ghosts A} (first l
       × MeetsLimitAt session s line
 
   -- part of out is the replies to what is left of the lines, and the last session stands for the state after them: past
-  -- a fault that stops, over an honest device, for one that follows what it leaves; what follows `Device` is free
+  -- a fault that stops, over an honest device, for one that follows what it leaves, which after `Device` to a ready
+  -- index is a closed one, over a file of what was committed before or after; what follows another `Device` is free
   abbrev pub EndsAfter : steps.Session → List (List ℕ) → List ℕ → Type 0
   EndsAfter s [] part = (part ≡ []) × StandsFor last s
   EndsAfter s (line ∷ left) part =
@@ -32,7 +34,9 @@ module _ {D A : Type 0} {d : devices.Ghosts D} {a : analyzers.Ghosts A} (first l
       ⊎ ((fault : Fault) × HasReason MeetsLimitOnWay (Rose (failures_of first) (failures_of last)) s line fault
       × (rest : List ℕ) × (part ≡ output_line (reply_text fault) ++ rest)
       × (IsTrue (honest_of first) → fault ≢ faults.Device
-      → (t : steps.Session) × IsLeft s (steps.line_request line) fault t × EndsAfter t left rest))
+      → (t : steps.Session) × IsLeft s (steps.line_request line) fault t × EndsAfter t left rest)
+      × (IsTrue (honest_of first) → fault ≡ faults.Device → steps.is_ready s.stage ≡ true
+      → EndsAfter (closed_session s) left rest ⊎ EndsAfter (closed_session (steps.after_line s line)) left rest))
 
 module _ {D A : Type 0} {d : devices.Ghosts D} {a : analyzers.Ghosts A} where
   -- what a run that ends well has done
@@ -46,7 +50,7 @@ module _ {D A : Type 0} {d : devices.Ghosts D} {a : analyzers.Ghosts A} where
         (s : steps.Session) → StandsFor first s
         → AreReplies steps.answer_of steps.after_line (MeetsLimitOnWay first last lines out)
         (Rose (failures_of first) (failures_of last)) s lines out
-    -- and the last session stands for a state after all lines, unless a failed device was among the replies
+    -- and the last session stands for a state after all lines, unless a device failed where no index was ready
     pub ends : (s : steps.Session) → StandsFor first s → EndsAfter first last lines out s lines out
 
 -- what a run has done over a device and an analyzer, from a first session, over which no index is open yet

@@ -1,7 +1,6 @@
 -- What a session stands for, and what it answers.
-use Rattle.std.specs.Prelude.{[], ⊤, ◌≡◌, ◌≢◌, ◌≤◌, ◌⊎◌, Bool, Err, IfErr, IfOk, IsErrOf, IsTrue, List, None, Ok, OnOk, Option, Result, Some, false, option_map, ℕ}
+use Rattle.std.specs.Prelude.{[], ⊤, ◌≡◌, ◌≢◌, ◌⊎◌, Bool, Err, IfErr, IfOk, IsErrOf, IsTrue, List, None, Ok, OnOk, Option, Result, Some, false, option_map, true, ℕ}
 use Rattle.std.specs.Cow.{cow_str_bytes}
-use Rattle.std.specs.declared.alloc.Global.{Global}
 use Rattle.std.specs.declared.borrow.CowStr.{CowStr}
 use Rattle.common.specs.declared.analyzer.Analyzer as analyzers
 use Rattle.common.specs.declared.device.Device as devices
@@ -21,7 +20,7 @@ use Rattle.engine.specs.Files.{IsFileOf}
 use Rattle.engine.specs.Indexes.{IndexStands, IsInFile, analyzer_of, device_of, ending_of, schema_of, settings_of}
 use Rattle.index_file.specs.Kept.{IsKept}
 use Rattle.index_file.specs.Outcomes.{IsRefusal}
-use Rattle.index.specs.Replying.{GoesOn, IndexMeets, IsUnwritten, MayClose, MayStay, change_text, closed_writer}
+use Rattle.index.specs.Replying.{GoesOn, IndexMeets, MayClose, MayStay, change_text, closed_index, closed_writer}
 use Rattle.engine.specs.declared.index.Index.{Index}
 use Rattle.engine.specs.declared.refused.Refused.{Refused}
 use Rattle.index.specs.declared.session.Session.{Session}
@@ -65,13 +64,19 @@ IsSpare honest content knows analyze a device analyzer held =
     (a ≡ analysis_of knows analyze analyzer) × HasHeld honest content a.analyze device held
 
 module _ {D A : Type 0} {d : devices.Ghosts D} {an : analyzers.Ghosts A} (knows : A → List ℕ → Bool) (analyze : A → Analyzer) where
+  -- the index stands for this one; one that is closed, which takes no call, stands for any that is
+  abbrev pub StandsAs : Index D A d an → calls.Configuration → calls.Index → Type 0
+  StandsAs index c x =
+      IndexStands analyze index c x
+      ⊎ ((x.status ≡ calls.closed) × (y : calls.Index) × (y.status ≡ calls.closed) × IndexStands analyze index c y)
+
   -- the index is made of these, stands for this one, and has in its file what is committed
   pub record IsIndex (a : steps.Analysis) (index : Index D A d an) (schema : Schema) (settings : Settings) (x : calls.Index)
       : Type 0 where
     pub analysis : a ≡ analysis_of knows analyze (analyzer_of index)
     pub fields : schema_of index ≡ schema
     pub numbers : settings_of index ≡ settings
-    pub stands : IndexStands analyze index (steps.configuration_of schema a.analyze settings) x
+    pub stands : StandsAs index (steps.configuration_of schema a.analyze settings) x
     pub rests : IsInFile index x
     pub known : IsKnown d.honest d.content a.analyze (device_of index) schema settings x
 
@@ -206,6 +211,14 @@ abbrev pub IsLeft : steps.Session → Option requests.Request → Fault → step
 IsLeft s asked fault t =
     (t.analysis ≡ s.analysis) × IsLeftStage s.analysis.analyze asked fault s.stage t.stage
 
+-- the same session, whose index is closed
+abbrev pub closed_stage : steps.Stage → steps.Stage
+closed_stage (steps.no_index held) = steps.no_index held
+closed_stage (steps.index_of schema settings x) = steps.index_of schema settings (closed_index x)
+
+abbrev pub closed_session : steps.Session → steps.Session
+closed_session s = record s { stage = closed_stage s.stage }
+
 -- the reply to what was asked is the definitions', and the session stands for what comes after; `Device` has its cause,
 -- and `Limit` is the answer to an add, a merge or a commit that meets one; over an honest device the session stands for what
 -- other errors leave
@@ -220,14 +233,7 @@ pub record Replies {D A Z : Type 0} {d : devices.Ghosts D} {a : analyzers.Ghosts
       IsTrue (honest_of old)
       → IfErr result (λ fault. fault ≢ faults.Device
       → (t : steps.Session) × IsLeft s asked fault t × StandsFor new t)
-
--- what a reply to a line says: by each state for which the session before stood, and whatever it stood for
-pub record IsReplied {D A : Type 0} {d : devices.Ghosts D} {a : analyzers.Ghosts A} (old new : Session D A d a)
-    (line : List ℕ) (result : Result (CowStr Global) Fault) : Type 0 where
-  pub replies : (s : steps.Session) → StandsFor old s → Replies old new s (steps.line_request line) result
-  pub stops : IfErr result (λ fault. IsTrue (stops fault))
-  pub honest : honest_of new ≡ honest_of old
-  pub later : failures_of old ≤ failures_of new
-  -- whatever an honest device holds, no reply changes it but `Device`, and that an index was made, opened, committed or
-  -- merged
-  pub kept : IsTrue (honest_of old) → IsUnwritten (steps.line_request line) result → KeepsDeviceOf old new
+  -- where a ready index met a failed device it is closed, over a file of what was committed before or after
+  pub failed :
+      IsTrue (honest_of old) → steps.is_ready s.stage ≡ true → IsErrOf result faults.Device
+      → StandsFor new (closed_session s) ⊎ StandsFor new (closed_session ((steps.step s asked).1))

@@ -11,7 +11,8 @@ ghost use Rattle.definitions.specs.Scanning as scanning;
 ghost use Rattle.definitions.specs.Step as steps;
 ghost use Rattle.definitions.specs.declared.fault.Fault.TheVariants as faults;
 ghost use Rattle.index.specs.AskedRequests.{index_request_of};
-ghost use Rattle.index.specs.Replying.{Answers, GoesOn, IndexMeets, IsUnwritten, OnlyStops, TakesChange, change_text};
+ghost use Rattle.index.specs.Asking.{AsksIndex};
+ghost use Rattle.index.specs.Replying.{Answers, GoesOn, IndexMeets, IsFailed, IsUnwritten, OnlyStops, TakesChange, change_text};
 ghost use Rattle.engine.specs.Indexes.{IndexStands, IsInFile, KeepsFile, KeepsMaking, device_of};
 ghost use Rattle.engine.specs.HandedOn.{hit_of, scored};
 ghost use Rattle.definitions.specs.Replying.{stops};
@@ -55,6 +56,12 @@ pub(crate) fn answer<D: Device + Drop, A: Analyzer + Drop>(
     ensures limit { (c : calls.Configuration) (x : calls.Index) → IndexStands A.analyze index.old c x
         → IsErrOf result faults.Limit → IndexMeets A.analyze index.old c x (Some (index_request_of request.entry)) }
     ensures file { IsUnwritten (Some (index_request_of request.entry)) result → KeepsFile index.old index.new }
+    ensures asks { AsksIndex A.analyze index.old index.new (index_request_of request.entry) }
+    ensures closed { (c : calls.Configuration) (x : calls.Index) → IndexStands A.analyze index.old c x
+        → x.status ≡ calls.closed → ¬ IsErrOf result faults.Limit }
+    ensures failed { (c : calls.Configuration) (x : calls.Index) → IndexStands A.analyze index.old c x
+        → IsErrOf result faults.Device
+        → IsFailed A.analyze index.old index.new c x (index_request_of request.entry) }
 {
     match request {
         IndexRequest::Add(doc) => answer_change(index.add_value(doc)),

@@ -4,6 +4,7 @@
 mod answers;
 mod exit_status;
 mod json_replies;
+pub mod line_laws;
 mod requests;
 mod session;
 mod session_run;

@@ -84,7 +84,7 @@ impl<D: Device + Drop, A: Analyzer + Drop> Session<D, A> {
 }
 
 impl<D: Device + Drop, A: Analyzer + Drop> Service for Session<D, A> {
-    ghost use Rattle.index.specs.Sessions.{IsReplied};
+    ghost use Rattle.index.specs.Replied.{IsReplied};
 
     ghost replies = { IsReplied };
 
@@ -94,6 +94,7 @@ impl<D: Device + Drop, A: Analyzer + Drop> Service for Session<D, A> {
 }
 
 impl<D: Device + Drop, A: Analyzer + Drop> Session<D, A> {
+    ghost use Rattle.index.specs.Asking.{AsksOf, CreatesOf, OpensOf};
     ghost use Rattle.index.specs.Sessions.{KeepsDeviceOf, LeavesStage, Replies, StandsFor, failures_of, honest_of};
 
     /// Answers the request in `line`.
@@ -106,6 +107,9 @@ impl<D: Device + Drop, A: Analyzer + Drop> Session<D, A> {
         ensures kept { IsTrue (honest_of self.old)
             → IsUnwritten (steps.line_request line.now) result
             → KeepsDeviceOf self.old self.new }
+        ensures asks { IsTrue (honest_of self.old)
+            → AsksOf A.knows_name A.analyze self.old.stage self.new.stage
+            (steps.line_request line.now) }
     {
         match parse_line(self.alloc, line)? {
             Some(json) => self.answer_value(&json),
@@ -123,6 +127,9 @@ impl<D: Device + Drop, A: Analyzer + Drop> Session<D, A> {
         ensures kept { IsTrue (honest_of self.old)
             → IsUnwritten (requests.request_in (view json.now)) result
             → KeepsDeviceOf self.old self.new }
+        ensures asks { IsTrue (honest_of self.old)
+            → AsksOf A.knows_name A.analyze self.old.stage self.new.stage
+            (requests.request_in (view json.now)) }
     {
         match request_in(json) {
             Some(request) => self.answer(request),
@@ -140,6 +147,9 @@ impl<D: Device + Drop, A: Analyzer + Drop> Session<D, A> {
         ensures kept { IsTrue (honest_of self.old)
             → IsUnwritten (Some (request_of request.entry)) result
             → KeepsDeviceOf self.old self.new }
+        ensures asks { IsTrue (honest_of self.old)
+            → AsksOf A.knows_name A.analyze self.old.stage self.new.stage
+            (Some (request_of request.entry)) }
     {
         match request {
             Request::Create(schema, settings) => self.create(schema, settings),
@@ -160,6 +170,9 @@ impl<D: Device + Drop, A: Analyzer + Drop> Session<D, A> {
             → IsUnwritten
             (Some (requests.create_index (view schema.now) (option_map (λ d. view d.now) settings.entry))) result
             → KeepsDeviceOf self.old self.new }
+        ensures asks { IsTrue (honest_of self.old)
+            → AsksOf A.knows_name A.analyze self.old.stage self.new.stage
+            (Some (requests.create_index (view schema.now) (option_map (λ d. view d.now) settings.entry))) }
     {
         if self.has_ready_index() {
             return Ok(CowStr::Borrowed(Fault::AlreadyOpen.reply()));
@@ -180,6 +193,9 @@ impl<D: Device + Drop, A: Analyzer + Drop> Session<D, A> {
         ensures kept { IsTrue (honest_of self.old)
             → IsUnwritten (Some requests.open_index) result
             → KeepsDeviceOf self.old self.new }
+        ensures asks { IsTrue (honest_of self.old)
+            → AsksOf A.knows_name A.analyze self.old.stage self.new.stage
+            (Some requests.open_index) }
     {
         if self.has_ready_index() {
             return Ok(CowStr::Borrowed(Fault::AlreadyOpen.reply()));
@@ -197,6 +213,9 @@ impl<D: Device + Drop, A: Analyzer + Drop> Session<D, A> {
         ensures kept { IsTrue (honest_of self.old)
             → IsUnwritten (Some (index_request_of request.entry)) result
             → KeepsDeviceOf self.old self.new }
+        ensures asks { IsTrue (honest_of self.old)
+            → AsksOf A.knows_name A.analyze self.old.stage self.new.stage
+            (Some (index_request_of request.entry)) }
     {
         match &mut self.stage {
             Some(Stage::Standing(index)) => answer(index, request),
@@ -215,6 +234,7 @@ impl<D: Device + Drop, A: Analyzer + Drop> Session<D, A> {
         ensures limit { ¬ IsErrOf result faults.Limit }
         ensures kept { IsTrue (honest_of self.old)
             → IfErr result (λ fault. fault ≢ faults.Device → KeepsDeviceOf self.old self.new) }
+        ensures creates { IsTrue (honest_of self.old) → CreatesOf self.old.stage self.new.stage }
     {
         let Some(stage) = self.stage.take() else {
             unreachable!();
@@ -235,6 +255,7 @@ impl<D: Device + Drop, A: Analyzer + Drop> Session<D, A> {
             → ¬ IsErrOf result faults.Limit }
         ensures kept { IsTrue (honest_of self.old)
             → IfErr result (λ fault. fault ≢ faults.Device → KeepsDeviceOf self.old self.new) }
+        ensures opens { IsTrue (honest_of self.old) → OpensOf self.old.stage self.new.stage }
     {
         let Some(stage) = self.stage.take() else {
             unreachable!();

@@ -4,7 +4,7 @@
 ghost use Rattle.std.specs.Prelude.{IfSome, OnOk};
 ghost use Rattle.definitions.specs.Lines.{lines_of};
 ghost use Rattle.index.specs.Runs.{IsRun, IsRunOver};
-ghost use Rattle.index.specs.Sessions.{IsReplied};
+ghost use Rattle.index.specs.Replied.{IsReplied};
 
 use crate::session::Session;
 use common::{Analyzer, Device, RunFault};
@@ -41,9 +41,9 @@ pub fn run_session<R: BufRead, W: Write, D: Device + Drop, A: Analyzer + Drop>(
 ) -> Result<(), RunFault>
     // Where the reader's bytes are known, the lines are answered in turn, each by the session that the lines before
     // left. So the definitions' replies are written, up to a fault that stops: `Device` only if the session's device
-    // failed, `Limit` only if the session that came to the line meets one by it. Unless the reply of `Device` is among
-    // them, the session stands for what comes after all lines, over an honest device also after out of memory or a
-    // limit; so the file has what is committed then.
+    // failed, `Limit` only if the session that came to the line meets one by it. The session stands for what comes
+    // after all lines, over an honest device also after out of memory, a limit, or a device that failed under a ready
+    // index; so the file has what is committed then.
     ensures { OnOk result (IfSome (R.remaining reader.old) (λ input.
         IsRun session.old session.new (lines_of input) (W.contents writer.old) (W.contents writer.new))) }
 {
@@ -51,8 +51,9 @@ pub fn run_session<R: BufRead, W: Write, D: Device + Drop, A: Analyzer + Drop>(
 }
 
 /// Answers one `line` of JSON, and returns the reply. The errors are `OutOfMemory`, `Limit` and `Device`. `Device`
-/// comes only if the device failed, and after it the session need not stand for any state; `Limit` comes only if an
-/// add, a merge or a commit meets a limit: of a document's stored values, of a segment or of the file.
+/// comes only if the device failed; after it an index that was ready is closed, over the file before the line or after
+/// it. `Limit` comes only if an add, a merge or a commit meets a limit: of a document's stored values, of a segment or
+/// of the file.
 pub fn reply<D: Device + Drop, A: Analyzer + Drop>(
     session: &mut Session<D, A>,
     line: &str,

@@ -6,6 +6,7 @@ ghost use Rattle.definitions.specs.Step as steps;
 ghost use Rattle.definitions.specs.declared.fault.Fault.TheVariants as faults;
 ghost use Rattle.index_file.specs.Kept.{IsKept};
 ghost use Rattle.engine.specs.HandedOn.{status_of};
+ghost use Rattle.index.specs.Asking.{Creates, Opens};
 ghost use Rattle.index.specs.Sessions.{IsSpare, IsStage, LeavesStage, analyzer_on, device_on, left_by};
 
 use common::{Analyzer, Device};
@@ -52,6 +53,7 @@ impl<D: Device + Drop, A: Analyzer + Drop> Stage<D, A> {
         ensures limit { ¬ IsErrOf result.1 faults.Limit }
         ensures kept { IsTrue (D.honest (device_on self)) → IfErr result.1 (λ fault. fault ≢ faults.Device
             → IsKept D.moment D.left_since D.content D.unsynced (device_on self) (device_on result.0)) }
+        ensures creates { Creates self result.0 }
     {
         let (device, analyzer) = self.into_device();
         leave(Index::create(alloc, device, analyzer, schema, settings))
@@ -69,6 +71,7 @@ impl<D: Device + Drop, A: Analyzer + Drop> Stage<D, A> {
             → steps.is_ready s ≡ false → ¬ IsErrOf result.1 faults.Limit }
         ensures kept { IsTrue (D.honest (device_on self)) → IfErr result.1 (λ fault. fault ≢ faults.Device
             → IsKept D.moment D.left_since D.content D.unsynced (device_on self) (device_on result.0)) }
+        ensures opens { Opens self result.0 }
     {
         let (device, analyzer) = self.into_device();
         leave(Index::open(alloc, device, analyzer))

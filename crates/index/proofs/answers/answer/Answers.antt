@@ -6,13 +6,15 @@ use Rattle.definitions.specs.Step as steps
 use Rattle.definitions.specs.declared.fault.Fault.TheVariants as faults
 use Rattle.engine.specs.Indexes.{IndexStands, IsInFile, KeepsFile, device_of}
 use Rattle.index.specs.AskedRequests.{index_request_of}
-use Rattle.index.specs.Replying.{Answers, IndexMeets, IsUnwritten, OnlyStops}
+use Rattle.index.specs.Replying.{Answers, IndexMeets, IsFailed, IsUnwritten, OnlyStops}
 use Rattle.index.proofs.Answering.{add_refused, change_answers, taken_answers, write_kept, write_refused}
 use Rattle.index.proofs.Causes.{add_cause, any_answer, change_is_memory, memory_cause, memory_no_limit, met_limit, same_cause, same_error}
 use Rattle.index.proofs.IndexFiles.{counted_still, in_file_still, searched_still, step_status, written_in_file}
 use Rattle.index.proofs.KeptDevices.{unwritten_file}
 use Rattle.index.proofs.Leavings.{add_closes, add_stays, after_any, after_error, any_error, any_fault, error_of_change, reply_stops}
 use Rattle.serde_json.specs.View.{view}
+use Rattle.index.specs.Asking.{AsksIndex}
+use Rattle.index.proofs.Failures.{closed_no_limit, memory_no_device, no_add_failed, writes_failed}
 use Rattle.index.proofs.answers.answer.Goals as goal
 
 -- ---- an add
@@ -261,3 +263,85 @@ pub returns-in-Commit-clause-file : goal.returns-in-Commit-clause-file
 returns-in-Commit-clause-file g c unwritten =
     unwritten_file c.args.index.now c.commit.new.self (Some requests.commit_all) c.commit.result c.answer_change-in-Commit.result refl c.answer_change-in-Commit.ensures.text c.answer_change-in-Commit.ensures.on c.answer_change-in-Commit.ensures.same c.commit.ensures.kept
     (subst (λ r. IsUnwritten (Some (index_request_of r)) c.answer_change-in-Commit.result) c.in-Commit.is unwritten)
+
+-- ---- what is asked of the index
+
+pub returns-in-Add-clause-asks : goal.returns-in-Add-clause-asks
+returns-in-Add-clause-asks g c = inl c.add_value.ensures.file.0
+
+pub returns-in-Delete-clause-asks : goal.returns-in-Delete-clause-asks
+returns-in-Delete-clause-asks g c = inl c.delete.ensures.file.0
+
+pub returns-in-Merge-clause-asks : goal.returns-in-Merge-clause-asks
+returns-in-Merge-clause-asks g c =
+    subst (λ r. AsksIndex g.A.Analyzer.analyze c.args.index.now c.merge.new.self (index_request_of r)) (sym c.in-Merge.is)
+    (inr (calls.merge_range c.in-Merge.from c.in-Merge.to, refl, record { change = c.merge.result; writes = c.merge.ensures.writes; kept = c.merge.ensures.kept }))
+
+pub returns-in-Commit-clause-asks : goal.returns-in-Commit-clause-asks
+returns-in-Commit-clause-asks g c =
+    subst (λ r. AsksIndex g.A.Analyzer.analyze c.args.index.now c.commit.new.self (index_request_of r)) (sym c.in-Commit.is)
+    (inr (calls.commit_pending, refl, record { change = c.commit.result; writes = c.commit.ensures.writes; kept = c.commit.ensures.kept }))
+
+pub returns-in-Search-clause-asks : goal.returns-in-Search-clause-asks
+returns-in-Search-clause-asks g c = inl c.search.ensures.file.0
+
+pub returns-in-Count-clause-asks : goal.returns-in-Count-clause-asks
+returns-in-Count-clause-asks g c = inl refl
+
+-- ---- a closed index, and a failed device
+
+pub returns-in-Add-clause-closed : goal.returns-in-Add-clause-closed
+returns-in-Add-clause-closed g c k x s closed limit =
+    closed_no_limit k x (calls.add_value (view c.in-Add.doc.now)) c.add_value.result (IndexStands g.A.Analyzer.analyze c.add_value.new.self k) (c.add_value.ensures.left k x s) closed (same_error c.add_value.result c.answer_change.result faults.Limit c.answer_change.ensures.same limit)
+
+pub returns-in-Add-clause-failed : goal.returns-in-Add-clause-failed
+returns-in-Add-clause-failed g c k x s device =
+    absurd (no_add_failed k x (calls.add_value (view c.in-Add.doc.now)) c.add_value.result (IndexStands g.A.Analyzer.analyze c.add_value.new.self k) refl refl (c.add_value.ensures.left k x s) (same_error c.add_value.result c.answer_change.result faults.Device c.answer_change.ensures.same device))
+
+pub returns-in-Delete-clause-closed : goal.returns-in-Delete-clause-closed
+returns-in-Delete-clause-closed g c k x s closed limit =
+    let r = c.answer_change-in-Delete.result in
+    memory_no_limit r (change_is_memory c.delete.result r (c.delete.ensures.goes_on k x s) c.answer_change-in-Delete.ensures.same c.answer_change-in-Delete.ensures.err) limit
+
+pub returns-in-Delete-clause-failed : goal.returns-in-Delete-clause-failed
+returns-in-Delete-clause-failed g c k x s device =
+    let r = c.answer_change-in-Delete.result in
+    absurd (memory_no_device r (change_is_memory c.delete.result r (c.delete.ensures.goes_on k x s) c.answer_change-in-Delete.ensures.same c.answer_change-in-Delete.ensures.err) device)
+
+pub returns-in-Merge-clause-closed : goal.returns-in-Merge-clause-closed
+returns-in-Merge-clause-closed g c k x s closed limit =
+    closed_no_limit k x (calls.merge_range c.in-Merge.from c.in-Merge.to) c.merge.result (IndexStands g.A.Analyzer.analyze c.merge.new.self k) ((c.merge.ensures.writes k x s).left) closed (same_error c.merge.result c.answer_change-in-Merge.result faults.Limit c.answer_change-in-Merge.ensures.same limit)
+
+pub returns-in-Merge-clause-failed : goal.returns-in-Merge-clause-failed
+returns-in-Merge-clause-failed g c k x s device =
+    let analyze = g.A.Analyzer.analyze in
+    let old = c.args.index.now in
+    let new = c.merge.new.self in
+    subst (λ r. IsFailed analyze old new k x (index_request_of r)) (sym c.in-Merge.is)
+    (writes_failed analyze old new k x (requests.merge_groups c.in-Merge.from c.in-Merge.to) (calls.merge_range c.in-Merge.from c.in-Merge.to) c.merge.result refl (c.merge.ensures.writes k x s)
+    (same_error c.merge.result c.answer_change-in-Merge.result faults.Device c.answer_change-in-Merge.ensures.same device))
+
+pub returns-in-Commit-clause-closed : goal.returns-in-Commit-clause-closed
+returns-in-Commit-clause-closed g c k x s closed limit =
+    closed_no_limit k x calls.commit_pending c.commit.result (IndexStands g.A.Analyzer.analyze c.commit.new.self k) ((c.commit.ensures.writes k x s).left) closed (same_error c.commit.result c.answer_change-in-Commit.result faults.Limit c.answer_change-in-Commit.ensures.same limit)
+
+pub returns-in-Commit-clause-failed : goal.returns-in-Commit-clause-failed
+returns-in-Commit-clause-failed g c k x s device =
+    let analyze = g.A.Analyzer.analyze in
+    let old = c.args.index.now in
+    let new = c.commit.new.self in
+    subst (λ r. IsFailed analyze old new k x (index_request_of r)) (sym c.in-Commit.is)
+    (writes_failed analyze old new k x requests.commit_all calls.commit_pending c.commit.result refl (c.commit.ensures.writes k x s)
+    (same_error c.commit.result c.answer_change-in-Commit.result faults.Device c.answer_change-in-Commit.ensures.same device))
+
+pub returns-in-Search-clause-closed : goal.returns-in-Search-clause-closed
+returns-in-Search-clause-closed g c k x s closed limit = memory_no_limit c.search.result (c.search.ensures.err k x s) limit
+
+pub returns-in-Search-clause-failed : goal.returns-in-Search-clause-failed
+returns-in-Search-clause-failed g c k x s device = absurd (memory_no_device c.search.result (c.search.ensures.err k x s) device)
+
+pub returns-in-Count-clause-closed : goal.returns-in-Count-clause-closed
+returns-in-Count-clause-closed g c k x s closed limit = memory_no_limit c.count.result (c.count.ensures.err k x s) limit
+
+pub returns-in-Count-clause-failed : goal.returns-in-Count-clause-failed
+returns-in-Count-clause-failed g c k x s device = absurd (memory_no_device c.count.result (c.count.ensures.err k x s) device)

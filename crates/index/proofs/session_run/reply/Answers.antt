@@ -7,4 +7,5 @@ returns g c = record {
   honest = c.answer_line.ensures.honest;
   later = c.answer_line.ensures.later;
   kept = c.answer_line.ensures.kept;
+  asks = c.answer_line.ensures.asks;
 }

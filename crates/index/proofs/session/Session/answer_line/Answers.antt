@@ -5,6 +5,8 @@ use Rattle.index.specs.Replying.{IsUnwritten}
 use Rattle.index.proofs.KeptDevices.{same_kept}
 use Rattle.index.proofs.SessionSteps.{line_asks, memory_reply, unasked_reply}
 use Rattle.serde_json.specs.View.{view}
+use Rattle.index.specs.Asking.{AsksOf}
+use Rattle.index.proofs.Asked.{same_asks}
 use Rattle.index.proofs.session.Session.answer_line.Goals as goal
 
 pub returns-in_err-json-clause-answered : goal.returns-in_err-json-clause-answered
@@ -29,3 +31,14 @@ returns-in-Some-clause-kept g c honest unwritten =
 
 pub returns-in-None-clause-kept : goal.returns-in-None-clause-kept
 returns-in-None-clause-kept g c honest unwritten = same_kept g.met.D.Device.only_now c.args.self.now.stage honest
+
+pub returns-in_err-json-clause-asks : goal.returns-in_err-json-clause-asks
+returns-in_err-json-clause-asks g c honest = same_asks g.A.Analyzer.knows_name g.A.Analyzer.analyze c.args.self.now.stage _ honest
+
+pub returns-in-Some-clause-asks : goal.returns-in-Some-clause-asks
+returns-in-Some-clause-asks g c honest =
+    let asks = line_asks c.args.line.now (Some (view c.in-Some.json)) (ap (option_map view) (sym c.in-Some.is) ∙ c.in_ok-json.ensures) in
+    subst (λ q. AsksOf g.A.Analyzer.knows_name g.A.Analyzer.analyze c.args.self.now.stage c.answer_value.new.self.stage q) (sym asks) (c.answer_value.ensures.asks honest)
+
+pub returns-in-None-clause-asks : goal.returns-in-None-clause-asks
+returns-in-None-clause-asks g c honest = same_asks g.A.Analyzer.knows_name g.A.Analyzer.analyze c.args.self.now.stage _ honest

@@ -4,6 +4,8 @@ use Rattle.index.specs.Sessions.{Replies}
 use Rattle.index.specs.Replying.{IsUnwritten}
 use Rattle.index.proofs.KeptDevices.{same_kept}
 use Rattle.index.proofs.SessionSteps.{unasked_reply}
+use Rattle.index.specs.Asking.{AsksOf}
+use Rattle.index.proofs.Asked.{same_asks}
 use Rattle.index.proofs.session.Session.answer_value.Goals as goal
 
 pub returns-in-Some-clause-answered : goal.returns-in-Some-clause-answered
@@ -19,3 +21,10 @@ returns-in-Some-clause-kept g c honest unwritten =
 
 pub returns-in-None-clause-kept : goal.returns-in-None-clause-kept
 returns-in-None-clause-kept g c honest unwritten = same_kept g.met.D.Device.only_now c.args.self.now.stage honest
+
+pub returns-in-Some-clause-asks : goal.returns-in-Some-clause-asks
+returns-in-Some-clause-asks g c honest =
+    subst (λ q. AsksOf g.A.Analyzer.knows_name g.A.Analyzer.analyze c.args.self.now.stage c.answer.new.self.stage q) (ap (option_map request_of) (sym c.in-Some.is) ∙ c.request_in.ensures) (c.answer.ensures.asks honest)
+
+pub returns-in-None-clause-asks : goal.returns-in-None-clause-asks
+returns-in-None-clause-asks g c honest = same_asks g.A.Analyzer.knows_name g.A.Analyzer.analyze c.args.self.now.stage _ honest

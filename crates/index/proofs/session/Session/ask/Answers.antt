@@ -4,12 +4,29 @@ use Rattle.index.specs.AskedRequests.{index_request_of}
 use Rattle.index.specs.Sessions.{HasStage, KeepsDevice, honest_on}
 use Rattle.index.proofs.KeptDevices.{index_kept, same_kept}
 use Rattle.index.proofs.SessionSteps.{index_reply, none_asked, refused_reply, same_stage}
+use Rattle.index.specs.Asking.{AsksOf}
+use Rattle.index.proofs.Asked.{index_asks, same_asks}
 use Rattle.index.proofs.session.Session.ask.Goals as goal
 
 pub returns-in-Some-Standing-clause-answered : goal.returns-in-Some-Standing-clause-answered
 returns-in-Some-Standing-clause-answered g c s h =
+    let answer = c.answer.ensures in
+    let m = g.met.D.Device in
     index_reply s c.args.self.now _ c.in-Some-Standing.index c.answer.new.index c.args.request c.answer.result (c.in-Some-Standing.is ∙ ap Some c.in-Some-Standing.field-0-is) refl h
-    c.answer.ensures.answered c.answer.ensures.made c.answer.ensures.kept c.answer.ensures.rests c.answer.ensures.honest c.answer.ensures.left c.answer.ensures.failures c.answer.ensures.limit
+    (record {
+      answered = answer.answered;
+      made = answer.made;
+      kept = answer.kept;
+      rests = answer.rests;
+      honest = answer.honest;
+      left = answer.left;
+      failures = answer.failures;
+      limit = answer.limit;
+      closed = answer.closed;
+      failed = answer.failed;
+      counts_now = m.counts_now;
+      remains = m.remains;
+    })
 
 pub returns-in-Some-Spare-clause-answered : goal.returns-in-Some-Spare-clause-answered
 returns-in-Some-Spare-clause-answered g c s h =
@@ -31,3 +48,14 @@ returns-in-Some-Standing-clause-kept g c honest unwritten =
 
 pub returns-in-Some-Spare-clause-kept : goal.returns-in-Some-Spare-clause-kept
 returns-in-Some-Spare-clause-kept g c honest unwritten = subst (KeepsDevice c.args.self.now.stage) c.in-Some-Spare.is (same_kept g.met.D.Device.only_now c.args.self.now.stage honest)
+
+pub returns-in-Some-Standing-clause-asks : goal.returns-in-Some-Standing-clause-asks
+returns-in-Some-Standing-clause-asks g c honest =
+    index_asks g.A.Analyzer.knows_name g.A.Analyzer.analyze c.in-Some-Standing.index c.answer.new.index c.args.self.now.stage _ (index_request_of c.args.request) (c.in-Some-Standing.is ∙ ap Some c.in-Some-Standing.field-0-is) refl c.answer.ensures.asks
+
+pub returns-in-Some-Spare-clause-asks : goal.returns-in-Some-Spare-clause-asks
+returns-in-Some-Spare-clause-asks g c honest =
+    let knows = g.A.Analyzer.knows_name in
+    let analyze = g.A.Analyzer.analyze in
+    let asked = Some (index_request_of c.args.request) in
+    subst (λ o. AsksOf knows analyze c.args.self.now.stage o asked) c.in-Some-Spare.is (same_asks knows analyze c.args.self.now.stage asked honest)

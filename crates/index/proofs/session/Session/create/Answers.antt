@@ -1,14 +1,15 @@
-use Rattle.std.proofs.Common.{Some, false, option_map, refl, sym, true, ◌≡◌}
+use Rattle.std.proofs.Common.{Some, false, option_map, refl, subst, sym, true, ◌≡◌}
 use Rattle.definitions.specs.Requests as requests
 use Rattle.definitions.specs.Step as steps
 use Rattle.definitions.specs.declared.fault.Fault.TheVariants as faults
 use Rattle.definitions.specs.Replying.{stops}
-use Rattle.index.specs.Sessions.{KeepsDeviceOf}
+use Rattle.index.specs.Sessions.{HasStage, KeepsDeviceOf}
 use Rattle.index.proofs.Answering.{going_on}
 use Rattle.index.proofs.Causes.{stop_is_memory, unread_goes_on}
 use Rattle.index.proofs.KeptDevices.{same_kept, unwritten_change}
 use Rattle.index.proofs.SessionSteps.{already_made, created_step, on_map, refused_reply, replied, unread_step}
 use Rattle.serde_json.specs.View.{view}
+use Rattle.index.proofs.Asked.{create_asks, same_asks}
 use Rattle.index.proofs.session.Session.create.Goals as goal
 
 pub returns-then-has_ready_index-clause-answered : goal.returns-then-has_ready_index-clause-answered
@@ -48,3 +49,17 @@ pub returns-in-Ok-clause-kept : goal.returns-in-Ok-clause-kept
 returns-in-Ok-clause-kept g c honest unwritten =
     unwritten_change (Some (requests.create_index (view c.args.schema.now) (option_map (λ x. view x.now) c.args.settings))) c.make.result c.answer_change.result (KeepsDeviceOf c.args.self.now c.make.new.self) refl
     c.answer_change.ensures.text c.answer_change.ensures.on c.answer_change.ensures.same (c.make.ensures.kept honest) unwritten
+
+pub returns-then-has_ready_index-clause-asks : goal.returns-then-has_ready_index-clause-asks
+returns-then-has_ready_index-clause-asks g c honest = same_asks g.A.Analyzer.knows_name g.A.Analyzer.analyze c.args.self.now.stage _ honest
+
+pub returns-in-Err-clause-asks : goal.returns-in-Err-clause-asks
+returns-in-Err-clause-asks g c honest = same_asks g.A.Analyzer.knows_name g.A.Analyzer.analyze c.args.self.now.stage _ honest
+
+pub returns-in-Ok-clause-asks : goal.returns-in-Ok-clause-asks
+returns-in-Ok-clause-asks g c honest =
+    let knows = g.A.Analyzer.knows_name in
+    let analyze = g.A.Analyzer.analyze in
+    create_asks knows analyze c.args.self.now.stage c.make.new.self.stage (view c.args.schema.now) (option_map (λ x. view x.now) c.args.settings)
+    (λ old is a s h. sym (c.if-has_ready_index.ensures (record { analysis = a; stage = s }) (subst (λ o. HasStage knows analyze a o s) (sym is) h)))
+    (c.make.ensures.creates honest)

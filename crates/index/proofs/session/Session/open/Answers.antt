@@ -1,10 +1,11 @@
-use Rattle.std.proofs.Common.{Some, false, refl, sym, true, ◌≡◌}
+use Rattle.std.proofs.Common.{Some, false, refl, subst, sym, true, ◌≡◌}
 use Rattle.definitions.specs.Requests as requests
 use Rattle.definitions.specs.Step as steps
 use Rattle.definitions.specs.declared.fault.Fault.TheVariants as faults
-use Rattle.index.specs.Sessions.{KeepsDeviceOf}
+use Rattle.index.specs.Sessions.{HasStage, KeepsDeviceOf}
 use Rattle.index.proofs.KeptDevices.{same_kept, unwritten_change}
 use Rattle.index.proofs.SessionSteps.{already_opened, opened_step, refused_reply, replied}
+use Rattle.index.proofs.Asked.{open_asks, same_asks}
 use Rattle.index.proofs.session.Session.open.Goals as goal
 
 pub returns-then-has_ready_index-clause-answered : goal.returns-then-has_ready_index-clause-answered
@@ -25,3 +26,14 @@ pub returns-clause-kept : goal.returns-clause-kept
 returns-clause-kept g c honest unwritten =
     unwritten_change (Some requests.open_index) c.reopen.result c.answer_change.result (KeepsDeviceOf c.args.self.now c.reopen.new.self) refl
     c.answer_change.ensures.text c.answer_change.ensures.on c.answer_change.ensures.same (c.reopen.ensures.kept honest) unwritten
+
+pub returns-then-has_ready_index-clause-asks : goal.returns-then-has_ready_index-clause-asks
+returns-then-has_ready_index-clause-asks g c honest = same_asks g.A.Analyzer.knows_name g.A.Analyzer.analyze c.args.self.now.stage (Some requests.open_index) honest
+
+pub returns-clause-asks : goal.returns-clause-asks
+returns-clause-asks g c honest =
+    let knows = g.A.Analyzer.knows_name in
+    let analyze = g.A.Analyzer.analyze in
+    open_asks knows analyze c.args.self.now.stage c.reopen.new.self.stage
+    (λ old is a s h. sym (c.if-has_ready_index.ensures (record { analysis = a; stage = s }) (subst (λ o. HasStage knows analyze a o s) (sym is) h)))
+    (c.reopen.ensures.opens honest)

@@ -6,6 +6,8 @@ use Rattle.std.specs.Prelude.{IsErrOf}
 use Rattle.index_file.specs.Kept.{IsKept}
 use Rattle.index.specs.Sessions.{LeavesStage, device_on}
 use Rattle.index.proofs.Stages.{create_left, made_no_limit, stage_failures, stage_honest, stage_kept}
+use Rattle.index.specs.Asking.{Creates}
+use Rattle.index.proofs.Asked.{creates_of}
 use Rattle.index.proofs.stage.Stage.create.Goals as goal
 
 pub returns-clause-left : goal.returns-clause-left
@@ -39,3 +41,8 @@ returns-clause-kept g c honest =
     let old = device_on c.args.self in
     subst (λ r. IfErr r.1 (λ fault. fault ≢ faults.Device → IsKept d.moment d.left_since d.content d.unsynced old (device_on r.0))) (sym c.leave.ensures)
     (stage_kept old c.into_device-device.result.0 c.create.result c.into_device-device.ensures.device c.create.ensures.kept honest)
+
+pub returns-clause-creates : goal.returns-clause-creates
+returns-clause-creates g c =
+    subst (λ r. Creates c.args.self r.0) (sym c.leave.ensures)
+    (creates_of c.args.self c.into_device-device.result.0 c.create.result c.into_device-device.ensures.device c.create.ensures.any_moment)

@@ -6,6 +6,8 @@ use Rattle.std.specs.Prelude.{IsErrOf}
 use Rattle.index_file.specs.Kept.{IsKept}
 use Rattle.index.specs.Sessions.{LeavesStage, device_on}
 use Rattle.index.proofs.Stages.{held_honest, open_left, opened_no_limit, stage_failures, stage_honest, stage_kept}
+use Rattle.index.specs.Asking.{Opens}
+use Rattle.index.proofs.Asked.{opens_of}
 use Rattle.index.proofs.stage.Stage.open.Goals as goal
 
 pub returns-clause-left : goal.returns-clause-left
@@ -42,3 +44,8 @@ returns-clause-kept g c honest =
     let old = device_on c.args.self in
     subst (λ r. IfErr r.1 (λ fault. fault ≢ faults.Device → IsKept d.moment d.left_since d.content d.unsynced old (device_on r.0))) (sym c.leave.ensures)
     (stage_kept old c.into_device-device.result.0 c.open.result c.into_device-device.ensures.device c.open.ensures.kept honest)
+
+pub returns-clause-opens : goal.returns-clause-opens
+returns-clause-opens g c =
+    subst (λ r. Opens c.args.self r.0) (sym c.leave.ensures)
+    (opens_of c.args.self c.into_device-device.result.0 c.open.result c.into_device-device.ensures.device c.open.ensures.any_moment)
