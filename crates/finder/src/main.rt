@@ -1,15 +1,17 @@
-//! `finder`: keeps two titles in the index of a file, and prints those with a word, the best first.
+//! `finder`: adds two titles to the index of a file, and prints those with a word, the best first.
 #![tactic(auto)]
 
-use common::{FileDevice, RawAndDefault};
-use definitions::Fault;
-use index::{AnyQuery, Hit, Index, OwnedValue, Settings, TermQuery};
-use options::{IndexRecordOption, STORED, TEXT};
-use schema::{Schema, Term};
+use index::{
+    AnyQuery, Fault, FileDevice, Hit, Index, IndexRecordOption, OwnedValue, RawAndDefault, Refused,
+    STORED, Schema, Settings, TEXT, Term, TermQuery,
+};
 use std::process::ExitCode;
 
 /// The file of the index.
 const PATH: &str = "titles.idx";
+
+/// The index of a file, whose texts are cut into words of ASCII letters without case.
+type Titles = Index<FileDevice, RawAndDefault>;
 
 fn main(rt: HostRuntime) -> ExitCode {
     match find(&rt) {
@@ -24,7 +26,7 @@ fn main(rt: HostRuntime) -> ExitCode {
 /// Adds two titles, and prints those with the word `sea`.
 fn find(rt: &HostRuntime) -> Result<(), Fault> {
     let alloc = rt.alloc();
-    let mut index = create(rt)?;
+    let mut index = open_or_create(rt)?;
     index.add_json(r#"{"title":"the old sea"}"#)?;
     index.add_json(r#"{"title":"sea sea wind"}"#)?;
     index.commit()?;
@@ -37,14 +39,30 @@ fn find(rt: &HostRuntime) -> Result<(), Fault> {
     Ok(())
 }
 
-/// Creates an index without documents in the file, which must hold none yet.
-fn create(rt: &HostRuntime) -> Result<Index<FileDevice, RawAndDefault>, Fault> {
+/// Opens the index of the file, or creates one without documents where there is none yet.
+fn open_or_create(rt: &HostRuntime) -> Result<Titles, Fault> {
+    let device = FileDevice::open(rt, PATH)?;
+    match Index::open(rt.alloc(), device, RawAndDefault) {
+        Ok(index) => Ok(index),
+        Err(refused) => create(rt, refused),
+    }
+}
+
+/// Creates an index on the device of what wasn't opened, if that is because it holds none.
+fn create(rt: &HostRuntime, refused: Refused<FileDevice, RawAndDefault>) -> Result<Titles, Fault> {
     let alloc = rt.alloc();
+    let Refused {
+        fault,
+        device,
+        analyzer,
+    } = refused;
+    if fault != Fault::NoIndex {
+        return Err(fault);
+    }
     let mut builder = Schema::builder(alloc);
     builder.add_text_field("title", TEXT | STORED)?;
     let settings = Settings::default(alloc)?;
-    let device = FileDevice::open(rt, PATH)?;
-    let index = Index::create(alloc, device, RawAndDefault, builder.build(), settings)?;
+    let index = Index::create(alloc, device, analyzer, builder.build(), settings)?;
     Ok(index)
 }
 

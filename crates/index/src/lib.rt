@@ -10,6 +10,8 @@ mod session;
 mod session_run;
 mod stage;
 
+pub use common::{Analyzer, Device, FileDevice, MemoryDevice, RawAndDefault, Token};
+pub use definitions::Fault;
 pub use document::NamedDocument;
 pub use document_values::OwnedValue;
 pub use engine::{Hit, Index, Refused, Status, file_laws};
@@ -18,6 +20,11 @@ pub use query_checks::read_query;
 pub use query_trees::{
     AllQuery, AnyQuery, BooleanQuery, BoostQuery, ConstScoreQuery, DisjunctionMaxQuery, EmptyQuery,
     Occur, PhrasePrefixQuery, PhraseQuery, TermQuery,
+};
+pub use schema::{
+    BytesOptions, COERCE, DateOptions, DateTime, FAST, Facet, FacetOptions, Field, INDEXED,
+    IndexRecordOption, IpAddrOptions, JsonObjectOptions, NumericOptions, STORED, STRING, Schema,
+    SchemaBuilder, TEXT, Term, TextFieldIndexing, TextOptions,
 };
 pub use session::Session;
 pub use session_run::{reply, run, run_session};
