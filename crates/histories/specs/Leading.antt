@@ -5,13 +5,21 @@ use Rattle.common.specs.declared.device.Device as devices
 use Rattle.definitions.specs.Analyzers.{Analyzer}
 use Rattle.definitions.specs.Calls as calls
 use Rattle.definitions.specs.Disk.{settled}
+use Rattle.definitions.specs.Step.{reopened}
+use Rattle.definitions.specs.Values.{Document}
 use Rattle.histories.specs.Calls.{IsCalled, IsOpening}
-use Rattle.engine.specs.Indexes.{analyzer_of, device_after, device_of}
+use Rattle.engine.specs.Indexes.{IndexRests, IndexStands, analyzer_of, device_after, device_of}
 use Rattle.engine.specs.declared.index.Index.{Index}
 use Rattle.engine.specs.declared.refused.Refused.{Refused}
 use Rattle.histories.specs.Events.{Event, Outcome, called, cut_off, opened}
 
 module _ {D A : Type 0} (d : devices.Ghosts D) (a : analyzers.Ghosts A) where
+  -- a history begins with an index in whose file, on an honest device, these groups are committed, and nothing waits
+  pub record Begins (index : Index D A d a) (c : calls.Configuration) (groups : List (List Document)) : Type 0 where
+    pub honest : IsTrue (d.honest (device_of index))
+    pub stands : IndexStands a.analyze index c (reopened groups)
+    pub rests : IndexRests index
+
   -- an honest device that holds what a crash left, all of it on the disk
   pub record IsRestarted (device : D) (image : List ℕ) : Type 0 where
     pub honest : IsTrue (d.honest device)

@@ -1,9 +1,16 @@
-//! The calls of an index. Each function makes the call of its name, and states that the call is a step of a history.
+//! The calls of an index. Each function makes the call of its name, and states that the call is a step of a history, or
+//! begins one.
 
-ghost use Rattle.std.specs.Prelude.{map};
+ghost use Rattle.std.specs.Prelude.{[], IfOk, IsTrue, List, map};
 ghost use Rattle.definitions.specs.Calls as calls;
+ghost use Rattle.definitions.specs.Schema.{Schema as Fields};
+ghost use Rattle.definitions.specs.Settings.{Settings as Numbers};
+ghost use Rattle.definitions.specs.Step.{configuration_of};
+ghost use Rattle.definitions.specs.Values.{Document};
+ghost use Rattle.engine.specs.Files.{IsFileOf};
 ghost use Rattle.engine.specs.HandedOn.{hit_of};
 ghost use Rattle.histories.specs.Calls.{IsCalled, IsOpening, done, hits, number, outcome_of};
+ghost use Rattle.histories.specs.Leading.{Begins};
 ghost use Rattle.query_trees.specs.Queries.{query_of};
 ghost use Rattle.serde_json.specs.View.{view};
 
@@ -12,7 +19,9 @@ use definitions::Fault;
 use document::CompactDoc;
 use engine::{Hit, Index, Refused};
 use query_trees::AnyQuery;
+use schema::Schema;
 use serde_json::Value as Json;
+use settings::Settings;
 use std::alloc::Global;
 use std::ops::Range;
 use terms::Term;
@@ -102,13 +111,30 @@ pub fn count<D: Device + Drop, A: Analyzer + Drop>(
     index.count(query)
 }
 
-/// Opens the index of the file on a device.
+/// Creates an index without documents on a device that holds no byte: a history begins with it.
+pub fn create<D: Device + Drop, A: Analyzer + Drop>(
+    alloc: Global,
+    device: D,
+    analyzer: A,
+    schema: Schema,
+    settings: Settings,
+) -> Result<Index<D, A>, Refused<D, A>>
+    ensures { IsTrue (D.honest device) → IfOk result (λ index.
+        Begins D.Device A.Analyzer index (configuration_of schema (A.analyze analyzer) settings) []) }
+{
+    Index::create(alloc, device, analyzer, schema, settings)
+}
+
+/// Opens the index of the file on a device. A history begins with it, too, where the file is of groups.
 pub fn open<D: Device + Drop, A: Analyzer + Drop>(
     alloc: Global,
     device: D,
     analyzer: A,
 ) -> Result<Index<D, A>, Refused<D, A>>
-    ensures { IsOpening A.analyze (A.analyze analyzer) device result }
+    ensures opening { IsOpening A.analyze (A.analyze analyzer) device result }
+    ensures begins { (schema : Fields) (settings : Numbers) (groups : List (List Document)) → IsTrue (D.honest device)
+        → IsFileOf schema settings (A.analyze analyzer) groups (D.content device) → IfOk result (λ index.
+        Begins D.Device A.Analyzer index (configuration_of schema (A.analyze analyzer) settings) groups) }
 {
     Index::open(alloc, device, analyzer)
 }

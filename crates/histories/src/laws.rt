@@ -1,6 +1,6 @@
 //! Laws of histories: what stands after any calls, crashes and openings, and what is answered on the way.
 
-ghost use Rattle.std.specs.Prelude.{[], ◌++◌, ◌∷◌, ◌≡◌, ◌⊎◌, IsTrue, List, Ok, false, map, ℕ, ℤ};
+ghost use Rattle.std.specs.Prelude.{[], ◌++◌, ◌∷◌, ◌≡◌, ◌⊎◌, List, Ok, false, map, ℕ, ℤ};
 ghost use Rattle.std.specs.List.{AllByRecursion};
 ghost use Rattle.definitions.specs.Calls.{Call, Configuration, after, commit_pending, count_all, is_commit, is_merge, search_best};
 ghost use Rattle.definitions.specs.Query.{Query};
@@ -11,9 +11,9 @@ ghost use Rattle.definitions.specs.Stored.{Named};
 ghost use Rattle.definitions.specs.Values.{Document};
 ghost use Rattle.histories.specs.Calls.{IsCalled, done, hits, number};
 ghost use Rattle.engine.specs.HandedOn.{scored};
-ghost use Rattle.engine.specs.Indexes.{IndexRests, IndexStands, device_of};
+ghost use Rattle.engine.specs.Indexes.{IndexStands};
 ghost use Rattle.histories.specs.Events.{Event, IsSmooth, MayLead, Outcome, Standing, all_called, called, cut_off, standing_of, state_after};
-ghost use Rattle.histories.specs.Leading.{LeadsTo};
+ghost use Rattle.histories.specs.Leading.{Begins, LeadsTo};
 
 use common::{Analyzer, Device};
 use engine::Index;
@@ -26,8 +26,7 @@ pub fn every_history_is_that_of_the_definitions<D: Device, A: Analyzer>(
     last: &Index<D, A>,
 )
     ensures { (c : Configuration) (groups : List (List Document)) (events : List Event)
-        → IsTrue (D.honest (device_of first.now)) → IndexStands A.analyze first.now c (reopened groups)
-        → IndexRests first.now → LeadsTo D.Device A.Analyzer first.now events last.now
+        → Begins D.Device A.Analyzer first.now c groups → LeadsTo D.Device A.Analyzer first.now events last.now
         → (t : Standing) × MayLead c (standing_of groups) events t × IndexStands A.analyze last.now c t.index }
 {}
 
@@ -62,15 +61,13 @@ pub fn openings_are_answered_as_a_plain_scan<D: Device, A: Analyzer>(
 )
     ensures search { (c : Configuration) (groups : List (List Document)) (events : List Event) (q : Query)
         (k : ℕ) (shown : List (ℤ × Named))
-        → IsTrue (D.honest (device_of first.now)) → IndexStands A.analyze first.now c (reopened groups)
-        → IndexRests first.now → AllByRecursion IsSmooth events
+        → Begins D.Device A.Analyzer first.now c groups → AllByRecursion IsSmooth events
         → LeadsTo D.Device A.Analyzer first.now events last.now
         → IsCalled A.analyze last.now asked.now (search_best q k) (Ok (hits shown))
         → shown ≡ map scored (scan c.schema c.analyze c.similarity
         (committed (state_after c (reopened groups).state events)) q k) }
     ensures count { (c : Configuration) (groups : List (List Document)) (events : List Event) (q : Query) (n : ℕ)
-        → IsTrue (D.honest (device_of first.now)) → IndexStands A.analyze first.now c (reopened groups)
-        → IndexRests first.now → AllByRecursion IsSmooth events
+        → Begins D.Device A.Analyzer first.now c groups → AllByRecursion IsSmooth events
         → LeadsTo D.Device A.Analyzer first.now events last.now
         → IsCalled A.analyze last.now asked.now (count_all q) (Ok (number n))
         → n ≡ scan_count c.schema c.analyze (committed (state_after c (reopened groups).state events)) q }
@@ -83,8 +80,7 @@ pub fn a_crash_inside_the_last_call_leaves_one_of_two<D: Device, A: Analyzer>(
     last: &Index<D, A>,
 )
     ensures { (c : Configuration) (groups : List (List Document)) (events : List Event) (call : Call)
-        → IsTrue (D.honest (device_of first.now)) → IndexStands A.analyze first.now c (reopened groups)
-        → IndexRests first.now → AllByRecursion IsSmooth events
+        → Begins D.Device A.Analyzer first.now c groups → AllByRecursion IsSmooth events
         → LeadsTo D.Device A.Analyzer first.now (events ++ cut_off call ∷ []) last.now
         → IndexStands A.analyze last.now c (reopened (state_after c (reopened groups).state events).groups)
         ⊎ IndexStands A.analyze last.now c
