@@ -1,0 +1,2 @@
+-- Lemmas behind the weights.
+pub mod WeighedLaws
