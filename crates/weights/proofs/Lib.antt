@@ -1,2 +1,6 @@
 -- Lemmas behind the weights.
 pub mod WeighedLaws
+pub mod LeafLaws
+pub mod UnscoredLaws
+pub mod GivenLaws
+pub mod TreeLaws

@@ -1,0 +1,30 @@
+//! The weight of a term in a segment.
+
+ghost use Rattle.definitions.specs.Query.{term};
+ghost use Rattle.term_weight.specs.TermWeights.{ScoresBy, option_asked, term_of};
+
+use crate::found_scorer::FoundScorer;
+use crate::weight::SegmentWeight;
+use common::Score;
+use segment_reader::SegmentReader;
+use std::alloc::{AllocError, Global};
+use term_scorer::TermScorer;
+use term_weight::TermWeight;
+
+impl<'q, 'a> SegmentWeight<'a> for TermWeight<'q, 'a> {
+    type Scorer = FoundScorer<TermScorer<'a>>;
+
+    ghost scores_by = { λ w sim. ScoresBy sim w };
+
+    ghost query = { λ w. term (term_of w) (option_asked w) };
+
+    fn scorer(
+        &self,
+        _alloc: Global,
+        reader: &SegmentReader<'a>,
+        boost: Score,
+    ) -> Result<FoundScorer<TermScorer<'a>>, AllocError> {
+        let found = self.term_scorer(reader, boost);
+        Ok(FoundScorer::new(found))
+    }
+}
