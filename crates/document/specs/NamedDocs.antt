@@ -6,6 +6,8 @@ use Rattle.definitions.specs.Stored.{Named}
 use Rattle.definitions.specs.Values.{Document, Value}
 use Rattle.document_values.specs.Owned.{owned_values}
 use Rattle.document_values.specs.declared.owned_value.OwnedValue.{OwnedValue}
+use Rattle.serde_json.specs.Data.{Data}
+use Rattle.serde_json.specs.Written.{compact_text, has_float}
 
 -- fields with their values, as they are held
 abbrev pub NamedFields : Type 0
@@ -18,6 +20,10 @@ named_field f = (string_bytes f.0, owned_values f.1.items)
 -- fields with their values
 abbrev pub named_of : NamedFields → Named
 named_of fields = map named_field fields
+
+-- what is shown of a value: its text, where no number in it is a float
+abbrev pub shown : Data → Option (List ℕ)
+shown json = if has_float json then None else Some (compact_text json)
 
 -- ---- the values of each field of a schema
 

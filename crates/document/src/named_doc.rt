@@ -42,6 +42,11 @@ impl NamedDocument {
         self.fields.as_slice()
     }
 
+    /// Returns the allocator that the fields are held in.
+    pub(crate) fn allocator(&self) -> &Global {
+        self.fields.allocator()
+    }
+
     /// Returns the values of the field `name`, or `None` where the document has none.
     pub fn get(&self, name: &str) -> Option<&[OwnedValue]>
         ensures { option_map (λ values. owned_values values.now) result
