@@ -2,8 +2,8 @@
 #![tactic(auto)]
 
 use index::{
-    AnyQuery, Fault, FileDevice, Hit, Index, IndexRecordOption, OwnedValue, RawAndDefault, Refused,
-    STORED, Schema, Settings, TEXT, Term, TermQuery,
+    AnyQuery, Fault, FileDevice, Hit, Index, IndexRecordOption, RawAndDefault, Refused, STORED,
+    Schema, Settings, TEXT, Term, TermQuery,
 };
 use std::process::ExitCode;
 
@@ -66,9 +66,7 @@ fn create(rt: &HostRuntime, refused: Refused<FileDevice, RawAndDefault>) -> Resu
     Ok(index)
 }
 
-/// Prints the score and the title of `hit`.
+/// Prints the score of `hit`, and its stored values as JSON.
 fn print_hit(rt: &HostRuntime, hit: &Hit) {
-    if let Some([OwnedValue::Str(title), ..]) = hit.doc.get("title") {
-        let _ = println!(rt; "{} {title}", hit.score);
-    }
+    let _ = println!(rt; "{} {}", hit.score, hit.doc);
 }

@@ -10,9 +10,11 @@ mod session;
 mod session_run;
 mod stage;
 
-pub use common::{Analyzer, Device, FileDevice, MemoryDevice, RawAndDefault, Token};
+pub use common::{
+    Analyzer, Device, FileDevice, MemoryDevice, PreTokenizedString, RawAndDefault, Token,
+};
 pub use definitions::Fault;
-pub use document::NamedDocument;
+pub use document::{CompactDoc, NamedDocument};
 pub use document_values::OwnedValue;
 pub use engine::{Hit, Index, Refused, Status, file_laws};
 pub use exit_status::status_of;
