@@ -105,7 +105,7 @@ impl<'q, 'a> PhrasePrefixWeight<'q, 'a> {
         ensures bounded { IfOk result (λ found. IfSome found (λ scorer. greatest_score
             (⟦<PhrasePrefixScorer<WholePhrase<'a>, SegmentPostings<'a>> as DocSet>⟧.entries scorer)
             ≤ natural boost * most_in self.now)) }
-        ensures all { limit_of self.now ≡ 4294967295 → IfOk result (λ found. IfSome found (λ scorer.
+        ensures all { 4294967295 ≤ limit_of self.now → IfOk result (λ found. IfSome found (λ scorer.
             length (suffix_places (index_of reader.now) (prefix_of self.now)) ≤ limit_of self.now)) }
     {
         let terms = self.terms;

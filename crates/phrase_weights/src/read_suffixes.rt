@@ -92,7 +92,7 @@ pub(crate) fn read_suffixes<'a>(
         ≡ read_places contents.fields (field_of prefix.now)
         (take max_expansions (suffix_places (index_of reader.now) prefix.now))) }
     ensures few { IfOk result (λ read. length read.items ≤ max_expansions) }
-    ensures all { max_expansions ≡ 4294967295
+    ensures all { 4294967295 ≤ max_expansions
         → IfOk result (λ read. length (suffix_places (index_of reader.now) prefix.now) ≤ max_expansions) }
 {
     let index = reader.inverted_index();
