@@ -1,11 +1,7 @@
 //! The places of a phrase in one document, found in buffers that are allocated before.
 
-ghost use Rattle.std.specs.Prelude.{[], ◌<◌, ◌≡◌, ◌≤◌, IfOk, length, ℕ};
-ghost use Rattle.docsets.specs.Entries.{first, first_positions};
-ghost use Rattle.definitions.specs.Postings.{terminated};
-ghost use Rattle.phrases.specs.PhraseEntries.{AreColumns, longest};
-ghost use Rattle.phrases.specs.Places.{places_of};
-ghost use Rattle.phrases.specs.Finders.{HasRoom};
+ghost use Rattle.std.specs.Prelude.{◌<◌, ◌≡◌, IfOk};
+ghost use Rattle.phrases.specs.Finders.{CanFind, HasFound, HasRoom};
 
 use crate::position_marks::Marks;
 use crate::shared_positions::keep_distinct;
@@ -48,17 +44,9 @@ impl PlaceFinder {
 
     /// Finds the places of the phrase in the current document of `terms`.
     pub(crate) fn find<S: Positioned>(&mut self, terms: &mut Intersection<S>)
-        requires on { first (⟦<Intersection<S> as DocSet>⟧.entries terms.old) < terminated }
-        requires some { 0 < length (first_positions (⟦<Intersection<S> as DocSet>⟧.entries terms.old)) }
-        requires columns { AreColumns (first_positions (⟦<Intersection<S> as DocSet>⟧.entries terms.old)) }
-        requires room { HasRoom self.old
-            (longest (first_positions (⟦<Intersection<S> as DocSet>⟧.entries terms.old))) }
-        ensures same { ⟦<Intersection<S> as DocSet>⟧.entries terms.new
-            ≡ ⟦<Intersection<S> as DocSet>⟧.entries terms.old }
-        ensures slop { self.new.slop ≡ self.old.slop }
-        ensures places { self.new.places.items
-            ≡ places_of self.old.slop (first_positions (⟦<Intersection<S> as DocSet>⟧.entries terms.old)) }
-        ensures room { (n : ℕ) → HasRoom self.old n → HasRoom self.new n }
+        requires { CanFind self.old (⟦<Intersection<S> as DocSet>⟧.entries terms.old) }
+        ensures { HasFound self.old (⟦<Intersection<S> as DocSet>⟧.entries terms.old)
+            self.new (⟦<Intersection<S> as DocSet>⟧.entries terms.new) }
     {
         if self.slop == 0 {
             self.find_shared(terms);
@@ -70,17 +58,9 @@ impl PlaceFinder {
     /// Finds the places without slop: each term keeps those where it occurs; repeats go last, when few are left.
     fn find_shared<S: Positioned>(&mut self, terms: &mut Intersection<S>)
         requires none { self.old.slop ≡ 0 }
-        requires on { first (⟦<Intersection<S> as DocSet>⟧.entries terms.old) < terminated }
-        requires some { 0 < length (first_positions (⟦<Intersection<S> as DocSet>⟧.entries terms.old)) }
-        requires columns { AreColumns (first_positions (⟦<Intersection<S> as DocSet>⟧.entries terms.old)) }
-        requires room { HasRoom self.old
-            (longest (first_positions (⟦<Intersection<S> as DocSet>⟧.entries terms.old))) }
-        ensures same { ⟦<Intersection<S> as DocSet>⟧.entries terms.new
-            ≡ ⟦<Intersection<S> as DocSet>⟧.entries terms.old }
-        ensures slop { self.new.slop ≡ self.old.slop }
-        ensures places { self.new.places.items
-            ≡ places_of 0 (first_positions (⟦<Intersection<S> as DocSet>⟧.entries terms.old)) }
-        ensures room { (n : ℕ) → HasRoom self.old n → HasRoom self.new n }
+        requires can { CanFind self.old (⟦<Intersection<S> as DocSet>⟧.entries terms.old) }
+        ensures { HasFound self.old (⟦<Intersection<S> as DocSet>⟧.entries terms.old)
+            self.new (⟦<Intersection<S> as DocSet>⟧.entries terms.new) }
     {
         terms.column(0, &mut self.places);
         for i in 1..terms.num_columns() {
@@ -96,17 +76,9 @@ impl PlaceFinder {
     /// Finds the places within a slop: each term in turn gives each of its positions the least cost.
     fn find_near<S: Positioned>(&mut self, terms: &mut Intersection<S>)
         requires some_slop { 0 < self.old.slop }
-        requires on { first (⟦<Intersection<S> as DocSet>⟧.entries terms.old) < terminated }
-        requires some { 0 < length (first_positions (⟦<Intersection<S> as DocSet>⟧.entries terms.old)) }
-        requires columns { AreColumns (first_positions (⟦<Intersection<S> as DocSet>⟧.entries terms.old)) }
-        requires room { HasRoom self.old
-            (longest (first_positions (⟦<Intersection<S> as DocSet>⟧.entries terms.old))) }
-        ensures same { ⟦<Intersection<S> as DocSet>⟧.entries terms.new
-            ≡ ⟦<Intersection<S> as DocSet>⟧.entries terms.old }
-        ensures slop { self.new.slop ≡ self.old.slop }
-        ensures places { self.new.places.items
-            ≡ places_of self.old.slop (first_positions (⟦<Intersection<S> as DocSet>⟧.entries terms.old)) }
-        ensures room { (n : ℕ) → HasRoom self.old n → HasRoom self.new n }
+        requires can { CanFind self.old (⟦<Intersection<S> as DocSet>⟧.entries terms.old) }
+        ensures { HasFound self.old (⟦<Intersection<S> as DocSet>⟧.entries terms.old)
+            self.new (⟦<Intersection<S> as DocSet>⟧.entries terms.new) }
     {
         let most = u64::from(self.slop) + 1;
         terms.column(0, &mut self.positions);

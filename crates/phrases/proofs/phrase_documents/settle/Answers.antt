@@ -1,6 +1,7 @@
-use Rattle.std.proofs.Common.{List, ap, arith, drop, length, map, sym, vec_len, ◌∙◌, ◌≡◌}
+use Rattle.std.proofs.Common.{List, ap, arith, drop, length, map, sym, vec_len, ◌<◌, ◌∙◌, ◌≡◌}
 use Rattle.std.proofs.lemmas.Bool.Decides.{nat_tests}
-use Rattle.docsets.specs.Entries.{Entry, first_positions}
+use Rattle.definitions.specs.Postings.{terminated}
+use Rattle.docsets.specs.Entries.{Entry, first, first_positions}
 use Rattle.intersections.specs.Meetings.{meeting}
 use Rattle.phrases.specs.PhraseEntries.{longest, longest_column, phrased}
 use Rattle.phrases.proofs.PhraseEntryLaws.{HaveColumns-rest, IsRest-on, first-columns, longest-first, longest-rest, phrased-pass}
@@ -8,27 +9,21 @@ use Rattle.phrases.specs.Places.{places_of}
 use Rattle.phrases.proofs.StandingLaws.{HasRoom-lower}
 use Rattle.phrases.proofs.phrase_documents.settle.Goals as goal
 
-pub find-requires-clause-some : goal.find-requires-clause-some
-find-requires-clause-some g c =
+pub find-requires : goal.find-requires
+find-requires g c =
     let es : List Entry = meeting (map g.S.DocSet.entries c.loop-doc.terms.docsets.items) in
     let all : List Entry = meeting (map g.S.DocSet.entries c.args.terms.now.docsets.items) in
     let at = c.loop-doc.invariant.at in
-    (first-columns es (HaveColumns-rest es all c.loop-doc.invariant.rest c.requires.columns) (omega (arith, at, c.loop-doc-test.true))).0
-
-pub find-requires-clause-columns : goal.find-requires-clause-columns
-find-requires-clause-columns g c =
-    let es : List Entry = meeting (map g.S.DocSet.entries c.loop-doc.terms.docsets.items) in
-    let all : List Entry = meeting (map g.S.DocSet.entries c.args.terms.now.docsets.items) in
-    let at = c.loop-doc.invariant.at in
-    (first-columns es (HaveColumns-rest es all c.loop-doc.invariant.rest c.requires.columns) (omega (arith, at, c.loop-doc-test.true))).1
-
-pub find-requires-clause-room : goal.find-requires-clause-room
-find-requires-clause-room g c =
-    let es : List Entry = meeting (map g.S.DocSet.entries c.loop-doc.terms.docsets.items) in
-    let all : List Entry = meeting (map g.S.DocSet.entries c.args.terms.now.docsets.items) in
+    let on : first es < terminated = omega (arith, at, c.loop-doc-test.true) in
+    let standing = first-columns es (HaveColumns-rest es all c.loop-doc.invariant.rest c.requires.columns) on in
     let here = longest-first es in
     let fewer = longest-rest es all c.loop-doc.invariant.rest in
-    HasRoom-lower c.loop-doc.finder (longest (first_positions es)) (longest_column all) (omega (arith, here, fewer)) (c.loop-doc.invariant.room (longest_column all) c.requires.room)
+    record {
+      on = on;
+      some = standing.0;
+      columns = standing.1;
+      room = HasRoom-lower c.loop-doc.finder (longest (first_positions es)) (longest_column all) (omega (arith, here, fewer)) (c.loop-doc.invariant.room (longest_column all) c.requires.room);
+    }
 
 pub returns-then-not-is_empty-clause-room : goal.returns-then-not-is_empty-clause-room
 returns-then-not-is_empty-clause-room g c = λ n h. c.find.ensures.room n (c.loop-doc.invariant.room n h)

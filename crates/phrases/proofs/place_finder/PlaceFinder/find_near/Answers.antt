@@ -10,7 +10,7 @@ use Rattle.phrases.proofs.place_finder.PlaceFinder.find_near.Goals as goal
 pub column-requires-in-loop-i-clause-room : goal.column-requires-in-loop-i-clause-room
 column-requires-in-loop-i-clause-room g c =
     let columns : List (List ℕ) = first_positions (meeting (map g.S.DocSet.entries c.args.terms.now.docsets.items)) in
-    let room = (c.loop-i.invariant.room (longest columns) c.requires.room).positions in
+    let room = (c.loop-i.invariant.room (longest columns) c.requires.can.room).positions in
     let small = column-length columns c.loop-i.i in
     let same = ap (λ es. length (get_or (first_positions es) c.loop-i.i [])) c.loop-i.invariant.same in
     let goal : length (get_or (first_positions (meeting (map g.S.DocSet.entries c.loop-i.terms.docsets.items))) c.loop-i.i []) ≤ vec_capacity c.loop-i.self.positions = omega (arith, same, small, room) in goal
@@ -22,7 +22,7 @@ reach-requires-clause-table g c =
     let begun = c.loop-i.auto.i in
     let count = c.num_columns-i-end.ensures in
     let same = ap (λ es. length (first_positions es)) c.column.ensures.same in
-    subst (IsTable most 0) (sym (c.deref-in-loop-i.ensures.value ∙ c.loop-i.invariant.costs)) (near-table most columns c.loop-i.i c.requires.columns (omega (arith, begun)) (omega (arith, count, same, c.loop-i-test.true)))
+    subst (IsTable most 0) (sym (c.deref-in-loop-i.ensures.value ∙ c.loop-i.invariant.costs)) (near-table most columns c.loop-i.i c.requires.can.columns (omega (arith, begun)) (omega (arith, count, same, c.loop-i-test.true)))
 
 pub reach-requires-clause-gradual : goal.reach-requires-clause-gradual
 reach-requires-clause-gradual g c =
@@ -39,14 +39,14 @@ reach-requires-clause-ascends g c =
     let count = c.num_columns-i-end.ensures in
     let same = ap (λ es. length (first_positions es)) c.column.ensures.same in
     let column = c.deref-in-loop-i-2.ensures.value ∙ (c.column-in-loop-i.ensures.items ∙ ap (λ es. get_or (first_positions es) c.loop-i.i []) c.loop-i.invariant.same) in
-    subst (Ascends 0) (sym column) (column-ascends columns c.loop-i.i c.requires.columns (omega (arith, count, same, c.loop-i-test.true)))
+    subst (Ascends 0) (sym column) (column-ascends columns c.loop-i.i c.requires.can.columns (omega (arith, count, same, c.loop-i-test.true)))
 
 pub reach-requires-clause-room : goal.reach-requires-clause-room
 reach-requires-clause-room g c =
     let columns : List (List ℕ) = first_positions (meeting (map g.S.DocSet.entries c.args.terms.now.docsets.items)) in
     let slop = c.loop-i.invariant.slop in
     let some = c.requires.some_slop in
-    let room = (c.loop-i.invariant.room (longest columns) c.requires.room).further_costs (omega (arith, slop, some)) in
+    let room = (c.loop-i.invariant.room (longest columns) c.requires.can.room).further_costs (omega (arith, slop, some)) in
     let small = column-length columns c.loop-i.i in
     let column = ap length (c.deref-in-loop-i-2.ensures.value ∙ (c.column-in-loop-i.ensures.items ∙ ap (λ es. get_or (first_positions es) c.loop-i.i []) c.loop-i.invariant.same)) in
     let goal : length c.deref-in-loop-i-2.result.now ≤ vec_capacity c.loop-i.self.further_costs = omega (arith, column, small, room) in goal
@@ -82,29 +82,31 @@ copy_cheap-requires g c =
     let count = c.num_columns-i-end.ensures in
     let same = ap (λ es. length (first_positions es)) c.column.ensures.same in
     let begun = c.loop-i.auto.i in
-    let some = c.requires.some in
+    let some = c.requires.can.some in
     let end = c.loop-i.auto.i-end in
     let long = near-length most columns c.loop-i.i (omega (arith, begun)) (omega (arith, count, same, some, end)) in
     let is = ap length (c.deref-2.ensures.value ∙ c.loop-i.invariant.costs) in
-    let room = (c.loop-i.invariant.room (longest columns) c.requires.room).places in
+    let room = (c.loop-i.invariant.room (longest columns) c.requires.can.room).places in
     record { room = (let goal : length c.deref-2.result.now ≤ vec_capacity c.loop-i.self.places = omega (arith, long, is, room) in goal) }
 
-pub returns-clause-places : goal.returns-clause-places
-returns-clause-places g c =
+pub returns : goal.returns
+returns g c =
     let columns : List (List ℕ) = first_positions (meeting (map g.S.DocSet.entries c.args.terms.now.docsets.items)) in
     let most : ℕ = c.from-most.result + 1 in
     let slop : ℕ = c.args.self.now.slop in
     let count = c.num_columns-i-end.ensures in
     let same = ap (λ es. length (first_positions es)) c.column.ensures.same in
-    let some = c.requires.some in
+    let some = c.requires.can.some in
     let end = c.loop-i.auto.i-end in
     let read : c.from-most.result ≡ slop = c.from-most.ensures in
-    c.copy_cheap.ensures.items ∙ (ap (λ s. cheap s 0 c.deref-2.result.now) (c.from.ensures ∙ c.loop-i.invariant.slop) ∙ (ap (cheap slop 0) (c.deref-2.ensures.value ∙ c.loop-i.invariant.costs) ∙ near-all most slop columns c.loop-i.i c.requires.columns (omega (arith, read)) (omega (arith, count, same, end, some, c.loop-i-test.false))))
-
-pub returns-clause-room : goal.returns-clause-room
-returns-clause-room g c = λ n h. (let was = c.loop-i.invariant.room n h in let in_places = was.places in let places = c.copy_cheap.ensures.room in record {
-  places = omega (arith, places, in_places);
-  positions = was.positions;
-  costs = was.costs;
-  further_costs = was.further_costs;
-})
+    record {
+      same = c.loop-i.invariant.same;
+      slop = c.loop-i.invariant.slop;
+      places = c.copy_cheap.ensures.items ∙ (ap (λ s. cheap s 0 c.deref-2.result.now) (c.from.ensures ∙ c.loop-i.invariant.slop) ∙ (ap (cheap slop 0) (c.deref-2.ensures.value ∙ c.loop-i.invariant.costs) ∙ near-all most slop columns c.loop-i.i c.requires.can.columns (omega (arith, read)) (omega (arith, count, same, end, some, c.loop-i-test.false))));
+      room = λ n h. (let was = c.loop-i.invariant.room n h in let in_places = was.places in let places = c.copy_cheap.ensures.room in record {
+        places = omega (arith, places, in_places);
+        positions = was.positions;
+        costs = was.costs;
+        further_costs = was.further_costs;
+      });
+    }
