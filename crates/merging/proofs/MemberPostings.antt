@@ -19,6 +19,7 @@ use Rattle.merging.specs.Living.{living_in, posting_in}
 use Rattle.merging.specs.Mappings.{Mapping}
 use Rattle.merging.specs.Written.{AreWritten}
 use Rattle.postings_writer.specs.FieldWriting.{FieldWriting, IsOpen}
+use Rattle.postings_writer.proofs.WrittenTerms.{same_itself}
 
 -- ---- entries as postings
 
@@ -109,5 +110,5 @@ pub nothing_written : (was : FieldWriting) → AreWritten was was []
 nothing_written was = record {
   open_is = λ docs counts numbers is. subst (λ ns. IsOpen was (docs ++ []) (counts ++ []) ns) (sym (append-nil numbers)) (subst (λ ns. IsOpen was (docs ++ []) ns numbers) (sym (append-nil counts)) (subst (λ ds. IsOpen was ds counts numbers) (sym (append-nil docs)) is));
   total = omega arith;
-  same = (refl, refl, refl, refl, refl, refl, refl, refl, refl);
+  same = same_itself was;
 }

@@ -17,8 +17,9 @@ use Rattle.merging.proofs.Writes.{front_passes}
 use Rattle.merging.specs.Living.{has_some}
 use Rattle.merging.specs.Mappings.{end_of}
 use Rattle.merging.specs.Written.{AreWritten, IsWriteRefusal, counts_in}
-use Rattle.postings_writer.specs.FieldWriting.{AreKept, FieldWriting, IsOpen}
+use Rattle.postings_writer.specs.FieldWriting.{FieldWriting, IsOpen}
 use Rattle.postings_writer.specs.TermWriting.{recorded_count}
+use Rattle.postings_writer.proofs.WrittenTerms.{same_both}
 
 -- ---- one writing after another
 
@@ -37,14 +38,14 @@ written_both was mid now ps qs first second = record {
       (subst (λ cs. IsOpen now ((docs ++ map (λ (p : Posting). p.doc) ps) ++ map (λ (p : Posting). p.doc) qs) cs (numbers ++ position_numbers (map (λ (p : Posting). p.positions) (ps ++ qs)))) (counts_are counts)
       (subst (λ ns. IsOpen now ((docs ++ map (λ (p : Posting). p.doc) ps) ++ map (λ (p : Posting). p.doc) qs) ((counts ++ counts_in was ps) ++ counts_in mid qs) ns) (numbers_are numbers) e)));
   total = (let before = first.total in let after = second.total in omega (arith, before, after, sum_by-append (λ (p : Posting). p.count) ps qs));
-  same = (second.same.0 ∙ first.same.0, second.same.1 ∙ first.same.1, second.same.2 ∙ first.same.2, second.same.3 ∙ first.same.3, second.same.4 ∙ first.same.4, second.same.5 ∙ first.same.5, second.same.6 ∙ first.same.6, second.same.7 ∙ first.same.7, second.same.8 ∙ first.same.8);
+  same = same_both was mid now first.same second.same;
 }
   where
     docs_are : (docs : List ℕ) → (docs ++ map (λ (p : Posting). p.doc) ps) ++ map (λ (p : Posting). p.doc) qs ≡ docs ++ map (λ (p : Posting). p.doc) (ps ++ qs)
     docs_are docs = append_assoc docs (map (λ (p : Posting). p.doc) ps) (map (λ (p : Posting). p.doc) qs) ∙ ap (λ ds. docs ++ ds) (sym (map-append (λ (p : Posting). p.doc) ps qs))
 
     counts_are : (counts : List ℕ) → (counts ++ counts_in was ps) ++ counts_in mid qs ≡ counts ++ counts_in was (ps ++ qs)
-    counts_are counts = append_assoc counts (counts_in was ps) (counts_in mid qs) ∙ ap (λ cs. counts ++ (counts_in was ps ++ cs)) (counts_same was mid qs first.same.6) ∙ ap (λ cs. counts ++ cs) (sym (map-append (λ (p : Posting). recorded_count was.writing.option p.count) ps qs))
+    counts_are counts = append_assoc counts (counts_in was ps) (counts_in mid qs) ∙ ap (λ cs. counts ++ (counts_in was ps ++ cs)) (counts_same was mid qs first.same.option) ∙ ap (λ cs. counts ++ cs) (sym (map-append (λ (p : Posting). recorded_count was.writing.option p.count) ps qs))
 
     numbers_are : (numbers : List ℕ) → (numbers ++ position_numbers (map (λ (p : Posting). p.positions) ps)) ++ position_numbers (map (λ (p : Posting). p.positions) qs) ≡ numbers ++ position_numbers (map (λ (p : Posting). p.positions) (ps ++ qs))
     numbers_are numbers =
@@ -123,19 +124,6 @@ member_refused fault was mid counts before here rest all option is (inr (limit, 
         ∙ ap (λ cs. counts ++ (counts_in was before ++ (cs ++ counts_in was rest))) (sym (counts_same was mid here option))
         ∙ sym (append_assoc counts (counts_in was before) (counts_in mid here ++ counts_in was rest))
         ∙ sym (append_assoc (counts ++ counts_in was before) (counts_in mid here) (counts_in was rest))
-
--- ---- what stays
-
-pub kept_both : (was mid now : FieldWriting) → AreKept was mid → AreKept mid now → AreKept was now
-kept_both was mid now first second = record {
-  same = record { field = second.same.field ∙ first.same.field; num_tokens = second.same.num_tokens ∙ first.same.num_tokens; mode = second.same.mode ∙ first.same.mode; norms = second.same.norms ∙ first.same.norms };
-  terms = second.terms ∙ first.terms;
-  postings = second.postings ∙ first.postings;
-  positions = second.positions ∙ first.positions;
-}
-
-pub kept_written : (was now : FieldWriting) (ps : List Posting) → AreWritten was now ps → AreKept was now
-kept_written was now ps w = record { same = record { field = w.same.0; num_tokens = w.same.1; mode = w.same.5; norms = w.same.7 }; terms = w.same.2; postings = w.same.3; positions = w.same.8 }
 
 -- ---- dictionaries of members
 

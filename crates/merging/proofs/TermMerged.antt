@@ -1,5 +1,5 @@
 -- A term of a merge that was begun, written and closed, or not.
-use Rattle.std.proofs.Common.{[], Bool, List, ap, ap₂, false, if◌then◌else◌, inl, inr, refl, subst, sym, true, true≢false, ◌/◌, ◌≡◌, ◌∙◌, ◌∷◌, ℕ}
+use Rattle.std.proofs.Common.{[], Bool, List, ap₂, false, if◌then◌else◌, inl, inr, refl, subst, sym, true, true≢false, ◌/◌, ◌≡◌, ◌∙◌, ◌∷◌, ℕ}
 use Rattle.std.proofs.lemmas.List.{length-map}
 use Rattle.definitions.specs.Blocks.{block_len}
 use Rattle.definitions.specs.Postings.{Posting}
@@ -9,10 +9,10 @@ use Rattle.layouts.specs.TermPostings.{SumsFit}
 use Rattle.merging.specs.MergedTerm.{IsMergedTerm, IsTermRefusal}
 use Rattle.merging.specs.Living.{has_some}
 use Rattle.merging.specs.Written.{AreWritten, IsWriteRefusal, counts_in}
-use Rattle.postings_writer.specs.FieldWriting.{FieldWriting, IsOpen}
+use Rattle.postings_writer.specs.FieldWriting.{AreKept, FieldWriting, IsOpen}
 use Rattle.postings_writer.specs.TermWriting.{recorded_count}
 use Rattle.postings_writer.proofs.WrittenTerms as terms
-use Rattle.postings_writer.proofs.WrittenTerms.{write_passes}
+use Rattle.postings_writer.proofs.WrittenTerms.{kept_both, write_passes}
 use Rattle.postings_writer.specs.Serializing.{IsWrittenTerm}
 
 -- why its documents weren't written
@@ -34,15 +34,15 @@ merged_written was now key option (p ∷ ps) some written = written
 
 -- a term without any
 pub merged_passed : (was begun now : FieldWriting) (key : List ℕ) (option : IndexRecordOption) (ps : List Posting) → false ≡ has_some ps → IsOpen begun [] [] []
-    → (begun.field ≡ was.field) × (begun.num_tokens ≡ was.num_tokens) × (begun.terms ≡ was.terms) × (begun.postings ≡ was.postings) × (begun.positions ≡ (was.positions.0, [])) × (begun.writing.mode ≡ was.writing.mode) × (begun.writing.norms ≡ was.writing.norms) × (begun.writing.next ≡ 0)
+    → AreKept was begun
     → AreWritten begun now ps → IsMergedTerm was now key option ps
 merged_passed was begun now key option (p ∷ ps) none opened first written = absurd (true≢false (sym none))
-merged_passed was begun now key option [] none opened first written = record {
-  postings = written.same.3 ∙ first.3;
-  positions = ap₂ (λ xs ys. (xs, ys)) (written.same.8 ∙ ap (λ (p : List ℕ × List ℕ). p.0) first.4) ((written.open_is [] [] [] opened).numbers_are ∙ either (has_positions now.writing.option));
-  terms = written.same.2 ∙ first.2;
-  same = (written.same.0 ∙ first.0, written.same.1 ∙ first.1, written.same.5 ∙ first.5, written.same.7 ∙ first.6);
-}
+merged_passed was begun now key option [] none opened first written = (let all = kept_both was begun now first written.same.kept in record {
+  postings = all.postings;
+  positions = ap₂ (λ xs ys. (xs, ys)) all.positions ((written.open_is [] [] [] opened).numbers_are ∙ either (has_positions now.writing.option));
+  terms = all.terms;
+  same = all.same;
+})
   where
     either : (b : Bool) → ◌≡◌ {A = List ℕ} (if b then [] else []) []
     either true = refl

@@ -90,9 +90,9 @@ added_same kind was now new told ts before passed = record {
   postings = passed.postings ∙ before.postings;
   positions = passed.positions ∙ ap (λ (xs : List ℕ × List ℕ). (xs.0, [])) before.positions;
   few = before.few;
-  tokens = passed.same.1 ∙ before.tokens;
-  tokens_fit = λ fit. subst (λ n. n < 2 ^ 64) (sym passed.same.1) (before.tokens_fit fit);
-  same = (passed.same.0 ∙ before.same.0, passed.same.2 ∙ before.same.1, passed.same.3 ∙ before.same.2);
+  tokens = passed.same.num_tokens ∙ before.tokens;
+  tokens_fit = λ fit. subst (λ n. n < 2 ^ 64) (sym passed.same.num_tokens) (before.tokens_fit fit);
+  same = (passed.same.field ∙ before.same.0, passed.same.mode ∙ before.same.1, passed.same.norms ∙ before.same.2);
 }
 
 -- ---- terms so far

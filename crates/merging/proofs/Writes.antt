@@ -13,8 +13,8 @@ use Rattle.merging.proofs.LivingEntries.{all_counted, all_placed, all_within, de
 use Rattle.merging.proofs.Numbers.{number_within}
 use Rattle.merging.specs.Living.{has_some, living_in, posting_in}
 use Rattle.merging.specs.Mappings.{Mapping, end_of, new_doc}
-use Rattle.merging.specs.Written.{AreWritten, IsSame, IsWriteRefusal, counts_in}
-use Rattle.postings_writer.specs.FieldWriting.{FieldWriting, IsOpen}
+use Rattle.merging.specs.Written.{AreWritten, IsWriteRefusal, counts_in}
+use Rattle.postings_writer.specs.FieldWriting.{FieldWriting, IsOpen, IsSameTerm}
 use Rattle.postings_writer.specs.TermWriting.{IsSumRefusal, recorded_count}
 use Rattle.postings_writer.proofs.WrittenTerms.{Written, all_counted as all_tokens, all_opened, small_differences, written_more}
 use Rattle.postings_writer.specs.Serializing.{CanWrite}
@@ -83,7 +83,7 @@ module _ (m : Mapping) (was now : FieldWriting) (all : List Posting) (e : Entry)
 
   pub living_written : (new : FieldWriting) (n : ℕ) → Some n ≡ new_doc m e.doc
       → ((docs counts numbers : List ℕ) → IsOpen now docs counts numbers → IsOpen new (docs ++ n ∷ []) (counts ++ recorded_count now.writing.option e.count ∷ []) (numbers ++ differences 0 (single e.positions)))
-      → new.total_term_freq ≡ now.total_term_freq + e.count → IsSame now new → new.writing.next ≡ n + 1 → Written was new all (living_in m es)
+      → new.total_term_freq ≡ now.total_term_freq + e.count → IsSameTerm now new → new.writing.next ≡ n + 1 → Written was new all (living_in m es)
   living_written new n is more counted same next =
       let k = number_of m e.doc n is in
       written_more was now new all (living_in m (e ∷ es)) (living_in m es) here (differences 0 (single e.positions)) before (living_first m e es k.0) refl
@@ -147,7 +147,7 @@ write_refused fault m was now all e es counts n w is (inr (limit, pass)) = inr (
     whole =
         ap (λ ps. counts ++ counts_in was ps) (w.split ∙ ap (λ ps. w.done ++ ps) (living_first m e es (number_of m e.doc n is).0))
         ∙ ap (λ xs. counts ++ xs) (map-append (λ (p : Posting). recorded_count was.writing.option p.count) w.done (at_document (m.base + rank m.flags e.doc) (posting_in e) ∷ living_in m es))
-        ∙ ap (λ o. counts ++ (counts_in was w.done ++ recorded_count o e.count ∷ counts_in was (living_in m es))) (sym w.same.6)
+        ∙ ap (λ o. counts ++ (counts_in was w.done ++ recorded_count o e.count ∷ counts_in was (living_in m es))) (sym w.same.option)
         ∙ sym (append_assoc counts (counts_in was w.done) (recorded_count now.writing.option e.count ∷ counts_in was (living_in m es)))
         ∙ sym (append_assoc (counts ++ counts_in was w.done) (recorded_count now.writing.option e.count ∷ []) (counts_in was (living_in m es)))
 

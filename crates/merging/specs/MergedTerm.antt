@@ -6,7 +6,7 @@ use Rattle.definitions.specs.declared.fault.Fault.{Fault}
 use Rattle.definitions.specs.declared.fault.Fault.TheVariants as faults
 use Rattle.merging.specs.MergedTerms.{tokens_of}
 use Rattle.packed_blocks.specs.UnpackedBlocks.{listed}
-use Rattle.postings_writer.specs.FieldWriting.{FieldWriting}
+use Rattle.postings_writer.specs.FieldWriting.{FieldWriting, IsSameField}
 use Rattle.postings_writer.specs.Limits.{TermPasses}
 use Rattle.postings_writer.specs.Serializing.{IsWrittenTerm}
 
@@ -15,7 +15,7 @@ pub record IsPassed (was now : FieldWriting) : Type 0 where
   pub postings : now.postings ≡ was.postings
   pub positions : now.positions ≡ (was.positions.0, [])
   pub terms : now.terms ≡ was.terms
-  pub same : (now.field ≡ was.field) × (now.num_tokens ≡ was.num_tokens) × (now.writing.mode ≡ was.writing.mode) × (now.writing.norms ≡ was.writing.norms)
+  pub same : IsSameField was now
 
 -- a term with postings stands there, and one without isn't written
 abbrev pub IsMergedTerm : FieldWriting → FieldWriting → List ℕ → IndexRecordOption → List Posting → Type 0

@@ -6,22 +6,18 @@ use Rattle.definitions.specs.declared.fault.Fault.{Fault}
 use Rattle.definitions.specs.declared.fault.Fault.TheVariants as faults
 use Rattle.layouts.specs.Positions.{position_numbers}
 use Rattle.layouts.specs.TermPostings.{SumsFit}
-use Rattle.postings_writer.specs.FieldWriting.{FieldWriting, IsOpen}
+use Rattle.postings_writer.specs.FieldWriting.{FieldWriting, IsOpen, IsSameTerm}
 use Rattle.postings_writer.specs.TermWriting.{recorded_count}
 
 -- the counts of postings, as the open term records them
 abbrev pub counts_in : FieldWriting → List Posting → List ℕ
 counts_in w ps = map (λ (p : Posting). recorded_count w.writing.option p.count) ps
 
--- what writing a posting leaves as it is
-abbrev pub IsSame : FieldWriting → FieldWriting → Type 0
-IsSame was now = (now.field ≡ was.field) × (now.num_tokens ≡ was.num_tokens) × (now.terms ≡ was.terms) × (now.postings ≡ was.postings) × (now.key ≡ was.key) × (now.writing.mode ≡ was.writing.mode) × (now.writing.option ≡ was.writing.option) × (now.writing.norms ≡ was.writing.norms) × (now.positions.0 ≡ was.positions.0)
-
 -- these postings stand behind those that stood before, their counts are told, and nothing else changed
 pub record AreWritten (was now : FieldWriting) (ps : List Posting) : Type 0 where
   pub open_is : (docs counts numbers : List ℕ) → IsOpen was docs counts numbers → IsOpen now (docs ++ map (λ (p : Posting). p.doc) ps) (counts ++ counts_in was ps) (numbers ++ position_numbers (map (λ (p : Posting). p.positions) ps))
   pub total : now.total_term_freq ≡ was.total_term_freq + sum_by (λ (p : Posting). p.count) ps
-  pub same : IsSame was now
+  pub same : IsSameTerm was now
 
 -- memory was wanting, or the sum of the counts of a block would pass 32 bits
 abbrev pub IsWriteRefusal : Fault → List ℕ → Type 0

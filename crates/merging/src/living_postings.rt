@@ -7,8 +7,8 @@ ghost use Rattle.definitions.specs.Postings.{terminated};
 ghost use Rattle.layouts.specs.Positions.{differences};
 ghost use Rattle.merging.specs.Living.{has_some, living_in};
 ghost use Rattle.merging.specs.Mappings.{end_of};
-ghost use Rattle.merging.specs.Written.{AreWritten, IsSame, IsWriteRefusal, counts_in};
-ghost use Rattle.postings_writer.specs.FieldWriting.{AreKept, IsOpen};
+ghost use Rattle.merging.specs.Written.{AreWritten, IsWriteRefusal, counts_in};
+ghost use Rattle.postings_writer.specs.FieldWriting.{AreKept, IsOpen, IsSameTerm};
 ghost use Rattle.postings_writer.specs.TermWriting.{IsSumRefusal, recorded_count};
 ghost use Rattle.segment_postings.specs.Cursors.{entries_left};
 
@@ -72,7 +72,8 @@ fn write_posting(
         (numbers ++ differences 0 (single (first_positions (entries_left postings.old))))) }
     ensures total { OnOk result (serializer.new.total_term_freq
         ≡ serializer.old.total_term_freq + first_count (entries_left postings.old)) }
-    ensures same { OnOk result (IsSame serializer.old serializer.new × (serializer.new.writing.next ≡ new_doc + 1)) }
+    ensures same { OnOk result (IsSameTerm serializer.old serializer.new) }
+    ensures next { OnOk result (serializer.new.writing.next ≡ new_doc + 1) }
     ensures err { (docs counts numbers : List ℕ) → IsOpen serializer.old docs counts numbers
         → IfErr result (λ fault. IsSumRefusal fault
         (counts ++ recorded_count serializer.old.writing.option (first_count (entries_left postings.old)) ∷ [])) }

@@ -12,7 +12,7 @@ use Rattle.definitions.specs.declared.fault.Fault.TheVariants as faults
 use Rattle.definitions.specs.Schema.{IndexRecordOption, has_positions}
 use Rattle.layouts.specs.InvertedIndexes.{HasPositions}
 use Rattle.layouts.specs.TermPostings.{ArePosted, SumsFit, postings_bytes}
-use Rattle.postings_writer.specs.FieldWriting.{FieldWriting, IsCloseRefusal, IsClosed, IsOpen, MeetsLimit, Terms, inserted, postings_of}
+use Rattle.postings_writer.specs.FieldWriting.{AreKept, FieldWriting, IsCloseRefusal, IsClosed, IsOpen, IsSameTerm, MeetsLimit, Terms, inserted, postings_of}
 use Rattle.postings_writer.specs.TermWriting.{IsSumRefusal, recorded_count}
 use Rattle.std.proofs.lemmas.List.{drop-append-le, drop_all, length-drop, length-map, take-append-le}
 use Rattle.definitions.proofs.Lists.{all_after as all_behind}
@@ -36,9 +36,31 @@ numbers_in ps = position_numbers (map (λ (p : Posting). p.positions) ps)
 abbrev pub tokens_in : List Posting → ℕ
 tokens_in ps = sum_by (λ (p : Posting). p.count) ps
 
--- what writing a posting leaves as it is
-abbrev pub IsSame : FieldWriting → FieldWriting → Type 0
-IsSame was now = (now.field ≡ was.field) × (now.num_tokens ≡ was.num_tokens) × (now.terms ≡ was.terms) × (now.postings ≡ was.postings) × (now.key ≡ was.key) × (now.writing.mode ≡ was.writing.mode) × (now.writing.option ≡ was.writing.option) × (now.writing.norms ≡ was.writing.norms) × (now.positions.0 ≡ was.positions.0)
+-- ---- what stays
+
+pub kept_both : (was mid now : FieldWriting) → AreKept was mid → AreKept mid now → AreKept was now
+kept_both was mid now first second = record {
+  same = record { field = second.same.field ∙ first.same.field; num_tokens = second.same.num_tokens ∙ first.same.num_tokens; mode = second.same.mode ∙ first.same.mode; norms = second.same.norms ∙ first.same.norms };
+  terms = second.terms ∙ first.terms;
+  postings = second.postings ∙ first.postings;
+  positions = second.positions ∙ first.positions;
+}
+
+pub same_itself : (w : FieldWriting) → IsSameTerm w w
+same_itself w = record {
+  kept = record { same = record { field = refl; num_tokens = refl; mode = refl; norms = refl }; terms = refl; postings = refl; positions = refl };
+  key = refl;
+  option = refl;
+}
+
+pub same_both : (was mid now : FieldWriting) → IsSameTerm was mid → IsSameTerm mid now → IsSameTerm was now
+same_both was mid now first second = record {
+  kept = kept_both was mid now first.kept second.kept;
+  key = second.key ∙ first.key;
+  option = second.option ∙ first.option;
+}
+
+-- ---- one posting after another
 
 -- some of all postings were written, and the others may be
 pub record Written (was now : FieldWriting) (all rest : List Posting) : Type 0 where
@@ -47,7 +69,7 @@ pub record Written (was now : FieldWriting) (all rest : List Posting) : Type 0 w
   pub can : CanWrite now.writing.next now.writing.norms rest
   pub open_is : (docs counts numbers : List ℕ) → IsOpen was docs counts numbers → IsOpen now (docs ++ docs_in done) (counts ++ counts_in was done) (numbers ++ numbers_in done)
   pub total : now.total_term_freq ≡ was.total_term_freq + tokens_in done
-  pub same : IsSame was now
+  pub same : IsSameTerm was now
 
 pub none_written : (was : FieldWriting) (all : List Posting) → CanWrite was.writing.next was.writing.norms all → Written was was all all
 none_written was all can = record {
@@ -56,7 +78,7 @@ none_written was all can = record {
   can = can;
   open_is = λ docs counts numbers is. subst (λ ns. IsOpen was (docs ++ []) (counts ++ []) ns) (sym (append-nil numbers)) (subst (λ ns. IsOpen was (docs ++ []) ns numbers) (sym (append-nil counts)) (subst (λ ds. IsOpen was ds counts numbers) (sym (append-nil docs)) is));
   total = omega arith;
-  same = (refl, refl, refl, refl, refl, refl, refl, refl, refl);
+  same = same_itself was;
 }
 
 -- what may be written after a posting
@@ -82,18 +104,18 @@ small_differences before (p ∷ ps) (suc i) small = small_differences p ps i sma
 -- one posting more
 pub written_more : (was now new : FieldWriting) (all rest after : List Posting) (p : Posting) (deltas : List ℕ) → Written was now all rest → rest ≡ p ∷ after → deltas ≡ differences 0 p.positions
     → ((docs counts numbers : List ℕ) → IsOpen now docs counts numbers → IsOpen new (docs ++ p.doc ∷ []) (counts ++ recorded_count now.writing.option p.count ∷ []) (numbers ++ deltas))
-    → new.total_term_freq ≡ now.total_term_freq + p.count → IsSame now new → new.writing.next ≡ p.doc + 1 → Written was new all after
+    → new.total_term_freq ≡ now.total_term_freq + p.count → IsSameTerm now new → new.writing.next ≡ p.doc + 1 → Written was new all after
 written_more was now new all rest after p deltas before is deltas_are more counted same next = record {
   done = before.done ++ p ∷ [];
   split = before.split ∙ ap (λ ps. before.done ++ ps) is ∙ sym (append_assoc before.done (p ∷ []) after);
-  can = can_more now new p after (subst (λ ps. CanWrite now.writing.next now.writing.norms ps) is before.can) next same.7;
+  can = can_more now new p after (subst (λ ps. CanWrite now.writing.next now.writing.norms ps) is before.can) next same.kept.same.norms;
   open_is = λ docs counts numbers open_was.
       subst (λ ns. IsOpen new (docs ++ docs_in (before.done ++ p ∷ [])) (counts ++ counts_in was (before.done ++ p ∷ [])) ns) (numbers_are numbers)
       (subst (λ ns. IsOpen new (docs ++ docs_in (before.done ++ p ∷ [])) ns ((numbers ++ numbers_in before.done) ++ deltas)) (counts_are counts)
       (subst (λ ds. IsOpen new ds ((counts ++ counts_in was before.done) ++ recorded_count now.writing.option p.count ∷ []) ((numbers ++ numbers_in before.done) ++ deltas)) (docs_are docs)
       (more (docs ++ docs_in before.done) (counts ++ counts_in was before.done) (numbers ++ numbers_in before.done) (before.open_is docs counts numbers open_was))));
   total = (let first = before.total in omega (arith, first, counted, sum_by_push (λ (q : Posting). q.count) before.done p));
-  same = (same.0 ∙ before.same.0, same.1 ∙ before.same.1, same.2 ∙ before.same.2, same.3 ∙ before.same.3, same.4 ∙ before.same.4, same.5 ∙ before.same.5, same.6 ∙ before.same.6, same.7 ∙ before.same.7, same.8 ∙ before.same.8);
+  same = same_both was now new before.same same;
 }
   where
     docs_are : (docs : List ℕ) → (docs ++ docs_in before.done) ++ p.doc ∷ [] ≡ docs ++ docs_in (before.done ++ p ∷ [])
@@ -102,7 +124,7 @@ written_more was now new all rest after p deltas before is deltas_are more count
     counts_are : (counts : List ℕ) → (counts ++ counts_in was before.done) ++ recorded_count now.writing.option p.count ∷ [] ≡ counts ++ counts_in was (before.done ++ p ∷ [])
     counts_are counts =
         append_assoc counts (counts_in was before.done) (recorded_count now.writing.option p.count ∷ [])
-        ∙ ap (λ o. counts ++ (counts_in was before.done ++ recorded_count o p.count ∷ [])) before.same.6
+        ∙ ap (λ o. counts ++ (counts_in was before.done ++ recorded_count o p.count ∷ [])) before.same.option
         ∙ ap (λ ns. counts ++ ns) (sym (map-append (λ (q : Posting). recorded_count was.writing.option q.count) before.done (p ∷ [])))
 
     numbers_join : (ps : List Posting) → numbers_in (ps ++ p ∷ []) ≡ numbers_in ps ++ differences 0 p.positions
@@ -157,7 +179,7 @@ doc_refused fault was now all rest before (inr (limit, pass)) = inr (limit, inl 
 
 pub sum_refused : (fault : Fault) (was now : FieldWriting) (all rest after : List Posting) (p : Posting) (before : Written was now all rest) → rest ≡ p ∷ after → IsSumRefusal fault (([] ++ counts_in was before.done) ++ recorded_count now.writing.option p.count ∷ []) → (fault ≡ faults.OutOfMemory) ⊎ ((fault ≡ faults.Limit) × (CountsPass all ⊎ SumsPass was.writing.option all))
 sum_refused fault was now all rest after p before is (inl memory) = inl memory
-sum_refused fault was now all rest after p before is (inr (limit, pass)) = inr (limit, inr (sum_passes was now all rest after p (recorded_count now.writing.option p.count) before is (ap (λ o. recorded_count o p.count) before.same.6) pass))
+sum_refused fault was now all rest after p before is (inr (limit, pass)) = inr (limit, inr (sum_passes was now all rest after p (recorded_count now.writing.option p.count) before is (ap (λ o. recorded_count o p.count) before.same.option) pass))
 
 -- nothing stands past the end of a recorder
 pub none_left : (r : Recorder) (at : ℕ) → length_of r ≤ at → postings_from r at ≡ []
@@ -176,16 +198,15 @@ full_tokens was begun full ps tokens none same total = omega (arith, tokens, non
 
 -- a term that was begun, written and closed
 pub term_written : (was begun full now : FieldWriting) (key : List ℕ) (option : IndexRecordOption) (ps : List Posting) → begun.key ≡ key → begun.writing.option ≡ option
-    → (begun.field ≡ was.field) × (begun.num_tokens ≡ was.num_tokens) × (begun.terms ≡ was.terms) × (begun.postings ≡ was.postings) × (begun.positions ≡ (was.positions.0, [])) × (begun.writing.mode ≡ was.writing.mode) × (begun.writing.norms ≡ was.writing.norms) × (begun.writing.next ≡ 0)
-    → begun.total_term_freq ≡ 0 → IsSame begun full → full.total_term_freq ≡ begun.total_term_freq + tokens_in ps → IsClosed full now (docs_in ps) (counts_in begun ps) (numbers_in ps)
+    → AreKept was begun → begun.total_term_freq ≡ 0 → IsSameTerm begun full → full.total_term_freq ≡ begun.total_term_freq + tokens_in ps → IsClosed full now (docs_in ps) (counts_in begun ps) (numbers_in ps)
     → (now.num_tokens ≡ full.num_tokens + full.total_term_freq) × (full.num_tokens + full.total_term_freq < 2 ^ 64)
     → (now.field ≡ full.field) × (now.writing.mode ≡ full.writing.mode) × (now.writing.norms ≡ full.writing.norms)
     → IsWrittenTerm was now key option ps
 term_written was begun full now key option ps key_is option_is first none second total closed tokens last =
-    let whole : full.num_tokens + full.total_term_freq ≡ was.num_tokens + tokens_in ps = full_tokens was begun full ps first.1 none second.1 total in
-    let o : full.writing.option ≡ option = second.6 ∙ option_is in
-    let n : full.writing.norms ≡ was.writing.norms = second.7 ∙ first.6 in
-    let terms_are : full.terms ≡ was.terms = second.2 ∙ first.2 in
+    let whole : full.num_tokens + full.total_term_freq ≡ was.num_tokens + tokens_in ps = full_tokens was begun full ps first.same.num_tokens none second.kept.same.num_tokens total in
+    let o : full.writing.option ≡ option = second.option ∙ option_is in
+    let n : full.writing.norms ≡ was.writing.norms = second.kept.same.norms ∙ first.same.norms in
+    let terms_are : full.terms ≡ was.terms = second.kept.terms ∙ first.terms in
     let bytes : postings_of full.writing (docs_in ps) (counts_in begun ps) ≡ postings_bytes option (listed was.writing.norms) (docs_in ps) (map (λ (p : Posting). recorded_count option p.count) ps) =
     ap (λ x. postings_bytes x (listed full.writing.norms) (docs_in ps) (counts_in begun ps)) o
     ∙ ap (λ x. postings_bytes option (listed x) (docs_in ps) (counts_in begun ps)) n
@@ -198,15 +219,15 @@ term_written was begun full now key option ps key_is option_is first none second
       positions_fit = closed.positions_fit;
       terms_fit = subst (λ (t : Terms). t.num_terms < 4294967295) terms_are closed.terms_fit;
       positions_are = subst (λ x. HasPositions (has_positions x) (numbers_in ps) closed.bytes) o closed.positions_are;
-      postings = closed.postings ∙ ap₂ (λ xs ys. xs ++ ys) (second.3 ∙ first.3) bytes;
-      positions = closed.positions ∙ ap (λ xs. (xs ++ closed.bytes, [])) (second.8 ∙ ap (λ (p : List ℕ × List ℕ). p.0) first.4);
+      postings = closed.postings ∙ ap₂ (λ xs ys. xs ++ ys) (second.kept.postings ∙ first.postings) bytes;
+      positions = closed.positions ∙ ap (λ xs. (xs ++ closed.bytes, [])) (second.kept.positions ∙ first.positions);
       terms = closed.terms
-          ∙ ap (λ k. entry_in k (docs_in ps) (postings_of full.writing (docs_in ps) (counts_in begun ps)) closed.bytes full.terms) (second.4 ∙ key_is)
+          ∙ ap (λ k. entry_in k (docs_in ps) (postings_of full.writing (docs_in ps) (counts_in begun ps)) closed.bytes full.terms) (second.key ∙ key_is)
           ∙ ap (λ xs. entry_in key (docs_in ps) xs closed.bytes full.terms) bytes
           ∙ ap (entry_in key (docs_in ps) (postings_bytes option (listed was.writing.norms) (docs_in ps) (map (λ (p : Posting). recorded_count option p.count) ps)) closed.bytes) terms_are;
       tokens = tokens.0 ∙ whole;
       tokens_fit = subst (λ n. n < 2 ^ 64) whole tokens.1;
-      same = (last.0 ∙ second.0 ∙ first.0, last.1 ∙ second.5 ∙ first.5, last.2 ∙ n);
+      same = (last.0 ∙ second.kept.same.field ∙ first.same.field, last.1 ∙ second.kept.same.mode ∙ first.same.mode, last.2 ∙ n);
     }
 
 -- memory was wanting, or a term with these postings passes a limit, or would be one too many, or has too many tokens
@@ -214,24 +235,24 @@ abbrev pub IsTermRefusal : Fault → FieldWriting → IndexRecordOption → List
 IsTermRefusal fault was option ps = (fault ≡ faults.OutOfMemory) ⊎ ((fault ≡ faults.Limit) × (TermPasses option (listed was.writing.norms) ps ⊎ (was.terms.num_terms ≡ 4294967295) ⊎ (2 ^ 64 ≤ was.num_tokens + tokens_in ps)))
 
 -- why a term isn't closed
-pub close_passes : (fault : Fault) (was begun full : FieldWriting) (option : IndexRecordOption) (ps : List Posting) → begun.writing.option ≡ option → begun.terms ≡ was.terms → begun.writing.norms ≡ was.writing.norms → begun.num_tokens ≡ was.num_tokens → begun.total_term_freq ≡ 0 → IsSame begun full
+pub close_passes : (fault : Fault) (was begun full : FieldWriting) (option : IndexRecordOption) (ps : List Posting) → begun.writing.option ≡ option → begun.terms ≡ was.terms → begun.writing.norms ≡ was.writing.norms → begun.num_tokens ≡ was.num_tokens → begun.total_term_freq ≡ 0 → IsSameTerm begun full
     → full.total_term_freq ≡ begun.total_term_freq + tokens_in ps → IsCloseRefusal fault full (docs_in ps) (counts_in begun ps) (numbers_in ps) → IsTermRefusal fault was option ps
 close_passes fault was begun full option ps option_is terms norms tokens none second total (inl memory) = inl memory
 close_passes fault was begun full option ps option_is terms norms tokens none second total (inr limit) = inr (limit.0, go limit.1)
   where
     o : full.writing.option ≡ option
-    o = second.6 ∙ option_is
+    o = second.option ∙ option_is
 
     bytes : postings_of full.writing (docs_in ps) (counts_in begun ps) ≡ postings_bytes option (listed was.writing.norms) (docs_in ps) (map (λ (p : Posting). recorded_count option p.count) ps)
     bytes =
         ap (λ x. postings_bytes x (listed full.writing.norms) (docs_in ps) (counts_in begun ps)) o
-        ∙ ap (λ x. postings_bytes option (listed x) (docs_in ps) (counts_in begun ps)) (second.7 ∙ norms)
+        ∙ ap (λ x. postings_bytes option (listed x) (docs_in ps) (counts_in begun ps)) (second.kept.same.norms ∙ norms)
         ∙ ap (λ x. postings_bytes option (listed was.writing.norms) (docs_in ps) (map (λ (p : Posting). recorded_count x p.count) ps)) option_is
 
     go : MeetsLimit full (docs_in ps) (counts_in begun ps) (numbers_in ps) → TermPasses option (listed was.writing.norms) ps ⊎ (was.terms.num_terms ≡ 4294967295) ⊎ (2 ^ 64 ≤ was.num_tokens + tokens_in ps)
     go (inl long) = inl (inr (inr (inl (subst (λ (xs : List ℕ). 2 ^ 32 ≤ length xs) bytes long))))
-    go (inr (inl many)) = inr (inl (ap (λ (t : Terms). t.num_terms) (sym (second.2 ∙ terms)) ∙ many))
-    go (inr (inr (inl past))) = inr (inr (subst (λ n. 2 ^ 64 ≤ n) (full_tokens was begun full ps tokens none second.1 total) past))
+    go (inr (inl many)) = inr (inl (ap (λ (t : Terms). t.num_terms) (sym (second.kept.terms ∙ terms)) ∙ many))
+    go (inr (inr (inl past))) = inr (inr (subst (λ n. 2 ^ 64 ≤ n) (full_tokens was begun full ps tokens none second.kept.same.num_tokens total) past))
     go (inr (inr (inr placed))) = inl (inr (inr (inr (placed.0, subst (λ x. HasPositions (has_positions x) (numbers_in ps) placed.0) o placed.1, placed.2))))
 
 -- why its postings aren't written

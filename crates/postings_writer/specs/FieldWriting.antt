@@ -71,6 +71,12 @@ pub record AreKept (was now : FieldWriting) : Type 0 where
   pub postings : now.postings ≡ was.postings
   pub positions : now.positions.0 ≡ was.positions.0
 
+-- and the term that is written is the same one
+pub record IsSameTerm (was now : FieldWriting) : Type 0 where
+  pub kept : AreKept was now
+  pub key : now.key ≡ was.key
+  pub option : now.writing.option ≡ was.writing.option
+
 -- the sections of terms, postings and positions so far
 pub record Sections : Type 0 where
   pub terms : List ℕ

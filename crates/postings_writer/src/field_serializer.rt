@@ -4,7 +4,7 @@ ghost use Rattle.std.specs.Prelude.{[], ◌+◌, ◌++◌, ◌<◌, ◌≡◌, �
 ghost use Rattle.definitions.specs.Postings.{terminated};
 ghost use Rattle.definitions.specs.Schema.{basic, has_freq, has_positions};
 ghost use Rattle.layouts.specs.InvertedIndexes.{HasPositions};
-ghost use Rattle.postings_writer.specs.FieldWriting.{AreKept, IsCloseRefusal, IsClosed, IsOpen, IsSameField, field_closed};
+ghost use Rattle.postings_writer.specs.FieldWriting.{AreKept, IsCloseRefusal, IsClosed, IsOpen, IsSameField, IsSameTerm, field_closed};
 ghost use Rattle.postings_writer.specs.TermWriting.{IsSumRefusal, recorded_count};
 
 use crate::inverted_index_serializer::InvertedIndexSerializer;
@@ -48,13 +48,10 @@ impl<'a> FieldSerializer<'a> {
         ensures key { OnOk result (self.new.key ≡ key.now) }
         ensures option { OnOk result (self.new.writing.option
             ≡ (if record_term_freq then self.old.writing.mode else basic)) }
-        ensures same { OnOk result ((self.new.field ≡ self.old.field) × (self.new.num_tokens ≡ self.old.num_tokens)
-            × (self.new.terms ≡ self.old.terms) × (self.new.postings ≡ self.old.postings)
-            × (self.new.positions ≡ (self.old.positions.0, [])) × (self.new.writing.mode ≡ self.old.writing.mode)
-            × (self.new.writing.norms ≡ self.old.writing.norms) × (self.new.writing.next ≡ 0)) }
+        ensures next { OnOk result (self.new.writing.next ≡ 0) }
         ensures total { OnOk result (self.new.total_term_freq ≡ 0) }
-        ensures refused { OnErr result (AreKept self.old self.new) }
-        ensures waiting { OnErr result (self.new.positions.1 ≡ []) }
+        ensures kept { AreKept self.old self.new }
+        ensures waiting { self.new.positions.1 ≡ [] }
     {
         self.postings_serializer.new_term(record_term_freq);
         self.positions_serializer.clear();
@@ -70,13 +67,10 @@ impl<'a> FieldSerializer<'a> {
         ensures ready { OnOk result (IsOpen self.new [] [] []) }
         ensures key { OnOk result (self.new.key ≡ key.now) }
         ensures option { OnOk result (self.new.writing.option ≡ basic) }
-        ensures same { OnOk result ((self.new.field ≡ self.old.field) × (self.new.num_tokens ≡ self.old.num_tokens)
-            × (self.new.terms ≡ self.old.terms) × (self.new.postings ≡ self.old.postings)
-            × (self.new.positions ≡ (self.old.positions.0, [])) × (self.new.writing.mode ≡ self.old.writing.mode)
-            × (self.new.writing.norms ≡ self.old.writing.norms) × (self.new.writing.next ≡ 0)) }
+        ensures next { OnOk result (self.new.writing.next ≡ 0) }
         ensures total { OnOk result (self.new.total_term_freq ≡ 0) }
-        ensures refused { OnErr result (AreKept self.old self.new) }
-        ensures waiting { OnErr result (self.new.positions.1 ≡ []) }
+        ensures kept { AreKept self.old self.new }
+        ensures waiting { self.new.positions.1 ≡ [] }
     {
         self.new_term(key, false)
     }
@@ -98,11 +92,8 @@ impl<'a> FieldSerializer<'a> {
         ensures written { (docs counts numbers : List ℕ) → IsOpen self.old docs counts numbers
             → OnOk result (IsOpen self.new (docs ++ doc
             ∷ []) (counts ++ recorded_count self.old.writing.option term_freq ∷ []) (numbers ++ position_deltas.now)) }
-        ensures same { OnOk result ((self.new.field ≡ self.old.field) × (self.new.num_tokens ≡ self.old.num_tokens)
-            × (self.new.terms ≡ self.old.terms) × (self.new.postings ≡ self.old.postings)
-            × (self.new.key ≡ self.old.key) × (self.new.writing.mode ≡ self.old.writing.mode)
-            × (self.new.writing.option ≡ self.old.writing.option) × (self.new.writing.norms ≡ self.old.writing.norms)
-            × (self.new.writing.next ≡ doc + 1) × (self.new.positions.0 ≡ self.old.positions.0)) }
+        ensures same { OnOk result (IsSameTerm self.old self.new) }
+        ensures next { OnOk result (self.new.writing.next ≡ doc + 1) }
         ensures total { OnOk result (self.new.total_term_freq ≡ self.old.total_term_freq + term_freq) }
         ensures err { (docs counts numbers : List ℕ) → IsOpen self.old docs counts numbers
             → IfErr result (λ fault. IsSumRefusal fault (counts ++ recorded_count self.old.writing.option term_freq

@@ -8,7 +8,7 @@ ghost use Rattle.definitions.specs.Schema.{basic};
 ghost use Rattle.definitions.specs.Scoring.{DontFall};
 ghost use Rattle.definitions.specs.declared.fault.Fault.TheVariants as faults;
 ghost use Rattle.layouts.specs.Positions.{differences, position_numbers};
-ghost use Rattle.postings_writer.specs.FieldWriting.{IsOpen};
+ghost use Rattle.postings_writer.specs.FieldWriting.{IsOpen, IsSameTerm};
 ghost use Rattle.postings_writer.specs.TermWriting.{recorded_count};
 ghost use Rattle.postings_writer.specs.Limits.{CountsPass, SumsPass, TermPasses};
 ghost use Rattle.postings_writer.specs.Occurrences.{by_document};
@@ -159,13 +159,7 @@ fn write_postings<'a>(
         → OnOk result (IsOpen serializer.new (docs ++ map (λ p. p.doc) (postings_from recorder.now 0))
         (counts ++ map (λ p. recorded_count serializer.old.writing.option p.count) (postings_from recorder.now 0))
         (numbers ++ position_numbers (map (λ p. p.positions) (postings_from recorder.now 0)))) }
-    ensures same { OnOk result ((serializer.new.field ≡ serializer.old.field)
-        × (serializer.new.num_tokens ≡ serializer.old.num_tokens) × (serializer.new.terms ≡ serializer.old.terms)
-        × (serializer.new.postings ≡ serializer.old.postings) × (serializer.new.key ≡ serializer.old.key)
-        × (serializer.new.writing.mode ≡ serializer.old.writing.mode)
-        × (serializer.new.writing.option ≡ serializer.old.writing.option)
-        × (serializer.new.writing.norms ≡ serializer.old.writing.norms)
-        × (serializer.new.positions.0 ≡ serializer.old.positions.0)) }
+    ensures same { OnOk result (IsSameTerm serializer.old serializer.new) }
     ensures total { OnOk result (serializer.new.total_term_freq
         ≡ serializer.old.total_term_freq + tokens_of recorder.now) }
     ensures err { IsOpen serializer.old [] [] [] → IfErr result (λ fault. (fault ≡ faults.OutOfMemory)

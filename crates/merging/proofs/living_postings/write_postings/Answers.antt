@@ -52,6 +52,19 @@ returns-in_err-write_posting-clause-err c docs counts numbers is =
     (subst (λ xs. IsSumRefusal c.in_err-write_posting.field-0.0 ((counts ++ map (λ (q : Posting). recorded_count was.writing.option q.count) written.done) ++ recorded_count now.writing.option (first_count xs) ∷ [])) at.2
     (c.in_err-write_posting.ensures.err _ _ _ (written.open_is docs counts numbers is))))
 
+pub loop-doc-smaller : goal.loop-doc-smaller
+loop-doc-smaller c =
+    let es : List Entry = entries_left c.loop-doc.postings in
+    let left : List Entry = entries_left c.advance-doc.new.self in
+    let at = entry_there es (λ end. c.loop-doc-test.true (c.loop-doc.invariant.at ∙ end)) in
+    let there : entries_left c.match-get_new_doc_id.postings ≡ es = elim c.match-get_new_doc_id.branch [
+      | in-Some+in_ok-write_posting w ↦ ap entries_left w.postings-is ∙ w.in_ok-write_posting.ensures.entries
+      | in_default w ↦ ap entries_left w.postings-is
+    ] in
+    let rest_is = ap length (c.advance-doc.ensures.rest ∙ ap (drop 1) (there ∙ at.2)) in
+    let one_more = ap length at.2 in
+    let goal : length left < length es = omega (arith, rest_is, one_more) in goal
+
 pub loop-doc-preserved : goal.loop-doc-preserved
 loop-doc-preserved c =
     let m = c.args.mapping.now in
@@ -77,9 +90,9 @@ loop-doc-preserved c =
           let new = w.write_posting.new.serializer in
           let further : Written was new all (living_in m rest) = living_written m was now all e rest written new w.in-Some.new_doc number
           (λ ds cs ns opened. subst (λ xs. IsOpen new (ds ++ w.in-Some.new_doc ∷ []) (cs ++ recorded_count now.writing.option (first_count xs) ∷ []) (ns ++ differences 0 (single (first_positions xs)))) at.2 (done.written ds cs ns opened))
-          (done.total ∙ ap (λ xs. now.total_term_freq + first_count xs) at.2) done.same.0 done.same.1 in
+          (done.total ∙ ap (λ xs. now.total_term_freq + first_count xs) at.2) done.same done.next in
           let small = number_within_end m e.doc w.in-Some.new_doc number in
-          let next = ap (λ (s : FieldWriting). s.writing.next) w.serializer-is ∙ done.same.1 in
+          let next = ap (λ (s : FieldWriting). s.writing.next) w.serializer-is ∙ done.next in
           record {
             written = subst (λ xs. Written was c.match-get_new_doc_id.serializer all (living_in m xs)) (sym rest_is) (subst (λ s. Written was s all (living_in m rest)) (sym w.serializer-is) further);
             some = ap₂ (λ b xs. b || has_some (living_in m xs)) w.some-is rest_is ∙ some_here m was now all e rest written c.loop-doc.some w.in-Some.new_doc number some;

@@ -12,7 +12,7 @@ use Rattle.postings_writer.proofs.WrittenTerms.{close_passes, term_written}
 use Rattle.merging.proofs.merged_term.merge_term.Goals as goal
 
 pub write_members-requires-clause-known : goal.write_members-requires-clause-known
-write_members-requires-clause-known c = ∥∥₁_map c.requires.known (λ k. (k.0, k.1, k.2, k.3, k.4, subst (λ (o : Option (List ℕ)). IfSome o (λ ids. k.1 ≤ length ids)) (sym c.in_ok-new_term.ensures.same.6) k.5))
+write_members-requires-clause-known c = ∥∥₁_map c.requires.known (λ k. (k.0, k.1, k.2, k.3, k.4, subst (λ (o : Option (List ℕ)). IfSome o (λ ids. k.1 ≤ length ids)) (sym c.in_ok-new_term.ensures.kept.same.norms) k.5))
 
 pub returns-in_err-write_members-clause-err : goal.returns-in_err-write_members-clause-err
 returns-in_err-write_members-clause-err c schema num_docs all key are first =
@@ -36,7 +36,7 @@ returns-in_err-close_term-clause-err c schema num_docs all key are first =
     let p = err_from_is_err_and c.from_residual-in_err-close_term.result c.from_residual-in_err-close_term.ensures.1 in
     rw (p.1, p.2) (subst (λ k. IsTermRefusal c.in_err-close_term.field-0.0 c.args.serializer.now (cond c.args.record_term_freq c.args.serializer.now.writing.mode basic) (merged_in c.args.field k c.args.members.now all)) own
     (close_refused c.in_err-close_term.field-0.0 c.args.serializer.now _ ps (sym c.if-branch.true ∙ c.in_ok-write_members.ensures.some schema num_docs all are)
-    (close_passes c.in_err-close_term.field-0.0 c.args.serializer.now w c.write_members.new.serializer _ ps begun.option begun.same.2 begun.same.6 begun.same.1 begun.total written.same written.total (c.in_err-close_term.ensures.err docs counts numbers (written.open_is [] [] [] begun.ready)))))
+    (close_passes c.in_err-close_term.field-0.0 c.args.serializer.now w c.write_members.new.serializer _ ps begun.option begun.kept.terms begun.kept.same.norms begun.kept.same.num_tokens begun.total written.same written.total (c.in_err-close_term.ensures.err docs counts numbers (written.open_is [] [] [] begun.ready)))))
 
 pub returns-in_ok-close_term-clause-ok : goal.returns-in_ok-close_term-clause-ok
 returns-in_ok-close_term-clause-ok c schema num_docs all key are first =
@@ -51,7 +51,7 @@ returns-in_ok-close_term-clause-ok c schema num_docs all key are first =
     let written = done.ok schema num_docs all are in
     subst (λ k. IsMergedTerm c.args.serializer.now c.close_term.new.self k (cond c.args.record_term_freq c.args.serializer.now.writing.mode basic) (merged_in c.args.field k c.args.members.now all)) own
     (merged_written c.args.serializer.now c.close_term.new.self c.in-Some.key.now _ ps (sym c.if-branch.true ∙ done.some schema num_docs all are)
-    (term_written c.args.serializer.now w c.write_members.new.serializer c.close_term.new.self c.in-Some.key.now _ ps begun.key begun.option begun.same begun.total written.same written.total (c.in_ok-close_term.ensures.ok docs counts numbers (written.open_is [] [] [] begun.ready)) c.in_ok-close_term.ensures.tokens c.in_ok-close_term.ensures.same))
+    (term_written c.args.serializer.now w c.write_members.new.serializer c.close_term.new.self c.in-Some.key.now _ ps begun.key begun.option begun.kept begun.total written.same written.total (c.in_ok-close_term.ensures.ok docs counts numbers (written.open_is [] [] [] begun.ready)) c.in_ok-close_term.ensures.tokens c.in_ok-close_term.ensures.same))
 
 pub returns-else-branch-clause-ok : goal.returns-else-branch-clause-ok
 returns-else-branch-clause-ok c schema num_docs all key are first =
@@ -59,4 +59,4 @@ returns-else-branch-clause-ok c schema num_docs all key are first =
     let begun = c.in_ok-new_term.ensures in
     let done = c.in_ok-write_members.ensures in
     subst (λ k. IsMergedTerm c.args.serializer.now c.write_members.new.serializer k (cond c.args.record_term_freq c.args.serializer.now.writing.mode basic) (merged_in c.args.field k c.args.members.now all)) own
-    (merged_passed c.args.serializer.now c.new_term.new.self c.write_members.new.serializer c.in-Some.key.now _ (merged_in c.args.field c.in-Some.key.now c.args.members.now all) (sym c.if-branch.false ∙ done.some schema num_docs all are) begun.ready begun.same (done.ok schema num_docs all are))
+    (merged_passed c.args.serializer.now c.new_term.new.self c.write_members.new.serializer c.in-Some.key.now _ (merged_in c.args.field c.in-Some.key.now c.args.members.now all) (sym c.if-branch.false ∙ done.some schema num_docs all are) begun.ready begun.kept (done.ok schema num_docs all are))

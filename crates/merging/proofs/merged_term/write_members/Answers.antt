@@ -6,12 +6,13 @@ use Rattle.std.proofs.Props.{props}
 use Rattle.fieldnorms.proofs.Recording.{anyway}
 use Rattle.segment_reader.specs.Dictionaries.{Placed}
 use Rattle.segment_reader.specs.Readers.{dictionary_in, info_in, postings_in}
-use Rattle.merging.proofs.MembersWritten.{all_merged, kept_both, kept_written, mapped_at, member_found, member_refused, more_merged, some_both, written_both}
+use Rattle.merging.proofs.MembersWritten.{all_merged, mapped_at, member_found, member_refused, more_merged, some_both, written_both}
 use Rattle.merging.specs.Members.{end_after, living_of, merged_in}
 use Rattle.merging.specs.declared.member.Member.{Member}
 use Rattle.merging.specs.Living.{has_some}
 use Rattle.merging.specs.Mappings.{end_of}
 use Rattle.merging.specs.Written.{AreWritten}
+use Rattle.postings_writer.proofs.WrittenTerms.{kept_both}
 use Rattle.merging.proofs.merged_term.write_members.Goals as goal
 use Rattle.merging.proofs.merged_term.write_members.Goals.{else-some, then-some}
 
@@ -79,7 +80,7 @@ returns-in_err-wrote-clause-err c schema num_docs all docs counts numbers are op
     let written = inv.written schema num_docs all are in
     let split = at.split c.args.field key in
     let p = err_from_is_err_and c.from_residual.result c.from_residual.ensures.1 in
-    rw (p.1, p.2) (member_refused c.in_err-wrote.field-0.0 c.args.serializer.now c.loop-number.serializer counts (merged_in c.args.field key (take i ms) (take i all)) (living_of c.index-members-number.result.doc_ids (postings_in at.fields c.args.field key)) split.0 (merged_in c.args.field key ms all) written.same.6 split.1
+    rw (p.1, p.2) (member_refused c.in_err-wrote.field-0.0 c.args.serializer.now c.loop-number.serializer counts (merged_in c.args.field key (take i ms) (take i all)) (living_of c.index-members-number.result.doc_ids (postings_in at.fields c.args.field key)) split.0 (merged_in c.args.field key ms all) written.same.option split.1
     (c.in_err-wrote.ensures.err schema at.fields _ _ _ at.is (written.open_is docs counts numbers opened)))
 
 pub returns-in_err-wrote-clause-refused : goal.returns-in_err-wrote-clause-refused
@@ -115,7 +116,7 @@ loop-number-preserved c =
           omega (arith, next, ends, e)));
       kept = ∥∥₁_elim c.requires.known (hlevel props) (λ k.
           (let own = member_found k.0 k.1 i ms k.2 m c.index-members-number.is k.3 (omega (arith, inside)) in
-          kept_both was c.loop-number.serializer new inv.kept (kept_written c.loop-number.serializer new (living_of m.doc_ids (postings_in own.fields c.args.field key)) (c.in_ok-wrote.ensures.ok k.0 own.fields own.is))));
+          kept_both was c.loop-number.serializer new inv.kept (c.in_ok-wrote.ensures.ok k.0 own.fields own.is).same.kept));
     }
   where
     either : c.if-some.some ≡ (c.loop-number.some || c.in_ok-wrote.wrote)

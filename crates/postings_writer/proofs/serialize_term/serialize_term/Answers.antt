@@ -16,7 +16,7 @@ returns-in_err-close_term-clause-err c =
     let numbers = position_numbers (map (λ (p : Posting). p.positions) ps) in
     let p = err_from_is_err_and c.from_residual-in_err-close_term.result c.from_residual-in_err-close_term.ensures.1 in
     let begun = c.in_ok-new_term.ensures in
-    rw (p.1, p.2) (close_passes c.in_err-close_term.field-0.0 c.args.serializer.now w c.write_postings.new.serializer _ ps begun.option begun.same.2 begun.same.6 begun.same.1 begun.total c.in_ok-write_postings.ensures.same c.in_ok-write_postings.ensures.total (c.in_err-close_term.ensures.err docs counts numbers (c.in_ok-write_postings.ensures.ok [] [] [] begun.ready)))
+    rw (p.1, p.2) (close_passes c.in_err-close_term.field-0.0 c.args.serializer.now w c.write_postings.new.serializer _ ps begun.option begun.kept.terms begun.kept.same.norms begun.kept.same.num_tokens begun.total c.in_ok-write_postings.ensures.same c.in_ok-write_postings.ensures.total (c.in_err-close_term.ensures.err docs counts numbers (c.in_ok-write_postings.ensures.ok [] [] [] begun.ready)))
 
 pub returns-in_err-write_postings-clause-err : goal.returns-in_err-write_postings-clause-err
 returns-in_err-write_postings-clause-err c =
@@ -33,4 +33,4 @@ returns-clause-ok c =
     let numbers = position_numbers (map (λ (p : Posting). p.positions) ps) in
     let begun = c.in_ok-new_term.ensures in
     let written = c.in_ok-write_postings.ensures in
-    term_written c.args.serializer.now w c.write_postings.new.serializer c.close_term.new.self c.args.key.now _ ps begun.key begun.option begun.same begun.total written.same written.total (c.in_ok-close_term.ensures.ok docs counts numbers (written.ok [] [] [] begun.ready)) c.in_ok-close_term.ensures.tokens c.in_ok-close_term.ensures.same
+    term_written c.args.serializer.now w c.write_postings.new.serializer c.close_term.new.self c.args.key.now _ ps begun.key begun.option begun.kept begun.total written.same written.total (c.in_ok-close_term.ensures.ok docs counts numbers (written.ok [] [] [] begun.ready)) c.in_ok-close_term.ensures.tokens c.in_ok-close_term.ensures.same

@@ -19,8 +19,7 @@ loop-at-preserved c =
     let stands = c.in_ok-doc.ensures.ok in
     let w = c.in_ok-write_doc.ensures in
     let p : Posting = record { doc = c.in_ok-doc.doc; count = c.in_ok-doc.count; positions = stands.positions } in
-    let s = w.same in
-    written_more c.args.serializer.now c.loop-at.serializer c.write_doc.new.self (postings_from c.args.recorder.now 0) (postings_from c.args.recorder.now c.loop-at.at) (postings_from c.args.recorder.now c.in_ok-doc.next) p c.deref.result.now c.loop-at.invariant stands.rest (c.deref.ensures.value ∙ stands.deltas_are) w.written w.total (s.0, s.1, s.2, s.3, s.4, s.5, s.6, s.7, s.9) s.8
+    written_more c.args.serializer.now c.loop-at.serializer c.write_doc.new.self (postings_from c.args.recorder.now 0) (postings_from c.args.recorder.now c.loop-at.at) (postings_from c.args.recorder.now c.in_ok-doc.next) p c.deref.result.now c.loop-at.invariant stands.rest (c.deref.ensures.value ∙ stands.deltas_are) w.written w.total w.same w.next
 
 pub returns-clause-ok : goal.returns-clause-ok
 returns-clause-ok c docs counts numbers is =
