@@ -1,5 +1,5 @@
 -- Stored values by name, as the definitions have them.
-use Rattle.std.specs.Prelude.{[], ◌++◌, ◌∷◌, List, None, Option, Some, String, Vec, map, string_bytes, suc, zero, ℕ}
+use Rattle.std.specs.Prelude.{[], ◌++◌, ◌∷◌, List, None, Option, Some, String, Vec, if◌then◌else◌, map, string_bytes, suc, zero, ℕ}
 use Rattle.std.specs.declared.alloc.Global.{Global}
 use Rattle.definitions.specs.Schema.{Entry, Schema}
 use Rattle.definitions.specs.Stored.{Named}
