@@ -1,11 +1,12 @@
 -- What a crash may leave while a file is settled, appended to and created, from call to call.
-use Rattle.std.proofs.Common.{IsTrue, Bool, [], List, inl, inr, length, subst, take, ◌++◌, ◌+◌, ◌^◌, ◌∙◌, ◌∷◌, ◌≡◌, ◌≤◌, ℕ}
+use Rattle.std.proofs.Common.{[], List, inl, inr, length, subst, take, ◌++◌, ◌+◌, ◌^◌, ◌∙◌, ◌∷◌, ◌≡◌, ◌≤◌, ℕ}
 use Rattle.definitions.specs.Disk.{IsImage, Unsynced, overwritten, settled, shortened, written}
 use Rattle.definitions.specs.Moments.{Elapses, LeavesOnly}
 use Rattle.definitions.proofs.CallRuns.{joined, started, weaker, while_syncing}
-use Rattle.layouts.specs.RecordFiles.{EndsAt, IsAtRest, IsFile, IsFresh, IsOneOf}
-use Rattle.layouts.proofs.FilesOfRecords.{one_is_fresh}
+use Rattle.layouts.specs.RecordFiles.{EndsAt, IsAtRest, IsFile, IsOneOf}
+use Rattle.layouts.proofs.FilesOfRecords.{empty_is_no_index}
 use Rattle.index_file.specs.Frames.{frame_bytes}
+use Rattle.index_file.specs.Kept.{IsOldOrFirst, IsOldOrNone}
 use Rattle.index_file.proofs.Images.{cut_files, frame_images, framed_content, gate_images, rest_images, short_body}
 
 module _ {D : Type 0} (moment : D → ℕ) (left_since : D → ℕ → List ℕ → Type 0) (content : D → List ℕ) (unsynced : D → Unsynced) where
@@ -49,5 +50,12 @@ module _ {D : Type 0} (moment : D → ℕ) (left_since : D → ℕ → List ℕ 
       (λ image left. inl (rest_images bodies (content old) image gate rest (subst (λ (u : Unsynced). IsImage (content old) u image) synced (only_now image left))))
 
   -- the first gate, and then the first record
-  pub creating : (takes : List ℕ → Bool) (old mid new : D) (body : List ℕ) → IsTrue (takes body) → LeavesOnly moment left_since old mid (IsFresh takes) → LeavesOnly moment left_since mid new (IsOneOf [] (body ∷ [])) → LeavesOnly moment left_since old new (IsFresh takes)
-  creating takes old mid new body taken first second = joined moment left_since old mid new (IsFresh takes) first (weaker moment left_since mid new (IsOneOf [] (body ∷ [])) (IsFresh takes) second (λ bytes. one_is_fresh takes body bytes taken))
+  pub creating : (old mid new : D) (body : List ℕ) → LeavesOnly moment left_since old mid (IsOldOrNone content unsynced old) → LeavesOnly moment left_since mid new (IsOneOf [] (body ∷ [])) → LeavesOnly moment left_since old new (IsOldOrFirst content unsynced old body)
+  creating old mid new body first second =
+      let P : List ℕ → Type 0 = IsOldOrFirst content unsynced old body in
+      joined moment left_since old mid new P (weaker moment left_since old mid (IsOldOrNone content unsynced old) P first (λ image is. inl is))
+      (weaker moment left_since mid new (IsOneOf [] (body ∷ [])) P second
+      (λ image is. elim is [
+        | inl none ↦ inl (inr (empty_is_no_index image none))
+        | inr one ↦ inr one
+      ]))

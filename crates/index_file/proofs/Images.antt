@@ -1,12 +1,12 @@
 -- What a crash may leave of a file of records, in each step.
-use Rattle.std.proofs.Common.{Bool, [], List, ap, ap₂, append-nil, append_assoc, arith, drop, get_or, max, inl, inr, length, length-append, length-drop, refl, subst, suc, sym, take, ◌++◌, ◌+◌, ◌-◌, ◌<◌, ◌^◌, ◌∙◌, ◌∷◌, ◌≡◌, ◌≢◌, ◌≤◌, ◌⊎◌, ℕ}
+use Rattle.std.proofs.Common.{[], List, ap, ap₂, append-nil, append_assoc, arith, drop, get_or, max, inl, inr, length, length-append, length-drop, refl, subst, suc, sym, take, ◌++◌, ◌+◌, ◌-◌, ◌<◌, ◌^◌, ◌∙◌, ◌∷◌, ◌≡◌, ◌≢◌, ◌≤◌, ◌⊎◌, ℕ}
 use Rattle.std.proofs.lemmas.Bool.{cases_lt}
 use Rattle.std.proofs.lemmas.List.{drop_at, ext_get_or, get_or-append_right, get_or-drop, get_or-take, get_or_append_left, take_all, take_at}
 use Rattle.std.proofs.Math.Seq.{drop-cons}
-use Rattle.definitions.specs.Disk.{IsEither, IsImage, IsInRange, Unsynced, overwritten, settled, shortened, written}
+use Rattle.definitions.specs.Disk.{IsImage, IsInRange, Unsynced, overwritten, settled, shortened, written}
 use Rattle.definitions.proofs.CallImages.{overwritten-outside, settled-image}
-use Rattle.layouts.specs.RecordFiles.{AreShort, EndsAt, IsAtRest, IsFile, IsFresh, IsOneOf, records, sized_body}
-use Rattle.layouts.proofs.FilesOfRecords.{IsFlat, empty_is_no_index, files_are_indexes, ends_at_rest, file_of, flat, gate_inside, one_reading, records_more, same_file, same_front, short_more}
+use Rattle.layouts.specs.RecordFiles.{AreShort, EndsAt, IsAtRest, IsFile, IsNoIndex, IsOneOf, records, sized_body}
+use Rattle.layouts.proofs.FilesOfRecords.{IsFlat, ends_at_rest, file_of, flat, gate_inside, records_more, same_file, same_front, short_more}
 use Rattle.index_file.specs.Frames.{frame_bytes}
 
 -- ---- a frame behind the closed gate
@@ -149,27 +149,16 @@ cut_files bodies content image gate ends is =
     let no_shorter = is.no_shorter in
     same_file bodies content image gate ends (omega arith) (λ i below. is.stays i (omega arith) (λ none. none) ∙ get_or-take (gate + 1) content i 0 below)
 
--- a file of bodies that is one of two lists has one of these
-pub either_file : (bodies a b : List (List ℕ)) (content image : List ℕ) → IsFile bodies content → IsOneOf a b content → IsFile bodies image → IsOneOf a b image
-either_file bodies a b content image file (inl is) new = inl (subst (λ (l : List (List ℕ)). IsFile l image) (one_reading bodies a content file is) new)
-either_file bodies a b content image file (inr is) new = inr (subst (λ (l : List (List ℕ)). IsFile l image) (one_reading bodies b content file is) new)
-
 -- ---- what a crash leaves of a file at rest
 
 pub rest_images : (bodies : List (List ℕ)) (content image : List ℕ) (gate : ℕ) → IsAtRest content gate bodies → IsImage content (settled (length content)) image → IsFile bodies image
 rest_images bodies content image gate rest is = subst (λ (l : List ℕ). IsFile bodies l) (sym (settled-image content image is)) rest.file
 
--- a file of bodies that is fresh stays so, whatever follows its closed gate
-pub fresh_file : (takes : List ℕ → Bool) (bodies : List (List ℕ)) (content image : List ℕ) → IsFile bodies content → IsFresh takes content → IsFile bodies image → IsFresh takes image
-fresh_file takes [] content image file fresh new = inl (empty_is_no_index image new)
-fresh_file takes (body ∷ bodies) content image file (inl none) new = absurd (files_are_indexes body bodies content file none)
-fresh_file takes (body ∷ bodies) content image file (inr one) new = inr (one.0, one.1, subst (λ (l : List (List ℕ)). IsFile l image) (one_reading (body ∷ bodies) (one.0 ∷ []) content file one.2) new)
-
--- an image of nothing is fresh after a closed gate was written, where all were
-pub first_gate_images : (takes : List ℕ → Bool) (u : Unsynced) (image : List ℕ) → IsImage [] u [] → ((other : List ℕ) → IsImage [] u other → IsFresh takes other) → IsImage (overwritten 0 (0 ∷ []) []) (written 0 1 u) image → IsFresh takes image
-first_gate_images takes u image remains here is = elim (cases_lt u.greatest (length image)) [
-  | inl past ↦ inl (inl (let few : length image ≤ max u.greatest 1 = is.no_longer in omega arith))
-  | inr within ↦ here image (record { no_shorter = is.no_shorter; no_longer = within; bytes = is.bytes; stays = λ i below out. absurd (let none : u.least ≤ 0 = remains.no_shorter in omega arith) })
+-- an image after a closed gate was written to nothing is one of before, or too short for an index
+pub first_gate_images : (u : Unsynced) (image : List ℕ) → IsImage [] u [] → IsImage (overwritten 0 (0 ∷ []) []) (written 0 1 u) image → IsImage [] u image ⊎ IsNoIndex image
+first_gate_images u image remains is = elim (cases_lt u.greatest (length image)) [
+  | inl past ↦ inr (inl (let few : length image ≤ max u.greatest 1 = is.no_longer in omega arith))
+  | inr within ↦ inl (record { no_shorter = is.no_shorter; no_longer = within; bytes = is.bytes; stays = λ i below out. absurd (let none : u.least ≤ 0 = remains.no_shorter in omega arith) })
 ]
 
 -- a body behind a gate is short
@@ -179,14 +168,3 @@ short_body gate frame body room framed = omega (arith, ap length framed, length-
 -- one closed gate is a file of no body
 pub gate_at_rest : IsAtRest (0 ∷ []) 0 []
 gate_at_rest = record { file = IsFile.ends 0 [] (λ e. omega arith); place = refl; whole = refl }
-
--- the bodies of what a read gives, where each image has one of two lists of bodies
-pub either_list : (bodies a b : List (List ℕ)) (content : List ℕ) → IsFile bodies content → IsOneOf a b content → IsEither a b bodies
-either_list bodies a b content file (inl is) = inl (one_reading bodies a content file is)
-either_list bodies a b content file (inr is) = inr (one_reading bodies b content file is)
-
--- and where each is fresh
-pub first_alone : (takes : List ℕ → Bool) (bodies : List (List ℕ)) (content : List ℕ) → IsFile bodies content → bodies ≢ [] → IsFresh takes content → (body : List ℕ) × (bodies ≡ body ∷ [])
-first_alone takes [] content file some fresh = absurd (some refl)
-first_alone takes (body ∷ bodies) content file some (inl none) = absurd (files_are_indexes body bodies content file none)
-first_alone takes (body ∷ bodies) content file some (inr one) = (one.0, one_reading (body ∷ bodies) (one.0 ∷ []) content file one.2)

@@ -1,12 +1,12 @@
 //! The steps that create, settle and append to a file of records, on a borrowed device.
 
-ghost use Rattle.std.specs.Prelude.{Bool, [], ◌++◌, ◌+◌, ◌<◌, ◌^◌, ◌∷◌, ◌≡◌, ◌≢◌, ◌≤◌, ◌⊎◌, IfErr, IsErrOf, IsTrue, List, OnErr, OnOk, length, ℕ};
-ghost use Rattle.definitions.specs.Disk.{HasCause, IsEither, settled};
+ghost use Rattle.std.specs.Prelude.{[], ◌++◌, ◌+◌, ◌<◌, ◌^◌, ◌∷◌, ◌≡◌, ◌≢◌, ◌≤◌, ◌⊎◌, IfErr, IsErrOf, IsTrue, List, OnOk, length, ℕ};
+ghost use Rattle.definitions.specs.Disk.{HasCause, settled};
 ghost use Rattle.definitions.specs.Moments.{LeavesOnly};
 ghost use Rattle.definitions.specs.declared.fault.Fault.TheVariants as faults;
-ghost use Rattle.layouts.specs.RecordFiles.{EndsAt, IsAtRest, IsFresh, IsOneOf};
+ghost use Rattle.layouts.specs.RecordFiles.{EndsAt, IsAtRest, IsOneOf};
 ghost use Rattle.index_file.specs.Frames.{frame_bytes};
-ghost use Rattle.index_file.specs.Kept.{IsKept, LeavesNow};
+ghost use Rattle.index_file.specs.Kept.{IsKept, IsOldOrFirst, IsOldOrNone, IsOldOrOf};
 ghost use Rattle.index_file.specs.Outcomes.{CountsNoOther};
 
 use crate::frame::OPEN;
@@ -28,21 +28,10 @@ pub(crate) fn settle_file<D: Device>(device: &mut D, gate: usize) -> Result<(), 
         → OnOk result (IsAtRest (D.content device.new) gate bodies) }
     ensures unsynced { IsTrue (D.honest device.old)
         → OnOk result (D.unsynced device.new ≡ settled (length (D.content device.new))) }
-    ensures any_moment { (bodies a b : List (List ℕ)) → IsTrue (D.honest device.old)
+    ensures any_moment { (bodies : List (List ℕ)) → IsTrue (D.honest device.old)
         → EndsAt (D.content device.old) gate bodies
-        → LeavesNow D.content D.unsynced device.old (IsOneOf a b)
-        → LeavesOnly D.moment D.left_since device.old device.new (IsOneOf a b) }
-    ensures fresh { (takes : List ℕ → Bool) (bodies : List (List ℕ)) → IsTrue (D.honest device.old)
-        → EndsAt (D.content device.old) gate bodies
-        → LeavesNow D.content D.unsynced device.old (IsFresh takes)
-        → LeavesOnly D.moment D.left_since device.old device.new (IsFresh takes) }
-    ensures one { (bodies a b : List (List ℕ)) → IsTrue (D.honest device.old)
-        → EndsAt (D.content device.old) gate bodies
-        → LeavesNow D.content D.unsynced device.old (IsOneOf a b) → IsEither a b bodies }
-    ensures first { (takes : List ℕ → Bool) (bodies : List (List ℕ)) → IsTrue (D.honest device.old)
-        → EndsAt (D.content device.old) gate bodies → bodies ≢ []
-        → LeavesNow D.content D.unsynced device.old (IsFresh takes)
-        → (body : List ℕ) × (bodies ≡ body ∷ []) }
+        → LeavesOnly D.moment D.left_since device.old device.new
+        (IsOldOrOf D.content D.unsynced device.old bodies) }
 {
     device.sync()?;
     cut_synced(device, gate + 1)
@@ -96,10 +85,9 @@ pub(crate) fn create_file<D: Device>(
         → OnOk result (IsAtRest (D.content device.new) (length frame.now) (body ∷ [])) }
     ensures unsynced { IsTrue (D.honest device.old)
         → OnOk result (D.unsynced device.new ≡ settled (length (D.content device.new))) }
-    ensures any_moment { (takes : List ℕ → Bool) (body : List ℕ) → IsTrue (D.honest device.old)
-        → frame.now ≡ frame_bytes body → IsTrue (takes body)
-        → LeavesNow D.content D.unsynced device.old (IsFresh takes)
-        → LeavesOnly D.moment D.left_since device.old device.new (IsFresh takes) }
+    ensures any_moment { (body : List ℕ) → IsTrue (D.honest device.old) → frame.now ≡ frame_bytes body
+        → LeavesOnly D.moment D.left_since device.old device.new
+        (IsOldOrFirst D.content D.unsynced device.old body) }
     ensures kept { IsTrue (D.honest device.old)
         → (D.content device.old ≢ []) ⊎ IsErrOf result faults.OutOfMemory
         → IsKept D.moment D.left_since D.content D.unsynced device.old device.new }
@@ -119,9 +107,8 @@ pub(crate) fn lay_gate<D: Device>(alloc: Global, device: &mut D) -> Result<(), F
     ensures empty { IsTrue (D.honest device.old) → OnOk result (D.content device.old ≡ []) }
     ensures content { IsTrue (D.honest device.old) → OnOk result (D.content device.new ≡ 0 ∷ []) }
     ensures unsynced { IsTrue (D.honest device.old) → OnOk result (D.unsynced device.new ≡ settled 1) }
-    ensures any_moment { (takes : List ℕ → Bool) → IsTrue (D.honest device.old)
-        → LeavesNow D.content D.unsynced device.old (IsFresh takes)
-        → LeavesOnly D.moment D.left_since device.old device.new (IsFresh takes) }
+    ensures any_moment { IsTrue (D.honest device.old)
+        → LeavesOnly D.moment D.left_since device.old device.new (IsOldOrNone D.content D.unsynced device.old) }
     ensures kept { IsTrue (D.honest device.old)
         → (D.content device.old ≢ []) ⊎ IsErrOf result faults.OutOfMemory
         → IsKept D.moment D.left_since D.content D.unsynced device.old device.new }

@@ -1,12 +1,12 @@
 //! An open file of records: its device and the offset of its closed gate.
 
-ghost use Rattle.std.specs.Prelude.{Bool, [], ◌++◌, ◌+◌, ◌<◌, ◌^◌, ◌∷◌, ◌≡◌, ◌≢◌, ◌↔◌, ◌⊎◌, IfErr, IfOk, IsErrOf, IsTrue, List, OnOk, length, ℕ};
-ghost use Rattle.definitions.specs.Disk.{HasCause, IsEither, settled};
+ghost use Rattle.std.specs.Prelude.{[], ◌++◌, ◌+◌, ◌<◌, ◌^◌, ◌∷◌, ◌≡◌, ◌≢◌, ◌↔◌, ◌⊎◌, IfErr, IfOk, IsErrOf, IsTrue, List, OnOk, length, ℕ};
+ghost use Rattle.definitions.specs.Disk.{HasCause, settled};
 ghost use Rattle.definitions.specs.Moments.{LeavesOnly};
 ghost use Rattle.definitions.specs.declared.fault.Fault.TheVariants as faults;
-ghost use Rattle.layouts.specs.RecordFiles.{EndsAt, IsAtRest, IsFresh, IsOneOf};
+ghost use Rattle.layouts.specs.RecordFiles.{EndsAt, IsAtRest, IsOneOf};
 ghost use Rattle.index_file.specs.Frames.{frame_bytes};
-ghost use Rattle.index_file.specs.Kept.{IsKept, LeavesNow};
+ghost use Rattle.index_file.specs.Kept.{IsKept, IsOldOrFirst, IsOldOrOf};
 ghost use Rattle.index_file.specs.Outcomes.{CountsNoOther};
 
 use crate::append_steps::{append_record, create_file, settle_file};
@@ -50,10 +50,10 @@ impl<D: Device> RecordFile<D> {
         ensures unsynced { IsTrue (D.honest device)
             → IfOk result (λ file. D.unsynced file.device ≡ settled (length (D.content file.device))) }
 
-        ensures any_moment { (takes : List ℕ → Bool) (body : List ℕ)
-            → IsTrue (D.honest device) → frame.now ≡ frame_bytes body → IsTrue (takes body)
-            → LeavesNow D.content D.unsynced device (IsFresh takes)
-            → LeavesOnly D.moment D.left_since device (device_after result) (IsFresh takes) }
+        // At every moment a crash leaves what it might have left before, no index, or a file of this one body.
+        ensures any_moment { (body : List ℕ) → IsTrue (D.honest device) → frame.now ≡ frame_bytes body
+            → LeavesOnly D.moment D.left_since device (device_after result)
+            (IsOldOrFirst D.content D.unsynced device body) }
     {
         let mut device = device;
         match create_file(alloc, &mut device, frame) {
@@ -81,23 +81,11 @@ impl<D: Device> RecordFile<D> {
         ensures unsynced { IsTrue (D.honest device)
             → IfOk result (λ file. D.unsynced file.device ≡ settled (length (D.content file.device))) }
 
-        ensures any_moment { (bodies a b : List (List ℕ)) → IsTrue (D.honest device)
+        // At every moment a crash leaves what it might have left before, or a file of the bodies that were read.
+        ensures any_moment { (bodies : List (List ℕ)) → IsTrue (D.honest device)
             → EndsAt (D.content device) gate bodies
-            → LeavesNow D.content D.unsynced device (IsOneOf a b)
-            → LeavesOnly D.moment D.left_since device (device_after result) (IsOneOf a b) }
-        ensures fresh { (takes : List ℕ → Bool) (bodies : List (List ℕ)) → IsTrue (D.honest device)
-            → EndsAt (D.content device) gate bodies
-            → LeavesNow D.content D.unsynced device (IsFresh takes)
-            → LeavesOnly D.moment D.left_since device (device_after result) (IsFresh takes) }
-        // The bodies that were read are those of one of the two lists, or the first one alone.
-        ensures one { (bodies a b : List (List ℕ)) → IsTrue (D.honest device)
-            → EndsAt (D.content device) gate bodies
-            → LeavesNow D.content D.unsynced device (IsOneOf a b)
-            → IsEither a b bodies }
-        ensures first { (takes : List ℕ → Bool) (bodies : List (List ℕ)) → IsTrue (D.honest device)
-            → EndsAt (D.content device) gate bodies → bodies ≢ []
-            → LeavesNow D.content D.unsynced device (IsFresh takes)
-            → (body : List ℕ) × (bodies ≡ body ∷ []) }
+            → LeavesOnly D.moment D.left_since device (device_after result)
+            (IsOldOrOf D.content D.unsynced device bodies) }
     {
         let mut device = device;
         match settle_file(&mut device, gate) {

@@ -19,12 +19,12 @@ returns-clause-at_rest g c body h framed =
     (c.append_record.ensures.appended [] body h' framed rest)
 
 pub returns-clause-any_moment : goal.returns-clause-any_moment
-returns-clause-any_moment g c takes body h framed taken here =
+returns-clause-any_moment g c body h framed =
     let d = g.D.Device in
     let mid = c.lay_gate.new.device in
     let h' : IsTrue (d.honest mid) = subst (λ (b : Bool). IsTrue b) (sym c.in_ok-lay_gate.ensures.honest) h in
     let is_at : d.content mid ≡ 0 ∷ [] = c.in_ok-lay_gate.ensures.content h in
     let rest : IsAtRest (d.content mid) 0 [] = subst (λ (l : List ℕ). IsAtRest l 0 []) (sym is_at) gate_at_rest in
     let synced : d.unsynced mid ≡ settled (length (d.content mid)) = c.in_ok-lay_gate.ensures.unsynced h ∙ ap (λ (l : List ℕ). settled (length l)) (sym is_at) in
-    creating d.moment d.left_since d.content d.unsynced takes c.args.device.now mid c.append_record.new.device body taken (c.in_ok-lay_gate.ensures.any_moment takes h here)
+    creating d.moment d.left_since d.content d.unsynced c.args.device.now mid c.append_record.new.device body (c.in_ok-lay_gate.ensures.any_moment h)
     (c.append_record.ensures.any_moment [] body h' framed rest synced)
