@@ -1,5 +1,5 @@
 -- What the file of an index says: one list of segments, and with one record more the list that it makes.
-use Rattle.std.proofs.Common.{[], List, Option, Some, ap, inl, inr, refl, subst, sym, ◌++◌, ◌∙◌, ◌∷◌, ◌≡◌, ◌≢◌, ℕ}
+use Rattle.std.proofs.Common.{[], List, None, Option, Some, ap, inl, inr, refl, subst, sym, ◌++◌, ◌∙◌, ◌∷◌, ◌≡◌, ◌≢◌, ℕ}
 use Rattle.std.proofs.lemmas.Option.{same_Some}
 use Rattle.std.specs.List.{AllZip, last_or}
 use Rattle.definitions.specs.Analyzers.{Analyzer}
@@ -14,16 +14,16 @@ use Rattle.definitions.specs.Disk.{Unsynced}
 use Rattle.index_file.specs.Lists.{LeavesList}
 use Rattle.segment_definitions.proofs.OneList.{bodies_taken, one_history}
 use Rattle.segment_definitions.specs.SegmentBodies.{Makes, Member}
-use Rattle.segment_definitions.specs.SegmentFiles.{AreMade, IsGroup, TakesSegments}
+use Rattle.segment_definitions.specs.SegmentFiles.{AreMade, IsGroup, LeavesGroups, TakesSegments}
 use Rattle.segment_definitions.specs.Segments.{IsSegment}
 
 -- ---- one body more
 
-last_more : {X : Type 0} (o : Option X) (xs : List X) (x : X) → last_or o (xs ++ x ∷ []) ≡ Some x
+pub last_more : {X : Type 0} (o : Option X) (xs : List X) (x : X) → last_or o (xs ++ x ∷ []) ≡ Some x
 last_more o [] x = refl
 last_more o (y ∷ xs) x = last_more (Some y) xs x
 
-made_more : (is_segment : ℕ → List ℕ → Type 0) (before : List Member) (bodies : List (List ℕ)) (lists : List (List Member)) (last after : List Member) (body : List ℕ) → AreMade is_segment before bodies lists → last_or (Some before) lists ≡ Some last → Makes is_segment last after body → AreMade is_segment before (bodies ++ body ∷ []) (lists ++ after ∷ [])
+pub made_more : (is_segment : ℕ → List ℕ → Type 0) (before : List Member) (bodies : List (List ℕ)) (lists : List (List Member)) (last after : List Member) (body : List ℕ) → AreMade is_segment before bodies lists → last_or (Some before) lists ≡ Some last → Makes is_segment last after body → AreMade is_segment before (bodies ++ body ∷ []) (lists ++ after ∷ [])
 made_more is_segment before [] [] last after body made is makes = (subst (λ l. Makes is_segment l after body) (sym (same_Some _ _ is)) makes, tt)
 made_more is_segment before [] (list ∷ lists) last after body made is makes = absurd made
 made_more is_segment before (first ∷ bodies) [] last after body made is makes = absurd made
@@ -81,6 +81,23 @@ last_of_both R x y [] [] last r h is = (x, refl, subst (R x) (same_Some _ _ is) 
 last_of_both R x y [] (b ∷ ys) last r h is = absurd h
 last_of_both R x y (a ∷ xs) [] last r h is = absurd h
 last_of_both R x y (a ∷ xs) (b ∷ ys) last r h is = last_of_both R a b xs ys last h.0 h.1 is
+
+-- a file after each of whose records documents stand in groups is a file of the last of them
+pub last_groups : (schema : Schema) (settings : Settings) (analyze : Analyzer) (groups : List (List Document)) (bytes : List ℕ) → LeavesGroups schema settings analyze bytes groups → IsFileOf schema settings analyze groups bytes
+last_groups schema settings analyze groups bytes (lists, f, last) =
+    let found = go lists f.groups last in (
+      f.first ∷ f.bodies,
+      f.file,
+      record {
+        members = found.0;
+        leave = record { first = f.first; later = f.bodies; lists = f.members; are = refl; made = f.made; follow = f.follow; last = found.1 };
+        are_groups = found.2;
+      },
+    )
+  where
+    go : (ls : List (List (List Document))) → AllZip (AllZip (IsGroup schema analyze)) ([] ∷ f.members) ls → last_or None ls ≡ Some groups → (m : List Member) × (last_or (Some []) f.members ≡ Some m) × AllZip (IsGroup schema analyze) m groups
+    go [] h is = absurd h
+    go (one ∷ ls) h is = last_of_both (AllZip (IsGroup schema analyze)) [] one f.members ls groups h.0 h.1 is
 
 -- what rests says the groups of its segments
 pub rests_say : (schema : Schema) (settings : Settings) (analyze : Analyzer) (members : List Member) (groups : List (List Document)) (content : List ℕ) (unsynced : Unsynced) (gate : ℕ) (r : Rests schema settings members content unsynced gate) → AllZip (IsGroup schema analyze) members groups → SayGroups schema settings analyze r.bodies groups

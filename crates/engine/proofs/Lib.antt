@@ -1,5 +1,6 @@
 -- Lemmas behind the index and its file.
 pub mod FileSayings
+pub mod ListsLeft
 pub mod Commits
 pub mod Adding
 pub mod Readings

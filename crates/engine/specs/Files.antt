@@ -2,7 +2,7 @@
 use Rattle.std.specs.Prelude.{[], ◌∷◌, ◌≡◌, ◌⊎◌, Bool, List, Some, false, is_some, length, ℕ}
 use Rattle.std.specs.List.{AllZip, last_or}
 use Rattle.definitions.specs.Analyzers.{Analyzer}
-use Rattle.definitions.specs.Disk.{Unsynced, settled}
+use Rattle.definitions.specs.Disk.{IsImage, Unsynced, settled}
 use Rattle.definitions.specs.Making.{are_analyzed}
 use Rattle.definitions.specs.Moments.{LeavesOnly}
 use Rattle.definitions.specs.Schema.{Schema}
@@ -11,10 +11,10 @@ use Rattle.definitions.specs.Values.{Document}
 use Rattle.definitions.specs.declared.fault.Fault.{Fault}
 use Rattle.definitions.specs.declared.fault.Fault.TheVariants as faults
 use Rattle.layouts.specs.RecordBodies.{first_in}
-use Rattle.layouts.specs.RecordFiles.{IsAtRest, IsFile, IsOneOf}
+use Rattle.layouts.specs.RecordFiles.{IsAtRest, IsFile, IsNoIndex, IsOneOf}
 use Rattle.index_file.specs.Outcomes.{IsRefusal}
 use Rattle.segment_definitions.specs.SegmentBodies.{Member}
-use Rattle.segment_definitions.specs.SegmentFiles.{AreMade, IsGroup, TakesSegments}
+use Rattle.segment_definitions.specs.SegmentFiles.{AreMade, IsGroup, IsRecordFile, LeavesGroups, TakesSegments}
 use Rattle.segment_definitions.specs.Segments.{IsSegment}
 
 -- bodies of an index of this schema and these settings, of which the last leaves this list of segments; the first leaves
@@ -85,3 +85,28 @@ pub record LeavesEither {D : Type 0} (moment : D → ℕ) (left_since : D → �
   pub says_one : SayGroups schema settings analyze first one
   pub says_other : SayGroups schema settings analyze second one ⊎ SayGroups schema settings analyze second other
   pub images : LeavesOnly moment left_since old new (IsOneOf first second)
+
+-- ---- what a crash leaves, by its lists
+
+-- files of the same bodies
+abbrev pub HasSameBodies : List ℕ → List ℕ → Type 0
+HasSameBodies bytes image = (bodies : List (List ℕ)) × IsFile bodies bytes × IsFile bodies image
+
+-- what a crash might have left before, or a file of the bodies that were read
+abbrev pub IsOldOrSame : {D : Type 0} → (D → List ℕ) → (D → Unsynced) → D → List ℕ → Type 0
+IsOldOrSame content unsynced old image = IsImage (content old) (unsynced old) image ⊎ HasSameBodies (content old) image
+
+-- a file whose every record gives its list
+abbrev pub HasLists : Schema → Settings → Analyzer → List ℕ → Type 0
+HasLists schema settings analyze bytes =
+    (lists : List (List (List Document))) × IsRecordFile schema settings analyze bytes lists
+
+-- a file whose every record gives its list, and the last one these groups or those
+abbrev pub LeavesOneOf : Schema → Settings → Analyzer → List (List Document) → List (List Document) → List ℕ → Type 0
+LeavesOneOf schema settings analyze one other bytes =
+    LeavesGroups schema settings analyze bytes one ⊎ LeavesGroups schema settings analyze bytes other
+
+-- no index, or a file whose every record gives its list, and the last one the empty list
+abbrev pub LeavesNone : Analyzer → List ℕ → Type 0
+LeavesNone analyze bytes =
+    IsNoIndex bytes ⊎ ((schema : Schema) × (settings : Settings) × LeavesGroups schema settings analyze bytes [])

@@ -14,15 +14,16 @@ use Rattle.definitions.specs.Values.{Document}
 use Rattle.definitions.specs.declared.fault.Fault.{Fault}
 use Rattle.layouts.specs.RecordFiles.{IsAtRest}
 use Rattle.index_file.specs.Frames.{frame_bytes}
+use Rattle.index_file.specs.Kept.{LeavesNow}
 use Rattle.index_state.specs.Limits.{TermsPass}
 use Rattle.index_state.specs.Pending.{open_docs}
 use Rattle.index_state.specs.Records.{RecordsCall}
 use Rattle.index_state.specs.Standing as collections
-use Rattle.engine.specs.Files.{LeavesEither, LeavesMembers, Rests}
+use Rattle.engine.specs.Files.{HasLists, LeavesEither, LeavesMembers, Rests}
 use Rattle.engine.specs.declared.index.Index.{Index}
 use Rattle.engine.specs.declared.refused.Refused.{Refused}
 use Rattle.segment_definitions.specs.SegmentBodies.{Member}
-use Rattle.segment_definitions.specs.SegmentFiles.{IsGroup}
+use Rattle.segment_definitions.specs.SegmentFiles.{IsGroup, LeavesGroups}
 
 module _ {D A : Type 0} {d : devices.Ghosts D} {a : analyzers.Ghosts A} where
   -- ---- what it is made of
@@ -122,6 +123,24 @@ module _ {D A : Type 0} {d : devices.Ghosts D} {a : analyzers.Ghosts A} where
   CrashLeavesEither analyze old new one other =
       LeavesEither d.moment d.left_since (device_of old) (device_of new) (schema_of old) (settings_of old)
       (analyze (analyzer_of old)) one other
+
+  -- each image that a crash may leave now is a file whose every record gives its list, and the last one these groups
+  abbrev pub ImagesLeave : (A → Analyzer) → Index D A d a → List (List Document) → Type 0
+  ImagesLeave analyze index groups =
+      LeavesNow d.content d.unsynced (device_of index)
+      (λ image. LeavesGroups (schema_of index) (settings_of index) (analyze (analyzer_of index)) image groups)
+
+  -- every record of each image that a crash may leave now gives its list
+  abbrev pub ImagesHaveLists : (A → Analyzer) → Index D A d a → Type 0
+  ImagesHaveLists analyze index =
+      LeavesNow d.content d.unsynced (device_of index)
+      (HasLists (schema_of index) (settings_of index) (analyze (analyzer_of index)))
+
+  -- it stands for these groups, none waiting, and each image that a crash may leave now gives them
+  pub record IsReopened (analyze : A → Analyzer) (index : Index D A d a) (c : calls.Configuration)
+      (groups : List (List Document)) : Type 0 where
+    pub stands : IndexStands analyze index c (reopened groups)
+    pub images : ImagesLeave analyze index groups
 
   -- the segments that the file of the device leaves are committed, and nothing waits: whatever documents they are of
   pub record IsOpened (analyze : A → Analyzer) (analyzer : Analyzer) (device : D) (index : Index D A d a) : Type 0 where

@@ -4,10 +4,12 @@ use Rattle.common.specs.declared.analyzer.Analyzer as analyzers
 use Rattle.common.specs.declared.device.Device as devices
 use Rattle.definitions.specs.Analyzers.{Analyzer}
 use Rattle.definitions.specs.Calls as calls
+use Rattle.definitions.specs.Moments.{LeavesOnly}
 use Rattle.definitions.specs.declared.fault.Fault.{Fault}
 use Rattle.definitions.specs.declared.fault.Fault.TheVariants as faults
 use Rattle.index_state.specs.Records.{RecordsCall}
-use Rattle.engine.specs.Indexes.{AppendsRecord, CrashLeavesEither, IndexRests, IndexStands, device_of, members_of}
+use Rattle.engine.specs.Files.{LeavesOneOf}
+use Rattle.engine.specs.Indexes.{AppendsRecord, CrashLeavesEither, ImagesLeave, IndexRests, IndexStands, analyzer_of, device_of, members_of, schema_of, settings_of}
 use Rattle.engine.specs.declared.index.Index.{Index}
 
 module _ {D A : Type 0} {d : devices.Ghosts D} {a : analyzers.Ghosts A} where
@@ -28,3 +30,12 @@ module _ {D A : Type 0} {d : devices.Ghosts D} {a : analyzers.Ghosts A} where
     -- a crash at any moment of the call leaves a file of the groups before it or of those after it
     pub any_moment : IsTrue (d.honest (device_of old)) → IndexRests old
         → CrashLeavesEither analyze old new x.state.groups (calls.after c x.state call).groups
+    -- where each image before it gives these groups, every record its list, a crash at any moment of the call leaves a
+    -- file that gives them or those after it
+    pub lists : IsTrue (d.honest (device_of old)) → IndexRests old → ImagesLeave analyze old x.state.groups
+        → LeavesOnly d.moment d.left_since (device_of old) (device_of new)
+        (LeavesOneOf (schema_of old) (settings_of old) (analyze (analyzer_of old)) x.state.groups
+        (calls.after c x.state call).groups)
+    -- and after an Ok those after it
+    pub installed : IsTrue (d.honest (device_of old)) → IndexRests old → ImagesLeave analyze old x.state.groups
+        → OnOk result (ImagesLeave analyze new (calls.after c x.state call).groups)

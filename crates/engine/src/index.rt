@@ -2,19 +2,23 @@
 
 ghost use Rattle.std.specs.Prelude.{[], ◌≡◌, ◌≢◌, ◌⊎◌, IfErr, IfOk, IsTrue, List, None, OnOk, Some, false, true, ℕ};
 ghost use Rattle.std.specs.Result.{result_err};
+ghost use Rattle.definitions.specs.Analyzers.{Analyzer as Cut};
 ghost use Rattle.definitions.specs.Calls as calls;
 ghost use Rattle.definitions.specs.Disk.{HasCause};
 ghost use Rattle.definitions.specs.Making.{are_analyzed, making_fault};
 ghost use Rattle.definitions.specs.Moments.{LeavesOnly};
+ghost use Rattle.definitions.specs.Schema.{Schema as Fields};
+ghost use Rattle.definitions.specs.Settings.{Settings as Numbers};
 ghost use Rattle.definitions.specs.State as states;
 ghost use Rattle.definitions.specs.Step.{configuration_of, fresh_index};
+ghost use Rattle.definitions.specs.Values.{Document};
 ghost use Rattle.definitions.specs.declared.fault.Fault.TheVariants as faults;
 ghost use Rattle.layouts.specs.RecordFiles.{IsFresh, IsOneOf};
 ghost use Rattle.index_file.specs.Kept.{IsKept, LeavesNow};
 ghost use Rattle.index_file.specs.Outcomes.{CountsNoOther};
 ghost use Rattle.index_state.specs.Standing.{status_of};
-ghost use Rattle.engine.specs.Files.{IsCreateRefusal, IsOpenFault, IsOpenRefusal, is_first};
-ghost use Rattle.engine.specs.Indexes.{IndexRests, IndexStands, IsOpened, alloc_of, analyzer_after, analyzer_of, device_after, device_of, ending_of, members_of, schema_of, settings_of};
+ghost use Rattle.engine.specs.Files.{IsCreateRefusal, IsOldOrSame, IsOpenFault, IsOpenRefusal, LeavesNone, LeavesOneOf, is_first};
+ghost use Rattle.engine.specs.Indexes.{ImagesLeave, IndexRests, IndexStands, IsOpened, IsReopened, alloc_of, analyzer_after, analyzer_of, device_after, device_of, ending_of, members_of, schema_of, settings_of};
 
 use crate::open_file::{open_file, read_file};
 use crate::refused::Refused;
@@ -70,10 +74,15 @@ impl<D: Device + Drop, A: Analyzer + Drop> Index<D, A> {
         ensures kept { IsTrue (D.honest device) → IfErr result (λ r. r.fault ≢ faults.Device
             → IsKept D.moment D.left_since D.content D.unsynced device r.device) }
 
-        // A crash at any moment leaves no index, or one without documents, if before it could leave nothing else.
+        // A crash at any moment leaves no index, or one without documents, if before it could leave nothing else, be its
+        // records one or many. After an `Ok` it leaves one without documents.
         ensures any_moment { IsTrue (D.honest device)
             → LeavesNow D.content D.unsynced device (IsFresh is_first)
             → LeavesOnly D.moment D.left_since device (device_after result) (IsFresh is_first) }
+        ensures lists { (cut : Cut) → IsTrue (D.honest device)
+            → LeavesNow D.content D.unsynced device (LeavesNone cut)
+            → LeavesOnly D.moment D.left_since device (device_after result) (LeavesNone cut) }
+        ensures installed { IsTrue (D.honest device) → IfOk result (λ index. ImagesLeave A.analyze index []) }
     {
         let frame = match first_frame(alloc, &analyzer, &schema, &settings) {
             Ok(frame) => frame,
@@ -115,6 +124,30 @@ impl<D: Device + Drop, A: Analyzer + Drop> Index<D, A> {
         ensures kept { IsTrue (D.honest device) → IfErr result (λ r. r.fault ≢ faults.Device
             → IsKept D.moment D.left_since D.content D.unsynced device r.device) }
 
+        // At every moment a crash leaves what it might have left before, or a file of the bodies that were read.
+        ensures images { IsTrue (D.honest device)
+            → LeavesOnly D.moment D.left_since device (device_after result)
+            (IsOldOrSame D.content D.unsynced device) }
+        // So it has one of two last lists, if it had before; after an `Ok` that for which the index stands.
+        ensures lists { (fields : Fields) (numbers : Numbers) (one other : List (List Document))
+            → IsTrue (D.honest device)
+            → LeavesNow D.content D.unsynced device (LeavesOneOf fields numbers (A.analyze analyzer) one other)
+            → LeavesOnly D.moment D.left_since device (device_after result)
+            (LeavesOneOf fields numbers (A.analyze analyzer) one other) }
+        ensures one_of { (fields : Fields) (numbers : Numbers) (one other : List (List Document))
+            → IsTrue (D.honest device)
+            → LeavesNow D.content D.unsynced device (LeavesOneOf fields numbers (A.analyze analyzer) one other)
+            → IfOk result (λ index.
+            IsReopened A.analyze index (configuration_of fields (A.analyze analyzer) numbers) one
+            ⊎ IsReopened A.analyze index (configuration_of fields (A.analyze analyzer) numbers) other) }
+        // And it is no index or has the empty list, if it was so before, as after a `create` that was refused.
+        ensures none { (cut : Cut) → IsTrue (D.honest device)
+            → LeavesNow D.content D.unsynced device (LeavesNone cut)
+            → LeavesOnly D.moment D.left_since device (device_after result) (LeavesNone cut) }
+        ensures empty { IsTrue (D.honest device)
+            → LeavesNow D.content D.unsynced device (LeavesNone (A.analyze analyzer))
+            → IfOk result (λ index. IsReopened A.analyze index
+            (configuration_of (schema_of index) (A.analyze analyzer) (settings_of index)) []) }
         // What a crash may leave is of one of two files, or fresh, at every moment, if it was so before.
         ensures any_moment { (a b : List (List ℕ)) → IsTrue (D.honest device)
             → LeavesNow D.content D.unsynced device (IsOneOf a b)

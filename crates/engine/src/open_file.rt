@@ -1,6 +1,6 @@
 //! The reading of a device's file, and the index of what was read.
 
-ghost use Rattle.std.specs.Prelude.{◌<◌, ◌^◌, ◌≡◌, ◌⊎◌, IfErr, IfOk, IsTrue, List, OnOk, length, map, true, ℕ};
+ghost use Rattle.std.specs.Prelude.{◌<◌, ◌^◌, ◌≡◌, ◌⊎◌, IfErr, IfOk, IsTrue, List, length, map, true, ℕ};
 ghost use Rattle.std.specs.List.{AllByRecursion, AllZip};
 ghost use Rattle.definitions.specs.Disk.{HasCause, settled};
 ghost use Rattle.definitions.specs.Making.{are_analyzed};
@@ -8,10 +8,10 @@ ghost use Rattle.definitions.specs.Moments.{LeavesOnly};
 ghost use Rattle.definitions.specs.Step.{configuration_of, reopened};
 ghost use Rattle.definitions.specs.Values.{Document};
 ghost use Rattle.definitions.specs.declared.fault.Fault.TheVariants as faults;
-ghost use Rattle.layouts.specs.RecordFiles.{EndsAt, IsAtRest, IsFresh, IsOneOf};
-ghost use Rattle.index_file.specs.Kept.{IsKept, LeavesNow};
+ghost use Rattle.layouts.specs.RecordFiles.{EndsAt, IsAtRest};
+ghost use Rattle.index_file.specs.Kept.{IsKept, IsOldOrOf};
 ghost use Rattle.index_file.specs.Outcomes.{CountsNoOther};
-ghost use Rattle.engine.specs.Files.{IsOpenFault, IsOpenRefusal, is_first};
+ghost use Rattle.engine.specs.Files.{IsOpenFault, IsOpenRefusal};
 ghost use Rattle.engine.specs.Indexes.{IndexStands, analyzer_after, device_after, device_of, ending_of, gate_of, members_of, schema_of, settings_of};
 ghost use Rattle.index_file.specs.Lists.{IsListed, LeavesList, member_of};
 ghost use Rattle.segment_definitions.specs.SegmentFiles.{IsGroup};
@@ -90,14 +90,10 @@ pub(crate) fn open_file<D: Device + Drop, A: Analyzer + Drop>(
         → IfOk result (λ index. IsAtRest (D.content (device_of index)) (gate_of index) bodies) }
     ensures unsynced { IsTrue (D.honest device) → IfOk result (λ index.
         D.unsynced (device_of index) ≡ settled (length (D.content (device_of index)))) }
-    ensures any_moment { (bodies a b : List (List ℕ)) → IsTrue (D.honest device)
+    ensures any_moment { (bodies : List (List ℕ)) → IsTrue (D.honest device)
         → EndsAt (D.content device) file.gate bodies
-        → LeavesNow D.content D.unsynced device (IsOneOf a b)
-        → LeavesOnly D.moment D.left_since device (device_after result) (IsOneOf a b) }
-    ensures fresh { (bodies : List (List ℕ)) → IsTrue (D.honest device)
-        → EndsAt (D.content device) file.gate bodies
-        → LeavesNow D.content D.unsynced device (IsFresh is_first)
-        → LeavesOnly D.moment D.left_since device (device_after result) (IsFresh is_first) }
+        → LeavesOnly D.moment D.left_since device (device_after result)
+        (IsOldOrOf D.content D.unsynced device bodies) }
 {
     let IndexFile {
         gate,

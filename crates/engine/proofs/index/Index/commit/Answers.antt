@@ -1,4 +1,5 @@
 use Rattle.std.proofs.Common.{[], Err, List, Ok, Some, ap, false, inl, inr, length, refl, subst, sym, ◌++◌, ◌+◌, ◌<◌, ◌^◌, ◌∙◌, ◌∷◌, ◌≡◌, ◌≢◌, ℕ}
+use Rattle.definitions.proofs.CallRuns.{started}
 use Rattle.definitions.specs.Calls as calls
 use Rattle.definitions.specs.declared.fault.Fault.{Fault}
 use Rattle.definitions.specs.declared.fault.Fault.TheVariants as faults
@@ -9,9 +10,10 @@ use Rattle.index_state.specs.Commits.{members_with}
 use Rattle.index_state.specs.Standing.{Stands, members_of, status_of}
 use Rattle.engine.proofs.Commits.{commit_written, records_same, stands_groups}
 use Rattle.engine.proofs.FileSayings.{leave_next, leave_same, rests_say}
+use Rattle.engine.proofs.ListsLeft.{alike_twice, appends_lists, installs_lists}
 use Rattle.engine.proofs.Merges.{limit_told}
-use Rattle.engine.specs.Files.{BodiesLeave}
-use Rattle.engine.specs.Indexes.{device_of, gate_of}
+use Rattle.engine.specs.Files.{BodiesLeave, LeavesOneOf}
+use Rattle.engine.specs.Indexes.{analyzer_of, device_of, gate_of, schema_of, settings_of}
 use Rattle.engine.proofs.index.Index.commit.Goals as goal
 
 pub returns-in_err-prepared-clause-writes : goal.returns-in_err-prepared-clause-writes
@@ -40,6 +42,14 @@ returns-in_err-prepared-clause-writes g c k x s = record {
         says_other = inl says;
         images = resting d.moment d.left_since d.content d.unsynced device (gate_of old) rests.bodies rests.bodies rests.at_rest rests.synced (λ image left. g.met.D.Device.only_now device image h left);
       });
+  lists = λ h rests leave. (
+      let d = g.D.Device in
+      let old = c.args.self.now in
+      let analyze = g.A.Analyzer.analyze in
+      let device = device_of old in
+      started d.moment d.left_since device (LeavesOneOf (schema_of old) (settings_of old) (analyze (analyzer_of old)) x.state.groups _)
+      (λ image left. inl (leave image (g.met.D.Device.only_now device image h left))));
+  installed = λ h rests leave. rw (sym (err_same c.from_residual.result c.in_err-prepared.field-0.0 c.from_residual.ensures.1)) tt;
 }
 
 pub returns-in-Ok-clause-writes : goal.returns-in-Ok-clause-writes
@@ -94,6 +104,21 @@ returns-in-Ok-clause-writes g c k x s = record {
         says_other = inr (record { members = members_with mid p; leave = leave_next old.schema old.settings rests.bodies (members_of old) (members_with mid p) w.body rests.leave w.makes; are_groups = w.are_groups });
         images = c.append.ensures.any_moment rests.bodies w.body h (c.frame.ensures ∙ w.framed) rests.at_rest rests.synced;
       });
+  lists = λ h rests leave. (
+      let old = c.args.self.now in
+      let mid = c.prepare.new.self in
+      let p = c.in_ok-prepared.prepared in
+      let w = commit_written g.A.Analyzer.analyze old.index_state mid p k x c.prepare.ensures.made s (c.in_ok-prepared.ensures.prepared k x s) c.in_ok-prepared.ensures.flagged (c.in_ok-prepared.ensures.body k x s) in
+      appends_lists g.A.Analyzer.analyze old c.append.new.self.device (members_with mid p) x.state.groups _ w.body (g.met.D.Device.remains (device_of old) h) rests leave w.makes w.are_groups
+      (c.append.ensures.any_moment rests.bodies w.body h (c.frame.ensures ∙ w.framed) rests.at_rest rests.synced));
+  installed = λ h rests leave. (
+      let old = c.args.self.now in
+      let state = c.install.new.self in
+      let mid = c.prepare.new.self in
+      let p = c.in_ok-prepared.prepared in
+      let w = commit_written g.A.Analyzer.analyze old.index_state mid p k x c.prepare.ensures.made s (c.in_ok-prepared.ensures.prepared k x s) c.in_ok-prepared.ensures.flagged (c.in_ok-prepared.ensures.body k x s) in
+      installs_lists g.A.Analyzer.analyze old state c.append.new.self.device _ (members_with mid p) x.state.groups _ w.body (g.met.D.Device.remains (device_of old) h) rests leave w.makes w.are_groups (alike_twice old.index_state mid state c.prepare.ensures.made c.install.ensures.made)
+      (c.in-Ok.ensures.appended rests.bodies w.body h (c.frame.ensures ∙ w.framed) rests.at_rest) (c.in-Ok.ensures.unsynced h));
 }
 
 pub returns-in-Err-clause-writes : goal.returns-in-Err-clause-writes
@@ -134,6 +159,14 @@ returns-in-Err-clause-writes g c k x s = record {
         says_other = inr (record { members = members_with mid p; leave = leave_next old.schema old.settings rests.bodies (members_of old) (members_with mid p) w.body rests.leave w.makes; are_groups = w.are_groups });
         images = c.append.ensures.any_moment rests.bodies w.body h (c.frame.ensures ∙ w.framed) rests.at_rest rests.synced;
       });
+  lists = λ h rests leave. (
+      let old = c.args.self.now in
+      let mid = c.prepare.new.self in
+      let p = c.in_ok-prepared.prepared in
+      let w = commit_written g.A.Analyzer.analyze old.index_state mid p k x c.prepare.ensures.made s (c.in_ok-prepared.ensures.prepared k x s) c.in_ok-prepared.ensures.flagged (c.in_ok-prepared.ensures.body k x s) in
+      appends_lists g.A.Analyzer.analyze old c.append.new.self.device (members_with mid p) x.state.groups _ w.body (g.met.D.Device.remains (device_of old) h) rests leave w.makes w.are_groups
+      (c.append.ensures.any_moment rests.bodies w.body h (c.frame.ensures ∙ w.framed) rests.at_rest rests.synced));
+  installed = λ h rests leave. tt;
 }
 
 pub returns-in_err-prepared-clause-limit : goal.returns-in_err-prepared-clause-limit

@@ -1,4 +1,5 @@
 use Rattle.std.proofs.Common.{[], Err, List, Some, ap, inl, inr, length, refl, subst, sym, ◌++◌, ◌+◌, ◌<◌, ◌^◌, ◌∙◌, ◌∷◌, ◌≡◌, ◌≢◌, ℕ}
+use Rattle.definitions.proofs.CallRuns.{started}
 use Rattle.definitions.specs.Calls as calls
 use Rattle.definitions.specs.declared.fault.Fault.TheVariants as faults
 use Rattle.index_file.proofs.CallByCall.{resting}
@@ -7,9 +8,10 @@ use Rattle.index_state.specs.Merges.{members_merged}
 use Rattle.index_state.specs.Standing.{members_of}
 use Rattle.engine.proofs.Commits.{records_same, stands_groups}
 use Rattle.engine.proofs.FileSayings.{leave_next, leave_same, rests_say}
+use Rattle.engine.proofs.ListsLeft.{appends_lists, installs_lists}
 use Rattle.engine.proofs.Merges.{limit_told, merge_written}
-use Rattle.engine.specs.Files.{BodiesLeave}
-use Rattle.engine.specs.Indexes.{device_of, gate_of}
+use Rattle.engine.specs.Files.{BodiesLeave, LeavesOneOf}
+use Rattle.engine.specs.Indexes.{analyzer_of, device_of, gate_of, schema_of, settings_of}
 use Rattle.engine.proofs.index.Index.merge.Goals as goal
 
 pub returns-in_err-prepared-clause-writes : goal.returns-in_err-prepared-clause-writes
@@ -39,6 +41,14 @@ returns-in_err-prepared-clause-writes g c k x s = record {
         says_other = inl says;
         images = resting d.moment d.left_since d.content d.unsynced device (gate_of old) rests.bodies rests.bodies rests.at_rest rests.synced (λ image left. g.met.D.Device.only_now device image h left);
       });
+  lists = λ h rests leave. (
+      let d = g.D.Device in
+      let old = c.args.self.now in
+      let analyze = g.A.Analyzer.analyze in
+      let device = device_of old in
+      started d.moment d.left_since device (LeavesOneOf (schema_of old) (settings_of old) (analyze (analyzer_of old)) x.state.groups _)
+      (λ image left. inl (leave image (g.met.D.Device.only_now device image h left))));
+  installed = λ h rests leave. rw (sym (err_same c.from_residual.result c.in_err-prepared.field-0.0 c.from_residual.ensures.1)) tt;
 }
 
 pub returns-in-Ok-clause-writes : goal.returns-in-Ok-clause-writes
@@ -86,6 +96,18 @@ returns-in-Ok-clause-writes g c k x s = record {
         says_other = inr (record { members = members_merged old p; leave = leave_next old.schema old.settings rests.bodies (members_of old) (members_merged old p) w.body rests.leave w.makes; are_groups = w.are_groups });
         images = c.append.ensures.any_moment rests.bodies w.body h (c.frame.ensures ∙ w.framed) rests.at_rest rests.synced;
       });
+  lists = λ h rests leave. (
+      let old = c.args.self.now in
+      let p = c.in_ok-prepared.prepared in
+      let w = merge_written g.A.Analyzer.analyze old.index_state p k x c.args.range.start c.args.range.end s (c.in_ok-prepared.ensures.joins k x s) (c.in_ok-prepared.ensures.body k x s) in
+      appends_lists g.A.Analyzer.analyze old c.append.new.self.device (members_merged old.index_state p) x.state.groups _ w.body (g.met.D.Device.remains (device_of old) h) rests leave w.makes w.are_groups
+      (c.append.ensures.any_moment rests.bodies w.body h (c.frame.ensures ∙ w.framed) rests.at_rest rests.synced));
+  installed = λ h rests leave. (
+      let old = c.args.self.now in
+      let p = c.in_ok-prepared.prepared in
+      let w = merge_written g.A.Analyzer.analyze old.index_state p k x c.args.range.start c.args.range.end s (c.in_ok-prepared.ensures.joins k x s) (c.in_ok-prepared.ensures.body k x s) in
+      installs_lists g.A.Analyzer.analyze old c.install_merge.new.self c.append.new.self.device _ (members_merged old.index_state p) x.state.groups _ w.body (g.met.D.Device.remains (device_of old) h) rests leave w.makes w.are_groups c.install_merge.ensures.made
+      (c.in-Ok.ensures.appended rests.bodies w.body h (c.frame.ensures ∙ w.framed) rests.at_rest) (c.in-Ok.ensures.unsynced h));
 }
 
 pub returns-in_err-prepared-clause-limit : goal.returns-in_err-prepared-clause-limit
@@ -115,6 +137,13 @@ returns-in-Device-clause-writes g c k x s = record {
         says_other = inr (record { members = members_merged old p; leave = leave_next old.schema old.settings rests.bodies (members_of old) (members_merged old p) w.body rests.leave w.makes; are_groups = w.are_groups });
         images = c.append.ensures.any_moment rests.bodies w.body h (c.frame.ensures ∙ w.framed) rests.at_rest rests.synced;
       });
+  lists = λ h rests leave. (
+      let old = c.args.self.now in
+      let p = c.in_ok-prepared.prepared in
+      let w = merge_written g.A.Analyzer.analyze old.index_state p k x c.args.range.start c.args.range.end s (c.in_ok-prepared.ensures.joins k x s) (c.in_ok-prepared.ensures.body k x s) in
+      appends_lists g.A.Analyzer.analyze old c.append.new.self.device (members_merged old.index_state p) x.state.groups _ w.body (g.met.D.Device.remains (device_of old) h) rests leave w.makes w.are_groups
+      (c.append.ensures.any_moment rests.bodies w.body h (c.frame.ensures ∙ w.framed) rests.at_rest rests.synced));
+  installed = λ h rests leave. tt;
 }
 
 pub returns : goal.returns
@@ -149,6 +178,11 @@ returns g c =
               says_other = inr (record { members = members_merged old p; leave = leave_next old.schema old.settings rests.bodies (members_of old) (members_merged old p) w.body rests.leave w.makes; are_groups = w.are_groups });
               images = c.append.ensures.any_moment rests.bodies w.body h (c.frame.ensures ∙ w.framed) rests.at_rest rests.synced;
             });
+        lists = λ h rests leave. (
+            let w = merge_written analyze old p k x from to s (c.in_ok-prepared.ensures.joins k x s) (c.in_ok-prepared.ensures.body k x s) in
+            appends_lists analyze c.args.self.now c.append.new.self.device (members_merged old p) x.state.groups _ w.body (g.met.D.Device.remains device h) rests leave w.makes w.are_groups
+            (c.append.ensures.any_moment rests.bodies w.body h (c.frame.ensures ∙ w.framed) rests.at_rest rests.synced));
+        installed = λ h rests leave. tt;
       };
       made = search;
       honest = c.append.ensures.honest;

@@ -2,16 +2,16 @@ use Rattle.std.proofs.Common.{IsTrue, List, length, map, subst, sym, ◌∙◌, 
 use Rattle.std.specs.List.{AllZip}
 use Rattle.definitions.proofs.CallRuns.{joined, weaker}
 use Rattle.definitions.specs.Disk.{IsImage, Unsynced, settled}
-use Rattle.definitions.specs.Moments.{LeavesOnly}
 use Rattle.definitions.specs.Step.{configuration_of, reopened}
 use Rattle.definitions.specs.Values.{Document}
 use Rattle.definitions.specs.declared.fault.Fault.TheVariants as faults
 use Rattle.layouts.specs.RecordFiles.{IsAtRest, IsFile, IsFresh, IsOneOf}
 use Rattle.index_file.proofs.ErrorsKept.{caused_later}
 use Rattle.index_file.proofs.Openings.{err_both, err_map, ok_three, ok_two, ok_under}
-use Rattle.index_file.specs.Kept.{IsKept, LeavesNow}
+use Rattle.index_file.specs.Kept.{IsKept, IsOldOrOf}
 use Rattle.engine.proofs.FileSayings.{leave_same, list_leaves}
-use Rattle.engine.specs.Files.{IsOpenFault, IsOpenRefusal, is_first}
+use Rattle.engine.proofs.ListsLeft.{IsSettled, reopens_none, reopens_one, same_fresh, same_none, same_one_file, same_one_of, stays}
+use Rattle.engine.specs.Files.{IsOldOrSame, IsOpenFault, IsOpenRefusal, LeavesNone, LeavesOneOf, is_first}
 use Rattle.engine.specs.Indexes.{IndexStands, IsOpened, device_after, device_of, ending_of, gate_of, members_of, schema_of, settings_of}
 use Rattle.index_file.specs.Lists.{member_of}
 use Rattle.segment_definitions.specs.SegmentBodies.{Member}
@@ -70,28 +70,99 @@ returns-in-Ok-clause-cause g c =
     let d = g.D.Device in
     caused_later (d.failed c.args.device) (d.failed c.read_file.new.device) (d.failed (device_after c.open_file.result)) c.read_file.result (ending_of c.open_file.result) c.read_file.ensures.cause c.open_file.ensures.cause
 
-pub returns-in-Ok-clause-any_moment : goal.returns-in-Ok-clause-any_moment
-returns-in-Ok-clause-any_moment g c a b h images =
+pub returns-in-Ok-clause-images : goal.returns-in-Ok-clause-images
+returns-in-Ok-clause-images g c h =
     let d = g.D.Device in
     let old = c.args.device in
     let mid = c.read_file.new.device in
+    let P : List ℕ → Type 0 = IsOldOrSame d.content d.unsynced old in
     let kept = c.read_file.ensures.kept h in
     let holds = c.in-Ok.ensures.file h in
-    let first : LeavesOnly d.moment d.left_since old mid (IsOneOf a b) = weaker d.moment d.left_since old mid (IsImage (d.content old) (d.unsynced old)) (IsOneOf a b) kept.images_kept images in
-    let later : LeavesNow d.content d.unsynced mid (IsOneOf a b) = λ image is. images image (subst (λ (u : Unsynced). IsImage (d.content old) u image) kept.unsynced_kept (subst (λ (l : List ℕ). IsImage l (d.unsynced mid) image) kept.content_kept is)) in
-    joined d.moment d.left_since old mid (device_after c.open_file.result) (IsOneOf a b) first (c.open_file.ensures.any_moment (holds.first ∷ holds.bodies) a b (c.in-Ok.ensures.honest ∙ h) holds.ends later)
+    let bodies : List (List ℕ) = holds.first ∷ holds.bodies in
+    let file : IsFile bodies (d.content old) = subst (λ (l : List ℕ). IsFile bodies l) kept.content_kept holds.ends.file in
+    joined d.moment d.left_since old mid (device_after c.open_file.result) P
+    (weaker d.moment d.left_since old mid (IsImage (d.content old) (d.unsynced old)) P kept.images_kept (λ image is. inl is))
+    (weaker d.moment d.left_since mid (device_after c.open_file.result) (IsOldOrOf d.content d.unsynced mid bodies) P (c.open_file.ensures.any_moment bodies (c.in-Ok.ensures.honest ∙ h) holds.ends)
+    (λ image is. elim is [
+      | inl now ↦ inl (subst (λ (u : Unsynced). IsImage (d.content old) u image) kept.unsynced_kept (subst (λ (l : List ℕ). IsImage l (d.unsynced mid) image) kept.content_kept now))
+      | inr new ↦ inr (bodies, file, new)
+    ]))
+
+pub returns-in-Err-clause-images : goal.returns-in-Err-clause-images
+returns-in-Err-clause-images g c h =
+    let d = g.D.Device in
+    let old = c.args.device in
+    weaker d.moment d.left_since old c.read_file.new.device (IsImage (d.content old) (d.unsynced old)) (IsOldOrSame d.content d.unsynced old) (c.read_file.ensures.kept h).images_kept (λ image is. inl is)
+
+pub returns-in-Ok-clause-lists : goal.returns-in-Ok-clause-lists
+returns-in-Ok-clause-lists g c schema settings one other h now =
+    let d = g.D.Device in
+    let old = c.args.device in
+    let cut = g.A.Analyzer.analyze c.args.analyzer in
+    stays d.moment d.left_since d.content d.unsynced old (device_after c.open_file.result) (LeavesOneOf schema settings cut one other) (g.met.D.Device.remains old h) (returns-in-Ok-clause-images g c h) now (same_one_of schema settings cut one other (d.content old))
+
+pub returns-in-Err-clause-lists : goal.returns-in-Err-clause-lists
+returns-in-Err-clause-lists g c schema settings one other h now =
+    let d = g.D.Device in
+    let old = c.args.device in
+    let cut = g.A.Analyzer.analyze c.args.analyzer in
+    stays d.moment d.left_since d.content d.unsynced old c.read_file.new.device (LeavesOneOf schema settings cut one other) (g.met.D.Device.remains old h) (returns-in-Err-clause-images g c h) now (same_one_of schema settings cut one other (d.content old))
+
+pub returns-in-Ok-clause-none : goal.returns-in-Ok-clause-none
+returns-in-Ok-clause-none g c cut h now =
+    let d = g.D.Device in
+    let old = c.args.device in
+    stays d.moment d.left_since d.content d.unsynced old (device_after c.open_file.result) (LeavesNone cut) (g.met.D.Device.remains old h) (returns-in-Ok-clause-images g c h) now (same_none cut (d.content old))
+
+pub returns-in-Err-clause-none : goal.returns-in-Err-clause-none
+returns-in-Err-clause-none g c cut h now =
+    let d = g.D.Device in
+    let old = c.args.device in
+    stays d.moment d.left_since d.content d.unsynced old c.read_file.new.device (LeavesNone cut) (g.met.D.Device.remains old h) (returns-in-Err-clause-images g c h) now (same_none cut (d.content old))
+
+pub returns-in-Ok-clause-any_moment : goal.returns-in-Ok-clause-any_moment
+returns-in-Ok-clause-any_moment g c a b h now =
+    let d = g.D.Device in
+    let old = c.args.device in
+    stays d.moment d.left_since d.content d.unsynced old (device_after c.open_file.result) (IsOneOf a b) (g.met.D.Device.remains old h) (returns-in-Ok-clause-images g c h) now (same_one_file a b (d.content old))
 
 pub returns-in-Ok-clause-fresh : goal.returns-in-Ok-clause-fresh
-returns-in-Ok-clause-fresh g c h images =
+returns-in-Ok-clause-fresh g c h now =
     let d = g.D.Device in
     let old = c.args.device in
-    let mid = c.read_file.new.device in
-    let P : List ℕ → Type 0 = IsFresh is_first in
-    let kept = c.read_file.ensures.kept h in
+    stays d.moment d.left_since d.content d.unsynced old (device_after c.open_file.result) (IsFresh is_first) (g.met.D.Device.remains old h) (returns-in-Ok-clause-images g c h) now (same_fresh is_first (d.content old))
+
+pub returns-in-Ok-clause-one_of : goal.returns-in-Ok-clause-one_of
+returns-in-Ok-clause-one_of g c schema settings one other h now =
+    let d = g.D.Device in
+    let old = c.args.device in
     let holds = c.in-Ok.ensures.file h in
-    let first : LeavesOnly d.moment d.left_since old mid P = weaker d.moment d.left_since old mid (IsImage (d.content old) (d.unsynced old)) P kept.images_kept images in
-    let later : LeavesNow d.content d.unsynced mid P = λ image is. images image (subst (λ (u : Unsynced). IsImage (d.content old) u image) kept.unsynced_kept (subst (λ (l : List ℕ). IsImage l (d.unsynced mid) image) kept.content_kept is)) in
-    joined d.moment d.left_since old mid (device_after c.open_file.result) P first (c.open_file.ensures.fresh (holds.first ∷ holds.bodies) (c.in-Ok.ensures.honest ∙ h) holds.ends later)
+    let bodies : List (List ℕ) = holds.first ∷ holds.bodies in
+    let honest = c.in-Ok.ensures.honest ∙ h in
+    reopens_one g.A.Analyzer.analyze c.open_file.result old c.args.analyzer bodies schema settings one other (returns-in-Ok-clause-opened g c) h c.open_file.ensures.analyzer
+    (subst (λ (l : List ℕ). IsFile bodies l) (c.read_file.ensures.kept h).content_kept holds.ends.file)
+    (ok_two c.open_file.result
+    (λ index. IsAtRest (d.content (device_of index)) (gate_of index) bodies)
+    (λ index. d.unsynced (device_of index) ≡ settled (length (d.content (device_of index))))
+    (IsSettled g.A.Analyzer.analyze bodies)
+    (c.open_file.ensures.at_rest bodies honest holds.ends) (c.open_file.ensures.unsynced honest) (λ index rests synced. (rests, synced)))
+    (now (d.content old) (g.met.D.Device.remains old h))
+
+pub returns-in-Ok-clause-empty : goal.returns-in-Ok-clause-empty
+returns-in-Ok-clause-empty g c h now =
+    let d = g.D.Device in
+    let old = c.args.device in
+    let holds = c.in-Ok.ensures.file h in
+    let bodies : List (List ℕ) = holds.first ∷ holds.bodies in
+    let honest = c.in-Ok.ensures.honest ∙ h in
+    reopens_none g.A.Analyzer.analyze c.open_file.result old c.args.analyzer bodies (returns-in-Ok-clause-opened g c) h c.open_file.ensures.analyzer
+    (subst (λ (l : List ℕ). IsFile bodies l) (c.read_file.ensures.kept h).content_kept holds.ends.file)
+    (ok_two c.open_file.result
+    (λ index. IsAtRest (d.content (device_of index)) (gate_of index) bodies)
+    (λ index. d.unsynced (device_of index) ≡ settled (length (d.content (device_of index))))
+    (IsSettled g.A.Analyzer.analyze bodies)
+    (c.open_file.ensures.at_rest bodies honest holds.ends) (c.open_file.ensures.unsynced honest) (λ index rests synced. (rests, synced)))
+    (now (d.content old) (g.met.D.Device.remains old h))
 
 pub returns-in-Ok-clause-kept : goal.returns-in-Ok-clause-kept
 returns-in-Ok-clause-kept g c h =
