@@ -74,8 +74,8 @@ impl<D: Device + Drop, A: Analyzer + Drop> Index<D, A> {
         ensures kept { IsTrue (D.honest device) → IfErr result (λ r. r.fault ≢ faults.Device
             → IsKept D.moment D.left_since D.content D.unsynced device r.device) }
 
-        // A crash at any moment leaves no index, or one without documents, if before it could leave nothing else, be its
-        // records one or many. After an `Ok` it leaves one without documents.
+        // A crash at any moment leaves no index, or one without documents, if before it could leave nothing else: of
+        // one record, or of however many. After an `Ok` it leaves one without documents.
         ensures any_moment { IsTrue (D.honest device)
             → LeavesNow D.content D.unsynced device (IsFresh is_first)
             → LeavesOnly D.moment D.left_since device (device_after result) (IsFresh is_first) }
