@@ -14,7 +14,7 @@ use Rattle.definitions.specs.Settings.{Settings}
 use Rattle.definitions.specs.Step.{configuration_of, reopened}
 use Rattle.definitions.specs.Values.{Document}
 use Rattle.engine.proofs.FileSayings.{last_groups, last_more, made_more, of_its_groups}
-use Rattle.engine.specs.Files.{BodiesLeave, HasLists, HasSameBodies, IsFileOf, IsOldOrSame, LeavesNone, LeavesOneOf}
+use Rattle.engine.specs.Files.{BodiesLeave, HasSameBodies, IsFileOf, IsOldOrSame, LeavesNone, LeavesOneOf}
 use Rattle.engine.specs.Indexes.{ImagesLeave, IndexRests, IndexStands, IsOpened, IsReopened, analyzer_after, analyzer_of, device_of, gate_of, members_of, schema_of, settings_of}
 use Rattle.engine.specs.declared.index.Index.{Index}
 use Rattle.engine.specs.declared.refused.Refused.{Refused}
@@ -27,10 +27,15 @@ use Rattle.layouts.specs.RecordBodies.{first_in}
 use Rattle.layouts.specs.RecordFiles.{IsAtRest, IsFile, IsFresh, IsNoIndex, IsOneOf}
 use Rattle.segment_definitions.proofs.OneList.{one_history}
 use Rattle.segment_definitions.specs.SegmentBodies.{Makes, Member}
-use Rattle.segment_definitions.specs.SegmentFiles.{AreMade, IsGroup, LeavesGroups}
+use Rattle.segment_definitions.specs.SegmentFiles.{AreMade, IsGroup, IsRecordFile, LeavesGroups}
 use Rattle.segment_definitions.specs.Segments.{IsSegment}
 
 -- ---- files of the same bodies
+
+-- a file whose every record gives its list
+abbrev pub HasLists : Schema → Settings → Analyzer → List ℕ → Type 0
+HasLists schema settings analyze bytes =
+    (lists : List (List (List Document))) × IsRecordFile schema settings analyze bytes lists
 
 -- every record of the one gives its list where those of the other do
 abbrev pub same_have : (schema : Schema) (settings : Settings) (cut : Analyzer) (bytes image : List ℕ) → HasSameBodies bytes image → HasLists schema settings cut bytes → HasLists schema settings cut image
@@ -110,21 +115,6 @@ with_last R m g x y (a ∷ xs) [] of r all is = absurd all
 with_last R m g x y (a ∷ xs) (b ∷ ys) of r all is =
     let w = with_last R m g a b xs ys of all.0 all.1 is in
     (y, w.0 ∷ w.1, r, (w.2, w.3), w.4)
-
--- a file whose every record gives its list gives the groups that it is of last
-pub given_last : (schema : Schema) (settings : Settings) (cut : Analyzer) (groups : List (List Document)) (bytes : List ℕ) → IsFileOf schema settings cut groups bytes → HasLists schema settings cut bytes → LeavesGroups schema settings cut bytes groups
-given_last schema settings cut groups bytes (bodies, file, says) (lists, f) =
-    let l = says.leave in
-    let both : l.first ∷ l.later ≡ f.first ∷ f.bodies = sym l.are ∙ one_reading bodies (f.first ∷ f.bodies) bytes file f.file in
-    let tails : l.later ≡ f.bodies = cc in
-    let one : l.lists ≡ f.members = one_history (IsSegment schema) [] f.bodies l.lists f.members (subst (λ bs. AreMade (IsSegment schema) [] bs l.lists) tails l.follow) f.follow in
-    go lists f.groups (ap (last_or (Some [])) (sym one) ∙ l.last)
-  where
-    go : (ls : List (List (List Document))) → AllZip (AllZip (IsGroup schema cut)) ([] ∷ f.members) ls → last_or (Some []) f.members ≡ Some says.members → LeavesGroups schema settings cut bytes groups
-    go [] all ends = absurd all
-    go (first ∷ ls) all ends =
-        let w = with_last (AllZip (IsGroup schema cut)) says.members groups [] first f.members ls says.are_groups all.0 all.1 ends in
-        (w.0 ∷ w.1, record { first = f.first; bodies = f.bodies; members = f.members; file = f.file; made = f.made; follow = f.follow; groups = (w.2, w.3) }, w.4)
 
 -- ---- at every moment
 

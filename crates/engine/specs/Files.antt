@@ -14,7 +14,7 @@ use Rattle.layouts.specs.RecordBodies.{first_in}
 use Rattle.layouts.specs.RecordFiles.{IsAtRest, IsFile, IsNoIndex, IsOneOf}
 use Rattle.index_file.specs.Outcomes.{IsRefusal}
 use Rattle.segment_definitions.specs.SegmentBodies.{Member}
-use Rattle.segment_definitions.specs.SegmentFiles.{AreMade, IsGroup, IsRecordFile, LeavesGroups, TakesSegments}
+use Rattle.segment_definitions.specs.SegmentFiles.{AreMade, IsGroup, LeavesGroups, TakesSegments}
 use Rattle.segment_definitions.specs.Segments.{IsSegment}
 
 -- bodies of an index of this schema and these settings, of which the last leaves this list of segments; the first leaves
@@ -95,11 +95,6 @@ HasSameBodies bytes image = (bodies : List (List ℕ)) × IsFile bodies bytes ×
 -- what a crash might have left before, or a file of the bodies that were read
 abbrev pub IsOldOrSame : {D : Type 0} → (D → List ℕ) → (D → Unsynced) → D → List ℕ → Type 0
 IsOldOrSame content unsynced old image = IsImage (content old) (unsynced old) image ⊎ HasSameBodies (content old) image
-
--- a file whose every record gives its list
-abbrev pub HasLists : Schema → Settings → Analyzer → List ℕ → Type 0
-HasLists schema settings analyze bytes =
-    (lists : List (List (List Document))) × IsRecordFile schema settings analyze bytes lists
 
 -- a file whose every record gives its list, and the last one these groups or those
 abbrev pub LeavesOneOf : Schema → Settings → Analyzer → List (List Document) → List (List Document) → List ℕ → Type 0

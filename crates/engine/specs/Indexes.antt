@@ -19,7 +19,7 @@ use Rattle.index_state.specs.Limits.{TermsPass}
 use Rattle.index_state.specs.Pending.{open_docs}
 use Rattle.index_state.specs.Records.{RecordsCall}
 use Rattle.index_state.specs.Standing as collections
-use Rattle.engine.specs.Files.{HasLists, LeavesEither, LeavesMembers, Rests}
+use Rattle.engine.specs.Files.{LeavesEither, LeavesMembers, Rests}
 use Rattle.engine.specs.declared.index.Index.{Index}
 use Rattle.engine.specs.declared.refused.Refused.{Refused}
 use Rattle.segment_definitions.specs.SegmentBodies.{Member}
@@ -129,12 +129,6 @@ module _ {D A : Type 0} {d : devices.Ghosts D} {a : analyzers.Ghosts A} where
   ImagesLeave analyze index groups =
       LeavesNow d.content d.unsynced (device_of index)
       (λ image. LeavesGroups (schema_of index) (settings_of index) (analyze (analyzer_of index)) image groups)
-
-  -- every record of each image that a crash may leave now gives its list
-  abbrev pub ImagesHaveLists : (A → Analyzer) → Index D A d a → Type 0
-  ImagesHaveLists analyze index =
-      LeavesNow d.content d.unsynced (device_of index)
-      (HasLists (schema_of index) (settings_of index) (analyze (analyzer_of index)))
 
   -- it stands for these groups, none waiting, and each image that a crash may leave now gives them
   pub record IsReopened (analyze : A → Analyzer) (index : Index D A d a) (c : calls.Configuration)
