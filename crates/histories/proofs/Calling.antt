@@ -4,10 +4,11 @@ use Rattle.std.specs.Bool.{⊤}
 use Rattle.std.specs.Option.{option_or}
 use Rattle.common.specs.declared.analyzer.Analyzer as analyzers
 use Rattle.common.specs.declared.device.Device as devices
+use Rattle.definitions.proofs.CallRuns.{started, weaker}
 use Rattle.definitions.proofs.OwnFaults.{is_failure, refused_by_no_failure}
 use Rattle.definitions.specs.Analyzers.{Analyzer}
 use Rattle.definitions.specs.Calls as calls
-use Rattle.definitions.specs.Disk.{IsImage, settled}
+use Rattle.definitions.specs.Disk.{IsImage, Unsynced, settled}
 use Rattle.definitions.specs.Moments.{LeavesOnly}
 use Rattle.definitions.specs.Query.{Query}
 use Rattle.definitions.specs.Scanning.{scan, scan_count}
@@ -19,11 +20,14 @@ use Rattle.definitions.specs.declared.fault.Fault.TheVariants as faults
 use Rattle.index_state.specs.Hits.{scored}
 use Rattle.index_file.proofs.CallByCall.{resting}
 use Rattle.index_file.proofs.Faults.{memory_or_other}
-use Rattle.layouts.specs.RecordFiles.{IsAtRest, IsOneOf}
+use Rattle.index_file.proofs.Images.{rest_images}
+use Rattle.layouts.specs.RecordFiles.{IsAtRest, IsFile, IsOneOf}
 use Rattle.engine.proofs.Commits.{stands_groups}
 use Rattle.engine.proofs.FileSayings.{leave_same, rests_say}
+use Rattle.engine.proofs.ListsLeft.{given_last}
+use Rattle.engine.specs.Files.{HasLists, LeavesOneOf}
 use Rattle.histories.specs.Calls.{Answer, IsCalled, answer_to, done, ending, groups_after, hits, number, outcome_of, unless_refused}
-use Rattle.engine.specs.Indexes.{CrashLeavesEither, IndexRests, IndexStands, KeepsFile, KeepsMaking, analyzer_of, device_of, gate_of, members_of, schema_of, settings_of}
+use Rattle.engine.specs.Indexes.{CrashLeavesEither, ImagesHaveLists, ImagesLeave, IndexRests, IndexStands, KeepsFile, KeepsMaking, analyzer_of, device_of, gate_of, members_of, schema_of, settings_of}
 use Rattle.engine.specs.Writes.{Writes}
 use Rattle.engine.specs.declared.index.Index.{Index}
 
@@ -126,6 +130,25 @@ module _ {D A : Type 0} {d : devices.Ghosts D} {a : analyzers.Ghosts A} (analyze
     synced = subst (λ (q : D). d.unsynced q ≡ settled (length (d.content q))) (sym same) rests.synced;
   }
 
+  -- what every image has it has still
+  lists_still : (old new : Index D A d a) → KeepsFile old new → IsTrue (d.honest (device_of old)) → ImagesHaveLists analyze old
+      → LeavesOnly d.moment d.left_since (device_of old) (device_of new) (HasLists (schema_of old) (settings_of old) (analyze (analyzer_of old)))
+  lists_still old new file h have =
+      let device = device_of old in
+      let P : List ℕ → Type 0 = HasLists (schema_of old) (settings_of old) (analyze (analyzer_of old)) in
+      subst (λ (q : D). LeavesOnly d.moment d.left_since device q P) (sym file.0) (started d.moment d.left_since device P (λ image left. have image (only_now device image h left)))
+
+  -- each image of what rests gives the groups
+  images_leave : (old : Index D A d a) (c : calls.Configuration) (x : calls.Index) → IndexStands analyze old c x → IndexRests old → ImagesHaveLists analyze old → ImagesLeave analyze old x.state.groups
+  images_leave old c x s rests have image is =
+      let device = device_of old in
+      let schema = schema_of old in
+      let settings = settings_of old in
+      let cut = analyze (analyzer_of old) in
+      let says = rests_say schema settings cut (members_of old) x.state.groups (d.content device) (d.unsynced device) (gate_of old) rests (stands_groups analyze old.index_state c x s) in
+      let file : IsFile rests.bodies image = rest_images rests.bodies (d.content device) image (gate_of old) rests.at_rest (subst (λ (u : Unsynced). IsImage (d.content device) u image) rests.synced is) in
+      given_last schema settings cut x.state.groups image (rests.bodies, file, says) (have image is)
+
   -- a call that doesn't touch the file
   pub kept_called : (old new : Index D A d a) (call : calls.Call) (outcome : Result Answer Fault)
       → ((c : calls.Configuration) (x : calls.Index) → IndexStands analyze old c x → (y : calls.Index) × calls.Leaves c x call (ending outcome) y × IfOk outcome (λ answer. answer ≡ answer_to c x.state call) × IndexStands analyze new c y)
@@ -137,6 +160,7 @@ module _ {D A : Type 0} {d : devices.Ghosts D} {a : analyzers.Ghosts A} (analyze
     kept = any_err outcome _ (λ fault other. file);
     rests = λ c x s h rests. any_ok outcome _ (rests_still old new made file rests);
     any_moment = λ c x s h rests. still old new c x (groups_after c x call) s file h rests;
+    lists = λ c x s h rests have. lists_still old new file h have;
   }
 
   -- a change that doesn't touch the file
@@ -163,4 +187,11 @@ module _ {D A : Type 0} {d : devices.Ghosts D} {a : analyzers.Ghosts A} (analyze
         (λ (taken : calls.call_fault c x call ≡ None). subst (λ o. CrashLeavesEither analyze old new x.state.groups (unless_refused o (calls.after c x.state call).groups x.state.groups)) (sym taken) (w.any_moment h rest))
         (λ refused. still old new c x (groups_after c x call) s (if_err_at r refused.0 (λ fault. fault ≢ faults.Device → KeepsFile old new) refused.1 kept refused.2) h rest)
         (taken_or_kept c x w.left.0 call r w.left.1));
+    lists = λ c x s h rest have. (
+        let after = (calls.after c x.state call).groups in
+        let schema = schema_of old in
+        let settings = settings_of old in
+        let cut = analyze (analyzer_of old) in
+        weaker d.moment d.left_since (device_of old) (device_of new) (LeavesOneOf schema settings cut x.state.groups after) (HasLists schema settings cut) ((writes c x s).lists h rest (images_leave old c x s rest have))
+        (λ image is. ⊎_elim (λ one. (one.0, one.1)) (λ other. (other.0, other.1)) is));
   }

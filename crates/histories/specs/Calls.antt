@@ -12,11 +12,10 @@ use Rattle.definitions.specs.Values.{Document}
 use Rattle.definitions.specs.declared.fault.Fault.{Fault}
 use Rattle.definitions.specs.declared.fault.Fault.TheVariants as faults
 use Rattle.index_state.specs.Hits.{scored}
-use Rattle.engine.specs.Indexes.{CrashLeavesEither, IndexRests, IndexStands, IsOpened, KeepsFile, KeepsMaking, device_after, device_of}
+use Rattle.engine.specs.Files.{HasLists, IsOldOrSame}
+use Rattle.engine.specs.Indexes.{CrashLeavesEither, ImagesHaveLists, IndexRests, IndexStands, IsOpened, KeepsFile, KeepsMaking, analyzer_of, device_after, device_of, schema_of, settings_of}
 use Rattle.engine.specs.declared.index.Index.{Index}
 use Rattle.engine.specs.declared.refused.Refused.{Refused}
-use Rattle.index_file.specs.Kept.{LeavesNow}
-use Rattle.layouts.specs.RecordFiles.{IsOneOf}
 
 -- ---- what a call answers
 
@@ -74,14 +73,19 @@ pub record IsCalled {D A : Type 0} {d : devices.Ghosts D} {a : analyzers.Ghosts 
       (c : calls.Configuration) (x : calls.Index) → IndexStands analyze old c x
       → IsTrue (d.honest (device_of old)) → IndexRests old
       → CrashLeavesEither analyze old new x.state.groups (groups_after c x call)
+  -- where every record of each image gives its list, so it is at every moment of the call
+  pub lists :
+      (c : calls.Configuration) (x : calls.Index) → IndexStands analyze old c x
+      → IsTrue (d.honest (device_of old)) → IndexRests old → ImagesHaveLists analyze old
+      → LeavesOnly d.moment d.left_since (device_of old) (device_of new)
+      (HasLists (schema_of old) (settings_of old) (analyze (analyzer_of old)))
 
 -- an opening of the file of a device ended so
 pub record IsOpening {D A : Type 0} {d : devices.Ghosts D} {a : analyzers.Ghosts A} (analyze : A → Analyzer)
     (analyzer : Analyzer) (device : D) (result : Result (Index D A d a) (Refused D A)) : Type 0 where
   pub opened : IfOk result (IsOpened analyze analyzer device)
   pub honest : d.honest (device_after result) ≡ d.honest device
-  -- what a crash may leave is of one of two files at every moment, if it was so before
-  pub any_moment :
-      (one other : List (List ℕ)) → IsTrue (d.honest device)
-      → LeavesNow d.content d.unsynced device (IsOneOf one other)
-      → LeavesOnly d.moment d.left_since device (device_after result) (IsOneOf one other)
+  -- at every moment a crash leaves what it might have left before, or a file of the bodies that were read
+  pub images :
+      IsTrue (d.honest device)
+      → LeavesOnly d.moment d.left_since device (device_after result) (IsOldOrSame d.content d.unsynced device)

@@ -9,9 +9,12 @@ ghost use Rattle.definitions.specs.Step.{configuration_of};
 ghost use Rattle.definitions.specs.Values.{Document};
 ghost use Rattle.engine.specs.Files.{IsFileOf};
 ghost use Rattle.engine.specs.HandedOn.{hit_of};
+ghost use Rattle.engine.specs.Indexes.{ImagesLeave};
 ghost use Rattle.histories.specs.Calls.{IsCalled, IsOpening, done, hits, number, outcome_of};
 ghost use Rattle.histories.specs.Leading.{Begins};
+ghost use Rattle.index_file.specs.Kept.{LeavesNow};
 ghost use Rattle.query_trees.specs.Queries.{query_of};
+ghost use Rattle.segment_definitions.specs.SegmentFiles.{LeavesGroups};
 ghost use Rattle.serde_json.specs.View.{view};
 
 use common::{Analyzer, Device};
@@ -119,8 +122,9 @@ pub fn create<D: Device + Drop, A: Analyzer + Drop>(
     schema: Schema,
     settings: Settings,
 ) -> Result<Index<D, A>, Refused<D, A>>
-    ensures { IsTrue (D.honest device) → IfOk result (λ index.
+    ensures begins { IsTrue (D.honest device) → IfOk result (λ index.
         Begins D.Device A.Analyzer index (configuration_of schema (A.analyze analyzer) settings) []) }
+    ensures lists { IsTrue (D.honest device) → IfOk result (λ index. ImagesLeave A.analyze index []) }
 {
     Index::create(alloc, device, analyzer, schema, settings)
 }
@@ -135,6 +139,10 @@ pub fn open<D: Device + Drop, A: Analyzer + Drop>(
     ensures begins { (schema : Fields) (settings : Numbers) (groups : List (List Document)) → IsTrue (D.honest device)
         → IsFileOf schema settings (A.analyze analyzer) groups (D.content device) → IfOk result (λ index.
         Begins D.Device A.Analyzer index (configuration_of schema (A.analyze analyzer) settings) groups) }
+    ensures lists { (schema : Fields) (settings : Numbers) (groups : List (List Document)) → IsTrue (D.honest device)
+        → LeavesNow D.content D.unsynced device
+        (λ image. LeavesGroups schema settings (A.analyze analyzer) image groups)
+        → IfOk result (λ index. ImagesLeave A.analyze index groups) }
 {
     Index::open(alloc, device, analyzer)
 }

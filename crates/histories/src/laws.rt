@@ -3,6 +3,7 @@
 ghost use Rattle.std.specs.Prelude.{[], ◌++◌, ◌∷◌, ◌≡◌, ◌⊎◌, List, Ok, false, map, ℕ, ℤ};
 ghost use Rattle.std.specs.List.{AllByRecursion};
 ghost use Rattle.definitions.specs.Calls.{Call, Configuration, after, commit_pending, count_all, is_commit, is_merge, search_best};
+ghost use Rattle.definitions.specs.Moments.{LeavesOnly};
 ghost use Rattle.definitions.specs.Query.{Query};
 ghost use Rattle.definitions.specs.Scanning.{scan, scan_count};
 ghost use Rattle.definitions.specs.State.{committed};
@@ -11,9 +12,11 @@ ghost use Rattle.definitions.specs.Stored.{Named};
 ghost use Rattle.definitions.specs.Values.{Document};
 ghost use Rattle.histories.specs.Calls.{IsCalled, done, hits, number};
 ghost use Rattle.engine.specs.HandedOn.{scored};
-ghost use Rattle.engine.specs.Indexes.{IndexStands};
-ghost use Rattle.histories.specs.Events.{Event, IsSmooth, MayLead, Outcome, Standing, all_called, called, cut_off, standing_of, state_after};
+ghost use Rattle.engine.specs.Files.{LeavesOneOf};
+ghost use Rattle.engine.specs.Indexes.{ImagesHaveLists, IndexStands, analyzer_of, device_of, schema_of, settings_of};
+ghost use Rattle.histories.specs.Events.{Event, IsSmooth, MayLead, Outcome, Standing, all_called, called, cut_off, other_within, standing_of, state_after};
 ghost use Rattle.histories.specs.Leading.{Begins, LeadsTo};
+ghost use Rattle.index_file.specs.Kept.{LeavesNow};
 
 use common::{Analyzer, Device};
 use engine::Index;
@@ -85,6 +88,30 @@ pub fn a_crash_inside_the_last_call_leaves_one_of_two<D: Device, A: Analyzer>(
         → IndexStands A.analyze last.now c (reopened (state_after c (reopened groups).state events).groups)
         ⊎ IndexStands A.analyze last.now c
         (reopened (after c (state_after c (reopened groups).state events) call).groups) }
+{}
+
+/// States that where every record of the first file gives its list, as after a create, so does every record of each
+/// image that a crash may leave after any history, and at any moment of one call more, from `last` to `next`: the last
+/// list is what is committed, or what the file may have in its place.
+pub fn every_record_of_each_image_gives_its_list<D: Device, A: Analyzer>(
+    first: &Index<D, A>,
+    last: &Index<D, A>,
+    next: &Index<D, A>,
+)
+    ensures now { (c : Configuration) (groups : List (List Document)) (events : List Event)
+        → Begins D.Device A.Analyzer first.now c groups → ImagesHaveLists A.analyze first.now
+        → LeadsTo D.Device A.Analyzer first.now events last.now
+        → (t : Standing) × MayLead c (standing_of groups) events t × IndexStands A.analyze last.now c t.index
+        × LeavesNow D.content D.unsynced (device_of last.now) (LeavesOneOf (schema_of last.now)
+        (settings_of last.now) (A.analyze (analyzer_of last.now)) t.index.state.groups t.other) }
+    ensures inside { (c : Configuration) (groups : List (List Document)) (events : List Event) (call : Call)
+        (outcome : Outcome)
+        → Begins D.Device A.Analyzer first.now c groups → ImagesHaveLists A.analyze first.now
+        → LeadsTo D.Device A.Analyzer first.now events last.now
+        → IsCalled A.analyze last.now next.now call outcome
+        → (t : Standing) × MayLead c (standing_of groups) events t
+        × LeavesOnly D.moment D.left_since (device_of last.now) (device_of next.now) (LeavesOneOf (schema_of last.now)
+        (settings_of last.now) (A.analyze (analyzer_of last.now)) t.index.state.groups (other_within c t call)) }
 {}
 
 /// States that what an acknowledged commit installed is there after a crash of any call that doesn't write.

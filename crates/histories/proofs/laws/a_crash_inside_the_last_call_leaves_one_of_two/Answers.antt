@@ -11,7 +11,7 @@ pub returns : goal.returns
 returns g c k groups events call begins smooth leads =
     let m = g.met.D.Device in
     let last = c.args.last.now in
-    let found = follows g.D.Device g.A.Analyzer m.only_now m.counts_now m.remains k (standing_of groups) c.args.first.now last (events ++ cut_off call ∷ []) (record { stands = begins.stands; honest = begins.honest; file = inl (begins.rests, refl) }) leads in
+    let found = follows g.D.Device g.A.Analyzer m.only_now m.counts_now m.remains ⊥ k (standing_of groups) c.args.first.now last (events ++ cut_off call ∷ []) (record { stands = begins.stands; honest = begins.honest; file = inl (begins.rests, refl); lists = λ none. absurd none }) leads in
     let at = smooth_leads k (standing_of groups) found.0 events (cut_off call ∷ []) refl smooth found.1 in
     let stood : (s : Standing) → found.0 ≡ s → IndexStands g.A.Analyzer.analyze last k s.index = λ s is. subst (λ (z : Standing). IndexStands g.A.Analyzer.analyze last k z.index) is found.2.stands in
     ⊎_elim
