@@ -9,8 +9,9 @@ use Rattle.definitions.specs.Settings.{Settings}
 use Rattle.definitions.specs.Step.{configuration_of, fresh_index, reopened}
 use Rattle.definitions.specs.Values.{Document}
 use Rattle.engine.proofs.FileSayings.{of_its_groups}
-use Rattle.engine.specs.Files.{HasLists, IsFileOf}
-use Rattle.engine.specs.Indexes.{ImagesHaveLists, ImagesLeave, IndexRests, IndexStands, IsOpened, IsReopened, device_after, device_of, members_of, schema_of, settings_of}
+use Rattle.engine.specs.Files.{IsFileOf}
+use Rattle.histories.specs.Lists.{HasLists, ImagesHaveLists}
+use Rattle.engine.specs.Indexes.{ImagesLeave, IndexRests, IndexStands, IsOpened, IsReopened, device_after, device_of, members_of, schema_of, settings_of}
 use Rattle.engine.specs.declared.index.Index.{Index}
 use Rattle.engine.specs.declared.refused.Refused.{Refused}
 use Rattle.histories.specs.Leading.{Begins}

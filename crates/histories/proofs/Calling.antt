@@ -24,10 +24,11 @@ use Rattle.index_file.proofs.Images.{rest_images}
 use Rattle.layouts.specs.RecordFiles.{IsAtRest, IsFile, IsOneOf}
 use Rattle.engine.proofs.Commits.{stands_groups}
 use Rattle.engine.proofs.FileSayings.{leave_same, rests_say}
-use Rattle.engine.proofs.ListsLeft.{given_last}
-use Rattle.engine.specs.Files.{HasLists, LeavesOneOf}
+use Rattle.histories.proofs.GivenLists.{given_last}
+use Rattle.histories.specs.Lists.{HasLists, ImagesHaveLists}
+use Rattle.engine.specs.Files.{LeavesOneOf}
 use Rattle.histories.specs.Calls.{Answer, IsCalled, answer_to, done, ending, groups_after, hits, number, outcome_of, unless_refused}
-use Rattle.engine.specs.Indexes.{CrashLeavesEither, ImagesHaveLists, ImagesLeave, IndexRests, IndexStands, KeepsFile, KeepsMaking, analyzer_of, device_of, gate_of, members_of, schema_of, settings_of}
+use Rattle.engine.specs.Indexes.{CrashLeavesEither, ImagesLeave, IndexRests, IndexStands, KeepsFile, KeepsMaking, analyzer_of, device_of, gate_of, members_of, schema_of, settings_of}
 use Rattle.engine.specs.Writes.{Writes}
 use Rattle.engine.specs.declared.index.Index.{Index}
 

@@ -21,9 +21,11 @@ use Rattle.histories.proofs.Calling.{rests_still}
 use Rattle.engine.proofs.Commits.{stands_groups}
 use Rattle.engine.proofs.FileSayings.{of_its_groups, rests_say}
 use Rattle.histories.specs.Calls.{IsCalled, IsOpening, answer_to, ending, groups_after, unless_refused}
-use Rattle.engine.proofs.ListsLeft.{given_last, same_groups, same_have, stays}
-use Rattle.engine.specs.Files.{HasLists, HasSameBodies, IsFileOf, LeavesOneOf}
-use Rattle.engine.specs.Indexes.{CrashLeavesEither, ImagesHaveLists, IndexRests, IndexStands, KeepsFile, KeepsMaking, analyzer_of, device_after, device_of, gate_of, members_of, schema_of, settings_of}
+use Rattle.engine.proofs.ListsLeft.{same_groups, same_have, stays}
+use Rattle.histories.proofs.GivenLists.{given_last}
+use Rattle.histories.specs.Lists.{HasLists, ImagesHaveLists}
+use Rattle.engine.specs.Files.{HasSameBodies, IsFileOf, LeavesOneOf}
+use Rattle.engine.specs.Indexes.{CrashLeavesEither, IndexRests, IndexStands, KeepsFile, KeepsMaking, analyzer_of, device_after, device_of, gate_of, members_of, schema_of, settings_of}
 use Rattle.engine.specs.declared.index.Index.{Index}
 use Rattle.histories.proofs.Devices.{other_kept}
 use Rattle.histories.specs.Events.{Event, MayLead, Outcome, Standing, called, cut_off, opened, other_after, other_within, standing_of}

@@ -3,4 +3,5 @@ pub mod Calling
 pub mod Devices
 pub mod Beginnings
 pub mod Following
+pub mod GivenLists
 pub mod Scans

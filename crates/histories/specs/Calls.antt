@@ -12,10 +12,11 @@ use Rattle.definitions.specs.Values.{Document}
 use Rattle.definitions.specs.declared.fault.Fault.{Fault}
 use Rattle.definitions.specs.declared.fault.Fault.TheVariants as faults
 use Rattle.index_state.specs.Hits.{scored}
-use Rattle.engine.specs.Files.{HasLists, IsOldOrSame}
-use Rattle.engine.specs.Indexes.{CrashLeavesEither, ImagesHaveLists, IndexRests, IndexStands, IsOpened, KeepsFile, KeepsMaking, analyzer_of, device_after, device_of, schema_of, settings_of}
+use Rattle.engine.specs.Files.{IsOldOrSame}
+use Rattle.engine.specs.Indexes.{CrashLeavesEither, IndexRests, IndexStands, IsOpened, KeepsFile, KeepsMaking, analyzer_of, device_after, device_of, schema_of, settings_of}
 use Rattle.engine.specs.declared.index.Index.{Index}
 use Rattle.engine.specs.declared.refused.Refused.{Refused}
+use Rattle.histories.specs.Lists.{HasLists, ImagesHaveLists}
 
 -- ---- what a call answers
 

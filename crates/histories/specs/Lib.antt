@@ -2,3 +2,4 @@
 pub mod Calls
 pub mod Events
 pub mod Leading
+pub mod Lists
