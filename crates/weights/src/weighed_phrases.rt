@@ -1,19 +1,23 @@
-//! The weight of a phrase in a segment.
+//! The weights of phrases and of phrase prefixes in a segment.
 
-ghost use Rattle.definitions.specs.Query.{phrase};
+ghost use Rattle.definitions.specs.Query.{phrase, phrase_prefix};
+ghost use Rattle.phrase_weights.specs.PhrasePrefixWeights.{ScoresPrefixBy, limit_of, prefix_terms_of};
 ghost use Rattle.phrase_weights.specs.PhraseWeights.{ScoresBy, slop_of, terms_of};
 
 use crate::found_scorer::FoundScorer;
 use crate::weight::SegmentWeight;
 use common::Score;
-use phrase_weights::PhraseWeight;
-use phrases::{PhraseScorer, PostingsWithOffset};
+use phrase_weights::{PhrasePrefixWeight, PhraseWeight, WholePhrase};
+use phrases::{PhrasePrefixScorer, PhraseScorer, PostingsWithOffset};
 use segment_postings::SegmentPostings;
 use segment_reader::SegmentReader;
 use std::alloc::{AllocError, Global};
 
 /// The scorer of a phrase, if all its terms are in a segment.
 type FoundPhrase<'a> = FoundScorer<PhraseScorer<'a, PostingsWithOffset<SegmentPostings<'a>>>>;
+
+/// The scorer of a phrase prefix, if all whole terms are in a segment.
+type FoundPrefix<'a> = FoundScorer<PhrasePrefixScorer<WholePhrase<'a>, SegmentPostings<'a>>>;
 
 impl<'q, 'a> SegmentWeight<'a> for PhraseWeight<'q, 'a> {
     type Scorer = FoundPhrase<'a>;
@@ -29,6 +33,24 @@ impl<'q, 'a> SegmentWeight<'a> for PhraseWeight<'q, 'a> {
         boost: Score,
     ) -> Result<FoundPhrase<'a>, AllocError> {
         let found = self.phrase_scorer(alloc, reader, boost)?;
+        Ok(FoundScorer::new(found))
+    }
+}
+
+impl<'q, 'a> SegmentWeight<'a> for PhrasePrefixWeight<'q, 'a> {
+    type Scorer = FoundPrefix<'a>;
+
+    ghost scores_by = { λ w sim. ScoresPrefixBy sim w };
+
+    ghost query = { λ w. phrase_prefix (prefix_terms_of w) (limit_of w) };
+
+    fn scorer(
+        &self,
+        alloc: Global,
+        reader: &SegmentReader<'a>,
+        boost: Score,
+    ) -> Result<FoundPrefix<'a>, AllocError> {
+        let found = self.phrase_prefix_scorer(alloc, reader, boost)?;
         Ok(FoundScorer::new(found))
     }
 }
