@@ -9,6 +9,7 @@ use crate::calls;
 use crate::const_score_weight::ConstScoreWeight;
 use crate::disjunction_max_weight::DisjunctionMaxWeight;
 use crate::empty_weight::EmptyWeight;
+use crate::feeds::feed_by_kind;
 use crate::query_weight::QueryWeight;
 use crate::weight::{SegmentWeight, Weight};
 use any_scorer::Leaf;
@@ -159,6 +160,8 @@ impl<'q, 'a, W: LeafWeights<'a>> Weight<'a> for AnyWeight<'q, W> {
         reader: &SegmentReader<'a>,
         sink: &mut K,
     ) -> Result<(), AllocError> {
-        calls::for_each_pruning(alloc, self, threshold, reader, sink)
+        let scorer = self.scorer(alloc, reader, 1)?;
+        feed_by_kind::<ReaderScorers<'_, 'a, W>, K>(scorer, reader.max_doc(), threshold, sink);
+        Ok(())
     }
 }

@@ -9,6 +9,7 @@ ghost use Rattle.phrases.specs.Feeding.{IsFedBelow};
 use common::{DocId, Score};
 use docsets::Scorer;
 use phrases::{Sink, for_each_pruning_scorer};
+use tree_scorers::SegmentScorers;
 
 /// Feeds each document of `scorer` with its score to `sink`, in order, if the score is above the sink's threshold by
 /// then. All documents are below `max_doc`.
@@ -26,4 +27,21 @@ pub(crate) fn feed<S: Scorer + Drop, K: Sink>(
 {
     let mut scorer = scorer;
     for_each_pruning_scorer(&mut scorer, threshold, sink);
+}
+
+/// Like `feed`, of a scorer whose kind is looked at once, and not for each document.
+pub(crate) fn feed_by_kind<F: SegmentScorers, K: Sink>(
+    scorer: F::Scorer,
+    max_doc: DocId,
+    threshold: Score,
+    sink: &mut K,
+)
+    requires within { from max_doc (F.Scorer.entries scorer) ≡ [] }
+    requires threshold { threshold ≡ K.limit (K.state sink.old) }
+    requires room { max_doc ≤ K.room sink.old }
+    ensures fed { K.state sink.new
+        ≡ sinks.fed K.limit K.taken (K.state sink.old) (pairs_of (F.Scorer.entries scorer)) }
+    ensures listed { IsFedBelow K.limit K.taken (K.state sink.old) max_doc (K.state sink.new) }
+{
+    F::feed(scorer, threshold, sink);
 }
