@@ -1,7 +1,10 @@
-//! Queries: their trees, how they are read, which of them are refused, and which terms they read.
+//! Queries: their trees, how they are read, which of them are refused, their weights, and which terms they read.
 #![tactic(auto)]
 
+mod asked_weights;
+mod counts;
 mod query;
+mod query_weights;
 
 pub use query::Query;
 pub use query_checks::{
@@ -10,3 +13,4 @@ pub use query_checks::{
     a_node_is_refused_by_its_first_fault, a_query_is_refused_by_its_first_node, are_phrase_terms,
     check_query, depths_are_tested_first, read_query,
 };
+pub use query_weights::SpecializedWeight;

@@ -1,0 +1,3 @@
+-- Lemmas behind what is asked of queries.
+pub mod AddedCounts
+pub mod AskedLaws
