@@ -1,0 +1,2 @@
+-- Lemmas behind lines.
+pub mod Mapped

@@ -1,0 +1,3 @@
+-- What is said of a file.
+pub mod Lines
+pub mod Sound

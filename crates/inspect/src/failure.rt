@@ -1,0 +1,52 @@
+//! Why the program ends with status 1.
+
+use definitions::Fault;
+use std::alloc::AllocError;
+use std::fmt::{self, Display, Formatter};
+use std::io;
+
+/// Why the program ends with status 1.
+#[derive(Debug, Drop)]
+pub(crate) enum Failure {
+    /// The file can't be read, or is none that opens.
+    Unsound(Fault),
+    /// A document can't be read.
+    Damaged,
+    /// What is asked for can't be written.
+    Unwritten,
+}
+
+impl From<Fault> for Failure {
+    fn from(fault: Fault) -> Failure {
+        Failure::Unsound(fault)
+    }
+}
+
+impl From<AllocError> for Failure {
+    fn from(_refused: AllocError) -> Failure {
+        Failure::Unsound(Fault::OutOfMemory)
+    }
+}
+
+impl From<io::Error> for Failure {
+    fn from(_error: io::Error) -> Failure {
+        Failure::Unwritten
+    }
+}
+
+impl Display for Failure {
+    fn fmt<W: fmt::Write>(&self, f: &mut Formatter<W>) -> fmt::Result {
+        match self {
+            Failure::Unsound(Fault::Device) => f.write_str(
+                "the file can't be read, or another program has it",
+            ),
+            Failure::Unsound(Fault::NoIndex) => f.write_str("the file is no index"),
+            Failure::Unsound(Fault::Damaged(Some(gate))) => {
+                write!(f, "the file is damaged in the record at byte {gate}")
+            }
+            Failure::Unsound(fault) => fault.fmt(f),
+            Failure::Damaged => f.write_str("the file isn't sound"),
+            Failure::Unwritten => f.write_str("what is asked for can't be written"),
+        }
+    }
+}

@@ -1,0 +1,121 @@
+//! The list of what stands in a file.
+
+use crate::failure::Failure;
+use crate::records::{Record, records_before};
+use crate::sections::section_lengths;
+use bytes::Bytes;
+use definitions::Fault;
+use index_file::{IndexFile, Member, Part, read_segments_body};
+use std::alloc::Global;
+use std::io::Write;
+
+/// Writes what stands in the file of these `bytes`: the schema and the settings as the line that creates such an index,
+/// the records, the segments, and how many bytes no reader needs any more. Of a damaged file it writes what stands
+/// before the damage, and is refused.
+pub(crate) fn list<W: Write>(alloc: Global, bytes: &Bytes, out: &mut W) -> Result<(), Failure> {
+    match IndexFile::open(alloc, bytes.clone()?) {
+        Ok(file) => {
+            let new = list_records(alloc, bytes.as_slice(), file.gate, out)?;
+            let kept = list_segments(&file.members, out)?;
+            let replaced = new.saturating_sub(kept);
+            let behind = bytes.len().saturating_sub(file.gate).saturating_sub(1);
+            writeln!(out, "closed gate at {}", file.gate)?;
+            writeln!(
+                out,
+                "not read any more: {replaced} bytes of segments, {behind} behind the closed gate"
+            )?;
+            Ok(())
+        }
+        Err(Fault::Damaged(Some(gate))) => {
+            list_records(alloc, bytes.as_slice(), gate as usize, out)?;
+            Err(Failure::Unsound(Fault::Damaged(Some(gate))))
+        }
+        Err(fault) => Err(Failure::Unsound(fault)),
+    }
+}
+
+/// Writes the records before the gate at `end`; of the first one also the line that creates such an index. Returns how
+/// many bytes the segments have that are new in one of them.
+fn list_records<W: Write>(
+    alloc: Global,
+    bytes: &[u8],
+    end: usize,
+    out: &mut W,
+) -> Result<usize, Failure> {
+    let mut len: usize = 0;
+    for record in &records_before(alloc, bytes, end)? {
+        match record.body {
+            [1, making @ ..] => list_making(record, making, out)?,
+            _ => len = len.saturating_add(list_record(alloc, record, out)?),
+        }
+    }
+    Ok(len)
+}
+
+/// Writes the first record, whose JSON text is `making`, as the line that creates such an index.
+fn list_making<W: Write>(record: &Record<'_>, making: &[u8], out: &mut W) -> Result<(), Failure> {
+    let Ok(text) = str::from_utf8(making) else {
+        return Err(Failure::Unsound(Fault::Damaged(Some(record.gate as u64))));
+    };
+    let members = text.strip_prefix("{").unwrap_or(text);
+    writeln!(out, "{{\"op\":\"create\",{members}")?;
+    writeln!(
+        out,
+        "record at {}: {} bytes, schema and settings",
+        record.gate,
+        record.body.len()
+    )?;
+    Ok(())
+}
+
+/// Writes a record that lists segments, and returns how many bytes its new ones have.
+fn list_record<W: Write>(
+    alloc: Global,
+    record: &Record<'_>,
+    out: &mut W,
+) -> Result<usize, Failure> {
+    let len = record.body.len();
+    let Some(body) = read_segments_body(alloc, record.body)? else {
+        return Err(Failure::Unsound(Fault::Damaged(Some(record.gate as u64))));
+    };
+    let (new, new_len) = new_segments(&body.parts);
+    let all = body.parts.len();
+    writeln!(
+        out,
+        "record at {}: {len} bytes, segments: {all}, new ones: {new}",
+        record.gate
+    )?;
+    Ok(new_len)
+}
+
+/// Returns how many of `parts` are new segments, and how many bytes these have.
+fn new_segments(parts: &[Part<'_>]) -> (usize, usize) {
+    let mut new: usize = 0;
+    let mut len: usize = 0;
+    for part in parts {
+        if let Part::Fresh(bytes) = part {
+            new = new.saturating_add(1);
+            len = len.saturating_add(bytes.len());
+        }
+    }
+    (new, len)
+}
+
+/// Writes the segments that searches see, and returns how many bytes they have.
+fn list_segments<W: Write>(members: &[Member], out: &mut W) -> Result<usize, Failure> {
+    let mut len: usize = 0;
+    for (number, member) in members.iter().enumerate() {
+        let bytes = member.segment.to_bytes()?;
+        let sections = section_lengths(bytes.as_slice())?;
+        let living = member.alive.num_alive();
+        let docs = member.segment.num_docs();
+        writeln!(
+            out,
+            "segment {number}: documents: {docs}, alive: {living}, bytes: {}",
+            bytes.len()
+        )?;
+        writeln!(out, "    {sections}")?;
+        len = len.saturating_add(bytes.len());
+    }
+    Ok(len)
+}
