@@ -9,7 +9,7 @@ use Rattle.std.specs.Option.{option_map_or}
 use Rattle.std.specs.Prelude.{slice_range}
 use Rattle.segment_postings.specs.Placed.{term_of}
 use Rattle.definitions.specs.Analyzers.{Analyzer}
-use Rattle.definitions.specs.Postings.{postings}
+use Rattle.definitions.specs.Postings.{Posting, postings}
 use Rattle.definitions.specs.Schema.{IndexRecordOption, Schema}
 use Rattle.definitions.specs.Terms.{field_of, payload_of}
 use Rattle.definitions.specs.Values.{Document}
@@ -25,6 +25,7 @@ use Rattle.segment_reader.proofs.TermsHeld.{all_of_told, found_all}
 use Rattle.segment_reader.specs.Dictionaries.{Placed, terms_at}
 use Rattle.segment_reader.specs.FieldDictionaries.{EndsBy, IsFound, StandsAt, terms_in}
 use Rattle.segment_reader.specs.FieldKinds.{option_in}
+use Rattle.segment_reader.specs.NewCursors.{Posted, posted, posted_in}
 use Rattle.segment_reader.specs.OpenedTerms.{HasTerm, entries_of_postings}
 use Rattle.segment_reader.specs.Readers.{AreOfDocuments, Contents, IsInfo, Reader, dictionary_in, full_bounds, index_in, info_in, postings_held, postings_in, term_held, term_in}
 use Rattle.segment_reader.specs.declared.field_index.FieldIndex.{FieldIndex}
@@ -143,13 +144,15 @@ has_term r field key info contents option postings positions is recorded first s
 
 -- ---- a term that was looked up
 
--- its skip entries, by its bytes
-pub entries_held : (r : Reader) (contents : Contents r) (t : List ℕ) (field : ℕ) (key : List ℕ) (entries : List SkipEntry) → field ≡ field_of t → key ≡ payload_of t → term_of_key contents.schema (field_of t) (payload_of t) ≡ t → term_held contents.schema contents.fields t ≡ term_in contents.fields (field_of t) (payload_of t) → entries ≡ entries_of_postings (option_of_term contents.schema (term_of_key contents.schema field key)) (field_ids contents.norms field) (postings_in contents.fields field key) → entries ≡ entries_of_postings (option_of_term contents.schema t) (field_ids contents.norms (field_of t)) (postings_held contents.schema contents.fields t)
-entries_held r contents t field key entries number value whole same is =
-    is
-    ∙ ap₂ (λ n k. entries_of_postings (option_of_term contents.schema (term_of_key contents.schema n k)) (field_ids contents.norms n) (postings_in contents.fields n k)) number value
-    ∙ ap (λ u. entries_of_postings (option_of_term contents.schema u) (field_ids contents.norms (field_of t)) (postings_in contents.fields (field_of t) (payload_of t))) whole
-    ∙ ap (λ (o : Option IndexedTerm). entries_of_postings (option_of_term contents.schema t) (field_ids contents.norms (field_of t)) (option_map_or (λ x. x.postings) o [])) (sym same)
+abbrev posted_as : Schema → List (ℕ × List ℕ) → ℕ → List ℕ → List ℕ → List Posting → Posted
+posted_as schema norms n t u ps = record { postings = ps; option = option_of_term schema u; ids = field_ids norms (field_of t); num_docs = n }
+
+-- it is the same by its bytes
+pub posted_same : (r : Reader) (contents : Contents r) (t : List ℕ) (field : ℕ) (key : List ℕ) → field ≡ field_of t → key ≡ payload_of t → term_of_key contents.schema (field_of t) (payload_of t) ≡ t → term_held contents.schema contents.fields t ≡ term_in contents.fields (field_of t) (payload_of t) → posted_in contents field key ≡ posted contents t
+posted_same r contents t field key number value whole same =
+    ap₂ (λ n k. posted_in contents n k) number value
+    ∙ ap (λ u. posted_as contents.schema contents.norms contents.num_docs t u (postings_in contents.fields (field_of t) (payload_of t))) whole
+    ∙ ap (λ (o : Option IndexedTerm). posted_as contents.schema contents.norms contents.num_docs t t (option_map_or (λ x. x.postings) o [])) (sym same)
 
 -- and the bounds that they tell, where the terms are those of documents
 pub bounds_held : (r : Reader) (contents : Contents r) (t : List ℕ) (entries : List SkipEntry) (analyze : Analyzer) (docs : List Document) → AreOfDocuments r contents analyze docs → entries ≡ entries_of_postings (option_of_term contents.schema t) (field_ids contents.norms (field_of t)) (postings_held contents.schema contents.fields t) → map bound_in entries ≡ full_bounds contents.schema analyze t docs

@@ -9,6 +9,7 @@ pub mod CheckedTerms
 pub mod FieldDictionaries
 pub mod OpenedTerms
 pub mod Readers
+pub mod NewCursors
 pub mod Flags
 pub mod Together
 pub mod SegmentReaders

@@ -5,7 +5,6 @@ ghost use Rattle.std.specs.List.{AllByRecursion};
 ghost use Rattle.docsets.specs.Entries.{from};
 ghost use Rattle.definitions.specs.Analyzers.{Analyzer};
 ghost use Rattle.definitions.specs.Postings.{terminated};
-ghost use Rattle.definitions.specs.Schema.{has_freq};
 ghost use Rattle.definitions.specs.Terms.{field_of, payload_of};
 ghost use Rattle.definitions.specs.Values.{Document};
 ghost use Rattle.definitions.specs.declared.fault.Fault.TheVariants as faults;
@@ -13,15 +12,14 @@ ghost use Rattle.segment_definitions.specs.Keys.{AreKeyed};
 ghost use Rattle.segment_reader.specs.Dictionaries.{ahead};
 ghost use Rattle.segment_reader.specs.FieldDictionaries.{IsFound, dictionary_of};
 ghost use Rattle.segment_reader.specs.FieldKinds.{option_in};
-ghost use Rattle.segment_reader.specs.OpenedTerms.{entries_of_postings, entry_as, positions_asked};
-ghost use Rattle.segment_reader.specs.Readers.{AreKnown, AreOfDocuments, Contents, HasKind, IsInfo, IsReader, dictionary_in, full_bounds, index_in, info_in, postings_held, postings_in, term_held, term_in, tokens_held};
+ghost use Rattle.segment_reader.specs.NewCursors.{AreNewBlocks, IsAtStart, IsNewCursor, posted, posted_in};
+ghost use Rattle.segment_reader.specs.Readers.{AreKnown, AreOfDocuments, Contents, HasKind, IsInfo, IsReader, dictionary_in, full_bounds, index_in, info_in, postings_held, term_held, term_in, tokens_held};
 ghost use Rattle.segment_reader.specs.Searching.{between};
 ghost use Rattle.segment_reader.specs.declared.field_index.FieldIndex.{FieldIndex};
-ghost use Rattle.layouts.specs.InvertedIndexes.{AreSections, IndexedField, field_ids, option_of_term, term_of_key};
+ghost use Rattle.layouts.specs.InvertedIndexes.{AreSections, IndexedField, term_of_key};
 ghost use Rattle.layouts.specs.TermPostings.{bound_in};
 ghost use Rattle.options.specs.RecordOption.{record_option_of};
-ghost use Rattle.segment_postings.specs.BoundedBlocks.{AreBounded};
-ghost use Rattle.segment_postings.specs.Cursors.{blocks_decoded, counts_left, cursor_blocks, cursor_blocks_decoded, cursor_doc_freq, cursor_place, cursor_positions, doc_freq_of, docs_left, entries_left, skips_left, skips_reached};
+ghost use Rattle.segment_postings.specs.Cursors.{blocks_decoded, cursor_blocks, cursor_doc_freq, doc_freq_of, skips_left};
 ghost use Rattle.terms.specs.Kinds.{kind_of};
 
 use crate::field_index::FieldIndex;
@@ -292,27 +290,9 @@ impl InvertedIndexReader {
     ) -> SegmentPostings<'_>
         requires { info_in value_bytes.now (dictionary_in self.now field) ≡ Some term_info.now }
         ensures ok { (contents : Contents self.now)
-            → entries_left result
-            ≡ map (entry_as (record_option_of option)) (postings_in contents.fields field value_bytes.now) }
-        ensures present { 0 < length (entries_left result) }
-        ensures decoded { cursor_blocks_decoded result ≡ 1 }
+            → IsNewCursor (record_option_of option) (posted_in contents field value_bytes.now) result }
+        ensures start { IsAtStart result }
         ensures doc_freq { cursor_doc_freq result ≡ term_info.now.doc_freq }
-        ensures within { (contents : Contents self.now)
-            → from contents.num_docs (entries_left result) ≡ [] }
-        ensures skips { (contents : Contents self.now)
-            → skips_left (cursor_blocks result)
-            ≡ entries_of_postings
-            (option_of_term contents.schema (term_of_key contents.schema field value_bytes.now))
-            (field_ids contents.norms field)
-            (postings_in contents.fields field value_bytes.now) }
-        ensures bounded { (contents : Contents self.now)
-            → AreBounded (field_ids contents.norms field) (skips_left (cursor_blocks result))
-            (docs_left (cursor_blocks result)) (counts_left (cursor_blocks result)) }
-        ensures place { cursor_place result ≡ 0 }
-        ensures reached { skips_reached (cursor_blocks result) ≡ skips_left (cursor_blocks result) }
-        ensures positions { (contents : Contents self.now)
-            → cursor_positions result
-            ≡ positions_asked (record_option_of option) (postings_in contents.fields field value_bytes.now) }
     {
         let recorded = self.option_of(field, value_bytes);
         let (postings, positions) = self.bytes_of(term_info);
@@ -326,34 +306,14 @@ impl InvertedIndexReader {
         option: IndexRecordOption,
     ) -> Option<SegmentPostings<'_>>
         ensures some { (contents : Contents self.now)
-            → IfSome result (λ p. entries_left p
-            ≡ map (entry_as (record_option_of option)) (postings_held contents.schema contents.fields term.now)) }
+            → IfSome result (IsNewCursor (record_option_of option) (posted contents term.now)) }
         ensures none { (contents : Contents self.now)
             → IfNone result (postings_held contents.schema contents.fields term.now ≡ []) }
-        ensures present { IfSome result (λ p. 0 < length (entries_left p)) }
-        ensures decoded { IfSome result (λ p. cursor_blocks_decoded p ≡ 1) }
-        ensures within { (contents : Contents self.now)
-            → IfSome result (λ p. from contents.num_docs (entries_left p) ≡ []) }
-        ensures doc_freq { (contents : Contents self.now)
-            → IfSome result (λ p. cursor_doc_freq p ≡ length (postings_held contents.schema contents.fields term.now)) }
-        ensures skips { (contents : Contents self.now)
-            → IfSome result (λ p. skips_left (cursor_blocks p)
-            ≡ entries_of_postings
-            (option_of_term contents.schema term.now)
-            (field_ids contents.norms (field_of term.now))
-            (postings_held contents.schema contents.fields term.now)) }
+        ensures start { IfSome result IsAtStart }
         ensures bounds { (contents : Contents self.now) (analyze : Analyzer) (docs : List Document)
             → AreOfDocuments self.now contents analyze docs
             → IfSome result (λ p. map bound_in (skips_left (cursor_blocks p))
             ≡ full_bounds contents.schema analyze term.now docs) }
-        ensures bounded { (contents : Contents self.now)
-            → IfSome result (λ p. AreBounded (field_ids contents.norms (field_of term.now))
-            (skips_left (cursor_blocks p)) (docs_left (cursor_blocks p)) (counts_left (cursor_blocks p))) }
-        ensures place { IfSome result (λ p. cursor_place p ≡ 0) }
-        ensures reached { IfSome result (λ p. skips_reached (cursor_blocks p) ≡ skips_left (cursor_blocks p)) }
-        ensures positions { (contents : Contents self.now)
-            → IfSome result (λ p. cursor_positions p
-            ≡ positions_asked (record_option_of option) (postings_held contents.schema contents.fields term.now)) }
     {
         let term_info = self.get_term_info(term)?;
         let value_bytes = term.serialized_value_bytes();
@@ -369,21 +329,10 @@ impl InvertedIndexReader {
         option: IndexRecordOption,
     ) -> BlockSegmentPostings<'_>
         requires { info_in value_bytes.now (dictionary_in self.now field) ≡ Some term_info.now }
-        ensures docs { (contents : Contents self.now)
-            → docs_left result ≡ map (λ x. x.doc) (postings_in contents.fields field value_bytes.now) }
-        ensures counts { (contents : Contents self.now)
-            → counts_left result ≡ map (λ x. if has_freq (record_option_of option) then x.count else 1)
-            (postings_in contents.fields field value_bytes.now) }
+        ensures ok { (contents : Contents self.now)
+            → AreNewBlocks (record_option_of option) (posted_in contents field value_bytes.now) result }
         ensures decoded { blocks_decoded result ≡ 1 }
         ensures doc_freq { doc_freq_of result ≡ term_info.now.doc_freq }
-        ensures within { (contents : Contents self.now)
-            → AllByRecursion (λ doc. doc < contents.num_docs) (docs_left result) }
-        ensures skips { (contents : Contents self.now)
-            → skips_left result
-            ≡ entries_of_postings
-            (option_of_term contents.schema (term_of_key contents.schema field value_bytes.now))
-            (field_ids contents.norms field)
-            (postings_in contents.fields field value_bytes.now) }
     {
         let recorded = self.option_of(field, value_bytes);
         let (postings, _) = self.bytes_of(term_info);
@@ -396,26 +345,11 @@ impl InvertedIndexReader {
         term: &Term,
         option: IndexRecordOption,
     ) -> Option<BlockSegmentPostings<'_>>
-        ensures docs { (contents : Contents self.now)
-            → IfSome result (λ p. docs_left p
-            ≡ map (λ x. x.doc) (postings_held contents.schema contents.fields term.now)) }
-        ensures counts { (contents : Contents self.now)
-            → IfSome result (λ p. counts_left p
-            ≡ map (λ x. if has_freq (record_option_of option) then x.count else 1)
-            (postings_held contents.schema contents.fields term.now)) }
+        ensures some { (contents : Contents self.now)
+            → IfSome result (AreNewBlocks (record_option_of option) (posted contents term.now)) }
         ensures none { (contents : Contents self.now)
             → IfNone result (postings_held contents.schema contents.fields term.now ≡ []) }
         ensures decoded { IfSome result (λ p. blocks_decoded p ≡ 1) }
-        ensures within { (contents : Contents self.now)
-            → IfSome result (λ p. AllByRecursion (λ doc. doc < contents.num_docs) (docs_left p)) }
-        ensures doc_freq { (contents : Contents self.now)
-            → IfSome result (λ p. doc_freq_of p ≡ length (postings_held contents.schema contents.fields term.now)) }
-        ensures skips { (contents : Contents self.now)
-            → IfSome result (λ p. skips_left p
-            ≡ entries_of_postings
-            (option_of_term contents.schema term.now)
-            (field_ids contents.norms (field_of term.now))
-            (postings_held contents.schema contents.fields term.now)) }
         ensures bounds { (contents : Contents self.now) (analyze : Analyzer) (docs : List Document)
             → AreOfDocuments self.now contents analyze docs
             → IfSome result (λ p. map bound_in (skips_left p)

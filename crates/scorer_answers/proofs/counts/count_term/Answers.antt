@@ -15,7 +15,7 @@ returns-in_default c schema analyze option rows has =
 
 -- src/counts.rt:71:31
 pub count-requires : goal.count-requires
-count-requires c = held_within c.args.reader.now c.inverted_index-index.result.now _ (entries_left c.in-Some-read_postings.postings) c.inverted_index-index.ensures c.in-Some.ensures.each c.in-Some-read_postings.ensures.within
+count-requires c = held_within c.args.reader.now c.inverted_index-index.result.now _ (entries_left c.in-Some-read_postings.postings) c.inverted_index-index.ensures c.in-Some.ensures.each (λ contents. (c.in-Some-read_postings.ensures.some contents).within)
 
 -- src/counts.rt:61:1
 pub returns-in-Some-read_postings : goal.returns-in-Some-read_postings
@@ -23,7 +23,7 @@ returns-in-Some-read_postings c schema analyze option rows has =
     let es = entries_left c.in-Some-read_postings.postings in
     c.count.ensures.count
     ∙ term_alive schema analyze rows c.args.reader.now has c.args.term.now option basic es c.in-Some.alive.now c.in-Some.ensures.some
-    (of_documents (λ ps. es ≡ map (entry_as basic) ps) schema analyze (documents_in rows) c.args.reader.now c.inverted_index-index.result.now c.args.term.now has.stands c.inverted_index-index.ensures c.in-Some-read_postings.ensures.some)
+    (of_documents (λ ps. es ≡ map (entry_as basic) ps) schema analyze (documents_in rows) c.args.reader.now c.inverted_index-index.result.now c.args.term.now has.stands c.inverted_index-index.ensures (λ contents. (c.in-Some-read_postings.ensures.some contents).entries))
 
 -- src/counts.rt:61:1
 pub returns-in-None : goal.returns-in-None

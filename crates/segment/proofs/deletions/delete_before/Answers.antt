@@ -16,7 +16,7 @@ kill_postings-requires c =
     let flags = c.args.alive.now in
     let docs = docs_left c.in-Some.postings in
     ∥∥₁_elim c.args.segment.now.opened (all_below (length flags) docs) (λ o.
-    (let within = subst (λ (r : Reader). (contents : Contents r) → AllByRecursion (λ doc. doc < contents.num_docs) docs) c.inverted_index-index.ensures c.in-Some.ensures.within in
+    (let within = subst (λ (r : Reader). (contents : Contents r) → AllByRecursion (λ doc. doc < contents.num_docs) docs) c.inverted_index-index.ensures (λ contents. (c.in-Some.ensures.some contents).within) in
     subst (λ n. AllByRecursion (λ doc. doc < n) docs) (sym c.requires.flagged) (within (opened_contents o.0 c.args.segment.now o.1))))
 
 pub returns-in-Some-clause-dead : goal.returns-in-Some-clause-dead
@@ -25,7 +25,7 @@ returns-in-Some-clause-dead c schema analyze i docs stands =
     let t = c.args.term.now in
     let flags = c.args.alive.now in
     let left = docs_left c.in-Some.postings in
-    let told = subst (λ (r : Reader). (contents : Contents r) → left ≡ map (λ (x : Posting). x.doc) (postings_held contents.schema contents.fields t)) c.inverted_index-index.ensures c.in-Some.ensures.docs in
+    let told = subst (λ (r : Reader). (contents : Contents r) → left ≡ map (λ (x : Posting). x.doc) (postings_held contents.schema contents.fields t)) c.inverted_index-index.ensures (λ contents. (c.in-Some.ensures.some contents).docs) in
     let found = told (documents_contents schema analyze docs s stands) ∙ ap (λ (ps : List Posting). map (λ (x : Posting). x.doc) ps) (documents_held schema analyze docs s stands t) in
     let end = c.args.end in
     ap (flagged docs) (c.kill_postings.ensures ∙ ap (λ ds. killed (before end ds) flags) found) ∙ killed_rows schema analyze t end i docs flags (c.requires.flagged ∙ documents_many schema analyze docs s stands)

@@ -23,23 +23,23 @@ returns-in_default-clause-some c schema fields is =
     sym (ap (λ ps. has_some (living_of c.args.self.now.doc_ids ps)) (none_held schema c.args.self.now fields c.args.field c.args.key.now is none))
 
 pub write_postings-requires-clause-within : goal.write_postings-requires-clause-within
-write_postings-requires-clause-within c = none_from (length c.args.self.now.doc_ids.flags) _ (∥∥₁_map c.requires.known (λ k. c.read_postings_from_terminfo-postings.ensures.within (contents_of k.0 c.args.self.now k.1 k.2)))
+write_postings-requires-clause-within c = none_from (length c.args.self.now.doc_ids.flags) _ (∥∥₁_map c.requires.known (λ k. (c.read_postings_from_terminfo-postings.ensures.ok (contents_of k.0 c.args.self.now k.1 k.2)).within))
 
 pub write_postings-requires-clause-counted : goal.write_postings-requires-clause-counted
 write_postings-requires-clause-counted c = ∥∥₁_elim c.requires.known (AllByRecursion-prop (λ (e : Entry). 0 < e.count) (λ e. hlevel props) _)
-    (λ k. entries_counted _ (postings_in k.1 c.args.field c.args.key.now) (c.read_postings_from_terminfo-postings.ensures.ok (contents_of k.0 c.args.self.now k.1 k.2)) (counts_held k.0 c.args.self.now k.1 c.args.field c.args.key.now k.2))
+    (λ k. entries_counted _ (postings_in k.1 c.args.field c.args.key.now) (c.read_postings_from_terminfo-postings.ensures.ok (contents_of k.0 c.args.self.now k.1 k.2)).entries (counts_held k.0 c.args.self.now k.1 c.args.field c.args.key.now k.2))
 
 pub returns-clause-ok : goal.returns-clause-ok
 returns-clause-ok c schema fields is =
-    let told = living_entries c.args.self.now.doc_ids _ (postings_in fields c.args.field c.args.key.now) (c.read_postings_from_terminfo-postings.ensures.ok (contents_of schema c.args.self.now fields is)) in
+    let told = living_entries c.args.self.now.doc_ids _ (postings_in fields c.args.field c.args.key.now) (c.read_postings_from_terminfo-postings.ensures.ok (contents_of schema c.args.self.now fields is)).entries in
     subst (λ ps. OnOk c.write_postings.result (AreWritten c.args.serializer.now c.write_postings.new.serializer ps)) told c.write_postings.ensures.ok
 
 pub returns-clause-some : goal.returns-clause-some
 returns-clause-some c schema fields is =
-    let told = living_entries c.args.self.now.doc_ids _ (postings_in fields c.args.field c.args.key.now) (c.read_postings_from_terminfo-postings.ensures.ok (contents_of schema c.args.self.now fields is)) in
+    let told = living_entries c.args.self.now.doc_ids _ (postings_in fields c.args.field c.args.key.now) (c.read_postings_from_terminfo-postings.ensures.ok (contents_of schema c.args.self.now fields is)).entries in
     subst (λ ps. IfOk c.write_postings.result (λ some. some ≡ has_some ps)) told c.write_postings.ensures.some
 
 pub returns-clause-err : goal.returns-clause-err
 returns-clause-err c schema fields docs counts numbers is opened =
-    let told = living_entries c.args.self.now.doc_ids _ (postings_in fields c.args.field c.args.key.now) (c.read_postings_from_terminfo-postings.ensures.ok (contents_of schema c.args.self.now fields is)) in
+    let told = living_entries c.args.self.now.doc_ids _ (postings_in fields c.args.field c.args.key.now) (c.read_postings_from_terminfo-postings.ensures.ok (contents_of schema c.args.self.now fields is)).entries in
     subst (λ ps. IfErr c.write_postings.result (λ fault. IsWriteRefusal fault (counts ++ counts_in c.args.serializer.now ps))) told (c.write_postings.ensures.err docs counts numbers opened)

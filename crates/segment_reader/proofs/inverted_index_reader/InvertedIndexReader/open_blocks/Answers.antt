@@ -1,6 +1,7 @@
 use Rattle.std.proofs.Common.{List, ap, subst, sym, ◌<◌, ◌∙◌, ℕ}
 use Rattle.std.proofs.Math.Logic.{∥∥₁_map}
 use Rattle.std.specs.List.{AllByRecursion}
+use Rattle.definitions.specs.Postings.{Posting}
 use Rattle.layouts.specs.InvertedIndexes.{field_ids}
 use Rattle.options.specs.RecordOption.{record_option_of}
 use Rattle.segment_reader.proofs.PostingsFound.{has_term, is_info, option_told}
@@ -15,19 +16,17 @@ bytes_of-requires c = is_info c.args.self.now c.args.field c.args.value_bytes.no
 pub open_term_blocks-requires : goal.open_term_blocks-requires
 open_term_blocks-requires c = ∥∥₁_map c.option_of-recorded.ensures.known (λ contents. (postings_in contents.fields c.args.field c.args.value_bytes.now, c.bytes_of.result.1.now, has_term c.args.self.now c.args.field c.args.value_bytes.now c.args.term_info.now contents (record_option_of c.option_of-recorded.result) c.bytes_of.result.0.now c.bytes_of.result.1.now c.requires c.option_of-recorded.ensures.option c.bytes_of.ensures.postings c.bytes_of.ensures.positions))
 
-pub returns-clause-docs : goal.returns-clause-docs
-returns-clause-docs c contents = c.open_term_blocks.ensures.docs (postings_in contents.fields c.args.field c.args.value_bytes.now) c.bytes_of.result.1.now (has_term c.args.self.now c.args.field c.args.value_bytes.now c.args.term_info.now contents (record_option_of c.option_of-recorded.result) c.bytes_of.result.0.now c.bytes_of.result.1.now c.requires c.option_of-recorded.ensures.option c.bytes_of.ensures.postings c.bytes_of.ensures.positions)
-
-pub returns-clause-counts : goal.returns-clause-counts
-returns-clause-counts c contents = c.open_term_blocks.ensures.counts (postings_in contents.fields c.args.field c.args.value_bytes.now) c.bytes_of.result.1.now (has_term c.args.self.now c.args.field c.args.value_bytes.now c.args.term_info.now contents (record_option_of c.option_of-recorded.result) c.bytes_of.result.0.now c.bytes_of.result.1.now c.requires c.option_of-recorded.ensures.option c.bytes_of.ensures.postings c.bytes_of.ensures.positions)
-
-pub returns-clause-within : goal.returns-clause-within
-returns-clause-within c contents =
-    let known = (has_term c.args.self.now c.args.field c.args.value_bytes.now c.args.term_info.now contents (record_option_of c.option_of-recorded.result) c.bytes_of.result.0.now c.bytes_of.result.1.now c.requires c.option_of-recorded.ensures.option c.bytes_of.ensures.postings c.bytes_of.ensures.positions) in
+pub returns-clause-ok : goal.returns-clause-ok
+returns-clause-ok c contents =
+    let ps : List Posting = postings_in contents.fields c.args.field c.args.value_bytes.now in
+    let positions : List ℕ = c.bytes_of.result.1.now in
+    let known = has_term c.args.self.now c.args.field c.args.value_bytes.now c.args.term_info.now contents (record_option_of c.option_of-recorded.result) c.bytes_of.result.0.now c.bytes_of.result.1.now c.requires c.option_of-recorded.ensures.option c.bytes_of.ensures.postings c.bytes_of.ensures.positions in
+    let docs = c.open_term_blocks.ensures.docs ps positions known in
     let P : List ℕ → Type 0 = AllByRecursion (λ doc. doc < contents.num_docs) in
-    subst P (sym (c.open_term_blocks.ensures.docs (postings_in contents.fields c.args.field c.args.value_bytes.now) c.bytes_of.result.1.now known)) (docs_within _ contents.num_docs (postings_in contents.fields c.args.field c.args.value_bytes.now) known.is.each)
-
-pub returns-clause-skips : goal.returns-clause-skips
-returns-clause-skips c contents =
-    let known = (has_term c.args.self.now c.args.field c.args.value_bytes.now c.args.term_info.now contents (record_option_of c.option_of-recorded.result) c.bytes_of.result.0.now c.bytes_of.result.1.now c.requires c.option_of-recorded.ensures.option c.bytes_of.ensures.postings c.bytes_of.ensures.positions) in
-    c.open_term_blocks.ensures.skips (postings_in contents.fields c.args.field c.args.value_bytes.now) c.bytes_of.result.1.now known ∙ ap (λ o. entries_of_postings o (field_ids contents.norms c.args.field) (postings_in contents.fields c.args.field c.args.value_bytes.now)) (option_told c.args.self.now c.args.field c.args.value_bytes.now c.args.term_info.now contents (record_option_of c.option_of-recorded.result) c.requires c.option_of-recorded.ensures.option)
+    record {
+      docs = docs;
+      counts = c.open_term_blocks.ensures.counts ps positions known;
+      doc_freq = c.open_term_blocks.ensures.doc_freq ∙ sym known.many;
+      within = subst P (sym docs) (docs_within _ contents.num_docs ps known.is.each);
+      skips = c.open_term_blocks.ensures.skips ps positions known ∙ ap (λ o. entries_of_postings o (field_ids contents.norms c.args.field) ps) (option_told c.args.self.now c.args.field c.args.value_bytes.now c.args.term_info.now contents (record_option_of c.option_of-recorded.result) c.requires c.option_of-recorded.ensures.option);
+    }

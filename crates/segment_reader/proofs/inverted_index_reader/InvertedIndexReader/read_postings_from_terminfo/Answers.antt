@@ -1,4 +1,4 @@
-use Rattle.std.proofs.Common.{[], List, ap, arith, length, subst, sym, ◌≡◌, ◌∙◌}
+use Rattle.std.proofs.Common.{[], List, ap, arith, length, subst, sym, ◌<◌, ◌≡◌, ◌∙◌}
 use Rattle.std.proofs.Math.Logic.{∥∥₁_elim, ∥∥₁_map}
 use Rattle.std.proofs.Props.{props}
 use Rattle.std.proofs.lemmas.List.{length-map}
@@ -6,6 +6,7 @@ use Rattle.definitions.specs.Postings.{Posting}
 use Rattle.docsets.specs.Entries.{Entry, from}
 use Rattle.layouts.specs.InvertedIndexes.{field_ids}
 use Rattle.options.specs.RecordOption.{record_option_of}
+use Rattle.segment_postings.specs.Cursors.{entries_left}
 use Rattle.segment_reader.proofs.PostingsFound.{has_term, is_info, option_told}
 use Rattle.segment_reader.proofs.OpenedPostings.{entries_within}
 use Rattle.segment_reader.specs.OpenedTerms.{entries_of_postings, entry_as}
@@ -19,31 +20,29 @@ pub open_term-requires : goal.open_term-requires
 open_term-requires c = ∥∥₁_map c.option_of-recorded.ensures.known (λ contents. (postings_in contents.fields c.args.field c.args.value_bytes.now, has_term c.args.self.now c.args.field c.args.value_bytes.now c.args.term_info.now contents (record_option_of c.option_of-recorded.result) c.bytes_of.result.0.now c.bytes_of.result.1.now c.requires c.option_of-recorded.ensures.option c.bytes_of.ensures.postings c.bytes_of.ensures.positions))
 
 pub returns-clause-ok : goal.returns-clause-ok
-returns-clause-ok c contents = c.open_term.ensures.entries (postings_in contents.fields c.args.field c.args.value_bytes.now) (has_term c.args.self.now c.args.field c.args.value_bytes.now c.args.term_info.now contents (record_option_of c.option_of-recorded.result) c.bytes_of.result.0.now c.bytes_of.result.1.now c.requires c.option_of-recorded.ensures.option c.bytes_of.ensures.postings c.bytes_of.ensures.positions)
+returns-clause-ok c contents =
+    let ps : List Posting = postings_in contents.fields c.args.field c.args.value_bytes.now in
+    let known = has_term c.args.self.now c.args.field c.args.value_bytes.now c.args.term_info.now contents (record_option_of c.option_of-recorded.result) c.bytes_of.result.0.now c.bytes_of.result.1.now c.requires c.option_of-recorded.ensures.option c.bytes_of.ensures.postings c.bytes_of.ensures.positions in
+    let entries = c.open_term.ensures.entries ps known in
+    let P : List Entry → Type 0 = λ es. from contents.num_docs es ≡ [] in
+    record {
+      entries = entries;
+      doc_freq = c.open_term.ensures.doc_freq ∙ sym known.many;
+      within = subst P (sym entries) (entries_within (record_option_of c.args.option) _ contents.num_docs ps known.is.each);
+      skips = c.open_term.ensures.skips ps known ∙ ap (λ o. entries_of_postings o (field_ids contents.norms c.args.field) ps) (option_told c.args.self.now c.args.field c.args.value_bytes.now c.args.term_info.now contents (record_option_of c.option_of-recorded.result) c.requires c.option_of-recorded.ensures.option);
+      bounded = c.open_term.ensures.bounded ps known;
+      positions = c.open_term.ensures.positions ps known;
+    }
 
-pub returns-clause-present : goal.returns-clause-present
-returns-clause-present c =
+pub returns-clause-start : goal.returns-clause-start
+returns-clause-start c =
+    let opened = c.open_term.ensures in
+    let present : 0 < length (entries_left c.open_term.result) =
     ∥∥₁_elim c.option_of-recorded.ensures.known (hlevel props) (λ contents.
     (let ps : List Posting = postings_in contents.fields c.args.field c.args.value_bytes.now in
     let known = has_term c.args.self.now c.args.field c.args.value_bytes.now c.args.term_info.now contents (record_option_of c.option_of-recorded.result) c.bytes_of.result.0.now c.bytes_of.result.1.now c.requires c.option_of-recorded.ensures.option c.bytes_of.ensures.postings c.bytes_of.ensures.positions in
     let some = known.is.some in
     let same = ap length (c.open_term.ensures.entries ps known) in
     let long = length-map ps (entry_as (record_option_of c.args.option)) in
-    omega (arith, some, same, long)))
-
-pub returns-clause-within : goal.returns-clause-within
-returns-clause-within c contents =
-    let known = (has_term c.args.self.now c.args.field c.args.value_bytes.now c.args.term_info.now contents (record_option_of c.option_of-recorded.result) c.bytes_of.result.0.now c.bytes_of.result.1.now c.requires c.option_of-recorded.ensures.option c.bytes_of.ensures.postings c.bytes_of.ensures.positions) in
-    let P : List Entry → Type 0 = λ es. from contents.num_docs es ≡ [] in
-    subst P (sym (c.open_term.ensures.entries (postings_in contents.fields c.args.field c.args.value_bytes.now) known)) (entries_within (record_option_of c.args.option) _ contents.num_docs (postings_in contents.fields c.args.field c.args.value_bytes.now) known.is.each)
-
-pub returns-clause-skips : goal.returns-clause-skips
-returns-clause-skips c contents =
-    let known = (has_term c.args.self.now c.args.field c.args.value_bytes.now c.args.term_info.now contents (record_option_of c.option_of-recorded.result) c.bytes_of.result.0.now c.bytes_of.result.1.now c.requires c.option_of-recorded.ensures.option c.bytes_of.ensures.postings c.bytes_of.ensures.positions) in
-    c.open_term.ensures.skips (postings_in contents.fields c.args.field c.args.value_bytes.now) known ∙ ap (λ o. entries_of_postings o (field_ids contents.norms c.args.field) (postings_in contents.fields c.args.field c.args.value_bytes.now)) (option_told c.args.self.now c.args.field c.args.value_bytes.now c.args.term_info.now contents (record_option_of c.option_of-recorded.result) c.requires c.option_of-recorded.ensures.option)
-
-pub returns-clause-positions : goal.returns-clause-positions
-returns-clause-positions c contents = c.open_term.ensures.positions (postings_in contents.fields c.args.field c.args.value_bytes.now) (has_term c.args.self.now c.args.field c.args.value_bytes.now c.args.term_info.now contents (record_option_of c.option_of-recorded.result) c.bytes_of.result.0.now c.bytes_of.result.1.now c.requires c.option_of-recorded.ensures.option c.bytes_of.ensures.postings c.bytes_of.ensures.positions)
-
-pub returns-clause-bounded : goal.returns-clause-bounded
-returns-clause-bounded c contents = c.open_term.ensures.bounded (postings_in contents.fields c.args.field c.args.value_bytes.now) (has_term c.args.self.now c.args.field c.args.value_bytes.now c.args.term_info.now contents (record_option_of c.option_of-recorded.result) c.bytes_of.result.0.now c.bytes_of.result.1.now c.requires c.option_of-recorded.ensures.option c.bytes_of.ensures.postings c.bytes_of.ensures.positions)
+    omega (arith, some, same, long))) in
+    record { present = present; decoded = opened.decoded; place = opened.place; reached = opened.reached }

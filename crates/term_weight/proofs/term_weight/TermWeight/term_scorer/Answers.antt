@@ -22,12 +22,12 @@ returns-in_err-postings-clause-none c schema analyze sim docs stands =
     if_none c.from_residual.result (none_found schema analyze docs c.args.reader.now stands sim (natural c.args.boost) (term_of c.args.self.now) (option_asked c.args.self.now) c.inverted_index-index.result.now c.inverted_index-index.ensures c.in_err-postings.ensures.none)
 
 pub new-requires-clause-covered : goal.new-requires-clause-covered
-new-requires-clause-covered c = all_within c.args.reader.now c.inverted_index-index.result.now _ (entries_left c.in_ok-postings.postings) c.inverted_index-index.ensures c.lengths_of_field.ensures.each c.in_ok-postings.ensures.within
+new-requires-clause-covered c = all_within c.args.reader.now c.inverted_index-index.result.now _ (entries_left c.in_ok-postings.postings) c.inverted_index-index.ensures c.lengths_of_field.ensures.each (λ contents. (c.in_ok-postings.ensures.some contents).within)
 
 pub new-requires-clause-bounded : goal.new-requires-clause-bounded
 new-requires-clause-bounded c =
     let blocks = cursor_blocks c.in_ok-postings.postings in
-    bounds_found c.args.reader.now c.inverted_index-index.result.now c.field.result (field_of (term_of c.args.self.now)) c.lengths_of_field.result (skips_left blocks) (docs_left blocks) (counts_left blocks) c.inverted_index-index.ensures c.field.ensures c.lengths_of_field.ensures.kept c.in_ok-postings.ensures.bounded
+    bounds_found c.args.reader.now c.inverted_index-index.result.now c.field.result (field_of (term_of c.args.self.now)) c.lengths_of_field.result (skips_left blocks) (docs_left blocks) (counts_left blocks) c.inverted_index-index.ensures c.field.ensures c.lengths_of_field.ensures.kept (λ contents. (c.in_ok-postings.ensures.some contents).bounded)
 
 pub returns-clause-some : goal.returns-clause-some
 returns-clause-some c schema analyze sim docs stands scores =
@@ -36,13 +36,13 @@ returns-clause-some c schema analyze sim docs stands scores =
     let fits : SFits w64 c.args.boost = search rules in
     let boost : natural (to_z w64 (of_z w64 c.args.boost)) ≡ natural c.args.boost = ap natural (to_z-of_z w64 c.args.boost fits) in
     ap pairs_of c.new.ensures.entries
-    ∙ scored_found schema analyze docs c.args.reader.now stands sim (natural c.args.boost) (term_of c.args.self.now) (option_asked c.args.self.now) c.inverted_index-index.result.now (similarity_data c.new-similarity.result) c.lengths_of_field.result (entries_left c.in_ok-postings.postings) c.inverted_index-index.ensures (c.new-similarity.ensures ∙ weighed _ _ _ _ _ _ weight boost (sym scores.norms_are)) (subst (λ field. AreIds (length_id schema analyze field) docs c.lengths_of_field.result) c.field.ensures (c.lengths_of_field.ensures.ids schema analyze docs stands)) c.in_ok-postings.ensures.some
+    ∙ scored_found schema analyze docs c.args.reader.now stands sim (natural c.args.boost) (term_of c.args.self.now) (option_asked c.args.self.now) c.inverted_index-index.result.now (similarity_data c.new-similarity.result) c.lengths_of_field.result (entries_left c.in_ok-postings.postings) c.inverted_index-index.ensures (c.new-similarity.ensures ∙ weighed _ _ _ _ _ _ weight boost (sym scores.norms_are)) (subst (λ field. AreIds (length_id schema analyze field) docs c.lengths_of_field.result) c.field.ensures (c.lengths_of_field.ensures.ids schema analyze docs stands)) (λ contents. (c.in_ok-postings.ensures.some contents).entries)
 
 pub returns-clause-present : goal.returns-clause-present
 returns-clause-present c =
     let same = ap length c.new.ensures.entries in
     let long = length-scored (similarity_data c.new-similarity.result) c.lengths_of_field.result (entries_left c.in_ok-postings.postings) in
-    let some = c.in_ok-postings.ensures.present in
+    let some = c.in_ok-postings.ensures.start.present in
     omega (arith, same, long, some)
 
 pub returns-clause-within : goal.returns-clause-within
@@ -50,7 +50,7 @@ returns-clause-within c =
     let n = max_doc_of c.args.reader.now in
     let es = entries_left c.in_ok-postings.postings in
     ap (from n) c.new.ensures.entries
-    ∙ scored_within n (similarity_data c.new-similarity.result) c.lengths_of_field.result es (all_within c.args.reader.now c.inverted_index-index.result.now n es c.inverted_index-index.ensures refl c.in_ok-postings.ensures.within)
+    ∙ scored_within n (similarity_data c.new-similarity.result) c.lengths_of_field.result es (all_within c.args.reader.now c.inverted_index-index.result.now n es c.inverted_index-index.ensures refl (λ contents. (c.in_ok-postings.ensures.some contents).within))
 
 pub returns-clause-bounded : goal.returns-clause-bounded
 returns-clause-bounded c =
@@ -72,7 +72,7 @@ returns-clause-similarity c sim scores =
     c.new.ensures.similarity ∙ (c.new-similarity.ensures ∙ weighed _ _ _ _ _ _ weight boost (sym scores.norms_are))
 
 pub returns-clause-opened : goal.returns-clause-opened
-returns-clause-opened c = (ap cursor_blocks_decoded c.new.ensures.cursor ∙ c.in_ok-postings.ensures.decoded, ap cursor_place c.new.ensures.cursor ∙ c.in_ok-postings.ensures.place)
+returns-clause-opened c = (ap cursor_blocks_decoded c.new.ensures.cursor ∙ c.in_ok-postings.ensures.start.decoded, ap cursor_place c.new.ensures.cursor ∙ c.in_ok-postings.ensures.start.place)
 
 pub returns-clause-blocks : goal.returns-clause-blocks
 returns-clause-blocks c schema analyze docs stands =
