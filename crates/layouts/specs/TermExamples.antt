@@ -1,13 +1,22 @@
 -- Terms of fields that examples share.
-use Rattle.std.specs.Prelude.{[], ◌∷◌, List, codes, map, ℕ}
+use Rattle.std.specs.Prelude.{[], ◌+◌, ◌∷◌, List, codes, map, suc, zero, ℕ}
 use Rattle.std.specs.Int.{to_be_bytes, w64}
 use Rattle.definitions.specs.Postings.{Posting}
 use Rattle.layouts.specs.InvertedIndexes.{IndexedField, IndexedTerm}
-use Rattle.layouts.specs.TermSections.{FieldTerms}
+use Rattle.layouts.specs.TermSections.{FieldTerms, Told}
 
 -- two terms of one field, and one of another
 abbrev pub two_fields : List FieldTerms
 two_fields = record { field = 0; num_tokens = 3; terms = (codes "a", record { doc_freq = 1; postings_len = 2; positions_len = 5 }) ∷ (codes "b", record { doc_freq = 1; postings_len = 3; positions_len = 7 }) ∷ [] } ∷ record { field = 1; num_tokens = 1; terms = (codes "a", record { doc_freq = 1; postings_len = 1; positions_len = 0 }) ∷ [] } ∷ []
+
+-- terms of one document each
+abbrev pub of_one : List (List ℕ) → List Told
+of_one keys = map (λ key. (key, record { doc_freq = 1; postings_len = 1; positions_len = 0 })) keys
+
+-- so many keys of one letter, from a letter on
+abbrev pub letters : ℕ → ℕ → List (List ℕ)
+letters first zero = []
+letters first (suc n) = (first ∷ []) ∷ letters (first + 1) n
 
 -- a document with its count and positions
 abbrev pub posting : ℕ → ℕ → List ℕ → Posting

@@ -1,5 +1,5 @@
 -- The section of a segment that lists the terms of its fields, and where their postings and positions stand.
-use Rattle.std.specs.Prelude.{[], ⊤, ◌++◌, ◌∷◌, ◌≡◌, List, flat_map, length, map, sum_by, take, ℕ}
+use Rattle.std.specs.Prelude.{[], ⊤, ◌%◌, ◌++◌, ◌+◌, ◌∷◌, ◌≡◌, Bool, List, None, Option, Some, drop, flat_map, if◌then◌else◌, length, map, nat_eq, suc, sum_by, take, ℕ}
 use Rattle.std.specs.Cmp.Lexicographic.{slice_cmp}
 use Rattle.std.specs.Ordering.{nat_cmp}
 use Rattle.std.specs.declared.cmp.Ordering.TheVariants.{Less}
@@ -10,6 +10,10 @@ pub record TermLengths : Type 0 where
   pub doc_freq : ℕ
   pub postings_len : ℕ
   pub positions_len : ℕ
+
+-- a term by its value bytes, and its lengths
+abbrev pub Told : Type 0
+Told = List ℕ × TermLengths
 
 -- a field: how many tokens it has, and its terms by their value bytes
 pub record FieldTerms : Type 0 where
@@ -32,6 +36,50 @@ terms_bytes fields = 0 ∷ flat_map field_terms_bytes fields
 -- the section spells these fields, in one of the kinds that there are
 abbrev pub AreSpelled : List FieldTerms → List ℕ → Type 0
 AreSpelled fields bytes = bytes ≡ terms_bytes fields
+
+-- ---- terms in blocks of so many: the first of a block stands whole, each other behind what it shares with the one before
+
+-- with how many bytes two keys begin alike
+abbrev pub shared : List ℕ → List ℕ → ℕ
+shared [] key = 0
+shared (a ∷ before) [] = 0
+shared (a ∷ before) (b ∷ key) = if nat_eq a b then suc (shared before key) else 0
+
+-- a key behind the one before: how much it shares with it, and the rest
+abbrev pub next_key : List ℕ → List ℕ → List ℕ
+next_key before key = vint_bytes (shared before key) ++ sized_bytes (drop (shared before key) key)
+
+-- a key: whole where none stands before it in its block
+abbrev pub key_bytes : Option (List ℕ) → List ℕ → List ℕ
+key_bytes None key = sized_bytes key
+key_bytes (Some before) key = next_key before key
+
+-- a term's lengths
+abbrev pub lengths_bytes : TermLengths → List ℕ
+lengths_bytes l = vint_bytes l.doc_freq ++ vint_bytes l.postings_len ++ vint_bytes l.positions_len
+
+-- how many terms a block has: sixteen where the section is front-coded (kind 1), and else one, which stands whole (kind 0)
+abbrev pub block_size : Bool → ℕ
+block_size front_coded = if front_coded then 16 else 1
+
+-- the key before the term of that number, if it stands in the same block
+abbrev pub before_in_block : ℕ → ℕ → List ℕ → Option (List ℕ)
+before_in_block size number before = if nat_eq (number % size) 0 then None else Some before
+
+-- a term by its value bytes, and its lengths
+abbrev pub coded_entry : Option (List ℕ) → Told → List ℕ
+coded_entry before t = key_bytes before t.0 ++ lengths_bytes t.1
+
+-- terms from that number on, behind a key
+abbrev pub coded_from : ℕ → ℕ → List ℕ → List Told → List ℕ
+coded_from size number before [] = []
+coded_from size number before (t ∷ ts) = coded_entry (before_in_block size number before) t ++ coded_from size (number + 1) t.0 ts
+
+-- all terms of a field
+abbrev pub coded_terms : ℕ → List Told → List ℕ
+coded_terms size ts = coded_from size 0 [] ts
+
+-- ---- the order of terms, and where theirs stand
 
 -- each is below the one after it in the order of bytes
 abbrev pub TermsAscend : List (List ℕ) → Type 0

@@ -1,11 +1,11 @@
 //! The section of the terms of fields.
 #![tactic(auto, unfolding(definitions::specs::NumberCodes::vint_bytes, definitions::proofs::OnLiterals::definitions_on_literals))]
 
-ghost use Rattle.std.specs.Prelude.{[], ◌++◌, ◌∷◌, ◌≡◌, codes};
+ghost use Rattle.std.specs.Prelude.{[], None, Some, ◌++◌, ◌∷◌, ◌≡◌, codes};
 ghost use Rattle.std.specs.Int.{to_be_bytes, w64};
 ghost use Rattle.definitions.specs.Examples.{hex};
-ghost use Rattle.layouts.specs.TermExamples.{two_fields};
-ghost use Rattle.layouts.specs.TermSections.{entry_of_term, field_terms_bytes, positions_start, postings_start, terms_bytes};
+ghost use Rattle.layouts.specs.TermExamples.{letters, of_one, two_fields};
+ghost use Rattle.layouts.specs.TermSections.{coded_entry, coded_terms, entry_of_term, field_terms_bytes, positions_start, postings_start, terms_bytes};
 
 /// A term is its value bytes, and then its number of documents, of bytes of postings and of bytes of positions.
 pub fn terms_have_bytes()
@@ -43,6 +43,27 @@ pub fn fields_have_bytes()
     ensures none { hex (terms_bytes (record { field = 2; num_tokens = 0; terms = [] } ∷ []))
         ≡ codes "0002000000000000000000000080" }
     ensures no_field { terms_bytes [] ≡ 0 ∷ [] }
+{}
+
+/// Two terms of a document each, `sea` and `seal`, in blocks of sixteen and of one: the second stands behind the three
+/// bytes that it shares with the first, or whole. What shares nothing with the one before says so.
+pub fn terms_stand_behind_what_they_share()
+    ensures coded { hex (coded_terms 16 (of_one (codes "sea" ∷ codes "seal" ∷ []))) ≡ codes "8373656181818083816c818180" }
+    ensures whole { hex (coded_terms 1 (of_one (codes "sea" ∷ codes "seal" ∷ []))) ≡ codes "83736561818180847365616c818180" }
+    ensures none_shared { hex (coded_entry (Some (codes "sea")) (
+      codes "the",
+      record
+          { doc_freq = 2; postings_len = 4; positions_len = 4 },
+    )) ≡ codes "8083746865828484" }
+    ensures first { hex (coded_entry None (codes "the", record { doc_freq = 2; postings_len = 4; positions_len = 4 })) ≡ codes "83746865828484" }
+{}
+
+/// A block has sixteen terms: of seventeen the last stands whole again.
+pub fn blocks_have_sixteen_terms()
+    ensures seventeen { hex (coded_terms 16 (of_one (letters 0x61 17)))
+        ≡ codes "8161818180" ++ codes "808162818180808163818180808164818180808165818180808166818180"
+        ++ codes "808167818180808168818180808169818180" ++ codes "80816a81818080816b81818080816c818180"
+        ++ codes "80816d81818080816e81818080816f818180" ++ codes "808170818180" ++ codes "8171818180" }
 {}
 
 /// Ranges of postings and positions are contiguous from 0, over all fields.
