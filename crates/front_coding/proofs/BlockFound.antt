@@ -1,5 +1,5 @@
 -- A key is found in the block that may have it.
-use Rattle.std.proofs.Common.{[], Bool, List, None, Option, Some, ap, ap₂, append_assoc, arith, cond, drop, false, get_or, inl, inr, length, length-drop, min, refl, subst, suc, sym, take, true, zero, ◌*◌, ◌++◌, ◌+◌, ◌-◌, ◌<◌, ◌≡◌, ◌≤◌, ◌∙◌, ◌∷◌, ◌^◌, ◌⊎◌, ℕ}
+use Rattle.std.proofs.Common.{[], List, None, Option, Some, ap, ap₂, append_assoc, arith, cond, drop, false, get_or, inl, inr, length, length-drop, min, refl, subst, suc, sym, take, true, zero, ◌*◌, ◌++◌, ◌+◌, ◌-◌, ◌<◌, ◌≡◌, ◌≤◌, ◌∙◌, ◌∷◌, ◌^◌, ◌⊎◌, ℕ}
 use Rattle.std.proofs.lemmas.Bool.{cases_lt}
 use Rattle.std.proofs.lemmas.Bool.Decides.{nat_tests}
 use Rattle.std.proofs.lemmas.List.{drop-drop, drop_all, length-take-le, take-append-drop}
@@ -197,13 +197,13 @@ module _ (size : ℕ) where
         in_blocks : block < length (starts_from size 0 [] first ts)
         in_blocks = (let w = up.within in let l = ap length are in omega (arith, w, l))
 
-        start : TermStart
+        abbrev start : TermStart
         start = get_or (starts_from size 0 [] first ts) block d
 
         head : Head section ts end block (get_or (starts_from size 0 [] first ts) block d).entry
         head = head_of block d in_blocks
 
-        here : List Told
+        abbrev here : List Told
         here = head.first ∷ head.others
 
         many : length (head.first ∷ head.others) ≡ length ts - size * block
@@ -235,7 +235,7 @@ module _ (size : ℕ) where
                 subst (AreBehind key) (sym place) (first_above follow.0 key follow.1 later.first later.others above follow.2)
 
         -- the terms of the block
-        pub own_terms : List Told
+        abbrev pub own_terms : List Told
         own_terms = take left (drop (size * block) ts)
 
         own_are : own_terms ≡ take left (head.first ∷ head.others)

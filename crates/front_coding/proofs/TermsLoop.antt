@@ -1,5 +1,5 @@
 -- Terms one after another, as they are read and as they are written.
-use Rattle.std.proofs.Common.{[], List, None, Option, Some, ap, ap₂, append-nil, append_assoc, arith, drop, length, length-append, refl, subst, suc, sym, true, zero, ◌++◌, ◌+◌, ◌-◌, ◌<◌, ◌≡◌, ◌≤◌, ◌∙◌, ◌∷◌, ◌^◌, ℕ}
+use Rattle.std.proofs.Common.{[], List, None, Option, Some, ap, ap₂, append-nil, append_assoc, arith, drop, length, length-append, refl, subst, suc, sym, true, zero, ◌++◌, ◌+◌, ◌<◌, ◌≡◌, ◌≤◌, ◌∙◌, ◌∷◌, ◌^◌, ℕ}
 use Rattle.std.specs.List.{AllByRecursion}
 use Rattle.definitions.specs.NumberCodes.{AreBytes}
 use Rattle.front_coding.specs.BlockPlaces.{begun, behind, positions_end, postings_end, starts_from}
@@ -24,16 +24,16 @@ module _ (size : ℕ) where
       ap (λ xs. entry ++ xs) (coded_pushed (number + 1) s.0 ts t ∙ ap (λ n. coded_from size (number + 1) s.0 ts ++ coded_entry (before_in_block size n (last_key s.0 ts)) t) there)
       ∙ sym (append_assoc entry (coded_from size (number + 1) s.0 ts) (coded_entry (before_in_block size (number + length (s ∷ ts)) (last_key s.0 ts)) t))
 
-  follow_pushed : (number : ℕ) (before : List ℕ) (ts : List Told) (t : Told) → Follow number before ts → may_follow (number + length ts) (last_key before ts) t.0 ≡ true → Follow number before (ts ++ t ∷ [])
+  pub follow_pushed : (number : ℕ) (before : List ℕ) (ts : List Told) (t : Told) → Follow number before ts → may_follow (number + length ts) (last_key before ts) t.0 ≡ true → Follow number before (ts ++ t ∷ [])
   follow_pushed number before [] t all follows = (ap (λ n. may_follow n before t.0) (let same : number ≡ number + 0 = omega arith in same) ∙ follows, tt)
   follow_pushed number before (s ∷ ts) t all follows = (all.0, follow_pushed (number + 1) s.0 ts t all.1 (ap (λ n. may_follow n (last_key s.0 ts) t.0) (let there : number + 1 + length ts ≡ number + length (s ∷ ts) = omega arith in there) ∙ follows))
 
-  fit_pushed : (ts : List Told) (t : Told) → AllByRecursion (λ (x : Told). LengthsFit x.1) ts → LengthsFit t.1 → AllByRecursion (λ (x : Told). LengthsFit x.1) (ts ++ t ∷ [])
+  pub fit_pushed : (ts : List Told) (t : Told) → AllByRecursion (λ (x : Told). LengthsFit x.1) ts → LengthsFit t.1 → AllByRecursion (λ (x : Told). LengthsFit x.1) (ts ++ t ∷ [])
   fit_pushed [] t all fits = (fits, tt)
   fit_pushed (s ∷ ts) t all fits = (all.0, fit_pushed ts t all.1 fits)
 
   -- where the term behind others begins
-  pub place_behind : ℕ → List ℕ → TermStart → List Told → TermStart
+  abbrev pub place_behind : ℕ → List ℕ → TermStart → List Told → TermStart
   place_behind number before at [] = at
   place_behind number before at (t ∷ ts) = place_behind (number + 1) t.0 (behind (before_in_block size number before) at t) ts
 
@@ -64,7 +64,7 @@ module _ (size : ℕ) where
 
   -- ---- reading
 
-  bytes_after : (xs ys bs : List ℕ) → bs ≡ xs ++ ys → AreBytes bs → AreBytes ys
+  pub bytes_after : (xs ys bs : List ℕ) → bs ≡ xs ++ ys → AreBytes bs → AreBytes ys
   bytes_after xs ys bs is bytes = bytes_behind xs ys (subst AreBytes is bytes)
 
   -- so many were read, with this key the last, and what is left are the others
@@ -77,7 +77,7 @@ module _ (size : ℕ) where
     pub digits : AreBytes rest
     pub complete : (ts : List Told) (end : List ℕ) → length ts ≡ n → AreTerms size 0 [] bytes ts end → AreTerms size i key rest (drop i ts) end
 
-  pub nothing_read : (bytes : List ℕ) (n : ℕ) → AreBytes bytes → Reading bytes n 0 [] bytes
+  abbrev pub nothing_read : (bytes : List ℕ) (n : ℕ) → AreBytes bytes → Reading bytes n 0 [] bytes
   nothing_read bytes n digits = record {
     done = [];
     count = refl;
@@ -88,7 +88,7 @@ module _ (size : ℕ) where
     complete = λ ts end long terms. terms;
   }
 
-  drop_here : (i : ℕ) (ts : List Told) → i < length ts → (t : Told) × (drop i ts ≡ t ∷ drop (i + 1) ts)
+  pub drop_here : (i : ℕ) (ts : List Told) → i < length ts → (t : Told) × (drop i ts ≡ t ∷ drop (i + 1) ts)
   drop_here i [] within = absurd (omega arith)
   drop_here zero (t ∷ ts) within = (t, refl)
   drop_here (suc i) (t ∷ ts) within =
@@ -97,7 +97,7 @@ module _ (size : ℕ) where
       (here.0, here.1 ∙ ap (λ k. here.0 ∷ drop k (t ∷ ts)) next)
 
   -- the terms behind one that was taken
-  behind_taken : (i : ℕ) (key rest : List ℕ) (t e : Told) (ts : List Told) (after end : List ℕ) → length key + length rest < 2 ^ 64 → AreTerms size i key rest (t ∷ ts) end → IsTaken size i key rest e after → AreTerms size (i + 1) e.0 after ts end
+  pub behind_taken : (i : ℕ) (key rest : List ℕ) (t e : Told) (ts : List Told) (after end : List ℕ) → length key + length rest < 2 ^ 64 → AreTerms size i key rest (t ∷ ts) end → IsTaken size i key rest e after → AreTerms size (i + 1) e.0 after ts end
   behind_taken i key rest t e ts after end short terms taken =
       let entry = coded_entry (before_in_block size i key) t in
       let one : rest ≡ entry ++ (coded_from size (i + 1) t.0 ts ++ end) = terms.spelled ∙ append_assoc entry (coded_from size (i + 1) t.0 ts) end in
@@ -109,7 +109,7 @@ module _ (size : ℕ) where
         fit = terms.fit.1;
       }
 
-  pub one_more : (bytes : List ℕ) (n i : ℕ) (key rest : List ℕ) (e : Told) (after : List ℕ) → length bytes < 2 ^ 63 → i < n → Reading bytes n i key rest → take_term size i key rest ≡ Some (e, after) → Reading bytes n (i + 1) e.0 after
+  abbrev pub one_more : (bytes : List ℕ) (n i : ℕ) (key rest : List ℕ) (e : Told) (after : List ℕ) → length bytes < 2 ^ 63 → i < n → Reading bytes n i key rest → take_term size i key rest ≡ Some (e, after) → Reading bytes n (i + 1) e.0 after
   one_more bytes n i key rest e after short within reading taken_is =
       let done = reading.done in
       let count = reading.count in

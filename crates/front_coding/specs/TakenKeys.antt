@@ -5,7 +5,7 @@ use Rattle.std.specs.List.{AllByRecursion}
 use Rattle.std.specs.Ordering.{is_lt, nat_cmp}
 use Rattle.definitions.specs.Json.{only_if, ◌>>=◌}
 use Rattle.definitions.specs.NumberCodes.{take_bytes, take_vint}
-use Rattle.layouts.specs.TermSections.{TermLengths, Told, before_in_block, coded_entry, coded_from}
+use Rattle.layouts.specs.TermSections.{TermLengths, Told, coded_from}
 
 -- whether a byte stands above what the key before has at the place, or that key ends there
 abbrev pub is_above_at : List ℕ → ℕ → ℕ → Bool

@@ -1,6 +1,6 @@
-use Rattle.std.proofs.Common.{None, ap, arith, drop, option_map, subst, sym, ◌+◌, ◌<◌, ◌≡◌, ◌≤◌, ◌∙◌, ℕ}
+use Rattle.std.proofs.Common.{ap, arith, option_map, sym, ◌<◌, ◌≡◌, ◌∙◌, ℕ}
 use Rattle.std.specs.declared.cmp.Ordering.{Ordering}
-use Rattle.std.specs.declared.cmp.Ordering.TheVariants.{Equal, Greater, Less}
+use Rattle.std.specs.declared.cmp.Ordering.TheVariants.{Equal, Greater}
 use Rattle.front_coding.proofs.BlockLoop.{above_counts, above_found, all_counted, all_looked, begins, compared_above, compared_equal, equal_counts, equal_found, looks_on, none_stands, stands}
 use Rattle.front_coding.specs.Lengths.{located_at, parts_as}
 use Rattle.front_coding.specs.LookUps.{compared}
