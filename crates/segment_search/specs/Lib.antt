@@ -2,4 +2,5 @@
 pub mod Flags
 pub mod Best
 pub mod Counted
+pub mod CountedWeights
 pub mod Hits

@@ -10,7 +10,8 @@ ghost use Rattle.definitions.specs.Answers.{answers};
 ghost use Rattle.definitions.specs.Merging.{documents_in};
 ghost use Rattle.definitions.specs.Query.{term};
 ghost use Rattle.definitions.specs.Refusing.{tree_fault};
-ghost use Rattle.definitions.specs.Schema.{IndexRecordOption as Asked, Schema};
+ghost use Rattle.definitions.specs.Schema.{IndexRecordOption as Asked, Schema as Fields};
+ghost use Rattle.definitions.specs.Scoring.{Similarity};
 ghost use Rattle.definitions.specs.Sinks.{fed};
 ghost use Rattle.definitions.specs.TermBlocks.{scored_blocks};
 ghost use Rattle.definitions.specs.Values.{Document};
@@ -18,20 +19,25 @@ ghost use Rattle.query_trees.specs.Queries.{query_of};
 ghost use Rattle.scorer_answers.specs.Rows.{HasRows, flags_in};
 ghost use Rattle.segment.specs.Opened.{StandsFor};
 ghost use Rattle.segment_definitions.specs.Found.{places_from, places_in};
+ghost use Rattle.segment_reader.specs.Searchers.{readers_in, statistics_of};
 ghost use Rattle.segment_search.specs.Best.{IsFound, best_places, place_at};
 ghost use Rattle.segment_search.specs.Counted.{IsTermQuery, blocks_decoded, greatest_count, nothing_kept};
+ghost use Rattle.segment_search.specs.CountedWeights.{CountedScoresBy, CountsTerms, counted_query};
 ghost use Rattle.segment_search.specs.Flags.{AreFlagged, flagged_each};
 ghost use Rattle.term_weight.specs.DecodedBlocks.{decoded_for};
 ghost use Rattle.tree_scorers.specs.Accepted.{IsAccepted};
+ghost use Rattle.weights.specs.Weighing.{IsWeighed};
 
-use crate::query_walk::feed_query;
+use crate::counted_weight::{CountedWeight, weigh_query};
 use crate::readers::readers_of;
 use best_k::BestK;
 use common::{AliveBitSet, DocId};
 use phrases::Sink;
 use query_trees::AnyQuery;
+use reader_scorers::LeafWeights;
+use schema::Schema;
 use segment::Segment;
-use segment_reader::SegmentReader;
+use segment_reader::{EnableScoring, Searcher, SegmentReader};
 use settings::Statistics;
 use std::alloc::{AllocError, Global};
 
@@ -43,6 +49,7 @@ pub(crate) type Found = (Vec<(u64, u32, DocId)>, u64);
 /// and document id.
 pub(crate) fn best_documents<'a, S: Statistics>(
     alloc: Global,
+    schema: &'a Schema,
     segments: &'a [Segment],
     alive: &'a [AliveBitSet],
     statistics: &'a S,
@@ -52,14 +59,14 @@ pub(crate) fn best_documents<'a, S: Statistics>(
     requires flagged { AreFlagged segments.now alive.now }
     requires few { length alive.now < 2 ^ 32 }
     requires accepted { IsAccepted (S.similarity statistics.now).weight 1 (query_of query.now) }
-    ensures best { (schema : Schema) (analyze : Analyzer) (docs : List (List Document))
+    ensures best { (schema : Fields) (analyze : Analyzer) (docs : List (List Document))
         → AllZip (StandsFor schema analyze) docs segments.now
         → tree_fault schema (S.similarity statistics.now).weight 1 (query_of query.now) ≡ None
         → IfOk result (λ found. map place_at found.0.items ≡ best_places limit
         (places_from schema analyze (S.similarity statistics.now) (query_of query.now) 0
         (flagged_each docs alive.now))) }
     ensures found { IfOk result (λ found. AllByRecursion (IsFound alive.now) found.0.items) }
-    ensures counted { (schema : Schema) (analyze : Analyzer) (docs : List (List Document)) (t : List ℕ) (option : Asked)
+    ensures counted { (schema : Fields) (analyze : Analyzer) (docs : List (List Document)) (t : List ℕ) (option : Asked)
         → AllZip (StandsFor schema analyze) docs segments.now
         → tree_fault schema (S.similarity statistics.now).weight 1 (query_of query.now) ≡ None
         → query_of query.now ≡ term t option
@@ -68,81 +75,119 @@ pub(crate) fn best_documents<'a, S: Statistics>(
     ensures uncounted { (¬ IsTermQuery (query_of query.now)) → IfOk result (λ found. found.1 ≡ 0) }
 {
     let readers = readers_of(alloc, segments, alive)?;
-    best_of_each(alloc, &readers, alive, statistics, query, limit)
+    let searcher = Searcher::new(schema, statistics, readers);
+    best_searched(alloc, &searcher, alive, query, limit)
 }
 
-/// Returns the best `limit` documents of `readers` that match `query` and are alive by the sets at the same places.
-fn best_of_each<'a, S: Statistics>(
+/// Returns the best `limit` documents of `searcher` that match `query` and are alive by the sets at the same places.
+fn best_searched<'a, S: Statistics>(
+    alloc: Global,
+    searcher: &'a Searcher<'a, S>,
+    alive: &[AliveBitSet],
+    query: &'a AnyQuery,
+    limit: usize,
+) -> Result<Found, AllocError>
+    requires flags { map flags_in (readers_in searcher.now) ≡ alive.now }
+    requires few { length alive.now < 2 ^ 32 }
+    requires accepted { IsAccepted (S.similarity (statistics_of searcher.now)).weight 1 (query_of query.now) }
+    ensures best { (schema : Fields) (analyze : Analyzer) (rows : List Rows)
+        → AllZip (HasRows schema analyze) rows (readers_in searcher.now)
+        → tree_fault schema (S.similarity (statistics_of searcher.now)).weight 1 (query_of query.now) ≡ None
+        → IfOk result (λ found. map place_at found.0.items ≡ best_places limit
+        (places_from schema analyze (S.similarity (statistics_of searcher.now)) (query_of query.now) 0 rows)) }
+    ensures found { IfOk result (λ found. AllByRecursion (IsFound alive.now) found.0.items) }
+    ensures counted { (schema : Fields) (analyze : Analyzer) (rows : List Rows) (t : List ℕ) (option : Asked)
+        → AllZip (HasRows schema analyze) rows (readers_in searcher.now)
+        → tree_fault schema (S.similarity (statistics_of searcher.now)).weight 1 (query_of query.now) ≡ None
+        → query_of query.now ≡ term t option
+        → IfOk result (λ found. found.1 ≡ min greatest_count (blocks_decoded schema analyze
+        (S.similarity (statistics_of searcher.now)) t option (nothing_kept limit) 0 rows)) }
+    ensures uncounted { (¬ IsTermQuery (query_of query.now)) → IfOk result (λ found. found.1 ≡ 0) }
+{
+    let weight = weigh_query(query, EnableScoring::enabled_from_searcher(searcher));
+    best_of_each(alloc, searcher.segment_readers(), alive, &weight, limit)
+}
+
+/// Returns the best `limit` documents of `readers` that match the query of `weight` and are alive by the sets at the same
+/// places.
+fn best_of_each<'a, W: LeafWeights<'a>>(
     alloc: Global,
     readers: &[SegmentReader<'a>],
     alive: &[AliveBitSet],
-    statistics: &'a S,
-    query: &AnyQuery,
+    weight: &CountedWeight<'_, 'a, W>,
     limit: usize,
 ) -> Result<Found, AllocError>
     requires flags { map flags_in readers.now ≡ alive.now }
     requires few { length alive.now < 2 ^ 32 }
-    requires accepted { IsAccepted (S.similarity statistics.now).weight 1 (query_of query.now) }
-    ensures best { (schema : Schema) (analyze : Analyzer) (rows : List Rows)
+    requires accepted { IsWeighed (CountedScoresBy W.similarity weight.now) 1 (counted_query weight.now) }
+    requires counts { CountsTerms weight.now }
+    ensures best { (schema : Fields) (analyze : Analyzer) (sim : Similarity) (rows : List Rows)
         → AllZip (HasRows schema analyze) rows readers.now
-        → tree_fault schema (S.similarity statistics.now).weight 1 (query_of query.now) ≡ None
+        → CountedScoresBy W.similarity weight.now sim
+        → tree_fault schema sim.weight 1 (counted_query weight.now) ≡ None
         → IfOk result (λ found. map place_at found.0.items ≡ best_places limit
-        (places_from schema analyze (S.similarity statistics.now) (query_of query.now) 0 rows)) }
+        (places_from schema analyze sim (counted_query weight.now) 0 rows)) }
     ensures found { IfOk result (λ found. AllByRecursion (IsFound alive.now) found.0.items) }
-    ensures counted { (schema : Schema) (analyze : Analyzer) (rows : List Rows) (t : List ℕ) (option : Asked)
+    ensures counted { (schema : Fields) (analyze : Analyzer) (sim : Similarity) (rows : List Rows)
+        (t : List ℕ) (option : Asked)
         → AllZip (HasRows schema analyze) rows readers.now
-        → tree_fault schema (S.similarity statistics.now).weight 1 (query_of query.now) ≡ None
-        → query_of query.now ≡ term t option
-        → IfOk result (λ found. found.1 ≡ min greatest_count (blocks_decoded schema analyze
-        (S.similarity statistics.now) t option (nothing_kept limit) 0 rows)) }
-    ensures uncounted { (¬ IsTermQuery (query_of query.now)) → IfOk result (λ found. found.1 ≡ 0) }
+        → CountedScoresBy W.similarity weight.now sim
+        → tree_fault schema sim.weight 1 (counted_query weight.now) ≡ None
+        → counted_query weight.now ≡ term t option
+        → IfOk result (λ found. found.1 ≡ min greatest_count (blocks_decoded schema analyze sim t option
+        (nothing_kept limit) 0 rows)) }
+    ensures uncounted { (¬ IsTermQuery (counted_query weight.now)) → IfOk result (λ found. found.1 ≡ 0) }
 {
     let mut best = BestK::new(alloc, limit);
     let mut decoded_blocks: u64 = 0;
     for (segment_ord, reader) in readers.iter().enumerate() {
         best.enter(segment_ord as u32, &alive[segment_ord]);
-        let blocks = feed_segment(alloc, reader, statistics, query, &mut best)?;
+        let blocks = feed_segment(alloc, reader, weight, &mut best)?;
         decoded_blocks = decoded_blocks.saturating_add(blocks);
     }
     Ok((best.into_hits(), decoded_blocks))
 }
 
-/// Feeds the documents of `reader` that match `query` to `best`, which has entered this segment. Returns how many blocks
-/// of postings were decoded if the query is one term, and else 0.
-fn feed_segment<'a, S: Statistics>(
+/// Feeds the documents of `reader` that match the query of `weight` to `best`, which has entered this segment. Returns
+/// how many blocks of postings were decoded if the query is one term, and else 0.
+fn feed_segment<'a, W: LeafWeights<'a>>(
     alloc: Global,
     reader: &SegmentReader<'a>,
-    statistics: &'a S,
-    query: &AnyQuery,
+    weight: &CountedWeight<'_, 'a, W>,
     best: &mut BestK<'_>,
 ) -> Result<u64, AllocError>
-    requires accepted { IsAccepted (S.similarity statistics.now).weight 1 (query_of query.now) }
+    requires accepted { IsWeighed (CountedScoresBy W.similarity weight.now) 1 (counted_query weight.now) }
+    requires counts { CountsTerms weight.now }
     requires alive { (best_in best.old).alive ≡ flags_in reader.now }
-    ensures best { (schema : Schema) (analyze : Analyzer) (rows : Rows)
+    ensures best { (schema : Fields) (analyze : Analyzer) (sim : Similarity) (rows : Rows)
         → HasRows schema analyze rows reader.now
-        → tree_fault schema (S.similarity statistics.now).weight 1 (query_of query.now) ≡ None
+        → CountedScoresBy W.similarity weight.now sim
+        → tree_fault schema sim.weight 1 (counted_query weight.now) ≡ None
         → OnOk result (map place_at (best_in best.new).hits ≡ best_places (best_in best.old).wanted
-        (map place_at (best_in best.old).hits ++ places_in schema analyze (S.similarity statistics.now)
-        (query_of query.now) (best_in best.old).segment rows)) }
-    ensures fed { (schema : Schema) (analyze : Analyzer) (rows : Rows)
+        (map place_at (best_in best.old).hits ++ places_in schema analyze sim
+        (counted_query weight.now) (best_in best.old).segment rows)) }
+    ensures fed { (schema : Fields) (analyze : Analyzer) (sim : Similarity) (rows : Rows)
         → HasRows schema analyze rows reader.now
-        → tree_fault schema (S.similarity statistics.now).weight 1 (query_of query.now) ≡ None
+        → CountedScoresBy W.similarity weight.now sim
+        → tree_fault schema sim.weight 1 (counted_query weight.now) ≡ None
         → OnOk result (best_in best.new ≡ fed kept.limit kept.taken (best_in best.old)
-        (answers schema analyze (S.similarity statistics.now) 1 (query_of query.now) (documents_in rows))) }
+        (answers schema analyze sim 1 (counted_query weight.now) (documents_in rows))) }
     ensures found { (sets : List (List Bool))
         → slice_get sets (best_in best.old).segment ≡ Some (best_in best.old).alive
         → AllByRecursion (IsFound sets) (best_in best.old).hits
         → OnOk result (AllByRecursion (IsFound sets) (best_in best.new).hits) }
     ensures wanted { OnOk result ((best_in best.new).wanted ≡ (best_in best.old).wanted) }
-    ensures counted { (schema : Schema) (analyze : Analyzer) (rows : Rows) (t : List ℕ) (option : Asked)
+    ensures counted { (schema : Fields) (analyze : Analyzer) (sim : Similarity) (rows : Rows)
+        (t : List ℕ) (option : Asked)
         → HasRows schema analyze rows reader.now
-        → query_of query.now ≡ term t option
+        → CountedScoresBy W.similarity weight.now sim
+        → counted_query weight.now ≡ term t option
         → IfOk result (λ blocks. blocks ≡ decoded_for kept.limit kept.taken (best_in best.old)
-        (answers schema analyze (S.similarity statistics.now) 1 (query_of query.now) (documents_in rows))
-        (scored_blocks schema analyze (S.similarity statistics.now) 1 t option (documents_in rows))) }
-    ensures uncounted { (¬ IsTermQuery (query_of query.now)) → IfOk result (λ blocks. blocks ≡ 0) }
+        (answers schema analyze sim 1 (counted_query weight.now) (documents_in rows))
+        (scored_blocks schema analyze sim 1 t option (documents_in rows))) }
+    ensures uncounted { (¬ IsTermQuery (counted_query weight.now)) → IfOk result (λ blocks. blocks ≡ 0) }
 {
     best.reserve(reader.max_doc() as usize)?;
     let threshold = best.threshold();
-    feed_query(alloc, reader, statistics, query, threshold, best)
+    weight.for_each_pruning_counted(alloc, threshold, reader, best)
 }

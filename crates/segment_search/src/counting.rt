@@ -47,5 +47,5 @@ pub fn count<S: Statistics>(
         → refusal schema.now (S.similarity statistics.now).weight (query_of query.now) ≡ None) }
 {
     accept_query(schema, statistics, query)?;
-    Ok(counted_documents(alloc, segments, alive, statistics, query)?)
+    Ok(counted_documents(alloc, schema, segments, alive, statistics, query)?)
 }

@@ -3,9 +3,9 @@
 
 mod best_documents;
 mod counted_documents;
+mod counted_weight;
 mod counting;
 mod hits;
-mod query_walk;
 mod readers;
 mod searching;
 

@@ -65,7 +65,9 @@ pub fn search_counted<S: Statistics>(
     ensures kept { KeepsSegments segments.old segments.new }
 {
     accept_query(schema, statistics, query)?;
-    let (best, decoded_blocks) = best_documents(alloc, segments, alive, statistics, query, limit)?;
+    let (best, decoded_blocks) = best_documents(
+        alloc, &*schema, segments, alive, statistics, query, limit,
+    )?;
     let hits = read_hits(alloc, schema, segments, &best)?;
     Ok((hits, decoded_blocks))
 }

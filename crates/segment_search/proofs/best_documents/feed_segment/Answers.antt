@@ -8,23 +8,22 @@ use Rattle.definitions.specs.Answers.{answers}
 use Rattle.definitions.specs.Merging.{documents_in}
 use Rattle.definitions.specs.Sinks.{fed}
 use Rattle.definitions.specs.TermBlocks.{scored_blocks}
-use Rattle.query_trees.specs.Queries.{query_of}
 use Rattle.scorer_answers.specs.Rows.{flags_in}
 use Rattle.segment_definitions.specs.Found.{places_in}
 use Rattle.segment_search.proofs.BestPlaces.{all_found, segment_placed, still_wanted}
 use Rattle.segment_search.specs.Best.{IsFound, best_places, place_at}
+use Rattle.segment_search.specs.CountedWeights.{counted_query}
 use Rattle.term_weight.specs.DecodedBlocks.{decoded_for}
 use Rattle.segment_search.proofs.best_documents.feed_segment.Goals as goal
 
 pub returns-clause-best : goal.returns-clause-best
-returns-clause-best g c schema analyze rows has passes =
-    let sim = g.S.Statistics.similarity c.args.statistics.now in
-    let q = query_of c.args.query.now in
+returns-clause-best g c schema analyze sim rows has by passes =
+    let q = counted_query c.args.weight.now in
     let r = c.args.reader.now in
     let room = c.reserve.new.self in
     let same = c.reserve.ensures.same in
     let alive = ap (λ (b : Best). b.alive) same ∙ c.requires.alive in
-    on_ok_weaker c.feed_query.result (λ is. subst (λ (b : Best). map place_at (best_in c.feed_query.new.sink).hits ≡ best_places b.wanted (map place_at b.hits ++ places_in schema analyze sim q b.segment rows)) same (segment_placed schema analyze sim q rows r (best_in room) (best_in c.feed_query.new.sink) room.falls room.few alive has is)) (c.feed_query.ensures.fed schema analyze (documents_in rows) has.stands passes)
+    on_ok_weaker c.for_each_pruning_counted.result (λ is. subst (λ (b : Best). map place_at (best_in c.for_each_pruning_counted.new.sink).hits ≡ best_places b.wanted (map place_at b.hits ++ places_in schema analyze sim q b.segment rows)) same (segment_placed schema analyze sim q rows r (best_in room) (best_in c.for_each_pruning_counted.new.sink) room.falls room.few alive has is)) (c.for_each_pruning_counted.ensures.fed schema analyze sim (documents_in rows) has.stands by passes)
 
 pub returns-clause-found : goal.returns-clause-found
 returns-clause-found g c sets at found =
@@ -32,21 +31,20 @@ returns-clause-found g c sets at found =
     let same = c.reserve.ensures.same in
     let there = subst (λ (b : Best). slice_get sets b.segment ≡ Some b.alive) (sym same) at in
     let before = subst (λ (b : Best). AllByRecursion (IsFound sets) b.hits) (sym same) found in
-    on_ok_weaker c.feed_query.result (λ listed. all_found sets (best_in room) (best_in c.feed_query.new.sink) listed.pairs room.falls room.few there listed.ascend listed.fed before) c.feed_query.ensures.listed
+    on_ok_weaker c.for_each_pruning_counted.result (λ listed. all_found sets (best_in room) (best_in c.for_each_pruning_counted.new.sink) listed.pairs room.falls room.few there listed.ascend listed.fed before) c.for_each_pruning_counted.ensures.listed
 
 pub returns-clause-wanted : goal.returns-clause-wanted
 returns-clause-wanted g c =
     let room = c.reserve.new.self in
-    on_ok_weaker c.feed_query.result (λ listed. still_wanted (best_in room) (best_in c.feed_query.new.sink) listed.pairs listed.fed ∙ ap (λ (b : Best). b.wanted) c.reserve.ensures.same) c.feed_query.ensures.listed
+    on_ok_weaker c.for_each_pruning_counted.result (λ listed. still_wanted (best_in room) (best_in c.for_each_pruning_counted.new.sink) listed.pairs listed.fed ∙ ap (λ (b : Best). b.wanted) c.reserve.ensures.same) c.for_each_pruning_counted.ensures.listed
 
 pub returns-clause-fed : goal.returns-clause-fed
-returns-clause-fed g c schema analyze rows has passes =
-    let pairs = answers schema analyze (g.S.Statistics.similarity c.args.statistics.now) 1 (query_of c.args.query.now) (documents_in rows) in
-    on_ok_weaker c.feed_query.result (λ is. is ∙ ap (λ (b : Best). fed kept.limit kept.taken b pairs) c.reserve.ensures.same) (c.feed_query.ensures.fed schema analyze (documents_in rows) has.stands passes)
+returns-clause-fed g c schema analyze sim rows has by passes =
+    let pairs = answers schema analyze sim 1 (counted_query c.args.weight.now) (documents_in rows) in
+    on_ok_weaker c.for_each_pruning_counted.result (λ is. is ∙ ap (λ (b : Best). fed kept.limit kept.taken b pairs) c.reserve.ensures.same) (c.for_each_pruning_counted.ensures.fed schema analyze sim (documents_in rows) has.stands by passes)
 
 pub returns-clause-counted : goal.returns-clause-counted
-returns-clause-counted g c schema analyze rows t option has is =
-    let sim = g.S.Statistics.similarity c.args.statistics.now in
-    let pairs = answers schema analyze sim 1 (query_of c.args.query.now) (documents_in rows) in
+returns-clause-counted g c schema analyze sim rows t option has by is =
+    let pairs = answers schema analyze sim 1 (counted_query c.args.weight.now) (documents_in rows) in
     let blocks = scored_blocks schema analyze sim 1 t option (documents_in rows) in
-    IfOk-weaker c.feed_query.result _ _ (λ n told. told ∙ ap (λ (b : Best). decoded_for kept.limit kept.taken b pairs blocks) c.reserve.ensures.same) (c.feed_query.ensures.counted schema analyze (documents_in rows) t option has.stands is)
+    IfOk-weaker c.for_each_pruning_counted.result _ _ (λ n told. told ∙ ap (λ (b : Best). decoded_for kept.limit kept.taken b pairs blocks) c.reserve.ensures.same) (c.for_each_pruning_counted.ensures.counted schema analyze sim (documents_in rows) t option has.stands by is)
