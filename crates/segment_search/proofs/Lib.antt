@@ -6,5 +6,4 @@ pub mod BestPlaces
 pub mod BlocksCounted
 pub mod BestFound
 pub mod HitsRead
-pub mod Counts
 pub mod Flags
