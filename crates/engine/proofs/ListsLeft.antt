@@ -32,16 +32,11 @@ use Rattle.segment_definitions.specs.Segments.{IsSegment}
 
 -- ---- files of the same bodies
 
--- a file whose every record gives its list
-abbrev pub HasLists : Schema → Settings → Analyzer → List ℕ → Type 0
-HasLists schema settings analyze bytes =
-    (lists : List (List (List Document))) × IsRecordFile schema settings analyze bytes lists
-
 -- every record of the one gives its list where those of the other do
-abbrev pub same_have : (schema : Schema) (settings : Settings) (cut : Analyzer) (bytes image : List ℕ) → HasSameBodies bytes image → HasLists schema settings cut bytes → HasLists schema settings cut image
-same_have schema settings cut bytes image (bodies, file, new) (lists, f) =
+pub same_record : (schema : Schema) (settings : Settings) (cut : Analyzer) (bytes image : List ℕ) (lists : List (List (List Document))) → HasSameBodies bytes image → IsRecordFile schema settings cut bytes lists → IsRecordFile schema settings cut image lists
+same_record schema settings cut bytes image lists (bodies, file, new) f =
     let same : bodies ≡ f.first ∷ f.bodies = one_reading bodies (f.first ∷ f.bodies) bytes file f.file in
-    (lists, record { first = f.first; bodies = f.bodies; members = f.members; file = subst (λ bs. IsFile bs image) same new; made = f.made; follow = f.follow; groups = f.groups })
+    record { first = f.first; bodies = f.bodies; members = f.members; file = subst (λ bs. IsFile bs image) same new; made = f.made; follow = f.follow; groups = f.groups }
 
 -- they are of the same groups
 pub same_groups : (schema : Schema) (settings : Settings) (cut : Analyzer) (groups : List (List Document)) (bytes image : List ℕ) → HasSameBodies bytes image → IsFileOf schema settings cut groups bytes → IsFileOf schema settings cut groups image
@@ -49,9 +44,7 @@ same_groups schema settings cut groups bytes image (bodies, file, new) (others, 
 
 -- they give the same lists
 pub same_lists : (schema : Schema) (settings : Settings) (cut : Analyzer) (groups : List (List Document)) (bytes image : List ℕ) → HasSameBodies bytes image → LeavesGroups schema settings cut bytes groups → LeavesGroups schema settings cut image groups
-same_lists schema settings cut groups bytes image same (lists, f, last) =
-    let has = same_have schema settings cut bytes image same (lists, f) in
-    (has.0, has.1, last)
+same_lists schema settings cut groups bytes image same (lists, f, last) = (lists, same_record schema settings cut bytes image lists same f, last)
 
 pub same_one_of : (schema : Schema) (settings : Settings) (cut : Analyzer) (one other : List (List Document)) (bytes image : List ℕ) → HasSameBodies bytes image → LeavesOneOf schema settings cut one other bytes → LeavesOneOf schema settings cut one other image
 same_one_of schema settings cut one other bytes image same (inl leaves) = inl (same_lists schema settings cut one bytes image same leaves)
@@ -104,17 +97,6 @@ lists_next schema settings cut bodies members after groups next bytes image body
       },
       last_more None lists next,
     )
-
--- ---- any last list
-
--- what stands last of one list may stand last of the other
-with_last : {X Y : Type 0} (R : X → Y → Type 0) (m : X) (g : Y) (x : X) (y : Y) (xs : List X) (ys : List Y) → R m g → R x y → AllZip R xs ys → last_or (Some x) xs ≡ Some m → (z : Y) × (zs : List Y) × R x z × AllZip R xs zs × (last_or (Some z) zs ≡ Some g)
-with_last R m g x y [] [] of r all is = (g, [], subst (λ q. R q g) (sym (same_Some _ _ is)) of, tt, refl)
-with_last R m g x y [] (b ∷ ys) of r all is = absurd all
-with_last R m g x y (a ∷ xs) [] of r all is = absurd all
-with_last R m g x y (a ∷ xs) (b ∷ ys) of r all is =
-    let w = with_last R m g a b xs ys of all.0 all.1 is in
-    (y, w.0 ∷ w.1, r, (w.2, w.3), w.4)
 
 -- ---- at every moment
 

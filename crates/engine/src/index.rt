@@ -68,11 +68,14 @@ impl<D: Device + Drop, A: Analyzer + Drop> Index<D, A> {
             → IfErr result (λ r. r.fault ≡ faults.NotEmpty → D.content device ≢ []) }
         ensures rests { IsTrue (D.honest device) → IfOk result IndexRests }
 
-        // What no index can be made of doesn't touch the device; of other errors only `Device` may.
+        // What no index can be made of doesn't touch the device; of other errors only `Device` may. A device that holds
+        // a byte stays as it is after `Device` too.
         ensures untouched { IfErr result (λ r.
             making_fault (A.knows_name analyzer) schema settings ≡ Some r.fault → r.device ≡ device) }
         ensures kept { IsTrue (D.honest device) → IfErr result (λ r. r.fault ≢ faults.Device
             → IsKept D.moment D.left_since D.content D.unsynced device r.device) }
+        ensures stays { IsTrue (D.honest device) → D.content device ≢ []
+            → IfErr result (λ r. IsKept D.moment D.left_since D.content D.unsynced device r.device) }
 
         // A crash at any moment leaves no index, or one without documents, if before it could leave nothing else: of
         // one record, or of however many. After an `Ok` it leaves one without documents.

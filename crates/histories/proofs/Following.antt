@@ -21,8 +21,8 @@ use Rattle.histories.proofs.Calling.{rests_still}
 use Rattle.engine.proofs.Commits.{stands_groups}
 use Rattle.engine.proofs.FileSayings.{of_its_groups, rests_say}
 use Rattle.histories.specs.Calls.{IsCalled, IsOpening, answer_to, ending, groups_after, unless_refused}
-use Rattle.engine.proofs.ListsLeft.{same_groups, same_have, stays}
-use Rattle.histories.proofs.GivenLists.{given_last}
+use Rattle.engine.proofs.ListsLeft.{same_groups, stays}
+use Rattle.histories.proofs.GivenLists.{given_last, same_have}
 use Rattle.histories.specs.Lists.{HasLists, ImagesHaveLists}
 use Rattle.engine.specs.Files.{HasSameBodies, IsFileOf, LeavesOneOf}
 use Rattle.engine.specs.Indexes.{CrashLeavesEither, IndexRests, IndexStands, KeepsFile, KeepsMaking, analyzer_of, device_after, device_of, gate_of, members_of, schema_of, settings_of}

@@ -6,12 +6,17 @@ use Rattle.definitions.specs.Analyzers.{Analyzer}
 use Rattle.definitions.specs.Schema.{Schema}
 use Rattle.definitions.specs.Settings.{Settings}
 use Rattle.definitions.specs.Values.{Document}
-use Rattle.engine.specs.Files.{IsFileOf}
+use Rattle.engine.proofs.ListsLeft.{same_record}
+use Rattle.engine.specs.Files.{HasSameBodies, IsFileOf}
 use Rattle.layouts.proofs.FilesOfRecords.{one_reading}
 use Rattle.segment_definitions.proofs.OneList.{one_history}
 use Rattle.segment_definitions.specs.SegmentFiles.{AreMade, IsGroup, LeavesGroups}
 use Rattle.segment_definitions.specs.Segments.{IsSegment}
 use Rattle.histories.specs.Lists.{HasLists}
+
+-- every record of the one gives its list where those of the other do
+pub same_have : (schema : Schema) (settings : Settings) (cut : Analyzer) (bytes image : List ℕ) → HasSameBodies bytes image → HasLists schema settings cut bytes → HasLists schema settings cut image
+same_have schema settings cut bytes image same (lists, f) = (lists, same_record schema settings cut bytes image lists same f)
 
 -- what stands last of one list may stand last of the other
 with_last : {X Y : Type 0} (R : X → Y → Type 0) (m : X) (g : Y) (x : X) (y : Y) (xs : List X) (ys : List Y) → R m g → R x y → AllZip R xs ys → last_or (Some x) xs ≡ Some m → (z : Y) × (zs : List Y) × R x z × AllZip R xs zs × (last_or (Some z) zs ≡ Some g)

@@ -17,6 +17,11 @@ returns-in-Err-clause-kept g c h other =
     let d = g.D.Device in
     same_device d.moment d.left_since d.content d.unsynced c.args.device (λ image left. g.met.D.Device.only_now c.args.device image h left)
 
+pub returns-in-Err-clause-stays : goal.returns-in-Err-clause-stays
+returns-in-Err-clause-stays g c h some =
+    let d = g.D.Device in
+    same_device d.moment d.left_since d.content d.unsynced c.args.device (λ image left. g.met.D.Device.only_now c.args.device image h left)
+
 pub returns-in-Err-clause-any_moment : goal.returns-in-Err-clause-any_moment
 returns-in-Err-clause-any_moment g c h images =
     let d = g.D.Device in
@@ -42,6 +47,9 @@ returns-in-Err-create-clause-kept g c h other = elim c.in-Err-create.ensures.fau
   | inr (inl memory) ↦ c.in-Err-create.ensures.kept h (inr memory)
   | inr (inr held) ↦ c.in-Err-create.ensures.kept h (inl (c.in-Err-create.ensures.not_empty h held))
 ]
+
+pub returns-in-Err-create-clause-stays : goal.returns-in-Err-create-clause-stays
+returns-in-Err-create-clause-stays g c h some = c.in-Err-create.ensures.kept h (inl some)
 
 pub returns-in-Err-create-clause-any_moment : goal.returns-in-Err-create-clause-any_moment
 returns-in-Err-create-clause-any_moment g c h images =
