@@ -1,7 +1,6 @@
 -- What a crash leaves, by the lists of its files: what is said of files by their bodies alone stays so in an opening, and
 -- one record more gives one list more.
 use Rattle.std.proofs.Common.{[], IfOk, IsTrue, Err, List, None, Ok, Result, Some, ap, ap₂, inl, inr, length, refl, subst, sym, ◌++◌, ◌∙◌, ◌∷◌, ◌≡◌, ◌⊎◌, ⊎_elim, Bool, ℕ}
-use Rattle.std.proofs.lemmas.Option.{same_Some}
 use Rattle.std.specs.List.{AllZip, last_or}
 use Rattle.common.specs.declared.analyzer.Analyzer as analyzers
 use Rattle.common.specs.declared.device.Device as devices

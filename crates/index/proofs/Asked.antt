@@ -1,20 +1,20 @@
 -- What a line asks of what stands.
-use Rattle.std.proofs.Common.{Bool, Err, IsTrue, List, None, Ok, Option, Result, Some, refl, subst, sym, true≢false, ◌≡◌, ℕ}
+use Rattle.std.proofs.Common.{[], Bool, Err, IfErr, IsTrue, List, None, Ok, OnOk, Option, Result, Some, refl, subst, sym, true≢false, ◌≡◌, ◌≢◌, ℕ}
 use Rattle.common.specs.declared.analyzer.Analyzer as analyzers
 use Rattle.common.specs.declared.device.Device as devices
 use Rattle.definitions.specs.Analyzers.{Analyzer}
 use Rattle.definitions.specs.Moments.{LeavesOnly}
 use Rattle.definitions.specs.Requests as requests
-use Rattle.engine.specs.Files.{is_first}
+use Rattle.engine.specs.Files.{IsOldOrSame, LeavesNone, is_first}
 use Rattle.engine.specs.Indexes.{device_after}
 use Rattle.engine.specs.declared.index.Index.{Index}
 use Rattle.engine.specs.declared.refused.Refused.{Refused}
-use Rattle.index_file.specs.Kept.{LeavesNow}
+use Rattle.index_file.specs.Kept.{IsKept, LeavesNow}
 use Rattle.index.specs.Asking.{AsksIndex, AsksOf, Creates, CreatesOf, IsUnready, Opens, OpensOf, nothing, of_index, to_create, to_open}
 use Rattle.index.specs.Sessions.{device_on, honest_on, stage_after}
 use Rattle.index.specs.declared.stage.Stage.{Stage}
 use Rattle.index.specs.declared.stage.Stage.TheVariants.{Standing}
-use Rattle.layouts.specs.RecordFiles.{IsFresh, IsOneOf}
+use Rattle.layouts.specs.RecordFiles.{IsFresh}
 use Rattle.serde_json.specs.Data as json
 
 module _ {D A : Type 0} {d : devices.Ghosts D} {an : analyzers.Ghosts A} (knows : A → List ℕ → Bool) (analyze : A → Analyzer) where
@@ -46,16 +46,30 @@ device_stays (Err refused) = refl
 
 -- and of a create
 pub creates_of : {D A : Type 0} {d : devices.Ghosts D} {an : analyzers.Ghosts A} (old : Stage D A d an) (device : D) (outcome : Result (Index D A d an) (Refused D A)) → device ≡ device_on old
-    → (IsTrue (d.honest device) → LeavesNow d.content d.unsynced device (IsFresh is_first) → LeavesOnly d.moment d.left_since device (device_after outcome) (IsFresh is_first)) → Creates old (stage_after outcome)
-creates_of {D = D} {d = d} old device outcome same creates h now =
-    let created : IsTrue (d.honest (device_on old)) → LeavesNow d.content d.unsynced (device_on old) (IsFresh is_first) → LeavesOnly d.moment d.left_since (device_on old) (device_after outcome) (IsFresh is_first) =
-    subst (λ (e : D). IsTrue (d.honest e) → LeavesNow d.content d.unsynced e (IsFresh is_first) → LeavesOnly d.moment d.left_since e (device_after outcome) (IsFresh is_first)) same creates in
-    subst (λ (e : D). LeavesOnly d.moment d.left_since (device_on old) e (IsFresh is_first)) (sym (device_stays outcome)) (created h now)
+    → (IsTrue (d.honest device) → OnOk outcome (d.content device ≡ []))
+    → (IsTrue (d.honest device) → d.content device ≢ [] → IfErr outcome (λ r. IsKept d.moment d.left_since d.content d.unsynced device r.device))
+    → (IsTrue (d.honest device) → LeavesNow d.content d.unsynced device (IsFresh is_first) → LeavesOnly d.moment d.left_since device (device_after outcome) (IsFresh is_first))
+    → ((cut : Analyzer) → IsTrue (d.honest device) → LeavesNow d.content d.unsynced device (LeavesNone cut) → LeavesOnly d.moment d.left_since device (device_after outcome) (LeavesNone cut)) → Creates old (stage_after outcome)
+creates_of {D = D} {A = A} {d = d} {an = an} old device outcome same empty stays fresh none = record {
+  stays =
+      subst (λ (e : D). IsTrue (d.honest e) → d.content e ≢ [] → IsKept d.moment d.left_since d.content d.unsynced e (device_on (stage_after outcome))) same (kept outcome empty stays);
+  fresh =
+      subst (λ (e : D). IsTrue (d.honest e) → LeavesNow d.content d.unsynced e (IsFresh is_first) → LeavesOnly d.moment d.left_since e (device_on (stage_after outcome)) (IsFresh is_first)) same
+      (λ h now. subst (λ (e : D). LeavesOnly d.moment d.left_since device e (IsFresh is_first)) (sym (device_stays outcome)) (fresh h now));
+  none =
+      λ cut.
+      subst (λ (e : D). IsTrue (d.honest e) → LeavesNow d.content d.unsynced e (LeavesNone cut) → LeavesOnly d.moment d.left_since e (device_on (stage_after outcome)) (LeavesNone cut)) same
+      (λ h now. subst (λ (e : D). LeavesOnly d.moment d.left_since device e (LeavesNone cut)) (sym (device_stays outcome)) (none cut h now));
+}
+  where
+    kept : (o : Result (Index D A d an) (Refused D A)) → (IsTrue (d.honest device) → OnOk o (d.content device ≡ [])) → (IsTrue (d.honest device) → d.content device ≢ [] → IfErr o (λ r. IsKept d.moment d.left_since d.content d.unsynced device r.device))
+        → IsTrue (d.honest device) → d.content device ≢ [] → IsKept d.moment d.left_since d.content d.unsynced device (device_on (stage_after o))
+    kept (Ok index) empty stays h some = absurd (some (empty h))
+    kept (Err r) empty stays h some = stays h some
 
 -- and of an opening
 pub opens_of : {D A : Type 0} {d : devices.Ghosts D} {an : analyzers.Ghosts A} (old : Stage D A d an) (device : D) (outcome : Result (Index D A d an) (Refused D A)) → device ≡ device_on old
-    → ((one other : List (List ℕ)) → IsTrue (d.honest device) → LeavesNow d.content d.unsynced device (IsOneOf one other) → LeavesOnly d.moment d.left_since device (device_after outcome) (IsOneOf one other)) → Opens old (stage_after outcome)
-opens_of {D = D} {d = d} old device outcome same opens one other h now =
-    let opened : IsTrue (d.honest (device_on old)) → LeavesNow d.content d.unsynced (device_on old) (IsOneOf one other) → LeavesOnly d.moment d.left_since (device_on old) (device_after outcome) (IsOneOf one other) =
-    subst (λ (e : D). IsTrue (d.honest e) → LeavesNow d.content d.unsynced e (IsOneOf one other) → LeavesOnly d.moment d.left_since e (device_after outcome) (IsOneOf one other)) same (opens one other) in
-    subst (λ (e : D). LeavesOnly d.moment d.left_since (device_on old) e (IsOneOf one other)) (sym (device_stays outcome)) (opened h now)
+    → (IsTrue (d.honest device) → LeavesOnly d.moment d.left_since device (device_after outcome) (IsOldOrSame d.content d.unsynced device)) → Opens old (stage_after outcome)
+opens_of {D = D} {d = d} old device outcome same opens =
+    subst (λ (e : D). IsTrue (d.honest e) → LeavesOnly d.moment d.left_since e (device_on (stage_after outcome)) (IsOldOrSame d.content d.unsynced e)) same
+    (λ h. subst (λ (e : D). LeavesOnly d.moment d.left_since device e (IsOldOrSame d.content d.unsynced device)) (sym (device_stays outcome)) (opens h))

@@ -11,3 +11,4 @@ pub mod RunReplies
 pub mod Asked
 pub mod Failures
 pub mod LineCrashes
+pub mod LineLists

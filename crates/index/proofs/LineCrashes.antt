@@ -21,28 +21,27 @@ use Rattle.engine.specs.Files.{IsFileOf}
 use Rattle.engine.specs.Indexes.{IndexRests, KeepsFile, analyzer_of, device_of, gate_of, members_of, schema_of, settings_of}
 use Rattle.engine.specs.declared.index.Index.{Index}
 use Rattle.index.proofs.Stages.{open_stands}
-use Rattle.index.specs.Asking.{Asks, AsksIndex, AsksOf, LeavesFiles, LeftOn}
+use Rattle.index.specs.Asking.{Asks, AsksIndex, AsksOf, LeftOn}
 use Rattle.index.specs.Replied.{AreHeld}
 use Rattle.index.specs.Sessions.{HasStage, IsIndex, IsStage, device_on, honest_on}
 use Rattle.index.specs.declared.stage.Stage.{Stage}
 use Rattle.index.specs.declared.stage.Stage.TheVariants.{Spare, Standing}
 use Rattle.index_file.proofs.Images.{rest_images}
-use Rattle.index_file.specs.Kept.{LeavesNow}
-use Rattle.layouts.specs.RecordFiles.{IsFile, IsOneOf}
+use Rattle.layouts.specs.RecordFiles.{IsFile}
 use Rattle.serde_json.specs.Data as json
 
 abbrev failed_call : Fault → Result calls.Call Fault
 failed_call fault = Err fault
 
-not_read : (fault : Fault) (call : calls.Call) → failed_call fault ≡ Ok call → ⊥
+pub not_read : (fault : Fault) (call : calls.Call) → failed_call fault ≡ Ok call → ⊥
 not_read fault call e = cc
 
 -- what a request leaves of an index's groups, where its call isn't refused
-left_groups : (c : calls.Configuration) (x : calls.Index) (r : requests.Request) (call : calls.Call) → steps.call_in c.schema r ≡ Ok call → calls.call_fault c x call ≡ None → (calls.after c x.state call).groups ≡ (steps.index_step c x r).1.state.groups
+pub left_groups : (c : calls.Configuration) (x : calls.Index) (r : requests.Request) (call : calls.Call) → steps.call_in c.schema r ≡ Ok call → calls.call_fault c x call ≡ None → (calls.after c x.state call).groups ≡ (steps.index_step c x r).1.state.groups
 left_groups c x r call read taken = sym (ap (λ (p : json.Data × calls.Index). p.1.state.groups) (answered_call c x r call read taken))
 
 -- a call isn't refused, or it ended with an error that isn't the device's
-taken_or_kept : (c : calls.Configuration) (x y : calls.Index) (call : calls.Call) (r : Result ⊤ Fault) → calls.Leaves c x call r y → (calls.call_fault c x call ≡ None) ⊎ ((fault : Fault) × (r ≡ Err fault) × (fault ≢ faults.Device))
+pub taken_or_kept : (c : calls.Configuration) (x y : calls.Index) (call : calls.Call) (r : Result ⊤ Fault) → calls.Leaves c x call r y → (calls.call_fault c x call ≡ None) ⊎ ((fault : Fault) × (r ≡ Err fault) × (fault ≢ faults.Device))
 taken_or_kept c x y call r (calls.Leaves.refused fault is) = inr (fault, refl, λ device. true≢false (sym (ap is_failure device) ∙ refused_by_no_failure c x call fault is))
 taken_or_kept c x y call r (calls.Leaves.answered is) = inl is
 taken_or_kept c x y call r (calls.Leaves.memory_refused open_ writes) = inr (faults.OutOfMemory, refl, λ device. cc)
@@ -51,11 +50,11 @@ taken_or_kept c x y call r (calls.Leaves.half_written fault want is writes) = in
 taken_or_kept c x y call r (calls.Leaves.device_failed is writes) = inl is
 taken_or_kept c x y call r (calls.Leaves.slot_damaged is reads) = inl is
 
-if_err_at : (r : Result ⊤ Fault) (fault : Fault) (P : Fault → Type 0) → r ≡ Err fault → IfErr r P → P fault
+pub if_err_at : (r : Result ⊤ Fault) (fault : Fault) (P : Fault → Type 0) → r ≡ Err fault → IfErr r P → P fault
 if_err_at r fault P is h = subst (λ q. IfErr q P) is h
 
 -- a request that reads as a call is asked of the index that stands
-asks_index : (a : steps.Analysis) (schema : Schema) (settings : Settings) (x : calls.Index) (r : requests.Request) (call : calls.Call) → steps.call_in schema r ≡ Ok call
+pub asks_index : (a : steps.Analysis) (schema : Schema) (settings : Settings) (x : calls.Index) (r : requests.Request) (call : calls.Call) → steps.call_in schema r ≡ Ok call
     → (steps.stage_step a (steps.index_of schema settings x) r).1 ≡ steps.index_of schema settings (steps.index_step (steps.configuration_of schema a.analyze settings) x r).1
 asks_index a schema settings x (requests.create_index d more) call read = absurd (not_read _ call read)
 asks_index a schema settings x requests.open_index call read = absurd (not_read _ call read)
@@ -66,22 +65,7 @@ asks_index a schema settings x requests.commit_all call read = refl
 asks_index a schema settings x (requests.search_docs d k) call read = refl
 asks_index a schema settings x (requests.count_docs d) call read = refl
 
-abbrev is_create : Option requests.Request → Bool
-is_create (Some (requests.create_index d more)) = true
-is_create asked = false
-
-abbrev request_or : requests.Request → Option requests.Request → requests.Request
-request_or other None = other
-request_or other (Some r) = r
-
-same_request : (r q : requests.Request) → Some r ≡ Some q → r ≡ q
-same_request r q is = ap (request_or r) is
-
--- an opening is no call
-no_call : (r : requests.Request) (call : calls.Call) → r ≡ requests.open_index → (schema : Schema) → steps.call_in schema r ≡ Ok call → ⊥
-no_call r call is schema read = not_read _ call (sym (ap (steps.call_in schema) is) ∙ read)
-
-abbrev index_or : {D A : Type 0} {d : devices.Ghosts D} {an : analyzers.Ghosts A} → Index D A d an → Stage D A d an → Index D A d an
+abbrev pub index_or : {D A : Type 0} {d : devices.Ghosts D} {an : analyzers.Ghosts A} → Index D A d an → Stage D A d an → Index D A d an
 index_or other (Spare device analyzer) = other
 index_or other (Standing index) = index
 
@@ -154,22 +138,6 @@ module _ {D A : Type 0} (d : devices.Ghosts D) (an : analyzers.Ghosts A) (knows 
       (subst (λ (e : Index D A d an). AsksIndex analyze e after r) (sym (ap (index_or before) is)) asks)
       (subst (λ (t : Stage D A d an). d.left_since (device_on t) (d.moment (device_of before)) image) then_is left)
 
-  -- ---- an opening
-
-  pub open_leaves : (old new : Stage D A d an) (one other : List (List ℕ)) (asked : Option requests.Request) (image : List ℕ) → IsTrue (d.honest (device_on old)) → LeavesNow d.content d.unsynced (device_on old) (IsOneOf one other)
-      → asked ≡ Some requests.open_index → Asks knows analyze old new asked → d.left_since (device_on new) (d.moment (device_on old)) image → IsOneOf one other image
-  open_leaves old new one other _ image honest now is (Asks.nothing asked same) left = now image (only_now (device_on old) image honest (subst (λ (e : D). d.left_since e (d.moment (device_on old)) image) same left))
-  open_leaves old new one other _ image honest now is (Asks.to_create fields numbers unready creates) left = absurd (true≢false (ap is_create is))
-  open_leaves old new one other _ image honest now is (Asks.to_open unready opens) left = (opens one other honest now).each image left
-  open_leaves old new one other _ image honest now is (Asks.of_index was after r old_is then_is asks) left = go asks
-    where
-      same_device : device_of after ≡ device_of was → device_on new ≡ device_on old
-      same_device same = ap device_on then_is ∙ same ∙ sym (ap device_on old_is)
-
-      go : AsksIndex analyze was after r → IsOneOf one other image
-      go (inl same) = now image (only_now (device_on old) image honest (subst (λ (e : D). d.left_since e (d.moment (device_on old)) image) (same_device same) left))
-      go (inr (call, read, writing)) = absurd (no_call r call (same_request r requests.open_index is) (schema_of was) read)
-
   -- ---- of sessions
 
   pub ready_line : (s : steps.Session) (before after : Option (Stage D A d an)) (schema : Schema) (settings : Settings) (x : calls.Index) (line image : List ℕ) → IsTrue (honest_on before) → HasStage knows analyze s.analysis before s.stage → s.stage ≡ steps.index_of schema settings x → x.status ≡ calls.ready
@@ -182,9 +150,3 @@ module _ {D A : Type 0} (d : devices.Ghosts D) (an : analyzers.Ghosts A) (knows 
       let same : there ≡ s = ap (λ (t : steps.Stage). record { analysis = s.analysis; stage = t }) (sym is) in
       subst (λ (z : steps.Session). AreHeld z.analysis.analyze (steps.held_by z.stage) image ⊎ AreHeld z.analysis.analyze (steps.held_by (steps.step z (steps.line_request line)).1.stage) image) same
       (ready_leaves s.analysis old new schema settings x (steps.line_request line) image honest (subst (λ (t : steps.Stage). IsStage knows analyze s.analysis old t) is stands) ready asks left)
-
-  pub open_line : (before after : Option (Stage D A d an)) (one other : List (List ℕ)) (line image : List ℕ) → IsTrue (honest_on before) → LeavesFiles before one other → steps.line_request line ≡ Some requests.open_index
-      → AsksOf knows analyze before after (steps.line_request line) → LeftOn before after image → IsOneOf one other image
-  open_line None after one other line image honest now is asks left = absurd now
-  open_line (Some old) None one other line image honest now is asks left = absurd asks
-  open_line (Some old) (Some new) one other line image honest now is asks left = open_leaves old new one other (steps.line_request line) image honest now is asks left

@@ -30,7 +30,7 @@ use Rattle.definitions.specs.State.{State}
 use Rattle.engine.specs.Indexes.{CrashLeavesEither, IndexStands, IsInFile, KeepsFile, KeepsMaking, analyzer_of, device_of, schema_of, settings_of}
 use Rattle.index.specs.AskedRequests.{index_request_of}
 use Rattle.index.specs.Replying.{Answers, GoesOn, IndexMeets, IsFailed, MayStay, OnlyStops, change_text, closed_index}
-use Rattle.index.specs.Sessions.{HasHeld, HasStage, IsIndex, IsKnown, IsLeft, LeavesStage, MayDrop, MayStayAt, MeetsLimit, Replies, StandsAs, StandsFor, analysis_of, closed_session, closed_stage, failures_of, failures_on, honest_of, honest_on}
+use Rattle.index.specs.Sessions.{HasHeld, HasStage, HoldsOn, IsIndex, IsKnown, IsLeft, LeavesStage, MakesIndex, MayDrop, MayStayAt, MeetsLimit, Replies, StandsAs, StandsFor, analysis_of, closed_session, closed_stage, failures_of, failures_on, honest_of, honest_on}
 use Rattle.engine.specs.declared.index.Index.{Index}
 use Rattle.index.specs.declared.requests.IndexRequest.{IndexRequest}
 use Rattle.index.specs.declared.requests.IndexRequest.TheVariants.{Add, Commit, Count, Delete, Merge, Search}
@@ -83,6 +83,15 @@ asked_step a stage Commit = refl
 asked_step a stage (Search query k) = refl
 asked_step a stage (Count query) = refl
 
+-- and makes none
+makes_none : (r : IndexRequest) → ¬ MakesIndex (Some (index_request_of r))
+makes_none (Add doc) makes = makes
+makes_none (Delete term) makes = makes
+makes_none (Merge from to) makes = makes
+makes_none Commit makes = makes
+makes_none (Search query k) makes = makes
+makes_none (Count query) makes = makes
+
 -- ---- what an index that isn't ready is left as
 
 refused_or_same : (o : Option Fault) (x : calls.Index) (p : json.Data × calls.Index) → p.1 ≡ x → (steps.refused_or o x p).1 ≡ x
@@ -119,7 +128,7 @@ known_after honest content cut old new c s u x r (inr same) (inr held) = elim (u
 ]
 
 -- an index that takes every call is ready
-ready_taken : (status : calls.Status) → steps.takes_calls status ≡ true → status ≡ calls.ready
+pub ready_taken : (status : calls.Status) → steps.takes_calls status ≡ true → status ≡ calls.ready
 ready_taken calls.ready takes = refl
 ready_taken calls.writer_closed takes = absurd (true≢false (sym takes))
 ready_taken calls.closed takes = absurd (true≢false (sym takes))
@@ -172,6 +181,7 @@ module _ {D A Z : Type 0} {d : devices.Ghosts D} {a : analyzers.Ghosts A} where
     failures = same_cause (failures_of old) (failures_of new) change result same failures;
     limit = λ limit. absurd (no_limit (same_error change result faults.Limit same limit));
     failed = λ _ ready device. absurd (true≢false (sym ready ∙ not_ready));
+    emptied = λ makes device. leaves.emptied (same_error change result faults.Device same device);
   }
     where
       text : (result : Result (CowStr Z) Fault) → IfOk result (λ text. cow_str_bytes text ≡ change_text change) → OnOk result (GoesOn change) → IfOk result (λ text. cow_str_bytes text ≡ reply_of ((steps.step s (Some r)).0))
@@ -191,6 +201,7 @@ module _ {D A Z : Type 0} {d : devices.Ghosts D} {a : analyzers.Ghosts A} where
     failures = memory_cause (failures_of session) (Ok text) tt;
     limit = λ limit. absurd (memory_no_limit (Ok text) tt limit);
     failed = λ _ ready device. absurd (memory_no_device (Ok text) tt device);
+    emptied = λ makes device. absurd (memory_no_device (Ok text) tt device);
     left = λ _. tt;
   }
   refused_reply s session fault (Err e) r stands is told memory = record {
@@ -200,6 +211,7 @@ module _ {D A Z : Type 0} {d : devices.Ghosts D} {a : analyzers.Ghosts A} where
     failures = memory_cause {T = CowStr Z} (failures_of session) (Err e) memory;
     limit = λ limit. absurd (memory_no_limit {T = CowStr Z} (Err e) memory limit);
     failed = λ _ ready device. absurd (memory_no_device {T = CowStr Z} (Err e) memory device);
+    emptied = λ makes device. absurd (memory_no_device {T = CowStr Z} (Err e) memory device);
     left = λ _ other. (s, (refl, inl (memory_stays s.stage (Some r) e memory, refl)), stands);
   }
 
@@ -214,6 +226,7 @@ module _ {D A Z : Type 0} {d : devices.Ghosts D} {a : analyzers.Ghosts A} where
     failed = subst (λ stage. IsTrue (honest_of old) → steps.is_ready s.stage ≡ true → IsErrOf result faults.Device
         → HasStage a.knows_name a.analyze s.analysis stage (closed_session s).stage ⊎ HasStage a.knows_name a.analyze (closed_session ((steps.step s o).1)).analysis stage (closed_session ((steps.step s o).1)).stage) (sym same) replies.failed;
     left = subst (λ stage. IsTrue (honest_of old) → IfErr result (λ fault. fault ≢ faults.Device → (t : steps.Session) × IsLeft s o fault t × HasStage a.knows_name a.analyze t.analysis stage t.stage)) (sym same) replies.left;
+    emptied = subst (λ stage. MakesIndex o → IsErrOf result faults.Device → (now : steps.Held) → HoldsOn s.analysis.analyze stage now → HasStage a.knows_name a.analyze s.analysis stage (steps.no_index now)) (sym same) replies.emptied;
   }
 
   -- the reply where nothing is asked for
@@ -227,6 +240,7 @@ module _ {D A Z : Type 0} {d : devices.Ghosts D} {a : analyzers.Ghosts A} where
         failures = memory_cause (failures_of session) (Ok text) tt;
         limit = λ limit. absurd (memory_no_limit (Ok text) tt limit);
         failed = λ _ ready device. absurd (memory_no_device (Ok text) tt device);
+        emptied = λ makes device. absurd (memory_no_device (Ok text) tt device);
         left = λ _. tt;
       })
 
@@ -240,6 +254,7 @@ module _ {D A Z : Type 0} {d : devices.Ghosts D} {a : analyzers.Ghosts A} where
     failures = memory_cause {T = CowStr Z} (failures_of session) (Err e) memory;
     limit = λ limit. absurd (memory_no_limit {T = CowStr Z} (Err e) memory limit);
     failed = λ _ ready device. absurd (memory_no_device {T = CowStr Z} (Err e) memory device);
+    emptied = λ makes device. absurd (memory_no_device {T = CowStr Z} (Err e) memory device);
     left = λ _ other. (s, (refl, inl (memory_stays s.stage o e memory, refl)), stands);
   }
 
@@ -332,6 +347,7 @@ module _ {D A Z : Type 0} {d : devices.Ghosts D} {a : analyzers.Ghosts A} where
           failures = cause_of (asked.failures made_of x stands);
           limit = λ met. subst (λ o. MeetsLimit a.analyze s.analysis o s.stage (Some (index_request_of r))) (sym was) (subst (λ t. MeetsLimit a.analyze s.analysis (Some (Standing old)) t (Some (index_request_of r))) (sym same) (asked.limit made_of x stands met));
           failed = closed_now stands;
+          emptied = λ makes. absurd (makes_none r makes);
         }
 
     -- what a closed index is after a request that left its file alone
@@ -362,6 +378,7 @@ module _ {D A Z : Type 0} {d : devices.Ghosts D} {a : analyzers.Ghosts A} where
           failures = cause_of (asked.failures made_of y stands);
           limit = λ met. absurd (asked.closed made_of y stands also met);
           failed = λ honest ready device. absurd (true≢false (sym ready ∙ ap steps.is_ready same ∙ ap steps.takes_calls closed));
+          emptied = λ makes. absurd (makes_none r makes);
         }
       where
         closed_left : (fault : Fault) → OnlyStops a.analyze old new made_of y (index_request_of r) fault → (t : steps.Session) × IsLeft s (Some (index_request_of r)) fault t × StandsFor after t

@@ -79,6 +79,10 @@ file_unrefused s u ms bytes fault (bodies, file, l) (inr (place, is, damaged)) =
 
 -- ---- an index is made or opened
 
+-- what ended well met no fault
+no_answer : (fault : Fault) → IsErrOf {T = ⊤} (Ok tt) fault → ⊥
+no_answer fault e = cc
+
 -- the reply to a refusal
 refused_text : {S : Type 0} (fault : Fault) (s : S) (p : json.Data × S) → p ≡ steps.refusing fault s → change_text (Err fault) ≡ reply_of p.0
 refused_text fault s p is = error_text fault ∙ ap (λ q. reply_of q.0) (sym is)
@@ -97,6 +101,7 @@ module _ {D A : Type 0} (d : devices.Ghosts D) (an : analyzers.Ghosts A) (knows 
   answered_stage a held index s u x p is stands = record {
     told = λ on. (sym ok_text ∙ ap (λ q. reply_of q.0) (sym is), subst (λ (q : json.Data × steps.Stage). HasStage knows analyze a (Some (Standing index)) q.1) (sym is) stands);
     spare = tt;
+    emptied = λ device. absurd (no_answer faults.Device device);
   }
 
   -- an index was made
@@ -131,6 +136,7 @@ module _ {D A : Type 0} (d : devices.Ghosts D) (an : analyzers.Ghosts A) (knows 
   unmade_stage a device analyzer held s u r spare exact returned honest full kept = record {
     told = λ on. refused_stage a r.device r.analyzer r.fault held (steps.created a.knows s u held) (step on held spare.1 exact) (stays (going_on r.fault faults.Device on refl));
     spare = stays;
+    emptied = λ device now holds. (spare.0 ∙ ap (analysis_of knows analyze) (sym returned), holds);
   }
     where
       stays : r.fault ≢ faults.Device → IsSpare d.honest d.content knows analyze a r.device r.analyzer held
@@ -187,6 +193,7 @@ module _ {D A : Type 0} (d : devices.Ghosts D) (an : analyzers.Ghosts A) (knows 
   unopened_stage a device analyzer held r spare refused returned honest kept = record {
     told = λ on. refused_stage a r.device r.analyzer r.fault held (steps.opened a.knows held) (step on held spare.1 (refused is_honest)) (stays (going_on r.fault faults.Device on refl));
     spare = stays;
+    emptied = λ device now holds. (spare.0 ∙ ap (analysis_of knows analyze) (sym returned), holds);
   }
     where
       is_honest : IsTrue (d.honest device)
@@ -294,9 +301,6 @@ stage_kept {d = d} old device (Err r) same kept honest =
 -- device and analyzer are handed back
 pub handed_back : {D A : Type 0} {d : devices.Ghosts D} {an : analyzers.Ghosts A} (o : Option (Stage D A d an)) (stage : Stage D A d an) (parts : D × A) → o ≡ Some stage → parts.0 ≡ device_on stage → parts.1 ≡ analyzer_on stage → parts_on o ≡ Some parts
 handed_back o stage parts is device analyzer = ap parts_on is ∙ ap₂ (λ x y. Some (x, y)) (sym device) (sym analyzer)
-
-no_answer : (fault : Fault) → IsErrOf {T = ⊤} (Ok tt) fault → ⊥
-no_answer fault e = cc
 
 no_limit : (fault other : Fault) → is_limit other ≡ false → fault ≡ other → IsErrOf {T = ⊤} (Err fault) faults.Limit → ⊥
 no_limit fault other is same limit = true≢false (sym (ap is_limit (ap error_in limit)) ∙ ap is_limit same ∙ is)

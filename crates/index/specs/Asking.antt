@@ -1,5 +1,5 @@
 -- Which call a line makes that may write to the device of what stands.
-use Rattle.std.specs.Prelude.{⊤, ◌≡◌, ◌≢◌, ◌⊎◌, Bool, IfErr, IsTrue, List, None, Ok, Option, Result, Some, false, ℕ}
+use Rattle.std.specs.Prelude.{[], ⊤, ◌≡◌, ◌≢◌, ◌⊎◌, Bool, IfErr, IsTrue, List, None, Ok, Option, Result, Some, false, ℕ}
 use Rattle.common.specs.declared.analyzer.Analyzer as analyzers
 use Rattle.common.specs.declared.device.Device as devices
 use Rattle.definitions.specs.Analyzers.{Analyzer}
@@ -9,31 +9,41 @@ use Rattle.definitions.specs.Requests as requests
 use Rattle.definitions.specs.Step as steps
 use Rattle.definitions.specs.declared.fault.Fault.{Fault}
 use Rattle.definitions.specs.declared.fault.Fault.TheVariants as faults
-use Rattle.engine.specs.Files.{is_first}
+use Rattle.engine.specs.Files.{IsOldOrSame, LeavesNone, is_first}
 use Rattle.engine.specs.Indexes.{IndexStands, KeepsFile, device_of, schema_of}
 use Rattle.engine.specs.Writes.{Writes}
 use Rattle.engine.specs.declared.index.Index.{Index}
-use Rattle.index_file.specs.Kept.{LeavesNow}
+use Rattle.index_file.specs.Kept.{IsKept, LeavesNow}
 use Rattle.index.specs.Sessions.{IsStage, device_on}
 use Rattle.index.specs.declared.stage.Stage.{Stage}
 use Rattle.index.specs.declared.stage.Stage.TheVariants.{Standing}
-use Rattle.layouts.specs.RecordFiles.{IsFresh, IsOneOf}
+use Rattle.layouts.specs.RecordFiles.{IsFresh}
 use Rattle.serde_json.specs.Data as json
 
 module _ {D A : Type 0} {d : devices.Ghosts D} {an : analyzers.Ghosts A} where
-  -- an index was made over the device of what stood, or none: what a crash may leave was fresh and stays so
-  abbrev pub Creates : Stage D A d an → Stage D A d an → Type 0
-  Creates old new =
-      IsTrue (d.honest (device_on old)) → LeavesNow d.content d.unsynced (device_on old) (IsFresh is_first)
-      → LeavesOnly d.moment d.left_since (device_on old) (device_on new) (IsFresh is_first)
+  -- an index was made over the device of what stood, or none
+  pub record Creates (old new : Stage D A d an) : Type 0 where
+    -- a device that holds a byte is as it was
+    pub stays :
+        IsTrue (d.honest (device_on old)) → d.content (device_on old) ≢ []
+        → IsKept d.moment d.left_since d.content d.unsynced (device_on old) (device_on new)
+    -- what a crash may leave was fresh and stays so
+    pub fresh :
+        IsTrue (d.honest (device_on old)) → LeavesNow d.content d.unsynced (device_on old) (IsFresh is_first)
+        → LeavesOnly d.moment d.left_since (device_on old) (device_on new) (IsFresh is_first)
+    -- and it was no index or had the empty list, and stays so
+    pub none :
+        (cut : Analyzer) → IsTrue (d.honest (device_on old))
+        → LeavesNow d.content d.unsynced (device_on old) (LeavesNone cut)
+        → LeavesOnly d.moment d.left_since (device_on old) (device_on new) (LeavesNone cut)
 
-  -- an index was opened from the device of what stood, or none: what a crash may leave was of one of two files, and stays
-  -- so
+  -- an index was opened from the device of what stood, or none: at every moment a crash leaves what it might have left
+  -- before, or a file of the bodies that were read
   abbrev pub Opens : Stage D A d an → Stage D A d an → Type 0
   Opens old new =
-      (one other : List (List ℕ)) → IsTrue (d.honest (device_on old))
-      → LeavesNow d.content d.unsynced (device_on old) (IsOneOf one other)
-      → LeavesOnly d.moment d.left_since (device_on old) (device_on new) (IsOneOf one other)
+      IsTrue (d.honest (device_on old))
+      → LeavesOnly d.moment d.left_since (device_on old) (device_on new)
+      (IsOldOrSame d.content d.unsynced (device_on old))
 
   -- a call that writes a record was made of an index, and ended so
   pub record IsWriting (analyze : A → Analyzer) (old new : Index D A d an) (call : calls.Call) : Type 0 where
@@ -88,7 +98,7 @@ module _ {D A : Type 0} {d : devices.Ghosts D} {an : analyzers.Ghosts A} where
   LeftOn (Some old) (Some new) image = d.left_since (device_on new) (d.moment (device_on old)) image
   LeftOn _ _ image = ⊥
 
-  -- a crash now leaves only files of these bodies or those
-  abbrev pub LeavesFiles : Option (Stage D A d an) → List (List ℕ) → List (List ℕ) → Type 0
-  LeavesFiles (Some stage) one other = LeavesNow d.content d.unsynced (device_on stage) (IsOneOf one other)
-  LeavesFiles None one other = ⊥
+  -- a crash of what stands leaves only this now
+  abbrev pub LeavesOn : Option (Stage D A d an) → (List ℕ → Type 0) → Type 0
+  LeavesOn None P = ⊥
+  LeavesOn (Some stage) P = LeavesNow d.content d.unsynced (device_on stage) P

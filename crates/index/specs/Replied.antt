@@ -1,5 +1,5 @@
 -- What a reply to a line says.
-use Rattle.std.specs.Prelude.{[], ◌≤◌, ◌≡◌, IfErr, IsTrue, List, Result, ℕ}
+use Rattle.std.specs.Prelude.{[], ⊤, ◌≤◌, ◌≡◌, IfErr, IsTrue, List, Result, ℕ}
 use Rattle.std.specs.declared.alloc.Global.{Global}
 use Rattle.std.specs.declared.borrow.CowStr.{CowStr}
 use Rattle.common.specs.declared.analyzer.Analyzer as analyzers
@@ -8,11 +8,13 @@ use Rattle.definitions.specs.Analyzers.{Analyzer}
 use Rattle.definitions.specs.Replying.{stops}
 use Rattle.definitions.specs.Step as steps
 use Rattle.definitions.specs.declared.fault.Fault.{Fault}
+use Rattle.definitions.specs.declared.fault.Fault.TheVariants as faults
 use Rattle.engine.specs.Files.{IsFileOf}
-use Rattle.index.specs.Asking.{AsksOf, LeftOn}
+use Rattle.index.specs.Asking.{AsksOf, LeavesOn, LeftOn}
 use Rattle.index.specs.Replying.{IsUnwritten}
 use Rattle.index.specs.Sessions.{KeepsDeviceOf, Replies, StandsFor, failures_of, honest_of}
 use Rattle.index.specs.declared.session.Session.{Session}
+use Rattle.segment_definitions.specs.SegmentFiles.{LeavesGroups}
 
 -- what a reply to a line says: by each state for which the session before stood, and whatever it stood for
 pub record IsReplied {D A : Type 0} {d : devices.Ghosts D} {a : analyzers.Ghosts A} (old new : Session D A d a)
@@ -37,3 +39,20 @@ abbrev pub AreHeld : Analyzer → steps.Held → List ℕ → Type 0
 AreHeld analyze steps.no_file bytes = bytes ≡ []
 AreHeld analyze (steps.file_of schema settings groups) bytes = IsFileOf schema settings analyze groups bytes
 AreHeld analyze (steps.other_bytes others fault) bytes = bytes ≡ others
+
+-- these bytes are of what a device holds; of a file every record gives its list
+abbrev pub AreGiven : Analyzer → steps.Held → List ℕ → Type 0
+AreGiven analyze steps.no_file bytes = bytes ≡ []
+AreGiven analyze (steps.file_of schema settings groups) bytes = LeavesGroups schema settings analyze bytes groups
+AreGiven analyze (steps.other_bytes others fault) bytes = bytes ≡ others
+
+-- what a device holds is no index, or has the empty list
+abbrev pub HasNoDocuments : steps.Held → Type 0
+HasNoDocuments steps.no_file = ⊤
+HasNoDocuments (steps.file_of schema settings groups) = groups ≡ []
+HasNoDocuments (steps.other_bytes bytes fault) = fault ≡ faults.NoIndex
+
+-- a crash of a session leaves only this now
+abbrev pub LeavesOf :
+    {D A : Type 0} {d : devices.Ghosts D} {a : analyzers.Ghosts A} → Session D A d a → (List ℕ → Type 0) → Type 0
+LeavesOf session P = LeavesOn session.stage P

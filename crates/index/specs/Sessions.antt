@@ -63,6 +63,17 @@ abbrev pub IsSpare :
 IsSpare honest content knows analyze a device analyzer held =
     (a ≡ analysis_of knows analyze analyzer) × HasHeld honest content a.analyze device held
 
+module _ {D A : Type 0} {d : devices.Ghosts D} {an : analyzers.Ghosts A} where
+  -- the device of what stands
+  abbrev pub device_on : Stage D A d an → D
+  device_on (Spare device analyzer) = device
+  device_on (Standing index) = device_of index
+
+  -- that device is honest, and holds this
+  abbrev pub HoldsOn : Analyzer → Option (Stage D A d an) → steps.Held → Type 0
+  HoldsOn analyze None held = ⊥
+  HoldsOn analyze (Some stage) held = HasHeld d.honest d.content analyze (device_on stage) held
+
 module _ {D A : Type 0} {d : devices.Ghosts D} {an : analyzers.Ghosts A} (knows : A → List ℕ → Bool) (analyze : A → Analyzer) where
   -- the index stands for this one; one that is closed, which takes no call, stands for any that is
   abbrev pub StandsAs : Index D A d an → calls.Configuration → calls.Index → Type 0
@@ -94,19 +105,18 @@ module _ {D A : Type 0} {d : devices.Ghosts D} {an : analyzers.Ghosts A} (knows 
   HasStage a (Some stage) s = IsStage a stage s
 
   -- over a device that held this an index was to be made or opened: unless that met a fault that stops, it is told by
-  -- this reply, and this is what stands; after any error but `Device` no index stands, and the device holds what it held
+  -- this reply, and this is what stands; after any error no index stands, and but for `Device` the device holds what it
+  -- held
   pub record LeavesStage (a : steps.Analysis) (held : steps.Held) (stage : Option (Stage D A d an)) (change : Result ⊤ Fault)
       (p : json.Data × steps.Stage) : Type 0 where
     pub told : GoesOn change → (change_text change ≡ reply_of p.0) × HasStage a stage p.1
     pub spare : IfErr change (λ fault. fault ≢ faults.Device → HasStage a stage (steps.no_index held))
+    pub emptied :
+        IsErrOf change faults.Device
+        → (now : steps.Held) → HoldsOn a.analyze stage now → HasStage a stage (steps.no_index now)
 
 module _ {D A : Type 0} {d : devices.Ghosts D} {an : analyzers.Ghosts A} where
-  -- the device of what stands
-  abbrev pub device_on : Stage D A d an → D
-  device_on (Spare device analyzer) = device
-  device_on (Standing index) = device_of index
-
-  -- how often it failed
+  -- how often the device of what stands failed
   abbrev pub failures_on : Option (Stage D A d an) → ℕ
   failures_on None = 0
   failures_on (Some stage) = d.failed (device_on stage)
@@ -187,6 +197,12 @@ MayDrop (Some (requests.create_index value more)) =
 MayDrop (Some requests.open_index) = ⊤
 MayDrop _ = ⊥
 
+-- what is asked is that an index is made, or opened
+abbrev pub MakesIndex : Option requests.Request → Type 0
+MakesIndex (Some (requests.create_index value more)) = ⊤
+MakesIndex (Some requests.open_index) = ⊤
+MakesIndex _ = ⊥
+
 -- the writer of what stood is closed, which what was asked may do
 abbrev pub ClosesWriter : Analyzer → Option requests.Request → steps.Stage → steps.Stage → Type 0
 ClosesWriter analyze asked (steps.no_index held) new = ⊥
@@ -237,3 +253,7 @@ pub record Replies {D A Z : Type 0} {d : devices.Ghosts D} {a : analyzers.Ghosts
   pub failed :
       IsTrue (honest_of old) → steps.is_ready s.stage ≡ true → IsErrOf result faults.Device
       → StandsFor new (closed_session s) ⊎ StandsFor new (closed_session ((steps.step s asked).1))
+  -- where one was to be made or opened no index stands after `Device`, over whatever the device holds then
+  pub emptied :
+      MakesIndex asked → IsErrOf result faults.Device
+      → (now : steps.Held) → HoldsOn s.analysis.analyze new.stage now → StandsFor new (session_on s.analysis now)

@@ -1,4 +1,8 @@
-use Rattle.index.proofs.LineCrashes.{open_line, ready_line}
+use Rattle.std.proofs.Common.{subst, sym}
+use Rattle.index.proofs.LineCrashes.{ready_line}
+use Rattle.index.proofs.LineLists.{open_line, run_leaves}
+use Rattle.index.specs.Sessions.{MakesIndex}
+use Rattle.layouts.specs.RecordFiles.{IsOneOf}
 use Rattle.index.proofs.line_laws.a_crash_inside_a_line_leaves_one_of_two.Goals as goal
 
 pub returns-clause-ready : goal.returns-clause-ready
@@ -7,4 +11,8 @@ returns-clause-ready g c s schema settings x line image result honest stands is 
 
 pub returns-clause-open : goal.returns-clause-open
 returns-clause-open g c one other line image result honest now is replied left =
-    open_line g.D.Device g.A.Analyzer g.A.Analyzer.knows_name g.A.Analyzer.analyze g.met.D.Device.only_now c.args.old.now.stage c.args.new.now.stage one other line image honest now is (replied.asks honest) left
+    let m = g.met.D.Device in
+    let before = c.args.old.now.stage in
+    let after = c.args.new.now.stage in
+    run_leaves g.D.Device g.A.Analyzer g.A.Analyzer.knows_name g.A.Analyzer.analyze m.only_now m.counts_now m.remains before after (IsOneOf one other) image
+    (open_line g.D.Device g.A.Analyzer g.A.Analyzer.knows_name g.A.Analyzer.analyze m.only_now m.counts_now m.remains before after one other _ honest now (subst MakesIndex (sym is) tt) (replied.asks honest)) left

@@ -45,4 +45,4 @@ returns-clause-kept g c honest =
 pub returns-clause-creates : goal.returns-clause-creates
 returns-clause-creates g c =
     subst (λ r. Creates c.args.self r.0) (sym c.leave.ensures)
-    (creates_of c.args.self c.into_device-device.result.0 c.create.result c.into_device-device.ensures.device c.create.ensures.any_moment)
+    (creates_of c.args.self c.into_device-device.result.0 c.create.result c.into_device-device.ensures.device c.create.ensures.empty c.create.ensures.stays c.create.ensures.any_moment c.create.ensures.lists)

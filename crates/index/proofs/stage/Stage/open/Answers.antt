@@ -48,4 +48,4 @@ returns-clause-kept g c honest =
 pub returns-clause-opens : goal.returns-clause-opens
 returns-clause-opens g c =
     subst (λ r. Opens c.args.self r.0) (sym c.leave.ensures)
-    (opens_of c.args.self c.into_device-device.result.0 c.open.result c.into_device-device.ensures.device c.open.ensures.any_moment)
+    (opens_of c.args.self c.into_device-device.result.0 c.open.result c.into_device-device.ensures.device c.open.ensures.images)
