@@ -1,10 +1,11 @@
 //! Operations that make an index, open it again and change it.
 
-use crate::histories::{CaseDevice, CaseIndex, Histories};
+use crate::case_histories::{CaseDevice, CaseIndex, Histories};
 use case_lines::{Arguments, Refusal, document_of_values, flag, number, term_in};
 use common::{FuseDevice, MemoryDevice, RawAndDefault};
 use definitions::Fault;
-use engine::{Index, Refused};
+use engine::Refused;
+use histories::calls;
 use schema::Schema;
 use serde_json::Value;
 use settings::Settings;
@@ -44,33 +45,33 @@ impl Histories {
 
     /// Adds the document in an object.
     pub(crate) fn add(&mut self, arguments: &Arguments) -> Result<Value, Refusal> {
-        self.standing_mut()?.add_value(arguments.value(0)?)?;
+        calls::add_value(self.standing_mut()?, arguments.value(0)?)?;
         Ok(flag(true))
     }
 
     /// Adds the document in a text.
     pub(crate) fn add_text(&mut self, arguments: &Arguments) -> Result<Value, Refusal> {
-        self.standing_mut()?.add_json(arguments.text(0)?)?;
+        calls::add_json(self.standing_mut()?, arguments.text(0)?)?;
         Ok(flag(true))
     }
 
     /// Adds the values of fields, by their numbers.
     pub(crate) fn add_values(&mut self, arguments: &Arguments) -> Result<Value, Refusal> {
         let doc = document_of_values(self.alloc, arguments.list(0)?)?;
-        self.standing_mut()?.add_document(&doc)?;
+        calls::add_document(self.standing_mut()?, &doc)?;
         Ok(flag(true))
     }
 
     /// Deletes the documents with a term.
     pub(crate) fn delete(&mut self, arguments: &Arguments) -> Result<Value, Refusal> {
         let term = term_in(self.alloc, arguments.value(0)?)?;
-        self.standing_mut()?.delete_term(&term)?;
+        calls::delete_term(self.standing_mut()?, &term)?;
         Ok(flag(true))
     }
 
     /// Commits what waits.
     pub(crate) fn commit(&mut self) -> Result<Value, Refusal> {
-        self.standing_mut()?.commit()?;
+        calls::commit(self.standing_mut()?)?;
         Ok(flag(true))
     }
 
@@ -78,7 +79,7 @@ impl Histories {
     pub(crate) fn merge(&mut self, arguments: &Arguments) -> Result<Value, Refusal> {
         let from = arguments.number(0)? as usize;
         let to = arguments.number(1)? as usize;
-        self.standing_mut()?.merge(from..to)?;
+        calls::merge(self.standing_mut()?, from..to)?;
         Ok(flag(true))
     }
 
@@ -106,13 +107,13 @@ impl Histories {
     ) -> Result<(), Fault> {
         let fused = FuseDevice::new(device, k);
         let (schema, settings) = configuration;
-        self.put(Index::create(self.alloc, fused, RawAndDefault, schema, settings))
+        self.put(calls::create(self.alloc, fused, RawAndDefault, schema, settings))
     }
 
     /// Lets the index of a device's file stand, over a fuse that blows at the k-th call.
     pub(crate) fn put_opened(&mut self, device: MemoryDevice, k: u64) -> Result<(), Fault> {
         let fused = FuseDevice::new(device, k);
-        self.put(Index::open(self.alloc, fused, RawAndDefault))
+        self.put(calls::open(self.alloc, fused, RawAndDefault))
     }
 
     /// Lets a device stand whose file isn't opened.

@@ -1,11 +1,12 @@
 //! Commits and merges that a crash cuts off, opened at each length that it may leave.
 
+use crate::case_histories::Histories;
 use crate::crash_images::after_crash_to_length;
 use crate::crashes::ending;
-use crate::histories::Histories;
 use case_lines::{Arguments, Refusal, Runs, number, pair, text, triple};
 use common::MemoryDevice;
 use definitions::Fault;
+use histories::calls;
 use serde_json::Value;
 
 impl Histories {
@@ -14,7 +15,7 @@ impl Histories {
         let byte = arguments.byte(0)?;
         let limit = arguments.number(1)?;
         let steps = arguments.list(2)?;
-        let ended = self.standing_mut()?.commit();
+        let ended = calls::commit(self.standing_mut()?);
         self.at_each_length(byte, limit, steps, ended)
     }
 
@@ -25,7 +26,7 @@ impl Histories {
         let to = arguments.number(2)? as usize;
         let limit = arguments.number(3)?;
         let steps = arguments.list(4)?;
-        let ended = self.standing_mut()?.merge(from..to);
+        let ended = calls::merge(self.standing_mut()?, from..to);
         self.at_each_length(byte, limit, steps, ended)
     }
 

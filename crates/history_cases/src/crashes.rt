@@ -1,9 +1,10 @@
 //! Creates, openings, commits and merges that a failing device or a crash cuts off.
 
+use crate::case_histories::Histories;
 use crate::crash_images::{Left, after_crash};
-use crate::histories::Histories;
 use case_lines::{Arguments, Refusal, flag, text};
 use definitions::Fault;
+use histories::calls;
 use serde_json::Value;
 
 impl Histories {
@@ -26,7 +27,7 @@ impl Histories {
     /// one. Answers how the commit ended.
     pub(crate) fn crash(&mut self, arguments: &Arguments, left: Left) -> Result<Value, Refusal> {
         let byte = arguments.byte(0)?;
-        let ended = self.standing_mut()?.commit();
+        let ended = calls::commit(self.standing_mut()?);
         self.open_after_crash(byte, left, ended)
     }
 
@@ -39,7 +40,7 @@ impl Histories {
         let byte = arguments.byte(0)?;
         let from = arguments.number(1)? as usize;
         let to = arguments.number(2)? as usize;
-        let ended = self.standing_mut()?.merge(from..to);
+        let ended = calls::merge(self.standing_mut()?, from..to);
         self.open_after_crash(byte, left, ended)
     }
 

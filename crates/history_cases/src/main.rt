@@ -2,15 +2,15 @@
 //! arguments, and the line of standard output with the same number is its answer.
 #![tactic(auto)]
 
+mod case_histories;
 mod changes;
 mod crash_images;
 mod crash_lengths;
 mod crashes;
-mod histories;
 mod searches;
 
+use case_histories::Histories;
 use case_lines::answers;
-use histories::Histories;
 use serde_json::Value;
 use std::io;
 use std::process::ExitCode;

@@ -1,7 +1,8 @@
 //! Operations that ask the index.
 
-use crate::histories::Histories;
+use crate::case_histories::Histories;
 use case_lines::{Arguments, Refusal, number, pair, query_by_steps};
+use histories::calls;
 use segment_search::Hit;
 use serde_json::Value;
 use std::alloc::{AllocError, Global};
@@ -16,14 +17,23 @@ impl Histories {
     pub(crate) fn best(&mut self, limit: u64, steps: &[Value]) -> Result<Value, Refusal> {
         let query = query_by_steps(self.alloc, steps)?;
         let alloc = self.alloc;
-        let hits = self.standing_mut()?.search(&query, limit as usize)?;
+        let hits = calls::search(self.standing_mut()?, &query, limit as usize)?;
         Ok(shown(alloc, &hits)?)
+    }
+
+    /// The same, and how many blocks of postings were decoded for it.
+    pub(crate) fn search_counted(&mut self, arguments: &Arguments) -> Result<Value, Refusal> {
+        let query = query_by_steps(self.alloc, arguments.list(1)?)?;
+        let limit = arguments.number(0)? as usize;
+        let alloc = self.alloc;
+        let (hits, blocks) = self.standing_mut()?.search_counted(&query, limit)?;
+        Ok(pair(alloc, shown(alloc, &hits)?, number(blocks))?)
     }
 
     /// How many documents match a query.
     pub(crate) fn count(&self, arguments: &Arguments) -> Result<Value, Refusal> {
         let query = query_by_steps(self.alloc, arguments.list(0)?)?;
-        Ok(number(self.standing()?.count(&query)?))
+        Ok(number(calls::count(self.standing()?, &query)?))
     }
 }
 

@@ -122,6 +122,7 @@ impl Operations for Histories {
             "commit" => self.commit(),
             "merge" => self.merge(arguments),
             "search" => self.search(arguments),
+            "search-counted" => self.search_counted(arguments),
             "count" => self.count(arguments),
             "counts" => self.counts(),
             "state" => self.state(),
