@@ -108,8 +108,8 @@ fn best_searched<'a, S: Statistics>(
     best_of_each(alloc, searcher.segment_readers(), alive, &weight, limit)
 }
 
-/// Returns the best `limit` documents of `readers` that match the query of `weight` and are alive by the sets at the
-/// same places.
+/// Returns the best `limit` documents of `readers` that match the query of `weight` and are alive by the sets at the same
+/// places.
 fn best_of_each<'a, W: LeafWeights<'a>>(
     alloc: Global,
     readers: &[SegmentReader<'a>],
