@@ -176,7 +176,7 @@ module _ (size : ℕ) where
 
     module _ (starts : List TermStart) (key : List ℕ) (d : TermStart) (are : starts ≡ starts_from size 0 [] first ts) where
       -- before the first block there is none
-      none_up_to : AreUpTo section starts key 0 → AreBehind key ts
+      pub none_up_to : AreUpTo section starts key 0 → AreBehind key ts
       none_up_to up = go ts refl
         where
           zero_is : size * 0 ≡ 0

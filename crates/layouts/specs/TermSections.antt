@@ -21,22 +21,6 @@ pub record FieldTerms : Type 0 where
   pub num_tokens : ℕ
   pub terms : List (List ℕ × TermLengths)
 
--- a term by its value bytes, and its lengths
-abbrev pub entry_of_term : List ℕ × TermLengths → List ℕ
-entry_of_term t = sized_bytes t.0 ++ vint_bytes t.1.doc_freq ++ vint_bytes t.1.postings_len ++ vint_bytes t.1.positions_len
-
--- a field, its number of tokens and of terms, and its terms
-abbrev pub field_terms_bytes : FieldTerms → List ℕ
-field_terms_bytes f = u32_bytes f.field ++ u64_bytes f.num_tokens ++ vint_bytes (length f.terms) ++ flat_map entry_of_term f.terms
-
--- the section of kind 0: its kind, and the fields one after another
-abbrev pub terms_bytes : List FieldTerms → List ℕ
-terms_bytes fields = 0 ∷ flat_map field_terms_bytes fields
-
--- the section spells these fields, in one of the kinds that there are
-abbrev pub AreSpelled : List FieldTerms → List ℕ → Type 0
-AreSpelled fields bytes = bytes ≡ terms_bytes fields
-
 -- ---- terms in blocks of so many: the first of a block stands whole, each other behind what it shares with the one before
 
 -- with how many bytes two keys begin alike
@@ -78,6 +62,24 @@ coded_from size number before (t ∷ ts) = coded_entry (before_in_block size num
 -- all terms of a field
 abbrev pub coded_terms : ℕ → List Told → List ℕ
 coded_terms size ts = coded_from size 0 [] ts
+
+-- ---- fields
+
+-- a field, its number of tokens and of terms, and its terms
+abbrev pub field_terms_bytes : ℕ → FieldTerms → List ℕ
+field_terms_bytes size f = u32_bytes f.field ++ u64_bytes f.num_tokens ++ vint_bytes (length f.terms) ++ coded_terms size f.terms
+
+-- the byte of a kind of section
+abbrev pub kind_byte : Bool → ℕ
+kind_byte front_coded = if front_coded then 1 else 0
+
+-- the section of a kind: its byte, and the fields one after another
+abbrev pub terms_bytes : Bool → List FieldTerms → List ℕ
+terms_bytes front_coded fields = kind_byte front_coded ∷ flat_map (field_terms_bytes (block_size front_coded)) fields
+
+-- the section spells these fields, in one of the kinds that there are
+abbrev pub AreSpelled : List FieldTerms → List ℕ → Type 0
+AreSpelled fields bytes = (front_coded : Bool) × (bytes ≡ terms_bytes front_coded fields)
 
 -- ---- the order of terms, and where theirs stand
 

@@ -5,7 +5,7 @@ use Rattle.std.specs.List.{AllByRecursion, enumerate_from}
 use Rattle.definitions.specs.Schema.{Entry, Schema, is_indexed}
 use Rattle.definitions.specs.declared.fault.Fault.{Fault}
 use Rattle.layouts.specs.InvertedIndexes.{IndexedField, IndexedTerm, field_ids, field_terms}
-use Rattle.layouts.specs.TermSections.{field_terms_bytes}
+use Rattle.layouts.specs.TermSections.{block_size, field_terms_bytes}
 use Rattle.merging.specs.Members.{merged_in}
 use Rattle.merging.specs.MergedFields.{IsFieldGiven}
 use Rattle.merging.specs.ToldFields.{AreMerged, IsMergeRefusal, IsMergedField}
@@ -37,7 +37,7 @@ joined f was now new xs x first more = more ∙ ap₂ (λ ys zs. ys ++ zs) first
 
 added_more : (was now new : Sections) (fields : List IndexedField) (f : IndexedField) → AreFieldsAdded was now fields → AreFieldsAdded now new (f ∷ []) → AreFieldsAdded was new (fields ++ f ∷ [])
 added_more was now new fields f before more = record {
-  terms = joined field_terms_bytes was.terms now.terms new.terms (map field_terms fields) (field_terms f) before.terms more.terms ∙ ap (λ ts. was.terms ++ flat_map field_terms_bytes ts) (sym (map-append field_terms fields (f ∷ [])));
+  terms = joined (field_terms_bytes (block_size true)) was.terms now.terms new.terms (map field_terms fields) (field_terms f) before.terms more.terms ∙ ap (λ ts. was.terms ++ flat_map (field_terms_bytes (block_size true)) ts) (sym (map-append field_terms fields (f ∷ [])));
   postings = joined (λ (g : IndexedField). flat_map (λ (t : IndexedTerm). t.postings_bytes) g.terms) was.postings now.postings new.postings fields f before.postings more.postings;
   positions = joined (λ (g : IndexedField). flat_map (λ (t : IndexedTerm). t.positions_bytes) g.terms) was.positions now.positions new.positions fields f before.positions more.positions;
 }

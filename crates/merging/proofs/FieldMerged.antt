@@ -13,7 +13,7 @@ use Rattle.segment_reader.proofs.ReaderCalls.{dictionary_is}
 use Rattle.segment_reader.specs.Dictionaries.{Placed}
 use Rattle.segment_reader.specs.Readers.{dictionary_in, info_in, postings_in}
 use Rattle.layouts.specs.InvertedIndexes.{IndexedField, IndexedTerm, field_terms, lengths_of}
-use Rattle.layouts.specs.TermSections.{TermsAscend, entry_of_term, field_terms_bytes}
+use Rattle.layouts.specs.TermSections.{TermsAscend, block_size, coded_from, field_terms_bytes}
 use Rattle.merging.proofs.MemberPostings.{contents_of, none_held}
 use Rattle.merging.specs.Members.{AreMembers, IsMember, living_of, merged_in}
 use Rattle.merging.specs.MergedFields.{IsFieldGiven, IsTermGiven}
@@ -186,13 +186,13 @@ module _ (s now : Sections) (field : ℕ) (e : Entry) (norms : Option (List ℕ)
   tokens_are : w.num_tokens ≡ sum_by (λ (t : IndexedTerm). sum_by (λ p. p.count) t.postings) ts
   tokens_are = (let whole = added.tokens in let same = told_tokens ts ∙ ap tokens_in added.told_are in omega (arith, whole, same))
 
-  terms_added : (field_closed w).terms ≡ s.terms ++ flat_map field_terms_bytes (field_terms (record { field = field; terms = ts }) ∷ [])
+  terms_added : (field_closed w).terms ≡ s.terms ++ flat_map (field_terms_bytes (block_size true)) (field_terms (record { field = field; terms = ts }) ∷ [])
   terms_added =
-      spelled_same w.terms.closed s.terms w.field field w.num_tokens (sum_by (λ (t : IndexedTerm). sum_by (λ p. p.count) t.postings) ts) w.terms.num_terms (length (map lengths_of ts)) w.terms.entries (flat_map entry_of_term (map lengths_of ts))
+      spelled_same w.terms.closed s.terms w.field field w.num_tokens (sum_by (λ (t : IndexedTerm). sum_by (λ p. p.count) t.postings) ts) w.terms.num_terms (length (map lengths_of ts)) w.terms.entries (coded_from (block_size true) 0 [] (map lengths_of ts))
       (ap (λ (x : writing.Terms). x.closed) added.terms) added.same.0 tokens_are
       (ap (λ (x : writing.Terms). x.num_terms) added.terms ∙ (let long = length-map ts lengths_of in let P : 0 + length ts ≡ length (map lengths_of ts) = omega arith in P))
       (ap (λ (x : writing.Terms). x.entries) added.terms)
-      ∙ regroup s.terms (u32_bytes field) (u64_bytes (sum_by (λ (t : IndexedTerm). sum_by (λ p. p.count) t.postings) ts)) (vint_bytes (length (map lengths_of ts))) (flat_map entry_of_term (map lengths_of ts))
+      ∙ regroup s.terms (u32_bytes field) (u64_bytes (sum_by (λ (t : IndexedTerm). sum_by (λ p. p.count) t.postings) ts)) (vint_bytes (length (map lengths_of ts))) (coded_from (block_size true) 0 [] (map lengths_of ts))
 
   pub field_added : now ≡ field_closed w → AreFieldsAdded s now (record { field = field; terms = ts } ∷ [])
   field_added is = record {

@@ -5,15 +5,14 @@ use Rattle.std.proofs.lemmas.List.Sums.{sum_by-append, sum_by-cons, sum_by_push}
 use Rattle.definitions.specs.Postings.{Posting}
 use Rattle.definitions.specs.Schema.{IndexRecordOption, Kind}
 use Rattle.definitions.specs.declared.fault.Fault.{Fault}
-use Rattle.layouts.specs.InvertedIndexes.{IndexedTerm, lengths_of}
+use Rattle.layouts.specs.InvertedIndexes.{IndexedTerm}
 use Rattle.layouts.specs.TermPostings.{postings_bytes}
-use Rattle.layouts.specs.TermSections.{entry_of_term}
 use Rattle.merging.specs.MergedTerm.{IsMergedTerm, IsPassed, IsTermRefusal}
 use Rattle.merging.specs.MergedTerms.{AreAdded, IsTermsRefusal, Told, tokens_in, tokens_of, with_term}
 use Rattle.packed_blocks.specs.UnpackedBlocks.{listed}
-use Rattle.postings_writer.specs.FieldWriting.{FieldWriting, Terms, inserted}
+use Rattle.postings_writer.specs.FieldWriting.{FieldWriting, Terms, inserted, with_terms}
 use Rattle.postings_writer.specs.TermWriting.{recorded_count}
-use Rattle.postings_writer.proofs.WrittenFields.{all_push, flat_map_push}
+use Rattle.postings_writer.proofs.WrittenFields.{all_push, flat_map_push, one_term_more}
 use Rattle.postings_writer.specs.Limits.{TermPasses}
 use Rattle.postings_writer.specs.Sections.{IsSpelled, option_in}
 use Rattle.postings_writer.specs.Serializing.{IsWrittenTerm}
@@ -29,7 +28,7 @@ pub none_added : (kind : Kind) (was : FieldWriting) → was.positions.1 ≡ [] �
 none_added kind was nothing = record {
   told_are = refl;
   each = tt;
-  terms = ap₂ (λ es n. record { closed = was.terms.closed; entries = es; num_terms = n }) (sym (append-nil was.terms.entries)) (let P : was.terms.num_terms ≡ was.terms.num_terms + 0 = omega arith in P);
+  terms = ap₂ (λ es n. record { closed = was.terms.closed; entries = es; num_terms = n; last = was.terms.last }) (sym (append-nil was.terms.entries)) (let P : was.terms.num_terms ≡ was.terms.num_terms + 0 = omega arith in P);
   postings = sym (append-nil was.postings);
   positions = ap₂ (λ xs ys. (xs, ys)) (sym (append-nil was.positions.0)) nothing;
   few = λ some. absurd (omega arith);
@@ -55,14 +54,8 @@ module _ (kind : Kind) (was now new : FieldWriting) (told : Told) (ts : List Ind
   abbrev entered : ℕ → List ℕ → Terms → Terms
   entered freq bytes terms = inserted key (record { doc_freq = freq; postings_len = length bytes; positions_len = length w.bytes }) terms
 
-  terms_are : new.terms ≡ record { closed = was.terms.closed; entries = was.terms.entries ++ flat_map entry_of_term (map lengths_of (ts ++ t ∷ [])); num_terms = was.terms.num_terms + length (ts ++ t ∷ []) }
-  terms_are =
-      w.terms
-      ∙ ap₂ (λ n xs. entered n xs now.terms) (length-map ps (λ (p : Posting). p.doc)) bytes_are
-      ∙ ap (entered (length ps) t.postings_bytes) before.terms
-      ∙ ap₂ (λ es n. record { closed = was.terms.closed; entries = es; num_terms = n })
-      (append_assoc was.terms.entries (flat_map entry_of_term (map lengths_of ts)) (entry_of_term (lengths_of t)) ∙ ap (λ es. was.terms.entries ++ es) (sym (flat_map_push entry_of_term (map lengths_of ts) (lengths_of t)) ∙ ap (flat_map entry_of_term) (sym (map-append lengths_of ts (t ∷ [])))))
-      (let long = length-append ts (t ∷ []) in let P : was.terms.num_terms + length ts + 1 ≡ was.terms.num_terms + length (ts ++ t ∷ []) = omega arith in P)
+  terms_are : new.terms ≡ with_terms (ts ++ t ∷ []) was.terms
+  terms_are = w.terms ∙ ap₂ (λ n xs. entered n xs now.terms) (length-map ps (λ (p : Posting). p.doc)) bytes_are ∙ ap (entered (length ps) t.postings_bytes) before.terms ∙ one_term_more was.terms ts t
 
   pub added_more : AreAdded kind was new (told ++ (key, ps) ∷ []) (ts ++ t ∷ [])
   added_more = record {

@@ -5,12 +5,11 @@ use Rattle.definitions.specs.Postings.{Posting}
 use Rattle.definitions.specs.Schema.{Kind}
 use Rattle.definitions.specs.declared.fault.Fault.{Fault}
 use Rattle.definitions.specs.declared.fault.Fault.TheVariants as faults
-use Rattle.layouts.specs.InvertedIndexes.{IndexedField, IndexedTerm, lengths_of}
-use Rattle.layouts.specs.TermSections.{entry_of_term}
+use Rattle.layouts.specs.InvertedIndexes.{IndexedField, IndexedTerm}
 use Rattle.merging.specs.Members.{merged_in}
 use Rattle.merging.specs.declared.member.Member.{Member}
 use Rattle.packed_blocks.specs.UnpackedBlocks.{listed}
-use Rattle.postings_writer.specs.FieldWriting.{FieldWriting}
+use Rattle.postings_writer.specs.FieldWriting.{FieldWriting, with_terms}
 use Rattle.postings_writer.specs.Limits.{TermPasses}
 use Rattle.postings_writer.specs.Sections.{IsSpelled, option_in}
 
@@ -40,7 +39,7 @@ told_in field (key ∷ keys) members all = with_term key (merged_in field key me
 pub record AreAdded (kind : Kind) (was now : FieldWriting) (told : Told) (ts : List IndexedTerm) : Type 0 where
   pub told_are : map {B = List ℕ × List Posting} (λ (t : IndexedTerm). (t.key, t.postings)) ts ≡ told
   pub each : AllByRecursion (λ (t : IndexedTerm). IsSpelled (option_in kind was.writing.mode t.key) (listed was.writing.norms) t) ts
-  pub terms : now.terms ≡ record { closed = was.terms.closed; entries = was.terms.entries ++ flat_map entry_of_term (map lengths_of ts); num_terms = was.terms.num_terms + length ts }
+  pub terms : now.terms ≡ with_terms ts was.terms
   pub postings : now.postings ≡ was.postings ++ flat_map (λ (t : IndexedTerm). t.postings_bytes) ts
   pub positions : now.positions ≡ (was.positions.0 ++ flat_map (λ (t : IndexedTerm). t.positions_bytes) ts, [])
   pub few : 0 < length ts → was.terms.num_terms + length ts ≤ 4294967295

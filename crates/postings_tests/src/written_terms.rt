@@ -84,7 +84,8 @@ fn are_sections(
 }
 
 // The section of the terms `ab` and `b`.
-const TWO_TERMS: &[u8] = b"\0\0\0\0\0\x03\0\0\0\0\0\0\0\x82\x82ab\x81\x82\x82\x81b\x81\x82\x83";
+const TWO_TERMS: &[u8] =
+    b"\x01\0\0\0\0\x03\0\0\0\0\0\0\0\x82\x82ab\x81\x82\x82\x80\x81b\x81\x82\x83";
 
 #[test]
 fn terms_are_written_in_their_order(rt: HostRuntime) -> Result<(), Fail> {
@@ -102,7 +103,7 @@ fn terms_are_written_in_their_order(rt: HostRuntime) -> Result<(), Fail> {
 
 #[test]
 fn a_field_without_terms_is_written(rt: HostRuntime) -> Result<(), Fail> {
-    let terms = b"\0\0\0\0\0\0\0\0\0\0\0\0\0\x80";
+    let terms = b"\x01\0\0\0\0\0\0\0\0\0\0\0\0\x80";
     assert!(rt; are_sections(rt.alloc(), &[], terms, b"", b"")?);
     Ok(())
 }

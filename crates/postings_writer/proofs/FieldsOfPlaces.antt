@@ -11,7 +11,7 @@ use Rattle.definitions.specs.Schema.{Entry, IndexRecordOption, Kind}
 use Rattle.definitions.specs.declared.fault.Fault.{Fault}
 use Rattle.definitions.specs.declared.fault.Fault.TheVariants as faults
 use Rattle.layouts.specs.InvertedIndexes.{IndexedField, IndexedTerm, field_terms, lengths_of}
-use Rattle.layouts.specs.TermSections.{TermsAscend, entry_of_term, field_terms_bytes}
+use Rattle.layouts.specs.TermSections.{TermsAscend, block_size, coded_from, field_terms_bytes}
 use Rattle.postings_writer.specs.FieldWriting.{FieldWriting, Sections, field_begun, field_closed}
 use Rattle.postings_writer.specs.Fields.{HasPlaces, Terms, option_of_key}
 use Rattle.postings_writer.specs.Limits.{IsFieldRefusal, TermPasses, TooMany}
@@ -98,13 +98,13 @@ module _ (s now : Sections) (field : ℕ) (mode : IndexRecordOption) (norms : Op
   pub tokens_within : tokens_in ts < 2 ^ 64
   tokens_within = (let none : 0 < 2 ^ 64 = omega arith in subst (λ n. n < 2 ^ 64) tokens_are (added.tokens_fit none))
 
-  terms_added : (field_closed w).terms ≡ s.terms ++ flat_map field_terms_bytes (field_terms (record { field = field; terms = ts }) ∷ [])
+  terms_added : (field_closed w).terms ≡ s.terms ++ flat_map (field_terms_bytes (block_size true)) (field_terms (record { field = field; terms = ts }) ∷ [])
   terms_added =
-      spelled_same w.terms.closed s.terms w.field field w.num_tokens (tokens_in ts) w.terms.num_terms (length (map lengths_of ts)) w.terms.entries (flat_map entry_of_term (map lengths_of ts))
+      spelled_same w.terms.closed s.terms w.field field w.num_tokens (tokens_in ts) w.terms.num_terms (length (map lengths_of ts)) w.terms.entries (coded_from (block_size true) 0 [] (map lengths_of ts))
       (ap (λ (x : Rattle.postings_writer.specs.FieldWriting.Terms). x.closed) added.terms) added.same.0 tokens_are
       (ap (λ (x : Rattle.postings_writer.specs.FieldWriting.Terms). x.num_terms) added.terms ∙ (let long = length-map ts lengths_of in let P : 0 + length ts ≡ length (map lengths_of ts) = omega arith in P))
       (ap (λ (x : Rattle.postings_writer.specs.FieldWriting.Terms). x.entries) added.terms)
-      ∙ regroup s.terms (u32_bytes field) (u64_bytes (tokens_in ts)) (vint_bytes (length (map lengths_of ts))) (flat_map entry_of_term (map lengths_of ts))
+      ∙ regroup s.terms (u32_bytes field) (u64_bytes (tokens_in ts)) (vint_bytes (length (map lengths_of ts))) (coded_from (block_size true) 0 [] (map lengths_of ts))
 
   pub field_added : now ≡ field_closed w → AreFieldsAdded s now (record { field = field; terms = ts } ∷ [])
   field_added is = record {

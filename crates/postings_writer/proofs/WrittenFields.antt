@@ -1,5 +1,5 @@
 -- Terms that were written to a field, and fields that were written to the sections.
-use Rattle.std.proofs.Common.{[], ◌++◌, ◌⊎◌, IsSomeAnd, Some, append-nil, inl, inr, option_map, slice_get, suc, zero, ◌+◌, ◌<◌, ◌^◌, ◌≡◌, ◌≤◌, ◌∙◌, ◌∷◌, List, ap, ap₂, append_assoc, arith, get_or, length, length-append, map, refl, subst, sum_by, sym, take, ℕ}
+use Rattle.std.proofs.Common.{[], ◌++◌, ◌⊎◌, IsSomeAnd, Some, append-nil, inl, inr, option_map, slice_get, suc, zero, ◌+◌, ◌<◌, ◌^◌, ◌≡◌, ◌≤◌, ◌∙◌, ◌∷◌, List, ap, ap₂, append_assoc, arith, get_or, length, length-append, map, refl, subst, sum_by, sym, take, true, ℕ}
 use Rattle.std.specs.List.{AllByRecursion, flat_map}
 use Rattle.std.proofs.lemmas.List.{length-map, length-take-le, map-append, take-map, take_more}
 use Rattle.std.proofs.lemmas.List.Sums.{sum_by-cons, sum_by-take-le, sum_by_push}
@@ -11,8 +11,10 @@ use Rattle.definitions.specs.declared.fault.Fault.{Fault}
 use Rattle.definitions.specs.declared.fault.Fault.TheVariants as faults
 use Rattle.layouts.specs.InvertedIndexes.{IndexedTerm, lengths_of}
 use Rattle.layouts.specs.TermPostings.{postings_bytes}
-use Rattle.layouts.specs.TermSections.{entry_of_term}
-use Rattle.postings_writer.specs.FieldWriting.{FieldWriting, Terms, inserted}
+use Rattle.front_coding.proofs.TermsLoop.{coded_pushed, last_pushed}
+use Rattle.front_coding.specs.TakenKeys.{last_key}
+use Rattle.layouts.specs.TermSections.{before_in_block, block_size, coded_entry, coded_from}
+use Rattle.postings_writer.specs.FieldWriting.{FieldWriting, Terms, inserted, with_terms}
 use Rattle.postings_writer.specs.TermWriting.{recorded_count}
 use Rattle.postings_writer.specs.Limits.{TermPasses}
 use Rattle.postings_writer.specs.Sections.{AnyTermPasses, AreAdded, IsSpelled, option_in, tokens_in}
@@ -24,6 +26,24 @@ use Rattle.postings_writer.proofs.WrittenTerms.{IsTermRefusal}
 pub flat_map_push : {A B : Type 0} (f : A → List B) (xs : List A) (x : A) → flat_map f (xs ++ x ∷ []) ≡ flat_map f xs ++ f x
 flat_map_push f [] x = append-nil (f x)
 flat_map_push f (y ∷ ys) x = ap (λ zs. f y ++ zs) (flat_map_push f ys x) ∙ sym (append_assoc (f y) (flat_map f ys) (f x))
+
+-- one term more behind others
+pub one_term_more : (terms : Terms) (ts : List IndexedTerm) (t : IndexedTerm) → inserted t.key (lengths_of t).1 (with_terms ts terms) ≡ with_terms (ts ++ t ∷ []) terms
+one_term_more terms ts t =
+    let size = block_size true in
+    let told = map lengths_of ts in
+    let written = coded_from size terms.num_terms terms.last told in
+    let all : map lengths_of (ts ++ t ∷ []) ≡ told ++ lengths_of t ∷ [] = map-append lengths_of ts (t ∷ []) in
+    let many : terms.num_terms + length ts ≡ terms.num_terms + length told = sym (ap (λ n. terms.num_terms + n) (length-map ts lengths_of)) in
+    let more = coded_from size terms.num_terms terms.last (map lengths_of (ts ++ t ∷ [])) in
+    let entries : (terms.entries ++ written) ++ coded_entry (before_in_block size (terms.num_terms + length ts) (last_key terms.last told)) (lengths_of t) ≡ terms.entries ++ more =
+    append_assoc terms.entries written (coded_entry (before_in_block size (terms.num_terms + length ts) (last_key terms.last told)) (lengths_of t))
+    ∙ ap (λ xs. terms.entries ++ xs) (ap (λ n. written ++ coded_entry (before_in_block size n (last_key terms.last told)) (lengths_of t)) many ∙ sym (coded_pushed size terms.num_terms terms.last told (lengths_of t)) ∙ ap (coded_from size terms.num_terms terms.last) (sym all)) in
+    let number : terms.num_terms + length ts + 1 ≡ terms.num_terms + length (ts ++ t ∷ []) = (let long = length-append ts (t ∷ []) in omega (arith, long)) in
+    let last : t.key ≡ last_key terms.last (map lengths_of (ts ++ t ∷ [])) = sym (ap (last_key terms.last) all ∙ last_pushed size terms.last told (lengths_of t)) in
+    ap (λ es. record { closed = terms.closed; entries = es; num_terms = terms.num_terms + length ts + 1; last = t.key }) entries
+    ∙ ap (λ n. record { closed = terms.closed; entries = terms.entries ++ more; num_terms = n; last = t.key }) number
+    ∙ ap (λ k. record { closed = terms.closed; entries = terms.entries ++ more; num_terms = terms.num_terms + length (ts ++ t ∷ []); last = k }) last
 
 pub all_push : {A : Type 0} (P : A → Type 0) (xs : List A) (x : A) → AllByRecursion P xs → P x → AllByRecursion P (xs ++ x ∷ [])
 all_push P [] x all last = (last, tt)
@@ -82,14 +102,8 @@ module _ (kind : Kind) (was now new : FieldWriting) (rs : List Recorded) (ts : L
   abbrev entered : ℕ → List ℕ → Terms → Terms
   entered freq bytes terms = inserted key (record { doc_freq = freq; postings_len = length bytes; positions_len = length w.bytes }) terms
 
-  terms_are : new.terms ≡ record { closed = was.terms.closed; entries = was.terms.entries ++ flat_map entry_of_term (map lengths_of (ts ++ t ∷ [])); num_terms = was.terms.num_terms + length (ts ++ t ∷ []) }
-  terms_are =
-      w.terms
-      ∙ ap₂ (λ n xs. entered n xs now.terms) (length-map ps (λ (p : Posting). p.doc)) bytes_are
-      ∙ ap (entered (length ps) t.postings_bytes) before.terms
-      ∙ ap₂ (λ es n. record { closed = was.terms.closed; entries = es; num_terms = n })
-      (append_assoc was.terms.entries (flat_map entry_of_term (map lengths_of ts)) (entry_of_term (lengths_of t)) ∙ ap (λ es. was.terms.entries ++ es) (sym (flat_map_push entry_of_term (map lengths_of ts) (lengths_of t)) ∙ ap (flat_map entry_of_term) (sym (map-append lengths_of ts (t ∷ [])))))
-      (let long = length-append ts (t ∷ []) in let P : was.terms.num_terms + length ts + 1 ≡ was.terms.num_terms + length (ts ++ t ∷ []) = omega arith in P)
+  terms_are : new.terms ≡ with_terms (ts ++ t ∷ []) was.terms
+  terms_are = w.terms ∙ ap₂ (λ n xs. entered n xs now.terms) (length-map ps (λ (p : Posting). p.doc)) bytes_are ∙ ap (entered (length ps) t.postings_bytes) before.terms ∙ one_term_more was.terms ts t
 
   tokens_more : new.num_tokens ≡ was.num_tokens + tokens_in (ts ++ t ∷ [])
   tokens_more =

@@ -14,7 +14,7 @@ use Rattle.definitions.specs.Terms.{term_bytes}
 use Rattle.definitions.specs.declared.fault.Fault.{Fault}
 use Rattle.layouts.specs.InvertedIndexes.{AreGiven, AreSections, HasPostingsOf, IndexedField, IndexedTerm, IsField, IsPosting, IsTerm, all_terms, field_ids, field_terms, indexed_fields, option_of_term, term_of_key}
 use Rattle.layouts.specs.TermPostings.{AreTermPostings}
-use Rattle.layouts.specs.TermSections.{field_terms_bytes}
+use Rattle.layouts.specs.TermSections.{block_size, field_terms_bytes}
 use Rattle.postings_writer.specs.FieldWriting.{Sections}
 use Rattle.postings_writer.specs.TermWriting.{recorded_count}
 use Rattle.postings_writer.specs.Fields.{option_of_key}
@@ -60,7 +60,7 @@ joined f was now new xs x first more = more ∙ ap₂ (λ ys zs. ys ++ zs) first
 
 added_more : (was now new : Sections) (fields : List IndexedField) (f : IndexedField) → AreFieldsAdded was now fields → AreFieldsAdded now new (f ∷ []) → AreFieldsAdded was new (fields ++ f ∷ [])
 added_more was now new fields f before more = record {
-  terms = joined field_terms_bytes was.terms now.terms new.terms (map field_terms fields) (field_terms f) before.terms more.terms ∙ ap (λ ts. was.terms ++ flat_map field_terms_bytes ts) (sym (map-append field_terms fields (f ∷ [])));
+  terms = joined (field_terms_bytes (block_size true)) was.terms now.terms new.terms (map field_terms fields) (field_terms f) before.terms more.terms ∙ ap (λ ts. was.terms ++ flat_map (field_terms_bytes (block_size true)) ts) (sym (map-append field_terms fields (f ∷ [])));
   postings = joined (λ (g : IndexedField). flat_map (λ (t : IndexedTerm). t.postings_bytes) g.terms) was.postings now.postings new.postings fields f before.postings more.postings;
   positions = joined (λ (g : IndexedField). flat_map (λ (t : IndexedTerm). t.positions_bytes) g.terms) was.positions now.positions new.positions fields f before.positions more.positions;
 }
@@ -221,14 +221,14 @@ module _ (schema : Schema) (w : Writer) (num_docs : ℕ) (norms : List (ℕ × L
   number_there field e at indexed = subst (λ n. list_any (nat_eq n) (indexed_fields schema) ≡ true) (zero-add field) (indexed_at 0 schema field e at indexed)
 
   -- what all fields together are
-  pub all_written : (was now : Sections) (rest : List (ℕ × Entry)) → was ≡ record { terms = 0 ∷ []; postings = []; positions = [] } → rest ≡ [] → AreWrittenOf schema norms os was now (enumerate_from 0 schema) rest → (fields : List IndexedField) × AreSections schema num_docs norms fields now.terms now.postings now.positions × AreGiven given schema fields × AllByRecursion (IsFieldWithin schema) fields
+  pub all_written : (was now : Sections) (rest : List (ℕ × Entry)) → was ≡ record { terms = 1 ∷ []; postings = []; positions = [] } → rest ≡ [] → AreWrittenOf schema norms os was now (enumerate_from 0 schema) rest → (fields : List IndexedField) × AreSections schema num_docs norms fields now.terms now.postings now.positions × AreGiven given schema fields × AllByRecursion (IsFieldWithin schema) fields
   all_written was now rest new none written =
       let names : map (λ (f : IndexedField). f.field) written.fields ≡ indexed_fields schema = sym (written.names ∙ ap (λ es. map (λ (f : IndexedField). f.field) written.fields ++ numbers es) none ∙ append-nil (map (λ (f : IndexedField). f.field) written.fields)) in (
         written.fields,
         record {
           names = names;
           each = all_then (IsStanding schema norms os) (IsField schema num_docs norms) written.fields field_stands written.each;
-          terms_are = written.added.terms ∙ ap (λ (s : Sections). s.terms ++ flat_map field_terms_bytes (map field_terms written.fields)) new;
+          terms_are = (true, written.added.terms ∙ ap (λ (s : Sections). s.terms ++ flat_map (field_terms_bytes (block_size true)) (map field_terms written.fields)) new);
           postings_are = written.added.postings ∙ ap (λ (s : Sections). s.postings ++ flat_map (λ (f : IndexedField). flat_map (λ (t : IndexedTerm). t.postings_bytes) f.terms) written.fields) new;
           positions_are = written.added.positions ∙ ap (λ (s : Sections). s.positions ++ flat_map (λ (f : IndexedField). flat_map (λ (t : IndexedTerm). t.positions_bytes) f.terms) written.fields) new;
         },

@@ -1,25 +1,31 @@
 -- What a serializer of a field's terms stands for.
-use Rattle.std.specs.Prelude.{[], ◌++◌, ◌+◌, ◌/◌, ◌<◌, ◌^◌, ◌≡◌, ◌≤◌, ◌⊎◌, List, if◌then◌else◌, length, Option, ℕ}
+use Rattle.std.specs.Prelude.{[], ◌++◌, ◌+◌, ◌/◌, ◌<◌, ◌^◌, ◌≡◌, ◌≤◌, ◌⊎◌, List, Option, if◌then◌else◌, length, map, true, ℕ}
 use Rattle.packed_blocks.specs.UnpackedBlocks.{listed}
 use Rattle.definitions.specs.Blocks.{block_len}
 use Rattle.definitions.specs.NumberCodes.{u32_bytes, u64_bytes, vint_bytes}
 use Rattle.definitions.specs.Schema.{IndexRecordOption, has_positions}
 use Rattle.definitions.specs.declared.fault.Fault.{Fault}
 use Rattle.definitions.specs.declared.fault.Fault.TheVariants as faults
-use Rattle.layouts.specs.InvertedIndexes.{HasPositions}
+use Rattle.front_coding.specs.TakenKeys.{last_key}
+use Rattle.layouts.specs.InvertedIndexes.{HasPositions, IndexedTerm, lengths_of}
 use Rattle.layouts.specs.TermPostings.{ArePosted, SumsFit, postings_bytes}
-use Rattle.layouts.specs.TermSections.{TermLengths, entry_of_term}
+use Rattle.layouts.specs.TermSections.{TermLengths, before_in_block, block_size, coded_entry, coded_from}
 use Rattle.postings_writer.specs.TermWriting.{AreWritten, Writing, begun}
 
--- the bytes of the fields that are closed, and the entries of the field that isn't, with their number
+-- the bytes of the fields that are closed, and the entries of the field that isn't, with their number and the last one's key
 pub record Terms : Type 0 where
   pub closed : List ℕ
   pub entries : List ℕ
   pub num_terms : ℕ
+  pub last : List ℕ
 
 -- one term more
 abbrev pub inserted : List ℕ → TermLengths → Terms → Terms
-inserted key lengths t = record { closed = t.closed; entries = t.entries ++ entry_of_term (key, lengths); num_terms = t.num_terms + 1 }
+inserted key lengths t = record { closed = t.closed; entries = t.entries ++ coded_entry (before_in_block (block_size true) t.num_terms t.last) (key, lengths); num_terms = t.num_terms + 1; last = key }
+
+-- with these terms
+abbrev pub with_terms : List IndexedTerm → Terms → Terms
+with_terms ts t = record { closed = t.closed; entries = t.entries ++ coded_from (block_size true) t.num_terms t.last (map lengths_of ts); num_terms = t.num_terms + length ts; last = last_key t.last (map lengths_of ts) }
 
 -- how many tokens the closed terms have, terms, postings and positions of what is closed, the positions that wait, and
 -- the term that is written: its value bytes, how many documents it has, and the sum of the counts that were told of them
@@ -85,7 +91,7 @@ pub record Sections : Type 0 where
 
 -- a field behind them, of which no term is written yet
 abbrev pub field_begun : Sections → ℕ → IndexRecordOption → Option (List ℕ) → FieldWriting
-field_begun s field mode norms = record { field = field; num_tokens = 0; terms = record { closed = s.terms; entries = []; num_terms = 0 }; postings = s.postings; positions = (s.positions, []); key = []; doc_freq = 0; total_term_freq = 0; writing = begun mode mode norms }
+field_begun s field mode norms = record { field = field; num_tokens = 0; terms = record { closed = s.terms; entries = []; num_terms = 0; last = [] }; postings = s.postings; positions = (s.positions, []); key = []; doc_freq = 0; total_term_freq = 0; writing = begun mode mode norms }
 
 -- the sections with the field
 abbrev pub field_closed : FieldWriting → Sections

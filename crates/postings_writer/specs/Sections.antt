@@ -4,11 +4,11 @@ use Rattle.std.specs.List.{AllByRecursion, list_any}
 use Rattle.packed_blocks.specs.UnpackedBlocks.{listed}
 use Rattle.definitions.specs.Postings.{Posting}
 use Rattle.definitions.specs.Schema.{Entry, IndexRecordOption, Kind, basic, has_positions}
-use Rattle.layouts.specs.InvertedIndexes.{HasPositions, IndexedField, IndexedTerm, field_terms, lengths_of, num_tokens}
+use Rattle.layouts.specs.InvertedIndexes.{HasPositions, IndexedField, IndexedTerm, field_terms, num_tokens}
 use Rattle.layouts.specs.Positions.{position_numbers}
 use Rattle.layouts.specs.TermPostings.{AreTermPostings}
-use Rattle.layouts.specs.TermSections.{TermsAscend, entry_of_term, field_terms_bytes}
-use Rattle.postings_writer.specs.FieldWriting.{FieldWriting, Sections}
+use Rattle.layouts.specs.TermSections.{TermsAscend, block_size, field_terms_bytes}
+use Rattle.postings_writer.specs.FieldWriting.{FieldWriting, Sections, with_terms}
 use Rattle.postings_writer.specs.TermWriting.{recorded_count}
 use Rattle.postings_writer.specs.Fields.{option_of_key}
 use Rattle.terms.specs.TextKeys.{is_text_key}
@@ -37,7 +37,7 @@ tokens_in ts = sum_by (λ (t : IndexedTerm). sum_by (λ (p : Posting). p.count) 
 pub record AreAdded (kind : Kind) (was now : FieldWriting) (recorded : List (List ℕ × Recorder)) (ts : List IndexedTerm) : Type 0 where
   pub told : map {B = List ℕ × List Posting} (λ (t : IndexedTerm). (t.key, t.postings)) ts ≡ map (λ (r : List ℕ × Recorder). (r.0, postings_from r.1 0)) recorded
   pub each : AllByRecursion (λ (t : IndexedTerm). IsSpelled (option_in kind was.writing.mode t.key) (listed was.writing.norms) t) ts
-  pub terms : now.terms ≡ record { closed = was.terms.closed; entries = was.terms.entries ++ flat_map entry_of_term (map lengths_of ts); num_terms = was.terms.num_terms + length ts }
+  pub terms : now.terms ≡ with_terms ts was.terms
   pub postings : now.postings ≡ was.postings ++ flat_map (λ (t : IndexedTerm). t.postings_bytes) ts
   pub positions : now.positions ≡ (was.positions.0 ++ flat_map (λ (t : IndexedTerm). t.positions_bytes) ts, [])
   pub few : 0 < length ts → was.terms.num_terms + length ts ≤ 4294967295
@@ -51,7 +51,7 @@ AnyTermPasses kind was recorded = ((i : ℕ) × IsSomeAnd (slice_get recorded i)
 
 -- fields were written behind those before
 pub record AreFieldsAdded (was now : Sections) (fields : List IndexedField) : Type 0 where
-  pub terms : now.terms ≡ was.terms ++ flat_map field_terms_bytes (map field_terms fields)
+  pub terms : now.terms ≡ was.terms ++ flat_map (field_terms_bytes (block_size true)) (map field_terms fields)
   pub postings : now.postings ≡ was.postings ++ flat_map (λ (f : IndexedField). flat_map (λ (t : IndexedTerm). t.postings_bytes) f.terms) fields
   pub positions : now.positions ≡ was.positions ++ flat_map (λ (f : IndexedField). flat_map (λ (t : IndexedTerm). t.positions_bytes) f.terms) fields
 

@@ -29,16 +29,16 @@ impl Model for InvertedIndexSerializer {
 
     ghost view = { λ s. record { terms = s.terms.closed; postings = s.postings.items; positions = s.positions_serializer.0 } };
 
-    ghost invariant = { λ s. (s.terms.entries ≡ []) × (s.terms.num_terms ≡ 0) × (s.positions_serializer.1 ≡ []) };
+    ghost invariant = { λ s. (s.terms.entries ≡ []) × (s.terms.num_terms ≡ 0) × (s.terms.last ≡ []) × (s.positions_serializer.1 ≡ []) };
 }
 
 impl InvertedIndexSerializer {
     /// Returns a serializer without fields; the section of terms begins with its kind.
     pub fn open(alloc: Global) -> Result<InvertedIndexSerializer, AllocError>
-        ensures { IfOk result (λ sections. sections ≡ record { terms = 0 ∷ []; postings = []; positions = [] }) }
+        ensures { IfOk result (λ sections. sections ≡ record { terms = 1 ∷ []; postings = []; positions = [] }) }
     {
         let mut terms = Vec::new(alloc);
-        terms.push(0)?;
+        terms.push(1)?;
         Ok(InvertedIndexSerializer {
             terms: TermDictionaryBuilder::create(alloc, terms),
             postings: Vec::new(alloc),

@@ -29,7 +29,7 @@ impl PostingsWriter {
     ) -> Result<InvertedIndexSerializer, Fault>
         requires stands { ∥ ((os : List Occurrence) × Stands schema.now self.now os) ∥₁ }
         requires lengths { AllByRecursion (λ p. self.now.num_docs ≤ length p.1) fieldnorm_readers.now }
-        requires new { serializer ≡ record { terms = 0 ∷ []; postings = []; positions = [] } }
+        requires new { serializer ≡ record { terms = 1 ∷ []; postings = []; positions = [] } }
         ensures ok { (num_docs : ℕ) (os : List Occurrence) → self.now.num_docs ≤ num_docs
             → Stands schema.now self.now os
             → IfOk result (λ s. (fields : List IndexedField)

@@ -1,12 +1,12 @@
 -- The fields of a merge are the sections of the merged segment.
-use Rattle.std.proofs.Common.{[], List, Some, ap, flat_map, length, map, slice_get, subst, sym, ◌++◌, ◌≡◌, ◌≤◌, ◌∙◌, ◌∷◌, ℕ}
+use Rattle.std.proofs.Common.{[], List, Some, ap, flat_map, length, map, slice_get, subst, sym, true, ◌++◌, ◌≡◌, ◌≤◌, ◌∙◌, ◌∷◌, ℕ}
 use Rattle.std.specs.List.{AllByRecursion}
 use Rattle.definitions.specs.Postings.{Posting}
 use Rattle.definitions.specs.Schema.{Entry, Schema, has_positions, max_fields}
 use Rattle.layouts.specs.InvertedIndexes.{AreSections, HasPositions, IndexedField, IndexedTerm, IsField, IsTerm, field_ids, field_terms, option_of_term, term_of_key}
 use Rattle.layouts.specs.Positions.{position_numbers}
 use Rattle.layouts.specs.TermPostings.{AreTermPostings}
-use Rattle.layouts.specs.TermSections.{field_terms_bytes}
+use Rattle.layouts.specs.TermSections.{block_size, field_terms_bytes}
 use Rattle.merging.specs.Members.{AreMembers, merged_in}
 use Rattle.merging.specs.MergedFields.{IsTermGiven}
 use Rattle.merging.specs.ToldFields.{AreMerged, IsMergedField}
@@ -46,11 +46,11 @@ module _ (schema : Schema) (num_docs : ℕ) (norms : List (ℕ × List ℕ)) (ms
     each = all_then (IsTermGiven is.entry (field_ids norms f.field) (λ key. merged_in f.field key ms all)) (λ (t : IndexedTerm). IsTerm (option_of_term schema (term_of_key schema f.field t.key)) num_docs (field_ids norms f.field) t) f.terms (λ t term. term_stands f.field is.entry t is.at term) is.is.each;
   }
 
-  pub sections_stand : (was now : Sections) (terms postings positions : List ℕ) (merged : AreMerged schema norms ms all was now) → was ≡ record { terms = 0 ∷ []; postings = []; positions = [] } → terms ≡ now.terms → postings ≡ now.postings → positions ≡ now.positions → AreSections schema num_docs norms merged.fields terms postings positions
+  pub sections_stand : (was now : Sections) (terms postings positions : List ℕ) (merged : AreMerged schema norms ms all was now) → was ≡ record { terms = 1 ∷ []; postings = []; positions = [] } → terms ≡ now.terms → postings ≡ now.postings → positions ≡ now.positions → AreSections schema num_docs norms merged.fields terms postings positions
   sections_stand was now terms postings positions merged new terms_are postings_are positions_are = record {
     names = merged.names;
     each = all_then (IsMergedField schema norms ms all) (IsField schema num_docs norms) merged.fields field_stands merged.each;
-    terms_are = terms_are ∙ merged.added.terms ∙ ap (λ (s : Sections). s.terms ++ flat_map field_terms_bytes (map field_terms merged.fields)) new;
+    terms_are = (true, terms_are ∙ merged.added.terms ∙ ap (λ (s : Sections). s.terms ++ flat_map (field_terms_bytes (block_size true)) (map field_terms merged.fields)) new);
     postings_are = postings_are ∙ merged.added.postings ∙ ap (λ (s : Sections). s.postings ++ flat_map (λ (f : IndexedField). flat_map (λ (t : IndexedTerm). t.postings_bytes) f.terms) merged.fields) new;
     positions_are = positions_are ∙ merged.added.positions ∙ ap (λ (s : Sections). s.positions ++ flat_map (λ (f : IndexedField). flat_map (λ (t : IndexedTerm). t.positions_bytes) f.terms) merged.fields) new;
   }

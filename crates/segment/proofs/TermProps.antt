@@ -10,10 +10,11 @@ use Rattle.definitions.specs.Postings.{Posting}
 use Rattle.definitions.specs.Schema.{IndexRecordOption, Schema, has_positions}
 use Rattle.definitions.specs.Scoring.{DontFall}
 use Rattle.layouts.specs.Deltas.{IsAscendingFrom}
-use Rattle.layouts.specs.InvertedIndexes.{AreSections, HasPositions, IndexedField, IndexedTerm, IsField, IsPosting, IsTerm, field_ids, option_of_term, term_of_key}
+use Rattle.layouts.specs.InvertedIndexes.{AreSections, HasPositions, IndexedField, IndexedTerm, IsField, IsPosting, IsTerm, field_ids, field_terms, option_of_term, term_of_key}
 use Rattle.layouts.specs.Positions.{AreBlocks, ArePositions, position_numbers}
 use Rattle.layouts.specs.TermPostings.{ArePosted, AreTermPostings, SumsFit}
-use Rattle.layouts.specs.TermSections.{TermsAscend}
+use Rattle.layouts.specs.TermSections.{AreSpelled, FieldTerms, TermsAscend, terms_bytes}
+use Rattle.segment_reader.proofs.FieldsLoop.{kinds_same}
 
 -- pairs are, whose second parts are, and whose first parts are one
 pub pairs_prop : {A : Type 0} (P : A → Type 0) → ((x : A) → IsProp (P x)) → ((x y : A) → P x → P y → x ≡ y) → IsProp ((x : A) × P x)
@@ -123,8 +124,19 @@ fields_prop schema num_docs norms (f ∷ fields) short =
     let rest : IsProp (AllByRecursion (IsField schema num_docs norms) fields) = fields_prop schema num_docs norms fields (omega (arith, short, whole)) in
     hlevel (props, first, rest)
 
+-- ---- kinds
+
+abbrev first_byte : List ℕ → ℕ
+first_byte [] = 0
+first_byte (b ∷ bytes) = b
+
+-- the first byte is that of one kind
+AreSpelled-prop : (fields : List FieldTerms) (bytes : List ℕ) → IsProp (AreSpelled fields bytes)
+AreSpelled-prop fields bytes = pairs_prop (λ (kind : Bool). bytes ≡ terms_bytes kind fields) (λ kind. hlevel props) (λ x y one other. kinds_same x y (ap first_byte (sym one ∙ other)))
+
 pub AreSections-prop : (schema : Schema) (num_docs : ℕ) (norms : List (ℕ × List ℕ)) (fields : List IndexedField) (terms postings positions : List ℕ) → length positions < 2 ^ 64 → IsProp (AreSections schema num_docs norms fields terms postings positions)
 AreSections-prop schema num_docs norms fields terms postings positions short = held_prop (λ are.
     (let whole = ap length are.positions_are in
     let each : IsProp (AllByRecursion (IsField schema num_docs norms) fields) = fields_prop schema num_docs norms fields (omega (arith, short, whole)) in
-    hlevel (props, each)))
+    let spelled : IsProp (AreSpelled (map field_terms fields) terms) = AreSpelled-prop (map field_terms fields) terms in
+    hlevel (props, each, spelled)))

@@ -117,7 +117,7 @@ years_are = record {
 }
 
 books_sections : AreSections books 3 (norms_of books raw_and_default three_books) book_fields book_sections.terms book_sections.postings book_sections.positions
-books_sections = record { names = refl; each = (titles_are, (years_are, tt)); terms_are = refl; postings_are = refl; positions_are = refl }
+books_sections = record { names = refl; each = (titles_are, (years_are, tt)); terms_are = (false, refl); postings_are = refl; positions_are = refl }
 
 -- ---- the store and the documents
 

@@ -1,5 +1,5 @@
 -- The least segment: one document without a value, in a schema without a field.
-use Rattle.std.proofs.Common.{[], arith, refl, slice_index, suc, zero, ◌<◌, ◌^◌, ◌∷◌, ℕ}
+use Rattle.std.proofs.Common.{[], false, arith, refl, slice_index, suc, zero, ◌<◌, ◌^◌, ◌∷◌, ℕ}
 use Rattle.std.specs.List.{All}
 use Rattle.definitions.specs.Analyzers.{raw_and_default}
 use Rattle.definitions.specs.NumberCodes.{vint_bytes}
@@ -24,7 +24,7 @@ least_segment = record {
   fields = [];
   taken = ((tt, refl), tt);
   written = record { some = omega arith; few = omega arith; short = omega arith; whole = refl };
-  terms_are = record { names = refl; each = tt; terms_are = refl; postings_are = refl; positions_are = refl };
+  terms_are = record { names = refl; each = tt; terms_are = (false, refl); postings_are = refl; positions_are = refl };
   keyed = tt;
   indexed = record { each = tt; all = λ t some. absurd (omega (arith, some)) };
   norms_are = record { names = refl; counts = tt; spelled = refl };

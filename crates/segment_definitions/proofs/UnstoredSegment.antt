@@ -58,7 +58,7 @@ nothing_stored_of_two s = go s.blocks s.store_is s.counted
     long = refl
 
     kind : 1 ≤ length s.sections.terms
-    kind = let spelled = ap (λ (l : List ℕ). length l) s.terms_are.terms_are in omega (arith, spelled)
+    kind = let spelled = ap (λ (l : List ℕ). length l) s.terms_are.terms_are.1 in omega (arith, spelled)
 
     go : (blocks : List Block) → s.sections.store ≡ store_bytes blocks → sum_by (λ (b : Block). b.count) blocks ≡ 2 → ⊥
     go [] is counted = omega (arith, counted)

@@ -24,7 +24,7 @@ book_fields = titles ∷ years ∷ []
 -- the sections of three books, whose slots stand in one block
 abbrev pub book_sections : Sections
 book_sections = record {
-  terms = terms_bytes (map field_terms book_fields);
+  terms = terms_bytes false (map field_terms book_fields);
   postings = flat_map (λ (f : IndexedField). flat_map (λ t. t.postings_bytes) f.terms) book_fields;
   positions = flat_map (λ (f : IndexedField). flat_map (λ t. t.positions_bytes) f.terms) book_fields;
   norms = norms_bytes (norms_of books raw_and_default three_books);

@@ -1,5 +1,5 @@
 -- The dictionaries of fields, as their places tell them.
-use Rattle.std.proofs.Common.{[], Bool, List, Option, Some, ap, ap₂, append_assoc, arith, cond, drop, false, find, flat_map, length, length-append, map, option_map, refl, subst, suc, sym, take, true, zero, ◌-◌, ◌++◌, ◌+◌, ◌<◌, ◌==◌, ◌≡◌, ◌≤◌, ◌∙◌, ◌∷◌, ◌^◌, ℕ}
+use Rattle.std.proofs.Common.{[], Bool, List, None, Option, Some, ap, ap₂, append_assoc, arith, cond, drop, false, find, flat_map, length, length-append, map, option_map, refl, subst, suc, sym, take, true, zero, ◌-◌, ◌++◌, ◌+◌, ◌<◌, ◌==◌, ◌≡◌, ◌≤◌, ◌∙◌, ◌∷◌, ◌^◌, ℕ}
 use Rattle.std.proofs.Math.Seq.{take-append_seam}
 use Rattle.std.proofs.lemmas.Bool.Decides.{nat_tests}
 use Rattle.std.specs.List.{AllByRecursion}
@@ -8,48 +8,63 @@ use Rattle.std.specs.Prelude.{bytes_eq, slice_get, slice_range}
 use Rattle.definitions.specs.Schema.{Schema}
 use Rattle.layouts.specs.Deltas.{IsAscendingFrom}
 use Rattle.layouts.specs.InvertedIndexes.{AreSections, IndexedField, IndexedTerm, IsField, field_terms, lengths_of}
-use Rattle.layouts.specs.TermSections.{TermsAscend, entry_of_term, field_terms_bytes}
-use Rattle.segment_reader.proofs.FieldsChecked.{FieldsStand, entry_there, fields_behind, fields_whole, first_stands}
+use Rattle.layouts.specs.TermSections.{TermsAscend, Told, block_size}
+use Rattle.segment_reader.proofs.ShapesKept.{kept_there, placed_there}
 use Rattle.segment_reader.proofs.KindsKnown.{fields_ascend}
-use Rattle.segment_reader.proofs.SectionsThere.{fields_fit}
+use Rattle.segment_reader.proofs.SectionsThere.{fields_fit, sections_there}
 use Rattle.segment_reader.proofs.TermBytes.{FieldFits, all_positions, all_postings, end_positions, end_postings, positions_of, postings_of, rest_there, told_of}
 use Rattle.segment_reader.specs.CheckedTerms.{Sections}
-use Rattle.segment_reader.specs.Dictionaries.{InfoFits, IsDictionary, Placed, info_from, terms_at}
+use Rattle.segment_reader.specs.Dictionaries.{InfoFits, IsDictionary, Placed, info_from, placed_by}
 use Rattle.segment_reader.specs.FieldDictionaries.{EndsBy, IsFound, StandsAt, dictionary_of, placed_from, positions_len, postings_len, terms_in, terms_of_field}
-use Rattle.segment_reader.specs.TakenTerms.{Told, entry_at}
-use Rattle.segment_reader.specs.TermPlaces.{EntryFits, behind, field_end, fields_start, first_in, starts_from}
+use Rattle.segment_reader.specs.KeptTerms.{IsKeptTerms, placed_terms}
+use Rattle.segment_reader.specs.TermPlaces.{AreFields, TermFits, field_end, fields_start, first_in}
 use Rattle.segment_reader.specs.ToldFields.{AreTold}
 use Rattle.segment_reader.specs.declared.field_index.FieldIndex.{FieldIndex}
 use Rattle.segment_reader.specs.declared.term_info.TermInfo.{TermInfo}
-use Rattle.segment_reader.specs.declared.term_starts.TermStart.{TermStart}
+use Rattle.front_coding.specs.declared.term_starts.TermStart.{TermStart}
 
 -- ---- the terms of a field
 
-pub terms_placed : (s : Sections) (at : TermStart) (xs : List IndexedTerm) (rest : List ℕ) → length s.terms < 2 ^ 63 → AllByRecursion EntryFits (told_of xs) → drop at.entry s.terms ≡ flat_map entry_of_term (told_of xs) ++ rest → terms_at s.terms (starts_from at (told_of xs)) ≡ placed_from at.postings at.positions xs
-terms_placed s at [] rest short fit are = refl
-terms_placed s at (x ∷ xs) rest short fit are =
-    let t = lengths_of x in
-    let bytes : drop at.entry s.terms ≡ entry_of_term t ++ (flat_map entry_of_term (told_of xs) ++ rest) = are ∙ append_assoc (entry_of_term t) (flat_map entry_of_term (told_of xs)) rest in
-    let entry : entry_at s.terms at.entry ≡ t = entry_there s.terms at.entry t (flat_map entry_of_term (told_of xs) ++ rest) short bytes fit.0 in
-    let later = terms_placed s (behind at t) xs rest short fit.1 (rest_there at.entry s.terms (entry_of_term t) (flat_map entry_of_term (told_of xs) ++ rest) bytes) in
-    ap₂ (λ (p : Placed) ps. p ∷ ps) (ap (λ (e : Told). (e.0, info_from at.postings at.positions e.1)) entry) later
+pub terms_placed : (p q : ℕ) (xs : List IndexedTerm) → placed_by p q (told_of xs) ≡ placed_from p q xs
+terms_placed p q [] = refl
+terms_placed p q (x ∷ xs) = ap (λ ts. (x.key, info_from p q (lengths_of x).1) ∷ ts) (terms_placed (p + length x.postings_bytes) (q + length x.positions_bytes) xs)
 
 -- ---- the fields
 
-dictionary_from : (s : Sections) (at : TermStart) (fields : List IndexedField) (told : List FieldIndex) (field : ℕ) → length s.terms < 2 ^ 63 → AllByRecursion FieldFits (map field_terms fields) → FieldsStand s at fields → AreTold at (map field_terms fields) told → terms_of_field s.terms field told ≡ dictionary_of at.postings at.positions field fields
-dictionary_from s at [] [] field short fits stand are = refl
-dictionary_from s at [] (i ∷ is) field short fits stand are = absurd are
-dictionary_from s at (f ∷ fields) [] field short fits stand are = absurd are
-dictionary_from s at (f ∷ fields) (i ∷ is) field short fits stand are =
+dictionary_from : (kind : Bool) (s : Sections) (at : TermStart) (fields : List IndexedField) (told : List FieldIndex) (field : ℕ) → length s.terms < 2 ^ 63 → AreFields (block_size kind) s.terms at (length s.postings) (length s.positions) (map field_terms fields) → AreTold kind at (map field_terms fields) told → terms_of_field s.terms field told ≡ dictionary_of at.postings at.positions field fields
+dictionary_from kind s at [] [] field short read are = refl
+dictionary_from kind s at [] (i ∷ is) field short read are = absurd are
+dictionary_from kind s at (f ∷ fields) [] field short read are = absurd are
+dictionary_from kind s at (f ∷ fields) (i ∷ is) field short read are =
+    let size = block_size kind in
     let first = first_in at (field_terms f) in
-    let own : terms_at s.terms i.starts.items ≡ placed_from at.postings at.positions f.terms = ap (terms_at s.terms) are.2 ∙ terms_placed s first f.terms (flat_map field_terms_bytes (map field_terms fields)) short fits.0.fit (first_stands s at f fields stand).terms_are in
-    let later = dictionary_from s (field_end at (field_terms f)) fields is field short fits.1 (fields_behind s at f fields stand) are.3 in
-    let place = ap₂ (λ p q. dictionary_of p q field fields) (end_postings first f.terms) (end_positions first f.terms) in
-    ap (λ n. option_map_or (λ (j : FieldIndex). terms_at s.terms j.starts.items) (cond (n == field) (Some i) (find (λ (j : FieldIndex). j.kind.field == field) is)) []) are.0 ∙ go (f.field == field) own (later ∙ place)
+    let end = field_end size at (field_terms f) in
+    let own : placed_terms s.terms i.shape ≡ placed_from at.postings at.positions f.terms = placed_there kind s.terms first (length s.postings) (length s.positions) (told_of f.terms) (drop end.entry s.terms) i.shape short are.2.shape read.0.read.terms ∙ terms_placed at.postings at.positions f.terms in
+    let later = dictionary_from kind s end fields is field short read.1 are.3 in
+    let place = ap₂ (λ p q. dictionary_of p q field fields) (end_postings size first f.terms) (end_positions size first f.terms) in
+    ap (λ n. option_map_or (λ (j : FieldIndex). placed_terms s.terms j.shape) (cond (n == field) (Some i) (find (λ (j : FieldIndex). j.kind.field == field) is)) []) are.0 ∙ go (f.field == field) own (later ∙ place)
   where
-    go : (b : Bool) → terms_at s.terms i.starts.items ≡ placed_from at.postings at.positions f.terms → terms_of_field s.terms field is ≡ dictionary_of (at.postings + postings_len f) (at.positions + positions_len f) field fields → option_map_or (λ (j : FieldIndex). terms_at s.terms j.starts.items) (cond b (Some i) (find (λ (j : FieldIndex). j.kind.field == field) is)) [] ≡ cond b (placed_from at.postings at.positions f.terms) (dictionary_of (at.postings + postings_len f) (at.positions + positions_len f) field fields)
+    go : (b : Bool) → placed_terms s.terms i.shape ≡ placed_from at.postings at.positions f.terms → terms_of_field s.terms field is ≡ dictionary_of (at.postings + postings_len f) (at.positions + positions_len f) field fields → option_map_or (λ (j : FieldIndex). placed_terms s.terms j.shape) (cond b (Some i) (find (λ (j : FieldIndex). j.kind.field == field) is)) [] ≡ cond b (placed_from at.postings at.positions f.terms) (dictionary_of (at.postings + postings_len f) (at.positions + positions_len f) field fields)
     go true own later = own
     go false own later = later
+
+-- what is kept of a field that is found
+kept_from : (kind : Bool) (s : Sections) (at : TermStart) (fields : List IndexedField) (told : List FieldIndex) (field : ℕ) (i : FieldIndex) → length s.terms < 2 ^ 63 → length s.postings < 2 ^ 63 → length s.positions < 2 ^ 63 → AreFields (block_size kind) s.terms at (length s.postings) (length s.positions) (map field_terms fields) → AreTold kind at (map field_terms fields) told → find (λ (j : FieldIndex). j.kind.field == field) told ≡ Some i → IsKeptTerms s.terms i.shape i.starts.items
+kept_from kind s at [] [] field i short a b read are found = absurd cc
+kept_from kind s at [] (j ∷ js) field i short a b read are found = absurd are
+kept_from kind s at (f ∷ fields) [] field i short a b read are found = absurd are
+kept_from kind s at (f ∷ fields) (j ∷ js) field i short a b read are found =
+    let end = field_end (block_size kind) at (field_terms f) in
+    let own = kept_there kind s.terms (first_in at (field_terms f)) (length s.postings) (length s.positions) (told_of f.terms) (drop end.entry s.terms) j short a b read.0.header.terms_fit are.2 read.0.read.terms in
+    go (j.kind.field == field) found own (kept_from kind s end fields js field i short a b read.1 are.3)
+  where
+    index_or : FieldIndex → Option FieldIndex → FieldIndex
+    index_or d None = d
+    index_or d (Some k) = k
+
+    go : (t : Bool) → cond t (Some j) (find (λ (k : FieldIndex). k.kind.field == field) js) ≡ Some i → IsKeptTerms s.terms j.shape j.starts.items → (find (λ (k : FieldIndex). k.kind.field == field) js ≡ Some i → IsKeptTerms s.terms i.shape i.starts.items) → IsKeptTerms s.terms i.shape i.starts.items
+    go true same own later = subst (λ (k : FieldIndex). IsKeptTerms s.terms k.shape k.starts.items) (ap (index_or j) same) own
+    go false same own later = later same
 
 -- ---- dictionaries
 
@@ -73,7 +88,7 @@ placed_within p q first second (x ∷ xs) a b =
     let d = length-append x.positions_bytes (positions_of xs) in
     (record { postings = omega (arith, a, c); positions = omega (arith, b, d) }, placed_within (p + length x.postings_bytes) (q + length x.positions_bytes) first second xs (omega (arith, a, c)) (omega (arith, b, d)))
 
-placed_fit : (p q first second : ℕ) (xs : List IndexedTerm) → first < 2 ^ 63 → second < 2 ^ 63 → AllByRecursion EntryFits (told_of xs) → AllByRecursion (λ (t : Placed). EndsBy first second t.1) (placed_from p q xs) → AllByRecursion (λ (t : Placed). InfoFits t.1) (placed_from p q xs)
+placed_fit : (p q first second : ℕ) (xs : List IndexedTerm) → first < 2 ^ 63 → second < 2 ^ 63 → AllByRecursion (λ (t : Told). TermFits t.1) (told_of xs) → AllByRecursion (λ (t : Placed). EndsBy first second t.1) (placed_from p q xs) → AllByRecursion (λ (t : Placed). InfoFits t.1) (placed_from p q xs)
 placed_fit p q first second [] a b fits within = tt
 placed_fit p q first second (x ∷ xs) a b fits within =
     let c = within.0.postings in
@@ -117,11 +132,11 @@ found_by_number (j ∷ js) least (suc n) i ascending at =
     let test : (j.kind.field == i.kind.field) ≡ false = grind (arith, nat_tests, above) in
     ap (λ b. cond b (Some j) (find (λ (k : FieldIndex). k.kind.field == i.kind.field) js)) test ∙ found_by_number js (j.kind.field + 1) n i ascending.1 at
 
-numbers_told : (at : TermStart) (fields : List IndexedField) (told : List FieldIndex) → AreTold at (map field_terms fields) told → map (λ (j : FieldIndex). j.kind.field) told ≡ map (λ (f : IndexedField). f.field) fields
-numbers_told at [] [] are = refl
-numbers_told at [] (i ∷ is) are = absurd are
-numbers_told at (f ∷ fields) [] are = absurd are
-numbers_told at (f ∷ fields) (i ∷ is) are = ap₂ (λ (n : ℕ) ns. n ∷ ns) are.0 (numbers_told (field_end at (field_terms f)) fields is are.3)
+numbers_told : (kind : Bool) (at : TermStart) (fields : List IndexedField) (told : List FieldIndex) → AreTold kind at (map field_terms fields) told → map (λ (j : FieldIndex). j.kind.field) told ≡ map (λ (f : IndexedField). f.field) fields
+numbers_told kind at [] [] are = refl
+numbers_told kind at [] (i ∷ is) are = absurd are
+numbers_told kind at (f ∷ fields) [] are = absurd are
+numbers_told kind at (f ∷ fields) (i ∷ is) are = ap₂ (λ (n : ℕ) ns. n ∷ ns) are.0 (numbers_told kind (field_end (block_size kind) at (field_terms f)) fields is are.3)
 
 -- ---- the bytes of a term
 
@@ -168,16 +183,20 @@ module _ (schema : Schema) (num_docs : ℕ) (norms : List (ℕ × List ℕ)) (fi
   all_fit : AllByRecursion FieldFits (map field_terms fields)
   all_fit = fields_fit schema num_docs norms fields few (let long = ap length are.postings_are in omega (arith, first, long)) (let long = ap length are.positions_are in omega (arith, second, long)) are.each
 
-  -- the places that are kept of a field give its dictionary
-  pub dictionary_found : (told : List FieldIndex) (field : ℕ) → AreTold fields_start (map field_terms fields) told → terms_of_field s.terms field told ≡ dictionary_of 0 0 field fields
-  dictionary_found told field told_are = dictionary_from s fields_start fields told field short all_fit (fields_whole schema num_docs norms fields s are) told_are
+  -- what is kept of a field gives its dictionary
+  pub dictionary_found : (told : List FieldIndex) (field : ℕ) → AreTold are.terms_are.0 fields_start (map field_terms fields) told → terms_of_field s.terms field told ≡ dictionary_of 0 0 field fields
+  dictionary_found told field told_are = dictionary_from are.terms_are.0 s fields_start fields told field short (sections_there schema num_docs norms fields s short first second few are).fields told_are
+
+  -- its terms stand in the section
+  pub terms_kept : (told : List FieldIndex) (field : ℕ) (i : FieldIndex) → AreTold are.terms_are.0 fields_start (map field_terms fields) told → find (λ (j : FieldIndex). j.kind.field == field) told ≡ Some i → IsKeptTerms s.terms i.shape i.starts.items
+  terms_kept told field i told_are found = kept_from are.terms_are.0 s fields_start fields told field i short first second (sections_there schema num_docs norms fields s short first second few are).fields told_are found
 
   -- so the places of any field that is kept give its own
-  pub dictionary_at : (told : List FieldIndex) (n : ℕ) (i : FieldIndex) → AreTold fields_start (map field_terms fields) told → slice_get told n ≡ Some i → terms_at s.terms i.starts.items ≡ dictionary_of 0 0 i.kind.field fields
+  pub dictionary_at : (told : List FieldIndex) (n : ℕ) (i : FieldIndex) → AreTold are.terms_are.0 fields_start (map field_terms fields) told → slice_get told n ≡ Some i → placed_terms s.terms i.shape ≡ dictionary_of 0 0 i.kind.field fields
   dictionary_at told n i told_are at =
-      let numbers = numbers_told fields_start fields told told_are ∙ are.names in
+      let numbers = numbers_told are.terms_are.0 fields_start fields told told_are ∙ are.names in
       let found = found_by_number told 0 n i (subst (IsAscendingFrom 0) (sym numbers) (fields_ascend schema)) at in
-      sym (ap (λ o. option_map_or (λ (j : FieldIndex). terms_at s.terms j.starts.items) o []) found) ∙ dictionary_found told i.kind.field told_are
+      sym (ap (λ o. option_map_or (λ (j : FieldIndex). placed_terms s.terms j.shape) o []) found) ∙ dictionary_found told i.kind.field told_are
 
   -- which is a dictionary within the sections
   pub is_dictionary : (field : ℕ) → IsDictionaryWithin (length s.postings) (length s.positions) (dictionary_of 0 0 field fields)

@@ -1,14 +1,15 @@
 -- Headers of fields are taken as they are put.
-use Rattle.std.proofs.Common.{[], List, None, Option, Some, ap, append_assoc, arith, drop, length, length-append, length-drop, refl, subst, sym, ◌++◌, ◌+◌, ◌-◌, ◌<◌, ◌≡◌, ◌≢◌, ◌≤◌, ◌∙◌, ◌^◌, ℕ}
+use Rattle.std.proofs.Common.{[], Bool, List, None, Option, Some, ap, append_assoc, arith, drop, length, length-append, length-drop, refl, subst, suc, sym, zero, ◌++◌, ◌+◌, ◌-◌, ◌<◌, ◌≡◌, ◌≢◌, ◌≤◌, ◌∙◌, ◌∷◌, ◌^◌, ℕ}
 use Rattle.std.proofs.Math.Seq.{drop-append_seam}
 use Rattle.std.proofs.lemmas.List.{drop-drop}
 use Rattle.common.proofs.TakenBack.{u32_put, u64_put, vint_back, vint_put}
 use Rattle.definitions.specs.NumberCodes.{AreBytes, take_u32, take_u64, take_vint, u32_bytes, u64_bytes, vint_bytes}
-use Rattle.segment_reader.proofs.EntriesTaken.{bytes_behind}
-use Rattle.layouts.specs.TermSections.{FieldTerms}
-use Rattle.segment_reader.specs.TakenTerms.{Told}
-use Rattle.segment_reader.specs.TermPlaces.{AreRead, AreTerms, IsField, IsHeader, IsReadField, first_in, header_bytes, header_of, starts_from}
-use Rattle.segment_reader.specs.declared.term_starts.TermStart.{TermStart}
+use Rattle.front_coding.proofs.KeysTaken.{bytes_behind}
+use Rattle.front_coding.specs.declared.term_starts.TermStart.{TermStart}
+use Rattle.layouts.specs.TermSections.{FieldTerms, Told, block_size}
+use Rattle.segment_reader.specs.TermPlaces.{AreRead, AreTerms, IsField, IsHeader, IsReadField, first_in, header_bytes, header_of, starts_of}
+use Rattle.segment_reader.specs.ToldFields.{HasShape}
+use Rattle.segment_reader.specs.declared.field_index.TermsShape.{TermsShape}
 
 abbrev pub number_in : {X : Type 0} → ℕ → Option (ℕ × X) → ℕ
 number_in other None = other
@@ -108,8 +109,8 @@ same_header bs field tokens terms tokens2 terms2 rest rest2 small a b c d is is2
     (ap (number_in 0) (sym own ∙ second), ap (number_in 0) (sym (vint_back terms rest b) ∙ third))
 
 -- the terms of a field begin behind the header that was read
-pub same_first : (section : List ℕ) (at : TermStart) (p q field tokens terms first : ℕ) (f : FieldTerms) (rest : List ℕ) → field < 2 ^ 32 → IsHeader section at.entry field tokens terms first → f.field ≡ field → IsField section at p q f rest → (length f.terms ≡ terms) × (first_in at f ≡ record { entry = first; postings = at.postings; positions = at.positions })
-same_first section at p q field tokens terms first f rest small header same there =
+pub same_first : (kind : Bool) (section : List ℕ) (at : TermStart) (p q field tokens terms first : ℕ) (f : FieldTerms) (rest : List ℕ) → field < 2 ^ 32 → IsHeader section at.entry field tokens terms first → f.field ≡ field → IsField (block_size kind) section at p q f rest → (length f.terms ≡ terms) × (first_in at f ≡ record { entry = first; postings = at.postings; positions = at.positions })
+same_first kind section at p q field tokens terms first f rest small header same there =
     let spelled = there.header.spelled ∙ ap (λ k. header_bytes k f.num_tokens (length f.terms) ++ drop (first_in at f).entry section) same in
     let few = there.header.terms_fit in
     let few_2 = header.terms_fit in
@@ -118,24 +119,25 @@ same_first section at p q field tokens terms first f rest small header same ther
     let entry : at.entry + length (header_of f) ≡ first = ap (λ k. at.entry + k) long ∙ sym header.end_is in
     (one.1, ap (λ k. record { entry = k; postings = at.postings; positions = at.positions }) entry)
 
-pub not_there : (section : List ℕ) (at : TermStart) (p q field tokens terms first : ℕ) → field < 2 ^ 32 → IsHeader section at.entry field tokens terms first → ((ts : List Told) (rest : List ℕ) → length ts ≡ terms → AreTerms section (record { entry = first; postings = at.postings; positions = at.positions }) p q None ts rest → ⊥) → (f : FieldTerms) (rest : List ℕ) → f.field ≡ field → IsField section at p q f rest → ⊥
-not_there section at p q field tokens terms first small header none f rest same there =
-    let one = same_first section at p q field tokens terms first f rest small header same there in
-    none f.terms rest one.0 (subst (λ s. AreTerms section s p q None f.terms rest) one.1 there.terms)
+pub not_there : (kind : Bool) (section : List ℕ) (at : TermStart) (p q field tokens terms first : ℕ) → field < 2 ^ 32 → IsHeader section at.entry field tokens terms first → ((ts : List Told) (rest : List ℕ) → length ts ≡ terms → AreTerms (block_size kind) section (record { entry = first; postings = at.postings; positions = at.positions }) p q ts rest → ⊥) → (f : FieldTerms) (rest : List ℕ) → f.field ≡ field → IsField (block_size kind) section at p q f rest → ⊥
+not_there kind section at p q field tokens terms first small header none f rest same there =
+    let one = same_first kind section at p q field tokens terms first f rest small header same there in
+    none f.terms rest one.0 (subst (λ s. AreTerms (block_size kind) section s p q f.terms rest) one.1 there.terms)
 
-pub no_header : (section : List ℕ) (at : TermStart) (p q field : ℕ) → ((tokens terms : ℕ) (rest : List ℕ) → tokens < 2 ^ 64 → terms ≤ 4294967295 → drop at.entry section ≡ header_bytes field tokens terms ++ rest → ⊥) → (f : FieldTerms) (rest : List ℕ) → f.field ≡ field → IsField section at p q f rest → ⊥
-no_header section at p q field none f rest same there = none f.num_tokens (length f.terms) (drop (first_in at f).entry section) there.header.tokens_fit there.header.terms_fit (there.header.spelled ∙ ap (λ k. header_bytes k f.num_tokens (length f.terms) ++ drop (first_in at f).entry section) same)
+pub no_header : (kind : Bool) (section : List ℕ) (at : TermStart) (p q field : ℕ) → ((tokens terms : ℕ) (rest : List ℕ) → tokens < 2 ^ 64 → terms ≤ 4294967295 → drop at.entry section ≡ header_bytes field tokens terms ++ rest → ⊥) → (f : FieldTerms) (rest : List ℕ) → f.field ≡ field → IsField (block_size kind) section at p q f rest → ⊥
+no_header kind section at p q field none f rest same there = none f.num_tokens (length f.terms) (drop (first_in at f).entry section) there.header.tokens_fit there.header.terms_fit (there.header.spelled ∙ ap (λ k. header_bytes k f.num_tokens (length f.terms) ++ drop (first_in at f).entry section) same)
 
 -- a field that was read
-pub record FieldThere (section : List ℕ) (at : TermStart) (p q field tokens : ℕ) (starts : List TermStart) (end : TermStart) : Type 0 where
+pub record FieldThere (kind : Bool) (section : List ℕ) (at : TermStart) (p q field tokens : ℕ) (shape : TermsShape) (starts : List TermStart) (end : TermStart) : Type 0 where
   pub told : FieldTerms
   pub field_is : told.field ≡ field
   pub tokens_are : told.num_tokens ≡ tokens
-  pub read : IsReadField section at p q told end
-  pub starts_are : starts ≡ starts_from (first_in at told) told.terms
+  pub read : IsReadField (block_size kind) section at p q told end
+  pub shape_is : HasShape kind (first_in at told) told.terms shape
+  pub starts_are : starts ≡ starts_of (block_size kind) (first_in at told) told.terms
 
-pub field_there : (section : List ℕ) (at : TermStart) (p q field tokens terms first : ℕ) (starts : List TermStart) (end : TermStart) (ts : List Told) → IsHeader section at.entry field tokens terms first → length ts ≡ terms → AreRead section (record { entry = first; postings = at.postings; positions = at.positions }) p q None ts end → starts ≡ starts_from (record { entry = first; postings = at.postings; positions = at.positions }) ts → FieldThere section at p q field tokens starts end
-field_there section at p q field tokens terms first starts end ts header count read are =
+pub field_there : (kind : Bool) (section : List ℕ) (at : TermStart) (p q field tokens terms first : ℕ) (shape : TermsShape) (starts : List TermStart) (end : TermStart) (ts : List Told) → IsHeader section at.entry field tokens terms first → length ts ≡ terms → AreRead (block_size kind) section (record { entry = first; postings = at.postings; positions = at.positions }) p q ts end → HasShape kind (record { entry = first; postings = at.postings; positions = at.positions }) ts shape → starts ≡ starts_of (block_size kind) (record { entry = first; postings = at.postings; positions = at.positions }) ts → FieldThere kind section at p q field tokens shape starts end
+field_there kind section at p q field tokens terms first shape starts end ts header count read shaped are =
     let f : FieldTerms = record { field = field; num_tokens = tokens; terms = ts } in
     let entry : first ≡ at.entry + length (header_bytes field tokens (length ts)) = header.end_is ∙ ap (λ k. at.entry + length (header_bytes field tokens k)) (sym count) in
     let here : record { entry = first; postings = at.postings; positions = at.positions } ≡ first_in at f = ap (λ k. record { entry = k; postings = at.postings; positions = at.positions }) entry in
@@ -145,7 +147,13 @@ field_there section at p q field tokens terms first starts end ts header count r
       tokens_are = refl;
       read = record {
         header = subst (λ k. IsHeader section at.entry field tokens (length ts) k) entry (subst (λ k. IsHeader section at.entry field tokens k first) (sym count) header);
-        read = subst (λ s. AreRead section s p q None ts end) here read;
+        read = subst (λ s. AreRead (block_size kind) section s p q ts end) here read;
       };
-      starts_are = are ∙ ap (λ s. starts_from s ts) here;
+      shape_is = subst (λ s. HasShape kind s ts shape) here shaped;
+      starts_are = are ∙ ap (λ s. starts_of (block_size kind) s ts) here;
     }
+
+pub bytes_drop : (n : ℕ) (xs : List ℕ) → AreBytes xs → AreBytes (drop n xs)
+bytes_drop zero xs bytes = bytes
+bytes_drop (suc n) [] bytes = bytes
+bytes_drop (suc n) (x ∷ xs) bytes = bytes_drop n xs (λ i. bytes (suc i))

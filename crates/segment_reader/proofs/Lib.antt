@@ -1,14 +1,15 @@
 -- Lemmas of the proofs.
 pub mod Ordered
 pub mod Found
-pub mod EntriesTaken
-pub mod TermSteps
+pub mod PlacedTerms
+pub mod TermsPlaced
 pub mod TermsLoop
 pub mod HeadersTaken
 pub mod FieldsLoop
 pub mod TermBytes
 pub mod KindsKnown
 pub mod SectionsThere
+pub mod ShapesKept
 pub mod FieldsChecked
 pub mod SectionsRead
 pub mod DictionariesPlaced
@@ -19,6 +20,9 @@ pub mod TermsHeld
 pub mod ReaderCalls
 pub mod PostingsFound
 pub mod Ranges
+pub mod KeptFound
+pub mod KeptParts
+pub mod WalkSteps
 pub mod GivenPostings
 pub mod FieldsKept
 pub mod CheckedOnce

@@ -1,5 +1,5 @@
 -- The postings of a term, where its info tells of them.
-use Rattle.std.proofs.Common.{[], Bool, List, None, Option, Some, ap, ap₂, arith, bytes_eq, cond, false, find, length, map, option_map, refl, subst, sym, true, ◌==◌, ◌≡◌, ◌≤◌, ◌∙◌, ◌∷◌, ℕ}
+use Rattle.std.proofs.Common.{[], Bool, List, None, Option, Some, ap, ap₂, arith, bytes_eq, cond, false, find, length, map, option_map, refl, subst, sym, true, ◌+◌, ◌==◌, ◌≡◌, ◌≤◌, ◌∙◌, ◌∷◌, ℕ}
 use Rattle.std.proofs.Math.Logic.{∥∥₁_elim}
 use Rattle.std.proofs.Props.{props}
 use Rattle.std.proofs.lemmas.Bool.Decides.{nat_tests}
@@ -22,7 +22,8 @@ use Rattle.segment_reader.proofs.GivenPostings.{given_held}
 use Rattle.segment_reader.proofs.KindsKnown.{IsKind, kinds_known, same_option}
 use Rattle.segment_reader.proofs.ReaderCalls.{dictionary_is}
 use Rattle.segment_reader.proofs.TermsHeld.{all_of_told, found_all}
-use Rattle.segment_reader.specs.Dictionaries.{Placed, terms_at}
+use Rattle.segment_reader.specs.Dictionaries.{Placed, placed_by}
+use Rattle.segment_reader.specs.KeptTerms.{placed_terms, told_in}
 use Rattle.segment_reader.specs.FieldDictionaries.{EndsBy, IsFound, StandsAt, terms_in}
 use Rattle.segment_reader.specs.FieldKinds.{option_in}
 use Rattle.segment_reader.specs.NewCursors.{Posted, posted, posted_in}
@@ -30,7 +31,7 @@ use Rattle.segment_reader.specs.OpenedTerms.{HasTerm, entries_of_postings}
 use Rattle.segment_reader.specs.Readers.{AreOfDocuments, Contents, IsInfo, Reader, dictionary_in, full_bounds, index_in, info_in, postings_held, postings_in, term_held, term_in}
 use Rattle.segment_reader.specs.declared.field_index.FieldIndex.{FieldIndex}
 use Rattle.segment_reader.specs.declared.term_info.TermInfo.{TermInfo}
-use Rattle.segment_reader.specs.declared.term_starts.TermStart.{TermStart}
+use Rattle.layouts.specs.TermSections.{Told}
 
 -- ---- what is found
 
@@ -43,13 +44,13 @@ some_found f (Some x) y is = (x, refl, some_is (f x) y is)
 
 -- ---- ranges
 
-orders : (section : List ℕ) (starts : List TermStart) → AllByRecursion (λ (t : Placed). (t.1.postings_range.start ≤ t.1.postings_range.end) × (t.1.positions_range.start ≤ t.1.positions_range.end)) (terms_at section starts)
-orders section [] = tt
-orders section (s ∷ ss) = ((omega arith, omega arith), orders section ss)
+orders : (p q : ℕ) (ts : List Told) → AllByRecursion (λ (t : Placed). (t.1.postings_range.start ≤ t.1.postings_range.end) × (t.1.positions_range.start ≤ t.1.positions_range.end)) (placed_by p q ts)
+orders p q [] = tt
+orders p q (t ∷ ts) = ((omega arith, omega arith), orders (p + t.1.postings_len) (q + t.1.positions_len) ts)
 
-in_order : (section : List ℕ) (o : Option FieldIndex) → AllByRecursion (λ (t : Placed). (t.1.postings_range.start ≤ t.1.postings_range.end) × (t.1.positions_range.start ≤ t.1.positions_range.end)) (option_map_or (λ (i : FieldIndex). terms_at section i.starts.items) o [])
+in_order : (section : List ℕ) (o : Option FieldIndex) → AllByRecursion (λ (t : Placed). (t.1.postings_range.start ≤ t.1.postings_range.end) × (t.1.positions_range.start ≤ t.1.positions_range.end)) (option_map_or (λ (i : FieldIndex). placed_terms section i.shape) o [])
 in_order section None = tt
-in_order section (Some i) = orders section i.starts.items
+in_order section (Some i) = orders i.shape.first.postings i.shape.first.positions (told_in section i.shape)
 
 IsInfo-prop : (r : Reader) (info : TermInfo) → IsProp (IsInfo r info)
 IsInfo-prop r info = hlevel props
@@ -117,7 +118,7 @@ option_is r field key contents i found =
 index_there : (r : Reader) (field : ℕ) (key : List ℕ) (info : TermInfo) (o : Option FieldIndex) → index_in field r.indexes ≡ o → info_in key (dictionary_in r field) ≡ Some info → (i : FieldIndex) × (index_in field r.indexes ≡ Some i)
 index_there r field key info (Some i) found is = (i, found)
 index_there r field key info None found is =
-    let none : ◌≡◌ {A = Option TermInfo} None (Some info) = sym (ap (λ (o : Option FieldIndex). info_in key (option_map_or (λ i. terms_at r.sections.terms i.starts.items) o [])) found) ∙ is in
+    let none : ◌≡◌ {A = Option TermInfo} None (Some info) = sym (ap (λ (o : Option FieldIndex). info_in key (option_map_or (λ i. placed_terms r.sections.terms i.shape) o [])) found) ∙ is in
     absurd cc
 
 -- what is recorded of a term

@@ -1,16 +1,11 @@
 -- The terms between two keys stand together.
 use Rattle.std.proofs.Common.{[], Bool, List, None, Option, Some, ap, arith, cond, drop, false, filter, length, map, max, not, refl, subst, suc, sym, take, true, true≢false, zero, ◌&&◌, ◌+◌, ◌-◌, ◌≡◌, ◌∙◌, ◌∷◌, ℕ}
-use Rattle.std.proofs.Math.Logic.{∥∥₁_elim, ∥∥₁_map}
-use Rattle.std.proofs.lemmas.List.{drop-map, take-map}
 use Rattle.std.specs.Bool.{⊤}
 use Rattle.std.specs.List.{AllByRecursion, prefix_len}
-use Rattle.definitions.proofs.Lists.{all_drop as all_dropped, all_take as all_taken}
 use Rattle.layouts.specs.TermSections.{TermsAscend}
-use Rattle.segment_reader.proofs.Found.{ascends}
-use Rattle.segment_reader.proofs.Ordered.{InfoFits-prop, behind, below_before}
-use Rattle.segment_reader.specs.Dictionaries.{AllFit, InfoFits, IsDictionary, Placed, term_at, terms_at}
+use Rattle.segment_reader.proofs.Ordered.{behind, below_before}
+use Rattle.segment_reader.specs.Dictionaries.{Placed}
 use Rattle.segment_reader.specs.Searching.{between, is_before, is_below}
-use Rattle.segment_reader.specs.declared.term_starts.TermStart.{TermStart}
 
 -- where a test fails, it fails of all behind
 abbrev pub Once : {X : Type 0} → (X → Bool) → List X → Type 0
@@ -77,32 +72,9 @@ pub once_before : {Y : Type 0} (end : Option (List ℕ)) (ts : List (List ℕ ×
 once_before None ts a = once_true ts
 once_before (Some key) ts a = once_below key ts a
 
--- ---- in a section
-
--- the places of a range give its terms
-pub range_is : (bs : List ℕ) (starts : List TermStart) (start : List ℕ) (end : Option (List ℕ)) (n m last : ℕ) → TermsAscend (map (λ (t : Placed). t.0) (terms_at bs starts)) → n ≡ prefix_len (λ (t : Placed). is_below start t.0) (terms_at bs starts) → m ≡ prefix_len (λ (t : Placed). is_before end t.0) (terms_at bs starts) → last ≡ max m n → terms_at bs (take (last - n) (drop n starts)) ≡ between start end (terms_at bs starts)
-range_is bs starts start end n m last known first second is =
-    let terms = terms_at bs starts in
+-- the terms of a range are those between its keys
+pub range_found : (terms : List Placed) (start : List ℕ) (end : Option (List ℕ)) (n m last : ℕ) → TermsAscend (map (λ (t : Placed). t.0) terms) → n ≡ prefix_len (λ (t : Placed). is_below start t.0) terms → m ≡ prefix_len (λ (t : Placed). is_before end t.0) terms → last ≡ max m n → take (last - n) (drop n terms) ≡ between start end terms
+range_found terms start end n m last known first second is =
     let whole = between_is (λ (t : Placed). is_below start t.0) (λ (t : Placed). is_before end t.0) terms (once_below start terms known) (once_before end terms known) in
     let long : last - n ≡ max (prefix_len (λ (t : Placed). is_before end t.0) terms) (prefix_len (λ (t : Placed). is_below start t.0) terms) - prefix_len (λ (t : Placed). is_below start t.0) terms = ap (λ k. k - n) is ∙ ap (λ k. max k n - n) second ∙ ap (λ k. max (prefix_len (λ (t : Placed). is_before end t.0) terms) k - k) first in
-    sym (take-map (term_at bs) (last - n) (drop n starts))
-    ∙ ap (take (last - n)) (sym (drop-map (term_at bs) n starts))
-    ∙ ap (λ k. take (last - n) (drop k terms)) first
-    ∙ ap (λ k. take k (drop (prefix_len (λ (t : Placed). is_below start t.0) terms) terms)) long
-    ∙ sym whole
-
-pub part_fits : (bs : List ℕ) (starts : List TermStart) (n k : ℕ) → AllFit (terms_at bs starts) → AllFit (terms_at bs (take k (drop n starts)))
-part_fits bs starts n k all =
-    let P : Placed → Type 0 = λ t. InfoFits t.1 in
-    subst AllFit (take-map (term_at bs) k (drop n starts)) (all_taken P k (terms_at bs (drop n starts)) (subst AllFit (drop-map (term_at bs) n starts) (all_dropped P n (terms_at bs starts) all)))
-
-pub first_fits : (bs : List ℕ) (starts rest : List TermStart) (s : TermStart) → starts ≡ s ∷ rest → ∥ AllFit (terms_at bs starts) ∥₁ → InfoFits (term_at bs s).1
-first_fits bs starts rest s is all = ∥∥₁_elim all (InfoFits-prop (term_at bs s).1) (λ fit. (subst (λ ss. AllFit (terms_at bs ss)) is fit).0)
-
-pub rest_fits : (bs : List ℕ) (starts rest : List TermStart) (s : TermStart) → starts ≡ s ∷ rest → ∥ AllFit (terms_at bs starts) ∥₁ → ∥ AllFit (terms_at bs rest) ∥₁
-rest_fits bs starts rest s is all = ∥∥₁_map all (λ fit. (subst (λ ss. AllFit (terms_at bs ss)) is fit).1)
-
-pub range_found : (bs : List ℕ) (starts : List TermStart) (start : List ℕ) (end : Option (List ℕ)) (n m last : ℕ) (terms : List Placed) → terms_at bs starts ≡ terms → ∥ IsDictionary (terms_at bs starts) ∥₁ → n ≡ prefix_len (λ (t : Placed). is_below start t.0) terms → m ≡ prefix_len (λ (t : Placed). is_before end t.0) terms → last ≡ max m n → terms_at bs (take (last - n) (drop n starts)) ≡ between start end terms
-range_found bs starts start end n m last terms view known first second is =
-    range_is bs starts start end n m last (ascends (terms_at bs starts) known) (first ∙ ap (prefix_len (λ (t : Placed). is_below start t.0)) (sym view)) (second ∙ ap (prefix_len (λ (t : Placed). is_before end t.0)) (sym view)) is
-    ∙ ap (between start end) view
+    ap (λ k. take (last - n) (drop k terms)) first ∙ ap (λ k. take k (drop (prefix_len (λ (t : Placed). is_below start t.0) terms) terms)) long ∙ sym whole

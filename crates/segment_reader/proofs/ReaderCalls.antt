@@ -7,26 +7,28 @@ use Rattle.definitions.specs.Schema.{Kind}
 use Rattle.definitions.specs.Terms.{field_of, payload_of, term_bytes, type_code}
 use Rattle.layouts.specs.Deltas.{IsAscendingFrom}
 use Rattle.layouts.specs.InvertedIndexes.{IndexedField, field_terms, num_tokens, term_of_key}
+use Rattle.layouts.specs.TermSections.{block_size}
 use Rattle.terms.proofs.TermParts.{code_same, same_code}
 use Rattle.terms.specs.Kinds.{kind_of}
-use Rattle.segment_reader.proofs.DictionariesPlaced.{dictionary_found, is_dictionary, term_found}
+use Rattle.segment_reader.proofs.DictionariesPlaced.{dictionary_found, is_dictionary, term_found, terms_kept}
 use Rattle.segment_reader.proofs.KindsKnown.{fields_ascend}
 use Rattle.segment_reader.proofs.TermsHeld.{none_held, own_bytes, same_held, same_numbers, some_same}
-use Rattle.segment_reader.specs.Dictionaries.{IsDictionary, Placed, terms_at}
+use Rattle.segment_reader.specs.Dictionaries.{Placed}
+use Rattle.segment_reader.specs.KeptTerms.{IsKeptTerms, placed_terms}
 use Rattle.segment_reader.specs.FieldDictionaries.{IsFound, dictionary_of}
 use Rattle.segment_reader.specs.Readers.{Contents, HasKind, Reader, dictionary_in, index_in, info_in, term_held, term_in, tokens_held}
 use Rattle.segment_reader.specs.TermPlaces.{field_end, fields_start}
 use Rattle.segment_reader.specs.ToldFields.{AreTold}
 use Rattle.segment_reader.specs.declared.field_index.FieldIndex.{FieldIndex}
 use Rattle.segment_reader.specs.declared.term_info.TermInfo.{TermInfo}
-use Rattle.segment_reader.specs.declared.term_starts.TermStart.{TermStart}
+use Rattle.front_coding.specs.declared.term_starts.TermStart.{TermStart}
 
 IsAscendingFrom-prop : (n : ℕ) (xs : List ℕ) → IsProp (IsAscendingFrom n xs)
 IsAscendingFrom-prop n [] = hlevel props
 IsAscendingFrom-prop n (x ∷ xs) = (let rest : IsProp (IsAscendingFrom (x + 1) xs) = IsAscendingFrom-prop (x + 1) xs in hlevel (props, rest))
 
 pub indexes_ascend : (r : Reader) → ∥ Contents r ∥₁ → IsAscendingFrom 0 (map (λ (i : FieldIndex). i.kind.field) r.indexes)
-indexes_ascend r known = ∥∥₁_elim known (IsAscendingFrom-prop 0 (map (λ (i : FieldIndex). i.kind.field) r.indexes)) (λ contents. subst (IsAscendingFrom 0) (sym (same_numbers fields_start contents.fields r.indexes contents.is.told ∙ contents.is.sections.names)) (fields_ascend contents.schema))
+indexes_ascend r known = ∥∥₁_elim known (IsAscendingFrom-prop 0 (map (λ (i : FieldIndex). i.kind.field) r.indexes)) (λ contents. subst (IsAscendingFrom 0) (sym (same_numbers contents.is.sections.terms_are.0 fields_start contents.fields r.indexes contents.is.told ∙ contents.is.sections.names)) (fields_ascend contents.schema))
 
 -- the dictionary of a field
 pub dictionary_is : (r : Reader) (field : ℕ) (contents : Contents r) → dictionary_in r field ≡ dictionary_of 0 0 field contents.fields
@@ -43,27 +45,26 @@ few_terms r field known = ∥∥₁_elim known (let few : IsProp (length (dictio
     let dictionary = is_dictionary contents.schema contents.num_docs contents.norms contents.fields r.sections is.terms_short is.postings_short is.positions_short (omega (arith, docs)) is.sections field in
     subst (λ ts. length ts ≤ 4294967295) (sym (dictionary_is r field contents)) dictionary.is.few)
 
-pub field_dictionary : (r : Reader) (field : ℕ) (i : FieldIndex) → index_in field r.indexes ≡ Some i → Contents r → IsDictionary (terms_at r.sections.terms i.starts.items)
-field_dictionary r field i found contents =
+pub field_kept : (r : Reader) (field : ℕ) (i : FieldIndex) → index_in field r.indexes ≡ Some i → Contents r → IsKeptTerms r.sections.terms i.shape i.starts.items
+field_kept r field i found contents =
     let is = contents.is in
     let docs = is.docs_few in
-    let known = is_dictionary contents.schema contents.num_docs contents.norms contents.fields r.sections is.terms_short is.postings_short is.positions_short (omega (arith, docs)) is.sections field in
-    subst IsDictionary (sym (dictionary_is r field contents) ∙ ap (λ o. option_map_or (λ (j : FieldIndex). terms_at r.sections.terms j.starts.items) o []) found) known.is
+    terms_kept contents.schema contents.num_docs contents.norms contents.fields r.sections is.terms_short is.postings_short is.positions_short (omega (arith, docs)) is.sections r.indexes field i is.told found
 
 -- how many tokens a field has
-tokens_from : (at : TermStart) (fields : List IndexedField) (told : List FieldIndex) (field : ℕ) → AreTold at (map field_terms fields) told → option_map_or (λ (i : FieldIndex). i.num_tokens) (index_in field told) 0 ≡ tokens_held fields field
-tokens_from at [] [] field are = refl
-tokens_from at [] (i ∷ is) field are = absurd are
-tokens_from at (f ∷ fields) [] field are = absurd are
-tokens_from at (f ∷ fields) (i ∷ is) field are =
-    ap (λ n. option_map_or (λ (j : FieldIndex). j.num_tokens) (cond (n == field) (Some i) (index_in field is)) 0) are.0 ∙ go (f.field == field) (tokens_from (field_end at (field_terms f)) fields is field are.3)
+tokens_from : (kind : Bool) (at : TermStart) (fields : List IndexedField) (told : List FieldIndex) (field : ℕ) → AreTold kind at (map field_terms fields) told → option_map_or (λ (i : FieldIndex). i.num_tokens) (index_in field told) 0 ≡ tokens_held fields field
+tokens_from kind at [] [] field are = refl
+tokens_from kind at [] (i ∷ is) field are = absurd are
+tokens_from kind at (f ∷ fields) [] field are = absurd are
+tokens_from kind at (f ∷ fields) (i ∷ is) field are =
+    ap (λ n. option_map_or (λ (j : FieldIndex). j.num_tokens) (cond (n == field) (Some i) (index_in field is)) 0) are.0 ∙ go (f.field == field) (tokens_from kind (field_end (block_size kind) at (field_terms f)) fields is field are.3)
   where
     go : (b : Bool) → option_map_or (λ (j : FieldIndex). j.num_tokens) (index_in field is) 0 ≡ tokens_held fields field → option_map_or (λ (j : FieldIndex). j.num_tokens) (cond b (Some i) (index_in field is)) 0 ≡ option_map_or num_tokens (cond b (Some f) (find (λ (g : IndexedField). g.field == field) fields)) 0
     go true rest = are.1
     go false rest = rest
 
 pub tokens_are : (r : Reader) (field : ℕ) (contents : Contents r) → option_map_or (λ (i : FieldIndex). i.num_tokens) (index_in field r.indexes) 0 ≡ tokens_held contents.fields field
-tokens_are r field contents = tokens_from fields_start contents.fields r.indexes field contents.is.told
+tokens_are r field contents = tokens_from contents.is.sections.terms_are.0 fields_start contents.fields r.indexes field contents.is.told
 
 -- a field that is found by a call, with the places that are lent from it
 pub found_index : (r : Reader) (field : ℕ) (o : Option (Bor FieldIndex)) (index : Bor FieldIndex) → option_map (λ (b : Bor FieldIndex). b.now) o ≡ index_in field r.indexes → o ≡ Some index → index_in field r.indexes ≡ Some index.now
@@ -72,19 +73,18 @@ found_index r field o index told is = sym told ∙ ap (option_map (λ (b : Bor F
 pub none_index : (r : Reader) (field : ℕ) (o : Option (Bor FieldIndex)) → option_map (λ (b : Bor FieldIndex). b.now) o ≡ index_in field r.indexes → o ≡ None → index_in field r.indexes ≡ None
 none_index r field o told is = sym told ∙ ap (option_map (λ (b : Bor FieldIndex). b.now)) is
 
-pub lent_dictionary : (r s : Reader) (field : ℕ) (i : FieldIndex) (bytes : List ℕ) (starts : List TermStart) → s ≡ r → bytes ≡ s.sections.terms → starts ≡ i.starts.items → index_in field r.indexes ≡ Some i → ∥ Contents s ∥₁ → ∥ IsDictionary (terms_at bytes starts) ∥₁
+pub lent_dictionary : (r s : Reader) (field : ℕ) (i : FieldIndex) (bytes : List ℕ) (starts : List TermStart) → s ≡ r → bytes ≡ s.sections.terms → starts ≡ i.starts.items → index_in field r.indexes ≡ Some i → ∥ Contents s ∥₁ → ∥ IsKeptTerms bytes i.shape starts ∥₁
 lent_dictionary r s field i bytes starts same lent places found known =
-    ∥∥₁_map known (λ contents. subst (λ b. IsDictionary (terms_at b starts)) (sym (lent ∙ ap (λ (x : Reader). x.sections.terms) same)) (subst (λ ss. IsDictionary (terms_at r.sections.terms ss)) (sym places) (field_dictionary r field i found (subst Contents same contents))))
+    ∥∥₁_map known (λ contents. subst (λ b. IsKeptTerms b i.shape starts) (sym (lent ∙ ap (λ (x : Reader). x.sections.terms) same)) (subst (λ ss. IsKeptTerms r.sections.terms i.shape ss) (sym places) (field_kept r field i found (subst Contents same contents))))
 
-pub dictionary_lent : (r s : Reader) (field : ℕ) (i : FieldIndex) (bytes : List ℕ) (starts : List TermStart) (terms : List Placed) → s ≡ r → bytes ≡ s.sections.terms → starts ≡ i.starts.items → index_in field r.indexes ≡ Some i → terms ≡ terms_at bytes starts → terms ≡ dictionary_in r field
-dictionary_lent r s field i bytes starts terms same lent places found is =
+pub dictionary_lent : (r s : Reader) (field : ℕ) (i : FieldIndex) (bytes : List ℕ) (terms : List Placed) → s ≡ r → bytes ≡ s.sections.terms → index_in field r.indexes ≡ Some i → terms ≡ placed_terms bytes i.shape → terms ≡ dictionary_in r field
+dictionary_lent r s field i bytes terms same lent found is =
     is
-    ∙ ap (λ b. terms_at b starts) (lent ∙ ap (λ (x : Reader). x.sections.terms) same)
-    ∙ ap (terms_at r.sections.terms) places
-    ∙ ap (λ (o : Option FieldIndex). option_map_or (λ j. terms_at r.sections.terms j.starts.items) o []) (sym found)
+    ∙ ap (λ b. placed_terms b i.shape) (lent ∙ ap (λ (x : Reader). x.sections.terms) same)
+    ∙ ap (λ (o : Option FieldIndex). option_map_or (λ j. placed_terms r.sections.terms j.shape) o []) (sym found)
 
 pub no_dictionary : (r : Reader) (field : ℕ) (terms : List Placed) → index_in field r.indexes ≡ None → terms ≡ [] → terms ≡ dictionary_in r field
-no_dictionary r field terms none is = is ∙ ap (λ (o : Option FieldIndex). option_map_or (λ j. terms_at r.sections.terms j.starts.items) o []) (sym none)
+no_dictionary r field terms none is = is ∙ ap (λ (o : Option FieldIndex). option_map_or (λ j. placed_terms r.sections.terms j.shape) o []) (sym none)
 
 -- whether the values of a field that is found are of a kind
 pub of_kind : (r : Reader) (field : ℕ) (o : Option (Bor FieldIndex)) (index : Bor FieldIndex) (kind : Kind) (x y : ℕ) → option_map (λ (b : Bor FieldIndex). b.now) o ≡ index_in field r.indexes → o ≡ Some index → type_code (kind_of index.now.kind.value_type) ≡ x ∷ [] → type_code kind ≡ y ∷ [] → (x ≡ y → HasKind r field kind) × (HasKind r field kind → x ≡ y)

@@ -7,11 +7,10 @@ use Rattle.definitions.specs.Postings.{Posting}
 use Rattle.definitions.specs.Schema.{IndexRecordOption, Schema, has_positions}
 use Rattle.layouts.specs.Deltas.{IsAscendingFrom}
 use Rattle.layouts.specs.InvertedIndexes.{AreSections, IndexedField, IndexedTerm, IsField, IsPosting, IsTerm, field_ids, field_terms, indexed_fields, lengths_of, option_of_term, term_of_key}
-use Rattle.layouts.specs.TermSections.{FieldTerms, TermsAscend, field_terms_bytes}
+use Rattle.layouts.specs.TermSections.{FieldTerms, TermsAscend, Told, block_size, field_terms_bytes}
 use Rattle.segment_reader.proofs.TermBytes.{FieldFits, all_positions, all_postings, fields_entry, fields_positions, fields_postings, fields_stand, positions_of, postings_of, same_place, told_of}
 use Rattle.segment_reader.specs.CheckedTerms.{Sections}
-use Rattle.segment_reader.specs.TakenTerms.{Told}
-use Rattle.segment_reader.specs.TermPlaces.{EntryFits, IsSection, fields_end, fields_start}
+use Rattle.segment_reader.specs.TermPlaces.{IsSection, TermFits, fields_end, fields_start}
 
 -- ---- the numbers of terms fit
 
@@ -24,12 +23,12 @@ few_docs positions n next (p ∷ ps) ascending each =
     let within = each.0.within in
     omega (arith, later, order, within)
 
-entry_fits : (option : IndexRecordOption) (n : ℕ) (ids : List ℕ) (x : IndexedTerm) → n < 2 ^ 32 → length x.postings_bytes < 2 ^ 63 → length x.positions_bytes < 2 ^ 63 → IsTerm option n ids x → EntryFits (lengths_of x)
+entry_fits : (option : IndexRecordOption) (n : ℕ) (ids : List ℕ) (x : IndexedTerm) → n < 2 ^ 32 → length x.postings_bytes < 2 ^ 63 → length x.positions_bytes < 2 ^ 63 → IsTerm option n ids x → TermFits (lengths_of x).1
 entry_fits option n ids x few first second term =
     let docs = few_docs (has_positions option) n 0 x.postings term.postings_are.posted.ascending term.each in
     record { some = term.some; few = omega (arith, few, docs); postings_fit = omega (arith, first); positions_fit = omega (arith, second) }
 
-pub entries_fit : (option : List ℕ → IndexRecordOption) (n : ℕ) (ids : List ℕ) (xs : List IndexedTerm) → n < 2 ^ 32 → length (postings_of xs) < 2 ^ 63 → length (positions_of xs) < 2 ^ 63 → AllByRecursion (λ (x : IndexedTerm). IsTerm (option x.key) n ids x) xs → AllByRecursion EntryFits (told_of xs)
+pub entries_fit : (option : List ℕ → IndexRecordOption) (n : ℕ) (ids : List ℕ) (xs : List IndexedTerm) → n < 2 ^ 32 → length (postings_of xs) < 2 ^ 63 → length (positions_of xs) < 2 ^ 63 → AllByRecursion (λ (x : IndexedTerm). IsTerm (option x.key) n ids x) xs → AllByRecursion (λ (t : Told). TermFits t.1) (told_of xs)
 entries_fit option n ids [] few first second each = tt
 entries_fit option n ids (x ∷ xs) few first second each =
     let a = length-append x.postings_bytes (postings_of xs) in
@@ -60,19 +59,21 @@ numbers_told [] = refl
 numbers_told (f ∷ fields) = ap (λ ns. f.field ∷ ns) (numbers_told fields)
 
 -- the sections that are defined are read
-pub sections_there : (schema : Schema) (num_docs : ℕ) (norms : List (ℕ × List ℕ)) (fields : List IndexedField) (s : Sections) → length s.terms < 2 ^ 63 → length s.postings < 2 ^ 63 → length s.positions < 2 ^ 63 → num_docs < 2 ^ 32 → AreSections schema num_docs norms fields s.terms s.postings s.positions → IsSection s.terms (length s.postings) (length s.positions) (indexed_fields schema) (map field_terms fields)
+pub sections_there : (schema : Schema) (num_docs : ℕ) (norms : List (ℕ × List ℕ)) (fields : List IndexedField) (s : Sections) → length s.terms < 2 ^ 63 → length s.postings < 2 ^ 63 → length s.positions < 2 ^ 63 → num_docs < 2 ^ 32 → (are : AreSections schema num_docs norms fields s.terms s.postings s.positions) → IsSection are.terms_are.0 s.terms (length s.postings) (length s.positions) (indexed_fields schema) (map field_terms fields)
 sections_there schema num_docs norms fields s short first second few are =
     let fs = map field_terms fields in
-    let bytes = flat_map field_terms_bytes fs in
+    let size = block_size are.terms_are.0 in
+    let spelled = are.terms_are.1 in
+    let bytes = flat_map (field_terms_bytes size) fs in
     let postings : length s.postings ≡ length (all_postings fields) = ap length are.postings_are in
     let positions : length s.positions ≡ length (all_positions fields) = ap length are.positions_are in
-    let long : length s.terms ≡ 1 + length bytes = (let whole = ap length are.terms_are in omega (arith, whole)) in
-    let p = fields_postings fields_start fields in
-    let q = fields_positions fields_start fields in
-    let there = ap (drop 1) are.terms_are ∙ sym (append-nil bytes) in
+    let long : length s.terms ≡ 1 + length bytes = (let whole = ap length spelled in omega (arith, whole)) in
+    let p = fields_postings size fields_start fields in
+    let q = fields_positions size fields_start fields in
+    let there = ap (drop 1) spelled ∙ sym (append-nil bytes) in
     record {
-      kind = ap (λ xs. slice_get xs 0) are.terms_are;
+      kind = ap (λ xs. slice_get xs 0) spelled;
       names = numbers_told fields ∙ are.names;
-      fields = fields_stand s.terms fields_start (length s.postings) (length s.positions) fs [] short (omega (arith, long)) (fields_fit schema num_docs norms fields few (omega (arith, first, postings)) (omega (arith, second, positions)) are.each) there (omega (arith, p, postings)) (omega (arith, q, positions));
-      ends = same_place (fields_end fields_start fs) (record { entry = length s.terms; postings = length s.postings; positions = length s.positions }) (omega (arith, fields_entry fields_start fs, long)) (omega (arith, p, postings)) (omega (arith, q, positions));
+      fields = fields_stand size s.terms fields_start (length s.postings) (length s.positions) fs [] short (omega (arith, long)) (fields_fit schema num_docs norms fields few (omega (arith, first, postings)) (omega (arith, second, positions)) are.each) there (omega (arith, p, postings)) (omega (arith, q, positions));
+      ends = same_place (fields_end size fields_start fs) (record { entry = length s.terms; postings = length s.postings; positions = length s.positions }) (omega (arith, fields_entry size fields_start fs, long)) (omega (arith, p, postings)) (omega (arith, q, positions));
     }

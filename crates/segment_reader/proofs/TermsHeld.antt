@@ -15,7 +15,8 @@ use Rattle.segment_reader.specs.TermPlaces.{field_end, fields_start}
 use Rattle.segment_reader.specs.ToldFields.{AreTold}
 use Rattle.segment_reader.specs.declared.field_index.FieldIndex.{FieldIndex}
 use Rattle.segment_reader.specs.declared.field_kind.FieldKind.{FieldKind}
-use Rattle.segment_reader.specs.declared.term_starts.TermStart.{TermStart}
+use Rattle.front_coding.specs.declared.term_starts.TermStart.{TermStart}
+use Rattle.layouts.specs.TermSections.{block_size}
 
 -- ---- lists
 
@@ -136,21 +137,21 @@ same_by_value schema f n e kind q there same number key =
 pub some_same : (a b : Kind) → ◌≡◌ {A = Option Kind} (Some a) (Some b) → a ≡ b
 some_same a b same = ap (λ (o : Option Kind). option_map_or (λ k. k) o a) same
 
-kept_from : (schema : Schema) (at : TermStart) (fields : List IndexedField) (told : List FieldIndex) → AreTold at (map field_terms fields) told → AllByRecursion (IsKind schema) (map (λ (i : FieldIndex). i.kind) told) → AllByRecursion (λ (f : IndexedField). IsKept schema f.field) fields
-kept_from schema at [] told are all = tt
-kept_from schema at (f ∷ fields) [] are all = absurd are
-kept_from schema at (f ∷ fields) (i ∷ is) are all =
-    (subst (IsKept schema) are.0 (record { entry = all.0.entry; there = all.0.there; small = all.0.small }), kept_from schema (field_end at (field_terms f)) fields is are.3 all.1)
+kept_from : (kind : Bool) (schema : Schema) (at : TermStart) (fields : List IndexedField) (told : List FieldIndex) → AreTold kind at (map field_terms fields) told → AllByRecursion (IsKind schema) (map (λ (i : FieldIndex). i.kind) told) → AllByRecursion (λ (f : IndexedField). IsKept schema f.field) fields
+kept_from kind schema at [] told are all = tt
+kept_from kind schema at (f ∷ fields) [] are all = absurd are
+kept_from kind schema at (f ∷ fields) (i ∷ is) are all =
+    (subst (IsKept schema) are.0 (record { entry = all.0.entry; there = all.0.there; small = all.0.small }), kept_from kind schema (field_end (block_size kind) at (field_terms f)) fields is are.3 all.1)
 
 pub all_of_told : (P : FieldKind → Type 0) (told : List FieldIndex) → AllByRecursion P (map (λ (i : FieldIndex). i.kind) told) → AllByRecursion (λ (i : FieldIndex). P i.kind) told
 all_of_told P [] all = tt
 all_of_told P (i ∷ is) all = (all.0, all_of_told P is all.1)
 
-pub same_numbers : (at : TermStart) (fields : List IndexedField) (told : List FieldIndex) → AreTold at (map field_terms fields) told → map (λ (i : FieldIndex). i.kind.field) told ≡ numbers fields
-same_numbers at [] [] are = refl
-same_numbers at [] (i ∷ is) are = absurd are
-same_numbers at (f ∷ fields) [] are = absurd are
-same_numbers at (f ∷ fields) (i ∷ is) are = ap (λ n. n ∷ map (λ (j : FieldIndex). j.kind.field) is) are.0 ∙ ap (λ ns. f.field ∷ ns) (same_numbers (field_end at (field_terms f)) fields is are.3)
+pub same_numbers : (kind : Bool) (at : TermStart) (fields : List IndexedField) (told : List FieldIndex) → AreTold kind at (map field_terms fields) told → map (λ (i : FieldIndex). i.kind.field) told ≡ numbers fields
+same_numbers kind at [] [] are = refl
+same_numbers kind at [] (i ∷ is) are = absurd are
+same_numbers kind at (f ∷ fields) [] are = absurd are
+same_numbers kind at (f ∷ fields) (i ∷ is) are = ap (λ n. n ∷ map (λ (j : FieldIndex). j.kind.field) is) are.0 ∙ ap (λ ns. f.field ∷ ns) (same_numbers kind (field_end (block_size kind) at (field_terms f)) fields is are.3)
 
 not_there : (n : ℕ) (told : List FieldIndex) (fields : List IndexedField) → map (λ (i : FieldIndex). i.kind.field) told ≡ numbers fields → find (λ (i : FieldIndex). i.kind.field == n) told ≡ None → AllByRecursion (λ (f : IndexedField). f.field ≢ n) fields
 not_there n told [] same none = tt
@@ -192,8 +193,8 @@ knows : (schema : Schema) (n : ℕ) (norms : List (ℕ × List ℕ)) (fields : L
 knows schema n norms fields r reader =
     let known = kinds_known schema (map (λ (i : FieldIndex). i.kind) r.indexes) reader.few reader.kinds in
     record {
-      kept = kept_from schema fields_start fields r.indexes reader.told known;
-      numbers_are = same_numbers fields_start fields r.indexes reader.told;
+      kept = kept_from reader.sections.terms_are.0 schema fields_start fields r.indexes reader.told known;
+      numbers_are = same_numbers reader.sections.terms_are.0 fields_start fields r.indexes reader.told;
       rise = subst (IsAscendingFrom 0) (sym reader.sections.names) (fields_ascend schema);
       kinds = all_of_told (IsKind schema) r.indexes known;
     }

@@ -1,108 +1,54 @@
--- Terms of a section, one after another.
-use Rattle.std.proofs.Common.{[], List, None, Option, Some, ap, ap₂, append-nil, append_assoc, arith, drop, flat_map, length, length-append, length-drop, map, refl, subst, suc, sym, zero, ◌++◌, ◌+◌, ◌<◌, ◌≡◌, ◌≤◌, ◌∙◌, ◌∷◌, ◌^◌, ℕ}
-use Rattle.std.proofs.lemmas.Grind.{flat_map-append}
-use Rattle.std.proofs.lemmas.List.{map-append}
+-- Terms of a section, read one after another.
+use Rattle.std.proofs.Common.{[], Bool, List, None, Option, Some, ap, ap₂, append_assoc, arith, drop, false, length, length-append, length-drop, map, max, refl, subst, suc, sym, take, true, zero, ◌&&◌, ◌++◌, ◌+◌, ◌-◌, ◌<◌, ◌≡◌, ◌≤◌, ◌∙◌, ◌∷◌, ◌^◌, ℕ}
+use Rattle.std.proofs.lemmas.Bool.{and_parts}
+use Rattle.std.proofs.lemmas.Bool.Decides.{nat_tests}
+use Rattle.std.proofs.lemmas.List.{drop-drop, length-take-le, take-append-drop}
 use Rattle.std.specs.List.{AllByRecursion}
-use Rattle.layouts.specs.TermSections.{TermsAscend, entry_of_term}
-use Rattle.segment_reader.proofs.TermSteps.{same_taken, taken_there}
-use Rattle.segment_reader.specs.TakenTerms.{Told}
-use Rattle.segment_reader.specs.TermPlaces.{AreRead, AreTerms, EntryFits, behind, end_of, key_before, starts_from}
-use Rattle.segment_reader.specs.declared.term_starts.TermStart.{TermStart}
+use Rattle.std.specs.Prelude.{nat_le}
+use Rattle.definitions.proofs.Lists.{all_drop}
+use Rattle.definitions.specs.NumberCodes.{AreBytes}
+use Rattle.front_coding.proofs.BlockFound.{first_terms}
+use Rattle.front_coding.proofs.BlockLoop.{positions_grow, postings_grow}
+use Rattle.front_coding.proofs.TermsLoop as coded
+use Rattle.front_coding.proofs.TermsTaken.{first_short, follow_all, term_back, term_put, terms_once}
+use Rattle.front_coding.specs.BlockPlaces.{begun, behind, positions_end, postings_end}
+use Rattle.front_coding.specs.TakenKeys as taken
+use Rattle.front_coding.specs.TakenKeys.{LengthsFit, last_key, take_term}
+use Rattle.front_coding.specs.Walks.{keys_fit}
+use Rattle.front_coding.specs.declared.term_starts.TermStart.{TermStart}
+use Rattle.layouts.specs.TermSections.{TermLengths, TermsAscend, Told, before_in_block, coded_entry, coded_from}
+use Rattle.segment_reader.proofs.PlacedTerms.{ascend_all}
+use Rattle.segment_reader.specs.TermPlaces.{AreRead, AreTerms, EndsWithin, TermFits, end_of, starts_of}
 
--- the key of the last term
-abbrev pub last_key : List Told → Option (List ℕ)
-last_key [] = None
-last_key (t ∷ []) = Some t.0
-last_key (t ∷ u ∷ ts) = last_key (u ∷ ts)
+-- ---- numbers of 64 bits
 
-last_pushed : (ts : List Told) (t : Told) → last_key (ts ++ t ∷ []) ≡ Some t.0
-last_pushed [] t = refl
-last_pushed (s ∷ []) t = refl
-last_pushed (r ∷ s ∷ ts) t = last_pushed (s ∷ ts) t
+pub lengths_fit : (ts : List Told) → AllByRecursion (λ (t : Told). TermFits t.1) ts → AllByRecursion (λ (t : Told). LengthsFit t.1) ts
+lengths_fit [] fit = tt
+lengths_fit (t ∷ ts) fit = (record { docs = (let few = fit.0.few in omega (arith, few)); postings = fit.0.postings_fit; positions = fit.0.positions_fit }, lengths_fit ts fit.1)
 
--- ---- order
+-- terms as they stand, without their places
+pub coded_of : (size : ℕ) (section : List ℕ) (at : TermStart) (p q : ℕ) (ts : List Told) (rest : List ℕ) → AreTerms size section at p q ts rest → taken.AreTerms size 0 [] (drop at.entry section) ts rest
+coded_of size section at p q ts rest terms = record { spelled = terms.spelled; follow = follow_all size ts terms.ascend; fit = lengths_fit ts terms.fit }
 
-ascend_pushed : (ts : List Told) (key : List ℕ) → TermsAscend (map (λ (t : Told). t.0) ts) → TermsAscend (key_before (last_key ts) ++ key ∷ []) → TermsAscend (map (λ (t : Told). t.0) ts ++ key ∷ [])
-ascend_pushed [] key a b = tt
-ascend_pushed (t ∷ []) key a b = b
-ascend_pushed (t ∷ u ∷ ts) key a b = (a.0, ascend_pushed (u ∷ ts) key a.1 b)
+-- ---- lists
 
-first_ascends : (before : Option (List ℕ)) (key : List ℕ) (more : List (List ℕ)) → TermsAscend (key_before before ++ key ∷ more) → TermsAscend (key_before before ++ key ∷ [])
-first_ascends None key more a = tt
-first_ascends (Some b) key more a = (a.0, tt)
+pub keys_pushed : (longest : ℕ) (ts : List Told) (t : Told) → keys_fit longest ts ≡ true → length t.0 ≤ longest → keys_fit longest (ts ++ t ∷ []) ≡ true
+keys_pushed longest [] t fit within = (let this : nat_le (length t.0) longest ≡ true = grind (arith, nat_tests, within) in ap (λ b. b && true) this)
+keys_pushed longest (s ∷ ts) t fit within =
+    let both = and_parts (nat_le (length s.0) longest) (keys_fit longest ts) fit in
+    ap (λ b. b && keys_fit longest (ts ++ t ∷ [])) both.0 ∙ keys_pushed longest ts t both.1 within
 
-pub rest_ascends : (before : Option (List ℕ)) (key : List ℕ) (more : List (List ℕ)) → TermsAscend (key_before before ++ key ∷ more) → TermsAscend (key ∷ more)
-rest_ascends None key more a = a
-rest_ascends (Some b) key more a = a.1
+pub keys_grow : (a b : ℕ) (ts : List Told) → a ≤ b → keys_fit a ts ≡ true → keys_fit b ts ≡ true
+keys_grow a b [] order fit = refl
+keys_grow a b (t ∷ ts) order fit =
+    let both = and_parts (nat_le (length t.0) a) (keys_fit a ts) fit in
+    let first = both.0 in
+    let this : nat_le (length t.0) b ≡ true = grind (arith, nat_tests, first, order) in
+    ap (λ x. x && keys_fit b ts) this ∙ keys_grow a b ts order both.1
 
--- ---- places
-
-pub ends_grow : (at : TermStart) (ts : List Told) → (at.postings ≤ (end_of at ts).postings) × (at.positions ≤ (end_of at ts).positions)
-ends_grow at [] = (omega arith, omega arith)
-ends_grow at (t ∷ ts) = (let later = ends_grow (behind at t) ts in (omega (arith, later.0), omega (arith, later.1)))
-
-end_pushed : (at : TermStart) (ts : List Told) (t : Told) → end_of at (ts ++ t ∷ []) ≡ behind (end_of at ts) t
-end_pushed at [] t = refl
-end_pushed at (s ∷ ts) t = end_pushed (behind at s) ts t
-
-starts_pushed : (at : TermStart) (ts : List Told) (t : Told) → starts_from at (ts ++ t ∷ []) ≡ starts_from at ts ++ end_of at ts ∷ []
-starts_pushed at [] t = refl
-starts_pushed at (s ∷ ts) t = ap (λ xs. at ∷ xs) (starts_pushed (behind at s) ts t)
-
-fit_pushed : (ts : List Told) (t : Told) → AllByRecursion EntryFits ts → EntryFits t → AllByRecursion EntryFits (ts ++ t ∷ [])
+fit_pushed : (ts : List Told) (t : Told) → AllByRecursion (λ (x : Told). TermFits x.1) ts → TermFits t.1 → AllByRecursion (λ (x : Told). TermFits x.1) (ts ++ t ∷ [])
 fit_pushed [] t all fits = (fits, tt)
 fit_pushed (s ∷ ts) t all fits = (all.0, fit_pushed ts t all.1 fits)
-
--- ---- one more
-
-pub record Reading (section : List ℕ) (at : TermStart) (p q n i : ℕ) (before : Option (List ℕ)) (starts : List TermStart) (end : TermStart) : Type 0 where
-  pub done : List Told
-  pub count : length done ≡ i
-  pub read : AreRead section at p q None done end
-  pub starts_are : starts ≡ starts_from at done
-  pub before_is : before ≡ last_key done
-  pub complete : (ts : List Told) (rest : List ℕ) → length ts ≡ n → AreTerms section at p q None ts rest → AreTerms section end p q before (drop i ts) rest
-
-pub nothing_read : (section : List ℕ) (at : TermStart) (p q n : ℕ) → at.entry ≤ length section → at.postings ≤ p → at.positions ≤ q → Reading section at p q n 0 None [] at
-nothing_read section at p q n within first second = record {
-  done = [];
-  count = refl;
-  read = record { terms = record { spelled = refl; ascend = tt; fit = tt; postings_end = first; positions_end = second }; end_is = refl; within = within };
-  starts_are = refl;
-  before_is = refl;
-  complete = λ ts rest long terms. terms;
-}
-
--- the first of several terms
-pub first_alone : (section : List ℕ) (at : TermStart) (p q : ℕ) (before : Option (List ℕ)) (t : Told) (ts : List Told) (rest : List ℕ) → AreTerms section at p q before (t ∷ ts) rest → AreTerms section at p q before (t ∷ []) (flat_map entry_of_term ts ++ rest)
-first_alone section at p q before t ts rest terms =
-    let grow = ends_grow (behind at t) ts in
-    let first = terms.postings_end in
-    let second = terms.positions_end in
-    record {
-      spelled = terms.spelled ∙ append_assoc (entry_of_term t) (flat_map entry_of_term ts) rest ∙ ap (λ xs. xs ++ (flat_map entry_of_term ts ++ rest)) (sym (append-nil (entry_of_term t)));
-      ascend = first_ascends before t.0 (map (λ (u : Told). u.0) ts) terms.ascend;
-      fit = (terms.fit.0, tt);
-      postings_end = omega (arith, first, grow.0);
-      positions_end = omega (arith, second, grow.1);
-    }
-
--- those behind a term that was read
-terms_behind : (section : List ℕ) (at : TermStart) (p q : ℕ) (before : Option (List ℕ)) (t e : Told) (ts : List Told) (rest : List ℕ) (end : TermStart) → length section < 2 ^ 63 → AreTerms section at p q before (t ∷ ts) rest → AreRead section at p q before (e ∷ []) end → AreTerms section end p q (Some e.0) ts rest
-terms_behind section at p q before t e ts rest end short terms read =
-    let bs = drop at.entry section in
-    let few : length bs < 2 ^ 64 = omega (arith, short, length-drop at.entry section) in
-    let there : bs ≡ entry_of_term t ++ (flat_map entry_of_term ts ++ rest) = terms.spelled ∙ append_assoc (entry_of_term t) (flat_map entry_of_term ts) rest in
-    let here : bs ≡ entry_of_term e ++ drop end.entry section = read.terms.spelled ∙ ap (λ xs. xs ++ drop end.entry section) (append-nil (entry_of_term e)) in
-    let same = same_taken t e bs (flat_map entry_of_term ts ++ rest) (drop end.entry section) few there terms.fit.0 (taken_there e bs (drop end.entry section) few here read.terms.fit.0) in
-    let place : end ≡ behind at t = read.end_is ∙ ap (behind at) (sym same.0) in
-    record {
-      spelled = sym same.1;
-      ascend = subst (λ k. TermsAscend (k ∷ map (λ (u : Told). u.0) ts)) (ap (λ (x : Told). x.0) same.0) (rest_ascends before t.0 (map (λ (u : Told). u.0) ts) terms.ascend);
-      fit = terms.fit.1;
-      postings_end = subst (λ (s : TermStart). (end_of s ts).postings ≤ p) (sym place) terms.postings_end;
-      positions_end = subst (λ (s : TermStart). (end_of s ts).positions ≤ q) (sym place) terms.positions_end;
-    }
 
 drop_here : (i : ℕ) (ts : List Told) → i < length ts → (t : Told) × (drop i ts ≡ t ∷ drop (i + 1) ts)
 drop_here i [] within = absurd (omega arith)
@@ -112,37 +58,132 @@ drop_here (suc i) (t ∷ ts) within =
     let next : suc (i + 1) ≡ suc i + 1 = omega arith in
     (here.0, here.1 ∙ ap (λ k. here.0 ∷ drop k (t ∷ ts)) next)
 
-pub one_more : (section : List ℕ) (at : TermStart) (p q n i : ℕ) (before : Option (List ℕ)) (starts : List TermStart) (end : TermStart) (e : Told) (next : TermStart) → length section < 2 ^ 63 → i < n → Reading section at p q n i before starts end → AreRead section end p q before (e ∷ []) next → Reading section at p q n (i + 1) (Some e.0) (starts ++ end ∷ []) next
-one_more section at p q n i before starts end e next short more reading read =
-    let done = reading.done in
-    let count = reading.count in
-    let was = reading.read in
-    let last : end_of at (done ++ e ∷ []) ≡ next = end_pushed at done e ∙ ap (λ s. behind s e) (sym was.end_is) ∙ sym read.end_is in
-    let order : TermsAscend (map (λ (t : Told). t.0) done ++ e.0 ∷ []) = ascend_pushed done e.0 was.terms.ascend (subst (λ b. TermsAscend (key_before b ++ e.0 ∷ [])) reading.before_is read.terms.ascend) in
-    record {
-      done = done ++ e ∷ [];
-      count = (let long = length-append done (e ∷ []) in omega (arith, long, count));
-      read = record {
-        terms = record {
-          spelled = was.terms.spelled ∙ ap (λ xs. flat_map entry_of_term done ++ xs) read.terms.spelled ∙ sym (append_assoc (flat_map entry_of_term done) (flat_map entry_of_term (e ∷ [])) (drop next.entry section)) ∙ ap (λ xs. xs ++ drop next.entry section) (sym (flat_map-append entry_of_term done (e ∷ [])));
-          ascend = subst TermsAscend (sym (map-append (λ (t : Told). t.0) done (e ∷ []))) order;
-          fit = fit_pushed done e was.terms.fit read.terms.fit.0;
-          postings_end = subst (λ (s : TermStart). s.postings ≤ p) (sym read.end_is ∙ sym last) read.terms.postings_end;
-          positions_end = subst (λ (s : TermStart). s.positions ≤ q) (sym read.end_is ∙ sym last) read.terms.positions_end;
-        };
-        end_is = sym last;
-        within = read.within;
-      };
-      starts_are = ap₂ (λ xs s. xs ++ s ∷ []) reading.starts_are was.end_is ∙ sym (starts_pushed at done e);
-      before_is = sym (last_pushed done e);
-      complete = λ ts rest long terms.
-          let left = reading.complete ts rest long terms in
-          let here = drop_here i ts (omega (arith, more, long)) in
-          terms_behind section end p q before here.0 e (drop (i + 1) ts) rest next short (subst (λ us. AreTerms section end p q before us rest) here.1 left) read;
-    }
+postings_parts : (p : ℕ) (xs ys : List Told) → postings_end p (xs ++ ys) ≡ postings_end (postings_end p xs) ys
+postings_parts p [] ys = refl
+postings_parts p (x ∷ xs) ys = postings_parts (p + x.1.postings_len) xs ys
 
-pub no_more : (section : List ℕ) (at : TermStart) (p q n i : ℕ) (before : Option (List ℕ)) (starts : List TermStart) (end : TermStart) → i < n → Reading section at p q n i before starts end → ((t : Told) (rest : List ℕ) → AreTerms section end p q before (t ∷ []) rest → ⊥) → (ts : List Told) (rest : List ℕ) → length ts ≡ n → AreTerms section at p q None ts rest → ⊥
-no_more section at p q n i before starts end more reading none ts rest long terms =
-    let left = reading.complete ts rest long terms in
-    let here = drop_here i ts (omega (arith, more, long)) in
-    none here.0 (flat_map entry_of_term (drop (i + 1) ts) ++ rest) (first_alone section end p q before here.0 (drop (i + 1) ts) rest (subst (λ us. AreTerms section end p q before us rest) here.1 left))
+positions_parts : (q : ℕ) (xs ys : List Told) → positions_end q (xs ++ ys) ≡ positions_end (positions_end q xs) ys
+positions_parts q [] ys = refl
+positions_parts q (x ∷ xs) ys = positions_parts (q + x.1.positions_len) xs ys
+
+pub same_start : (a b : TermStart) → a.entry ≡ b.entry → a.postings ≡ b.postings → a.positions ≡ b.positions → a ≡ b
+same_start a b entry postings positions =
+    ap (λ n. record { entry = n; postings = a.postings; positions = a.positions }) entry
+    ∙ ap (λ n. record { entry = b.entry; postings = n; positions = a.positions }) postings
+    ∙ ap (λ n. record { entry = b.entry; postings = b.postings; positions = n }) positions
+
+-- ---- one more
+
+-- so many terms were read: where their blocks begin, where the next begins, and how long the longest key is
+pub record Reading (size : ℕ) (section : List ℕ) (at : TermStart) (p q n i : ℕ) (key : List ℕ) (starts : List TermStart) (end : TermStart) (longest : ℕ) : Type 0 where
+  pub reading : coded.Reading size (drop at.entry section) n i key (drop end.entry section)
+  pub starts_are : starts ≡ starts_of size at reading.done
+  pub end_is : end ≡ coded.place_behind size 0 [] at reading.done
+  pub within : end.entry ≤ length section
+  pub postings : end.postings ≤ p
+  pub positions : end.positions ≤ q
+  pub fit : AllByRecursion (λ (t : Told). TermFits t.1) reading.done
+  pub longest_is : keys_fit longest reading.done ≡ true
+
+pub nothing_read : (size : ℕ) (section : List ℕ) (at : TermStart) (p q n : ℕ) → AreBytes (drop at.entry section) → at.entry ≤ length section → at.postings ≤ p → at.positions ≤ q → Reading size section at p q n 0 [] [] at 0
+nothing_read size section at p q n bytes within first second = record {
+  reading = coded.nothing_read size (drop at.entry section) n bytes;
+  starts_are = refl;
+  end_is = refl;
+  within = within;
+  postings = first;
+  positions = second;
+  fit = tt;
+  longest_is = refl;
+}
+
+module _ (size : ℕ) (section : List ℕ) (at : TermStart) (p q n i : ℕ) (key : List ℕ) (starts : List TermStart) (end : TermStart) (longest : ℕ) (short : length section < 2 ^ 63) (more : i < n) (r : Reading size section at p q n i key starts end longest) where
+  few : length (drop at.entry section) < 2 ^ 63
+  few = (let l = length-drop at.entry section in omega (arith, short, l))
+
+  pub one_more : (new_key : List ℕ) (l : TermLengths) (new_starts : List TermStart) (next : TermStart) (new_longest : ℕ) → take_term size i key (drop end.entry section) ≡ Some ((new_key, l), drop next.entry section) → next.entry ≤ length section → EndsWithin end l p q next → new_starts ≡ starts ++ begun size i end → new_longest ≡ max (length new_key) longest → Reading size section at p q n (i + 1) new_key new_starts next new_longest
+  one_more new_key l new_starts next new_longest is within ends new_is long_is =
+      let e : Told = (new_key, l) in
+      let done = r.reading.done in
+      let count = r.reading.count in
+      let put = term_put size i key (drop end.entry section) e (drop next.entry section) r.reading.digits is in
+      let entry = coded_entry (before_in_block size i key) e in
+      let number : 0 + length done ≡ i = omega (arith, count) in
+      let same_entry : coded_entry (before_in_block size (0 + length done) (last_key [] done)) e ≡ entry = ap₂ (λ m k. coded_entry (before_in_block size m k) e) number (sym r.reading.key_is) in
+      let entry_len = ap length same_entry in
+      let whole = ap length put.spelled in
+      let parts = length-append entry (drop next.entry section) in
+      let a = length-drop end.entry section in
+      let b = length-drop next.entry section in
+      let was = r.within in
+      let place = r.end_is in
+      let at_entry : next.entry ≡ end.entry + length entry = omega (arith, whole, parts, a, b, was, within) in
+      let end_entry = ap (λ (s : TermStart). s.entry) place in
+      let end_postings = ap (λ (s : TermStart). s.postings) place in
+      let end_positions = ap (λ (s : TermStart). s.positions) place in
+      let p_is = ends.postings_are in
+      let q_is = ends.positions_are in
+      let last = behind (before_in_block size (0 + length done) (last_key [] done)) (coded.place_behind size 0 [] at done) e in
+      record {
+        reading = coded.one_more size (drop at.entry section) n i key (drop end.entry section) e (drop next.entry section) few more r.reading is;
+        starts_are = new_is ∙ ap₂ (λ xs ys. xs ++ ys) r.starts_are (ap₂ (begun size) (sym number) place) ∙ sym (coded.starts_pushed size 0 [] at done e);
+        end_is = same_start next last (omega (arith, at_entry, end_entry, entry_len)) (omega (arith, p_is, end_postings)) (omega (arith, q_is, end_positions)) ∙ sym (coded.place_pushed size 0 [] at done e);
+        within = within;
+        postings = ends.postings_end;
+        positions = ends.positions_end;
+        fit = fit_pushed done e r.fit ends.fits;
+        longest_is = keys_pushed new_longest done e (keys_grow longest new_longest done (omega (arith, long_is)) r.longest_is) (omega (arith, long_is));
+      }
+
+  -- where the next term isn't taken, no so many terms stand there
+  pub no_more : ((t : Told) (rest : List ℕ) → take_term size i key (drop end.entry section) ≡ Some (t, rest) → TermFits t.1 → end.postings + t.1.postings_len ≤ p → end.positions + t.1.positions_len ≤ q → ⊥) → (ts : List Told) (rest : List ℕ) → length ts ≡ n → AreTerms size section at p q ts rest → ⊥
+  no_more none ts rest long terms =
+      let all = coded_of size section at p q ts rest terms in
+      let done = r.reading.done in
+      let count = r.reading.count in
+      let part = first_terms size 0 [] (drop at.entry section) ts rest i all in
+      let little = few in
+      let many : length done ≡ length (take i ts) = (let l = length-take-le i ts (omega (arith, more, long)) in omega (arith, count, l)) in
+      let same : done ≡ take i ts = (terms_once size 0 [] (drop at.entry section) done (take i ts) (drop end.entry section) part.0 many (omega (arith, little)) r.reading.read part.1).0 in
+      let here = drop_here i ts (omega (arith, more, long)) in
+      let t = here.0 in
+      let later = drop (i + 1) ts in
+      let left : taken.AreTerms size i key (drop end.entry section) (t ∷ later) rest = subst (λ us. taken.AreTerms size i key (drop end.entry section) us rest) here.1 (r.reading.complete ts rest long all) in
+      let entry = coded_entry (before_in_block size i key) t in
+      let tail = coded_from size (i + 1) t.0 later ++ rest in
+      let one : drop end.entry section ≡ entry ++ tail = left.spelled ∙ append_assoc entry (coded_from size (i + 1) t.0 later) rest in
+      let small = first_short size i key t tail in
+      let e = ap length one in
+      let bytes = r.reading.short in
+      let back : take_term size i key (drop end.entry section) ≡ Some (t, tail) = ap (take_term size i key) one ∙ term_back size i key t tail left.follow.0 left.fit.0 (omega (arith, bytes, little)) (omega (arith, bytes, little, small, e)) in
+      let fits : AllByRecursion (λ (x : Told). TermFits x.1) (t ∷ later) = subst (AllByRecursion (λ (x : Told). TermFits x.1)) here.1 (all_drop (λ (x : Told). TermFits x.1) i ts terms.fit) in
+      let parts : ts ≡ done ++ (t ∷ later) = sym (take-append-drop i ts) ∙ ap₂ (λ xs ys. xs ++ ys) (sym same) here.1 in
+      let place = r.end_is in
+      let p_here : end.postings ≡ postings_end at.postings done = ap (λ (s : TermStart). s.postings) place ∙ coded.postings_behind size 0 [] at done in
+      let q_here : end.positions ≡ positions_end at.positions done = ap (λ (s : TermStart). s.positions) place ∙ coded.positions_behind size 0 [] at done in
+      let p_all = ap (postings_end at.postings) parts ∙ postings_parts at.postings done (t ∷ later) ∙ ap (λ x. postings_end x (t ∷ later)) (sym p_here) in
+      let q_all = ap (positions_end at.positions) parts ∙ positions_parts at.positions done (t ∷ later) ∙ ap (λ x. positions_end x (t ∷ later)) (sym q_here) in
+      let p_grows = postings_grow (end.postings + t.1.postings_len) later in
+      let q_grows = positions_grow (end.positions + t.1.positions_len) later in
+      let p_end = terms.postings_end in
+      let q_end = terms.positions_end in
+      none t tail back fits.0 (omega (arith, p_all, p_grows, p_end)) (omega (arith, q_all, q_grows, q_end))
+
+-- all were read
+pub all_read : (size : ℕ) (section : List ℕ) (at : TermStart) (p q n i : ℕ) (key : List ℕ) (starts : List TermStart) (end : TermStart) (longest : ℕ) → n ≤ i → i ≤ n → (r : Reading size section at p q n i key starts end longest) → (length r.reading.done ≡ n) × AreRead size section at p q r.reading.done end
+all_read size section at p q n i key starts end longest past within r =
+    let done = r.reading.done in
+    let count = r.reading.count in
+    let place = r.end_is in
+    let p_here : end.postings ≡ postings_end at.postings done = ap (λ (s : TermStart). s.postings) place ∙ coded.postings_behind size 0 [] at done in
+    let q_here : end.positions ≡ positions_end at.positions done = ap (λ (s : TermStart). s.positions) place ∙ coded.positions_behind size 0 [] at done in
+    let entry : end.entry ≡ at.entry + length (coded_from size 0 [] done) = ap (λ (s : TermStart). s.entry) place ∙ coded.entry_behind size 0 [] at done in
+    let p_end = r.postings in
+    let q_end = r.positions in (
+      omega (arith, count, past, within),
+      record {
+        terms = record { spelled = r.reading.read.spelled; ascend = ascend_all done r.reading.read.follow; fit = r.fit; postings_end = omega (arith, p_here, p_end); positions_end = omega (arith, q_here, q_end) };
+        end_is = same_start end (end_of size at done) entry p_here q_here;
+        within = r.within;
+      },
+    )

@@ -1,15 +1,15 @@
 -- Terms as their bytes stand in the sections.
-use Rattle.std.specs.Prelude.{[], ⊤, ◌+◌, ◌<◌, ◌^◌, ◌∷◌, ◌≡◌, ◌≤◌, List, drop, length, sum_by, take, true, ℕ}
+use Rattle.std.specs.Prelude.{[], ⊤, ◌<◌, ◌^◌, ◌∷◌, ◌≡◌, ◌≤◌, List, length, slice_range, sum_by, true, ℕ}
 use Rattle.std.specs.List.{AllByRecursion}
 use Rattle.definitions.specs.Postings.{Posting}
 use Rattle.layouts.specs.InvertedIndexes.{IndexedField, IndexedTerm, IsTerm, field_ids}
 use Rattle.segment_definitions.specs.Keys.{is_key}
+use Rattle.segment_reader.specs.Dictionaries.{Placed}
 use Rattle.segment_reader.specs.FieldKinds.{option_in}
-use Rattle.segment_reader.specs.TakenTerms.{entry_at}
+use Rattle.segment_reader.specs.KeptTerms.{AreShaped, placed_terms}
 use Rattle.segment_reader.specs.declared.field_index.FieldIndex.{FieldIndex}
 use Rattle.segment_reader.specs.declared.field_kind.FieldKind.{FieldKind}
 use Rattle.segment_reader.specs.declared.section_bytes.SectionBytes.{SectionBytes}
-use Rattle.segment_reader.specs.declared.term_starts.TermStart.{TermStart}
 use Rattle.terms.specs.Kinds.{kind_of}
 
 -- the bytes of the sections of terms, postings and positions
@@ -22,26 +22,28 @@ pub record Sections : Type 0 where
 abbrev pub bytes_of : SectionBytes → Sections
 bytes_of s = record { terms = s.terms.now; postings = s.postings.now; positions = s.positions.now }
 
--- the postings and positions of the term that begins at a place end within their sections
-pub record IsWithin (s : Sections) (at : TermStart) : Type 0 where
-  pub docs_fit : (entry_at s.terms at.entry).1.doc_freq < 2 ^ 32
-  pub postings_end : at.postings + (entry_at s.terms at.entry).1.postings_len ≤ length s.postings
-  pub positions_end : at.positions + (entry_at s.terms at.entry).1.positions_len ≤ length s.positions
+-- the postings and positions of a term end within their sections
+pub record IsWithin (s : Sections) (t : Placed) : Type 0 where
+  pub docs_fit : t.1.doc_freq < 2 ^ 32
+  pub postings_order : t.1.postings_range.start ≤ t.1.postings_range.end
+  pub positions_order : t.1.positions_range.start ≤ t.1.positions_range.end
+  pub postings_end : t.1.postings_range.end ≤ length s.postings
+  pub positions_end : t.1.positions_range.end ≤ length s.positions
 
--- the term that begins at a place, with these postings
-abbrev pub term_with : Sections → TermStart → List Posting → IndexedTerm
-term_with s at ps = let t = entry_at s.terms at.entry in record { key = t.0; postings = ps; postings_bytes = take t.1.postings_len (drop at.postings s.postings); positions_bytes = take t.1.positions_len (drop at.positions s.positions) }
+-- a term with these postings
+abbrev pub term_with : Sections → Placed → List Posting → IndexedTerm
+term_with s t ps = record { key = t.0; postings = ps; postings_bytes = slice_range s.postings t.1.postings_range.start t.1.postings_range.end; positions_bytes = slice_range s.positions t.1.positions_range.start t.1.positions_range.end }
 
--- a term that begins at a place, with as many postings as its entry tells
-abbrev pub IsTermAt : Sections → TermStart → IndexedTerm → Type 0
-IsTermAt s at x = (x ≡ term_with s at x.postings) × (length x.postings ≡ (entry_at s.terms at.entry).1.doc_freq)
+-- a term with as many postings as are told of it
+abbrev pub IsTermAt : Sections → Placed → IndexedTerm → Type 0
+IsTermAt s t x = (x ≡ term_with s t x.postings) × (length x.postings ≡ t.1.doc_freq)
 
--- the terms that begin at these places, each with as many postings as its entry tells
-abbrev pub AreTermsAt : Sections → List TermStart → List IndexedTerm → Type 0
+-- the same of several terms
+abbrev pub AreTermsAt : Sections → List Placed → List IndexedTerm → Type 0
 AreTermsAt s [] [] = ⊤
-AreTermsAt s (at ∷ starts) (x ∷ xs) = (x ≡ term_with s at x.postings) × (length x.postings ≡ (entry_at s.terms at.entry).1.doc_freq) × AreTermsAt s starts xs
+AreTermsAt s (t ∷ ts) (x ∷ xs) = (x ≡ term_with s t x.postings) × (length x.postings ≡ t.1.doc_freq) × AreTermsAt s ts xs
 AreTermsAt s [] (x ∷ xs) = ⊥
-AreTermsAt s (at ∷ starts) [] = ⊥
+AreTermsAt s (t ∷ ts) [] = ⊥
 
 -- how many tokens terms have
 abbrev pub tokens_of : List IndexedTerm → ℕ
@@ -54,11 +56,16 @@ pub record IsCheckedTerm (k : FieldKind) (num_docs : ℕ) (ids : List ℕ) (x : 
 
 -- the terms of a field, each in its layout
 pub record IsCheckedField (s : Sections) (num_docs : ℕ) (ids : List ℕ) (i : FieldIndex) (xs : List IndexedTerm) : Type 0 where
-  pub terms_are : AreTermsAt s i.starts.items xs
+  pub terms_are : AreTermsAt s (placed_terms s.terms i.shape) xs
   pub each : AllByRecursion (IsCheckedTerm i.kind num_docs ids) xs
   pub tokens_are : tokens_of xs ≡ i.num_tokens
 
--- the same of several fields, whose lengths are given
+-- what a check of a field begins with: its terms stand there, and end within their sections
+pub record IsChecking (s : Sections) (i : FieldIndex) : Type 0 where
+  pub shaped : AreShaped s.terms i.shape
+  pub within : AllByRecursion (IsWithin s) (placed_terms s.terms i.shape)
+
+-- the terms of several fields, whose lengths are given
 abbrev pub AreCheckedFields : Sections → ℕ → List (ℕ × List ℕ) → List FieldIndex → List (List IndexedTerm) → Type 0
 AreCheckedFields s num_docs norms [] [] = ⊤
 AreCheckedFields s num_docs norms (i ∷ is) (xs ∷ xss) = IsCheckedField s num_docs (field_ids norms i.kind.field) i xs × AreCheckedFields s num_docs norms is xss

@@ -1,10 +1,8 @@
 -- Dictionaries: the terms of a field, and where their postings stand.
 use Rattle.std.specs.Prelude.{[], ◌+◌, ◌<◌, ◌^◌, ◌∷◌, ◌≤◌, List, None, Option, Some, length, map, ℕ}
 use Rattle.std.specs.List.{AllByRecursion}
-use Rattle.layouts.specs.TermSections.{TermLengths, TermsAscend}
-use Rattle.segment_reader.specs.TakenTerms.{entry_at}
+use Rattle.layouts.specs.TermSections.{TermLengths, TermsAscend, Told}
 use Rattle.segment_reader.specs.declared.term_info.TermInfo.{TermInfo}
-use Rattle.segment_reader.specs.declared.term_starts.TermStart.{TermStart}
 
 -- a term by its value bytes, and where its postings stand
 abbrev pub Placed : Type 0
@@ -18,13 +16,14 @@ info_from postings positions l = record {
   positions_range = record { start = positions; end = positions + l.positions_len };
 }
 
--- the term that begins at a place of the section
-abbrev pub term_at : List ℕ → TermStart → Placed
-term_at bs s = ((entry_at bs s.entry).0, info_from s.postings s.positions (entry_at bs s.entry).1)
+-- terms with where their postings stand, when the first one's begin at these places
+abbrev pub placed_by : ℕ → ℕ → List Told → List Placed
+placed_by p q [] = []
+placed_by p q (t ∷ ts) = (t.0, info_from p q t.1) ∷ placed_by (p + t.1.postings_len) (q + t.1.positions_len) ts
 
--- the terms of which these are the places
-abbrev pub terms_at : List ℕ → List TermStart → List Placed
-terms_at bs starts = map (term_at bs) starts
+-- where the postings of a term stand that was located
+abbrev pub info_of_located : TermLengths × ℕ × ℕ → TermInfo
+info_of_located l = info_from l.1 l.2 l.0
 
 -- the numbers of a term's entry fit those of the code
 pub record InfoFits (info : TermInfo) : Type 0 where

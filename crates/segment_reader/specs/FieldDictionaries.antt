@@ -3,7 +3,8 @@ use Rattle.std.specs.Prelude.{[], ⊤, ◌+◌, ◌==◌, ◌∷◌, ◌≡◌, 
 use Rattle.std.specs.Option.{option_map_or}
 use Rattle.layouts.specs.InvertedIndexes.{IndexedField, IndexedTerm, lengths_of}
 use Rattle.segment_reader.specs.CheckedTerms.{Sections}
-use Rattle.segment_reader.specs.Dictionaries.{Placed, info_from, terms_at}
+use Rattle.segment_reader.specs.Dictionaries.{Placed, info_from}
+use Rattle.segment_reader.specs.KeptTerms.{placed_terms}
 use Rattle.segment_reader.specs.declared.field_index.FieldIndex.{FieldIndex}
 use Rattle.segment_reader.specs.declared.term_info.TermInfo.{TermInfo}
 
@@ -24,9 +25,9 @@ abbrev pub dictionary_of : ℕ → ℕ → ℕ → List IndexedField → List Pl
 dictionary_of p q field [] = []
 dictionary_of p q field (f ∷ fs) = if f.field == field then placed_from p q f.terms else dictionary_of (p + postings_len f) (q + positions_len f) field fs
 
--- the same by where its terms begin
+-- the same by what is kept of its terms
 abbrev pub terms_of_field : List ℕ → ℕ → List FieldIndex → List Placed
-terms_of_field section field told = option_map_or (λ (i : FieldIndex). terms_at section i.starts.items) (find (λ (i : FieldIndex). i.kind.field == field) told) []
+terms_of_field section field told = option_map_or (λ (i : FieldIndex). placed_terms section i.shape) (find (λ (i : FieldIndex). i.kind.field == field) told) []
 
 -- the terms of a field by its number; none where no field has it
 abbrev pub terms_in : ℕ → List IndexedField → List IndexedTerm

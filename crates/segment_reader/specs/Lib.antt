@@ -1,6 +1,6 @@
 -- Words of the contracts.
-pub mod TakenTerms
 pub mod Dictionaries
+pub mod KeptTerms
 pub mod Searching
 pub mod TermPlaces
 pub mod ToldFields

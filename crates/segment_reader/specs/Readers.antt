@@ -32,7 +32,7 @@ pub record IsReader (schema : Schema) (num_docs : ℕ) (norms : List (ℕ × Lis
   pub positions_short : length r.sections.positions < 2 ^ 63
   pub sections : AreSections schema num_docs norms fields r.sections.terms r.sections.postings r.sections.positions
   pub kinds : map shown (map (λ i. i.kind) r.indexes) ≡ kinds_of schema
-  pub told : AreTold fields_start (map field_terms fields) r.indexes
+  pub told : AreTold sections.terms_are.0 fields_start (map field_terms fields) r.indexes
 
 -- what a reader's sections hold
 pub record Contents (r : Reader) : Type 0 where

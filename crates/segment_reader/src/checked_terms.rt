@@ -1,52 +1,52 @@
 //! Checks of the terms of fields.
 
-ghost use Rattle.std.specs.Prelude.{IfErr, IfOk, IfSome, List, None, OnOk, ◌≡◌, ◌≤◌, length, sum_by};
+ghost use Rattle.std.specs.Prelude.{IfErr, IfOk, IfSome, List, None, OnOk, ◌≡◌, ◌≢◌, ◌≤◌, length, sum_by};
 ghost use Rattle.std.specs.List.{AllByRecursion};
 ghost use Rattle.packed_blocks.specs.UnpackedBlocks.{listed};
 ghost use Rattle.definitions.specs.Postings.{terminated};
 ghost use Rattle.definitions.specs.declared.fault.Fault.TheVariants as faults;
-ghost use Rattle.segment_reader.specs.CheckedTerms.{AreCheckedFields, IsCheckedField, IsCheckedTerm, IsTermAt, IsWithin, bytes_of};
+ghost use Rattle.segment_reader.specs.CheckedTerms.{AreCheckedFields, IsCheckedField, IsCheckedTerm, IsChecking, IsTermAt, IsWithin, bytes_of};
 ghost use Rattle.layouts.specs.InvertedIndexes.{IndexedTerm};
 
 use crate::field_index::FieldIndex;
 use crate::field_kind::FieldKind;
 use crate::section_bytes::SectionBytes;
-use crate::term_entry::entry_at;
+use crate::term_info::TermInfo;
 use crate::term_keys::is_key;
-use crate::term_starts::TermStart;
+use crate::term_range::TermRange;
 use definitions::Fault;
 use fieldnorms::{FieldNormReader, FieldNormReaders};
 use segment_postings::check_term;
+use std::alloc::Global;
 
-/// Checks the term that begins at `start`, its value bytes before its postings, and returns its number of tokens.
-fn check_term_at(
+/// Checks the term with the value bytes `key` and the place `info`, its value bytes before its postings, and returns its
+/// number of tokens.
+fn check_placed(
     sections: SectionBytes<'_>,
     kind: FieldKind,
-    start: TermStart,
+    key: &[u8],
+    info: &TermInfo,
     fieldnorm_reader: &Option<FieldNormReader>,
     num_docs: u32,
 ) -> Result<u64, Fault>
     requires kept { IfSome fieldnorm_reader.now (λ ids. length ids ≡ num_docs) }
     requires few { num_docs ≤ terminated }
-    requires within { IsWithin (bytes_of sections) start }
-    ensures ok { IfOk result (λ total. (x : IndexedTerm) × IsTermAt (bytes_of sections.entry) start x
+    requires within { IsWithin (bytes_of sections) (key.now, info.now) }
+    ensures ok { IfOk result (λ total. (x : IndexedTerm) × IsTermAt (bytes_of sections.entry) (key.now, info.now) x
         × IsCheckedTerm kind num_docs (listed fieldnorm_reader.now) x
         × (total ≡ sum_by (λ p. p.count) x.postings)) }
     ensures err { IfErr result (λ fault. (fault ≡ faults.Damaged None)
-        × ((x : IndexedTerm) → IsTermAt (bytes_of sections.entry) start x
+        × ((x : IndexedTerm) → IsTermAt (bytes_of sections.entry) (key.now, info.now) x
         → IsCheckedTerm kind num_docs (listed fieldnorm_reader.now) x → ⊥)) }
 {
-    let entry = entry_at(sections.terms, start.entry);
-    if !is_key(kind.value_type, entry.key) {
+    if !is_key(kind.value_type, key) {
         return Err(Fault::Damaged(None));
     }
-    let postings_end = start.postings + entry.postings_len as usize;
-    let positions_end = start.positions + entry.positions_len as usize;
     check_term(
-        &sections.postings[start.postings..postings_end],
-        &sections.positions[start.positions..positions_end],
-        entry.doc_freq as u32,
-        kind.option_of(entry.key),
+        &sections.postings[info.postings_range.start..info.postings_range.end],
+        &sections.positions[info.positions_range.start..info.positions_range.end],
+        info.doc_freq,
+        kind.option_of(key),
         fieldnorm_reader,
         num_docs,
     )
@@ -54,6 +54,7 @@ fn check_term_at(
 
 /// Checks the terms of a field, and their number of tokens.
 pub(crate) fn check_field(
+    alloc: Global,
     sections: SectionBytes<'_>,
     index: &FieldIndex,
     fieldnorm_reader: &Option<FieldNormReader>,
@@ -61,16 +62,19 @@ pub(crate) fn check_field(
 ) -> Result<(), Fault>
     requires kept { IfSome fieldnorm_reader.now (λ ids. length ids ≡ num_docs) }
     requires few { num_docs ≤ terminated }
-    requires within { AllByRecursion (IsWithin (bytes_of sections)) index.now.starts.items }
+    requires within { ∥ IsChecking (bytes_of sections) index.now ∥₁ }
     ensures ok { OnOk result ((xs : List IndexedTerm)
         × IsCheckedField (bytes_of sections.entry) num_docs (listed fieldnorm_reader.now) index.now xs) }
-    ensures err { IfErr result (λ fault. (fault ≡ faults.Damaged None)
+    ensures err { IfErr result (λ fault. fault ≢ faults.OutOfMemory → (fault ≡ faults.Damaged None)
         × ((xs : List IndexedTerm)
         → IsCheckedField (bytes_of sections.entry) num_docs (listed fieldnorm_reader.now) index.now xs → ⊥)) }
 {
+    let mut range = TermRange::new(alloc, sections.terms, index.shape)?;
     let mut left = index.num_tokens;
-    for start in &index.starts {
-        let total = check_term_at(sections, index.kind, *start, fieldnorm_reader, num_docs)?;
+    for _ in 0..index.shape.num_terms {
+        range.advance();
+        let (key, info) = (range.key(), range.value());
+        let total = check_placed(sections, index.kind, key, info, fieldnorm_reader, num_docs)?;
         if total > left {
             return Err(Fault::Damaged(None));
         }
@@ -84,6 +88,7 @@ pub(crate) fn check_field(
 
 /// Checks the terms of fields whose lengths are `fieldnorm_readers`.
 pub(crate) fn check_fields(
+    alloc: Global,
     sections: SectionBytes<'_>,
     indexes: &[FieldIndex],
     fieldnorm_readers: &FieldNormReaders<'_>,
@@ -91,16 +96,16 @@ pub(crate) fn check_fields(
 ) -> Result<(), Fault>
     requires kept { AllByRecursion (λ p. length p.1 ≡ num_docs) fieldnorm_readers.now }
     requires few { num_docs ≤ terminated }
-    requires within { AllByRecursion (λ i. AllByRecursion (IsWithin (bytes_of sections)) i.starts.items) indexes.now }
+    requires within { AllByRecursion (λ i. ∥ IsChecking (bytes_of sections) i ∥₁) indexes.now }
     ensures ok { OnOk result ((xss : List (List IndexedTerm))
         × AreCheckedFields (bytes_of sections.entry) num_docs fieldnorm_readers.now indexes.now xss) }
-    ensures err { IfErr result (λ fault. (fault ≡ faults.Damaged None)
+    ensures err { IfErr result (λ fault. fault ≢ faults.OutOfMemory → (fault ≡ faults.Damaged None)
         × ((xss : List (List IndexedTerm))
         → AreCheckedFields (bytes_of sections.entry) num_docs fieldnorm_readers.now indexes.now xss → ⊥)) }
 {
     for index in indexes {
         let fieldnorm_reader = fieldnorm_readers.get_field(index.kind.field);
-        check_field(sections, index, &fieldnorm_reader, num_docs)?;
+        check_field(alloc, sections, index, &fieldnorm_reader, num_docs)?;
     }
     Ok(())
 }

@@ -2,13 +2,15 @@
 
 ghost use Rattle.std.specs.Prelude.{◌++◌, ◌<◌, ◌^◌, ◌≡◌, ◌≢◌, ◌≤◌, IfErr, IfOk, List, None, drop, length, ℕ};
 ghost use Rattle.definitions.specs.declared.fault.Fault.TheVariants as faults;
-ghost use Rattle.layouts.specs.TermSections.{FieldTerms};
-ghost use Rattle.segment_reader.specs.TermPlaces.{IsField, IsHeader, IsReadField, first_in, header_bytes, starts_from};
+ghost use Rattle.layouts.specs.TermSections.{FieldTerms, block_size};
+ghost use Rattle.segment_reader.specs.TermPlaces.{IsField, IsHeader, IsReadField, first_in, header_bytes, starts_of};
+ghost use Rattle.segment_reader.specs.ToldFields.{HasShape};
 
-use crate::term_starts::TermStart;
+use crate::field_index::TermsShape;
 use crate::terms_read::{SectionLengths, take_terms};
 use common::{take_u32, take_u64, take_vint};
 use definitions::Fault;
+use front_coding::TermStart;
 use std::alloc::Global;
 
 /// The number of tokens and of terms of a field, and the offset of its first term.
@@ -43,23 +45,26 @@ fn take_header(section: &[u8], place: usize, field: u32) -> Result<Header, Fault
     })
 }
 
-/// Decodes `field` at `place`: its number of tokens, where each of its terms begins, and where the field ends.
+/// Decodes `field` at `place`: its number of tokens, the shape of its terms, where each block of them begins, and where
+/// the field ends.
 pub(crate) fn take_field(
     alloc: Global,
     section: &[u8],
+    front_coded: bool,
     place: TermStart,
     lengths: SectionLengths,
     field: u32,
-) -> Result<(u64, Vec<TermStart>, TermStart), Fault>
+) -> Result<(u64, TermsShape, Vec<TermStart>, TermStart), Fault>
     requires entry { place.entry ≤ length section.now }
     requires postings { place.postings ≤ lengths.postings }
     requires positions { place.positions ≤ lengths.positions }
     ensures ok { IfOk result (λ p. (f : FieldTerms) × (f.field ≡ field) × (f.num_tokens ≡ p.0)
-        × IsReadField section.now place lengths.postings lengths.positions f p.2
-        × (p.1.items ≡ starts_from (first_in place f) f.terms)) }
+        × IsReadField (block_size front_coded) section.now place lengths.postings lengths.positions f p.3
+        × HasShape front_coded (first_in place f) f.terms p.1
+        × (p.2.items ≡ starts_of (block_size front_coded) (first_in place f) f.terms)) }
     ensures err { IfErr result (λ fault. fault ≢ faults.OutOfMemory → (fault ≡ faults.Damaged None)
         × ((f : FieldTerms) (rest : List ℕ) → f.field ≡ field
-        → IsField section.now place lengths.postings lengths.positions f rest → ⊥)) }
+        → IsField (block_size front_coded) section.now place lengths.postings lengths.positions f rest → ⊥)) }
 {
     let header = take_header(section, place.entry, field)?;
     let first = TermStart {
@@ -67,6 +72,7 @@ pub(crate) fn take_field(
         postings: place.postings,
         positions: place.positions,
     };
-    let (starts, end) = take_terms(alloc, section, first, lengths, header.num_terms)?;
-    Ok((header.num_tokens, starts, end))
+    let num_terms = header.num_terms;
+    let (shape, starts, end) = take_terms(alloc, section, front_coded, first, lengths, num_terms)?;
+    Ok((header.num_tokens, shape, starts, end))
 }

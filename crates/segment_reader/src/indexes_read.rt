@@ -101,6 +101,6 @@ pub(crate) fn read_indexes(
         postings,
         positions,
     };
-    check_fields(sections, &indexes, fieldnorm_readers, num_docs)?;
+    check_fields(alloc, sections, &indexes, fieldnorm_readers, num_docs)?;
     Ok(indexes)
 }

@@ -175,14 +175,15 @@ impl InvertedIndexReader {
     {
         match self.index_of(field) {
             Some(index) => {
-                TermDictionary::new(self.terms.as_slice(), &index.starts, &index.prefixes)
+                let section = self.terms.as_slice();
+                TermDictionary::new(section, index.shape, &index.starts, &index.prefixes)
             }
-            None => TermDictionary::new(&[], &[], &[]),
+            None => TermDictionary::without_terms(),
         }
     }
 
-    /// Returns the terms of `field` from `start` on that are before `end`, if there is one, by their value bytes. While
-    /// each key is whole in its section, as it is today, nothing is allocated.
+    /// Returns the terms of `field` from `start` on that are before `end`, if there is one, by their value bytes.
+    /// Memory for the longest key of the field is taken here, and none later.
     pub fn range(
         &self,
         alloc: Global,

@@ -1,19 +1,31 @@
 //! The fields of the section of terms.
 
-ghost use Rattle.std.specs.Prelude.{◌↔◌, ◌≡◌, ◌≢◌, IfErr, IfOk, IsTrue, List, None, length, map};
+ghost use Rattle.std.specs.Prelude.{Bool, IfErr, IfOk, IsTrue, List, None, Some, length, map, slice_get, ◌↔◌, ◌≡◌, ◌≢◌};
 ghost use Rattle.definitions.specs.declared.fault.Fault.TheVariants as faults;
-ghost use Rattle.layouts.specs.TermSections.{FieldTerms};
+ghost use Rattle.layouts.specs.TermSections.{FieldTerms, kind_byte};
 ghost use Rattle.segment_reader.specs.TermPlaces.{IsSection, fields_start};
 ghost use Rattle.segment_reader.specs.ToldFields.{AreTold};
 
 use crate::field_index::FieldIndex;
 use crate::field_kind::FieldKind;
 use crate::field_read::take_field;
-use crate::key_prefix::prefixes_of;
-use crate::term_starts::TermStart;
 use crate::terms_read::SectionLengths;
 use definitions::Fault;
+use front_coding::{TermStart, prefixes_of};
 use std::alloc::Global;
+
+/// Returns whether a section of terms is front-coded, by its first byte; `Damaged` if there is no such kind.
+fn take_kind(section: &[u8]) -> Result<bool, Fault>
+    ensures ok { IfOk result (λ front_coded. slice_get section.now 0 ≡ Some (kind_byte front_coded)) }
+    ensures err { IfErr result (λ fault. (fault ≡ faults.Damaged None)
+        × ((front_coded : Bool) → slice_get section.now 0 ≡ Some (kind_byte front_coded) → ⊥)) }
+{
+    match section.first() {
+        Some(0) => Ok(false),
+        Some(1) => Ok(true),
+        _ => Err(Fault::Damaged(None)),
+    }
+}
 
 /// Decodes the fields `kinds` of a section of terms, which has these and no others.
 pub(crate) fn take_fields(
@@ -22,17 +34,15 @@ pub(crate) fn take_fields(
     lengths: SectionLengths,
     kinds: &[FieldKind],
 ) -> Result<Vec<FieldIndex>, Fault>
-    ensures ok { IfOk result (λ told. (fs : List FieldTerms)
-        × IsSection section.now lengths.postings lengths.positions (map (λ k. k.field) kinds.now) fs
-        × AreTold fields_start fs told.items) }
+    ensures ok { IfOk result (λ told. (front_coded : Bool) × (fs : List FieldTerms)
+        × IsSection front_coded section.now lengths.postings lengths.positions (map (λ k. k.field) kinds.now) fs
+        × AreTold front_coded fields_start fs told.items) }
     ensures kinds { IfOk result (λ told. map (λ i. i.kind) told.items ≡ kinds.now) }
     ensures err { IfErr result (λ fault. fault ≢ faults.OutOfMemory → (fault ≡ faults.Damaged None)
-        × ((fs : List FieldTerms)
-        → IsSection section.now lengths.postings lengths.positions (map (λ k. k.field) kinds.now) fs → ⊥)) }
+        × ((front_coded : Bool) (fs : List FieldTerms)
+        → IsSection front_coded section.now lengths.postings lengths.positions (map (λ k. k.field) kinds.now) fs → ⊥)) }
 {
-    if section.first() != Some(&0) {
-        return Err(Fault::Damaged(None));
-    }
+    let front_coded = take_kind(section)?;
     let mut place = TermStart {
         entry: 1,
         postings: 0,
@@ -40,11 +50,19 @@ pub(crate) fn take_fields(
     };
     let mut told = Vec::new(alloc);
     for kind in kinds {
-        let (num_tokens, starts, end) = take_field(alloc, section, place, lengths, kind.field)?;
+        let (num_tokens, shape, starts, end) = take_field(
+            alloc,
+            section,
+            front_coded,
+            place,
+            lengths,
+            kind.field,
+        )?;
         let prefixes = prefixes_of(alloc, section, &starts)?;
         told.push(FieldIndex {
             kind: *kind,
             num_tokens,
+            shape,
             starts,
             prefixes,
         })?;

@@ -1,14 +1,18 @@
 //! The terms of a field, read from their section.
 
-ghost use Rattle.std.specs.Prelude.{[], ◌+◌, ◌<◌, ◌∷◌, ◌≡◌, ◌≢◌, ◌≤◌, IfErr, IfOk, List, None, length, option_map, ℕ};
+ghost use Rattle.std.specs.Prelude.{◌+◌, ◌++◌, ◌<◌, ◌≡◌, ◌≢◌, ◌≤◌, IfErr, IfOk, List, None, OnOk, Some, drop, length, ℕ};
 ghost use Rattle.definitions.specs.declared.fault.Fault.TheVariants as faults;
-ghost use Rattle.segment_reader.specs.TakenTerms.{Told, entry_of};
-ghost use Rattle.segment_reader.specs.TermPlaces.{AreRead, AreTerms, EndsWithin, EntryFits, is_above, starts_from};
+ghost use Rattle.front_coding.specs.BlockPlaces.{begun};
+ghost use Rattle.front_coding.specs.Lengths.{lengths_of};
+ghost use Rattle.front_coding.specs.TakenKeys.{take_term};
+ghost use Rattle.layouts.specs.TermSections.{TermLengths, Told, block_size};
+ghost use Rattle.segment_reader.specs.TermPlaces.{AreRead, AreTerms, EndsWithin, TermFits, starts_of};
+ghost use Rattle.segment_reader.specs.ToldFields.{HasShape};
 
-use crate::term_entry::{TermEntry, take_entry};
-use crate::term_starts::TermStart;
+use crate::field_index::TermsShape;
 use definitions::Fault;
-use std::alloc::Global;
+use front_coding::{EntryLengths, TermStart, begins_block, take_term};
+use std::alloc::{AllocError, Global};
 
 /// The lengths of the sections of postings and of positions, in bytes.
 #[derive(Clone, Copy)]
@@ -17,50 +21,42 @@ pub(crate) struct SectionLengths {
     pub(crate) positions: usize,
 }
 
-/// Decodes the term at `place`, above the one before and within the sections, and returns it and its end.
-fn take_term<'a>(
-    section: &'a [u8],
+/// Decodes the term of a number at `place`, which must end within the sections, and returns its end. Its key comes into
+/// `key`, where that of the term before stands.
+fn take_placed(
+    section: &[u8],
+    front_coded: bool,
+    number: u64,
     place: TermStart,
     lengths: SectionLengths,
-    before: Option<&'a [u8]>,
-) -> Result<(TermEntry<'a>, TermStart), Fault>
+    key: &mut Vec<u8>,
+) -> Result<TermStart, Fault>
     requires { place.entry ≤ length section.now }
-    ensures ok { IfOk result (λ p. AreRead section.now place lengths.postings lengths.positions
-        (option_map (λ k. k.now) before.entry) (entry_of p.0 ∷ []) p.1) }
-    ensures err { IfErr result (λ fault. (fault ≡ faults.Damaged None)
+    ensures ok { IfOk result (λ end. (l : TermLengths)
+        × (take_term (block_size front_coded) number key.old.items (drop place.entry section.now)
+        ≡ Some ((key.new.items, l), drop end.entry section.now)) × (end.entry ≤ length section.now)
+        × EndsWithin place l lengths.postings lengths.positions end) }
+    ensures err { IfErr result (λ fault. fault ≢ faults.OutOfMemory → (fault ≡ faults.Damaged None)
         × ((t : Told) (rest : List ℕ)
-        → AreTerms section.now place lengths.postings lengths.positions (option_map (λ k. k.now) before.entry) (t
-        ∷ []) rest → ⊥)) }
+        → take_term (block_size front_coded) number key.old.items (drop place.entry section.now) ≡ Some (t, rest)
+        → TermFits t.1 → place.postings + t.1.postings_len ≤ lengths.postings
+        → place.positions + t.1.positions_len ≤ lengths.positions → ⊥)) }
 {
-    let (entry, rest) = take_entry(&section[place.entry..])?;
-    if !is_above(before, entry.key) {
-        return Err(Fault::Damaged(None));
-    }
-    let behind = place_behind(section.len() - rest.len(), place, &entry, lengths)?;
-    Ok((entry, behind))
-}
-
-/// Whether `key` is above the one before, if there is one.
-fn is_above(before: Option<&[u8]>, key: &[u8]) -> bool
-    ensures { result ≡ is_above (option_map (λ k. k.now) before.entry) key.now }
-{
-    match before {
-        Some(before) => before < key,
-        None => true,
-    }
+    let (entry, rest) = take_term(&section[place.entry..], front_coded, number, key)?;
+    place_behind(section.len() - rest.len(), place, &entry, lengths)
 }
 
 /// Returns the end of a term at `place`, which must have documents; `entry_end` is the end of its entry.
 fn place_behind(
     entry_end: usize,
     place: TermStart,
-    entry: &TermEntry<'_>,
+    entry: &EntryLengths,
     lengths: SectionLengths,
 ) -> Result<TermStart, Fault>
-    ensures ok { IfOk result (λ b. EndsWithin entry_end place (entry_of entry.now) lengths.postings lengths.positions
-        b) }
+    ensures ok { IfOk result (λ b. (b.entry ≡ entry_end)
+        × EndsWithin place (lengths_of entry.now) lengths.postings lengths.positions b) }
     ensures err { IfErr result (λ fault. (fault ≡ faults.Damaged None)
-        × (EntryFits (entry_of entry.now) → place.postings + entry.now.postings_len ≤ lengths.postings
+        × (TermFits (lengths_of entry.now) → place.postings + entry.now.postings_len ≤ lengths.postings
         → place.positions + entry.now.positions_len ≤ lengths.positions → ⊥)) }
 {
     if entry.doc_freq == 0 || entry.doc_freq > u64::from(u32::MAX) {
@@ -86,32 +82,55 @@ fn end_within(start: usize, len: u64, limit: usize) -> Result<usize, Fault>
     }
 }
 
-/// Decodes `num_terms` terms from `place` on: where each begins, and where the last one ends.
+/// Keeps the start of a term that begins a block.
+fn push_begun(
+    starts: &mut Vec<TermStart>,
+    front_coded: bool,
+    number: u64,
+    place: TermStart,
+) -> Result<(), AllocError>
+    ensures { OnOk result (starts.new.items ≡ starts.old.items ++ begun (block_size front_coded) number place) }
+{
+    if begins_block(front_coded, number) {
+        starts.push(place)?;
+    }
+    Ok(())
+}
+
+/// Decodes `num_terms` terms from `place` on: their shape, where each block of them begins, and where the last one ends.
 pub(crate) fn take_terms(
     alloc: Global,
     section: &[u8],
+    front_coded: bool,
     place: TermStart,
     lengths: SectionLengths,
     num_terms: u64,
-) -> Result<(Vec<TermStart>, TermStart), Fault>
+) -> Result<(TermsShape, Vec<TermStart>, TermStart), Fault>
     requires entry { place.entry ≤ length section.now }
     requires postings { place.postings ≤ lengths.postings }
     requires positions { place.positions ≤ lengths.positions }
     ensures ok { IfOk result (λ p. (ts : List Told) × (length ts ≡ num_terms)
-        × AreRead section.now place lengths.postings lengths.positions None ts p.1
-        × (p.0.items ≡ starts_from place ts)) }
+        × AreRead (block_size front_coded) section.now place lengths.postings lengths.positions ts p.2
+        × HasShape front_coded place ts p.0
+        × (p.1.items ≡ starts_of (block_size front_coded) place ts)) }
     ensures err { IfErr result (λ fault. fault ≢ faults.OutOfMemory → (fault ≡ faults.Damaged None)
         × ((ts : List Told) (rest : List ℕ) → length ts ≡ num_terms
-        → AreTerms section.now place lengths.postings lengths.positions None ts rest → ⊥)) }
+        → AreTerms (block_size front_coded) section.now place lengths.postings lengths.positions ts rest → ⊥)) }
 {
     let mut starts = Vec::new(alloc);
+    let mut key = Vec::new(alloc);
+    let mut longest = 0;
     let mut end = place;
-    let mut before = None;
-    for _ in 0..num_terms {
-        let (entry, behind) = take_term(section, end, lengths, before)?;
-        starts.push(end)?;
-        before = Some(entry.key);
-        end = behind;
+    for number in 0..num_terms {
+        push_begun(&mut starts, front_coded, number, end)?;
+        end = take_placed(section, front_coded, number, end, lengths, &mut key)?;
+        longest = key.len().max(longest);
     }
-    Ok((starts, end))
+    let shape = TermsShape {
+        front_coded,
+        num_terms,
+        longest,
+        first: place,
+    };
+    Ok((shape, starts, end))
 }

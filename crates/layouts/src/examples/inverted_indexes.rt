@@ -34,9 +34,9 @@ pub fn fields_have_tokens()
 
 /// The terms section of the books.
 pub fn fields_have_bytes()
-    ensures titles { hex (field_terms_bytes (field_terms titles))
+    ensures titles { hex (field_terms_bytes 1 (field_terms titles))
         ≡ codes "00000000070000000000000084836f6c64818282837365618284848374686581828284" ++ codes "77696e64828483" }
-    ensures years { hex (field_terms_bytes (field_terms years))
+    ensures years { hex (field_terms_bytes 1 (field_terms years))
         ≡ codes "010000000300000000000000828800000000000007a08282808800000000000007c3818180" }
     ensures terms { all_terms books (years ∷ []) ≡ (0 ∷ 0 ∷ 0 ∷ 1 ∷ codes "u" ++ to_be_bytes w64 1952)
         ∷ (0 ∷ 0 ∷ 0 ∷ 1 ∷ codes "u" ++ to_be_bytes w64 1987) ∷ [] }

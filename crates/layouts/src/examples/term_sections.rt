@@ -1,28 +1,28 @@
 //! The section of the terms of fields.
 #![tactic(auto, unfolding(definitions::specs::NumberCodes::vint_bytes, definitions::proofs::OnLiterals::definitions_on_literals))]
 
-ghost use Rattle.std.specs.Prelude.{[], None, Some, ◌++◌, ◌∷◌, ◌≡◌, codes};
+ghost use Rattle.std.specs.Prelude.{[], None, Some, ◌++◌, ◌∷◌, ◌≡◌, codes, false, true};
 ghost use Rattle.std.specs.Int.{to_be_bytes, w64};
 ghost use Rattle.definitions.specs.Examples.{hex};
 ghost use Rattle.layouts.specs.TermExamples.{letters, of_one, two_fields};
-ghost use Rattle.layouts.specs.TermSections.{coded_entry, coded_terms, entry_of_term, field_terms_bytes, positions_start, postings_start, terms_bytes};
+ghost use Rattle.layouts.specs.TermSections.{coded_entry, coded_terms, field_terms_bytes, positions_start, postings_start, terms_bytes};
 
 /// A term is its value bytes, and then its number of documents, of bytes of postings and of bytes of positions.
 pub fn terms_have_bytes()
-    ensures word { hex (entry_of_term (codes "sea", record { doc_freq = 2; postings_len = 4; positions_len = 4 }))
+    ensures word { hex (coded_entry None (codes "sea", record { doc_freq = 2; postings_len = 4; positions_len = 4 }))
         ≡ codes "83736561828484" }
-    ensures number { hex (entry_of_term (
+    ensures number { hex (coded_entry None (
       to_be_bytes w64 1952,
       record
           { doc_freq = 2; postings_len = 2; positions_len = 0 },
     )) ≡ codes "8800000000000007a0828280" }
-    ensures empty { hex (entry_of_term ([], record { doc_freq = 300; postings_len = 1; positions_len = 0 }))
+    ensures empty { hex (coded_entry None ([], record { doc_freq = 300; postings_len = 1; positions_len = 0 }))
         ≡ codes "802c828180" }
 {}
 
 /// Three documents: `the old sea` of 1952, `sea sea wind` of 1987 and `wind` of 1952.
 pub fn fields_have_bytes()
-    ensures title { hex (field_terms_bytes (record {
+    ensures title { hex (field_terms_bytes 1 (record {
       field = 0;
       num_tokens = 7;
       terms =
@@ -32,7 +32,7 @@ pub fn fields_have_bytes()
           ∷ (codes "wind", record { doc_freq = 2; postings_len = 4; positions_len = 3 }) ∷ [];
     }))
         ≡ codes "00000000070000000000000084836f6c64818282837365618284848374686581828284" ++ codes "77696e64828483" }
-    ensures year { hex (field_terms_bytes (record {
+    ensures year { hex (field_terms_bytes 1 (record {
       field = 1;
       num_tokens = 3;
       terms =
@@ -40,22 +40,31 @@ pub fn fields_have_bytes()
           ∷ (to_be_bytes w64 1987, record { doc_freq = 1; postings_len = 1; positions_len = 0 }) ∷ [];
     }))
         ≡ codes "010000000300000000000000828800000000000007a08282808800000000000007c3818180" }
-    ensures none { hex (terms_bytes (record { field = 2; num_tokens = 0; terms = [] } ∷ []))
+    ensures none { hex (terms_bytes false (record { field = 2; num_tokens = 0; terms = [] } ∷ []))
         ≡ codes "0002000000000000000000000080" }
-    ensures no_field { terms_bytes [] ≡ 0 ∷ [] }
+    ensures no_field { terms_bytes false [] ≡ 0 ∷ [] }
 {}
 
-/// Two terms of a document each, `sea` and `seal`, in blocks of sixteen and of one: the second stands behind the three
-/// bytes that it shares with the first, or whole. What shares nothing with the one before says so.
+/// Two documents with a term each, `sea` and `seal`, in both kinds: the second stands behind the three bytes that it
+/// shares with the first, or whole.
 pub fn terms_stand_behind_what_they_share()
-    ensures coded { hex (coded_terms 16 (of_one (codes "sea" ∷ codes "seal" ∷ []))) ≡ codes "8373656181818083816c818180" }
-    ensures whole { hex (coded_terms 1 (of_one (codes "sea" ∷ codes "seal" ∷ []))) ≡ codes "83736561818180847365616c818180" }
+    ensures coded { hex (terms_bytes true (record {
+      field = 0;
+      num_tokens = 2;
+      terms = of_one (codes "sea" ∷ codes "seal" ∷ []);
+    } ∷ []))
+        ≡ codes "0100000000020000000000000082" ++ codes "8373656181818083816c818180" }
+    ensures whole { hex (terms_bytes false (record {
+      field = 0;
+      num_tokens = 2;
+      terms = of_one (codes "sea" ∷ codes "seal" ∷ []);
+    } ∷ []))
+        ≡ codes "0000000000020000000000000082" ++ codes "83736561818180847365616c818180" }
     ensures none_shared { hex (coded_entry (Some (codes "sea")) (
       codes "the",
       record
           { doc_freq = 2; postings_len = 4; positions_len = 4 },
     )) ≡ codes "8083746865828484" }
-    ensures first { hex (coded_entry None (codes "the", record { doc_freq = 2; postings_len = 4; positions_len = 4 })) ≡ codes "83746865828484" }
 {}
 
 /// A block has sixteen terms: of seventeen the last stands whole again.

@@ -10,8 +10,7 @@ check_field-requires-clause-kept c = subst (λ (o : Option (List ℕ)). IfSome o
 pub returns-in_err-check_field-clause-err : goal.returns-in_err-check_field-clause-err
 returns-in_err-check_field-clause-err c =
     let p = err_from_is_err_and c.from_residual.result c.from_residual.ensures.1 in
-    let refused = c.in_err-check_field.ensures.err in
-    rw (p.1, p.2) (refused.0, no_field (bytes_of c.args.sections) c.args.num_docs c.args.fieldnorm_readers.now c.args.indexes.now c.loop-index.index-index c.index-item.result c.get_field-fieldnorm_reader.result c.loop-index-test.true c.index-item.is c.get_field-fieldnorm_reader.ensures refused.1)
+    rw (p.1, p.2) (λ other. let refused = c.in_err-check_field.ensures.err other in (refused.0, no_field (bytes_of c.args.sections) c.args.num_docs c.args.fieldnorm_readers.now c.args.indexes.now c.loop-index.index-index c.index-item.result c.get_field-fieldnorm_reader.result c.loop-index-test.true c.index-item.is c.get_field-fieldnorm_reader.ensures refused.1))
 
 pub loop-index-preserved : goal.loop-index-preserved
 loop-index-preserved c = one_more_field (bytes_of c.args.sections) c.args.num_docs c.args.fieldnorm_readers.now c.args.indexes.now c.loop-index.index-index c.index-item.result c.get_field-fieldnorm_reader.result c.loop-index-test.true c.index-item.is c.get_field-fieldnorm_reader.ensures c.loop-index.invariant c.in_ok-check_field.ensures.ok

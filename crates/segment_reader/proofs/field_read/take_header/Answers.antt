@@ -3,7 +3,7 @@ use Rattle.std.proofs.lemmas.List.{take_rest}
 use Rattle.std.proofs.lemmas.Result.{err_from_is_err_and}
 use Rattle.definitions.specs.NumberCodes.{take_u32}
 use Rattle.segment_reader.proofs.HeadersTaken.{header_read, many_terms, no_terms, rest_long, spelled_as}
-use Rattle.segment_reader.proofs.TermSteps.{bytes_drop}
+use Rattle.segment_reader.proofs.HeadersTaken.{bytes_drop}
 use Rattle.segment_reader.specs.TermPlaces.{header_bytes}
 use Rattle.segment_reader.proofs.field_read.take_header.Goals.{After-rest-3-1}
 use Rattle.segment_reader.proofs.field_read.take_header.Goals as goal

@@ -12,5 +12,5 @@ returns-in-Ok c num_docs norms fields few are =
     let read = c.in-Ok.ensures.ok in
     let s : Sections = record { terms = c.args.terms.now; postings = c.args.postings.now; positions = c.args.positions.now } in
     let told = c.in-Ok.indexes.items in
-    let made = made_of c.args.schema.now num_docs s c.deref.result.now c.in_ok-kinds.kinds.items read.0 told c.deref.ensures.value c.in_ok-kinds.ensures.kinds c.in_ok-kinds.ensures.few few (omega arith) (omega arith) (omega arith) read.1 read.2 c.in-Ok.ensures.kinds in
-    stands_for c.args.schema.now num_docs norms s read.0 told fields made are
+    let made = made_of read.0 c.args.schema.now num_docs s c.deref.result.now c.in_ok-kinds.kinds.items read.1 told c.deref.ensures.value c.in_ok-kinds.ensures.kinds c.in_ok-kinds.ensures.few few (omega arith) (omega arith) (omega arith) read.2 read.3 c.in-Ok.ensures.kinds in
+    stands_for read.0 c.args.schema.now num_docs norms s read.1 told fields made are

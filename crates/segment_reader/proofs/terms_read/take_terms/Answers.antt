@@ -1,30 +1,31 @@
-use Rattle.std.proofs.Common.{[], List, None, Some, arith, length, option_map, rules, subst, sym, ◌++◌, ◌+◌, ◌<◌, ◌≡◌, ◌∷◌, ◌^◌}
+use Rattle.std.proofs.Common.{[], List, arith, length, refl, subst, sym, ℕ, ◌++◌, ◌<◌, ◌≡◌, ◌^◌}
 use Rattle.std.proofs.lemmas.Result.{err_from_is_err_and}
-use Rattle.segment_reader.proofs.TermsLoop.{Reading, no_more, nothing_read, one_more}
-use Rattle.segment_reader.specs.TakenTerms.{entry_of}
-use Rattle.segment_reader.specs.declared.term_starts.TermStart.{TermStart}
+use Rattle.front_coding.specs.declared.term_starts.TermStart.{TermStart}
+use Rattle.layouts.specs.TermSections.{block_size}
+use Rattle.segment_reader.proofs.HeadersTaken.{bytes_drop}
+use Rattle.segment_reader.proofs.TermsLoop.{Reading, all_read, no_more, nothing_read, one_more}
 use Rattle.segment_reader.proofs.terms_read.take_terms.Goals as goal
 
-pub loop-init : goal.loop-init
-loop-init c = subst (λ (starts : List TermStart). Reading c.args.section.now c.args.place c.args.lengths.postings c.args.lengths.positions c.args.num_terms 0 None starts c.args.place) (sym c.new-starts.ensures.items) (nothing_read c.args.section.now c.args.place c.args.lengths.postings c.args.lengths.positions c.args.num_terms c.requires.entry c.requires.postings c.requires.positions)
+pub loop-number-init : goal.loop-number-init
+loop-number-init c =
+    let R : List ℕ → List TermStart → Type 0 = λ key starts. Reading (block_size c.args.front_coded) c.args.section.now c.args.place c.args.lengths.postings c.args.lengths.positions c.args.num_terms 0 key starts c.args.place 0 in
+    subst (λ key. R key c.new-starts.result.items) (sym c.new-key.ensures.items) (subst (R []) (sym c.new-starts.ensures.items) (nothing_read (block_size c.args.front_coded) c.args.section.now c.args.place c.args.lengths.postings c.args.lengths.positions c.args.num_terms (bytes_drop c.args.place.entry c.args.section.now (λ i. (let fits = c.type_inv.section i in omega (arith, fits)))) c.requires.entry c.requires.postings c.requires.positions))
 
-pub take_term-requires : goal.take_term-requires
-take_term-requires c = c.loop.invariant.read.within
+pub take_placed-requires : goal.take_placed-requires
+take_placed-requires c = c.loop-number.invariant.within
 
-pub returns-in_err-entry-clause-err : goal.returns-in_err-entry-clause-err
-returns-in_err-entry-clause-err c =
-    let p = err_from_is_err_and c.from_residual.result c.from_residual.ensures.1 in
-    let refused = c.in_err-entry.ensures.err in
-    rw (p.1, p.2) (λ other. (refused.0, no_more c.args.section.now c.args.place c.args.lengths.postings c.args.lengths.positions c.args.num_terms c.loop.counter (option_map (λ k. k.now) c.loop.before) c.loop.starts.items c.loop.end (omega arith) c.loop.invariant refused.1))
+pub returns-in_err-end-clause-err : goal.returns-in_err-end-clause-err
+returns-in_err-end-clause-err c =
+    let p = err_from_is_err_and c.from_residual-in_err-end.result c.from_residual-in_err-end.ensures.1 in
+    rw (p.1, p.2) (λ other. let refused = c.in_err-end.ensures.err other in (refused.0, no_more (block_size c.args.front_coded) c.args.section.now c.args.place c.args.lengths.postings c.args.lengths.positions c.args.num_terms c.loop-number.number c.loop-number.key.items c.loop-number.starts.items c.loop-number.end c.loop-number.longest (omega arith) c.loop-number-test.true c.loop-number.invariant refused.1))
 
-pub loop-preserved : goal.loop-preserved
-loop-preserved c =
-    let short : length c.args.section.now < 2 ^ 63 = omega arith in
-    let next = one_more c.args.section.now c.args.place c.args.lengths.postings c.args.lengths.positions c.args.num_terms c.loop.counter (option_map (λ k. k.now) c.loop.before) c.loop.starts.items c.loop.end (entry_of c.in_ok-entry.entry) c.in_ok-entry.behind short (omega arith) c.loop.invariant c.in_ok-entry.ensures.ok in
-    let items : c.push.new.self.items ≡ c.loop.starts.items ++ c.loop.end ∷ [] = search rules in
-    subst (λ (starts : List TermStart). Reading c.args.section.now c.args.place c.args.lengths.postings c.args.lengths.positions c.args.num_terms (c.loop.counter + 1) (Some c.in_ok-entry.entry.key.now) starts c.in_ok-entry.behind) (sym items) next
+pub loop-number-preserved : goal.loop-number-preserved
+loop-number-preserved c =
+    let read = c.in_ok-end.ensures.ok in
+    one_more (block_size c.args.front_coded) c.args.section.now c.args.place c.args.lengths.postings c.args.lengths.positions c.args.num_terms c.loop-number.number c.loop-number.key.items c.loop-number.starts.items c.loop-number.end c.loop-number.longest (omega arith) c.loop-number-test.true c.loop-number.invariant c.take_placed.new.key.items read.0 c.push_begun.new.starts.items c.in_ok-end.end c.max-longest.result read.1 read.2 read.3 c.in_ok-push_begun.ensures (let is = c.max-longest.ensures in let long = c.len.ensures in let same = c.take_placed.new.key.ok.0 in omega (arith, is, long, same))
 
 pub returns-clause-ok : goal.returns-clause-ok
 returns-clause-ok c =
-    let all = c.loop.invariant in
-    (all.done, (let count = all.count in omega (arith, count)), all.read, all.starts_are)
+    let r = c.loop-number.invariant in
+    let all = all_read (block_size c.args.front_coded) c.args.section.now c.args.place c.args.lengths.postings c.args.lengths.positions c.args.num_terms c.loop-number.number c.loop-number.key.items c.loop-number.starts.items c.loop-number.end c.loop-number.longest (omega arith) (omega arith) r in
+    (r.reading.done, all.0, all.1, record { kind = refl; many = all.0; longest = r.longest_is; first = refl }, r.starts_are)

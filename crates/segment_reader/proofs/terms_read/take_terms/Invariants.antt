@@ -1,6 +1,6 @@
-use Rattle.std.proofs.Common.{option_map}
+use Rattle.layouts.specs.TermSections.{block_size}
 use Rattle.segment_reader.proofs.TermsLoop.{Reading}
 use Rattle.segment_reader.proofs.terms_read.take_terms.Given as goal
 
-abbrev pub invariant-loop : goal.invariant-loop
-invariant-loop l = Reading l.section l.fn.place l.lengths.postings l.lengths.positions l.num_terms l.counter (option_map (λ k. k.now) l.before) l.starts.items l.end
+abbrev pub invariant-loop-number : goal.invariant-loop-number
+invariant-loop-number l = Reading (block_size l.fn.front_coded) l.fn.section l.fn.place l.fn.lengths.postings l.fn.lengths.positions l.fn.num_terms l.number l.key.items l.starts.items l.end l.longest
