@@ -1,6 +1,7 @@
 pub mod FirstDocuments
 pub mod ListCuts
 pub mod AtLeastLaws
+pub mod BoundLaws
 pub mod ChangedLists
 pub mod DangerLaws
 pub mod DefinedLaws

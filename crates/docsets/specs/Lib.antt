@@ -2,6 +2,7 @@ pub mod Entries
 pub mod Danger
 pub mod ScoredEntries
 pub mod SetEntries
+pub mod Bounds
 pub mod Combining
 pub mod Members
 pub mod Distinct

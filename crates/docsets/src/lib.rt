@@ -38,7 +38,7 @@ pub use member_laws::at_least_is_that_of_definitions;
 pub use moves::{least_of, move_all, move_to};
 pub use postings::Postings;
 pub use score_combiner::ScoreCombiner;
-pub use scorer::Scorer;
+pub use scorer::{Scorer, Window};
 pub use scores::{combine_at, take_score};
 pub use seek_danger_result::SeekDangerResult;
 pub use sum_combiner::SumCombiner;

@@ -1,4 +1,5 @@
 -- A walk over a term's blocks: what it leaves out, and what it decodes.
+use Rattle.docsets.specs.Bounds.{Covers}
 use Rattle.std.proofs.Common.{[], Bool, List, ap, ap₂, arith, drop, false, if◌then◌else◌, le-leb, length, map, nat_lt, refl, subst, suc, sym, take, true, zero, ◌&&◌, ◌+◌, ◌-◌, ◌*◌, ◌/◌, ◌%◌, ◌<◌, ◌≡◌, ◌≤◌, ◌∙◌, ◌∷◌, ℕ}
 use Rattle.std.specs.Prelude.{int_lt, min, negsuc, pos, ◌≤ℤ◌, ℤ}
 use Rattle.std.proofs.lemmas.Bool.{lt-leb}
@@ -21,7 +22,7 @@ use Rattle.phrases.specs.BlocksLeft.{StandsInBlock, blocks_left, blocks_of, docs
 use Rattle.segment_postings.specs.Cursors.{cursor_place}
 use Rattle.segment_postings.specs.Reading.{below}
 use Rattle.skips.specs.SkipBlocks.{last_doc}
-use Rattle.term_scorer.specs.BlockScores.{Covers, block_score, until_of}
+use Rattle.term_scorer.specs.BlockScores.{block_score, until_of}
 use Rattle.term_scorer.specs.ScoredTerms.{cursor_of, rising_scored, scored_left, similarity_of}
 use Rattle.term_scorer.specs.TermScores.{TermSimilarity}
 use Rattle.term_scorer.specs.declared.term_scorer.TermScorer.{TermScorer}
@@ -110,7 +111,7 @@ nothing_to_come limit taken s target scorer late = nothing_counted limit taken s
 pub not_less : (t b c : ℤ) → int_lt t b ≡ false → b ≡ c → c ≤ℤ t
 not_less t b c test is = grind (arith, ints)
 
-not_above : (t : ℤ) (bound score : ℕ) → pos bound ≤ℤ t → score ≤ bound → int_lt t (pos score) ≡ false
+pub not_above : (t : ℤ) (bound score : ℕ) → pos bound ≤ℤ t → score ≤ bound → int_lt t (pos score) ≡ false
 not_above (pos t) bound score l few = grind (arith, nat_tests, ints)
 not_above (negsuc t) bound score l few = absurd (omega (arith, ints, l))
 

@@ -22,3 +22,5 @@ pub mod PlaceLaws
 pub mod PlacesLaws
 pub mod PrefixEntryLaws
 pub mod StandingLaws
+pub mod TailChanges
+pub mod UnionWalks

@@ -12,6 +12,7 @@ pub mod Standings
 pub mod Blocks
 pub mod BlocksLeft
 pub mod Feeding
+pub mod Unions
 -- Laws that clauses and proofs of types must name.
 pub mod MergeLaws
 pub mod PlaceLaws

@@ -3,7 +3,6 @@
 
 mod adjusted_terms;
 mod block_sink;
-mod block_wand;
 mod next_rows;
 mod one_term_phrase;
 mod phrase_documents;
@@ -21,10 +20,11 @@ mod sink;
 mod slop_costs;
 mod suffix_windows;
 mod suffixes;
+mod term_walk;
+mod union_walk;
 mod window;
 
 pub use block_sink::{BlockSink, for_each_docset_buffered};
-pub use block_wand::block_wand_single_scorer;
 pub use intersections::Positioned;
 pub use one_term_phrase::OneTermPhrase;
 pub use phrase_kind::PhraseKind;
@@ -32,3 +32,5 @@ pub use phrase_prefix_scorer::PhrasePrefixScorer;
 pub use phrase_scorer::PhraseScorer;
 pub use postings_with_offset::PostingsWithOffset;
 pub use sink::{Sink, for_each_pruning_scorer, offer};
+pub use term_walk::block_wand_single_scorer;
+pub use union_walk::block_wand;

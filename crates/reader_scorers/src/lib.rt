@@ -2,6 +2,7 @@
 #![tactic(auto)]
 
 mod any_query_scorer;
+mod clause_walks;
 mod forms;
 mod leaf_weights;
 mod reader_scorers;
@@ -9,5 +10,6 @@ mod scorer_walks;
 mod terms_alone;
 
 pub use any_query_scorer::AnyScorer;
+pub use clause_walks::feed_clauses;
 pub use leaf_weights::LeafWeights;
 pub use reader_scorers::{ReaderScorers, ScorerBy};

@@ -1,4 +1,5 @@
 -- No score is above the bound of its block.
+use Rattle.docsets.specs.Bounds.{Covers}
 use Rattle.std.proofs.Common.{[], Bool, List, None, Some, ap, arith, drop, false, get_or, if◌then◌else◌, length, length-drop, nat_lt, refl, slice_index, subst, suc, sum, sym, take, true, zero, ◌+◌, ◌/◌, ◌<◌, ◌≡◌, ◌≤◌, ◌∙◌, ◌∷◌, ℕ}
 use Rattle.std.proofs.Math.Nat.{mul-le-mul_left}
 use Rattle.std.proofs.lemmas.Bool.Decides.{nat_tests}
@@ -14,7 +15,7 @@ use Rattle.segment_postings.specs.Cursors.{HasMoved, counts_left, cursor_blocks,
 use Rattle.segment_postings.specs.TermEntries.{entries_from, entries_of}
 use Rattle.segment_postings.specs.declared.segment_postings.SegmentPostings.{SegmentPostings}
 use Rattle.skips.specs.SkipBlocks.{last_doc}
-use Rattle.term_scorer.specs.BlockScores.{Covers, block_score, until_of}
+use Rattle.term_scorer.specs.BlockScores.{block_score, until_of}
 use Rattle.term_scorer.specs.TermScoreLaws.{score-below}
 use Rattle.term_scorer.specs.TermScores.{TermSimilarity, documents_bound, score_by, term_scored}
 

@@ -1,9 +1,7 @@
 -- Bounds of the scores in blocks.
-use Rattle.std.specs.Prelude.{◌+◌, ◌<◌, ◌≤◌, List, min, ℕ}
-use Rattle.std.specs.List.{AllByRecursion}
+use Rattle.std.specs.Prelude.{◌+◌, List, min, ℕ}
 use Rattle.definitions.specs.Blocks.{bound_score}
 use Rattle.definitions.specs.Postings.{terminated}
-use Rattle.docsets.specs.Entries.{Entry}
 use Rattle.layouts.specs.SkipEntries.{SkipEntry}
 use Rattle.segment_postings.specs.Cursors.{first_bound}
 use Rattle.skips.specs.SkipBlocks.{last_doc}
@@ -16,7 +14,3 @@ block_score sim es = bound_score sim.boost sim.weight sim.norms (first_bound es)
 -- the first document behind the first block
 abbrev pub until_of : List SkipEntry → ℕ
 until_of es = min terminated (last_doc es + 1)
-
--- no score of a document from `target` on up to `until` is above a bound
-abbrev pub Covers : ℕ → ℕ → ℕ → List Entry → Type 0
-Covers target until bound es = AllByRecursion (λ e. target ≤ e.doc → e.doc < until → e.score ≤ bound) es

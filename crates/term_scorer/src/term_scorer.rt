@@ -1,9 +1,10 @@
 //! The documents of a term, with their scores.
 
-ghost use Rattle.std.specs.Prelude.{[], ◌*◌, ◌+◌, ◌/◌, ◌<◌, ◌≡◌, ◌≤◌, IfOk, drop, length, pos, slice_index};
+ghost use Rattle.std.specs.Prelude.{[], ◌*◌, ◌+◌, ◌/◌, ◌<◌, ◌≡◌, ◌≤ℤ◌, ◌≤◌, IfOk, drop, length, pos, slice_index};
 ghost use Rattle.definitions.specs.Blocks.{block_len};
 ghost use Rattle.definitions.specs.Postings.{terminated};
-ghost use Rattle.definitions.specs.Scoring.{max_score};
+ghost use Rattle.definitions.specs.Scoring.{max_score, natural};
+ghost use Rattle.docsets.specs.Bounds.{Covers};
 ghost use Rattle.docsets.specs.Entries.{first, first_count, first_score, from};
 ghost use Rattle.docsets.specs.ScoredEntries.{greatest_score};
 ghost use Rattle.segment_postings.specs.BoundedBlocks.{AreBounded};
@@ -11,15 +12,15 @@ ghost use Rattle.segment_postings.specs.BoundedBlockLaws.{AreBounded-prop};
 ghost use Rattle.segment_postings.specs.Cursors.{HasStayed, counts_left, cursor_blocks, cursor_blocks_decoded, docs_left, entries_left, skips_left, skips_reached};
 ghost use Rattle.segment_postings.specs.Reading.{below};
 ghost use Rattle.skips.specs.SkipBlocks.{last_doc};
-ghost use Rattle.term_scorer.specs.BlockScores.{Covers, block_score, until_of};
+ghost use Rattle.term_scorer.specs.BlockScores.{block_score, until_of};
 ghost use Rattle.term_scorer.specs.Explaining.{explained_value};
 ghost use Rattle.term_scorer.specs.Similarities.{similarity_data};
 ghost use Rattle.term_scorer.specs.TermScores.{documents_bound, term_scored};
 
 use crate::explanation::Explanation;
 use crate::similarity::Similarity;
-use common::{DocId, Score};
-use docsets::{DocSet, Postings, Scorer, SeekDangerResult};
+use common::{DocId, Score, TERMINATED};
+use docsets::{DocSet, Postings, Scorer, SeekDangerResult, Window};
 use fieldnorms::FieldNormReader;
 use segment_postings::SegmentPostings;
 use std::alloc::{AllocError, Global};
@@ -232,5 +233,21 @@ impl<'a> Scorer for TermScorer<'a> {
         ensures similarity { similarity_of self.new ≡ similarity_of self.old }
     {
         self.similarity.score(self.fieldnorm_id(), self.term_freq())
+    }
+
+    #[inline]
+    fn window(&mut self, target: DocId) -> Window
+        requires { target < terminated }
+        ensures same { scored_left self.new ≡ scored_left self.old }
+        ensures positive { pos 0 ≤ℤ result.bound }
+        ensures ahead { target < result.until }
+        ensures within { result.until ≤ terminated }
+        ensures covers { Covers target result.until (natural result.bound) (scored_left self.old) }
+    {
+        self.seek_block(target);
+        Window {
+            bound: self.block_max_score(),
+            until: self.last_doc_in_block().min(TERMINATED - 1) + 1,
+        }
     }
 }

@@ -5,4 +5,6 @@ mod segment_scorers;
 mod trees;
 
 pub use segment_scorers::SegmentScorers;
-pub use trees::{boolean_scorer, boosted_scorer, constant_scorer, max_scorer, scorer_of};
+pub use trees::{
+    boolean_scorer, boosted_scorer, constant_scorer, max_scorer, scorer_of, scorers_asked,
+};

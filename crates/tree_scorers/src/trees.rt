@@ -82,7 +82,7 @@ pub fn boolean_scorer<F: SegmentScorers>(
 
 /// Returns the scorers of the clauses that ask `occur`, in order.
 #[cycle(scorer_of)]
-fn scorers_asked<F: SegmentScorers>(
+pub fn scorers_asked<F: SegmentScorers>(
     alloc: Global,
     forms: &F,
     clauses: &[(Occur, AnyQuery)],

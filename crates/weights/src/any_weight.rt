@@ -160,6 +160,9 @@ impl<'q, 'a, W: LeafWeights<'a>> Weight<'a> for AnyWeight<'q, W> {
         reader: &SegmentReader<'a>,
         sink: &mut K,
     ) -> Result<(), AllocError> {
+        if let AnyWeight::Boolean(weight) = self {
+            return weight.for_each_pruning(alloc, threshold, reader, sink);
+        }
         let scorer = self.scorer(alloc, reader, 1)?;
         feed_by_kind::<ReaderScorers<'_, 'a, W>, K>(scorer, reader.max_doc(), threshold, sink);
         Ok(())

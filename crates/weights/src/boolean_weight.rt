@@ -10,7 +10,7 @@ use common::{DocId, Score};
 use definitions::Fault;
 use phrases::{BlockSink, Sink};
 use query_trees::{AnyQuery, Occur};
-use reader_scorers::{LeafWeights, ReaderScorers, ScorerBy};
+use reader_scorers::{LeafWeights, ReaderScorers, ScorerBy, feed_clauses};
 use segment_reader::SegmentReader;
 use std::alloc::{AllocError, Global};
 use term_scorer::Explanation;
@@ -113,6 +113,8 @@ impl<'q, 'a, W: LeafWeights<'a>> Weight<'a> for BooleanWeight<'q, W> {
         reader: &SegmentReader<'a>,
         sink: &mut K,
     ) -> Result<(), AllocError> {
-        calls::for_each_pruning(alloc, self, threshold, reader, sink)
+        let forms = ReaderScorers::new(reader, &self.weights);
+        let minimum = self.minimum_number_should_match;
+        feed_clauses(alloc, &forms, self.clauses, minimum, threshold, sink)
     }
 }

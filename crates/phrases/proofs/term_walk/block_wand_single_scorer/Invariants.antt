@@ -7,7 +7,7 @@ use Rattle.docsets.specs.ScoredEntries.{pairs_of}
 use Rattle.phrases.proofs.BlockWalks.{BeginsBlock, to_come}
 use Rattle.phrases.specs.BlocksLeft.{blocks_decoded_by, blocks_left}
 use Rattle.term_scorer.specs.ScoredTerms.{scored_left}
-use Rattle.phrases.proofs.block_wand.block_wand_single_scorer.Given as goal
+use Rattle.phrases.proofs.term_walk.block_wand_single_scorer.Given as goal
 
 -- what the sink has come to and what is left to feed make what all make, and what was decoded and will yet be decoded is
 -- what was to be at the start

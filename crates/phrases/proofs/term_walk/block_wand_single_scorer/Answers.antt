@@ -1,3 +1,4 @@
+use Rattle.docsets.specs.Bounds.{Covers}
 use Rattle.std.proofs.Common.{[], List, ap, ap₂, arith, false, if◌then◌else◌, length, min, nat_lt, pos, refl, rules, subst, sym, to_z-of_z, true, w64, ◌+◌, ◌/◌, ◌<◌, ◌∙◌, ◌∷◌, ◌≡◌, ◌≤◌, ◌≤ℤ◌, ℕ, ℤ}
 use Rattle.std.specs.Prelude.{int_lt}
 use mir.Val.{SFits}
@@ -14,9 +15,9 @@ use Rattle.phrases.proofs.EntryCuts.{fed_cut, length-from, none_behind}
 use Rattle.phrases.proofs.ScorerBlocks.{IsSameBlock, stands_from}
 use Rattle.phrases.specs.BlocksLeft.{docs_held, skips_found, up_to}
 use Rattle.segment_postings.specs.Reading.{below}
-use Rattle.term_scorer.specs.BlockScores.{Covers, block_score, until_of}
+use Rattle.term_scorer.specs.BlockScores.{block_score, until_of}
 use Rattle.term_scorer.specs.ScoredTerms.{rising_scored, scored_left, similarity_of}
-use Rattle.phrases.proofs.block_wand.block_wand_single_scorer.Goals as goal
+use Rattle.phrases.proofs.term_walk.block_wand_single_scorer.Goals as goal
 
 pub loop-target-init : goal.loop-target-init
 loop-target-init g c =

@@ -4,7 +4,7 @@ use Rattle.docsets.specs.Entries.{first, from}
 use Rattle.docsets.specs.ScoredEntries.{pairs_of}
 use Rattle.phrases.specs.BlocksLeft.{StandsInBlock, up_to}
 use Rattle.term_scorer.specs.ScoredTerms.{scored_left}
-use Rattle.phrases.proofs.block_wand.feed_block.Given as goal
+use Rattle.phrases.proofs.term_walk.feed_block.Given as goal
 
 -- what the sink has come to and what is left of the block make what the block makes
 abbrev pub invariant-loop-doc : goal.invariant-loop-doc

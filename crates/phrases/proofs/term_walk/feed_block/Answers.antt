@@ -13,8 +13,8 @@ use Rattle.phrases.specs.BlocksLeft.{StandsInBlock, docs_held, skips_held, up_to
 use Rattle.segment_postings.specs.Reading.{below}
 use Rattle.skips.specs.SkipBlocks.{last_doc}
 use Rattle.term_scorer.specs.ScoredTerms.{rising_scored, scored_left}
-use Rattle.phrases.proofs.block_wand.feed_block.Goals.{else-doc-target, then-doc-target}
-use Rattle.phrases.proofs.block_wand.feed_block.Goals as goal
+use Rattle.phrases.proofs.term_walk.feed_block.Goals.{else-doc-target, then-doc-target}
+use Rattle.phrases.proofs.term_walk.feed_block.Goals as goal
 
 one_less : (es : List Entry) → first es < terminated → length (drop 1 es) + 1 ≡ length es
 one_less [] on = absurd (omega (arith, on))

@@ -1,0 +1,53 @@
+//! The walk of the documents that match clauses, into a sink.
+
+ghost use Rattle.std.specs.Prelude.{◌≡◌, ◌≤◌, OnErr, OnOk};
+ghost use Rattle.definitions.specs.Query as definitions;
+ghost use Rattle.query_trees.specs.Queries.{clauses_of};
+ghost use Rattle.reader_scorers.specs.Fed.{IsFedBy};
+ghost use Rattle.reader_scorers.specs.Scored.{segment_scored, weights_of};
+ghost use Rattle.segment_reader.specs.SegmentReaders.{max_doc_of};
+ghost use Rattle.tree_scorers.specs.Accepted.{IsAccepted};
+
+use crate::leaf_weights::LeafWeights;
+use crate::reader_scorers::ReaderScorers;
+use crate::scorer_walks::feed_any;
+use crate::terms_alone::{are_terms, into_terms};
+use common::Score;
+use phrases::{Sink, block_wand};
+use query_trees::{AnyQuery, Occur};
+use std::alloc::{AllocError, Global};
+use tree_scorers::{SegmentScorers, scorers_asked};
+
+/// Feeds each document of a segment that matches `clauses` with its score to `sink`, in order, if the score is above the
+/// sink's threshold by then; none if out of memory. A union of two or more terms is walked by `block_wand`.
+pub fn feed_clauses<'a, W: LeafWeights<'a>, K: Sink>(
+    alloc: Global,
+    forms: &ReaderScorers<'_, 'a, W>,
+    clauses: &[(Occur, AnyQuery)],
+    minimum_number_should_match: usize,
+    threshold: Score,
+    sink: &mut K,
+) -> Result<(), AllocError>
+    requires accepted { IsAccepted (W.similarity (weights_of forms.now)).weight 1
+        (definitions.boolean (clauses_of clauses.now) minimum_number_should_match) }
+    requires threshold { threshold ≡ K.limit (K.state sink.old) }
+    requires room { max_doc_of (segment_scored forms.now) ≤ K.room sink.old }
+    ensures fed { OnOk result (IsFedBy K.limit K.taken (K.state sink.old) (W.similarity (weights_of forms.now)) 1
+        (definitions.boolean (clauses_of clauses.now) minimum_number_should_match) (segment_scored forms.now)
+        (K.state sink.new)) }
+    ensures same { OnErr result (sink.new ≡ sink.old) }
+{
+    let minimum = minimum_number_should_match;
+    let musts = scorers_asked(alloc, forms, clauses, Occur::Must, 1)?;
+    let shoulds = scorers_asked(alloc, forms, clauses, Occur::Should, 1)?;
+    let must_nots = scorers_asked(alloc, forms, clauses, Occur::MustNot, 1)?;
+    let alone = musts.is_empty() && must_nots.is_empty() && minimum <= 1;
+    if alone && are_terms(&shoulds) {
+        let terms = into_terms(alloc, shoulds)?;
+        block_wand(terms, threshold, sink);
+        return Ok(());
+    }
+    let scorer = forms.clauses_scorer(alloc, musts, shoulds, must_nots, minimum)?;
+    feed_any(scorer, threshold, sink);
+    Ok(())
+}
