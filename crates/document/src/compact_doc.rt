@@ -35,7 +35,7 @@ impl Model for CompactDoc {
     ghost use Rattle.std.specs.Coded.{codes, coded_list, coded_ℕ, coded×};
     ghost use Rattle.definitions.specs.Values.{Document};
     ghost use Rattle.document_values.specs.Docs.{IsHeap, pairs_at};
-    ghost use Rattle.document_values.specs.ValueCodes.{value_code};
+    ghost use Rattle.document_values.specs.ValueCodesLaws.{value_code};
 
     ghost Value = { Document };
 

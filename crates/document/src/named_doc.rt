@@ -25,7 +25,7 @@ impl Model for NamedDocument {
     ghost use Rattle.std.specs.Coded.{codes};
     ghost use Rattle.definitions.specs.Stored.{Named};
     ghost use Rattle.document.specs.NamedDocs.{named_of};
-    ghost use Rattle.document_values.specs.ValueCodes.{named_code};
+    ghost use Rattle.document_values.specs.ValueCodesLaws.{named_code};
 
     ghost Value = { Named };
 

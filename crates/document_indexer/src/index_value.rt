@@ -181,7 +181,8 @@ fn index_ip_addr(
     requires { CanIndex schema.now indexer.old field ip_addr_kind }
     ensures ok { OnOk result (Records schema.now indexer.old indexer.new
         (plain_steps ip_addr_kind field (value_of value.entry))) }
-    ensures err { IfErr result (Refuses schema.now indexer.old (plain_steps ip_addr_kind field (value_of value.entry))) }
+    ensures err { IfErr result (Refuses schema.now indexer.old
+        (plain_steps ip_addr_kind field (value_of value.entry))) }
 {
     match value {
         CompactDocValue::IpAddr(bits) => {

@@ -122,11 +122,13 @@ impl IndexingContext {
         requires can { CanIndex schema.now self.old field text_kind }
         requires small { gap < 2 ^ 31 }
         ensures ok { OnOk result (Records schema.now self.old self.new
-            (text_step (term_bytes field text_kind []) gap (kept (A.analyze analyzer.now tokenizer.now text.now)) ∷ [])) }
+            (text_step (term_bytes field text_kind []) gap
+            (kept (A.analyze analyzer.now tokenizer.now text.now)) ∷ [])) }
         ensures num_tokens { IfOk result (λ n. n
             ≡ cut (length (kept (A.analyze analyzer.now tokenizer.now text.now)))) }
         ensures err { IfErr result (Refuses schema.now self.old
-            (text_step (term_bytes field text_kind []) gap (kept (A.analyze analyzer.now tokenizer.now text.now)) ∷ [])) }
+            (text_step (term_bytes field text_kind []) gap
+            (kept (A.analyze analyzer.now tokenizer.now text.now)) ∷ [])) }
     {
         analyzer.tokens_into(self.alloc, tokenizer, text, &mut self.tokens)?;
         self.term_buffer.clear();

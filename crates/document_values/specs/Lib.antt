@@ -5,3 +5,5 @@ pub mod Shown
 pub mod CodeHeads
 pub mod Owned
 pub mod WrittenJson
+-- Laws that clauses and proofs of types must name.
+pub mod ValueCodesLaws

@@ -27,7 +27,7 @@ impl<'a> Model for CompactDocArrayIter<'a> {
     ghost use Rattle.definitions.specs.Values.{Value as DocValue};
     ghost use Rattle.document_values.specs.Docs.{IsWhole};
     ghost use Rattle.layouts.specs.DocumentReading.{items_at, take_held};
-    ghost use Rattle.document_values.specs.ValueCodes.{value_code};
+    ghost use Rattle.document_values.specs.ValueCodesLaws.{value_code};
 
     ghost Value = { List DocValue };
 
@@ -103,7 +103,7 @@ impl<'a> Model for CompactDocObjectIter<'a> {
     ghost use Rattle.definitions.specs.Values.{Value as DocValue};
     ghost use Rattle.document_values.specs.Docs.{IsWhole};
     ghost use Rattle.layouts.specs.DocumentReading.{items_at, take_held, take_member};
-    ghost use Rattle.document_values.specs.ValueCodes.{value_code};
+    ghost use Rattle.document_values.specs.ValueCodesLaws.{value_code};
 
     ghost Value = { List (List ℕ × DocValue) };
 
@@ -176,7 +176,7 @@ impl<'a> Model for FieldValueIterRef<'a> {
     ghost use Rattle.std.specs.Coded.{codes, coded_list, coded_ℕ, coded×};
     ghost use Rattle.definitions.specs.Values.{Document};
     ghost use Rattle.document_values.specs.Docs.{pairs_at};
-    ghost use Rattle.document_values.specs.ValueCodes.{value_code};
+    ghost use Rattle.document_values.specs.ValueCodesLaws.{value_code};
 
     ghost Value = { Document };
 
@@ -224,7 +224,7 @@ impl<'a> Model for ValuesOfField<'a> {
     ghost use Rattle.std.specs.Prelude.{List};
     ghost use Rattle.std.specs.Coded.{codes, coded_list};
     ghost use Rattle.definitions.specs.Values.{Value as DocValue, values_of};
-    ghost use Rattle.document_values.specs.ValueCodes.{value_code};
+    ghost use Rattle.document_values.specs.ValueCodesLaws.{value_code};
 
     ghost Value = { List DocValue };
 

@@ -73,7 +73,8 @@ pub fn a_crashed_call_leaves_one_of_two<D: Device, A: Analyzer>(
         → IndexStands A.analyze opened.now
         (configuration_of (schema_of old.now) (A.analyze (analyzer_of old.now)) (settings_of old.now)) (reopened one)
         ⊎ IndexStands A.analyze opened.now
-        (configuration_of (schema_of old.now) (A.analyze (analyzer_of old.now)) (settings_of old.now)) (reopened other) }
+        (configuration_of (schema_of old.now) (A.analyze (analyzer_of old.now)) (settings_of old.now))
+        (reopened other) }
 {}
 
 /// States what is left where a crash of a `create`, or of an opening after one, leaves an index at all: `opened` on an

@@ -67,7 +67,8 @@ fn is_next(before: &[u8], place: usize, rest: &[u8]) -> bool
 /// The key behind the one that stands in `key`, in whose place it comes, and what follows it.
 pub(crate) fn take_next_key<'a>(bytes: &'a [u8], key: &mut Vec<u8>) -> Result<&'a [u8], Fault>
     ensures ok { IfOk result (λ rest. take_next_key key.old.items bytes.now ≡ Some (key.new.items, rest.now)) }
-    ensures err { IfErr result (λ fault. fault ≢ faults.OutOfMemory → (fault ≡ faults.Damaged None) × (take_next_key key.old.items bytes.now ≡ None)) }
+    ensures err { IfErr result (λ fault. fault ≢ faults.OutOfMemory → (fault ≡ faults.Damaged None)
+        × (take_next_key key.old.items bytes.now ≡ None)) }
 {
     let (place, bytes) = take_vint(bytes)?;
     let (rest, bytes) = take_bytes(bytes)?;

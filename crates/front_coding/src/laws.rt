@@ -11,12 +11,14 @@ ghost use Rattle.front_coding.specs.TakenKeys.{LengthsFit, take_next_key};
 
 /// A key that stands above the one before is taken back.
 pub fn what_was_put_is_taken_back()
-    ensures { (before key rest : List ℕ) → slice_cmp nat_cmp before key ≡ Less → length before < 2 ^ 64 → length key < 2 ^ 64 → take_next_key before (next_key before key ++ rest) ≡ Some (key, rest) }
+    ensures { (before key rest : List ℕ) → slice_cmp nat_cmp before key ≡ Less → length before < 2 ^ 64
+        → length key < 2 ^ 64 → take_next_key before (next_key before key ++ rest) ≡ Some (key, rest) }
 {}
 
 /// What is taken stands above the key before, and stood there as it is put: no other shared length is taken.
 pub fn what_is_taken_was_put()
-    ensures { (before bs key rest : List ℕ) → AreBytes bs → take_next_key before bs ≡ Some (key, rest) → (slice_cmp nat_cmp before key ≡ Less) × (bs ≡ next_key before key ++ rest) }
+    ensures { (before bs key rest : List ℕ) → AreBytes bs → take_next_key before bs ≡ Some (key, rest)
+        → (slice_cmp nat_cmp before key ≡ Less) × (bs ≡ next_key before key ++ rest) }
 {}
 
 /// As many ascending terms, whose numbers fit, have no other bytes: front-coded terms have one reading.

@@ -110,9 +110,11 @@ pub fn search_block(
     key: &[u8],
 ) -> BlockSearch
     ensures bound { result.below ≤ num_terms }
-    ensures below { (ts : List Told) (end : List ℕ) → IsBlock (block_size front_coded) num_terms section.now start ts end
+    ensures below { (ts : List Told) (end : List ℕ)
+        → IsBlock (block_size front_coded) num_terms section.now start ts end
         → result.below ≡ prefix_len (stands_below key.now) ts }
-    ensures found { (ts : List Told) (end : List ℕ) → IsBlock (block_size front_coded) num_terms section.now start ts end
+    ensures found { (ts : List Told) (end : List ℕ)
+        → IsBlock (block_size front_coded) num_terms section.now start ts end
         → EndWithin start ts
         → option_map located_at result.found ≡ located key.now start.postings start.positions ts }
 {

@@ -41,7 +41,8 @@ fn take_key<'a>(
     number: u64,
     key: &mut Vec<u8>,
 ) -> Result<&'a [u8], Fault>
-    ensures ok { IfOk result (λ rest. take_key (block_size front_coded) number key.old.items bytes.now ≡ Some (key.new.items, rest.now)) }
+    ensures ok { IfOk result (λ rest. take_key (block_size front_coded) number key.old.items bytes.now
+        ≡ Some (key.new.items, rest.now)) }
     ensures err { IfErr result (λ fault. fault ≢ faults.OutOfMemory → (fault ≡ faults.Damaged None)
         × (take_key (block_size front_coded) number key.old.items bytes.now ≡ None)) }
 {

@@ -28,7 +28,8 @@ pub fn read_segments_body(
     alloc: Global,
     body: &[u8],
 ) -> Result<Option<SegmentsBody<'_>>, AllocError>
-    ensures some { IfOk result (λ found. IfSome found (λ b. IsBody (map part_of b.parts.items) b.alive.items body.now)) }
+    ensures some { IfOk result (λ found. IfSome found (λ b.
+        IsBody (map part_of b.parts.items) b.alive.items body.now)) }
     ensures none { IfOk result (λ found. IfNone found ((parts : List layout.Part) (sets : List (List Bool))
         → ¬ IsBody parts sets body.now)) }
 {

@@ -39,11 +39,13 @@ impl<A: Analyzer + Drop> IndexState<A> {
         ensures opened { IfOk result (λ prepared. IfSome prepared.segment (IsOpened (schema_of self.now))) }
         ensures of { (c : calls.Configuration) (x : calls.Index) → Stands A.analyze self.now c x
             → IfOk result (λ prepared. MatchOption prepared.segment (joined_groups from to x.state.groups ≡ [])
-            (StandsFor (schema_of self.now) (A.analyze (analyzer_of self.now)) (joined_groups from to x.state.groups))) }
+            (StandsFor (schema_of self.now) (A.analyze (analyzer_of self.now))
+            (joined_groups from to x.state.groups))) }
         ensures sets { IfOk result (λ prepared. sets_merged prepared
             ≡ replaced from to (map all_alive (new_in prepared)) (alive_of self.now)) }
         ensures frame { IfOk result (λ prepared. merge_frame_in prepared ≡ frame_bytes (segments_body
-            (merged_parts (length (alive_of self.now)) from to (map bytes_of (new_in prepared))) (sets_merged prepared))) }
+            (merged_parts (length (alive_of self.now)) from to (map bytes_of (new_in prepared)))
+            (sets_merged prepared))) }
         ensures fault { IfErr result (λ fault. fault ≢ faults.Device) }
         ensures limit { (c : calls.Configuration) (x : calls.Index) → Stands A.analyze self.now c x
             → IfErr result (λ fault. fault ≢ faults.OutOfMemory → (fault ≡ faults.Limit)
@@ -86,7 +88,8 @@ impl<A: Analyzer + Drop> IndexState<A> {
         ensures one { IfOk result (λ put. MatchOption put.1 (num_living ≡ 0) (λ new. 0 < num_living)) }
         ensures of { (c : calls.Configuration) (x : calls.Index) → Stands A.analyze self.now c x
             → IfOk result (λ put. MatchOption put.1 (joined_groups from to x.state.groups ≡ [])
-            (IsNew (schema_of self.now) (A.analyze (analyzer_of self.now)) put.0 (joined_groups from to x.state.groups))) }
+            (IsNew (schema_of self.now) (A.analyze (analyzer_of self.now)) put.0
+            (joined_groups from to x.state.groups))) }
         ensures fault { IfErr result (λ fault. fault ≢ faults.Device) }
         ensures limit { (c : calls.Configuration) (x : calls.Index) → Stands A.analyze self.now c x
             → IfErr result (λ fault. fault ≢ faults.OutOfMemory → (fault ≡ faults.Limit)

@@ -27,7 +27,8 @@ pub trait BlockSink {
 
 /// Feeds all documents of `docset` to `sink`, in order, in blocks of at most 64.
 pub fn for_each_docset_buffered<D: DocSet, K: BlockSink>(docset: &mut D, sink: &mut K)
-    ensures fed { IsFedInBlocks K.taken (K.state sink.old) (map (λ e. e.doc) (D.entries docset.old)) (K.state sink.new) }
+    ensures fed { IsFedInBlocks K.taken (K.state sink.old) (map (λ e. e.doc) (D.entries docset.old))
+        (K.state sink.new) }
     ensures done { D.entries docset.new ≡ [] }
 {
     let mut buffer = [0; COLLECT_BLOCK_BUFFER_LEN];

@@ -65,7 +65,8 @@ fn feed_block<K: Sink>(
     requires threshold { threshold ≡ K.limit (K.state sink.old) }
     requires room { length (from target (scored_left scorer.old)) ≤ K.room sink.old }
     requires small { target < terminated }
-    requires reached { skips_found scorer.old ≡ drop (below target (docs_held scorer.old) / block_len) (skips_held scorer.old) }
+    requires reached { skips_found scorer.old
+        ≡ drop (below target (docs_held scorer.old) / block_len) (skips_held scorer.old) }
     requires ahead { target ≤ last_doc (skips_found scorer.old) }
     requires ends { until ≡ until_of (skips_found scorer.old) }
     ensures state { K.state sink.new

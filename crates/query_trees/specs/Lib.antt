@@ -3,4 +3,5 @@ pub mod QueryCodes
 pub mod Queries
 pub mod NeededTerms
 -- Laws that clauses and proofs of types must name.
+pub mod QueryCodesLaws
 pub mod QueryDepthsLaws

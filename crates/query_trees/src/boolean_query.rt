@@ -32,7 +32,7 @@ impl Model for BooleanQuery {
     ghost Value = { definitions.Clauses × ℕ };
 
     ghost use Rattle.std.specs.Coded.{codes, coded_ℕ, coded×};
-    ghost use Rattle.query_trees.specs.QueryCodes.{clauses_code};
+    ghost use Rattle.query_trees.specs.QueryCodesLaws.{clauses_code};
 
     ghost coded = { coded× (clauses_code (Prim.hlevel codes)) coded_ℕ };
 

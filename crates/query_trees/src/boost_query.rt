@@ -27,7 +27,7 @@ impl Model for BoostQuery {
     ghost Value = { definitions.Query × ℤ };
 
     ghost use Rattle.std.specs.Coded.{codes, coded_ℤ, coded×};
-    ghost use Rattle.query_trees.specs.QueryCodes.{query_code};
+    ghost use Rattle.query_trees.specs.QueryCodesLaws.{query_code};
 
     ghost coded = { coded× (query_code (Prim.hlevel codes)) coded_ℤ };
 

@@ -28,7 +28,7 @@ impl Model for DisjunctionMaxQuery {
     ghost Value = { definitions.Queries × ℤ };
 
     ghost use Rattle.std.specs.Coded.{codes, coded_ℤ, coded×};
-    ghost use Rattle.query_trees.specs.QueryCodes.{queries_code};
+    ghost use Rattle.query_trees.specs.QueryCodesLaws.{queries_code};
 
     ghost coded = { coded× (queries_code (Prim.hlevel codes)) coded_ℤ };
 
