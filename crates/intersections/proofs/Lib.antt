@@ -1,4 +1,5 @@
 -- Lemmas on the words of the contracts.
+pub mod BoundLaws
 pub mod ColumnLaws
 pub mod DifferenceLaws
 pub mod ExclusionLaws

@@ -8,10 +8,11 @@ ghost use Rattle.intersections.specs.MeetingLaws.{IsMeeting-prop};
 ghost use Rattle.intersections.specs.Meetings.{IsMeeting, meeting};
 ghost use Rattle.docsets.specs.Members.{greatest_sum};
 
+use crate::joint_windows::joint_window;
 use crate::leapfrog::{cheapest, next_match};
 use crate::positioned::Positioned;
 use common::{DocId, Score, TERMINATED};
-use docsets::{DocSet, ScoreCombiner, Scorer, SumCombiner, combine_at};
+use docsets::{DocSet, ScoreCombiner, Scorer, SumCombiner, Window, combine_at};
 
 /// The documents that all of several cursors have, with their scores and counts added up, and the positions of each in
 /// the order in which the cursors were given.
@@ -98,5 +99,9 @@ impl<S: DocSet> DocSet for Intersection<S> {
 impl<S: Scorer> Scorer for Intersection<S> {
     fn score(&mut self) -> Score {
         combine_at(&mut self.docsets, self.doc, SumCombiner::default()).score()
+    }
+
+    fn window(&mut self, target: DocId) -> Window {
+        joint_window(&mut self.docsets, target)
     }
 }

@@ -5,6 +5,7 @@ mod exclude;
 mod exclusion_list;
 mod exclusion_set;
 mod intersection;
+mod joint_windows;
 mod leapfrog;
 mod positioned;
 mod required_optional_scorer;

@@ -24,3 +24,4 @@ pub mod PrefixEntryLaws
 pub mod StandingLaws
 pub mod TailChanges
 pub mod UnionWalks
+pub mod WindowWalks

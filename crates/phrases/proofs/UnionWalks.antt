@@ -90,38 +90,6 @@ pub not_negative : (b : ℤ) → pos 0 ≤ℤ b → nat_abs b ≡ natural b
 not_negative (pos n) positive = refl
 not_negative (negsuc n) positive = absurd (omega (arith, ints, positive))
 
--- the score of a document is within a bound that covers it
-pub covered_score : (d target until n low : ℕ) (es : List Entry) → Rising low es → Covers target until n es → target ≤ d → d < until → sum (scores_in (entries_of d es)) ≤ n
-covered_score d target until n low [] rises covers late early = omega arith
-covered_score d target until n low (e ∷ es) rises covers late early =
-    by_order d e.doc (sum (scores_in (entries_of d (e ∷ es))) ≤ n)
-    (λ before. by_order e.doc d (sum (scores_in (entries_of d (e ∷ es))) ≤ n)
-    (λ after.
-    let same : e.doc ≡ d = omega (arith, before, after) in
-    let one = ap (λ xs. sum (scores_in xs)) (entries-on d (e ∷ es) (Rising-lower 0 low (e ∷ es) (omega arith) rises) same (omega (arith, same, rises.1))) in
-    let few = covers.0 (omega (arith, same, late)) (omega (arith, same, early)) in
-    omega (arith, one, few))
-    (λ before. (let none = ap (λ xs. sum (scores_in xs)) (entries-low d low (e ∷ es) rises before) in omega (arith, none))))
-    (λ after.
-    let ih = covered_score d target until n (e.doc + 1) es rises.3 covers.1 late early in
-    let kept = ap (λ xs. sum (scores_in xs)) (entries-kept d (e.doc + 1) (e ∷ es) (omega (arith, after))) in
-    let out = ap (λ xs. sum (scores_in (entries_of d xs))) (from-out (e.doc + 1) e es (omega arith) ∙ from-low (e.doc + 1) (e.doc + 1) es (omega arith) rises.3) in
-    omega (arith, ih, kept, out))
-
--- one list more
-pub sum_more : (d i : ℕ) (ess : List (List Entry)) → i < length ess → sum (scores_in (entries_at d (take (i + 1) ess))) ≡ sum (scores_in (entries_at d (take i ess))) + sum (scores_in (entries_of d (get_or ess i [])))
-sum_more d i [] within = absurd (omega (arith, within))
-sum_more d zero (es ∷ ess) within =
-    let both = sum-scores (entries_of d es) (entries_at d (take 0 ess)) in
-    omega (arith, both)
-sum_more d (suc i) (es ∷ ess) within =
-    let ih = sum_more d i ess (omega (arith, within)) in
-    let more = sum-scores (entries_of d es) (entries_at d (take (i + 1) ess)) in
-    let less = sum-scores (entries_of d es) (entries_at d (take i ess)) in
-    let next : suc i + 1 ≡ suc (i + 1) = omega arith in
-    let whole = ap (λ k. sum (scores_in (entries_at d (take k (es ∷ ess))))) next in
-    omega (arith, ih, more, less, whole)
-
 -- the first lists and the others
 pub sum_parts : (d n : ℕ) (ess : List (List Entry)) → sum (scores_in (entries_at d ess)) ≡ sum (scores_in (entries_at d (take n ess))) + sum (scores_in (entries_at d (drop n ess)))
 sum_parts d zero ess = omega arith

@@ -1,12 +1,14 @@
 //! Sinks of documents whose scores are above a threshold.
 
 ghost use Rattle.std.specs.Prelude.{[], ◌+◌, ◌∷◌, ◌≡◌, ◌≤ℤ◌, ◌≤◌, length, pos};
+ghost use Rattle.definitions.specs.Postings.{terminated};
 ghost use Rattle.definitions.specs.Scoring.{natural};
 ghost use Rattle.definitions.specs.Sinks.{fed};
+ghost use Rattle.docsets.specs.Entries.{first, from};
 ghost use Rattle.docsets.specs.ScoredEntries.{pairs_of};
 
 use common::{DocId, Score, TERMINATED};
-use docsets::{DocSet, Scorer};
+use docsets::{DocSet, Scorer, move_to};
 
 /// A sink of documents whose scores are above its threshold, which may rise as it takes them.
 pub trait Sink {
@@ -57,17 +59,47 @@ pub fn offer<K: Sink>(sink: &mut K, threshold: Score, doc: DocId, score: Score) 
 }
 
 /// Feeds each document of `scorer` with its score to `sink`, in order, if the score is above the sink's threshold by
-/// then.
+/// then. A window whose bound isn't above the threshold is left out.
 pub fn for_each_pruning_scorer<S: Scorer, K: Sink>(scorer: &mut S, threshold: Score, sink: &mut K)
     requires threshold { threshold ≡ K.limit (K.state sink.old) }
     requires room { length (S.entries scorer.old) ≤ K.room sink.old }
     ensures state { K.state sink.new ≡ fed K.limit K.taken (K.state sink.old) (pairs_of (S.entries scorer.old)) }
 {
     let mut threshold = threshold;
-    let mut doc = scorer.doc();
-    while doc != TERMINATED {
+    let mut target = scorer.doc();
+    while target < TERMINATED {
+        let window = scorer.window(target);
+        if window.bound > threshold {
+            threshold = feed_up_to(scorer, target, window.until, threshold, sink);
+        }
+        target = window.until;
+    }
+}
+
+/// Feeds the documents of `scorer` from `target` on and before `until`. Returns the next threshold.
+fn feed_up_to<S: Scorer, K: Sink>(
+    scorer: &mut S,
+    target: DocId,
+    until: DocId,
+    threshold: Score,
+    sink: &mut K,
+) -> Score
+    requires threshold { threshold ≡ K.limit (K.state sink.old) }
+    requires room { length (from target (S.entries scorer.old)) ≤ K.room sink.old }
+    requires small { target ≤ terminated }
+    requires within { until ≤ terminated }
+    ensures fed { fed K.limit K.taken (K.state sink.new) (pairs_of (S.entries scorer.new))
+        ≡ fed K.limit K.taken (K.state sink.old) (pairs_of (from target (S.entries scorer.old))) }
+    ensures next { result ≡ K.limit (K.state sink.new) }
+    ensures room { length (S.entries scorer.new) ≤ K.room sink.new }
+    ensures behind { until ≤ first (S.entries scorer.new) }
+{
+    let mut threshold = threshold;
+    let mut doc = move_to(scorer, target);
+    while doc < until {
         let score = scorer.score();
         threshold = offer(sink, threshold, doc, score);
         doc = scorer.advance();
     }
+    threshold
 }

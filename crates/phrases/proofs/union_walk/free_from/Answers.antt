@@ -3,7 +3,8 @@ use Rattle.std.proofs.Math.Seq.{map-set_same}
 use Rattle.std.proofs.lemmas.List.{get_or-map, length-map}
 use Rattle.docsets.proofs.MemberLaws.{sum-greatest}
 use Rattle.docsets.specs.Members.{entries_at, entries_of, scores_in}
-use Rattle.phrases.proofs.UnionWalks.{covered_score, low_same, sum_more, sum_parts}
+use Rattle.intersections.proofs.BoundLaws.{covered_score, sum_more}
+use Rattle.phrases.proofs.UnionWalks.{low_same, sum_parts}
 use Rattle.phrases.proofs.union_walk.free_from.Goals as goal
 
 pub loop-i-preserved : goal.loop-i-preserved
