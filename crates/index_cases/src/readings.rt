@@ -1,5 +1,6 @@
 //! Settings and terms that were read, as texts.
 
+use definitions::Fault;
 use index::Settings;
 use schema::{Schema, Term};
 use std::alloc::{AllocError, Global};
@@ -9,8 +10,8 @@ pub(crate) fn settings_text(
     alloc: Global,
     schema: &Schema,
     settings: &Settings,
-) -> Result<String, AllocError> {
-    settings.to_json_value(alloc, schema)?.to_string(alloc)
+) -> Result<String, Fault> {
+    Ok(settings.to_json_value(alloc, schema)?.to_string(alloc)?)
 }
 
 /// A term: the number of its field, its type, and the bytes of its value.

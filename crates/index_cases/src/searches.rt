@@ -73,11 +73,11 @@ impl Cases {
     fn settings(&self, text: &str) -> Result<String, Fault> {
         let index = self.standing()?;
         if text.is_empty() {
-            return Ok(settings_text(self.alloc, index.schema(), index.settings())?);
+            return settings_text(self.alloc, index.schema(), index.settings());
         }
         let json = json_in(self.alloc, text)?;
         let settings = Settings::from_json_value(self.alloc, index.schema(), &json)?;
-        Ok(settings_text(self.alloc, index.schema(), &settings)?)
+        settings_text(self.alloc, index.schema(), &settings)
     }
 
     /// The term in a text, read by the schema of the index.

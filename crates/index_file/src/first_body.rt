@@ -1,6 +1,7 @@
 //! First bodies: the schema and settings of an index.
 
-ghost use Rattle.std.specs.Prelude.{true, ◌++◌, ◌≡◌, IfOk, OnOk, Some, string_bytes};
+ghost use Rattle.std.specs.Prelude.{true, ◌++◌, ◌≡◌, IfErr, IfOk, OnOk, Some, string_bytes};
+ghost use Rattle.definitions.specs.declared.fault.Fault.TheVariants as faults;
 ghost use Rattle.layouts.specs.RecordBodies as definitions;
 ghost use Rattle.serde_json.specs.View.{view};
 ghost use Rattle.serde_json.specs.Written.{compact_text};
@@ -21,14 +22,16 @@ pub fn put_first_body(
     out: &mut Vec<u8>,
     schema: &Schema,
     settings: &Settings,
-) -> Result<(), AllocError>
+) -> Result<(), Fault>
     ensures put { OnOk result (out.new.items ≡ out.old.items ++ definitions.first_body schema.now settings.now) }
     ensures read_back { OnOk result (definitions.makes_index schema.now settings.now ≡ true
         → definitions.first_in (definitions.first_body schema.now settings.now) ≡ Some (schema.now, settings.now)) }
+    ensures err { IfErr result (λ fault. fault ≡ faults.OutOfMemory) }
 {
     let text = made_text(alloc, schema, settings)?;
     out.push(1)?;
-    out.extend_from_slice(text.as_bytes())
+    out.extend_from_slice(text.as_bytes())?;
+    Ok(())
 }
 
 /// Decodes the schema and settings from a first body; `None` if `body` isn't one.
@@ -47,11 +50,12 @@ pub fn read_first_body(alloc: Global, body: &[u8]) -> Result<Option<(Schema, Set
 
 /// Returns the compact JSON of a schema and settings.
 #[tactic(auto, using(crate::proofs::PlainData::made_float, crate::proofs::MadeTexts::text_back, crate::proofs::MadeTexts::string_utf8))]
-fn made_text(alloc: Global, schema: &Schema, settings: &Settings) -> Result<String, AllocError>
+fn made_text(alloc: Global, schema: &Schema, settings: &Settings) -> Result<String, Fault>
     ensures text { IfOk result (λ text. string_bytes text
         ≡ compact_text (definitions.made_data schema.now settings.now)) }
     ensures read_back { IfOk result (λ text. definitions.makes_index schema.now settings.now ≡ true
         → definitions.made_in_text (string_bytes text) ≡ Some (schema.now, settings.now)) }
+    ensures err { IfErr result (λ fault. fault ≡ faults.OutOfMemory) }
 {
     let json = made_to_json(alloc, schema, settings)?;
     let text = json.to_string(alloc)?;
@@ -59,14 +63,16 @@ fn made_text(alloc: Global, schema: &Schema, settings: &Settings) -> Result<Stri
 }
 
 /// Converts a schema and settings to a JSON object.
-fn made_to_json(alloc: Global, schema: &Schema, settings: &Settings) -> Result<Json, AllocError>
+fn made_to_json(alloc: Global, schema: &Schema, settings: &Settings) -> Result<Json, Fault>
     ensures value { IfOk result (λ json. view json ≡ definitions.made_data schema.now settings.now) }
     ensures read_back { IfOk result (λ json. definitions.makes_index schema.now settings.now ≡ true
         → definitions.made_in (view json) ≡ Some (schema.now, settings.now)) }
+    ensures err { IfErr result (λ fault. fault ≡ faults.OutOfMemory) }
 {
     let schema_json = schema.to_json_value(alloc)?;
     let settings_json = settings.to_json_value(alloc, schema)?;
-    json!(in alloc; {"schema": schema_json, "settings": settings_json})
+    let made = json!(in alloc; {"schema": schema_json, "settings": settings_json})?;
+    Ok(made)
 }
 
 /// Decodes the schema and settings from a JSON text.

@@ -8,7 +8,7 @@ use query::{AnyQuery, Query, QueryClone, check_query, read_query};
 use schema::Schema;
 use serde_json::Value;
 use settings::Settings;
-use std::alloc::{AllocError, Global};
+use std::alloc::Global;
 use terms::Term;
 
 /// Operations on queries.
@@ -23,7 +23,7 @@ pub(crate) struct QueryOperations {
 
 impl QueryOperations {
     /// The operations, about a schema with no field and the settings where none are given.
-    pub(crate) fn new(alloc: Global) -> Result<QueryOperations, AllocError> {
+    pub(crate) fn new(alloc: Global) -> Result<QueryOperations, Refusal> {
         Ok(QueryOperations {
             alloc,
             schema: Schema::builder(alloc).build(),

@@ -46,12 +46,13 @@ impl Settings {
 
     /// Writes the settings as a JSON object with every key. They can be read back if each weighted term can be.
     #[tactic(auto, using(definitions::proofs::SettingsReadBack::settings_back))]
-    pub fn to_json_value(&self, alloc: Global, schema: &Schema) -> Result<Json, AllocError>
+    pub fn to_json_value(&self, alloc: Global, schema: &Schema) -> Result<Json, Fault>
         ensures value { IfOk result (λ json. view json ≡ definitions.settings_data schema.now self.now) }
         ensures read_back { IfOk result (λ json. definitions.weighs_named schema.now self.now ≡ true
             → definitions.settings_in schema.now (view json) ≡ Some self.now) }
+        ensures err { IfErr result (λ fault. fault ≡ faults.OutOfMemory) }
     {
-        self.keys_to_json(alloc, schema)
+        Ok(self.keys_to_json(alloc, schema)?)
     }
 
     /// Whether each weighted term can be read back from its JSON.

@@ -9,7 +9,7 @@ ghost use Rattle.definitions.specs.declared.fault.Fault.TheVariants as faults;
 ghost use Rattle.settings.specs.Weights.{WeighsTerms, get_by_bytes, settings_of};
 
 use definitions::Fault;
-use std::alloc::{AllocError, Global};
+use std::alloc::Global;
 use std::collections::HashMap;
 use std::marker::Model;
 use terms::Term;
@@ -83,8 +83,9 @@ impl Settings {
     }
 
     /// Makes the default settings: no term has a weight of its own, and every norm is 1.
-    pub fn default(alloc: Global) -> Result<Settings, AllocError>
-        ensures { IfOk result (λ settings. settings ≡ definitions.default_settings) }
+    pub fn default(alloc: Global) -> Result<Settings, Fault>
+        ensures ok { IfOk result (λ settings. settings ≡ definitions.default_settings) }
+        ensures err { IfErr result (λ fault. fault ≡ faults.OutOfMemory) }
     {
         Ok(Settings {
             docs_per_segment: 65536,

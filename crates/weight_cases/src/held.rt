@@ -1,8 +1,9 @@
 //! What later lines are about.
 
+use definitions::Fault;
 use schema::Schema;
 use settings::Settings;
-use std::alloc::{AllocError, Global};
+use std::alloc::Global;
 
 /// The schema and the settings that were given last, and the segment that was written last.
 #[derive(Drop)]
@@ -18,7 +19,7 @@ pub(crate) struct Held {
 
 impl Held {
     /// No field, the settings where none are given, and no segment.
-    pub(crate) fn empty(alloc: Global) -> Result<Held, AllocError> {
+    pub(crate) fn empty(alloc: Global) -> Result<Held, Fault> {
         Ok(Held {
             alloc,
             schema: Schema::builder(alloc).build(),
