@@ -125,7 +125,7 @@ fn storing(
     let mut store = StoreWriter::new(alloc, BLOCK_SIZE);
     let begun = now(rt)?;
     for doc in docs {
-        store.store(alloc, doc, schema)?;
+        store.store(doc, schema)?;
     }
     nanos_since(rt, begun)
 }

@@ -36,7 +36,7 @@ fn checkpoints(alloc: Global, arguments: &Arguments) -> Result<Value, Refusal> {
         builder.insert(checkpoint(four[0], four[1], four[2], four[3]))?;
     }
     let mut bytes = Vec::new(alloc);
-    builder.serialize_into(alloc, &mut bytes)?;
+    builder.serialize_into(&mut bytes)?;
     Ok(hex(alloc, &bytes)?)
 }
 

@@ -62,7 +62,7 @@ fn writer_of(
 /// The file of a given number of slots, numbered from 0 on.
 fn file_of(alloc: Global, count: u32, block_size: u64) -> Result<Vec<u8>, Refusal> {
     let writer = writer_of(alloc, 0, count, block_size)?;
-    Ok(writer.close(alloc)?)
+    Ok(writer.close()?)
 }
 
 /// Whether the bytes are those of the slot with a number.
@@ -339,7 +339,7 @@ fn stacked_counts(alloc: Global, block_size: u64) -> Result<(u32, [u32; 3]), Ref
     let mut writer = writer_of(alloc, 0, 10, block_size)?;
     let docs = stack_others(alloc, &mut writer)?;
     let num_docs = writer.num_docs();
-    let file = writer.close(alloc)?;
+    let file = writer.close()?;
     Ok((num_docs, counts_of(alloc, &file, docs)?))
 }
 
@@ -367,7 +367,7 @@ fn stack_other(
     count: u32,
     block_size: u64,
 ) -> Result<(), Refusal> {
-    let other = writer_of(alloc, first, count, block_size)?.close(alloc)?;
+    let other = writer_of(alloc, first, count, block_size)?.close()?;
     stack_file(alloc, writer, &other)?;
     add(alloc, writer, first.wrapping_add(count), 3)
 }

@@ -54,7 +54,7 @@ fn of_slots(alloc: Global, arguments: &Arguments) -> Result<Vec<u8>, Refusal> {
         let (bytes, times) = slot(alloc, value)?;
         add_times(&mut writer, &bytes, times)?;
     }
-    Ok(writer.close(alloc)?)
+    Ok(writer.close()?)
 }
 
 /// Adds a slot a given number of times.
@@ -73,9 +73,9 @@ fn of_documents(alloc: Global, schema: &Schema, arguments: &Arguments) -> Result
         if !doc.indexable(schema) {
             return Err(Refusal::Fault(Fault::NotIndexable));
         }
-        writer.store(alloc, &doc, schema)?;
+        writer.store(&doc, schema)?;
     }
-    Ok(writer.close(alloc)?)
+    Ok(writer.close()?)
 }
 
 /// A reader of a store that keeps a given number of blocks.
@@ -101,7 +101,7 @@ fn all_values(alloc: Global, reader: &mut StoreReader) -> Result<Value, Refusal>
 
 /// The values of the document with a number.
 fn values_of(alloc: Global, reader: &mut StoreReader, doc: u32) -> Result<Value, Refusal> {
-    let doc = reader.get(alloc, doc)?;
+    let doc = reader.get(doc)?;
     Ok(values(alloc, &doc)?)
 }
 

@@ -38,5 +38,5 @@ pub fn merge_stores(
         append_living(member.store, member.alive, &mut writer)?;
     }
     let _docs = writer.num_docs();
-    Ok(writer.close(alloc)?)
+    Ok(writer.close()?)
 }

@@ -73,7 +73,7 @@ impl SegmentWriter {
         if self.store.num_docs() >= TERMINATED {
             return Err(Fault::Limit);
         }
-        self.store.store(self.alloc, doc, schema)?;
+        self.store.store(doc, schema)?;
         self.indexer.add(schema, analyzer, doc)?;
         Ok(())
     }
@@ -129,7 +129,7 @@ impl SegmentWriter {
             postings,
             positions,
             norms,
-            store: store.close(alloc)?,
+            store: store.close()?,
         };
         Ok(sections.put_behind(prefix, num_docs)?)
     }

@@ -17,13 +17,12 @@ use crate::store_writer::StoreWriter;
 use definitions::Fault;
 use document::CompactDoc;
 use schema::Schema;
-use std::alloc::Global;
 use std::mem;
 
 impl StoreWriter {
     /// Adds the pairs of stored fields of `doc`, of which no value may nest more than 128 deep. Their slot reads back as
     /// the document of these pairs. A refused call changes nothing.
-    pub fn store(&mut self, alloc: Global, doc: &CompactDoc, schema: &Schema) -> Result<(), Fault>
+    pub fn store(&mut self, doc: &CompactDoc, schema: &Schema) -> Result<(), Fault>
         requires nests { IsShallow doc.now }
         ensures ok { OnOk result (self.new ≡ stored self.old (document_bytes (stored_pairs schema.now doc.now))) }
         ensures within { OnOk result (passes_limit self.old (length (document_bytes (stored_pairs schema.now doc.now)))
@@ -35,6 +34,7 @@ impl StoreWriter {
         ensures read_back { read_document (document_bytes (stored_pairs schema.now doc.now))
             ≡ Some (stored_pairs schema.now doc.now) }
     {
+        let alloc = *self.slot.allocator();
         let mut bytes = mem::replace(&mut self.slot, Vec::new(alloc));
         bytes.clear();
         doc.serialize_into(&mut bytes, schema)?;
@@ -47,7 +47,7 @@ impl StoreWriter {
 impl StoreReader {
     /// Returns the document with the id `doc`. An id past the end is `InvalidArgument`; a damaged block, and a slot
     /// that is no document, are `Damaged`.
-    pub fn get(&mut self, alloc: Global, doc: u32) -> Result<CompactDoc, Fault>
+    pub fn get(&mut self, doc: u32) -> Result<CompactDoc, Fault>
         ensures ok { IfOk result (λ read. HasDocument self.old.blocks doc read) }
         ensures err { IfErr result (λ fault. IsGetFault self.old.blocks doc fault) }
         ensures slot { (slots : List (List ℕ)) → Hold self.old.blocks slots
@@ -63,6 +63,6 @@ impl StoreReader {
         ensures past { count_of self.old.blocks ≤ doc → self.new ≡ self.old }
     {
         let bytes = self.get_document_bytes(doc)?;
-        CompactDoc::deserialize(alloc, bytes.as_slice())
+        CompactDoc::deserialize(self.alloc, bytes.as_slice())
     }
 }

@@ -132,9 +132,10 @@ impl SkipIndexBuilder {
     }
 
     /// Appends the skip index over the checkpoints to `out`.
-    pub fn serialize_into(&self, alloc: Global, out: &mut Vec<u8>) -> Result<(), AllocError>
+    pub fn serialize_into(&self, out: &mut Vec<u8>) -> Result<(), AllocError>
         ensures { OnOk result (out.new.items ≡ out.old.items ++ skip_index_bytes self.now) }
     {
+        let alloc = *self.checkpoints.allocator();
         put_skip_index(alloc, out, &self.checkpoints)
     }
 }

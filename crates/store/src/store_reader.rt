@@ -27,6 +27,7 @@ use std::marker::Model;
 /// reached; the last of them are kept.
 #[derive(Drop)]
 pub struct StoreReader {
+    pub(crate) alloc: Global,
     whole: Bytes,
     index: SkipIndex,
     cache: BlockCache,
@@ -95,6 +96,7 @@ impl StoreReader {
         let mut whole = file;
         whole.truncate(at);
         Ok(StoreReader {
+            alloc,
             whole,
             index,
             cache,

@@ -101,13 +101,14 @@ impl StoreWriter {
     }
 
     /// Returns the bytes of the store. The pending documents become its last block.
-    pub fn close(self, alloc: Global) -> Result<Vec<u8>, AllocError>
+    pub fn close(self) -> Result<Vec<u8>, AllocError>
         ensures { IfOk result (λ bytes. bytes.items ≡ store_bytes (blocks_of self)) }
     {
         let mut parts = self.parts;
         if parts.starts.len() > 0 {
             parts.close_block()?;
         }
+        let alloc = *parts.out.allocator();
         put_skip_index(alloc, &mut parts.out, &parts.checkpoints)?;
         DocStoreFooter::new(parts.first_byte as u64).serialize(&mut parts.out)?;
         Ok(parts.out)
