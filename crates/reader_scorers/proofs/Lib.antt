@@ -2,3 +2,4 @@
 pub mod FormScores
 pub mod SamePairs
 pub mod TermEntries
+pub mod UnionScores

@@ -1,18 +1,21 @@
 //! The walk of the documents that match clauses, into a sink.
 
-ghost use Rattle.std.specs.Prelude.{◌≡◌, ◌≤◌, OnErr, OnOk};
+ghost use Rattle.std.specs.Prelude.{[], ◌≡◌, ◌≤◌, OnErr, OnOk, true};
 ghost use Rattle.definitions.specs.Query as definitions;
 ghost use Rattle.query_trees.specs.Queries.{clauses_of};
 ghost use Rattle.reader_scorers.specs.Fed.{IsFedBy};
 ghost use Rattle.reader_scorers.specs.Scored.{segment_scored, weights_of};
+ghost use Rattle.reader_scorers.specs.Terms.{AreTerms};
 ghost use Rattle.segment_reader.specs.SegmentReaders.{max_doc_of};
 ghost use Rattle.tree_scorers.specs.Accepted.{IsAccepted};
 
+use crate::any_query_scorer::AnyScorer;
 use crate::leaf_weights::LeafWeights;
 use crate::reader_scorers::ReaderScorers;
-use crate::scorer_walks::feed_any;
+use crate::scorer_walks::feed_by_kind;
 use crate::terms_alone::{are_terms, into_terms};
 use common::Score;
+use docsets::Scorer;
 use phrases::{Sink, block_wand};
 use query_trees::{AnyQuery, Occur};
 use std::alloc::{AllocError, Global};
@@ -41,13 +44,28 @@ pub fn feed_clauses<'a, W: LeafWeights<'a>, K: Sink>(
     let musts = scorers_asked(alloc, forms, clauses, Occur::Must, 1)?;
     let shoulds = scorers_asked(alloc, forms, clauses, Occur::Should, 1)?;
     let must_nots = scorers_asked(alloc, forms, clauses, Occur::MustNot, 1)?;
-    let alone = musts.is_empty() && must_nots.is_empty() && minimum <= 1;
-    if alone && are_terms(&shoulds) {
+    if is_union_of_terms(&musts, &shoulds, &must_nots, minimum) {
         let terms = into_terms(alloc, shoulds)?;
         block_wand(terms, threshold, sink);
         return Ok(());
     }
     let scorer = forms.clauses_scorer(alloc, musts, shoulds, must_nots, minimum)?;
-    feed_any(scorer, threshold, sink);
+    feed_by_kind::<ReaderScorers<'_, 'a, W>, K>(scorer, forms.max_doc(), threshold, sink);
     Ok(())
+}
+
+/// Whether the clauses with these scorers ask for one of their `Should` ones alone, and each of these is a term.
+fn is_union_of_terms<A: Scorer, T: Scorer, P: Scorer, X: Scorer>(
+    musts: &Vec<AnyScorer<A, T, P, X>>,
+    shoulds: &Vec<AnyScorer<A, T, P, X>>,
+    must_nots: &Vec<AnyScorer<A, T, P, X>>,
+    minimum: usize,
+) -> bool
+    ensures musts { result ≡ true → musts.now.items ≡ [] }
+    ensures must_nots { result ≡ true → must_nots.now.items ≡ [] }
+    ensures minimum { result ≡ true → minimum ≤ 1 }
+    ensures terms { result ≡ true → AreTerms shoulds.now.items }
+{
+    let alone = musts.is_empty() && must_nots.is_empty() && minimum <= 1;
+    alone && are_terms(shoulds)
 }

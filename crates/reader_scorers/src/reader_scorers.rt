@@ -12,7 +12,7 @@ use crate::forms::{of_all, of_list, of_none, of_phrase, of_phrase_prefix, of_ter
 use crate::leaf_weights::LeafWeights;
 use crate::scorer_walks::feed_any;
 use crate::terms_alone::{are_terms, into_terms};
-use common::Score;
+use common::{DocId, Score};
 use docsets::{AllScorer, BoostScorer, DocSet};
 use node_scorers::{all_scorer, best_scorer, clauses_scorer};
 use phrases::Sink;
@@ -37,7 +37,9 @@ pub struct ReaderScorers<'r, 'a, W: LeafWeights<'a>> {
 }
 
 impl<'r, 'a, W: LeafWeights<'a>> ReaderScorers<'r, 'a, W> {
+    ghost use Rattle.definitions.specs.Postings.{terminated};
     ghost use Rattle.reader_scorers.specs.Scored.{segment_scored, weights_of};
+    ghost use Rattle.segment_reader.specs.SegmentReaders.{max_doc_of};
 
     /// Returns the maker of the scorers in `reader`, by `weights`.
     pub fn new(reader: &'r SegmentReader<'a>, weights: &'r W) -> ReaderScorers<'r, 'a, W>
@@ -45,6 +47,14 @@ impl<'r, 'a, W: LeafWeights<'a>> ReaderScorers<'r, 'a, W> {
         ensures weights { weights_of result ≡ weights.now }
     {
         ReaderScorers { reader, weights }
+    }
+
+    /// Returns the number of documents of the segment, dead or alive.
+    pub(crate) fn max_doc(&self) -> DocId
+        ensures value { result ≡ max_doc_of (segment_scored self.now) }
+        ensures few { result ≤ terminated }
+    {
+        self.reader.max_doc()
     }
 }
 

@@ -1,0 +1,61 @@
+-- What the union of the scorers of clauses answers, where nothing else is asked.
+use Rattle.std.proofs.Common.{[], List, ap, arith, length, map, max, refl, subst, sym, ◌+◌, ◌<◌, ◌∙◌, ◌≡◌, ◌≤◌, ℕ, ℤ}
+use Rattle.any_scorer.proofs.ByClauses.{only_shoulds}
+use Rattle.any_scorer.proofs.ByScores.{joined}
+use Rattle.any_scorer.specs.Clauses.{by_clauses, by_number, scores_of}
+use Rattle.definitions.specs.Postings.{terminated}
+use Rattle.definitions.specs.Query.{Clauses, Query, boolean, must, must_not, should}
+use Rattle.definitions.specs.Scoring.{Similarity, max_score}
+use Rattle.definitions.specs.Sinks as sinks
+use Rattle.docsets.proofs.AtLeastLaws.{greatest-joined}
+use Rattle.docsets.proofs.MemberLaws.{Rising-listed, sum-greatest}
+use Rattle.docsets.specs.Entries.{Entry, Rising, from}
+use Rattle.docsets.specs.Members.{enough, entries_at, greatest_sum, joining}
+use Rattle.docsets.specs.ScoredEntries.{pairs_of}
+use Rattle.node_scorers.proofs.Combined.{clauses_score}
+use Rattle.node_scorers.specs.Asked.{asked}
+use Rattle.node_scorers.specs.Scores.{AllScore, Scores}
+use Rattle.phrases.proofs.FedBelow.{few_within}
+use Rattle.phrases.specs.Unions.{union}
+use Rattle.reader_scorers.specs.Fed.{IsFedBy}
+use Rattle.segment_reader.specs.SegmentReaders.{max_doc_of}
+use Rattle.segment_reader.specs.declared.segment_reader.SegmentReader.{SegmentReader}
+use Rattle.tree_scorers.proofs.AcceptedParts.{clauses_fit}
+use Rattle.tree_scorers.specs.Accepted.{IsAccepted}
+
+-- no element
+pub none_mapped : {X Y : Type 0} (f : X → Y) (xs : List X) → xs ≡ [] → map f xs ≡ []
+none_mapped f xs none = ap (map f) none
+
+pub as_great : (ess fss : List (List Entry)) → ess ≡ fss → greatest_sum ess ≤ greatest_sum fss
+as_great ess fss same = let sums = ap greatest_sum same in omega (arith, sums)
+
+-- no document is behind the last
+pub within_same : (n m : ℕ) (es : List Entry) → n ≡ m → from m es ≡ [] → from n es ≡ []
+within_same n m es same within = ap (λ k. from k es) same ∙ within
+
+module _ {X : Type 0} (entries : X → List Entry) (rising : (x : X) → Rising 0 (entries x)) where
+  -- the documents of a union ascend, if the scores fit together
+  union_rises : (xs : List X) → greatest_sum (map entries xs) ≤ max_score → Rising 0 (union (map entries xs))
+  union_rises xs fits = Rising-listed (enough 1 (map entries xs)) (λ d. joining d (entries_at d (map entries xs))) 0 (λ d l t is. (let most = sum-greatest entries rising d xs in omega (arith, most, fits)))
+
+  module _ (sim : Similarity) (b : ℕ) (r : SegmentReader) (cs : Clauses) (minimum : ℕ) (xs : List X) (musts shoulds : List (List Entry)) (accepted : IsAccepted sim.weight b (boolean cs minimum)) (all_musts : AllScore sim b r (asked must cs) musts) (all_shoulds : AllScore sim b r (asked should cs) shoulds) (fewer : greatest_sum (map entries xs) ≤ greatest_sum shoulds) where
+    -- scorers that score no more than what clauses should have fit together
+    pub union_fits : greatest_sum (map entries xs) ≤ max_score
+    union_fits = let most = clauses_fit sim b r cs minimum musts shoulds accepted all_musts all_shoulds in omega (arith, most, fewer)
+
+    -- where their union is that of what clauses should have, and these ask nothing else, it is what the clauses answer
+    pub union_scores : (must_nots : List (List Entry)) → AllScore sim b r (asked must_not cs) must_nots → max_doc_of r ≤ terminated → minimum ≤ 1 → musts ≡ [] → must_nots ≡ [] → union (map entries xs) ≡ union shoulds → Rising 0 (union (map entries xs)) × Scores sim b (boolean cs minimum) r (union (map entries xs)) × (length (union (map entries xs)) ≤ max_doc_of r)
+    union_scores must_nots all_nots few least none no_nots same =
+        let list = union (map entries xs) in
+        let rises = union_rises xs union_fits in
+        let one : 1 ≡ max 1 minimum = omega (arith, least) in
+        let are : (d : ℕ) → d < terminated → scores_of d list ≡ by_clauses minimum [] shoulds [] d = λ d l. joined 1 list list shoulds refl same d l ∙ (ap (λ m. by_number m shoulds d) one ∙ only_shoulds minimum d shoulds) in
+        let most = greatest-joined entries rising 1 xs in
+        let scores = clauses_score sim b r few cs minimum [] shoulds [] list (subst (AllScore sim b r (asked must cs)) none all_musts) all_shoulds (subst (AllScore sim b r (asked must_not cs)) no_nots all_nots) are (omega (arith, most, fewer)) rises in
+        let many = few_within 0 (max_doc_of r) list rises scores.within in
+        (rises, scores, omega (arith, many))
+
+-- a sink that was fed entries that a query answers
+pub is_fed : {S : Type 0} (limit : S → ℤ) (taken : S → ℕ × ℕ → S) (before : S) (sim : Similarity) (b : ℕ) (q : Query) (r : SegmentReader) (after : S) (es : List Entry) → Rising 0 es → Scores sim b q r es → after ≡ sinks.fed limit taken before (pairs_of es) → IsFedBy limit taken before sim b q r after
+is_fed limit taken before sim b q r after es rises scores is = record { entries = es; scores = scores; rises = rises; fed = is }

@@ -1,0 +1,60 @@
+use Rattle.std.proofs.Common.{ap, arith, refl, ◌∙◌}
+use Rattle.definitions.specs.Query as definitions
+use Rattle.phrases.specs.Unions.{union}
+use Rattle.query_trees.specs.Queries.{clauses_of}
+use Rattle.reader_scorers.proofs.UnionScores.{as_great, is_fed, none_mapped, union_fits, union_scores, within_same}
+use Rattle.tree_scorers.proofs.AcceptedParts.{clauses_accepted, clauses_fit}
+use Rattle.reader_scorers.proofs.clause_walks.feed_clauses.Goals as goal
+
+pub scorers_asked-requires-clause-accepted : goal.scorers_asked-requires-clause-accepted
+scorers_asked-requires-clause-accepted g c = clauses_accepted (g.W.LeafWeights.similarity c.args.forms.now.weights.now).weight 1 _ _ c.requires.accepted
+
+pub scorers_asked-requires-2-clause-accepted : goal.scorers_asked-requires-2-clause-accepted
+scorers_asked-requires-2-clause-accepted g c = clauses_accepted (g.W.LeafWeights.similarity c.args.forms.now.weights.now).weight 1 _ _ c.requires.accepted
+
+pub scorers_asked-requires-3-clause-accepted : goal.scorers_asked-requires-3-clause-accepted
+scorers_asked-requires-3-clause-accepted g c = clauses_accepted (g.W.LeafWeights.similarity c.args.forms.now.weights.now).weight 1 _ _ c.requires.accepted
+
+pub block_wand-requires-clause-fits : goal.block_wand-requires-clause-fits
+block_wand-requires-clause-fits g c =
+    let sim = g.W.LeafWeights.similarity c.args.forms.now.weights.now in
+    let r = c.args.forms.now.reader.now in
+    union_fits g.W.Term.DocSet.entries g.met.W.Term.DocSet.rising sim 1 r (clauses_of c.args.clauses.now) c.args.minimum_number_should_match c.in_ok-terms.terms.items _ _ c.requires.accepted c.in_ok-musts.ensures c.in_ok-shoulds.ensures (as_great _ _ c.in_ok-terms.ensures)
+
+pub block_wand-requires-clause-room : goal.block_wand-requires-clause-room
+block_wand-requires-clause-room g c =
+    let sim = g.W.LeafWeights.similarity c.args.forms.now.weights.now in
+    let r = c.args.forms.now.reader.now in
+    let asks = c.is_union_of_terms.ensures in
+    let yes = c.if-is_union_of_terms.true in
+    let it = union_scores g.W.Term.DocSet.entries g.met.W.Term.DocSet.rising sim 1 r (clauses_of c.args.clauses.now) c.args.minimum_number_should_match c.in_ok-terms.terms.items _ _ c.requires.accepted c.in_ok-musts.ensures c.in_ok-shoulds.ensures (as_great _ _ c.in_ok-terms.ensures) _ c.in_ok-must_nots.ensures r.few (asks.minimum yes) (none_mapped _ _ (asks.musts yes)) (none_mapped _ _ (asks.must_nots yes)) (ap union c.in_ok-terms.ensures) in
+    let many = it.2 in
+    let room = c.requires.room in
+    omega (arith, many, room)
+
+pub returns-then-is_union_of_terms-clause-fed : goal.returns-then-is_union_of_terms-clause-fed
+returns-then-is_union_of_terms-clause-fed g c =
+    let sim = g.W.LeafWeights.similarity c.args.forms.now.weights.now in
+    let r = c.args.forms.now.reader.now in
+    let asks = c.is_union_of_terms.ensures in
+    let yes = c.if-is_union_of_terms.true in
+    let it = union_scores g.W.Term.DocSet.entries g.met.W.Term.DocSet.rising sim 1 r (clauses_of c.args.clauses.now) c.args.minimum_number_should_match c.in_ok-terms.terms.items _ _ c.requires.accepted c.in_ok-musts.ensures c.in_ok-shoulds.ensures (as_great _ _ c.in_ok-terms.ensures) _ c.in_ok-must_nots.ensures r.few (asks.minimum yes) (none_mapped _ _ (asks.musts yes)) (none_mapped _ _ (asks.must_nots yes)) (ap union c.in_ok-terms.ensures) in
+    is_fed g.K.Sink.limit g.K.Sink.taken _ sim 1 _ r _ _ it.0 it.1 c.block_wand.ensures
+
+pub clauses_scorer-requires : goal.clauses_scorer-requires
+clauses_scorer-requires g c κs =
+    let sim = g.W.LeafWeights.similarity c.args.forms.now.weights.now in
+    let r = c.args.forms.now.reader.now in
+    ((refl, (refl, tt)), clauses_fit sim 1 r (clauses_of c.args.clauses.now) c.args.minimum_number_should_match _ _ c.requires.accepted c.in_ok-musts.ensures c.in_ok-shoulds.ensures)
+
+pub feed_by_kind-requires-clause-within : goal.feed_by_kind-requires-clause-within
+feed_by_kind-requires-clause-within g c =
+    let scores = c.in_ok-scorer.ensures 1 (clauses_of c.args.clauses.now) c.in_ok-musts.ensures c.in_ok-shoulds.ensures c.in_ok-must_nots.ensures in
+    within_same _ _ _ c.max_doc.ensures.value scores.within
+
+pub returns-clause-fed : goal.returns-clause-fed
+returns-clause-fed g c =
+    let sim = g.W.LeafWeights.similarity c.args.forms.now.weights.now in
+    let r = c.args.forms.now.reader.now in
+    let scores = c.in_ok-scorer.ensures 1 (clauses_of c.args.clauses.now) c.in_ok-musts.ensures c.in_ok-shoulds.ensures c.in_ok-must_nots.ensures in
+    is_fed g.K.Sink.limit g.K.Sink.taken _ sim 1 _ r _ _ c.feed_by_kind.ensures.rises scores c.feed_by_kind.ensures.fed
