@@ -1,15 +1,21 @@
 -- Bounds of scores, and the scores of several lists.
-use Rattle.std.proofs.Common.{[], Bool, List, ap, arith, false, get_or, if◌then◌else◌, length, min, refl, suc, sum, take, true, zero, ◌+◌, ◌<◌, ◌∙◌, ◌∷◌, ◌≡◌, ◌≤◌, ℕ}
+use Rattle.std.proofs.Common.{[], Bool, List, ap, arith, false, get_or, if◌then◌else◌, length, min, nat_abs, negsuc, pos, refl, suc, sum, take, true, zero, ◌+◌, ◌<◌, ◌∙◌, ◌∷◌, ◌≡◌, ◌≤◌, ◌≤ℤ◌, ℕ, ℤ}
 use Rattle.std.specs.List.{AllByRecursion}
+use Rattle.std.proofs.lemmas.Int.{ints}
 use Rattle.definitions.proofs.Lists.{by_order}
 use Rattle.definitions.specs.Postings.{terminated}
-use Rattle.definitions.specs.Scoring.{max_score}
+use Rattle.definitions.specs.Scoring.{max_score, natural}
 use Rattle.docsets.proofs.EntryLaws.{from-low, from-out}
 use Rattle.docsets.proofs.MemberLaws.{entries-kept, entries-low, entries-on, sum-scores}
 use Rattle.docsets.specs.Bounds.{Covers}
 use Rattle.docsets.specs.Entries.{Entry, Rising}
 use Rattle.docsets.specs.EntryLaws.{Rising-lower}
 use Rattle.docsets.specs.Members.{at_document, entries_at, entries_of, listed, scores_in, walk}
+
+-- a number that isn't negative
+pub not_negative : (b : ℤ) → pos 0 ≤ℤ b → nat_abs b ≡ natural b
+not_negative (pos n) positive = refl
+not_negative (negsuc n) positive = absurd (omega (arith, ints, positive))
 
 -- the score of a document is within a bound that covers it
 pub covered_score : (d target until n low : ℕ) (es : List Entry) → Rising low es → Covers target until n es → target ≤ d → d < until → sum (scores_in (entries_of d es)) ≤ n
@@ -46,6 +52,7 @@ sum_more d (suc i) (es ∷ ess) within =
 -- ---- the documents that have a flag
 
 covers_walk : (flag : ℕ → Bool) (entry : ℕ → Entry) (target until bound : ℕ) → ((d : ℕ) → target ≤ d → d < until → min (entry d).score max_score ≤ bound) → (low n : ℕ) → AllByRecursion (λ e. target ≤ e.doc → e.doc < until → min e.score max_score ≤ bound) (walk flag entry low n)
+unfolding walk
 covers_walk flag entry target until bound few low zero = tt
 covers_walk flag entry target until bound few low (suc n) =
     let ih = covers_walk flag entry target until bound few (low + 1) n in
@@ -60,4 +67,5 @@ covers_fits target until bound low (e ∷ es) rises few =
 
 -- a bound of what the entries of each document make covers the documents that have a flag
 pub covers_listed : (flag : ℕ → Bool) (entry : ℕ → Entry) (target until bound : ℕ) → Rising 0 (listed flag entry 0) → ((d : ℕ) → target ≤ d → d < until → min (entry d).score max_score ≤ bound) → Covers target until bound (listed flag entry 0)
+unfolding listed
 covers_listed flag entry target until bound rises few = covers_fits target until bound 0 (listed flag entry 0) rises (covers_walk flag entry target until bound few 0 terminated)

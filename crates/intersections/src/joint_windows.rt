@@ -5,7 +5,7 @@ ghost use Rattle.definitions.specs.Postings.{terminated};
 ghost use Rattle.definitions.specs.Scoring.{max_score, natural};
 ghost use Rattle.docsets.specs.Members.{entries_at, scores_in};
 
-use common::{DocId, MAX_SCORE, TERMINATED};
+use common::{DocId, MAX_SCORE, Score, TERMINATED};
 use docsets::{DocSet, Scorer, Window};
 
 /// Returns a bound of the scores that `scorers` give a document together, from `target` on. They stay where they are.
@@ -18,28 +18,25 @@ pub(crate) fn joint_window<S: Scorer>(scorers: &mut Vec<S>, target: DocId) -> Wi
     ensures bound { (d : ℕ) → target ≤ d → d < result.until
         → min (sum (scores_in (entries_at d (map S.entries scorers.old.items)))) max_score ≤ natural result.bound }
 {
-    let mut joint = Window {
-        bound: 0,
-        until: TERMINATED,
-    };
+    let mut bound = 0;
+    let mut until = TERMINATED;
     for i in 0..scorers.len() {
         let window = scorers[i].window(target);
-        joint = beside(joint, window);
+        bound = with_bound(bound, window.bound);
+        until = until.min(window.until);
     }
-    joint
+    Window {
+        bound: bound as Score,
+        until,
+    }
 }
 
-/// Returns the window of two together: their bounds added up, as far as both reach.
+/// Returns `total` with `bound` added, at most `MAX_SCORE`.
 #[inline]
-fn beside(one: Window, other: Window) -> Window
-    requires few { natural one.bound ≤ max_score }
-    requires positive { (pos 0 ≤ℤ one.bound) × (pos 0 ≤ℤ other.bound) }
-    ensures bound { natural result.bound ≡ min (natural one.bound + natural other.bound) max_score }
-    ensures positive { pos 0 ≤ℤ result.bound }
-    ensures until { result.until ≡ min one.until other.until }
+fn with_bound(total: u64, bound: Score) -> u64
+    requires few { total ≤ max_score }
+    requires positive { pos 0 ≤ℤ bound }
+    ensures { result ≡ min (total + natural bound) max_score }
 {
-    Window {
-        bound: (one.bound + other.bound.min(MAX_SCORE)).min(MAX_SCORE),
-        until: one.until.min(other.until),
-    }
+    (total + (bound as u64).min(MAX_SCORE as u64)).min(MAX_SCORE as u64)
 }

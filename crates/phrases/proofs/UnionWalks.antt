@@ -86,10 +86,6 @@ least_terminated entries rising t (suc n) (x ∷ xs) = least_terminated entries 
 
 -- ---- sums over several lists
 
-pub not_negative : (b : ℤ) → pos 0 ≤ℤ b → nat_abs b ≡ natural b
-not_negative (pos n) positive = refl
-not_negative (negsuc n) positive = absurd (omega (arith, ints, positive))
-
 -- the first lists and the others
 pub sum_parts : (d n : ℕ) (ess : List (List Entry)) → sum (scores_in (entries_at d ess)) ≡ sum (scores_in (entries_at d (take n ess))) + sum (scores_in (entries_at d (drop n ess)))
 sum_parts d zero ess = omega arith

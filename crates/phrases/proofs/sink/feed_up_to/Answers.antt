@@ -70,7 +70,7 @@ loop-doc-preserved g c =
       limit = to_z-of_z fits ∙ c.offer-threshold.ensures.next;
       left = omega (arith, some, len, left, room);
       fed = ap (λ (xs : List Entry). fed limit taken next (pairs_of xs)) after
-        ∙ (ap (λ u. fed limit taken u (pairs_of (drop 1 es))) given
-        ∙ (first_fed limit taken s es on
-        ∙ c.loop-doc.invariant.fed));
+          ∙ (ap (λ u. fed limit taken u (pairs_of (drop 1 es))) given
+          ∙ (first_fed limit taken s es on
+          ∙ c.loop-doc.invariant.fed));
     }

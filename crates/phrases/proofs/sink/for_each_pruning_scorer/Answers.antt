@@ -42,9 +42,9 @@ loop-target-preserved-then-window-threshold g c =
       left = omega (arith, room, len);
       small = c.window-window.ensures.within;
       fed = ap (λ (xs : List Entry). fed limit taken next (pairs_of xs)) whole
-        ∙ (c.feed_up_to-threshold.ensures.fed
-        ∙ (ap (λ (xs : List Entry). fed limit taken s (pairs_of (from c.loop-target.target xs))) c.window-window.ensures.same
-        ∙ c.loop-target.invariant.fed));
+          ∙ (c.feed_up_to-threshold.ensures.fed
+          ∙ (ap (λ (xs : List Entry). fed limit taken s (pairs_of (from c.loop-target.target xs))) c.window-window.ensures.same
+          ∙ c.loop-target.invariant.fed));
     }
 
 pub loop-target-preserved : goal.loop-target-preserved
@@ -68,8 +68,8 @@ loop-target-preserved g c =
       left = omega (arith, left, fewer, cut, len);
       small = c.window-window.ensures.within;
       fed = ap (λ (xs : List Entry). fed limit taken s (pairs_of (from window.until xs))) same
-        ∙ (window_left_out limit taken s _ window.bound target window.until before c.loop-target.invariant.limit c.window-window.ensures.positive (not_less _ _ window.bound c.if-window-threshold.false (to_z-of_z fits)) far (g.met.S.DocSet.rising c.loop-target.scorer) c.window-window.ensures.covers
-        ∙ c.loop-target.invariant.fed);
+          ∙ (window_left_out limit taken s _ window.bound target window.until before c.loop-target.invariant.limit c.window-window.ensures.positive (not_less _ _ window.bound c.if-window-threshold.false (to_z-of_z fits)) far (g.met.S.DocSet.rising c.loop-target.scorer) c.window-window.ensures.covers
+          ∙ c.loop-target.invariant.fed);
     }
 
 pub returns : goal.returns

@@ -1,7 +1,8 @@
 use Rattle.std.proofs.Common.{ap, arith, nat_abs, rules, to_z-of_z, w64, ◌∙◌, ◌≡◌}
 use mir.Val.{SFits}
 use Rattle.definitions.specs.Scoring.{natural}
-use Rattle.phrases.proofs.UnionWalks.{covers_behind, covers_less, not_negative}
+use Rattle.intersections.proofs.BoundLaws.{not_negative}
+use Rattle.phrases.proofs.UnionWalks.{covers_behind, covers_less}
 use Rattle.phrases.proofs.union_walk.bound_before.Goals as goal
 
 pub returns-then-doc-until-clause-covers : goal.returns-then-doc-until-clause-covers
