@@ -1,4 +1,5 @@
 -- Lemmas behind the weights.
+pub mod FedLaws
 pub mod WeighedLaws
 pub mod LeafLaws
 pub mod UnscoredLaws
