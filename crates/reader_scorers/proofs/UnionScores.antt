@@ -1,6 +1,6 @@
--- What the union of the scorers of clauses answers, where nothing else is asked.
+-- What the union, or the meeting, of the scorers of clauses answers, where nothing else is asked.
 use Rattle.std.proofs.Common.{[], List, ap, arith, length, map, max, refl, subst, sym, ◌+◌, ◌<◌, ◌∙◌, ◌≡◌, ◌≤◌, ℕ, ℤ}
-use Rattle.any_scorer.proofs.ByClauses.{only_shoulds}
+use Rattle.any_scorer.proofs.ByClauses.{nothing_added, only_shoulds, with_shoulds}
 use Rattle.any_scorer.proofs.ByScores.{joined}
 use Rattle.any_scorer.specs.Clauses.{by_clauses, by_number, scores_of}
 use Rattle.definitions.specs.Postings.{terminated}
@@ -10,7 +10,8 @@ use Rattle.definitions.specs.Sinks as sinks
 use Rattle.docsets.proofs.AtLeastLaws.{greatest-joined}
 use Rattle.docsets.proofs.MemberLaws.{Rising-listed, sum-greatest}
 use Rattle.docsets.specs.Entries.{Entry, Rising, from}
-use Rattle.docsets.specs.Members.{enough, entries_at, greatest_sum, joining}
+use Rattle.docsets.specs.Members.{at_least, enough, entries_at, greatest_sum, joining}
+use Rattle.intersections.specs.Meetings.{meeting}
 use Rattle.docsets.specs.ScoredEntries.{pairs_of}
 use Rattle.node_scorers.proofs.Combined.{clauses_score}
 use Rattle.node_scorers.specs.Asked.{asked}
@@ -35,9 +36,9 @@ pub within_same : (n m : ℕ) (es : List Entry) → n ≡ m → from m es ≡ []
 within_same n m es same within = ap (λ k. from k es) same ∙ within
 
 module _ {X : Type 0} (entries : X → List Entry) (rising : (x : X) → Rising 0 (entries x)) where
-  -- the documents of a union ascend, if the scores fit together
-  union_rises : (xs : List X) → greatest_sum (map entries xs) ≤ max_score → Rising 0 (union (map entries xs))
-  union_rises xs fits = Rising-listed (enough 1 (map entries xs)) (λ d. joining d (entries_at d (map entries xs))) 0 (λ d l t is. (let most = sum-greatest entries rising d xs in omega (arith, most, fits)))
+  -- the documents that enough lists have ascend, if the scores fit together
+  joined_rises : (n : ℕ) (xs : List X) → greatest_sum (map entries xs) ≤ max_score → Rising 0 (at_least n joining (map entries xs))
+  joined_rises n xs fits = Rising-listed (enough n (map entries xs)) (λ d. joining d (entries_at d (map entries xs))) 0 (λ d l t is. (let most = sum-greatest entries rising d xs in omega (arith, most, fits)))
 
   module _ (sim : Similarity) (b : ℕ) (r : SegmentReader) (cs : Clauses) (minimum : ℕ) (xs : List X) (musts shoulds : List (List Entry)) (accepted : IsAccepted sim.weight b (boolean cs minimum)) (all_musts : AllScore sim b r (asked must cs) musts) (all_shoulds : AllScore sim b r (asked should cs) shoulds) (fewer : greatest_sum (map entries xs) ≤ greatest_sum shoulds) where
     -- scorers that score no more than what clauses should have fit together
@@ -48,11 +49,33 @@ module _ {X : Type 0} (entries : X → List Entry) (rising : (x : X) → Rising 
     pub union_scores : (must_nots : List (List Entry)) → AllScore sim b r (asked must_not cs) must_nots → max_doc_of r ≤ terminated → minimum ≤ 1 → musts ≡ [] → must_nots ≡ [] → union (map entries xs) ≡ union shoulds → Rising 0 (union (map entries xs)) × Scores sim b (boolean cs minimum) r (union (map entries xs)) × (length (union (map entries xs)) ≤ max_doc_of r)
     union_scores must_nots all_nots few least none no_nots same =
         let list = union (map entries xs) in
-        let rises = union_rises xs union_fits in
+        let rises = joined_rises 1 xs union_fits in
         let one : 1 ≡ max 1 minimum = omega (arith, least) in
         let are : (d : ℕ) → d < terminated → scores_of d list ≡ by_clauses minimum [] shoulds [] d = λ d l. joined 1 list list shoulds refl same d l ∙ (ap (λ m. by_number m shoulds d) one ∙ only_shoulds minimum d shoulds) in
         let most = greatest-joined entries rising 1 xs in
         let scores = clauses_score sim b r few cs minimum [] shoulds [] list (subst (AllScore sim b r (asked must cs)) none all_musts) all_shoulds (subst (AllScore sim b r (asked must_not cs)) no_nots all_nots) are (omega (arith, most, fewer)) rises in
+        let many = few_within 0 (max_doc_of r) list rises scores.within in
+        (rises, scores, omega (arith, many))
+
+  module _ (sim : Similarity) (b : ℕ) (r : SegmentReader) (cs : Clauses) (minimum : ℕ) (xs : List X) (musts shoulds : List (List Entry)) (accepted : IsAccepted sim.weight b (boolean cs minimum)) (all_musts : AllScore sim b r (asked must cs) musts) (all_shoulds : AllScore sim b r (asked should cs) shoulds) (same : map entries xs ≡ musts) where
+    -- scorers of what clauses must have fit together
+    pub meeting_fits : greatest_sum (map entries xs) ≤ max_score
+    meeting_fits =
+        let most = clauses_fit sim b r cs minimum musts shoulds accepted all_musts all_shoulds in
+        let sums = ap greatest_sum same in
+        omega (arith, most, sums)
+
+    -- where the clauses ask nothing else, the meeting of these is what they answer
+    pub meeting_scores : (must_nots : List (List Entry)) → AllScore sim b r (asked must_not cs) must_nots → max_doc_of r ≤ terminated → minimum ≡ 0 → 1 ≤ length musts → shoulds ≡ [] → must_nots ≡ [] → Rising 0 (meeting (map entries xs)) × Scores sim b (boolean cs minimum) r (meeting (map entries xs)) × (length (meeting (map entries xs)) ≤ max_doc_of r)
+    meeting_scores must_nots all_nots few least some none no_nots =
+        let list = meeting (map entries xs) in
+        let n : ℕ = length (map entries xs) in
+        let rises = joined_rises n xs meeting_fits in
+        let are : (d : ℕ) → d < terminated → scores_of d list ≡ by_clauses minimum musts [] [] d = λ d l. joined (length musts) list list musts refl (ap meeting same) d l
+          ∙ (nothing_added (by_number (length musts) musts d) ∙ (with_shoulds d musts [] some ∙ ap (λ m. by_clauses m musts [] [] d) (sym least))) in
+        let most = greatest-joined entries rising n xs in
+        let sums = ap greatest_sum same in
+        let scores = clauses_score sim b r few cs minimum musts [] [] list all_musts (subst (AllScore sim b r (asked should cs)) none all_shoulds) (subst (AllScore sim b r (asked must_not cs)) no_nots all_nots) are (omega (arith, most, sums)) rises in
         let many = few_within 0 (max_doc_of r) list rises scores.within in
         (rises, scores, omega (arith, many))
 

@@ -1,7 +1,12 @@
 //! The walk of the documents that match clauses, into a sink.
 
-ghost use Rattle.std.specs.Prelude.{[], ◌≡◌, ◌≤◌, OnErr, OnOk, true};
+ghost use Rattle.std.specs.Prelude.{[], ◌≡◌, ◌≤◌, OnErr, OnOk, length, map, true};
 ghost use Rattle.definitions.specs.Query as definitions;
+ghost use Rattle.definitions.specs.Scoring.{max_score};
+ghost use Rattle.definitions.specs.Sinks as sinks;
+ghost use Rattle.docsets.specs.Members.{greatest_sum};
+ghost use Rattle.docsets.specs.ScoredEntries.{pairs_of};
+ghost use Rattle.intersections.specs.Meetings.{meeting};
 ghost use Rattle.query_trees.specs.Queries.{clauses_of};
 ghost use Rattle.reader_scorers.specs.Fed.{IsFedBy};
 ghost use Rattle.reader_scorers.specs.Scored.{segment_scored, weights_of};
@@ -15,14 +20,16 @@ use crate::reader_scorers::ReaderScorers;
 use crate::scorer_walks::feed_by_kind;
 use crate::terms_alone::{are_terms, into_terms};
 use common::Score;
-use docsets::Scorer;
-use phrases::{Sink, block_wand};
+use docsets::{DocSet, Scorer};
+use intersections::Intersection;
+use phrases::{Sink, block_wand, for_each_pruning_scorer};
 use query_trees::{AnyQuery, Occur};
 use std::alloc::{AllocError, Global};
 use tree_scorers::{SegmentScorers, scorers_asked};
 
 /// Feeds each document of a segment that matches `clauses` with its score to `sink`, in order, if the score is above the
-/// sink's threshold by then; none if out of memory. A union of two or more terms is walked by `block_wand`.
+/// sink's threshold by then; none if out of memory. A union of terms is walked by `block_wand`, and an intersection of
+/// terms by windows, without a list of what they have.
 pub fn feed_clauses<'a, W: LeafWeights<'a>, K: Sink>(
     alloc: Global,
     forms: &ReaderScorers<'_, 'a, W>,
@@ -49,6 +56,11 @@ pub fn feed_clauses<'a, W: LeafWeights<'a>, K: Sink>(
         block_wand(terms, threshold, sink);
         return Ok(());
     }
+    if is_intersection_of_terms(&musts, &shoulds, &must_nots, minimum) {
+        let all = into_terms(alloc, musts)?;
+        feed_intersection(all, threshold, sink);
+        return Ok(());
+    }
     let scorer = forms.clauses_scorer(alloc, musts, shoulds, must_nots, minimum)?;
     feed_by_kind::<ReaderScorers<'_, 'a, W>, K>(scorer, forms.max_doc(), threshold, sink);
     Ok(())
@@ -68,4 +80,35 @@ fn is_union_of_terms<A: Scorer, T: Scorer, P: Scorer, X: Scorer>(
 {
     let alone = musts.is_empty() && must_nots.is_empty() && minimum <= 1;
     alone && are_terms(shoulds)
+}
+
+/// Whether the clauses with these scorers ask for two or more `Must` ones alone, and each of these is a term.
+fn is_intersection_of_terms<A: Scorer, T: Scorer, P: Scorer, X: Scorer>(
+    musts: &Vec<AnyScorer<A, T, P, X>>,
+    shoulds: &Vec<AnyScorer<A, T, P, X>>,
+    must_nots: &Vec<AnyScorer<A, T, P, X>>,
+    minimum: usize,
+) -> bool
+    ensures shoulds { result ≡ true → shoulds.now.items ≡ [] }
+    ensures must_nots { result ≡ true → must_nots.now.items ≡ [] }
+    ensures minimum { result ≡ true → minimum ≡ 0 }
+    ensures several { result ≡ true → 2 ≤ length musts.now.items }
+    ensures terms { result ≡ true → AreTerms musts.now.items }
+{
+    let alone = shoulds.is_empty() && must_nots.is_empty() && minimum == 0;
+    alone && musts.len() >= 2 && are_terms(musts)
+}
+
+/// Feeds each document that all of `scorers` have with the sum of its scores to `sink`, in order, if the sum is above the
+/// sink's threshold by then.
+fn feed_intersection<S: Scorer + Drop, K: Sink>(scorers: Vec<S>, threshold: Score, sink: &mut K)
+    requires several { 2 ≤ length scorers.items }
+    requires fits { greatest_sum (map S.entries scorers.items) ≤ max_score }
+    requires threshold { threshold ≡ K.limit (K.state sink.old) }
+    requires room { length (meeting (map S.entries scorers.items)) ≤ K.room sink.old }
+    ensures { K.state sink.new ≡ sinks.fed K.limit K.taken (K.state sink.old)
+        (pairs_of (meeting (map S.entries scorers.items))) }
+{
+    let mut intersection = Intersection::new(scorers);
+    for_each_pruning_scorer(&mut intersection, threshold, sink);
 }
