@@ -42,7 +42,7 @@ fn living(alloc: Global, schema: &Schema, member: Member) -> Result<Value, Refus
     let mut list = Vec::new(alloc);
     for doc in 0..segment.num_docs() {
         if (doc as usize) < alive.len() && alive.is_alive(doc) {
-            let doc = segment.document(alloc, schema, doc)?;
+            let doc = segment.document(schema, doc)?;
             list.push(doc.to_named_doc(alloc, schema)?.to_json_value(alloc)?)?;
         }
     }

@@ -22,7 +22,7 @@ pub(crate) fn check<W: Write>(alloc: Global, bytes: &Bytes, out: &mut W) -> Resu
         ..
     } = IndexFile::open(alloc, bytes.clone()?)?;
     for (number, member) in members.iter_mut().enumerate() {
-        if let Some(doc) = first_damaged(alloc, &schema, &mut member.segment)? {
+        if let Some(doc) = first_damaged(&schema, &mut member.segment)? {
             writeln!(out, "document {doc} of segment {number} can't be read")?;
             return Err(Failure::Damaged);
         }
@@ -32,16 +32,12 @@ pub(crate) fn check<W: Write>(alloc: Global, bytes: &Bytes, out: &mut W) -> Resu
 }
 
 /// Reads every document of a segment, dead or alive, and returns the first one that can't be read.
-fn first_damaged(
-    alloc: Global,
-    schema: &Schema,
-    segment: &mut Segment,
-) -> Result<Option<u32>, AllocError>
+fn first_damaged(schema: &Schema, segment: &mut Segment) -> Result<Option<u32>, AllocError>
     ensures { IfOk result (λ found. IfNone found ((doc : ℕ) → doc < num_docs_of segment.old
         → IsReadable schema.now segment.old doc)) }
 {
     for doc in 0..segment.num_docs() {
-        match segment.document(alloc, schema, doc) {
+        match segment.document(schema, doc) {
             Ok(_) => {}
             Err(Fault::OutOfMemory) => return Err(AllocError),
             Err(_) => return Ok(Some(doc)),

@@ -56,7 +56,7 @@ fn line_of(alloc: Global, schema: &Schema, segment: &mut Segment, doc: u32) -> R
         → IfOk result (λ line. option_map (λ d. add_line (stored_values schema.now d)) (slice_get docs doc)
         ≡ Some (string_bytes line)) }
 {
-    let stored = segment.document(alloc, schema, doc)?;
+    let stored = segment.document(schema, doc)?;
     let values = stored.to_json(alloc, schema)?;
     let mut line = String::from_str(alloc, "{\"op\":\"add\",\"doc\":")?;
     line.push_str(&values)?;

@@ -144,12 +144,7 @@ impl Segment {
     /// Reads the stored pairs of document `doc`, pre-tokenised texts as texts. A document id past the last is
     /// `InvalidArgument`; a damaged block, and a slot that isn't a document of the schema's fields, are `Damaged`. The
     /// store's cache keeps the block.
-    pub fn document(
-        &mut self,
-        alloc: Global,
-        schema: &Schema,
-        doc: DocId,
-    ) -> Result<CompactDoc, Fault>
+    pub fn document(&mut self, schema: &Schema, doc: DocId) -> Result<CompactDoc, Fault>
         ensures ok { IfOk result (λ read. HoldsDocument schema.now (blocks_of self.old) doc read) }
         ensures err { IfErr result (λ fault. IsDocumentFault schema.now (blocks_of self.old) doc fault) }
         ensures stored { (analyze : Analyzer) (docs : List Document)
@@ -169,7 +164,7 @@ impl Segment {
             × (index_of self.new ≡ index_of self.old) × (blocks_of self.new ≡ blocks_of self.old) }
     {
         let slot = self.store.get_document_bytes(doc)?;
-        read_slot(alloc, schema, slot.as_slice())
+        read_slot(*self.length_fields.allocator(), schema, slot.as_slice())
     }
 
     /// Returns the terms of the documents.

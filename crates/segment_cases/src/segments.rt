@@ -92,7 +92,7 @@ fn stored_values(
     segment: &mut Segment,
     doc: u32,
 ) -> Result<Value, Refusal> {
-    let doc = segment.document(alloc, schema, doc)?;
+    let doc = segment.document(schema, doc)?;
     Ok(doc.to_named_doc(alloc, schema)?.to_json_value(alloc)?)
 }
 

@@ -71,7 +71,7 @@ fn read_hit(
 {
     let (score, segment_ord, doc_id) = found;
     let segment = &mut segments[segment_ord as usize];
-    let doc = segment.document(alloc, schema, doc_id)?;
+    let doc = segment.document(schema, doc_id)?;
     Ok(Hit {
         score: score as Score,
         doc: doc.to_named_doc(alloc, schema)?,

@@ -15,6 +15,11 @@ returns-in_err-slot-clause-refused c analyze docs stands =
     let schema = c.args.schema.now in
     rw (p.1, p.2) (past_documents schema analyze docs c.args.self.now stands c.args.doc _ (c.in_err-slot.ensures.refused (slots schema docs) (stands_hold schema analyze docs c.args.self.now stands)))
 
+pub returns-clause-err : goal.returns-clause-err
+returns-clause-err c =
+    let has = subst (HasSlot c.args.self.now.store.blocks c.args.doc) (sym c.as_slice.ensures) c.in_ok-slot.ensures.ok in
+    IfErr-weaker c.read_slot.result _ _ (λ fault refused. elim refused [ inl memory ↦ inl memory | inr damaged ↦ inr (inr (damaged.0, (c.as_slice.result.now, has, damaged.1))) ]) c.read_slot.ensures.err
+
 pub returns-clause-stored : goal.returns-clause-stored
 returns-clause-stored c analyze docs stands =
     let s = c.args.self.now in
