@@ -122,14 +122,11 @@ impl PendingSegments {
     }
 
     /// Takes the writer of the open segment, or returns a new one.
-    fn open_writer(
-        &mut self,
-        schema: &Schema,
-        settings: &Settings,
-    ) -> Result<SegmentWriter, AllocError>
+    fn open_writer(&mut self, schema: &Schema, settings: &Settings) -> Result<SegmentWriter, Fault>
         ensures ok { (analyze : definitions.Analyzer) (full : List (List Document)) (last : List Document)
             → Holds schema.now analyze settings.now.block_size self.old full last
             → IfOk result (λ writer. HasWritten schema.now analyze settings.now.block_size writer last) }
+        ensures err { IfErr result (λ fault. fault ≡ faults.OutOfMemory) }
         ensures full { self.new.full.items ≡ self.old.full.items }
         ensures none { self.new.writer ≡ None }
     {

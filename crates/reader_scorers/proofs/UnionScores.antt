@@ -72,7 +72,7 @@ module _ {X : Type 0} (entries : X → List Entry) (rising : (x : X) → Rising 
         let n : ℕ = length (map entries xs) in
         let rises = joined_rises n xs meeting_fits in
         let are : (d : ℕ) → d < terminated → scores_of d list ≡ by_clauses minimum musts [] [] d = λ d l. joined (length musts) list list musts refl (ap meeting same) d l
-          ∙ (nothing_added (by_number (length musts) musts d) ∙ (with_shoulds d musts [] some ∙ ap (λ m. by_clauses m musts [] [] d) (sym least))) in
+        ∙ (nothing_added (by_number (length musts) musts d) ∙ (with_shoulds d musts [] some ∙ ap (λ m. by_clauses m musts [] [] d) (sym least))) in
         let most = greatest-joined entries rising n xs in
         let sums = ap greatest_sum same in
         let scores = clauses_score sim b r few cs minimum musts [] [] list all_musts (subst (AllScore sim b r (asked should cs)) none all_shoulds) (subst (AllScore sim b r (asked must_not cs)) no_nots all_nots) are (omega (arith, most, sums)) rises in

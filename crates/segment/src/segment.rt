@@ -117,10 +117,11 @@ impl Segment {
     }
 
     /// Returns the bytes of the segment, shared.
-    pub fn to_bytes(&self) -> Result<Bytes, AllocError>
-        ensures { IfOk result (λ bytes. bytes ≡ bytes_of self.now) }
+    pub fn to_bytes(&self) -> Result<Bytes, Fault>
+        ensures ok { IfOk result (λ bytes. bytes ≡ bytes_of self.now) }
+        ensures err { IfErr result (λ fault. fault ≡ faults.OutOfMemory) }
     {
-        self.bytes.clone()
+        Ok(self.bytes.clone()?)
     }
 
     /// Returns the number of documents, dead or alive.

@@ -6,6 +6,7 @@ ghost use Rattle.definitions.specs.KeptLengths.{norms_of};
 ghost use Rattle.definitions.specs.Postings.{postings};
 ghost use Rattle.definitions.specs.Schema as schemas;
 ghost use Rattle.definitions.specs.Values.{Document};
+ghost use Rattle.definitions.specs.declared.fault.Fault.TheVariants as faults;
 ghost use Rattle.postings_writer.specs.Limits.{IsSerializeRefusal};
 ghost use Rattle.segment_definitions.specs.Segments.{IsSegmentOf, IsTaken};
 ghost use Rattle.segment.specs.Writers.{HasWritten, IsAddRefusal, IsWithin, PassesStore};
@@ -16,7 +17,7 @@ use definitions::Fault;
 use document::CompactDoc;
 use document_indexer::DocumentIndexer;
 use schema::Schema;
-use std::alloc::{AllocError, Global};
+use std::alloc::Global;
 use store::StoreWriter;
 
 /// A segment while it is written: the documents' terms and lengths, and the slots of their stored values. Each call
@@ -31,13 +32,10 @@ pub struct SegmentWriter {
 impl SegmentWriter {
     /// Returns a writer without documents. A block of the store is closed when its documents' bytes exceed
     /// `block_size`.
-    pub fn new(
-        alloc: Global,
-        schema: &Schema,
-        block_size: usize,
-    ) -> Result<SegmentWriter, AllocError>
-        ensures { (analyze : definitions.Analyzer)
+    pub fn new(alloc: Global, schema: &Schema, block_size: usize) -> Result<SegmentWriter, Fault>
+        ensures ok { (analyze : definitions.Analyzer)
             → IfOk result (λ writer. HasWritten schema.now analyze block_size writer []) }
+        ensures err { IfErr result (λ fault. fault ≡ faults.OutOfMemory) }
     {
         Ok(SegmentWriter {
             alloc,

@@ -16,8 +16,8 @@ from_place k segments =
     let long = length-drop k segments in
     ap (map bytes_of) (take_all (length segments - k) (drop k segments) (omega (arith, long))) ∙ drop-bytes k segments
 
-pub returns : goal.returns
-returns c =
+pub returns-clause-ok : goal.returns-clause-ok
+returns-clause-ok c =
     let k = c.args.num_committed in
     let segments = c.args.segments.now in
     let bytes = map bytes_of segments in
@@ -25,7 +25,7 @@ returns c =
     let put = c.put_fresh.new.body in
     let all_kept : k - 0 ≡ k = omega arith in
     let kept_put : c.put_kept.new.body ≡ begun ++ flat_map part_bytes (kept_from 0 k) = c.in_ok-put_kept.ensures ∙ ap (λ n. begun ++ flat_map part_bytes (kept_from 0 n)) all_kept in
-    let fresh_put : put ≡ c.put_kept.new.body ++ flat_map part_bytes (map fresh (drop k bytes)) = c.in_ok-put_fresh.ensures ∙ ap (λ bs. c.put_kept.new.body ++ flat_map part_bytes (map fresh bs)) (from_place k segments) in
+    let fresh_put : put ≡ c.put_kept.new.body ++ flat_map part_bytes (map fresh (drop k bytes)) = c.in_ok-put_fresh.ensures.ok ∙ ap (λ bs. c.put_kept.new.body ++ flat_map part_bytes (map fresh bs)) (from_place k segments) in
     let all = parts_more begun c.put_kept.new.body put (kept_from 0 k) (map fresh (drop k bytes)) kept_put fresh_put in
     let whole = is_written (next_parts k bytes) c.args.alive.now begun put (length segments) c.in_ok-body.ensures (sym (length-parts segments k c.requires.within)) all in
     IfOk-weaker c.framed.result _ _ (λ frame is. is ∙ ap frame_bytes whole) c.framed.ensures

@@ -2,8 +2,8 @@ use Rattle.std.proofs.Common.{[], ap, arith, refl, subst, sym}
 use Rattle.store.specs.Writing.{HoldsSlots, Written}
 use Rattle.segment.proofs.segment_writer.SegmentWriter.new.Goals as goal
 
-pub returns : goal.returns
-returns c analyze =
+pub returns-clause-ok : goal.returns-clause-ok
+returns-clause-ok c analyze =
     record {
       taken = tt;
       texts = λ some. absurd (omega (arith, some));
