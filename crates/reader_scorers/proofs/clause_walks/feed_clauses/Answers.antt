@@ -47,15 +47,15 @@ feed_intersection-requires-clause-several g c =
     let yes = c.if-is_intersection_of_terms.true in
     let several = c.is_intersection_of_terms.ensures.several yes in
     let same = ap length c.in_ok-all.ensures in
-    let long = length-map c.in_ok-musts.scorers.items _ in
-    let terms = length-map c.in_ok-all.terms.items g.W.Term.DocSet.entries in
+    let long = length-map c.in_ok-musts.musts.items _ in
+    let terms = length-map c.in_ok-all.all.items g.W.Term.DocSet.entries in
     omega (arith, several, same, long, terms)
 
 pub feed_intersection-requires-clause-fits : goal.feed_intersection-requires-clause-fits
 feed_intersection-requires-clause-fits g c =
     let sim = g.W.LeafWeights.similarity c.args.forms.now.weights.now in
     let r = c.args.forms.now.reader.now in
-    meeting_fits g.W.Term.DocSet.entries g.met.W.Term.DocSet.rising sim 1 r (clauses_of c.args.clauses.now) c.args.minimum_number_should_match c.in_ok-all.terms.items _ _ c.requires.accepted c.in_ok-musts.ensures c.in_ok-shoulds.ensures c.in_ok-all.ensures
+    meeting_fits g.W.Term.DocSet.entries g.met.W.Term.DocSet.rising sim 1 r (clauses_of c.args.clauses.now) c.args.minimum_number_should_match c.in_ok-all.all.items _ _ c.requires.accepted c.in_ok-musts.ensures c.in_ok-shoulds.ensures c.in_ok-all.ensures
 
 pub feed_intersection-requires-clause-room : goal.feed_intersection-requires-clause-room
 feed_intersection-requires-clause-room g c =
@@ -64,8 +64,8 @@ feed_intersection-requires-clause-room g c =
     let asks = c.is_intersection_of_terms.ensures in
     let yes = c.if-is_intersection_of_terms.true in
     let several = asks.several yes in
-    let long = length-map c.in_ok-musts.scorers.items _ in
-    let it = meeting_scores g.W.Term.DocSet.entries g.met.W.Term.DocSet.rising sim 1 r (clauses_of c.args.clauses.now) c.args.minimum_number_should_match c.in_ok-all.terms.items _ _ c.requires.accepted c.in_ok-musts.ensures c.in_ok-shoulds.ensures c.in_ok-all.ensures _ c.in_ok-must_nots.ensures r.few (asks.minimum yes) (omega (arith, several, long)) (none_mapped _ _ (asks.shoulds yes)) (none_mapped _ _ (asks.must_nots yes)) in
+    let long = length-map c.in_ok-musts.musts.items _ in
+    let it = meeting_scores g.W.Term.DocSet.entries g.met.W.Term.DocSet.rising sim 1 r (clauses_of c.args.clauses.now) c.args.minimum_number_should_match c.in_ok-all.all.items _ _ c.requires.accepted c.in_ok-musts.ensures c.in_ok-shoulds.ensures c.in_ok-all.ensures _ c.in_ok-must_nots.ensures r.few (asks.minimum yes) (omega (arith, several, long)) (none_mapped _ _ (asks.shoulds yes)) (none_mapped _ _ (asks.must_nots yes)) in
     let many = it.2 in
     let room = c.requires.room in
     omega (arith, many, room)
@@ -77,8 +77,8 @@ returns-then-is_intersection_of_terms-clause-fed g c =
     let asks = c.is_intersection_of_terms.ensures in
     let yes = c.if-is_intersection_of_terms.true in
     let several = asks.several yes in
-    let long = length-map c.in_ok-musts.scorers.items _ in
-    let it = meeting_scores g.W.Term.DocSet.entries g.met.W.Term.DocSet.rising sim 1 r (clauses_of c.args.clauses.now) c.args.minimum_number_should_match c.in_ok-all.terms.items _ _ c.requires.accepted c.in_ok-musts.ensures c.in_ok-shoulds.ensures c.in_ok-all.ensures _ c.in_ok-must_nots.ensures r.few (asks.minimum yes) (omega (arith, several, long)) (none_mapped _ _ (asks.shoulds yes)) (none_mapped _ _ (asks.must_nots yes)) in
+    let long = length-map c.in_ok-musts.musts.items _ in
+    let it = meeting_scores g.W.Term.DocSet.entries g.met.W.Term.DocSet.rising sim 1 r (clauses_of c.args.clauses.now) c.args.minimum_number_should_match c.in_ok-all.all.items _ _ c.requires.accepted c.in_ok-musts.ensures c.in_ok-shoulds.ensures c.in_ok-all.ensures _ c.in_ok-must_nots.ensures r.few (asks.minimum yes) (omega (arith, several, long)) (none_mapped _ _ (asks.shoulds yes)) (none_mapped _ _ (asks.must_nots yes)) in
     is_fed g.K.Sink.limit g.K.Sink.taken _ sim 1 _ r _ _ it.0 it.1 c.feed_intersection.ensures
 
 pub clauses_scorer-requires : goal.clauses_scorer-requires
