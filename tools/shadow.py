@@ -13,6 +13,7 @@ sys.dont_write_bytecode = True
 
 OK = {"ok": True}
 OUT_OF_MEMORY = {"error": "OutOfMemory"}
+NO_INDEX = ()
 
 
 def load_plain_scan():
@@ -52,7 +53,7 @@ class Made:
 
 @dataclasses.dataclass(frozen=True)
 class Session:
-    """A session over a file: its stage is none, ready or closed, the last where its writer is."""
+    """A session over a file: its stage is none, ready, closed where its writer is, or failed where its device did."""
 
     stage: str = "none"
     made: Made = None
@@ -61,7 +62,7 @@ class Session:
     # All documents that were added since the last commit, and those that a deletion covers, committed ones too.
     waiting: tuple = ()
     dead: frozenset = frozenset()
-    # What the file has: what was made, and the segments; None where it has no byte.
+    # What the file has: what was made, and the segments; None where it has no byte, NO_INDEX where it has others.
     file: tuple = None
 
     def answer(self, request, refused=None):
@@ -72,6 +73,8 @@ class Session:
             return refusal("AlreadyOpen"), self
         if request["op"] not in ("create", "open") and self.stage == "none":
             return refusal("NotOpen"), self
+        if request["op"] not in ("create", "open") and self.stage == "failed":
+            return refusal("Closed"), self
         if request["op"] in ("add", "delete", "commit", "merge") and self.stage == "closed":
             return refusal("WriterClosed"), self
         if refused:
@@ -85,6 +88,15 @@ class Session:
         if request["op"] in ("create", "open") and self.stage != "ready":
             return [self, self.dropped()]
         return [self]
+
+    def after_failed_device(self, request):
+        """The sessions that a request may leave which was answered `Device`; what the device refused changed nothing."""
+        if request["op"] in ("commit", "merge") and self.stage == "ready":
+            return [dataclasses.replace(self, stage="failed", waiting=(), dead=frozenset())]
+        if request["op"] in ("create", "open") and self.stage != "ready":
+            begun = [Session(file=NO_INDEX)] if request["op"] == "create" and self.file is None else []
+            return [self.dropped(), *begun]
+        return []
 
     def closed(self):
         return dataclasses.replace(self, stage="closed", waiting=(), dead=frozenset())
@@ -103,7 +115,7 @@ class Session:
         return OK, Session("ready", made, file=(made, ()))
 
     def open(self, _):
-        if self.file is None:
+        if self.file in (None, NO_INDEX):
             return refusal("NoIndex"), self.dropped()
         made, segments = self.file
         return OK, Session("ready", made, segments, file=self.file)
