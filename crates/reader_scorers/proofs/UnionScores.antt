@@ -1,5 +1,6 @@
 -- What the union, or the meeting, of the scorers of clauses answers, where nothing else is asked.
 use Rattle.std.proofs.Common.{[], List, ap, arith, length, map, max, refl, subst, sym, ◌+◌, ◌<◌, ◌∙◌, ◌≡◌, ◌≤◌, ℕ, ℤ}
+use Rattle.std.proofs.lemmas.List.{length-map}
 use Rattle.any_scorer.proofs.ByClauses.{nothing_added, only_shoulds, with_shoulds}
 use Rattle.any_scorer.proofs.ByScores.{joined}
 use Rattle.any_scorer.specs.Clauses.{by_clauses, by_number, scores_of}
@@ -27,6 +28,18 @@ use Rattle.tree_scorers.specs.Accepted.{IsAccepted}
 -- no element
 pub none_mapped : {X Y : Type 0} (f : X → Y) (xs : List X) → xs ≡ [] → map f xs ≡ []
 none_mapped f xs none = ap (map f) none
+
+-- as many are mapped
+pub many_mapped : {X Y : Type 0} (f : X → Y) (xs : List X) (n m : ℕ) → m ≤ length xs → n ≤ m → n ≤ length (map f xs)
+many_mapped f xs n m many few = let long = length-map xs f in omega (arith, long, many, few)
+
+-- lists with the same images are as long
+pub as_many : {X Y Z : Type 0} (f : X → Z) (g : Y → Z) (xs : List X) (ys : List Y) (n : ℕ) → map f xs ≡ map g ys → n ≤ length ys → n ≤ length xs
+as_many f g xs ys n same many =
+    let one = length-map xs f in
+    let other = length-map ys g in
+    let long = ap length same in
+    omega (arith, one, other, long, many)
 
 pub as_great : (ess fss : List (List Entry)) → ess ≡ fss → greatest_sum ess ≤ greatest_sum fss
 as_great ess fss same = let sums = ap greatest_sum same in omega (arith, sums)

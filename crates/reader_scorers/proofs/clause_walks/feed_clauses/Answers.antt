@@ -1,9 +1,8 @@
-use Rattle.std.proofs.Common.{ap, arith, length, refl, ◌∙◌}
-use Rattle.std.proofs.lemmas.List.{length-map}
+use Rattle.std.proofs.Common.{ap, arith, refl, ◌∙◌}
 use Rattle.definitions.specs.Query as definitions
 use Rattle.phrases.specs.Unions.{union}
 use Rattle.query_trees.specs.Queries.{clauses_of}
-use Rattle.reader_scorers.proofs.UnionScores.{as_great, is_fed, meeting_fits, meeting_scores, none_mapped, union_fits, union_scores, within_same}
+use Rattle.reader_scorers.proofs.UnionScores.{as_great, as_many, is_fed, many_mapped, meeting_fits, meeting_scores, none_mapped, union_fits, union_scores, within_same}
 use Rattle.tree_scorers.proofs.AcceptedParts.{clauses_accepted, clauses_fit}
 use Rattle.reader_scorers.proofs.clause_walks.feed_clauses.Goals as goal
 
@@ -43,13 +42,7 @@ returns-then-is_union_of_terms-clause-fed g c =
     is_fed g.K.Sink.limit g.K.Sink.taken _ sim 1 _ r _ _ it.0 it.1 c.block_wand.ensures
 
 pub feed_intersection-requires-clause-several : goal.feed_intersection-requires-clause-several
-feed_intersection-requires-clause-several g c =
-    let yes = c.if-is_intersection_of_terms.true in
-    let several = c.is_intersection_of_terms.ensures.several yes in
-    let same = ap length c.in_ok-all.ensures in
-    let long = length-map c.in_ok-musts.musts.items _ in
-    let terms = length-map c.in_ok-all.all.items g.W.Term.DocSet.entries in
-    omega (arith, several, same, long, terms)
+feed_intersection-requires-clause-several g c = as_many _ _ _ _ 2 c.in_ok-all.ensures (c.is_intersection_of_terms.ensures.several c.if-is_intersection_of_terms.true)
 
 pub feed_intersection-requires-clause-fits : goal.feed_intersection-requires-clause-fits
 feed_intersection-requires-clause-fits g c =
@@ -63,9 +56,7 @@ feed_intersection-requires-clause-room g c =
     let r = c.args.forms.now.reader.now in
     let asks = c.is_intersection_of_terms.ensures in
     let yes = c.if-is_intersection_of_terms.true in
-    let several = asks.several yes in
-    let long = length-map c.in_ok-musts.musts.items _ in
-    let it = meeting_scores g.W.Term.DocSet.entries g.met.W.Term.DocSet.rising sim 1 r (clauses_of c.args.clauses.now) c.args.minimum_number_should_match c.in_ok-all.all.items _ _ c.requires.accepted c.in_ok-musts.ensures c.in_ok-shoulds.ensures c.in_ok-all.ensures _ c.in_ok-must_nots.ensures r.few (asks.minimum yes) (omega (arith, several, long)) (none_mapped _ _ (asks.shoulds yes)) (none_mapped _ _ (asks.must_nots yes)) in
+    let it = meeting_scores g.W.Term.DocSet.entries g.met.W.Term.DocSet.rising sim 1 r (clauses_of c.args.clauses.now) c.args.minimum_number_should_match c.in_ok-all.all.items _ _ c.requires.accepted c.in_ok-musts.ensures c.in_ok-shoulds.ensures c.in_ok-all.ensures _ c.in_ok-must_nots.ensures r.few (asks.minimum yes) (many_mapped _ _ 1 2 (asks.several yes) (omega arith)) (none_mapped _ _ (asks.shoulds yes)) (none_mapped _ _ (asks.must_nots yes)) in
     let many = it.2 in
     let room = c.requires.room in
     omega (arith, many, room)
@@ -76,9 +67,7 @@ returns-then-is_intersection_of_terms-clause-fed g c =
     let r = c.args.forms.now.reader.now in
     let asks = c.is_intersection_of_terms.ensures in
     let yes = c.if-is_intersection_of_terms.true in
-    let several = asks.several yes in
-    let long = length-map c.in_ok-musts.musts.items _ in
-    let it = meeting_scores g.W.Term.DocSet.entries g.met.W.Term.DocSet.rising sim 1 r (clauses_of c.args.clauses.now) c.args.minimum_number_should_match c.in_ok-all.all.items _ _ c.requires.accepted c.in_ok-musts.ensures c.in_ok-shoulds.ensures c.in_ok-all.ensures _ c.in_ok-must_nots.ensures r.few (asks.minimum yes) (omega (arith, several, long)) (none_mapped _ _ (asks.shoulds yes)) (none_mapped _ _ (asks.must_nots yes)) in
+    let it = meeting_scores g.W.Term.DocSet.entries g.met.W.Term.DocSet.rising sim 1 r (clauses_of c.args.clauses.now) c.args.minimum_number_should_match c.in_ok-all.all.items _ _ c.requires.accepted c.in_ok-musts.ensures c.in_ok-shoulds.ensures c.in_ok-all.ensures _ c.in_ok-must_nots.ensures r.few (asks.minimum yes) (many_mapped _ _ 1 2 (asks.several yes) (omega arith)) (none_mapped _ _ (asks.shoulds yes)) (none_mapped _ _ (asks.must_nots yes)) in
     is_fed g.K.Sink.limit g.K.Sink.taken _ sim 1 _ r _ _ it.0 it.1 c.feed_intersection.ensures
 
 pub clauses_scorer-requires : goal.clauses_scorer-requires
