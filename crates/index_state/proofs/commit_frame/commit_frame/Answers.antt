@@ -1,6 +1,5 @@
 use Rattle.std.proofs.Common.{List, ap, arith, drop, flat_map, length, map, sym, take, ◌++◌, ◌-◌, ◌∙◌, ◌≡◌, ℕ}
 use Rattle.std.proofs.lemmas.List.{length-drop, take_all}
-use Rattle.std.proofs.lemmas.Result.{IfOk-weaker}
 use Rattle.index_file.specs.Frames.{frame_bytes}
 use Rattle.segment.specs.Opened.{bytes_of}
 use Rattle.segment.specs.declared.segment.Segment.{Segment}
@@ -28,4 +27,4 @@ returns-clause-ok c =
     let fresh_put : put ≡ c.put_kept.new.body ++ flat_map part_bytes (map fresh (drop k bytes)) = c.in_ok-put_fresh.ensures.ok ∙ ap (λ bs. c.put_kept.new.body ++ flat_map part_bytes (map fresh bs)) (from_place k segments) in
     let all = parts_more begun c.put_kept.new.body put (kept_from 0 k) (map fresh (drop k bytes)) kept_put fresh_put in
     let whole = is_written (next_parts k bytes) c.args.alive.now begun put (length segments) c.in_ok-body.ensures (sym (length-parts segments k c.requires.within)) all in
-    IfOk-weaker c.framed.result _ _ (λ frame is. is ∙ ap frame_bytes whole) c.framed.ensures
+    c.in_ok-framed.ensures ∙ ap frame_bytes whole
