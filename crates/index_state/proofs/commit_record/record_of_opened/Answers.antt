@@ -8,7 +8,7 @@ use Rattle.segment.specs.Opened.{StandsFor, bytes_of}
 use Rattle.segment.specs.declared.segment.Segment.{Segment}
 use Rattle.segment_definitions.specs.SegmentBodies.{segments_body}
 use Rattle.segment_search.proofs.Flagging.{flagged_within}
-use Rattle.index_state.proofs.Outcomes.{err_has, err_no_limit, memory_is_no_limit}
+use Rattle.index_state.proofs.Outcomes.{err_has, memory_is_no_limit}
 use Rattle.index_state.proofs.RecordsLaid.{all_are_some, closed_behind, closed_counted, no_limit, none_behind, on_err, some_closed}
 use Rattle.index_state.proofs.Standings.{flagged_behind}
 use Rattle.index_state.specs.Bodies.{next_parts}
@@ -70,7 +70,7 @@ returns-in_err-frame-clause-err c =
     on_err c.from_residual-in_err-frame.result (all_are_some c.args.schema.now c.args.pending old new (closed_behind c.args.schema.now c.args.pending c.close.new.self old new c.in_ok-close.ensures.ok c.in_ok-open_into.ensures.ok))
 
 pub returns-in_err-frame-clause-limit : goal.returns-in_err-frame-clause-limit
-returns-in_err-frame-clause-limit c = err_no_limit c.from_residual-in_err-frame.result c.in_err-frame.field-0.0 (LastPasses c.args.schema.now c.args.pending) c.from_residual-in_err-frame.ensures.1 (memory_is_no_limit c.in_err-frame.field-0.0 c.in_err-frame.ensures.err)
+returns-in_err-frame-clause-limit c = err_has c.from_residual-in_err-frame.result c.in_err-frame.field-0.0 (LastPasses c.args.schema.now c.args.pending) c.from_residual-in_err-frame.ensures.1 (λ limit. absurd (memory_is_no_limit c.in_err-frame.field-0.0 c.in_err-frame.ensures.err limit))
 
 pub returns-in_err-from_vec-clause-err : goal.returns-in_err-from_vec-clause-err
 returns-in_err-from_vec-clause-err c =
