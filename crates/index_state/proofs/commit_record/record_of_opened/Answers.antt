@@ -70,7 +70,7 @@ returns-in_err-frame-clause-err c =
     on_err c.from_residual-in_err-frame.result (all_are_some c.args.schema.now c.args.pending old new (closed_behind c.args.schema.now c.args.pending c.close.new.self old new c.in_ok-close.ensures.ok c.in_ok-open_into.ensures.ok))
 
 pub returns-in_err-frame-clause-limit : goal.returns-in_err-frame-clause-limit
-returns-in_err-frame-clause-limit c = err_has c.from_residual-in_err-frame.result c.in_err-frame.field-0.0 (LastPasses c.args.schema.now c.args.pending) c.from_residual-in_err-frame.ensures.1 (λ limit. absurd (memory_is_no_limit c.in_err-frame.field-0.0 c.in_err-frame.ensures.err limit))
+returns-in_err-frame-clause-limit c = err_has c.from_residual-in_err-frame.result c.in_err-frame.field-0.0 (LastPasses c.args.schema.now c.args.pending) c.from_residual-in_err-frame.ensures.1 (λ analyze block_size full last holds limit. absurd (memory_is_no_limit c.in_err-frame.field-0.0 c.in_err-frame.ensures.err limit))
 
 pub returns-in_err-from_vec-clause-err : goal.returns-in_err-from_vec-clause-err
 returns-in_err-from_vec-clause-err c =
