@@ -2,7 +2,7 @@ use Rattle.std.proofs.Common.{[], arith}
 use Rattle.weight_cases.proofs.written_segments.written.Goals as goal
 
 pub add_all-requires : goal.add_all-requires
-add_all-requires c = (_, [], c.in_ok-writer.ensures _)
+add_all-requires c = (_, [], c.in_ok-writer.ensures.ok _)
 
 pub close-requires : goal.close-requires
 close-requires c =
