@@ -1,5 +1,5 @@
 -- Laws of how often positions stand at places that are moved on.
-use Rattle.std.proofs.Common.{[], Bool, List, ap, arith, drop, false, filter, get_or, if◌then◌else◌, length, refl, subst, suc, sym, true, ◌+◌, ◌<◌, ◌==◌, ◌∙◌, ◌∷◌, ◌||◌, ◌≡◌, ◌≤◌, ℕ}
+use Rattle.std.proofs.Common.{[], Bool, List, ap, arith, drop, false, filter, get_or, if◌then◌else◌, length, refl, subst, suc, sym, true, zero, ◌+◌, ◌<◌, ◌==◌, ◌∙◌, ◌∷◌, ◌||◌, ◌≡◌, ◌≤◌, ℕ}
 use Rattle.std.proofs.lemmas.Bool.Decides.{nat_tests}
 use Rattle.std.proofs.lemmas.List.{drop_all, drop_more}
 use Rattle.phrases.specs.Places.{Ascends, has}
@@ -84,3 +84,30 @@ continued-few moved (p ∷ ps) positions =
       | true ↦ (let goal : length (p ∷ filter (λ x. has positions (x + moved)) ps) ≤ length (p ∷ ps) = omega (arith, ih) in goal)
       | false ↦ (let goal : length (filter (λ x. has positions (x + moved)) ps) ≤ length (p ∷ ps) = omega (arith, ih) in goal)
     ]
+
+-- ascending positions don't fall
+ascends-least : (low k : ℕ) (ps : List ℕ) → Ascends low ps → k < length ps → low ≤ get_or ps k 0
+ascends-least low k [] a l = absurd (omega (arith, l))
+ascends-least low zero (p ∷ ps) a l = a.0
+ascends-least low (suc k) (p ∷ ps) a l = (let ih = ascends-least p k ps a.1 (omega (arith, l)) in omega (arith, ih, a.0))
+
+pub ascends-order : (low i k : ℕ) (ps : List ℕ) → Ascends low ps → i ≤ k → k < length ps → get_or ps i 0 ≤ get_or ps k 0
+ascends-order low i k [] a o l = absurd (omega (arith, l))
+ascends-order low zero k (p ∷ ps) a o l = ascends-least p k (p ∷ ps) (omega arith, a.1) l
+ascends-order low (suc i) zero (p ∷ ps) a o l = absurd (omega (arith, o))
+ascends-order low (suc i) (suc k) (p ∷ ps) a o l = ascends-order p i k ps a.1 (omega (arith, o)) (omega (arith, l))
+
+-- places before all positions left count for nothing
+pub count-passed : (moved i j n : ℕ) (places positions : List ℕ) → i + n ≤ length places → j < length positions → Ascends 0 (drop j positions) → ((k : ℕ) → i ≤ k → k < i + n → get_or places k 0 + moved < get_or positions j 0) → continued moved (drop (i + n) places) (drop j positions) ≡ continued moved (drop i places) (drop j positions)
+count-passed moved i j zero places positions li lj a below = ap (λ m. continued moved (drop m places) (drop j positions)) (let e : i + 0 ≡ i = omega arith in e)
+count-passed moved i j (suc n) places positions li lj a below =
+    let here = count-left moved (i + n) j places positions (omega (arith, li)) lj a (below (i + n) (omega arith) (omega arith)) in
+    let rest = count-passed moved i j n places positions (omega (arith, li)) lj a (λ k f t. below k f (omega (arith, t))) in
+    let next = ap (λ m. continued moved (drop m places) (drop j positions)) (let e : i + suc n ≡ (i + n) + 1 = omega arith in e) in
+    next ∙ (sym here ∙ rest)
+
+-- what is left of ascending positions ascends
+pub ascends-drop : (low n : ℕ) (ps : List ℕ) → Ascends low ps → Ascends 0 (drop n ps)
+ascends-drop low n [] a = subst (Ascends 0) (sym (drop_all n [] (omega arith))) tt
+ascends-drop low zero (p ∷ ps) a = (omega arith, a.1)
+ascends-drop low (suc n) (p ∷ ps) a = ascends-drop p n ps a.1

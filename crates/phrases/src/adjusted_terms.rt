@@ -32,10 +32,10 @@ pub(crate) fn adjusted<P: Postings + Drop>(
         term_postings.items) }
 {
     let greatest = greatest_offset(&term_postings);
-    let mut docsets = Vec::with_capacity(alloc, term_postings.len())?;
     let mut left = term_postings;
-    while !left.is_empty() {
-        let (offset, postings) = left.remove(0);
+    left.reverse();
+    let mut docsets = Vec::with_capacity(alloc, left.len())?;
+    while let Some((offset, postings)) = left.pop() {
         let moved = greatest.saturating_sub(offset) as u32;
         docsets.push(PostingsWithOffset::new(postings, moved))?;
     }

@@ -1,8 +1,11 @@
 //! Positions that two terms share.
 
-ghost use Rattle.std.specs.Prelude.{◌≡◌, ◌≤◌, filter, length, take, vec_capacity};
+ghost use Rattle.std.specs.Prelude.{◌+◌, ◌<◌, ◌≡◌, ◌≤◌, filter, length, slice_index, take, vec_capacity, ℕ};
 ghost use Rattle.phrases.specs.Places.{Ascends, distinct, has};
 ghost use Rattle.phrases.specs.PrefixEntries.{continued};
+
+/// The number of places that are passed one by one.
+const NEAR: usize = 16;
 
 /// Replaces the content of `output`, which has the room, with `positions`, each once.
 pub(crate) fn copy_distinct(positions: &[u32], output: &mut Vec<u32>)
@@ -110,6 +113,26 @@ pub(crate) fn intersection(left: &mut Vec<u32>, right: &[u32])
     left.truncate(count);
 }
 
+/// Returns an index from `start` on; the places that are passed on the way, shifted by `moved`, are below `position`.
+/// It looks ahead by steps that double, so that many are passed by few looks.
+fn pass_places(places: &[u32], start: usize, moved: u32, position: u64) -> usize
+    requires start { start < length places.now }
+    requires places { Ascends 0 places.now }
+    ensures from { start ≤ result }
+    ensures within { result < length places.now }
+    ensures passed { (k : ℕ) → start ≤ k → k < result → slice_index places.now k + moved < position }
+{
+    let mut place = start;
+    let mut step = NEAR;
+    while step < places.len() - place
+        && u64::from(places[place + step]) + u64::from(moved) < position
+    {
+        place += step;
+        step += step;
+    }
+    place
+}
+
 /// Counts those of `places` that are in `positions` when shifted by `moved`; both ascend.
 pub(crate) fn count_continued(places: &[u32], moved: u32, positions: &[u32]) -> usize
     requires places { Ascends 0 places.now }
@@ -120,8 +143,9 @@ pub(crate) fn count_continued(places: &[u32], moved: u32, positions: &[u32]) -> 
     let mut i = 0;
     let mut j = 0;
     while i < places.len() && j < positions.len() {
-        let place = u64::from(places[i]) + u64::from(moved);
         let position = u64::from(positions[j]);
+        i = pass_places(places, i, moved, position);
+        let place = u64::from(places[i]) + u64::from(moved);
         count += usize::from(place == position);
         i += usize::from(place <= position);
         j += usize::from(position < place);

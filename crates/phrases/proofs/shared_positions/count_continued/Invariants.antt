@@ -9,7 +9,6 @@ invariant-loop-i l = record {
   within : l.i ≤ length l.places;
   inside : l.j ≤ length l.positions;
   few : l.count ≤ l.i;
-  places : Ascends 0 (drop l.i l.places);
   positions : Ascends 0 (drop l.j l.positions);
   count : l.count + continued l.moved (drop l.i l.places) (drop l.j l.positions) ≡ continued l.moved l.places l.positions;
 }
