@@ -25,3 +25,5 @@ pub mod StandingLaws
 pub mod TailChanges
 pub mod UnionWalks
 pub mod WindowWalks
+pub mod MeetingWalks
+pub mod MeetingOrders

@@ -13,6 +13,7 @@ pub mod Blocks
 pub mod BlocksLeft
 pub mod Feeding
 pub mod Unions
+pub mod Meets
 -- Laws that clauses and proofs of types must name.
 pub mod MergeLaws
 pub mod PlaceLaws

@@ -3,6 +3,7 @@
 
 mod adjusted_terms;
 mod block_sink;
+mod meeting_walk;
 mod next_rows;
 mod one_term_phrase;
 mod phrase_documents;
@@ -26,6 +27,7 @@ mod window;
 
 pub use block_sink::{BlockSink, for_each_docset_buffered};
 pub use intersections::Positioned;
+pub use meeting_walk::block_wand_intersection;
 pub use one_term_phrase::OneTermPhrase;
 pub use phrase_kind::PhraseKind;
 pub use phrase_prefix_scorer::PhrasePrefixScorer;

@@ -28,9 +28,9 @@ struct Free {
 
 /// No score of some scorers is above `score`, before document `until`.
 #[derive(Clone, Copy)]
-struct Bound {
-    score: u64,
-    until: DocId,
+pub(crate) struct Bound {
+    pub(crate) score: u64,
+    pub(crate) until: DocId,
 }
 
 impl Free {
@@ -72,11 +72,11 @@ impl Free {
 
 /// How far a walk came.
 #[derive(Clone, Copy)]
-struct Fed {
+pub(crate) struct Fed {
     /// The sink's threshold.
-    threshold: Score,
+    pub(crate) threshold: Score,
     /// The document from which on all is left to feed.
-    target: DocId,
+    pub(crate) target: DocId,
 }
 
 /// The score of a document by some scorers, and the least of their documents behind it.
@@ -162,7 +162,7 @@ fn free_from<S: Scorer>(scorers: &mut Vec<S>, target: DocId, threshold: Score) -
 }
 
 /// Returns the bound of `scorer` from `target` on, before `until`; it is 0 if the current document isn't before `until`.
-fn bound_before<S: Scorer>(scorer: &mut S, target: DocId, until: DocId) -> Bound
+pub(crate) fn bound_before<S: Scorer>(scorer: &mut S, target: DocId, until: DocId) -> Bound
     requires small { target < until }
     requires within { until ≤ terminated }
     ensures same { S.entries scorer.new ≡ S.entries scorer.old }
