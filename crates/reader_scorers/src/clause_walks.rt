@@ -21,15 +21,14 @@ use crate::scorer_walks::feed_by_kind;
 use crate::terms_alone::{are_terms, into_terms};
 use common::Score;
 use docsets::{DocSet, Scorer};
-use intersections::Intersection;
-use phrases::{Sink, block_wand, for_each_pruning_scorer};
+use phrases::{Sink, block_wand, block_wand_intersection};
 use query_trees::{AnyQuery, Occur};
 use std::alloc::{AllocError, Global};
 use tree_scorers::{SegmentScorers, scorers_asked};
 
 /// Feeds each document of a segment that matches `clauses` with its score to `sink`, in order, if the score is above the
 /// sink's threshold by then; none if out of memory. A union of terms is walked by `block_wand`, and an intersection of
-/// terms by windows, without a list of what they have.
+/// terms by `block_wand_intersection`, without a list of what they have.
 pub fn feed_clauses<'a, W: LeafWeights<'a>, K: Sink>(
     alloc: Global,
     forms: &ReaderScorers<'_, 'a, W>,
@@ -109,6 +108,5 @@ fn feed_intersection<S: Scorer + Drop, K: Sink>(scorers: Vec<S>, threshold: Scor
     ensures { K.state sink.new ≡ sinks.fed K.limit K.taken (K.state sink.old)
         (pairs_of (meeting (map S.entries scorers.items))) }
 {
-    let mut intersection = Intersection::new(scorers);
-    for_each_pruning_scorer(&mut intersection, threshold, sink);
+    block_wand_intersection(scorers, threshold, sink);
 }
