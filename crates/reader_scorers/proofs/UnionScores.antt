@@ -1,9 +1,9 @@
 -- What the union, or the meeting, of the scorers of clauses answers, where nothing else is asked.
-use Rattle.std.proofs.Common.{[], List, ap, arith, length, map, max, refl, subst, sym, ◌+◌, ◌<◌, ◌∙◌, ◌≡◌, ◌≤◌, ℕ, ℤ}
-use Rattle.std.proofs.lemmas.List.{length-map}
+use Rattle.std.proofs.Common.{[], List, ap, ap₂, arith, if◌then◌else◌, length, map, max, nat_le, not, refl, subst, sum, sym, ◌&&◌, ◌++◌, ◌+◌, ◌<◌, ◌∙◌, ◌∷◌, ◌≡◌, ◌≤◌, ℕ, ℤ}
+use Rattle.std.proofs.lemmas.List.{append_assoc, length-map}
 use Rattle.any_scorer.proofs.ByClauses.{nothing_added, only_shoulds, with_shoulds}
 use Rattle.any_scorer.proofs.ByScores.{joined}
-use Rattle.any_scorer.specs.Clauses.{by_clauses, by_number, scores_of}
+use Rattle.any_scorer.specs.Clauses.{by_clauses, by_number, scores_at, scores_of}
 use Rattle.definitions.specs.Postings.{terminated}
 use Rattle.definitions.specs.Query.{Clauses, Query, boolean, must, must_not, should}
 use Rattle.definitions.specs.Scoring.{Similarity, max_score}
@@ -11,7 +11,7 @@ use Rattle.definitions.specs.Sinks as sinks
 use Rattle.docsets.proofs.AtLeastLaws.{greatest-joined}
 use Rattle.docsets.proofs.MemberLaws.{Rising-listed, sum-greatest}
 use Rattle.docsets.specs.Entries.{Entry, Rising, from}
-use Rattle.docsets.specs.Members.{at_least, enough, entries_at, greatest_sum, joining}
+use Rattle.docsets.specs.Members.{at_least, enough, entries_at, entries_of, greatest_sum, joining, scores_in}
 use Rattle.intersections.specs.Meetings.{meeting}
 use Rattle.docsets.specs.ScoredEntries.{pairs_of}
 use Rattle.node_scorers.proofs.Combined.{clauses_score}
@@ -41,12 +41,24 @@ as_many f g xs ys n same many =
     let long = ap length same in
     omega (arith, one, other, long, many)
 
-pub as_great : (ess fss : List (List Entry)) → ess ≡ fss → greatest_sum ess ≤ greatest_sum fss
-as_great ess fss same = let sums = ap greatest_sum same in omega (arith, sums)
-
 -- no document is behind the last
 pub within_same : (n m : ℕ) (es : List Entry) → n ≡ m → from m es ≡ [] → from n es ≡ []
 within_same n m es same within = ap (λ k. from k es) same ∙ within
+
+-- clauses that mustn't be had, and have no document
+no_must_nots : (minimum : ℕ) (musts shoulds must_nots : List (List Entry)) (d : ℕ) → entries_at d must_nots ≡ [] → by_clauses minimum musts shoulds [] d ≡ by_clauses minimum musts shoulds must_nots d
+no_must_nots minimum musts shoulds must_nots d none = ap (λ (es : List Entry). if enough (length musts) musts d && enough minimum shoulds d && enough 1 (musts ++ shoulds) d && not (nat_le 1 (length es)) then sum (scores_at d (musts ++ shoulds)) ∷ [] else []) (sym none)
+
+-- the entries in lists one after the other
+entries_both : (d : ℕ) (ess fss : List (List Entry)) → entries_at d (ess ++ fss) ≡ entries_at d ess ++ entries_at d fss
+entries_both d [] fss = refl
+entries_both d (es ∷ ess) fss = ap (λ xs. entries_of d es ++ xs) (entries_both d ess fss) ∙ sym (append_assoc (entries_of d es) (entries_at d ess) (entries_at d fss))
+
+-- clauses that should be had, and have no document
+no_shoulds : (minimum : ℕ) (musts shoulds : List (List Entry)) (d : ℕ) → entries_at d shoulds ≡ [] → by_clauses minimum musts [] [] d ≡ by_clauses minimum musts shoulds [] d
+no_shoulds minimum musts shoulds d none =
+    let both : entries_at d (musts ++ []) ≡ entries_at d (musts ++ shoulds) = entries_both d musts [] ∙ (ap (λ xs. entries_at d musts ++ xs) (sym none) ∙ sym (entries_both d musts shoulds)) in
+    ap₂ (λ (es fs : List Entry). if enough (length musts) musts d && nat_le minimum (length es) && nat_le 1 (length fs) && not (enough 1 [] d) then sum (scores_in fs) ∷ [] else []) (sym none) both
 
 module _ {X : Type 0} (entries : X → List Entry) (rising : (x : X) → Rising 0 (entries x)) where
   -- the documents that enough lists have ascend, if the scores fit together
@@ -59,14 +71,14 @@ module _ {X : Type 0} (entries : X → List Entry) (rising : (x : X) → Rising 
     union_fits = let most = clauses_fit sim b r cs minimum musts shoulds accepted all_musts all_shoulds in omega (arith, most, fewer)
 
     -- where their union is that of what clauses should have, and these ask nothing else, it is what the clauses answer
-    pub union_scores : (must_nots : List (List Entry)) → AllScore sim b r (asked must_not cs) must_nots → max_doc_of r ≤ terminated → minimum ≤ 1 → musts ≡ [] → must_nots ≡ [] → union (map entries xs) ≡ union shoulds → Rising 0 (union (map entries xs)) × Scores sim b (boolean cs minimum) r (union (map entries xs)) × (length (union (map entries xs)) ≤ max_doc_of r)
+    pub union_scores : (must_nots : List (List Entry)) → AllScore sim b r (asked must_not cs) must_nots → max_doc_of r ≤ terminated → minimum ≤ 1 → musts ≡ [] → ((d : ℕ) → entries_at d must_nots ≡ []) → union (map entries xs) ≡ union shoulds → Rising 0 (union (map entries xs)) × Scores sim b (boolean cs minimum) r (union (map entries xs)) × (length (union (map entries xs)) ≤ max_doc_of r)
     union_scores must_nots all_nots few least none no_nots same =
         let list = union (map entries xs) in
         let rises = joined_rises 1 xs union_fits in
         let one : 1 ≡ max 1 minimum = omega (arith, least) in
-        let are : (d : ℕ) → d < terminated → scores_of d list ≡ by_clauses minimum [] shoulds [] d = λ d l. joined 1 list list shoulds refl same d l ∙ (ap (λ m. by_number m shoulds d) one ∙ only_shoulds minimum d shoulds) in
+        let are : (d : ℕ) → d < terminated → scores_of d list ≡ by_clauses minimum [] shoulds must_nots d = λ d l. joined 1 list list shoulds refl same d l ∙ (ap (λ m. by_number m shoulds d) one ∙ (only_shoulds minimum d shoulds ∙ no_must_nots minimum [] shoulds must_nots d (no_nots d))) in
         let most = greatest-joined entries rising 1 xs in
-        let scores = clauses_score sim b r few cs minimum [] shoulds [] list (subst (AllScore sim b r (asked must cs)) none all_musts) all_shoulds (subst (AllScore sim b r (asked must_not cs)) no_nots all_nots) are (omega (arith, most, fewer)) rises in
+        let scores = clauses_score sim b r few cs minimum [] shoulds must_nots list (subst (AllScore sim b r (asked must cs)) none all_musts) all_shoulds all_nots are (omega (arith, most, fewer)) rises in
         let many = few_within 0 (max_doc_of r) list rises scores.within in
         (rises, scores, omega (arith, many))
 
@@ -79,16 +91,17 @@ module _ {X : Type 0} (entries : X → List Entry) (rising : (x : X) → Rising 
         omega (arith, most, sums)
 
     -- where the clauses ask nothing else, the meeting of these is what they answer
-    pub meeting_scores : (must_nots : List (List Entry)) → AllScore sim b r (asked must_not cs) must_nots → max_doc_of r ≤ terminated → minimum ≡ 0 → 1 ≤ length musts → shoulds ≡ [] → must_nots ≡ [] → Rising 0 (meeting (map entries xs)) × Scores sim b (boolean cs minimum) r (meeting (map entries xs)) × (length (meeting (map entries xs)) ≤ max_doc_of r)
+    pub meeting_scores : (must_nots : List (List Entry)) → AllScore sim b r (asked must_not cs) must_nots → max_doc_of r ≤ terminated → minimum ≡ 0 → 1 ≤ length musts → ((d : ℕ) → entries_at d shoulds ≡ []) → ((d : ℕ) → entries_at d must_nots ≡ []) → Rising 0 (meeting (map entries xs)) × Scores sim b (boolean cs minimum) r (meeting (map entries xs)) × (length (meeting (map entries xs)) ≤ max_doc_of r)
     meeting_scores must_nots all_nots few least some none no_nots =
         let list = meeting (map entries xs) in
         let n : ℕ = length (map entries xs) in
         let rises = joined_rises n xs meeting_fits in
-        let are : (d : ℕ) → d < terminated → scores_of d list ≡ by_clauses minimum musts [] [] d = λ d l. joined (length musts) list list musts refl (ap meeting same) d l
-        ∙ (nothing_added (by_number (length musts) musts d) ∙ (with_shoulds d musts [] some ∙ ap (λ m. by_clauses m musts [] [] d) (sym least))) in
+        let are : (d : ℕ) → d < terminated → scores_of d list ≡ by_clauses minimum musts shoulds must_nots d = λ d l. joined (length musts) list list musts refl (ap meeting same) d l
+        ∙ (nothing_added (by_number (length musts) musts d) ∙ (with_shoulds d musts [] some ∙ (ap (λ m. by_clauses m musts [] [] d) (sym least)
+        ∙ (no_shoulds minimum musts shoulds d (none d) ∙ no_must_nots minimum musts shoulds must_nots d (no_nots d))))) in
         let most = greatest-joined entries rising n xs in
         let sums = ap greatest_sum same in
-        let scores = clauses_score sim b r few cs minimum musts [] [] list all_musts (subst (AllScore sim b r (asked should cs)) none all_shoulds) (subst (AllScore sim b r (asked must_not cs)) no_nots all_nots) are (omega (arith, most, sums)) rises in
+        let scores = clauses_score sim b r few cs minimum musts shoulds must_nots list all_musts all_shoulds all_nots are (omega (arith, most, sums)) rises in
         let many = few_within 0 (max_doc_of r) list rises scores.within in
         (rises, scores, omega (arith, many))
 

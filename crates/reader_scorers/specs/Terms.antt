@@ -1,7 +1,9 @@
 -- Scorers of terms.
-use Rattle.std.specs.Prelude.{⊤, List}
+use Rattle.std.specs.Prelude.{[], ◌∷◌, ◌≡◌, ◌⊎◌, ⊤, List, flat_map, ℕ}
 use Rattle.std.specs.List.{AllByRecursion}
 use Rattle.any_scorer.specs.declared.leaf.Leaf.TheVariants as leaves
+use Rattle.docsets.specs.Entries.{Entry}
+use Rattle.docsets.specs.Members.{entries_at, greatest_sum}
 use Rattle.docsets.specs.declared.doc_set.DocSet.{Ghosts}
 use Rattle.reader_scorers.specs.declared.any_query_scorer.AnyScorer.{AnyScorer}
 use Rattle.reader_scorers.specs.declared.any_query_scorer.AnyScorer.TheVariants as forms
@@ -26,3 +28,32 @@ module _ {A T P X : Type 0} {a : Ghosts A} {t : Ghosts T} {p : Ghosts P} {x : Gh
   -- the scorer of a term as one of any query
   abbrev pub of_term : T → AnyScorer A T P X a t p x
   of_term s = forms.Leaf (leaves.Term s)
+
+  -- the scorer of the term that it is, if it is one
+  abbrev pub term_in : AnyScorer A T P X a t p x → List T
+  term_in (forms.Leaf (leaves.Term s)) = s ∷ []
+  term_in (forms.Leaf (leaves.All s)) = []
+  term_in (forms.Leaf (leaves.Phrase s)) = []
+  term_in (forms.Leaf (leaves.PhrasePrefix s)) = []
+  term_in (forms.Leaf (leaves.List s)) = []
+  term_in (forms.ConstAll s) = []
+  term_in (forms.ConstTerm s) = []
+  term_in (forms.ConstPhrase s) = []
+  term_in (forms.ConstPhrasePrefix s) = []
+
+  -- those of the terms among them
+  abbrev pub terms_in : List (AnyScorer A T P X a t p x) → List T
+  terms_in scorers = flat_map term_in scorers
+
+  -- each of them is, or has no document left
+  abbrev pub AreTermsLeft : (AnyScorer A T P X a t p x → List Entry) → List (AnyScorer A T P X a t p x) → Type 0
+  AreTermsLeft entries scorers = AllByRecursion (λ s. IsTerm s ⊎ (entries s ≡ [])) scorers
+
+-- none of them has a document left
+abbrev pub HaveNone : {S : Type 0} → (S → List Entry) → List S → Type 0
+HaveNone entries scorers = AllByRecursion (λ s. entries s ≡ []) scorers
+
+-- they have the same entries of each document, and greatest scores with the same sum
+pub record HaveSame (ess fss : List (List Entry)) : Type 0 where
+  pub entries : (d : ℕ) → entries_at d ess ≡ entries_at d fss
+  pub greatest : greatest_sum ess ≡ greatest_sum fss

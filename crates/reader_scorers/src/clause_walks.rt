@@ -10,7 +10,7 @@ ghost use Rattle.intersections.specs.Meetings.{meeting};
 ghost use Rattle.query_trees.specs.Queries.{clauses_of};
 ghost use Rattle.reader_scorers.specs.Fed.{IsFedBy};
 ghost use Rattle.reader_scorers.specs.Scored.{segment_scored, weights_of};
-ghost use Rattle.reader_scorers.specs.Terms.{AreTerms};
+ghost use Rattle.reader_scorers.specs.Terms.{AreTerms, AreTermsLeft, HaveNone};
 ghost use Rattle.segment_reader.specs.SegmentReaders.{max_doc_of};
 ghost use Rattle.tree_scorers.specs.Accepted.{IsAccepted};
 
@@ -18,7 +18,7 @@ use crate::any_query_scorer::AnyScorer;
 use crate::leaf_weights::LeafWeights;
 use crate::reader_scorers::ReaderScorers;
 use crate::scorer_walks::feed_by_kind;
-use crate::terms_alone::{are_terms, into_terms};
+use crate::terms_alone::{are_terms, are_terms_left, have_none, into_terms, into_terms_left};
 use common::Score;
 use docsets::{DocSet, Scorer};
 use phrases::{Sink, block_wand, block_wand_intersection};
@@ -51,7 +51,7 @@ pub fn feed_clauses<'a, W: LeafWeights<'a>, K: Sink>(
     let shoulds = scorers_asked(alloc, forms, clauses, Occur::Should, 1)?;
     let must_nots = scorers_asked(alloc, forms, clauses, Occur::MustNot, 1)?;
     if is_union_of_terms(&musts, &shoulds, &must_nots, minimum) {
-        let terms = into_terms(alloc, shoulds)?;
+        let terms = into_terms_left(alloc, shoulds)?;
         block_wand(terms, threshold, sink);
         return Ok(());
     }
@@ -65,7 +65,8 @@ pub fn feed_clauses<'a, W: LeafWeights<'a>, K: Sink>(
     Ok(())
 }
 
-/// Whether the clauses with these scorers ask for one of their `Should` ones alone, and each of these is a term.
+/// Whether the clauses with these scorers ask for one of their `Should` ones alone, and each of these is a term. One
+/// without documents is passed over.
 fn is_union_of_terms<A: Scorer, T: Scorer, P: Scorer, X: Scorer>(
     musts: &Vec<AnyScorer<A, T, P, X>>,
     shoulds: &Vec<AnyScorer<A, T, P, X>>,
@@ -73,28 +74,33 @@ fn is_union_of_terms<A: Scorer, T: Scorer, P: Scorer, X: Scorer>(
     minimum: usize,
 ) -> bool
     ensures musts { result ≡ true → musts.now.items ≡ [] }
-    ensures must_nots { result ≡ true → must_nots.now.items ≡ [] }
+    ensures must_nots { result ≡ true
+        → HaveNone ⟦<AnyScorer<A, T, P, X> as DocSet>⟧.entries must_nots.now.items }
     ensures minimum { result ≡ true → minimum ≤ 1 }
-    ensures terms { result ≡ true → AreTerms shoulds.now.items }
+    ensures terms { result ≡ true
+        → AreTermsLeft ⟦<AnyScorer<A, T, P, X> as DocSet>⟧.entries shoulds.now.items }
 {
-    let alone = musts.is_empty() && must_nots.is_empty() && minimum <= 1;
-    alone && are_terms(shoulds)
+    let alone = musts.is_empty() && have_none(must_nots) && minimum <= 1;
+    alone && are_terms_left(shoulds)
 }
 
-/// Whether the clauses with these scorers ask for two or more `Must` ones alone, and each of these is a term.
+/// Whether the clauses with these scorers ask for two or more `Must` ones alone, and each of these is a term. Others
+/// without documents are passed over.
 fn is_intersection_of_terms<A: Scorer, T: Scorer, P: Scorer, X: Scorer>(
     musts: &Vec<AnyScorer<A, T, P, X>>,
     shoulds: &Vec<AnyScorer<A, T, P, X>>,
     must_nots: &Vec<AnyScorer<A, T, P, X>>,
     minimum: usize,
 ) -> bool
-    ensures shoulds { result ≡ true → shoulds.now.items ≡ [] }
-    ensures must_nots { result ≡ true → must_nots.now.items ≡ [] }
+    ensures shoulds { result ≡ true
+        → HaveNone ⟦<AnyScorer<A, T, P, X> as DocSet>⟧.entries shoulds.now.items }
+    ensures must_nots { result ≡ true
+        → HaveNone ⟦<AnyScorer<A, T, P, X> as DocSet>⟧.entries must_nots.now.items }
     ensures minimum { result ≡ true → minimum ≡ 0 }
     ensures several { result ≡ true → 2 ≤ length musts.now.items }
     ensures terms { result ≡ true → AreTerms musts.now.items }
 {
-    let alone = shoulds.is_empty() && must_nots.is_empty() && minimum == 0;
+    let alone = have_none(shoulds) && have_none(must_nots) && minimum == 0;
     alone && musts.len() >= 2 && are_terms(musts)
 }
 

@@ -1,8 +1,8 @@
-use Rattle.std.proofs.Common.{ap, arith, refl, ◌∙◌}
+use Rattle.std.proofs.Common.{arith, refl}
 use Rattle.definitions.specs.Query as definitions
-use Rattle.phrases.specs.Unions.{union}
 use Rattle.query_trees.specs.Queries.{clauses_of}
-use Rattle.reader_scorers.proofs.UnionScores.{as_great, as_many, is_fed, many_mapped, meeting_fits, meeting_scores, none_mapped, union_fits, union_scores, within_same}
+use Rattle.reader_scorers.proofs.TermEntries.{none_anywhere, same_union}
+use Rattle.reader_scorers.proofs.UnionScores.{as_many, is_fed, many_mapped, meeting_fits, meeting_scores, none_mapped, union_fits, union_scores, within_same}
 use Rattle.tree_scorers.proofs.AcceptedParts.{clauses_accepted, clauses_fit}
 use Rattle.reader_scorers.proofs.clause_walks.feed_clauses.Goals as goal
 
@@ -19,7 +19,7 @@ pub block_wand-requires-clause-fits : goal.block_wand-requires-clause-fits
 block_wand-requires-clause-fits g c =
     let sim = g.W.LeafWeights.similarity c.args.forms.now.weights.now in
     let r = c.args.forms.now.reader.now in
-    union_fits g.W.Term.DocSet.entries g.met.W.Term.DocSet.rising sim 1 r (clauses_of c.args.clauses.now) c.args.minimum_number_should_match c.in_ok-terms.terms.items _ _ c.requires.accepted c.in_ok-musts.ensures c.in_ok-shoulds.ensures (as_great _ _ c.in_ok-terms.ensures)
+    union_fits g.W.Term.DocSet.entries g.met.W.Term.DocSet.rising sim 1 r (clauses_of c.args.clauses.now) c.args.minimum_number_should_match c.in_ok-terms.terms.items _ _ c.requires.accepted c.in_ok-musts.ensures c.in_ok-shoulds.ensures (let great = c.in_ok-terms.ensures.greatest in omega (arith, great))
 
 pub block_wand-requires-clause-room : goal.block_wand-requires-clause-room
 block_wand-requires-clause-room g c =
@@ -27,7 +27,7 @@ block_wand-requires-clause-room g c =
     let r = c.args.forms.now.reader.now in
     let asks = c.is_union_of_terms.ensures in
     let yes = c.if-is_union_of_terms.true in
-    let it = union_scores g.W.Term.DocSet.entries g.met.W.Term.DocSet.rising sim 1 r (clauses_of c.args.clauses.now) c.args.minimum_number_should_match c.in_ok-terms.terms.items _ _ c.requires.accepted c.in_ok-musts.ensures c.in_ok-shoulds.ensures (as_great _ _ c.in_ok-terms.ensures) _ c.in_ok-must_nots.ensures r.few (asks.minimum yes) (none_mapped _ _ (asks.musts yes)) (none_mapped _ _ (asks.must_nots yes)) (ap union c.in_ok-terms.ensures) in
+    let it = union_scores g.W.Term.DocSet.entries g.met.W.Term.DocSet.rising sim 1 r (clauses_of c.args.clauses.now) c.args.minimum_number_should_match c.in_ok-terms.terms.items _ _ c.requires.accepted c.in_ok-musts.ensures c.in_ok-shoulds.ensures (let great = c.in_ok-terms.ensures.greatest in omega (arith, great)) _ c.in_ok-must_nots.ensures r.few (asks.minimum yes) (none_mapped _ _ (asks.musts yes)) (λ d. none_anywhere _ d _ (asks.must_nots yes)) (same_union _ _ c.in_ok-terms.ensures) in
     let many = it.2 in
     let room = c.requires.room in
     omega (arith, many, room)
@@ -38,7 +38,7 @@ returns-then-is_union_of_terms-clause-fed g c =
     let r = c.args.forms.now.reader.now in
     let asks = c.is_union_of_terms.ensures in
     let yes = c.if-is_union_of_terms.true in
-    let it = union_scores g.W.Term.DocSet.entries g.met.W.Term.DocSet.rising sim 1 r (clauses_of c.args.clauses.now) c.args.minimum_number_should_match c.in_ok-terms.terms.items _ _ c.requires.accepted c.in_ok-musts.ensures c.in_ok-shoulds.ensures (as_great _ _ c.in_ok-terms.ensures) _ c.in_ok-must_nots.ensures r.few (asks.minimum yes) (none_mapped _ _ (asks.musts yes)) (none_mapped _ _ (asks.must_nots yes)) (ap union c.in_ok-terms.ensures) in
+    let it = union_scores g.W.Term.DocSet.entries g.met.W.Term.DocSet.rising sim 1 r (clauses_of c.args.clauses.now) c.args.minimum_number_should_match c.in_ok-terms.terms.items _ _ c.requires.accepted c.in_ok-musts.ensures c.in_ok-shoulds.ensures (let great = c.in_ok-terms.ensures.greatest in omega (arith, great)) _ c.in_ok-must_nots.ensures r.few (asks.minimum yes) (none_mapped _ _ (asks.musts yes)) (λ d. none_anywhere _ d _ (asks.must_nots yes)) (same_union _ _ c.in_ok-terms.ensures) in
     is_fed g.K.Sink.limit g.K.Sink.taken _ sim 1 _ r _ _ it.0 it.1 c.block_wand.ensures
 
 pub feed_intersection-requires-clause-several : goal.feed_intersection-requires-clause-several
@@ -56,7 +56,7 @@ feed_intersection-requires-clause-room g c =
     let r = c.args.forms.now.reader.now in
     let asks = c.is_intersection_of_terms.ensures in
     let yes = c.if-is_intersection_of_terms.true in
-    let it = meeting_scores g.W.Term.DocSet.entries g.met.W.Term.DocSet.rising sim 1 r (clauses_of c.args.clauses.now) c.args.minimum_number_should_match c.in_ok-all.all.items _ _ c.requires.accepted c.in_ok-musts.ensures c.in_ok-shoulds.ensures c.in_ok-all.ensures _ c.in_ok-must_nots.ensures r.few (asks.minimum yes) (many_mapped _ _ 1 2 (asks.several yes) (omega arith)) (none_mapped _ _ (asks.shoulds yes)) (none_mapped _ _ (asks.must_nots yes)) in
+    let it = meeting_scores g.W.Term.DocSet.entries g.met.W.Term.DocSet.rising sim 1 r (clauses_of c.args.clauses.now) c.args.minimum_number_should_match c.in_ok-all.all.items _ _ c.requires.accepted c.in_ok-musts.ensures c.in_ok-shoulds.ensures c.in_ok-all.ensures _ c.in_ok-must_nots.ensures r.few (asks.minimum yes) (many_mapped _ _ 1 2 (asks.several yes) (omega arith)) (λ d. none_anywhere _ d _ (asks.shoulds yes)) (λ d. none_anywhere _ d _ (asks.must_nots yes)) in
     let many = it.2 in
     let room = c.requires.room in
     omega (arith, many, room)
@@ -67,7 +67,7 @@ returns-then-is_intersection_of_terms-clause-fed g c =
     let r = c.args.forms.now.reader.now in
     let asks = c.is_intersection_of_terms.ensures in
     let yes = c.if-is_intersection_of_terms.true in
-    let it = meeting_scores g.W.Term.DocSet.entries g.met.W.Term.DocSet.rising sim 1 r (clauses_of c.args.clauses.now) c.args.minimum_number_should_match c.in_ok-all.all.items _ _ c.requires.accepted c.in_ok-musts.ensures c.in_ok-shoulds.ensures c.in_ok-all.ensures _ c.in_ok-must_nots.ensures r.few (asks.minimum yes) (many_mapped _ _ 1 2 (asks.several yes) (omega arith)) (none_mapped _ _ (asks.shoulds yes)) (none_mapped _ _ (asks.must_nots yes)) in
+    let it = meeting_scores g.W.Term.DocSet.entries g.met.W.Term.DocSet.rising sim 1 r (clauses_of c.args.clauses.now) c.args.minimum_number_should_match c.in_ok-all.all.items _ _ c.requires.accepted c.in_ok-musts.ensures c.in_ok-shoulds.ensures c.in_ok-all.ensures _ c.in_ok-must_nots.ensures r.few (asks.minimum yes) (many_mapped _ _ 1 2 (asks.several yes) (omega arith)) (λ d. none_anywhere _ d _ (asks.shoulds yes)) (λ d. none_anywhere _ d _ (asks.must_nots yes)) in
     is_fed g.K.Sink.limit g.K.Sink.taken _ sim 1 _ r _ _ it.0 it.1 c.feed_intersection.ensures
 
 pub clauses_scorer-requires : goal.clauses_scorer-requires
