@@ -4,14 +4,11 @@ ghost use Rattle.std.specs.Prelude.{◌*◌, ◌≡◌, ◌≤ℤ◌, ◌≤◌,
 ghost use Rattle.definitions.specs.Query as definitions;
 ghost use Rattle.definitions.specs.Scoring.{max_score, natural};
 
-use crate::calls;
-use crate::weight::{SegmentWeight, Weight};
-use common::{DocId, Score};
-use definitions::Fault;
-use phrases::{BlockSink, Sink};
+use crate::scorer_weight::ScorerWeight;
+use crate::weight::SegmentWeight;
+use common::Score;
 use segment_reader::SegmentReader;
 use std::alloc::{AllocError, Global};
-use term_scorer::Explanation;
 
 /// The weight of a query with a boost: it scores as another, times a factor.
 #[derive(Drop)]
@@ -50,45 +47,9 @@ impl<'a, W: SegmentWeight<'a>> SegmentWeight<'a> for BoostWeight<W> {
     }
 }
 
-impl<'a, W: SegmentWeight<'a>> Weight<'a> for BoostWeight<W> {
-    fn explain(
-        &self,
-        alloc: Global,
-        reader: &SegmentReader<'a>,
-        doc: DocId,
-    ) -> Result<Explanation, Fault> {
-        calls::explain(alloc, self, reader, doc, "a boost")
-    }
-
-    fn count(&self, alloc: Global, reader: &SegmentReader<'a>) -> Result<u32, AllocError> {
-        calls::count(alloc, self, reader)
-    }
-
-    fn for_each(
-        &self,
-        alloc: Global,
-        reader: &SegmentReader<'a>,
-    ) -> Result<Vec<(DocId, Score)>, AllocError> {
-        calls::for_each(alloc, self, reader)
-    }
-
-    fn for_each_no_score<K: BlockSink>(
-        &self,
-        alloc: Global,
-        reader: &SegmentReader<'a>,
-        sink: &mut K,
-    ) -> Result<(), AllocError> {
-        calls::for_each_no_score(alloc, self, reader, sink)
-    }
-
-    fn for_each_pruning<K: Sink>(
-        &self,
-        alloc: Global,
-        threshold: Score,
-        reader: &SegmentReader<'a>,
-        sink: &mut K,
-    ) -> Result<(), AllocError> {
-        calls::for_each_pruning(alloc, self, threshold, reader, sink)
+impl<'a, W: SegmentWeight<'a>> ScorerWeight<'a> for BoostWeight<W> {
+    fn description(&self) -> &'static str {
+        "a boost"
     }
 }
 

@@ -4,15 +4,12 @@ ghost use Rattle.std.specs.Prelude.{◌≡◌};
 ghost use Rattle.definitions.specs.Query as definitions;
 
 use crate::boost_weight::product;
-use crate::calls;
-use crate::weight::{SegmentWeight, Weight};
-use common::{DocId, Score};
-use definitions::Fault;
+use crate::scorer_weight::ScorerWeight;
+use crate::weight::SegmentWeight;
+use common::Score;
 use docsets::ConstScorer;
-use phrases::{BlockSink, Sink};
 use segment_reader::SegmentReader;
 use std::alloc::{AllocError, Global};
-use term_scorer::Explanation;
 
 /// The weight of a query with a constant score: it finds the documents of another, each with the same score.
 #[derive(Drop)]
@@ -52,44 +49,8 @@ impl<'a, W: SegmentWeight<'a>> SegmentWeight<'a> for ConstWeight<W> {
     }
 }
 
-impl<'a, W: SegmentWeight<'a>> Weight<'a> for ConstWeight<W> {
-    fn explain(
-        &self,
-        alloc: Global,
-        reader: &SegmentReader<'a>,
-        doc: DocId,
-    ) -> Result<Explanation, Fault> {
-        calls::explain(alloc, self, reader, doc, "a constant")
-    }
-
-    fn count(&self, alloc: Global, reader: &SegmentReader<'a>) -> Result<u32, AllocError> {
-        calls::count(alloc, self, reader)
-    }
-
-    fn for_each(
-        &self,
-        alloc: Global,
-        reader: &SegmentReader<'a>,
-    ) -> Result<Vec<(DocId, Score)>, AllocError> {
-        calls::for_each(alloc, self, reader)
-    }
-
-    fn for_each_no_score<K: BlockSink>(
-        &self,
-        alloc: Global,
-        reader: &SegmentReader<'a>,
-        sink: &mut K,
-    ) -> Result<(), AllocError> {
-        calls::for_each_no_score(alloc, self, reader, sink)
-    }
-
-    fn for_each_pruning<K: Sink>(
-        &self,
-        alloc: Global,
-        threshold: Score,
-        reader: &SegmentReader<'a>,
-        sink: &mut K,
-    ) -> Result<(), AllocError> {
-        calls::for_each_pruning(alloc, self, threshold, reader, sink)
+impl<'a, W: SegmentWeight<'a>> ScorerWeight<'a> for ConstWeight<W> {
+    fn description(&self) -> &'static str {
+        "a constant"
     }
 }

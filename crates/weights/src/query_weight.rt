@@ -3,16 +3,13 @@
 ghost use Rattle.std.specs.Prelude.{◌≡◌};
 ghost use Rattle.query_trees.specs.Queries.{query_of};
 
-use crate::calls;
-use crate::weight::{SegmentWeight, Weight};
-use common::{DocId, Score};
-use definitions::Fault;
-use phrases::{BlockSink, Sink};
+use crate::scorer_weight::ScorerWeight;
+use crate::weight::SegmentWeight;
+use common::Score;
 use query_trees::AnyQuery;
 use reader_scorers::{LeafWeights, ReaderScorers, ScorerBy};
 use segment_reader::SegmentReader;
 use std::alloc::{AllocError, Global};
-use term_scorer::Explanation;
 use tree_scorers::scorer_of;
 
 /// The weight of a query of any form, as it stands below another. The query is borrowed; `weights` makes the scorers of
@@ -53,44 +50,8 @@ impl<'q, 'a, W: LeafWeights<'a>> SegmentWeight<'a> for QueryWeight<'q, W> {
     }
 }
 
-impl<'q, 'a, W: LeafWeights<'a>> Weight<'a> for QueryWeight<'q, W> {
-    fn explain(
-        &self,
-        alloc: Global,
-        reader: &SegmentReader<'a>,
-        doc: DocId,
-    ) -> Result<Explanation, Fault> {
-        calls::explain(alloc, self, reader, doc, "a query")
-    }
-
-    fn count(&self, alloc: Global, reader: &SegmentReader<'a>) -> Result<u32, AllocError> {
-        calls::count(alloc, self, reader)
-    }
-
-    fn for_each(
-        &self,
-        alloc: Global,
-        reader: &SegmentReader<'a>,
-    ) -> Result<Vec<(DocId, Score)>, AllocError> {
-        calls::for_each(alloc, self, reader)
-    }
-
-    fn for_each_no_score<K: BlockSink>(
-        &self,
-        alloc: Global,
-        reader: &SegmentReader<'a>,
-        sink: &mut K,
-    ) -> Result<(), AllocError> {
-        calls::for_each_no_score(alloc, self, reader, sink)
-    }
-
-    fn for_each_pruning<K: Sink>(
-        &self,
-        alloc: Global,
-        threshold: Score,
-        reader: &SegmentReader<'a>,
-        sink: &mut K,
-    ) -> Result<(), AllocError> {
-        calls::for_each_pruning(alloc, self, threshold, reader, sink)
+impl<'q, 'a, W: LeafWeights<'a>> ScorerWeight<'a> for QueryWeight<'q, W> {
+    fn description(&self) -> &'static str {
+        "a query"
     }
 }

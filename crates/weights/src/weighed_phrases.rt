@@ -1,10 +1,11 @@
-//! The weights of phrases and of phrase prefixes in a segment.
+//! The weights of phrases and of phrase prefixes, asked in a segment.
 
 ghost use Rattle.definitions.specs.Query.{phrase, phrase_prefix};
 ghost use Rattle.phrase_weights.specs.PhrasePrefixWeights.{ScoresPrefixBy, limit_of, prefix_terms_of};
 ghost use Rattle.phrase_weights.specs.PhraseWeights.{ScoresBy, slop_of, terms_of};
 
 use crate::found_scorer::FoundScorer;
+use crate::scorer_weight::ScorerWeight;
 use crate::weight::SegmentWeight;
 use common::Score;
 use phrase_weights::{PhrasePrefixWeight, PhraseWeight, WholePhrase};
@@ -37,6 +38,12 @@ impl<'q, 'a> SegmentWeight<'a> for PhraseWeight<'q, 'a> {
     }
 }
 
+impl<'q, 'a> ScorerWeight<'a> for PhraseWeight<'q, 'a> {
+    fn description(&self) -> &'static str {
+        "a phrase"
+    }
+}
+
 impl<'q, 'a> SegmentWeight<'a> for PhrasePrefixWeight<'q, 'a> {
     type Scorer = FoundPrefix<'a>;
 
@@ -52,5 +59,11 @@ impl<'q, 'a> SegmentWeight<'a> for PhrasePrefixWeight<'q, 'a> {
     ) -> Result<FoundPrefix<'a>, AllocError> {
         let found = self.phrase_prefix_scorer(alloc, reader, boost)?;
         Ok(FoundScorer::new(found))
+    }
+}
+
+impl<'q, 'a> ScorerWeight<'a> for PhrasePrefixWeight<'q, 'a> {
+    fn description(&self) -> &'static str {
+        "a phrase with a prefix"
     }
 }

@@ -1,9 +1,10 @@
-//! The weight of a term in a segment.
+//! The weight of a term, asked in a segment.
 
 ghost use Rattle.definitions.specs.Query.{term};
 ghost use Rattle.term_weight.specs.TermWeights.{ScoresBy, option_asked, term_of};
 
 use crate::found_scorer::FoundScorer;
+use crate::scorer_weight::ScorerWeight;
 use crate::weight::SegmentWeight;
 use common::Score;
 use segment_reader::SegmentReader;
@@ -26,5 +27,11 @@ impl<'q, 'a> SegmentWeight<'a> for TermWeight<'q, 'a> {
     ) -> Result<FoundScorer<TermScorer<'a>>, AllocError> {
         let found = self.term_scorer(reader, boost);
         Ok(FoundScorer::new(found))
+    }
+}
+
+impl<'q, 'a> ScorerWeight<'a> for TermWeight<'q, 'a> {
+    fn description(&self) -> &'static str {
+        "a term"
     }
 }
