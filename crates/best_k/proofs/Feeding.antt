@@ -1,21 +1,19 @@
 -- What documents that are fed leave among the best.
-use Rattle.std.proofs.Common.{[], Bool, List, ap, arith, cond, false, if◌then◌else◌, le-leb, le_refl, le_trans, leb-true, length, map, min, nat_le, nat_lt, refl, slice_index_or, subst, suc, sym, take, true, zero, ◌++◌, ◌+◌, ◌-◌, ◌<◌, ◌∙◌, ◌∷◌, ◌≡◌, ◌≤◌, ℕ}
+use Rattle.std.proofs.Common.{[], Bool, List, ap, arith, false, if◌then◌else◌, le-leb, le_refl, le_trans, length, map, nat_lt, refl, slice_index_or, subst, suc, sym, take, true, zero, ◌++◌, ◌∙◌, ◌∷◌, ◌≡◌, ◌≤◌, ℕ}
 use Rattle.std.specs.Prelude.{filter, int_lt, negsuc, pos}
 use Rattle.std.specs.List.{AllByRecursion}
 use Rattle.std.proofs.lemmas.Bool.Decides.{nat_tests}
 use Rattle.std.proofs.lemmas.List.{append-nil, append_assoc}
-use Rattle.definitions.proofs.Ranking.{length-ranked}
 use Rattle.definitions.specs.Blocks.{least_of}
 use Rattle.definitions.specs.ScanLaws.{NeverRises}
 use Rattle.definitions.specs.ScoredLists.{ScoredList}
-use Rattle.definitions.specs.Scoring.{max_score}
 use Rattle.definitions.specs.Sinks.{fed}
 use Rattle.best_k.proofs.Bests.{best_falls, best_inserted, best_with_more, insert_last, ranked_falling}
 use Rattle.best_k.specs.Kept.{Best, best_by, ScoredAddress, hits_with, least_kept, limit, living_in, score_of, taken}
 
 -- ---- what is not better than so many isn't among the best
 
-take_whole : {X : Type 0} (k : ℕ) (xs : List X) → length xs ≤ k → take k xs ≡ xs
+pub take_whole : {X : Type 0} (k : ℕ) (xs : List X) → length xs ≤ k → take k xs ≡ xs
 take_whole zero [] few = refl
 take_whole zero (x ∷ xs) few = absurd (omega (arith, few))
 take_whole (suc k) [] few = refl

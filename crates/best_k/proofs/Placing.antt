@@ -1,14 +1,12 @@
 -- Where one more goes among the best.
-use Rattle.std.proofs.Common.{[], Bool, List, ap, arith, cond, drop, false, if◌then◌else◌, inl, inr, le-leb, leb-false, leb-true, length, length-append, map, min, nat_le, refl, slice_index_or, subst, suc, sym, take, true, zero, ◌++◌, ◌+◌, ◌-◌, ◌<◌, ◌^◌, ◌∙◌, ◌∷◌, ◌≡◌, ◌≤◌, ◌⊎◌, ℕ}
+use Rattle.std.proofs.Common.{[], Bool, List, ap, arith, cond, false, if◌then◌else◌, le-leb, leb-false, leb-true, length, length-append, nat_le, refl, suc, take, true, zero, ◌++◌, ◌+◌, ◌-◌, ◌<◌, ◌^◌, ◌∙◌, ◌∷◌, ◌≡◌, ◌≤◌, ℕ}
 use Rattle.std.specs.Bool.{◌==◌}
 use Rattle.std.specs.List.{AllByRecursion, insert}
-use Rattle.std.proofs.lemmas.Bool.{cases_lt, lt-leb}
+use Rattle.std.proofs.lemmas.Bool.{lt-leb}
 use Rattle.definitions.proofs.Ranking.{length-ranked}
-use Rattle.definitions.specs.Blocks.{least_of}
 use Rattle.definitions.specs.ScanLaws.{NeverRises}
 use Rattle.definitions.specs.Scanning.{ranked}
-use Rattle.best_k.proofs.Bests.{best_inserted, insert_last}
-use Rattle.best_k.proofs.Feeding.{best_falling}
+use Rattle.best_k.proofs.Bests.{insert_last}
 use Rattle.best_k.specs.Contents.{room_left}
 use Rattle.best_k.specs.Kept.{AreSigned, ScoredAddress, best_by, least_kept, score_at, score_of}
 
@@ -39,44 +37,13 @@ last_is_least (h ∷ g ∷ hs) (suc n) falls len =
 
 -- ---- one more at its place
 
-placed : (y : ScoredAddress) (at : ℕ) (hs : List ScoredAddress) → at ≤ length hs → ((i : ℕ) → i < at → score_of y ≤ score_at hs i) → ((i : ℕ) → at ≤ i → i < length hs → score_at hs i < score_of y) → insert_last score_of y hs ≡ insert hs at y
+pub placed : (y : ScoredAddress) (at : ℕ) (hs : List ScoredAddress) → at ≤ length hs → ((i : ℕ) → i < at → score_of y ≤ score_at hs i) → ((i : ℕ) → at ≤ i → i < length hs → score_at hs i < score_of y) → insert_last score_of y hs ≡ insert hs at y
 placed y zero [] few before behind = refl
 placed y zero (h ∷ hs) few before behind = ap (λ b. cond b (h ∷ insert_last score_of y hs) (y ∷ h ∷ hs)) (lt-leb (score_of y) (score_of h) (behind 0 (omega arith) (omega arith)))
 placed y (suc at) [] few before behind = absurd (omega (arith, few))
 placed y (suc at) (h ∷ hs) few before behind =
     let ih = placed y at hs (omega (arith, few)) (λ i l. before (suc i) (omega (arith, l))) (λ i l within. behind (suc i) (omega (arith, l)) (omega (arith, within))) in
     ap (λ b. cond b (h ∷ insert_last score_of y hs) (y ∷ h ∷ hs)) (le-leb (score_of y) (score_of h) (before 0 (omega arith))) ∙ ap (λ ws. h ∷ ws) ih
-
--- the first of a list with one more are the first of it with one more
-first_placed : {X : Type 0} (n at : ℕ) (xs : List X) (y : X) → at ≤ n → take (suc n) (insert xs at y) ≡ insert (take n xs) at y
-first_placed n zero xs y l = refl
-first_placed zero (suc at) xs y l = absurd (omega (arith, l))
-first_placed (suc n) (suc at) [] y l = refl
-first_placed (suc n) (suc at) (x ∷ xs) y l = ap (λ ws. x ∷ ws) (first_placed n at xs y (omega (arith, l)))
-
-last_out : {X : Type 0} (xs : List X) (y : X) → take (length xs) (insert xs (length xs) y) ≡ xs
-last_out [] y = refl
-last_out (x ∷ xs) y = ap (λ ws. x ∷ ws) (last_out xs y)
-
--- it goes in at its place, and the last one out
-pub kept_in : (k at : ℕ) (hs : List ScoredAddress) (y : ScoredAddress) → NeverRises score_of hs → length hs ≤ k → at ≤ length hs → ((i : ℕ) → i < at → score_of y ≤ score_at hs i) → ((i : ℕ) → at ≤ i → i < length hs → score_at hs i < score_of y) → at < k → best_by score_of k (hs ++ y ∷ []) ≡ insert (take (k - 1) hs) at y
-kept_in zero at hs y falls few within before behind early = absurd (omega (arith, early))
-kept_in (suc n) at hs y falls few within before behind early =
-    let less : suc n - 1 ≡ n = omega arith in
-    best_inserted score_of (suc n) hs y
-    ∙ (ap (λ ws. take (suc n) (insert_last score_of y ws)) (best_falling score_of (suc n) hs falls few)
-    ∙ (ap (take (suc n)) (placed y at hs within before behind)
-    ∙ (first_placed n at hs y (omega (arith, early)) ∙ ap (λ m. insert (take m hs) at y) (sym less))))
-
--- it stays out where so many aren't lower
-pub kept_out : (k at : ℕ) (hs : List ScoredAddress) (y : ScoredAddress) → NeverRises score_of hs → length hs ≤ k → at ≤ length hs → ((i : ℕ) → i < at → score_of y ≤ score_at hs i) → ((i : ℕ) → at ≤ i → i < length hs → score_at hs i < score_of y) → k ≤ at → best_by score_of k (hs ++ y ∷ []) ≡ hs
-kept_out k at hs y falls few within before behind late =
-    let here : at ≡ length hs = omega (arith, few, within, late) in
-    let all : k ≡ length hs = omega (arith, few, within, late) in
-    best_inserted score_of k hs y
-    ∙ (ap (λ ws. take k (insert_last score_of y ws)) (best_falling score_of k hs falls few)
-    ∙ (ap (take k) (placed y at hs within before behind)
-    ∙ (ap (λ n. take k (insert hs n y)) here ∙ (ap (λ n. take n (insert hs (length hs) y)) all ∙ last_out hs y))))
 
 -- ---- bounds
 
@@ -101,14 +68,6 @@ best_at_most k hs y =
     take_few zero xs = omega arith
     take_few (suc k) [] = omega arith
     take_few (suc k) (x ∷ xs) = (let ih = take_few k xs in omega (arith, ih))
-
--- what was shortened has room for one more
-pub room_for : (capacity wanted len after : ℕ) → (capacity < wanted → len < capacity) → 0 < wanted → after + (len - (wanted - 1)) ≡ len → after < capacity
-room_for capacity wanted len after room some cut = go (cases_lt capacity wanted)
-  where
-    go : (capacity < wanted) ⊎ (wanted ≤ capacity) → after < capacity
-    go (inl l) = (let more = room l in omega (arith, more, cut))
-    go (inr l) = omega (arith, l, cut, some)
 
 pub room_after : (wanted capacity more len next : ℕ) → capacity ≤ more → next ≤ len + 1 → room_left wanted capacity len ≤ room_left wanted more next + 1
 room_after wanted capacity more len next grows one = go (nat_le wanted capacity) (nat_le wanted more) refl refl

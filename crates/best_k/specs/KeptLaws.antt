@@ -1,7 +1,7 @@
 -- What must be told of hits in one way alone.
 use Rattle.std.specs.Prelude.{[], ◌∷◌, List, ℕ}
 use Rattle.std.specs.Coded.{Unit-prop, ×_prop}
-use Rattle.std.specs.List.{AllByRecursion, AllByRecursion-prop}
+use Rattle.std.specs.List.{AllByRecursion-prop}
 use Rattle.std.proofs.Props.{props}
 use Rattle.definitions.specs.ScanLaws.{NeverRises}
 use Rattle.best_k.specs.Kept.{AreSigned, ScoredAddress}

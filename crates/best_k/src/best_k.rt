@@ -2,12 +2,13 @@
 
 ghost use Rattle.std.specs.Prelude.{[], ◌++◌, ◌+◌, ◌<◌, ◌^◌, ◌≡◌, ◌≤◌, ◌∷◌, OnErr, OnOk, false, length, pos, slice_index_or, vec_capacity};
 ghost use Rattle.std.specs.Option.{option_map_or};
-ghost use Rattle.best_k.specs.Kept.{AreSigned, best_by, least_kept, score_of};
-ghost use Rattle.best_k.specs.KeptLaws.{AreSigned-prop, NeverRises-prop};
+ghost use Rattle.best_k.specs.Kept.{best_by, score_of};
+ghost use Rattle.best_k.specs.KeptLaws.{NeverRises-prop};
+ghost use Rattle.best_k.specs.Ranked.{hits_in, room_for_hits};
 ghost use Rattle.definitions.specs.ScanLaws.{NeverRises};
 
-use crate::insertion::insertion_index;
-use common::{AliveBitSet, DocId, MAX_SCORE, Score};
+use crate::ranked_hits::RankedHits;
+use common::{AliveBitSet, DocId, Score};
 use phrases::Sink;
 use std::alloc::{AllocError, Global};
 use std::marker::Model;
@@ -16,14 +17,12 @@ use std::marker::Model;
 /// come from one segment after the other; `enter` says from which.
 #[derive(Drop)]
 pub struct BestK<'a> {
-    // Each with its score, its segment's number and its document id, the best first.
-    hits: Vec<(u64, u32, DocId)>,
+    hits: RankedHits,
     wanted: usize,
     segment: u32,
     alive: Option<&'a AliveBitSet>,
-    ghost falls: { NeverRises score_of hits.items } by { NeverRises-prop score_of hits.items },
-    ghost few: { length hits.items ≤ wanted },
-    ghost signed: { AreSigned hits.items } by { AreSigned-prop hits.items },
+    ghost falls: { NeverRises score_of (hits_in hits) } by { NeverRises-prop score_of (hits_in hits) },
+    ghost few: { length (hits_in hits) ≤ wanted },
 }
 
 /// The state of a `BestK`. No value of it is made.
@@ -46,7 +45,7 @@ impl<'a> BestK<'a> {
         ensures { best_in result ≡ record { hits = []; wanted = k; segment = 0; alive = [] } }
     {
         BestK {
-            hits: Vec::new(alloc),
+            hits: RankedHits::new(alloc),
             wanted: k,
             segment: 0,
             alive: None,
@@ -78,7 +77,7 @@ impl<'a> BestK<'a> {
         ensures { result.items ≡ (best_in self.entry).hits }
     {
         let BestK { hits, .. } = self;
-        hits
+        hits.into_vec()
     }
 }
 
@@ -101,7 +100,7 @@ impl<'a> Sink for BestK<'a> {
         if self.hits.len() < self.wanted {
             return -1;
         }
-        least_score(&self.hits)
+        self.hits.least_score() as Score
     }
 
     fn collect(&mut self, doc: DocId, score: Score) -> Score {
@@ -116,20 +115,6 @@ impl<'a> Sink for BestK<'a> {
     }
 }
 
-/// Returns the least score of `hits`; `MAX_SCORE` if there is none.
-#[inline]
-fn least_score(hits: &[(u64, u32, DocId)]) -> Score
-    requires falls { NeverRises score_of hits.now }
-    requires signed { AreSigned hits.now }
-    ensures { result ≡ pos (least_kept hits.now) }
-{
-    if hits.is_empty() {
-        return MAX_SCORE;
-    }
-    let (score, _, _) = hits[hits.len() - 1];
-    score as Score
-}
-
 /// Whether `doc` is in `alive`.
 fn is_alive(alive: Option<&AliveBitSet>, doc: DocId) -> bool
     ensures { result ≡ slice_index_or (option_map_or (λ flags. flags.now) alive.entry []) doc false }
@@ -140,24 +125,28 @@ fn is_alive(alive: Option<&AliveBitSet>, doc: DocId) -> bool
     }
 }
 
-/// Inserts `found` into `hits` and keeps the best `wanted` of them. It takes no memory.
-fn keep_best(hits: &mut Vec<(u64, u32, DocId)>, wanted: usize, found: (u64, u32, DocId))
-    requires falls { NeverRises score_of hits.old.items }
-    requires few { length hits.old.items ≤ wanted }
-    requires signed { AreSigned hits.old.items }
+/// Adds `found` to `hits` and keeps the best `wanted` of them. It takes no memory.
+fn keep_best(hits: &mut RankedHits, wanted: usize, found: (u64, u32, DocId))
+    requires falls { NeverRises score_of (hits_in hits.old) }
+    requires few { length (hits_in hits.old) ≤ wanted }
     requires score { found.0 < 2 ^ 63 }
-    requires room { vec_capacity hits.old < wanted → length hits.old.items < vec_capacity hits.old }
-    ensures items { hits.new.items ≡ best_by score_of wanted (hits.old.items ++ found ∷ []) }
-    ensures falls { NeverRises score_of hits.new.items }
-    ensures few { length hits.new.items ≤ wanted }
-    ensures one { length hits.new.items ≤ length hits.old.items + 1 }
-    ensures signed { AreSigned hits.new.items }
-    ensures room { vec_capacity hits.old ≤ vec_capacity hits.new }
+    requires room { room_for_hits hits.old < wanted → length (hits_in hits.old) < room_for_hits hits.old }
+    ensures hits { hits_in hits.new ≡ best_by score_of wanted (hits_in hits.old ++ found ∷ []) }
+    ensures falls { NeverRises score_of (hits_in hits.new) }
+    ensures few { length (hits_in hits.new) ≤ wanted }
+    ensures one { length (hits_in hits.new) ≤ length (hits_in hits.old) + 1 }
+    ensures room { room_for_hits hits.old ≤ room_for_hits hits.new }
 {
-    let at = insertion_index(hits, found.0);
-    if at >= wanted {
+    if hits.len() < wanted {
+        hits.insert(found);
         return;
     }
-    hits.truncate(wanted - 1);
-    let _ = hits.insert(at, found);
+    if wanted == 0 {
+        return;
+    }
+    if found.0 <= hits.least_score() {
+        return;
+    }
+    hits.drop_last();
+    hits.insert(found);
 }

@@ -1,57 +1,94 @@
-use Rattle.std.proofs.Common.{[], IsOk, List, ap, arith, length, rules, subst, sym, vec_capacity, vec_len, ◌++◌, ◌+◌, ◌-◌, ◌<◌, ◌∙◌, ◌∷◌, ◌≡◌, ◌≤◌, ℕ}
-use Rattle.std.specs.List.{insert}
+use Rattle.std.proofs.Common.{[], List, ap, arith, length, refl, subst, sym, ◌++◌, ◌+◌, ◌∙◌, ◌∷◌, ◌≡◌, ◌≤◌, ℕ}
 use Rattle.definitions.specs.ScanLaws.{NeverRises}
-use Rattle.best_k.proofs.Bests.{best_falls}
-use Rattle.best_k.proofs.Feeding.{take_at_most}
-use Rattle.best_k.proofs.Placing.{best_at_most, falls_at, kept_in, kept_out, room_for}
 use Rattle.definitions.specs.Scanning.{ranked}
-use Rattle.best_k.specs.Kept.{ScoredAddress, score_at, score_of}
-use Rattle.best_k.proofs.best_k.keep_best.Goals.{After-insertion_index-at}
+use Rattle.best_k.proofs.Bests.{best_falls}
+use Rattle.best_k.proofs.Feeding.{all_kept, not_better, take_at_most, take_whole}
+use Rattle.best_k.proofs.LastOfBoth.{in_its_place}
+use Rattle.best_k.proofs.Placing.{best_at_most}
+use Rattle.best_k.proofs.TwoLists.{length_of_both}
+use Rattle.best_k.specs.Kept.{ScoredAddress, best_by, least_kept, score_of}
+use Rattle.best_k.specs.Ranked.{hits_in}
 use Rattle.best_k.proofs.best_k.keep_best.Goals as goal
 
-pub insertion_index-at-requires : goal.insertion_index-at-requires
-insertion_index-at-requires c = λ i j l within. falls_at c.deref.result.now (subst (λ (xs : List ScoredAddress). NeverRises score_of xs) (sym c.deref.ensures.value) c.requires.falls) i j l within
+abbrev Hits : Type 0
+Hits = List ScoredAddress
 
--- the place is one of the list itself
-record Place (c : After-insertion_index-at) : Type 0 where
-  within : c.insertion_index-at.result ≤ length c.args.hits.now.items
-  before : (i : ℕ) → i < c.insertion_index-at.result → score_of c.args.found ≤ score_at c.args.hits.now.items i
-  behind : (i : ℕ) → c.insertion_index-at.result ≤ i → i < length c.args.hits.now.items → score_at c.args.hits.now.items i < score_of c.args.found
+-- ---- what is said of the best is said of what they are
 
-place : (c : After-insertion_index-at) → Place c
-place c =
-    let value = c.deref.ensures.value in
-    let len = ap length value in
-    record {
-      within = (let it = c.insertion_index-at.ensures.within in omega (arith, it, len));
-      before = λ i l. (let it = c.insertion_index-at.ensures.before i l in let same = ap (λ (xs : List ScoredAddress). score_at xs i) value in omega (arith, it, same));
-      behind = λ i l most. (let it = c.insertion_index-at.ensures.behind i l (omega (arith, most, len)) in let same = ap (λ (xs : List ScoredAddress). score_at xs i) value in omega (arith, it, same));
-    }
+falls_as_best : (k : ℕ) (now hs : Hits) → now ≡ best_by score_of k hs → NeverRises score_of now
+falls_as_best k now hs is = subst (λ (gs : Hits). NeverRises score_of gs) (sym is) (best_falls score_of k hs)
 
-pub returns-then-at-wanted-clause-items : goal.returns-then-at-wanted-clause-items
-returns-then-at-wanted-clause-items c =
-    let at = place (goal.at.returns-then-at-wanted-clause-items c).After-insertion_index-at in
-    sym (kept_out c.args.wanted c.insertion_index-at.result c.args.hits.now.items c.args.found c.requires.falls c.requires.few at.within at.before at.behind c.if-at-wanted.true)
+few_as_best : (k : ℕ) (now hs : Hits) → now ≡ best_by score_of k hs → length now ≤ k
+few_as_best k now hs is = (let same = ap length is in let few = take_at_most k (ranked score_of hs) in omega (arith, same, few))
 
-pub returns-clause-items : goal.returns-clause-items
-returns-clause-items c =
-    let at = place (goal.at.returns-clause-items c).After-insertion_index-at in
+one_as_best : (k : ℕ) (now hs : Hits) (y : ScoredAddress) → now ≡ best_by score_of k (hs ++ y ∷ []) → length now ≤ length hs + 1
+one_as_best k now hs y is = (let same = ap length is in let few = best_at_most k hs y in omega (arith, same, few))
+
+no_hits : (hs : Hits) → length hs ≤ 0 → hs ≡ []
+no_hits [] l = refl
+no_hits (h ∷ hs) l = absurd (omega (arith, l))
+
+-- ---- while fewer are kept
+
+pub returns-then-len-wanted-clause-hits : goal.returns-then-len-wanted-clause-hits
+returns-then-len-wanted-clause-hits c =
+    let hits = hits_in c.args.hits.now in
+    let is = c.len.ensures in
+    let less = c.if-len-wanted.true in
+    let one = length_of_both score_of hits (c.args.found ∷ []) in
+    c.insert.ensures.hits ∙ sym (take_whole c.args.wanted (ranked score_of (hits ++ c.args.found ∷ [])) (omega (arith, is, less, one)))
+
+pub returns-then-len-wanted-clause-falls : goal.returns-then-len-wanted-clause-falls
+returns-then-len-wanted-clause-falls c = falls_as_best c.args.wanted (hits_in c.insert.new.self) (hits_in c.args.hits.now ++ c.args.found ∷ []) (returns-then-len-wanted-clause-hits c)
+
+pub returns-then-len-wanted-clause-few : goal.returns-then-len-wanted-clause-few
+returns-then-len-wanted-clause-few c = few_as_best c.args.wanted (hits_in c.insert.new.self) (hits_in c.args.hits.now ++ c.args.found ∷ []) (returns-then-len-wanted-clause-hits c)
+
+pub returns-then-len-wanted-clause-one : goal.returns-then-len-wanted-clause-one
+returns-then-len-wanted-clause-one c = one_as_best c.args.wanted (hits_in c.insert.new.self) (hits_in c.args.hits.now) c.args.found (returns-then-len-wanted-clause-hits c)
+
+-- ---- where none is wanted, and where it isn't better
+
+pub returns-then-wanted-eq0-clause-hits : goal.returns-then-wanted-eq0-clause-hits
+returns-then-wanted-eq0-clause-hits c =
+    let hits = hits_in c.args.hits.now in
     let few = c.requires.few in
-    let early = c.if-at-wanted.false in
-    let len = c.truncate.ensures.len in
-    let capacity = c.truncate.ensures.capacity in
-    let many = c.args.hits.now.ok.0 in
-    let cut : vec_len c.truncate.new.self + (length c.args.hits.now.items - (c.args.wanted - 1)) ≡ length c.args.hits.now.items = omega (arith, len, many) in
-    let room = room_for (vec_capacity c.args.hits.now) c.args.wanted (length c.args.hits.now.items) (vec_len c.truncate.new.self) c.requires.room (omega (arith, early)) cut in
-    let ok : IsOk c.insert.result = c.insert.ensures.succeeds (omega (arith, room, capacity)) in
-    let inserted : c.insert.new.self.items ≡ insert c.truncate.new.self.items c.insertion_index-at.result c.args.found = search rules in
-    inserted ∙ (ap (λ (xs : List ScoredAddress). insert xs c.insertion_index-at.result c.args.found) c.truncate.ensures.items ∙ sym (kept_in c.args.wanted c.insertion_index-at.result c.args.hits.now.items c.args.found c.requires.falls few at.within at.before at.behind early))
+    let none = c.if-wanted-eq0.true in
+    no_hits hits (omega (arith, few, none)) ∙ ap (λ k. best_by score_of k (hits ++ c.args.found ∷ [])) (sym none)
+
+pub returns-then-found-least_score-clause-hits : goal.returns-then-found-least_score-clause-hits
+returns-then-found-least_score-clause-hits c =
+    let hits = hits_in c.args.hits.now in
+    let is = c.len.ensures in
+    let few = c.requires.few in
+    let full = c.if-len-wanted.false in
+    let least = c.least_score.ensures.value in
+    let low = c.if-found-least_score.true in
+    let many : length hits ≡ c.args.wanted = omega (arith, is, few, full) in
+    sym (not_better score_of (least_kept hits) c.args.found hits c.requires.falls (all_kept hits) (omega (arith, low, least)))
+    ∙ ap (λ k. best_by score_of k (hits ++ c.args.found ∷ [])) many
+
+-- ---- where it goes in for the last
+
+pub returns-clause-hits : goal.returns-clause-hits
+returns-clause-hits c =
+    let hits = hits_in c.args.hits.now in
+    let is = c.len.ensures in
+    let few = c.requires.few in
+    let full = c.if-len-wanted.false in
+    let some = c.if-wanted-eq0.false in
+    let least = c.least_score.ensures.value in
+    let better = c.if-found-least_score.false in
+    let many : length hits ≡ c.args.wanted = omega (arith, is, few, full) in
+    c.insert-2.ensures.hits
+    ∙ ap (λ (hs : Hits). ranked score_of (hs ++ c.args.found ∷ [])) c.drop_last.ensures.hits
+    ∙ in_its_place c.args.wanted hits c.args.found c.requires.falls many (omega (arith, some)) (omega (arith, least, better))
 
 pub returns-clause-falls : goal.returns-clause-falls
-returns-clause-falls c = subst (λ (xs : List ScoredAddress). NeverRises score_of xs) (sym (returns-clause-items c)) (best_falls score_of c.args.wanted (c.args.hits.now.items ++ c.args.found ∷ []))
+returns-clause-falls c = falls_as_best c.args.wanted (hits_in c.insert-2.new.self) (hits_in c.args.hits.now ++ c.args.found ∷ []) (returns-clause-hits c)
 
 pub returns-clause-few : goal.returns-clause-few
-returns-clause-few c = (let is = ap length (returns-clause-items c) in let few = take_at_most c.args.wanted (ranked score_of (c.args.hits.now.items ++ c.args.found ∷ [])) in omega (arith, is, few))
+returns-clause-few c = few_as_best c.args.wanted (hits_in c.insert-2.new.self) (hits_in c.args.hits.now ++ c.args.found ∷ []) (returns-clause-hits c)
 
 pub returns-clause-one : goal.returns-clause-one
-returns-clause-one c = (let is = ap length (returns-clause-items c) in let few = best_at_most c.args.wanted c.args.hits.now.items c.args.found in omega (arith, is, few))
+returns-clause-one c = one_as_best c.args.wanted (hits_in c.insert-2.new.self) (hits_in c.args.hits.now) c.args.found (returns-clause-hits c)
