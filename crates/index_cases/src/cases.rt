@@ -1,16 +1,19 @@
 //! What stands between two lines, and whose answer a line gets.
 
 use crate::answers::fault_text;
-use common::{MemoryDevice, RawAndDefault};
+use common::{FuseDevice, MemoryDevice, RawAndDefault};
 use definitions::Fault;
 use index::{Index, Session};
 use std::alloc::{AllocError, Global};
 
-/// An index whose file is in memory.
-pub(crate) type MemoryIndex = Index<MemoryDevice, RawAndDefault>;
+/// A device in memory, under a fuse.
+pub(crate) type CaseDevice = FuseDevice<MemoryDevice>;
 
-/// A session over a device in memory.
-pub(crate) type MemorySession = Session<MemoryDevice, RawAndDefault>;
+/// An index whose file is on such a device.
+pub(crate) type CaseIndex = Index<CaseDevice, RawAndDefault>;
+
+/// A session over such a device.
+pub(crate) type CaseSession = Session<CaseDevice, RawAndDefault>;
 
 /// What the operations are about.
 #[derive(Drop)]
@@ -18,8 +21,10 @@ pub(crate) struct Cases {
     pub(crate) alloc: Global,
     /// What the next device holds: an index, a session and a run each begin over a device of their own.
     pub(crate) file: Vec<u8>,
-    pub(crate) index: Option<MemoryIndex>,
-    pub(crate) session: Option<MemorySession>,
+    /// The call from which on the next device fails.
+    pub(crate) fuse: u64,
+    pub(crate) index: Option<CaseIndex>,
+    pub(crate) session: Option<CaseSession>,
 }
 
 /// The answers to all lines, each with its newline.
@@ -27,6 +32,7 @@ pub(crate) fn answers_to(alloc: Global, lines: &str) -> Result<String, AllocErro
     let mut cases = Cases {
         alloc,
         file: Vec::new(alloc),
+        fuse: u64::MAX,
         index: None,
         session: None,
     };

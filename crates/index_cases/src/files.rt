@@ -1,8 +1,8 @@
-//! Operations on the bytes that the next device holds: `file`, `append` and `bytes`.
+//! Operations on the next device, and the bytes that it holds: `file`, `append`, `bytes` and `fuse`.
 
 use crate::answers::ok;
-use crate::cases::Cases;
-use common::{Device, MemoryDevice};
+use crate::cases::{CaseDevice, Cases};
+use common::{Device, FuseDevice, MemoryDevice};
 use definitions::Fault;
 use std::alloc::Global;
 
@@ -17,6 +17,7 @@ impl Cases {
             "file" => self.put_file(arguments)?,
             "append" => self.append(arguments)?,
             "bytes" => hex::encode(self.alloc, self.file.as_slice())?,
+            "fuse" => self.put_fuse(arguments)?,
             _ => return Ok(None),
         };
         Ok(Some(answer))
@@ -35,12 +36,29 @@ impl Cases {
         ok(self.alloc)
     }
 
-    /// A device that holds the bytes.
-    pub(crate) fn device(&self) -> Result<MemoryDevice, Fault> {
+    /// Lets the k-th call of the next device fail, and all after it.
+    fn put_fuse(&mut self, k: &str) -> Result<String, Fault> {
+        let Ok(k) = k.parse::<u64>() else {
+            return Err(Fault::BadRequest);
+        };
+        self.fuse = k;
+        ok(self.alloc)
+    }
+
+    /// A device that holds the bytes. The one after it has no fuse that blows.
+    pub(crate) fn device(&mut self) -> Result<CaseDevice, Fault> {
         let mut device = MemoryDevice::new(self.alloc);
         device.write_at(0, &self.file)?;
         device.sync()?;
-        Ok(device)
+        let fused = FuseDevice::new(device, self.fuse);
+        self.fuse = u64::MAX;
+        Ok(fused)
+    }
+
+    /// Lets what a device holds, below its fuse, be the file from now on.
+    pub(crate) fn keep(&mut self, device: CaseDevice) -> Result<(), Fault> {
+        self.file = device.into_inner().read(self.alloc)?;
+        Ok(())
     }
 }
 

@@ -2,8 +2,8 @@
 //! `commit`, `merge`, `state`, `counts` and `close`.
 
 use crate::answers::{json_in, ok};
-use crate::cases::{Cases, MemoryIndex};
-use common::{Device, RawAndDefault};
+use crate::cases::{CaseIndex, Cases};
+use common::RawAndDefault;
 use definitions::Fault;
 use index::{Index, Settings, Status};
 use schema::Schema;
@@ -34,7 +34,7 @@ impl Cases {
     }
 
     /// The index that stands.
-    pub(crate) fn standing(&self) -> Result<&MemoryIndex, Fault> {
+    pub(crate) fn standing(&self) -> Result<&CaseIndex, Fault> {
         match &self.index {
             Some(index) => Ok(index),
             None => Err(Fault::NotOpen),
@@ -42,7 +42,7 @@ impl Cases {
     }
 
     /// The index that stands, to be changed.
-    pub(crate) fn standing_mut(&mut self) -> Result<&mut MemoryIndex, Fault> {
+    pub(crate) fn standing_mut(&mut self) -> Result<&mut CaseIndex, Fault> {
         match &mut self.index {
             Some(index) => Ok(index),
             None => Err(Fault::NotOpen),
@@ -118,9 +118,8 @@ impl Cases {
         let Some(index) = self.index.take() else {
             return Err(Fault::NotOpen);
         };
-        let (mut device, _analyzer) = index.into_device();
-        self.file = device.read(self.alloc)?;
-        Ok(())
+        let (device, _analyzer) = index.into_device();
+        self.keep(device)
     }
 }
 

@@ -3,7 +3,7 @@
 
 use crate::answers::ok;
 use crate::cases::Cases;
-use common::{Device, RawAndDefault, RunFault};
+use common::{RawAndDefault, RunFault};
 use definitions::Fault;
 use index::{Session, reply, run, run_session};
 use std::alloc::Global;
@@ -58,13 +58,13 @@ impl Cases {
         let Some(session) = self.session.take() else {
             return Err(Fault::NotOpen);
         };
-        let (mut device, _analyzer) = session.into_device();
-        self.file = device.read(self.alloc)?;
+        let (device, _analyzer) = session.into_device();
+        self.keep(device)?;
         ok(self.alloc)
     }
 
     /// What a run over the file writes for lines.
-    fn run(&self, lines: &str) -> Result<String, Fault> {
+    fn run(&mut self, lines: &str) -> Result<String, Fault> {
         let input = lines.replace(self.alloc, '|', "\n")?;
         let mut output = Vec::new(self.alloc);
         let device = self.device()?;
