@@ -24,3 +24,4 @@ pub mod CommitPrepared
 pub mod MergePlaces
 pub mod PendingPieces
 pub mod RecordsMade
+pub mod RepeatedDeletions

@@ -13,6 +13,7 @@ ghost use Rattle.segment_definitions.specs.Rows.{flagged, left_rows};
 ghost use Rattle.segment_definitions.specs.Waiting.{numbered_rows, pending_rows};
 
 use crate::deletions::{Deletion, delete_all, delete_pending};
+use crate::last_deletions::last_deletions;
 use common::AliveBitSet;
 use segment::Segment;
 use std::alloc::{AllocError, Global};
@@ -36,9 +37,11 @@ pub(crate) fn next_sets(
         ≡ map (left_rows (holds schema analyze) (map term_of deletions.now)) (flagged_each docs alive.now)
         ++ pending_rows (holds schema analyze) (map (numbered n) deletions.now) n 0 (drop (length alive.now) docs)) }
 {
+    let owned = last_deletions(alloc, deletions)?;
+    let last = owned.as_slice();
     let mut sets = Vec::new(alloc);
-    push_left(alloc, segments, alive, deletions, &mut sets)?;
-    push_new(alloc, segments, alive.len(), deletions, &mut sets)?;
+    push_left(alloc, segments, alive, last, &mut sets)?;
+    push_new(alloc, segments, alive.len(), last, &mut sets)?;
     Ok(sets)
 }
 

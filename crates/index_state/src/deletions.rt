@@ -1,6 +1,6 @@
 //! Deletions by term: their checks, those that are pending, and their effect on alive sets.
 
-ghost use Rattle.std.specs.Prelude.{[], ◌*◌, ◌∷◌, ◌≡◌, ◌≤◌, List, length, map, ℕ};
+ghost use Rattle.std.specs.Prelude.{[], ◌*◌, ◌∷◌, ◌≡◌, ◌≤◌, IfOk, List, length, map, ℕ};
 ghost use Rattle.std.specs.List.{AllByRecursion};
 ghost use Rattle.std.specs.Result.{result_err};
 ghost use Rattle.definitions.specs.Analyzers.{Analyzer};
@@ -17,6 +17,7 @@ use common::AliveBitSet;
 use definitions::Fault;
 use schema::Schema;
 use segment::{Segment, delete_before, delete_in};
+use std::alloc::{AllocError, Global};
 use terms::Term;
 
 /// A deletion of the documents with a term that were added before it: those of the first `segments` full pending
@@ -26,6 +27,15 @@ pub(crate) struct Deletion {
     pub(crate) term: Term,
     pub(crate) segments: usize,
     pub(crate) docs: usize,
+}
+
+/// Copies `term` into memory of its own.
+pub(crate) fn copied(alloc: Global, term: &Term) -> Result<Term, AllocError>
+    ensures { IfOk result (λ copy. copy ≡ term.now) }
+{
+    let _type = term.typ();
+    let bytes = term.serialized_term().to_vec(alloc)?;
+    Ok(Term::wrap(bytes).ok().unwrap())
 }
 
 /// Checks that documents can be deleted by `term`: the schema has its field, and that is indexed.

@@ -32,7 +32,7 @@ ghost use Rattle.segment_search.specs.Hits.{hit_of, scored};
 
 use crate::add_checks::{check_document, check_slot};
 use crate::commit_record::commit_record;
-use crate::deletions::{Deletion, check_deletion};
+use crate::deletions::{Deletion, check_deletion, copied};
 use crate::living_counts::count_alive;
 use crate::parts::parted;
 use crate::pending_segments::PendingSegments;
@@ -464,13 +464,4 @@ impl<A: Analyzer + Drop> IndexState<A> {
     {
         &self.alive
     }
-}
-
-/// Copies `term` into memory of its own.
-fn copied(alloc: Global, term: &Term) -> Result<Term, Fault>
-    ensures value { IfOk result (λ copy. copy ≡ term.now) }
-    ensures err { IfErr result (λ fault. fault ≡ faults.OutOfMemory) }
-{
-    let _type = term.typ();
-    Term::wrap(term.serialized_term().to_vec(alloc)?)
 }

@@ -7,6 +7,7 @@ mod commit_record;
 mod committed_alive_sets;
 mod deletions;
 mod index_state;
+mod last_deletions;
 mod living_counts;
 mod merge;
 mod merge_record;

@@ -29,10 +29,8 @@ returns-in_err-check_deletion-clause-left g c k x s =
 pub returns-in_err-copied-clause-left : goal.returns-in_err-copied-clause-left
 returns-in_err-copied-clause-left g c k x s =
     let call = calls.delete_term c.args.term.now in
-    let fault = c.in_err-copied.field-0.0 in
     let ready = ap (λ status. calls.status_fault status false) s.status ∙ sym c.check_writer.ensures.value ∙ ap result_err c.in_ok-check_writer.was in
-    subst (λ r. (y : calls.Index) × calls.Leaves k x call r y × Stands g.A.Analyzer.analyze c.args.self.now k y) (err_same c.from_residual-in_err-copied.result fault c.from_residual-in_err-copied.ensures.1)
-    (x, subst (λ f. calls.Leaves k x call (Err f) x) (sym c.in_err-copied.ensures.err) (calls.memory_refused ready refl), s)
+    (x, subst (λ r. calls.Leaves k x call r x) (err_same c.from_residual-in_err-copied.result faults.OutOfMemory c.from_residual-in_err-copied.ensures.1) (calls.memory_refused ready refl), s)
 
 pub returns-in_err-push-clause-left : goal.returns-in_err-push-clause-left
 returns-in_err-push-clause-left g c k x s =
@@ -56,5 +54,5 @@ returns-clause-left g c k x s =
     let docs = c.num_open_docs.ensures old.schema analyze old.settings.block_size p.full p.last p.holds in (
       record { state = calls.after k x.state call; status = x.status },
       calls.answered taken,
-      deleted_stands g.A.Analyzer.analyze old _ (record { analyzer = refl; schema = refl; settings = refl }) k x s p d refl refl refl refl c.in_ok-push.ensures.items before docs term c.in_ok-copied.ensures.value,
+      deleted_stands g.A.Analyzer.analyze old _ (record { analyzer = refl; schema = refl; settings = refl }) k x s p d refl refl refl refl c.in_ok-push.ensures.items before docs term c.in_ok-copied.ensures,
     )
