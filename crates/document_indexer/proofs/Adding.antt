@@ -12,11 +12,12 @@ use Rattle.definitions.specs.Values.{Document}
 use Rattle.definitions.specs.declared.fault.Fault.{Fault}
 use Rattle.postings_writer.specs.Occurrences.{Occurrence, by_document, docs_of, ends_in, last_count, places_of}
 use Rattle.document_indexer.specs.Contexts.{AreBefore, Context, HasStarts, Holds, IsRefusal, Positions, Records, Refuses}
-use Rattle.document_indexer.specs.Indexed.{HasRecorded, IsAddRefusal, doc_places, places_in}
+use Rattle.document_indexer.specs.Indexed.{AreCountsWithin, HasRecorded, IsAddRefusal, doc_places, places_in}
 use Rattle.document_indexer.specs.Runs.{AreStepsWithin, no_starts, occurrence_at, occurrences_at, run_terms}
 use Rattle.document_indexer.specs.Steps.{steps_of}
 use Rattle.document_indexer.proofs.DocRuns.{doc_run}
-use Rattle.document_indexer.proofs.Grouping.{last_count_below, one_more, placed, places_from}
+use Rattle.postings_writer.proofs.KeptCounts.{count_kept}
+use Rattle.document_indexer.proofs.Grouping.{last_count_below, one_more, own_count_below, placed, places_from}
 use Rattle.document_indexer.proofs.PostingsOf.{places_are, positions}
 use Rattle.document_indexer.proofs.TermPlaces.{at, at-append}
 
@@ -94,6 +95,15 @@ module _ (schema : Schema) (analyze : Analyzer) (was now : Context) (docs : List
 
   pub document_within : Records schema was now (steps_of schema analyze doc) → AreStepsWithin no_starts (steps_of schema analyze doc)
   document_within r = r.within h.written.os no_starts begun
+
+  pub document_counted : Records schema was now (steps_of schema analyze doc) → AreCountsWithin schema analyze doc
+  document_counted r t alone =
+      let xss : List (List ℕ) = positions schema analyze t docs in
+      let own : List ℕ = occurrences schema analyze t doc in
+      let os : List Occurrence = h.written.os ++ occurrences_at was.doc (run_terms no_starts (steps_of schema analyze doc)) in
+      let here : places_of t os ≡ places_from 0 (xss ++ own ∷ []) = places_more t ∙ places_are schema analyze t 0 (docs ++ doc ∷ []) ∙ ap (places_from 0) (map-append (occurrences schema analyze t) docs (doc ∷ [])) in
+      let kept = count_kept schema now.writer os t (r.holds h.written.os no_starts begun).stands alone in
+      own_count_below (2 ^ 32) xss own (omega arith) (subst (λ ps. last_count (by_document ps) < 2 ^ 32) here kept)
 
   -- ---- it is refused
 

@@ -63,6 +63,23 @@ last_count_below bound n xss xs is below ends =
     let e = all_grouped 0 (xss ++ xs ∷ []) in
     subst (λ gs. last_count gs < bound) (sym e) (last_here bound 0 n xss xs (omega arith) below (subst (λ gs. ends_in n (docs gs) ≡ true) e ends))
 
+-- that of a document with places is its own
+last_own : (k : ℕ) (xss : List (List ℕ)) (x : ℕ) (xs : List ℕ) → last_count (groups_from k (xss ++ (x ∷ xs) ∷ [])) ≡ length (x ∷ xs)
+last_own k [] x xs = refl
+last_own k ([] ∷ xss) x xs = last_own (k + 1) xss x xs
+last_own k ((y ∷ ys) ∷ xss) x xs = go (groups_from (k + 1) (xss ++ (x ∷ xs) ∷ [])) (last_own (k + 1) xss x xs)
+  where
+    go : (gs : List (ℕ × List ℕ)) → last_count gs ≡ length (x ∷ xs) → last_count ((k, y ∷ ys) ∷ gs) ≡ length (x ∷ xs)
+    go [] is = absurd (omega arith)
+    go (g ∷ gs) is = is
+
+pub own_count_below : (bound : ℕ) (xss : List (List ℕ)) (xs : List ℕ) → 0 < bound → last_count (by_document (places_from 0 (xss ++ xs ∷ []))) < bound → length xs < bound
+own_count_below bound xss [] some below = some
+own_count_below bound xss (x ∷ xs) some below =
+    let last = ap last_count (all_grouped 0 (xss ++ (x ∷ xs) ∷ [])) in
+    let own = last_own 0 xss x xs in
+    omega arith
+
 -- ---- one document more
 
 enumerate_more : {X Y : Type 0} (f : ℕ × X → List Y) (k : ℕ) (xs : List X) (x : X) → flat_map f (enumerate_from k (xs ++ x ∷ [])) ≡ flat_map f (enumerate_from k xs) ++ f (k + length xs, x)

@@ -1,5 +1,5 @@
 -- The steps of one leaf of a JSON field.
-use Rattle.std.proofs.Common.{[], ◌++◌, ◌∷◌, ◌≡◌, Bool, List, ap, append-nil, if◌then◌else◌, refl, ℕ}
+use Rattle.std.proofs.Common.{[], ◌++◌, ◌∷◌, ◌≡◌, Bool, List, append-nil, if◌then◌else◌, ℕ}
 use Rattle.definitions.specs.Analyzers.{Analyzer}
 use Rattle.definitions.specs.JsonLeaves.{has_zero, leaves}
 use Rattle.definitions.specs.Values.{Value, u64}

@@ -1,5 +1,5 @@
 -- The steps of a loop: those that were recorded, and those that are left.
-use Rattle.std.proofs.Common.{[], ◌++◌, ◌≡◌, ◌∙◌, ◌∷◌, Err, IfErr, List, Ok, OnOk, Result, ap, append-nil, append_assoc, refl, subst, sym, ℕ}
+use Rattle.std.proofs.Common.{[], ◌++◌, ◌≡◌, ◌∙◌, Err, IfErr, List, Ok, OnOk, Result, ap, append-nil, append_assoc, refl, subst, sym, ℕ}
 use Rattle.definitions.specs.Schema.{Kind, Schema}
 use Rattle.definitions.specs.declared.fault.Fault.{Fault}
 use Rattle.document_indexer.specs.Contexts.{CanIndex, Context, IsReady, Records, Refuses}

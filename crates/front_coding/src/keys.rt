@@ -6,7 +6,8 @@ ghost use Rattle.layouts.specs.TermSections.{before_in_block, block_size, key_by
 ghost use Rattle.front_coding.specs.TakenKeys.{is_next, take_next_key};
 
 use crate::blocks::begins_block;
-use common::{put_bytes, put_vint, take_bytes, take_vint};
+use crate::short_codes::{take_bytes, take_vint};
+use common::{put_bytes, put_vint};
 use definitions::Fault;
 use std::alloc::AllocError;
 

@@ -7,6 +7,7 @@ mod blocks;
 mod keys;
 pub mod laws;
 mod look_ups;
+mod short_codes;
 mod term_lengths;
 mod term_starts;
 mod terms_read;

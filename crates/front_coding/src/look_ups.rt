@@ -12,10 +12,10 @@ ghost use Rattle.front_coding.specs.LookUps.{compared, located, stands_below, ta
 
 use crate::blocks::begins_block;
 use crate::keys::shared_len;
+use crate::short_codes::{take_bytes, take_vint};
 use crate::term_lengths::EntryLengths;
 use crate::term_starts::TermStart;
 use crate::terms_read::take_lengths;
-use common::{take_bytes, take_vint};
 use definitions::Fault;
 use std::cmp::Ordering;
 

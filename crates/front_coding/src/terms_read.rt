@@ -1,6 +1,6 @@
 //! Terms of a field, read and checked.
 
-ghost use Rattle.std.specs.Prelude.{IfErr, IfOk, None, Some, ◌≡◌, ◌≢◌};
+ghost use Rattle.std.specs.Prelude.{IfErr, IfOk, IfSome, None, Some, ◌≡◌, ◌≢◌};
 ghost use Rattle.definitions.specs.declared.fault.Fault.TheVariants as faults;
 ghost use Rattle.layouts.specs.TermSections.{block_size};
 ghost use Rattle.front_coding.specs.Lengths.{lengths_of};
@@ -8,8 +8,8 @@ ghost use Rattle.front_coding.specs.TakenKeys.{may_follow, take_first_key, take_
 
 use crate::blocks::begins_block;
 use crate::keys::take_next_key;
+use crate::short_codes::{take_bytes, take_vint};
 use crate::term_lengths::EntryLengths;
-use common::{take_bytes, take_vint};
 use definitions::Fault;
 
 /// Whether the term of a number may have this key, behind one with the key before.
@@ -52,8 +52,37 @@ fn take_key<'a>(
     take_next_key(bytes, key)
 }
 
+/// The lengths of a term, if each takes one byte.
+#[inline(always)]
+fn short_lengths(bytes: &[u8]) -> Option<(EntryLengths, &[u8])>
+    ensures { IfSome result (λ p. take_lengths bytes.now ≡ Some (lengths_of p.0, p.1.now)) }
+{
+    let (first, rest) = bytes.split_first_chunk::<3>()?;
+    let [doc_freq, postings_len, positions_len] = *first;
+    if doc_freq < 128 || postings_len < 128 || positions_len < 128 {
+        return None;
+    }
+    let lengths = EntryLengths {
+        doc_freq: u64::from(doc_freq) - 128,
+        postings_len: u64::from(postings_len) - 128,
+        positions_len: u64::from(positions_len) - 128,
+    };
+    Some((lengths, rest))
+}
+
 /// The lengths of a term.
 pub(crate) fn take_lengths(bytes: &[u8]) -> Result<(EntryLengths, &[u8]), Fault>
+    ensures ok { IfOk result (λ p. take_lengths bytes.now ≡ Some (lengths_of p.0, p.1.now)) }
+    ensures err { IfErr result (λ fault. (fault ≡ faults.Damaged None) × (take_lengths bytes.now ≡ None)) }
+{
+    if let Some(found) = short_lengths(bytes) {
+        return Ok(found);
+    }
+    take_long_lengths(bytes)
+}
+
+/// The lengths of a term, which take any bytes.
+fn take_long_lengths(bytes: &[u8]) -> Result<(EntryLengths, &[u8]), Fault>
     ensures ok { IfOk result (λ p. take_lengths bytes.now ≡ Some (lengths_of p.0, p.1.now)) }
     ensures err { IfErr result (λ fault. (fault ≡ faults.Damaged None) × (take_lengths bytes.now ≡ None)) }
 {

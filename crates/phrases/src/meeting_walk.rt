@@ -5,7 +5,7 @@ ghost use Rattle.std.specs.Prelude.{IfNone, IfSome, [], ◌+◌, ◌<◌, ◌∷
 ghost use Rattle.definitions.specs.Postings.{terminated};
 ghost use Rattle.definitions.specs.Scoring.{max_score};
 ghost use Rattle.definitions.specs.Sinks.{fed};
-ghost use Rattle.docsets.specs.Entries.{first, from};
+ghost use Rattle.docsets.specs.Entries.{from};
 ghost use Rattle.docsets.specs.Members.{entries_at, entries_of, greatest_sum, scores_in};
 ghost use Rattle.docsets.specs.ScoredEntries.{pairs_of};
 ghost use Rattle.intersections.specs.Meetings.{meeting};
@@ -18,9 +18,9 @@ use common::{DocId, MAX_SCORE, Score, TERMINATED};
 use docsets::{DocSet, Scorer, move_to};
 
 /// Feeds each document that all of `scorers` have with the sum of its scores to `sink`, in order, if that is above the
-/// sink's threshold by then. The scorer of the least cost leads. What is known not to be above the threshold is left out:
-/// block by block, and of the leader's documents those whose score by it and the others' bounds together aren't above
-/// it, for which the others aren't asked.
+/// sink's threshold by then. The scorer of the least cost leads. What is known not to be above the threshold is left
+/// out: windows by the bounds of all, and of the leader's documents each whose own score beside the others' bounds
+/// isn't above it, for which the others aren't asked.
 pub fn block_wand_intersection<S: Scorer + Drop, K: Sink>(
     scorers: Vec<S>,
     threshold: Score,
@@ -149,8 +149,8 @@ impl Bound {
     }
 }
 
-/// Feeds what `lead` and all of `others` have from `target` on, up to where `rest` ends, which is a bound of the others'
-/// scores until there.
+/// Feeds what `lead` and all of `others` have from `target` on, up to where `rest` ends, which is a bound of the
+/// others' scores until there.
 fn feed_window<S: Scorer, K: Sink>(
     lead: &mut S,
     others: &mut Vec<S>,
@@ -194,8 +194,8 @@ fn feed_window<S: Scorer, K: Sink>(
 }
 
 /// Feeds `doc`, whose score by the leader is `score`, to `sink` if all of `others` have it and the sum of its scores is
-/// above `threshold`, which is the sink's. Returns the next threshold. The others are asked only if `bound`, which their
-/// scores together don't exceed, leaves it open.
+/// above `threshold`, which is the sink's. Returns the next threshold. The others are asked only if `bound`, which
+/// their scores together don't exceed, leaves it open.
 fn offer_met<S: Scorer, K: Sink>(
     others: &mut Vec<S>,
     bound: u64,
@@ -225,8 +225,8 @@ fn offer_met<S: Scorer, K: Sink>(
     }
 }
 
-/// Returns `score` with the scores of `doc` by `others` added, or none if one of them lacks it. Those that were asked are
-/// moved there.
+/// Returns `score` with the scores of `doc` by `others` added, or none if one of them lacks it. Those that were asked
+/// are moved there.
 fn sum_met<S: Scorer>(others: &mut Vec<S>, doc: DocId, score: u64) -> Option<u64>
     requires small { doc < terminated }
     requires fits { score + sum (scores_in (entries_at doc (map S.entries others.old.items))) ≤ max_score }

@@ -48,7 +48,7 @@ module _ (e : Entry) (places : List ℕ → List (ℕ × ℕ)) (terms : Terms) (
   one_term : (t : IndexedTerm) (r : Recorded) → told_of t ≡ stands_for r → IsSpelled (option_of_key e t.key) ids t → lookup (bytes_eq r.0) terms ≡ Some r.1 → IsTermOf e ids places t
   one_term t r told spelled found =
       let key : r.0 ≡ t.key = sym (ap (λ (x : List ℕ × List Posting). x.0) told) in
-      let there : recorder_of (option_of_key e r.0) (places r.0) ≡ Some r.1 = sym (has r.0) ∙ found in
+      let there : recorder_of (option_of_key e r.0) (places r.0) ≡ Some r.1 = sym (has.recorders r.0) ∙ found in
       let postings : t.postings ≡ postings_at (option_of_key e r.0) (places r.0) = ap (λ (x : List ℕ × List Posting). x.1) told ∙ ap (λ x. postings_from x 0) (recorder_is (option_of_key e r.0) (places r.0) r.1 there) ∙ recorded_postings (option_of_key e r.0) (places r.0) in
       record {
         some = subst (λ k. 0 < length (places k)) key (recorder_some (option_of_key e r.0) (places r.0) r.1 there);
@@ -135,7 +135,7 @@ field_of_places e places terms s now field norms w rs ts has added is ascend fou
         tokens_fit = tokens_within s now field e.record_option norms e.kind w rs ts added;
         few = few_terms ts added.few;
         each = all_terms e places terms has (listed norms) ts rs added.told added.each found;
-        all = λ key some. subst (λ ks. list_any (bytes_eq key) ks ≡ true) (sym keys) (all key (subst IsSome (sym (has key)) (some_recorder (option_of_key e key) (places key) some)));
+        all = λ key some. subst (λ ks. list_any (bytes_eq key) ks ≡ true) (sym keys) (all key (subst IsSome (sym (has.recorders key)) (some_recorder (option_of_key e key) (places key) some)));
       },
       field_added s now field e.record_option norms e.kind w rs ts added is,
     )
@@ -164,7 +164,7 @@ module _ {A : Type 0} (v : A → Recorded) (items : List A) (e : Entry) (places 
   given key = postings_at (option_of_key e key) (places key)
 
   recorder_at : (key : List ℕ) (r : Recorder) → lookup (bytes_eq key) terms ≡ Some r → recorder_of (option_of_key e key) (places key) ≡ Some r
-  recorder_at key r at = sym (has key) ∙ at
+  recorder_at key r at = sym (has.recorders key) ∙ at
 
   postings_found : (key : List ℕ) (r : Recorder) → lookup (bytes_eq key) terms ≡ Some r → postings_from r 0 ≡ given key
   postings_found key r at = ap (λ x. postings_from x 0) (recorder_is (option_of_key e key) (places key) r (recorder_at key r at)) ∙ recorded_postings (option_of_key e key) (places key)

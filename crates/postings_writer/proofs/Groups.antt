@@ -72,6 +72,12 @@ last_same (g ∷ []) p again = ap (λ b. last_count (pick b ((g.0, g.1 ++ p.1 �
 last_same (g ∷ h ∷ []) p again = ap (λ b. last_count (g ∷ pick b ((h.0, h.1 ++ p.1 ∷ []) ∷ []) (h ∷ (p.0, p.1 ∷ []) ∷ []))) again ∙ length-append h.1 (p.1 ∷ [])
 last_same (g ∷ h ∷ k ∷ gs) p again = last_same (h ∷ k ∷ gs) p again
 
+last_new : (gs : List (ℕ × List ℕ)) (p : ℕ × ℕ) → ends_in p.0 (docs gs) ≡ false → last_count (extended gs p) ≡ 1
+last_new [] p new = refl
+last_new (g ∷ []) p new = ap (λ b. last_count (pick b ((g.0, g.1 ++ p.1 ∷ []) ∷ []) (g ∷ (p.0, p.1 ∷ []) ∷ []))) new
+last_new (g ∷ h ∷ []) p new = ap (λ b. last_count (g ∷ pick b ((h.0, h.1 ++ p.1 ∷ []) ∷ []) (h ∷ (p.0, p.1 ∷ []) ∷ []))) new
+last_new (g ∷ h ∷ k ∷ gs) p new = last_new (h ∷ k ∷ gs) p new
+
 counts_same : (gs : List (ℕ × List ℕ)) (p : ℕ × ℕ) (m : ℕ) → ends_in p.0 (docs gs) ≡ true → length gs ≡ suc m → counts (extended gs p) ≡ set (counts gs) m ((get_or (counts gs) m (0, 0)).0, (get_or (counts gs) m (0, 0)).1 + 1)
 counts_same [] p m again long = cc
 counts_same (g ∷ []) p zero again long = ap (λ b. counts (pick b ((g.0, g.1 ++ p.1 ∷ []) ∷ []) (g ∷ (p.0, p.1 ∷ []) ∷ []))) again ∙ ap (λ n. (g.0, n) ∷ []) (length-append g.1 (p.1 ∷ []))
@@ -116,6 +122,9 @@ counts_of-again ps doc position m again long = ap counts (by_document-push ps (d
 pub last_count-again : (ps : List (ℕ × ℕ)) (doc position : ℕ) → ends_in doc (docs_of ps) ≡ true → last_count (by_document (ps ++ (doc, position) ∷ [])) ≡ last_count (by_document ps) + 1
 last_count-again ps doc position again = ap last_count (by_document-push ps (doc, position)) ∙ last_same (by_document ps) (doc, position) again
 
+pub last_count-new : (ps : List (ℕ × ℕ)) (doc position : ℕ) → ends_in doc (docs_of ps) ≡ false → last_count (by_document (ps ++ (doc, position) ∷ [])) ≡ 1
+last_count-new ps doc position new = ap last_count (by_document-push ps (doc, position)) ∙ last_new (by_document ps) (doc, position) new
+
 pub last_count-counts : (ps : List (ℕ × ℕ)) (m : ℕ) → length (counts_of ps) ≡ suc m → last_count (by_document ps) ≡ (get_or (counts_of ps) m (0, 0)).1
 last_count-counts ps m long = last_is (by_document ps) m (sym (length-map (by_document ps) (λ g. (g.0, length g.1))) ∙ long)
 
@@ -144,6 +153,11 @@ ends_push ps doc position = go (ends_in doc (docs_of ps)) refl
 pub count_past : (ps items : List (ℕ × ℕ)) (doc position m : ℕ) → items ≡ counts_of ps → ends_in doc (docs_of ps) ≡ true → length (counts_of ps) ≡ suc m → 2 ^ 32 ≤ (get_or items m (0, 0)).1 + 1 → 2 ^ 32 ≤ last_count (by_document (ps ++ (doc, position) ∷ []))
 count_past ps items doc position m is again long past =
     subst (λ n. 2 ^ 32 ≤ n) (ap (λ (xs : List (ℕ × ℕ)). (get_or {A = ℕ × ℕ} xs m (0, 0)).1 + 1) is ∙ ap (λ n. n + 1) (sym (last_count-counts ps m long)) ∙ sym (last_count-again ps doc position again)) past
+
+-- one that doesn't
+pub count_within : (ps items : List (ℕ × ℕ)) (doc position m : ℕ) → items ≡ counts_of ps → ends_in doc (docs_of ps) ≡ true → length (counts_of ps) ≡ suc m → (get_or items m (0, 0)).1 + 1 < 2 ^ 32 → last_count (by_document (ps ++ (doc, position) ∷ [])) < 2 ^ 32
+count_within ps items doc position m is again long within =
+    subst (λ n. n < 2 ^ 32) (ap (λ (xs : List (ℕ × ℕ)). (get_or {A = ℕ × ℕ} xs m (0, 0)).1 + 1) is ∙ ap (λ n. n + 1) (sym (last_count-counts ps m long)) ∙ sym (last_count-again ps doc position again)) within
 
 -- the last document of a list by its place
 pub ends_in-last : (doc : ℕ) (ds : List ℕ) (m : ℕ) → length ds ≡ suc m → ends_in doc ds ≡ nat_eq (get_or ds m 0) doc

@@ -1,5 +1,5 @@
 -- A field's terms with their recorders, as one more place is recorded.
-use Rattle.std.proofs.Common.{[], ◌++◌, ◌≡◌, ◌∙◌, ◌∷◌, Bool, Err, List, None, Ok, OnOk, Option, Result, Some, Vec, ap, bytes_eq, cond, false, map, nat_eq, refl, subst, sym, true, ℕ}
+use Rattle.std.proofs.Common.{[], ◌++◌, ◌≡◌, ◌∙◌, ◌∷◌, Bool, List, None, Option, Some, Vec, ap, bytes_eq, cond, false, map, nat_eq, refl, subst, sym, true, ℕ}
 use Rattle.std.specs.Cmp.Lexicographic.{pointwise}
 use Rattle.std.specs.HashMap.{HashMap, UpdatesBy, get_by}
 use Rattle.std.specs.Map.{KeepsOthers, lookup, update}
@@ -8,7 +8,7 @@ use Rattle.std.proofs.lemmas.Bool.{false_from_ne_true, true≢false}
 use Rattle.std.proofs.lemmas.Slice.Eq.{bytes_eq-Decides}
 use Rattle.definitions.specs.Schema.{Entry, IndexRecordOption}
 use Rattle.postings_writer.specs.Fields.{HasPlaces, Terms, option_of_key, with_place}
-use Rattle.postings_writer.specs.Recorders.{recorded_as, recorder_of}
+use Rattle.postings_writer.specs.Recorders.{IsCountWithin, recorded_as, recorder_of}
 use Rattle.postings_writer.specs.declared.recorder.Recorder.{Recorder}
 
 -- the value at the key of these bytes
@@ -58,6 +58,16 @@ recorded_more e old new places key place r has is put q = put q ∙ go (bytes_eq
     go true same = ap Some (is ∙ ap (λ k. recorded_as (option_of_key e k) (places k ++ place ∷ [])) ((bytes_eq-Decides key q).0 same)) ∙ sym (recorder_push (option_of_key e q) (places q) place)
     go false other = has q
 
+counted_more : (e : Entry) (places : List ℕ → List (ℕ × ℕ)) (key : List ℕ) (place : ℕ × ℕ) → ((q : List ℕ) → IsCountWithin (option_of_key e q) (places q)) → IsCountWithin (option_of_key e key) (places key ++ place ∷ []) → (q : List ℕ) → IsCountWithin (option_of_key e q) (with_place key place places q)
+counted_more e places key place before within q = go (bytes_eq key q) refl
+  where
+    go : (b : Bool) → bytes_eq key q ≡ b → IsCountWithin (option_of_key e q) (cond b (places q ++ place ∷ []) (places q))
+    go true same = subst (λ k. IsCountWithin (option_of_key e k) (places k ++ place ∷ [])) ((bytes_eq-Decides key q).0 same) within
+    go false other = before q
+
 -- terms after a recorder is put at a key
-pub has_places-updated : (e : Entry) (old new : Terms) (places : List ℕ → List (ℕ × ℕ)) (key : List ℕ) (place : ℕ × ℕ) (r : Recorder) → HasPlaces e places old → r ≡ recorded_as (option_of_key e key) (places key ++ place ∷ []) → ((q : List ℕ) → lookup (bytes_eq q) new ≡ update bytes_eq (λ p. lookup (bytes_eq p) old) key (Some r) q) → HasPlaces e (with_place key place places) new
-has_places-updated e old new places key place r has is put = recorded_more e (λ q. lookup (bytes_eq q) old) (λ q. lookup (bytes_eq q) new) places key place r has is put
+pub has_places-updated : (e : Entry) (old new : Terms) (places : List ℕ → List (ℕ × ℕ)) (key : List ℕ) (place : ℕ × ℕ) (r : Recorder) → HasPlaces e places old → r ≡ recorded_as (option_of_key e key) (places key ++ place ∷ []) → IsCountWithin (option_of_key e key) (places key ++ place ∷ []) → ((q : List ℕ) → lookup (bytes_eq q) new ≡ update bytes_eq (λ p. lookup (bytes_eq p) old) key (Some r) q) → HasPlaces e (with_place key place places) new
+has_places-updated e old new places key place r has is within put = record {
+  recorders = recorded_more e (λ q. lookup (bytes_eq q) old) (λ q. lookup (bytes_eq q) new) places key place r has.recorders is put;
+  counted = counted_more e places key place has.counted within;
+}

@@ -19,3 +19,4 @@ pub mod WrittenFields
 pub mod FieldsOfPlaces
 pub mod StandingFields
 pub mod WrittenSections
+pub mod KeptCounts

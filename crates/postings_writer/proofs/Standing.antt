@@ -13,7 +13,7 @@ use Rattle.definitions.specs.Terms.{field_of, payload_of, term_bytes}
 use Rattle.terms.proofs.TermParts.{field_of-term, other_fields, payload_of-term, same_keys}
 use Rattle.postings_writer.specs.Fields.{HasPlaces, Terms, option_of_key, with_place}
 use Rattle.postings_writer.specs.Occurrences.{Occurrence, places_of}
-use Rattle.postings_writer.specs.Recorders.{recorder_of}
+use Rattle.postings_writer.specs.Recorders.{IsCountWithin, recorder_of}
 use Rattle.postings_writer.specs.Writers.{HasOccurrences, IsIndexedTerm, IsOccurrence, Stands, Writer}
 
 -- ---- one occurrence more
@@ -60,7 +60,10 @@ set_other (y ∷ ys) (suc i) zero x apart = refl
 set_other (y ∷ ys) (suc i) (suc j) x apart = set_other ys i j x (λ same. apart (ap suc same))
 
 more_places : (e : Entry) (terms : Terms) (places others : List ℕ → List (ℕ × ℕ)) → ((key : List ℕ) → places key ≡ others key) → HasPlaces e places terms → HasPlaces e others terms
-more_places e terms places others same has key = has key ∙ ap (λ ps. recorder_of (option_of_key e key) ps) (same key)
+more_places e terms places others same has = record {
+  recorders = λ key. has.recorders key ∙ ap (λ ps. recorder_of (option_of_key e key) ps) (same key);
+  counted = λ key. subst (λ ps. IsCountWithin (option_of_key e key) ps) (same key) (has.counted key);
+}
 
 module _ (schema : Schema) (w : Writer) (os : List Occurrence) (t : List ℕ) (doc position : ℕ) (k : IsIndexedTerm schema t) where
   abbrev here : Occurrence
@@ -117,7 +120,7 @@ stands_none schema few = record {
   fields_are = length-replicate (length schema) none;
   each = tt;
   rising = tt;
-  recorded = λ f e at. ([], nothing schema f e at, λ key. refl);
+  recorded = λ f e at. ([], nothing schema f e at, record { recorders = λ key. refl; counted = λ key option. omega arith });
 }
   where
     nothing : (es : List Entry) (f : ℕ) (e : Entry) → slice_get es f ≡ Some e → slice_get (replicate (length es) none) f ≡ Some none

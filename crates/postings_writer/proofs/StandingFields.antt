@@ -60,7 +60,7 @@ module _ (schema : Schema) (w : Writer) (os : List Occurrence) (field : ℕ) (e 
   -- what they stand for may be written
   pub field_can : (norms : Option (List ℕ)) → w.num_docs ≤ 2147483647 → IfSome norms (λ ids. w.num_docs ≤ length ids) → (key : List ℕ) (r : Recorder) → lookup (bytes_eq key) terms ≡ Some r → CanWrite 0 norms (postings_from r 0)
   field_can norms few long key r found =
-      let is = recorder_is (option_of_key e key) (places_in field e os key) r (sym (field_has key) ∙ found) in
+      let is = recorder_is (option_of_key e key) (places_in field e os key) r (sym (field_has.recorders key) ∙ found) in
       let ps : postings_at (option_of_key e key) (places_in field e os key) ≡ postings_from r 0 = sym (recorded_postings (option_of_key e key) (places_in field e os key)) ∙ ap (λ x. postings_from x 0) (sym is) in
       subst (CanWrite 0 norms) ps (can_write w.num_docs (option_of_key e key) (places_in field e os key) (places_stand schema w os (term_bytes field e.kind key) stands) norms few long)
 

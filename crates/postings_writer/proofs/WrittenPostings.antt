@@ -1,5 +1,5 @@
 -- The postings of a term, document by document.
-use Rattle.std.proofs.Common.{[], ap, ap₂, arith, Bool, drop, false, get_or, length, List, map, min, nat_eq, nat_le, refl, subst, suc, sum, sym, take, true, zero, ◌*◌, ◌++◌, ◌+◌, ◌/◌, ◌<◌, ◌≡◌, ◌≤◌, ◌^◌, ◌∙◌, ◌∷◌, ℕ, if◌then◌else◌, Err, IfErr, Ok, inl, inr, OnOk, Option, Result}
+use Rattle.std.proofs.Common.{[], ap, ap₂, arith, Bool, drop, false, get_or, length, List, map, min, nat_eq, nat_le, refl, subst, suc, sum, sym, take, true, zero, ◌*◌, ◌++◌, ◌+◌, ◌/◌, ◌<◌, ◌≡◌, ◌≤◌, ◌^◌, ◌∙◌, ◌∷◌, ℕ, if◌then◌else◌, Err, Ok, inl, inr, OnOk, Option, Result}
 use Rattle.std.proofs.Math.Seq.{drop-append_seam, get_or-append_seam, take-append_seam}
 use Rattle.std.proofs.lemmas.Bool.Decides.{nat_tests}
 use Rattle.std.proofs.lemmas.List.{append_assoc, append-nil, get_or_append_left, length-append, length-map, map-append, take_all}

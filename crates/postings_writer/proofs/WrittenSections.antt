@@ -115,7 +115,7 @@ term_stands num_docs e ids places t are is =
     }
 
 -- a term that has places is known
-term_known : (schema : Schema) (n : ℕ) (t : List ℕ) (os : List Occurrence) → AllByRecursion (IsOccurrence schema n) os → 0 < length (places_of t os) → IsIndexedTerm schema t
+pub term_known : (schema : Schema) (n : ℕ) (t : List ℕ) (os : List Occurrence) → AllByRecursion (IsOccurrence schema n) os → 0 < length (places_of t os) → IsIndexedTerm schema t
 term_known schema n t [] each some = absurd (omega arith)
 term_known schema n t (o ∷ os) each some = go (bytes_eq o.term t) refl (term_known schema n t os each.1) some
   where

@@ -4,7 +4,7 @@ use Rattle.std.specs.List.{AllByRecursion, IsDistinct}
 use Rattle.std.specs.Map.{keys_of, lookup}
 use Rattle.definitions.specs.Schema.{Entry, IndexRecordOption, basic}
 use Rattle.postings_writer.specs.PackedKeys.{AreOfKey, key_of, max_short}
-use Rattle.postings_writer.specs.Recorders.{recorder_of}
+use Rattle.postings_writer.specs.Recorders.{IsCountWithin, recorder_of}
 use Rattle.terms.specs.TextKeys.{is_text_key}
 use Rattle.postings_writer.specs.declared.recorder.Recorder.{Recorder}
 
@@ -16,9 +16,10 @@ Terms = List (List ℕ × Recorder)
 abbrev pub option_of_key : Entry → List ℕ → IndexRecordOption
 option_of_key e key = if is_text_key e.kind key then e.record_option else basic
 
--- each term has the recorder of its places
-abbrev pub HasPlaces : Entry → (List ℕ → List (ℕ × ℕ)) → Terms → Type 0
-HasPlaces e places terms = (key : List ℕ) → lookup (bytes_eq key) terms ≡ recorder_of (option_of_key e key) (places key)
+-- each term has the recorder of its places, and where counts alone are recorded they are below 2^32
+pub record HasPlaces (e : Entry) (places : List ℕ → List (ℕ × ℕ)) (terms : Terms) : Type 0 where
+  pub recorders : (key : List ℕ) → lookup (bytes_eq key) terms ≡ recorder_of (option_of_key e key) (places key)
+  pub counted : (key : List ℕ) → IsCountWithin (option_of_key e key) (places key)
 
 -- one place more of one term
 abbrev pub with_place : List ℕ → ℕ × ℕ → (List ℕ → List (ℕ × ℕ)) → List ℕ → List (ℕ × ℕ)

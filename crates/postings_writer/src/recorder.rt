@@ -4,8 +4,8 @@ ghost use Rattle.std.specs.Prelude.{[], ◌++◌, ◌+◌, ◌<◌, ◌^◌, ◌
 ghost use Rattle.definitions.specs.Schema as definitions;
 ghost use Rattle.definitions.specs.declared.fault.Fault.TheVariants as faults;
 ghost use Rattle.options.specs.RecordOption.{record_option_of};
-ghost use Rattle.postings_writer.specs.Occurrences.{counts_of, docs_of, ends_in};
-ghost use Rattle.postings_writer.specs.Recorders.{IsCountRefusal, recorded_as};
+ghost use Rattle.postings_writer.specs.Occurrences.{by_document, counts_of, docs_of, ends_in, last_count};
+ghost use Rattle.postings_writer.specs.Recorders.{IsCountRefusal, IsCountWithin, recorded_as};
 
 use crate::position_recorder::TfAndPositionRecorder;
 use definitions::Fault;
@@ -41,6 +41,8 @@ fn raise_last(counts: &mut Vec<(u32, u32)>) -> Result<(), Fault>
           (get_or counts.old.items m (0, 0)).0,
           (get_or counts.old.items m (0, 0)).1 + 1,
         )) }
+    ensures within { OnOk result ((m : ℕ) → length counts.old.items ≡ suc m
+        → (get_or counts.old.items m (0, 0)).1 + 1 < 2 ^ 32) }
     ensures err { IfErr result (λ fault. (fault ≡ faults.Limit)
         × ((m : ℕ) → length counts.old.items ≡ suc m → 2 ^ 32 ≤ (get_or counts.old.items m (0, 0)).1 + 1)) }
 {
@@ -123,6 +125,8 @@ impl TermFrequencyRecorder {
     pub fn record(&mut self, doc: u32) -> Result<(), Fault>
         ensures ok { (ps : List (ℕ × ℕ)) (position : ℕ) → self.old ≡ counts_of ps
             → OnOk result (self.new ≡ counts_of (ps ++ (doc, position) ∷ [])) }
+        ensures within { (ps : List (ℕ × ℕ)) (position : ℕ) → self.old ≡ counts_of ps
+            → OnOk result (last_count (by_document (ps ++ (doc, position) ∷ [])) < 2 ^ 32) }
         ensures err { (ps : List (ℕ × ℕ)) (position : ℕ) → self.old ≡ counts_of ps
             → IfErr result (λ fault. IsCountRefusal fault (ps ++ (doc, position) ∷ [])) }
     {
@@ -175,6 +179,8 @@ impl Recorder {
     pub fn record(&mut self, doc: u32, position: u32) -> Result<(), Fault>
         ensures ok { (option : definitions.IndexRecordOption) (ps : List (ℕ × ℕ)) → self.old ≡ recorded_as option ps
             → OnOk result (self.new ≡ recorded_as option (ps ++ (doc, position) ∷ [])) }
+        ensures within { (option : definitions.IndexRecordOption) (ps : List (ℕ × ℕ))
+            → self.old ≡ recorded_as option ps → OnOk result (IsCountWithin option (ps ++ (doc, position) ∷ [])) }
         ensures err { (option : definitions.IndexRecordOption) (ps : List (ℕ × ℕ)) → self.old ≡ recorded_as option ps
             → IfErr result (λ fault. IsCountRefusal fault (ps ++ (doc, position) ∷ [])) }
     {

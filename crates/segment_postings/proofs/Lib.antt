@@ -16,9 +16,11 @@ pub mod NumberFolds
 pub mod BlockChecks
 pub mod BlockSteps
 pub mod RestChecks
+pub mod RestWalks
 pub mod PassedBlocks
 pub mod TermChecks
 pub mod BoundedNumbers
 pub mod WholeTerms
 pub mod OneTerm
+pub mod FewNumbers
 pub mod TermEntryLaws

@@ -39,7 +39,7 @@ same_from c p n bytes docs counts other_docs other_counts s b short digits few m
     let second = opened c p c false n bytes other_docs other_counts s b g other_parts (λ r. r) (λ r. absurd cc) skips (ap (λ xs. begun c p n xs) same) in
     record { docs_are = sym first.docs_are ∙ second.docs_are; counts_are = sym first.counts_are ∙ second.counts_are }
 
-same_postings : (c p : Bool) (n : ℕ) (bytes docs counts other_docs other_counts : List ℕ) → length bytes < 2 ^ 64 → AreDigits 256 bytes → HasPostings c p n bytes docs counts → HasPostings c p n bytes other_docs other_counts → AreSame docs counts other_docs other_counts n c
+pub same_postings : (c p : Bool) (n : ℕ) (bytes docs counts other_docs other_counts : List ℕ) → length bytes < 2 ^ 64 → AreDigits 256 bytes → HasPostings c p n bytes docs counts → HasPostings c p n bytes other_docs other_counts → AreSame docs counts other_docs other_counts n c
 same_postings c p n bytes docs counts other_docs other_counts short digits h g = go (cases_lt n 128)
   where
     go : (n < 128) ⊎ (128 ≤ n) → AreSame docs counts other_docs other_counts n c

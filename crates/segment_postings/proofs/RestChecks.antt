@@ -2,7 +2,7 @@
 use Rattle.std.proofs.Common.{[], List, None, Option, Some, ap, ap₂, append-nil, arith, false, if◌then◌else◌, length, refl, replicate, subst, suc, sum, sym, true, zero, ◌++◌, ◌+◌, ◌-◌, ◌<◌, ◌≡◌, ◌≤◌, ◌∙◌, ◌∷◌, ◌^◌, ℕ}
 use Rattle.std.proofs.lemmas.List.{length-map}
 use Rattle.std.specs.List.{AllByRecursion}
-use Rattle.segment_postings.proofs.BlockChecks.{counts_are_more, fit_small, less_more, more_fit, ones_are, sum_ones, wider}
+use Rattle.segment_postings.proofs.BlockChecks.{fit_small, less_more, more_fit, ones_are, sum_ones, wider}
 use Rattle.segment_postings.specs.Blocks.{HasBlocks, HasRestCounts, more_1}
 use Rattle.packed_blocks.proofs.ListLaws.{documents_back, documents_stood, numbers_back, numbers_stood}
 use Rattle.definitions.specs.NumberCodes.{AreBytes}
@@ -42,16 +42,6 @@ rest_counts_taken option n bytes total recorded h =
     let is : bytes ≡ numbers_bytes ls ++ [] = h.whole ∙ (ap (λ b. if b then numbers_bytes ls else []) recorded ∙ sym (append-nil (numbers_bytes ls))) in
     let long : n ≡ length ls = sym (length-map h.counts (λ k. k - 1) ∙ h.many) in
     ap₂ take_numbers long is ∙ numbers_back ls [] (small_less h.counts (fit_small h.counts h.are.fit))
-
--- the counts that were read are those of the bytes
-pub rest_counts_held : (option : IndexRecordOption) (n : ℕ) (bytes held left : List ℕ) (total : ℕ) → has_freq option ≡ true → take_numbers n bytes ≡ Some (held, left) → HasRestCounts option n bytes total → (left ≡ []) × AllByRecursion (λ k. k < 2 ^ 32) (more_1 held)
-rest_counts_held option n bytes held left total recorded taken h =
-    let both : Some (held, left) ≡ Some (less_1 h.counts, []) = sym taken ∙ rest_counts_taken option n bytes total recorded h in
-    let same : less_1 h.counts ≡ held = sym (ap list_in both) in
-    (ap left_in both, subst (λ xs. AllByRecursion (λ k. k < 2 ^ 32) xs) (sym (counts_are_more h.counts h.are.fit) ∙ ap more_1 same) (fit_small h.counts h.are.fit))
-
-pub rest_counts_untaken : (option : IndexRecordOption) (n : ℕ) (bytes : List ℕ) (total : ℕ) → has_freq option ≡ true → take_numbers n bytes ≡ None → HasRestCounts option n bytes total → ⊥
-rest_counts_untaken option n bytes total recorded none h = (let apart : ◌≡◌ {A = Option (List ℕ × List ℕ)} None (Some (less_1 h.counts, [])) = sym none ∙ rest_counts_taken option n bytes total recorded h in absurd cc)
 
 length_ones : (n : ℕ) → length {A = ℕ} (replicate n 1) ≡ n
 length_ones zero = refl
@@ -113,9 +103,6 @@ rest_read option ids num_docs before n bytes total few h =
       within = b.docs_are.within;
       counts = record { counts = h.counts; are = b.counts_are; many = omega (arith, long, same); whole = refl; total_is = h.total_is };
     }
-
-pub rest_untaken : (option : IndexRecordOption) (num_docs before n : ℕ) (bytes : List ℕ) (total : ℕ) → take_documents before n bytes ≡ None → RestRead option num_docs before n bytes total → ⊥
-rest_untaken option num_docs before n bytes total none r = (let apart : ◌≡◌ {A = Option (List ℕ × List ℕ)} None (Some (r.docs, r.left)) = sym none ∙ r.taken in absurd cc)
 
 pub rest_held : (option : IndexRecordOption) (num_docs before n : ℕ) (bytes docs left : List ℕ) (total : ℕ) → take_documents before n bytes ≡ Some (docs, left) → RestRead option num_docs before n bytes total → AllByRecursion (λ doc. doc < num_docs) docs × HasRestCounts option n left total
 rest_held option num_docs before n bytes docs left total taken r =

@@ -1,15 +1,15 @@
 -- What bytes have that are the blocks of a term's postings.
-use Rattle.std.specs.Prelude.{[], ◌*◌, ◌+◌, ◌<◌, ◌^◌, ◌≡◌, ◌∷◌, List, drop, false, if◌then◌else◌, length, map, slice_index, sum, take, true, ℕ}
+use Rattle.std.specs.Prelude.{[], ◌*◌, ◌+◌, ◌<◌, ◌^◌, ◌≡◌, ◌∷◌, List, Some, drop, false, if◌then◌else◌, length, map, slice_index, sum, take, true, ℕ}
 use Rattle.std.specs.List.{AllByRecursion}
 use Rattle.segment_postings.specs.declared.entry_check.Entry.{Entry}
 use Rattle.definitions.specs.Schema.{IndexRecordOption, has_freq, has_positions}
 use Rattle.definitions.specs.Scoring.{greatest_of}
 use Rattle.definitions.specs.Blocks.{least_of}
-use Rattle.layouts.specs.Deltas.{IsAscendingFrom, deltas}
+use Rattle.layouts.specs.Deltas.{IsAscendingFrom, deltas, documents}
 use Rattle.layouts.specs.PackedBytes.{packed_bytes, width_of}
 use Rattle.layouts.specs.SkipEntries.{SkipEntry, count_code}
 use Rattle.layouts.specs.TermPostings.{SumsFit, all_blocks, id_of, less_1, skip_entries}
-use Rattle.layouts.specs.VintBlocks.{numbers_bytes}
+use Rattle.layouts.specs.VintBlocks.{numbers_bytes, take_numbers}
 
 -- ---- lists
 
@@ -57,6 +57,19 @@ pub record BeginsWithBlock (option : IndexRecordOption) (ids : List ℕ) (num_do
   pub total_is : total ≡ sum counts
 
 -- ---- the rest
+
+-- so many documents below a number stand first, from a least one on
+pub record BeginsWithDocs (num_docs next n : ℕ) (bytes left : List ℕ) : Type 0 where
+  pub deltas : List ℕ
+  pub taken : take_numbers n bytes ≡ Some (deltas, left)
+  pub within : AllByRecursion (λ doc. doc < num_docs) (documents next deltas)
+
+-- the bytes are so many recorded counts, each less 1, which have this sum
+pub record HasCounts (n : ℕ) (bytes : List ℕ) (total : ℕ) : Type 0 where
+  pub numbers : List ℕ
+  pub taken : take_numbers n bytes ≡ Some (numbers, [])
+  pub fit : AllByRecursion (λ k. k < 2 ^ 32) (more_1 numbers)
+  pub total_is : total ≡ sum (more_1 numbers)
 
 -- the bytes are so many counts, which have this sum
 pub record HasRestCounts (option : IndexRecordOption) (n : ℕ) (bytes : List ℕ) (total : ℕ) : Type 0 where

@@ -16,6 +16,13 @@ pub record HasNumbers (counts bytes : List ℕ) : Type 0 where
   pub many : length numbers ≡ sum counts
   pub bounded : LastPositionsFit counts numbers
 
+-- the bytes are so many numbers, whose sum is below 2^31
+pub record HasFew (total : ℕ) (bytes : List ℕ) : Type 0 where
+  pub numbers : List ℕ
+  pub stand : ArePositions numbers bytes
+  pub many : length numbers ≡ total
+  pub few : sum numbers < 2 ^ 31
+
 -- a term by its postings and bytes, whatever its key
 abbrev pub term_of : List Posting → List ℕ → List ℕ → IndexedTerm
 term_of ps postings_bytes positions_bytes = record { key = []; postings = ps; postings_bytes = postings_bytes; positions_bytes = positions_bytes }

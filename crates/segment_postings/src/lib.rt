@@ -13,6 +13,7 @@ mod position_lists;
 mod positions_check;
 mod postings_check;
 mod rest_check;
+mod rest_numbers;
 mod segment_postings;
 mod term_check;
 pub mod term_laws;

@@ -1,13 +1,14 @@
 //! The check of a term's positions.
 
 ghost use Rattle.std.specs.Prelude.{IfErr, IfNone, IfOk, IfSome, IsTrue, List, None, OnOk, ℕ, ◌+◌, ◌<◌, ◌^◌, ◌≡◌, ◌≤◌, ◌↔◌, drop, length, sum, take, true};
-ghost use Rattle.segment_postings.specs.Placed.{HasNumbers, LastPositionsFit};
+ghost use Rattle.segment_postings.specs.Placed.{HasFew, HasNumbers, LastPositionsFit};
 ghost use Rattle.definitions.specs.Blocks.{block_len};
 ghost use Rattle.definitions.specs.declared.fault.Fault.TheVariants as faults;
 ghost use Rattle.segment_postings.specs.Cursors.{counts_left, docs_left};
 ghost use Rattle.segment_postings.specs.Reading.{HasPostings};
 
 use crate::BlockSegmentPostings;
+use crate::rest_check::recorded_rest;
 use definitions::Fault;
 use packed_blocks::COMPRESSION_BLOCK_SIZE;
 use positions::PositionReader;
@@ -28,16 +29,69 @@ pub(crate) fn check_positions(
         × ((docs counts : List ℕ) → HasPostings true true doc_freq postings.now docs counts
         → HasNumbers counts positions.now → ⊥)) }
 {
+    if are_few(positions, total) {
+        return Ok(());
+    }
+    check_many(postings, positions, doc_freq, total)?;
+    Ok(())
+}
+
+/// Whether `positions` are `total` numbers, fewer than 128, that show by one sum that each document's positions are
+/// below 2^31. Most terms have so few; of others nothing is said.
+fn are_few(positions: &[u8], total: u64) -> bool
+    ensures { IsTrue result → HasFew total positions.now }
+{
+    let Some((first, rest)) = positions.split_first() else {
+        return false;
+    };
+    if *first != 128 || total >= COMPRESSION_BLOCK_SIZE as u64 {
+        return false;
+    }
+    let Ok(sum) = recorded_rest(rest, total as usize) else {
+        return false;
+    };
+    sum < 1 << 31
+}
+
+/// Like `check_positions`, of any number of positions. It has room for blocks, which costs time at each call.
+fn check_many(postings: &[u8], positions: &[u8], doc_freq: u32, total: u64) -> Result<(), Fault>
+    requires { ∥ ((docs counts : List ℕ) × HasPostings true true doc_freq postings.now docs counts
+        × (total ≡ sum counts)) ∥₁ }
+    ensures ok { OnOk result ((docs counts : List ℕ) → HasPostings true true doc_freq postings.now docs counts
+        → HasNumbers counts positions.now) }
+    ensures err { IfErr result (λ fault. (fault ≡ faults.Damaged None)
+        × ((docs counts : List ℕ) → HasPostings true true doc_freq postings.now docs counts
+        → HasNumbers counts positions.now → ⊥)) }
+{
     let mut reader = PositionReader::open(positions)?;
+    if reader.num_positions() != total as u128 {
+        return Err(Fault::Damaged(None));
+    }
+    let mut room = [0; COMPRESSION_BLOCK_SIZE];
+    if is_bounded(&mut reader, 0, total, &mut room) {
+        return Ok(());
+    }
+    check_each(postings, doc_freq, &mut reader)?;
+    Ok(())
+}
+
+/// Checks the positions of each document.
+fn check_each(postings: &[u8], doc_freq: u32, reader: &mut PositionReader) -> Result<(), Fault>
+    requires known { ∥ ((docs counts : List ℕ) × HasPostings true true doc_freq postings.now docs counts
+        × (length reader.old ≡ sum counts)) ∥₁ }
+    requires few { length reader.old < 2 ^ 64 }
+    ensures ok { OnOk result ((docs counts : List ℕ) → HasPostings true true doc_freq postings.now docs counts
+        → LastPositionsFit counts reader.old) }
+    ensures err { IfErr result (λ fault. (fault ≡ faults.Damaged None)
+        × ((docs counts : List ℕ) → HasPostings true true doc_freq postings.now docs counts
+        → LastPositionsFit counts reader.old → ⊥)) }
+{
     let recorded = Recorded {
         counts: true,
         positions: true,
     };
     let mut blocks = BlockSegmentPostings::new(postings, doc_freq, recorded, true, false);
-    if reader.num_positions() != total as u128 {
-        return Err(Fault::Damaged(None));
-    }
-    if !are_bounded(&mut blocks, &mut reader) {
+    if !are_bounded(&mut blocks, reader) {
         return Err(Fault::Damaged(None));
     }
     Ok(())

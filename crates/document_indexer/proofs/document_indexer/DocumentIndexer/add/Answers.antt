@@ -6,7 +6,7 @@ use Rattle.definitions.specs.KeptLengths.{norms_of}
 use Rattle.document_indexer.specs.Contexts.{Context}
 use Rattle.document_indexer.specs.FieldLengths.{AreLengths, with_ids}
 use Rattle.document_indexer.specs.Indexed.{HasRecorded}
-use Rattle.document_indexer.proofs.Adding.{document_more, document_refused, document_within}
+use Rattle.document_indexer.proofs.Adding.{document_counted, document_more, document_refused, document_within}
 use Rattle.document_indexer.proofs.KeptLengths.{AreKept, document_kept, norms_kept}
 use Rattle.document_indexer.proofs.document_indexer.DocumentIndexer.add.Goals as goal
 
@@ -65,4 +65,8 @@ returns-clause-within g c docs h =
     let schema = c.args.schema.now in
     let analyze = g.A.Analyzer.analyze c.args.analyzer.now in
     let count = h.recorded.count in
-    (omega (arith, count), document_within schema analyze c.args.self.now.context c.index_document.new.indexer docs c.args.doc.now h.recorded c.in_ok-index_document.ensures.ok)
+    let recorded = c.in_ok-index_document.ensures.ok in (
+      omega (arith, count),
+      document_within schema analyze c.args.self.now.context c.index_document.new.indexer docs c.args.doc.now h.recorded recorded,
+      document_counted schema analyze c.args.self.now.context c.index_document.new.indexer docs c.args.doc.now h.recorded recorded,
+    )
