@@ -1,5 +1,6 @@
 //! Files that are cut or changed: what is opened of them, and what is damage.
 
+use crate::changed_files::answers_each_call;
 use crate::indexes::{DOCS, MemoryIndex, builder, new_index};
 use common::{Device, MemoryDevice, RawAndDefault};
 use definitions::Fault;
@@ -9,10 +10,10 @@ use std::test::Fail;
 
 // The file of an index, when it was made and after each of two commits.
 #[derive(Drop)]
-struct Files {
-    made: Vec<u8>,
-    once: Vec<u8>,
-    twice: Vec<u8>,
+pub(crate) struct Files {
+    pub(crate) made: Vec<u8>,
+    pub(crate) once: Vec<u8>,
+    pub(crate) twice: Vec<u8>,
 }
 
 // The index of a file of these bytes.
@@ -38,23 +39,30 @@ fn file_with(alloc: Global, file: &[u8], doc: &str) -> Result<Vec<u8>, Fault> {
 }
 
 // The files of an index with two commits.
-fn written(alloc: Global) -> Result<Files, Fault> {
+pub(crate) fn written(alloc: Global) -> Result<Files, Fault> {
     let made = file_of(alloc, new_index(alloc, builder(alloc)?.build())?)?;
     let once = file_with(alloc, &made, DOCS[0])?;
     let twice = file_with(alloc, &once, DOCS[1])?;
     Ok(Files { made, once, twice })
 }
 
-// What the last file is at a length. The last byte of each file is the gate of the next record.
-fn cut_fault(len: usize, files: &Files) -> Fault {
-    if len < 10 {
-        Fault::NoIndex
-    } else if len < files.made.len() {
+// Damage of the last file's record in which a place is. The last byte of each file is the gate of the next record.
+fn damage_at(place: usize, files: &Files) -> Fault {
+    if place < files.made.len() {
         Fault::Damaged(Some(0))
-    } else if len < files.once.len() {
+    } else if place < files.once.len() {
         Fault::Damaged(Some(files.made.len().saturating_sub(1) as u64))
     } else {
         Fault::Damaged(Some(files.once.len().saturating_sub(1) as u64))
+    }
+}
+
+// What the last file is at a length.
+fn cut_fault(len: usize, files: &Files) -> Fault {
+    if len < 10 {
+        Fault::NoIndex
+    } else {
+        damage_at(len, files)
     }
 }
 
@@ -70,11 +78,20 @@ fn are_cuts_refused(alloc: Global) -> Result<bool, Fault> {
     Ok(opened(alloc, &files.twice).is_ok())
 }
 
-// Whether a file is opened, or refused as one may be.
-fn is_answered(fault: Option<Fault>) -> bool {
-    match fault {
-        None | Some(Fault::NoIndex | Fault::Damaged(_) | Fault::UnknownTokenizer) => true,
-        Some(_) => false,
+// What the last file is with another byte at a place, where no index is opened: its first gate is then closed.
+fn change_fault(place: usize, files: &Files) -> Fault {
+    if place == 0 {
+        Fault::NoIndex
+    } else {
+        damage_at(place, files)
+    }
+}
+
+// Whether a changed file is refused at the gate of the record that was changed, or its index answers each call.
+fn is_change_answered(alloc: Global, bytes: &[u8], fault: Fault) -> Result<bool, Fault> {
+    match opened(alloc, bytes) {
+        Ok(index) => answers_each_call(alloc, index),
+        Err(refused) => Ok(refused == fault),
     }
 }
 
@@ -84,7 +101,7 @@ fn are_changes_answered(alloc: Global, changed: u8) -> Result<bool, Fault> {
     for i in 0..files.twice.len() {
         let mut bytes = files.twice.to_vec(alloc)?;
         bytes[i] = changed;
-        if !is_answered(opened(alloc, &bytes).err()) {
+        if !is_change_answered(alloc, &bytes, change_fault(i, &files))? {
             return Ok(false);
         }
     }
