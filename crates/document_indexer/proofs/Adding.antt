@@ -6,10 +6,11 @@ use Rattle.std.proofs.lemmas.List.{length-map, map-append}
 use Rattle.std.proofs.lemmas.List.Elements.{filter-append}
 use Rattle.definitions.specs.Analyzers.{Analyzer}
 use Rattle.definitions.specs.Indexing.{Placed}
-use Rattle.definitions.specs.Recorded.{occurrences}
-use Rattle.definitions.specs.Schema.{Schema, max_fields}
+use Rattle.definitions.specs.Recorded.{is_recorded, occurrences}
+use Rattle.definitions.specs.Schema.{Schema, has_freq, max_fields}
 use Rattle.definitions.specs.Values.{Document}
 use Rattle.definitions.specs.declared.fault.Fault.{Fault}
+use Rattle.layouts.specs.InvertedIndexes.{option_of_term}
 use Rattle.postings_writer.specs.Occurrences.{Occurrence, by_document, docs_of, ends_in, last_count, places_of}
 use Rattle.document_indexer.specs.Contexts.{AreBefore, Context, HasStarts, Holds, IsRefusal, Positions, Records, Refuses}
 use Rattle.document_indexer.specs.Indexed.{AreCountsWithin, HasRecorded, IsAddRefusal, doc_places, places_in}
@@ -18,7 +19,7 @@ use Rattle.document_indexer.specs.Steps.{steps_of}
 use Rattle.document_indexer.proofs.DocRuns.{doc_run}
 use Rattle.postings_writer.proofs.KeptCounts.{count_kept}
 use Rattle.document_indexer.proofs.Grouping.{last_count_below, one_more, own_count_below, placed, places_from}
-use Rattle.document_indexer.proofs.PostingsOf.{places_are, positions}
+use Rattle.document_indexer.proofs.PostingsOf.{places_are, positions, recorded}
 use Rattle.document_indexer.proofs.TermPlaces.{at, at-append}
 
 -- where no text of the document stands yet, all begin at 0
@@ -96,14 +97,21 @@ module _ (schema : Schema) (analyze : Analyzer) (was now : Context) (docs : List
   pub document_within : Records schema was now (steps_of schema analyze doc) → AreStepsWithin no_starts (steps_of schema analyze doc)
   document_within r = r.within h.written.os no_starts begun
 
-  pub document_counted : Records schema was now (steps_of schema analyze doc) → AreCountsWithin schema analyze doc
-  document_counted r t alone =
+  own_counted : Records schema was now (steps_of schema analyze doc) → (t : List ℕ) → has_freq (option_of_term schema t) ≡ true → length (occurrences schema analyze t doc) < 2 ^ 32
+  own_counted r t counted =
       let xss : List (List ℕ) = positions schema analyze t docs in
       let own : List ℕ = occurrences schema analyze t doc in
       let os : List Occurrence = h.written.os ++ occurrences_at was.doc (run_terms no_starts (steps_of schema analyze doc)) in
       let here : places_of t os ≡ places_from 0 (xss ++ own ∷ []) = places_more t ∙ places_are schema analyze t 0 (docs ++ doc ∷ []) ∙ ap (places_from 0) (map-append (occurrences schema analyze t) docs (doc ∷ [])) in
-      let kept = count_kept schema now.writer os t (r.holds h.written.os no_starts begun).stands alone in
+      let kept = count_kept schema now.writer os t (r.holds h.written.os no_starts begun).stands counted in
       own_count_below (2 ^ 32) xss own (omega arith) (subst (λ ps. last_count (by_document ps) < 2 ^ 32) here kept)
+
+  pub document_counted : Records schema was now (steps_of schema analyze doc) → AreCountsWithin schema analyze doc
+  document_counted r t = go (is_recorded has_freq schema t) refl
+    where
+      go : (b : Bool) → is_recorded has_freq schema t ≡ b → cond b (length (occurrences schema analyze t doc)) 1 < 2 ^ 32
+      go true is = own_counted r t (recorded has_freq schema t refl ∙ is)
+      go false is = omega arith
 
   -- ---- it is refused
 

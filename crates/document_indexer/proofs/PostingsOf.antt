@@ -15,7 +15,7 @@ use Rattle.document_indexer.specs.Indexed.{doc_places, places_in}
 use Rattle.document_indexer.proofs.Grouping.{all_grouped, groups_from, is_some_place, places_from}
 
 -- what is recorded, by the option
-recorded : (test : IndexRecordOption → Bool) (schema : Schema) (t : List ℕ) → test basic ≡ false → test (option_of_term schema t) ≡ is_recorded test schema t
+pub recorded : (test : IndexRecordOption → Bool) (schema : Schema) (t : List ℕ) → test basic ≡ false → test (option_of_term schema t) ≡ is_recorded test schema t
 recorded test schema t none = go (is_text_term t) (slice_get schema (field_of t))
   where
     go : (b : Bool) (o : Option Entry) → test (if b then option_map_or (λ (e : Entry). e.record_option) o basic else basic) ≡ (b && option_map_or (λ (e : Entry). test e.record_option) o false)

@@ -3,12 +3,11 @@ use Rattle.std.specs.Prelude.{◌<◌, ◌^◌, ◌≡◌, ◌≤◌, ◌⊎◌,
 use Rattle.std.specs.List.{enumerate_from}
 use Rattle.definitions.specs.Analyzers.{Analyzer}
 use Rattle.definitions.specs.Postings.{terminated}
-use Rattle.definitions.specs.Recorded.{occurrences}
-use Rattle.definitions.specs.Schema.{Schema, with_freqs}
+use Rattle.definitions.specs.Recorded.{count_of, occurrences}
+use Rattle.definitions.specs.Schema.{Schema}
 use Rattle.definitions.specs.Values.{Document}
 use Rattle.definitions.specs.declared.fault.Fault.{Fault}
 use Rattle.definitions.specs.declared.fault.Fault.TheVariants as faults
-use Rattle.layouts.specs.InvertedIndexes.{option_of_term}
 use Rattle.postings_writer.specs.Occurrences.{Occurrence, places_of}
 use Rattle.postings_writer.specs.Writers.{Stands, Writer}
 use Rattle.document_indexer.specs.Contexts.{AreBefore, Context}
@@ -48,12 +47,11 @@ IsCounted schema analyze doc = (t : List ℕ) → length (occurrences schema ana
 abbrev pub PassesLimit : Schema → Analyzer → List Document → Document → Type 0
 PassesLimit schema analyze docs doc = (terminated ≤ length docs) ⊎ (AreStepsWithin no_starts (steps_of schema analyze doc) → ⊥) ⊎ (IsCounted schema analyze doc → ⊥)
 
--- a document has no term, of which counts are recorded without positions, more often than that
+-- no count of a document passes 32 bits
 abbrev pub AreCountsWithin : Schema → Analyzer → Document → Type 0
-AreCountsWithin schema analyze doc = (t : List ℕ) → option_of_term schema t ≡ with_freqs → length (occurrences schema analyze t doc) < 2 ^ 32
+AreCountsWithin schema analyze doc = (t : List ℕ) → count_of schema analyze t doc < 2 ^ 32
 
--- with one document more neither the number of documents nor the greatest position is passed, nor a count that is
--- recorded without positions
+-- with one document more neither the number of documents nor the greatest position is passed, nor a count
 abbrev pub IsWithinLimits : Schema → Analyzer → List Document → Document → Type 0
 IsWithinLimits schema analyze docs doc = (length docs < terminated) × AreStepsWithin no_starts (steps_of schema analyze doc) × AreCountsWithin schema analyze doc
 

@@ -1,10 +1,11 @@
 -- Places by document, as one more is recorded.
-use Rattle.std.proofs.Common.{[], ◌++◌, ◌+◌, ◌-◌, ◌<◌, ◌^◌, ◌≡◌, ◌≤◌, ◌∙◌, ◌∷◌, Bool, List, Some, ap, arith, cond, false, get_or, length, length-append, map, nat_eq, option_map, refl, set, slice_get, subst, suc, sym, true, zero, ℕ}
+use Rattle.std.proofs.Common.{[], ◌++◌, ◌+◌, ◌-◌, ◌<◌, ◌^◌, ◌≡◌, ◌≢◌, ◌≤◌, ◌∙◌, ◌∷◌, Bool, List, Some, ap, arith, cond, false, get_or, length, length-append, map, nat_eq, option_map, refl, set, slice_get, subst, suc, sym, true, zero, ℕ}
 use Rattle.std.proofs.lemmas.Bool.Decides.{nat_tests}
 use Rattle.std.proofs.lemmas.List.{length-map}
 use Rattle.std.proofs.lemmas.Option.{get_or_from_slice_get, slice_get_within}
 use Rattle.definitions.proofs.Lists.{nat_same as same}
 use Rattle.postings_writer.specs.Occurrences.{by_document, counts_of, docs_of, ends_in, grouped, last_count}
+use Rattle.postings_writer.specs.PlaceBytes.{last_doc}
 
 -- one place more, at the end
 abbrev pub extended : List (ℕ × List ℕ) → ℕ × ℕ → List (ℕ × List ℕ)
@@ -158,6 +159,41 @@ count_past ps items doc position m is again long past =
 pub count_within : (ps items : List (ℕ × ℕ)) (doc position m : ℕ) → items ≡ counts_of ps → ends_in doc (docs_of ps) ≡ true → length (counts_of ps) ≡ suc m → (get_or items m (0, 0)).1 + 1 < 2 ^ 32 → last_count (by_document (ps ++ (doc, position) ∷ [])) < 2 ^ 32
 count_within ps items doc position m is again long within =
     subst (λ n. n < 2 ^ 32) (ap (λ (xs : List (ℕ × ℕ)). (get_or {A = ℕ × ℕ} xs m (0, 0)).1 + 1) is ∙ ap (λ n. n + 1) (sym (last_count-counts ps m long)) ∙ sym (last_count-again ps doc position again)) within
+
+-- ---- the count of the last document, by the last place
+
+some_groups : (q : ℕ × ℕ) (gs : List (ℕ × List ℕ)) → 0 < length (grouped q gs)
+some_groups q [] = omega arith
+some_groups q (g ∷ gs) = go (nat_eq q.0 g.0)
+  where
+    go : (b : Bool) → 0 < length (pick b ((g.0, q.1 ∷ g.1) ∷ gs) ((q.0, q.1 ∷ []) ∷ g ∷ gs))
+    go true = omega arith
+    go false = omega arith
+
+-- a place in front of others doesn't change which document is the last
+ends_grouped : (doc : ℕ) (q : ℕ × ℕ) (gs : List (ℕ × List ℕ)) → 0 < length gs → ends_in doc (docs (grouped q gs)) ≡ ends_in doc (docs gs)
+ends_grouped doc q [] some = absurd (omega arith)
+ends_grouped doc q (g ∷ gs) some = go (nat_eq q.0 g.0)
+  where
+    go : (b : Bool) → ends_in doc (docs (pick b ((g.0, q.1 ∷ g.1) ∷ gs) ((q.0, q.1 ∷ []) ∷ g ∷ gs))) ≡ ends_in doc (docs (g ∷ gs))
+    go true = refl
+    go false = refl
+
+last_ends : (doc : ℕ) (q : ℕ × ℕ) (ps : List (ℕ × ℕ)) → ends_in doc (docs_of (q ∷ ps)) ≡ nat_eq (last_doc q.0 ps) doc
+last_ends doc q [] = refl
+last_ends doc q (p ∷ ps) = ends_grouped doc q (by_document (p ∷ ps)) (some_groups p (by_document ps)) ∙ last_ends doc p ps
+
+pub count_again : (ps : List (ℕ × ℕ)) (doc position count : ℕ) → doc ≡ last_doc 0 ps → count ≡ last_count (by_document ps) → count + 1 ≡ last_count (by_document (ps ++ (doc, position) ∷ []))
+count_again [] doc position count last is = ap (λ n. n + 1) is
+count_again (q ∷ ps) doc position count last is =
+    let here : nat_eq (last_doc q.0 ps) doc ≡ true = grind (arith, nat_tests) in
+    ap (λ n. n + 1) is ∙ sym (last_count-again (q ∷ ps) doc position (last_ends doc q ps ∙ here))
+
+pub count_anew : (ps : List (ℕ × ℕ)) (doc last_one position : ℕ) → last_one ≡ last_doc 0 ps → doc ≢ last_one → 1 ≡ last_count (by_document (ps ++ (doc, position) ∷ []))
+count_anew [] doc last_one position last other = refl
+count_anew (q ∷ ps) doc last_one position last other =
+    let here : nat_eq (last_doc q.0 ps) doc ≡ false = grind (arith, nat_tests) in
+    sym (last_count-new (q ∷ ps) doc position (last_ends doc q ps ∙ here))
 
 -- the last document of a list by its place
 pub ends_in-last : (doc : ℕ) (ds : List ℕ) (m : ℕ) → length ds ≡ suc m → ends_in doc ds ≡ nat_eq (get_or ds m 0) doc

@@ -1,6 +1,6 @@
--- Counts that are recorded without positions.
-use Rattle.std.proofs.Common.{[], ◌<◌, ◌^◌, ◌≡◌, ◌∙◌, ◌∷◌, List, ap, arith, length, refl, subst, sym, ℕ}
-use Rattle.definitions.specs.Schema.{Schema, with_freqs}
+-- Counts that are recorded.
+use Rattle.std.proofs.Common.{[], ◌<◌, ◌^◌, ◌≡◌, ◌∙◌, ◌∷◌, List, ap, arith, length, refl, subst, sym, true, ℕ}
+use Rattle.definitions.specs.Schema.{Schema, has_freq}
 use Rattle.layouts.specs.InvertedIndexes.{option_of_term}
 use Rattle.postings_writer.specs.Fields.{option_of_key}
 use Rattle.postings_writer.specs.Occurrences.{Occurrence, by_document, last_count, places_of}
@@ -11,12 +11,12 @@ use Rattle.postings_writer.proofs.WrittenSections.{term_known}
 
 -- the count of a term's last document
 pub count_kept : (schema : Schema) (w : Writer) (os : List Occurrence) (t : List ℕ) → Stands schema w os → IsCountWithin (option_of_term schema t) (places_of t os)
-count_kept schema w os t stands alone = go (places_of t os) refl
+count_kept schema w os t stands counted = go (places_of t os) refl
   where
     known : 0 < length (places_of t os) → last_count (by_document (places_of t os)) < 2 ^ 32
     known some =
         let k : IsIndexedTerm schema t = term_known schema w.num_docs t os stands.each some in
-        let option : option_of_key k.entry k.key ≡ with_freqs = sym (ap (option_of_term schema) k.whole ∙ same_option schema k.field k.entry k.key k.fits k.is) ∙ alone in
+        let option : has_freq (option_of_key k.entry k.key) ≡ true = ap has_freq (sym (ap (option_of_term schema) k.whole ∙ same_option schema k.field k.entry k.key k.fits k.is)) ∙ counted in
         let has = stands.recorded k.field k.entry k.is in
         subst (λ bytes. last_count (by_document (places_of bytes os)) < 2 ^ 32) (sym k.whole) (has.2.counted k.key option)
 

@@ -16,7 +16,7 @@ Terms = List (List ℕ × Recorder)
 abbrev pub option_of_key : Entry → List ℕ → IndexRecordOption
 option_of_key e key = if is_text_key e.kind key then e.record_option else basic
 
--- each term has the recorder of its places, and where counts alone are recorded they are below 2^32
+-- each term has the recorder of its places, and where counts are recorded they are below 2^32
 pub record HasPlaces (e : Entry) (places : List ℕ → List (ℕ × ℕ)) (terms : Terms) : Type 0 where
   pub recorders : (key : List ℕ) → lookup (bytes_eq key) terms ≡ recorder_of (option_of_key e key) (places key)
   pub counted : (key : List ℕ) → IsCountWithin (option_of_key e key) (places key)

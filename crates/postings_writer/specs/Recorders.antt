@@ -1,6 +1,6 @@
 -- What recorders stand for.
-use Rattle.std.specs.Prelude.{[], ◌∷◌, ◌<◌, ◌^◌, ◌≡◌, ◌≤◌, ◌⊎◌, List, None, Option, Some, ℕ}
-use Rattle.definitions.specs.Schema.{IndexRecordOption, basic, with_freqs, with_freqs_and_positions}
+use Rattle.std.specs.Prelude.{[], ◌∷◌, ◌<◌, ◌^◌, ◌≡◌, ◌≤◌, ◌⊎◌, List, None, Option, Some, true, ℕ}
+use Rattle.definitions.specs.Schema.{IndexRecordOption, basic, has_freq, with_freqs, with_freqs_and_positions}
 use Rattle.definitions.specs.declared.fault.Fault.{Fault}
 use Rattle.definitions.specs.declared.fault.Fault.TheVariants as faults
 use Rattle.postings_writer.specs.Occurrences.{by_document, counts_of, docs_of, last_count}
@@ -18,9 +18,9 @@ abbrev pub recorder_of : IndexRecordOption → List (ℕ × ℕ) → Option Reco
 recorder_of option [] = None
 recorder_of option (p ∷ ps) = Some (recorded_as option (p ∷ ps))
 
--- where counts alone are recorded, that of these places' last document is below 2^32
+-- where counts are recorded, that of these places' last document is below 2^32
 abbrev pub IsCountWithin : IndexRecordOption → List (ℕ × ℕ) → Type 0
-IsCountWithin option ps = option ≡ with_freqs → last_count (by_document ps) < 2 ^ 32
+IsCountWithin option ps = has_freq option ≡ true → last_count (by_document ps) < 2 ^ 32
 
 -- memory was wanting, or the count of these places' last document would pass 32 bits
 abbrev pub IsCountRefusal : Fault → List (ℕ × ℕ) → Type 0

@@ -3,8 +3,10 @@
 //! Of each occurrence two numbers of seven bits a byte are kept: how far its document is after that of the occurrence
 //! before it, and the position. Most take a byte or two each.
 
-ghost use Rattle.std.specs.Prelude.{[], ◌++◌, ◌+◌, ◌<◌, ◌^◌, ◌≡◌, ◌≤◌, ◌∷◌, IfErr, IsSomeAnd, List, OnErr, OnOk, Some, length, vec_capacity, ℕ};
+ghost use Rattle.std.specs.Prelude.{[], ◌++◌, ◌+◌, ◌<◌, ◌^◌, ◌≡◌, ◌≤◌, ◌∷◌, IfErr, IfOk, IsSomeAnd, List, OnErr, OnOk, Some, length, vec_capacity, ℕ};
 ghost use Rattle.definitions.specs.NumberCodes.{take_vint, vint_bytes};
+ghost use Rattle.definitions.specs.declared.fault.Fault.TheVariants as faults;
+ghost use Rattle.postings_writer.specs.Occurrences.{by_document, last_count};
 ghost use Rattle.postings_writer.specs.Recorders.{IsCountRefusal};
 
 use common::{put_vint, take_vint};
@@ -87,6 +89,15 @@ fn take_number(bytes: &[u8]) -> (u32, &[u8])
     }
 }
 
+/// Returns a count with one more, if it is below 4294967296.
+#[inline]
+fn one_more(count: u32) -> Result<u32, Fault>
+    ensures ok { IfOk result (λ more. (more ≡ count + 1) × (more < 2 ^ 32)) }
+    ensures err { IfErr result (λ fault. (fault ≡ faults.Limit) × (2 ^ 32 ≤ count + 1)) }
+{
+    count.checked_add(1).ok_or(Fault::Limit)
+}
+
 /// The documents of a term, and its positions in each.
 /// Those of a document are sorted when the term is written, so they may be recorded in any order.
 #[derive(Drop)]
@@ -96,17 +107,21 @@ pub struct TfAndPositionRecorder {
     len: usize,
     // The last document, or 0.
     doc: u32,
+    // How often the term occurs in it.
+    count: u32,
 }
 
 impl Model for TfAndPositionRecorder {
-    ghost use Rattle.std.specs.Prelude.{List, ℕ};
+    ghost use Rattle.std.specs.Prelude.{◌≡◌, List, ℕ};
+    ghost use Rattle.postings_writer.specs.Occurrences.{by_document, last_count};
     ghost use Rattle.postings_writer.specs.PlaceBytes.{AreBytesOf, places_in};
 
     ghost Value = { List (ℕ × ℕ) };
 
     ghost view = { λ r. places_in r.len 0 r.bytes.items };
 
-    ghost invariant = { λ r. AreBytesOf (places_in r.len 0 r.bytes.items) r.bytes.items r.len r.doc };
+    ghost invariant = { λ r. AreBytesOf (places_in r.len 0 r.bytes.items) r.bytes.items r.len r.doc
+        × (r.count ≡ last_count (by_document (places_in r.len 0 r.bytes.items))) };
 }
 
 impl TfAndPositionRecorder {
@@ -118,18 +133,38 @@ impl TfAndPositionRecorder {
             bytes: Vec::new(alloc),
             len: 0,
             doc: 0,
+            count: 0,
         }
     }
 
+    /// Returns how often the term occurs in the last document, once it occurs in `doc` once more.
+    #[inline]
+    fn count_with(&self, doc: u32) -> Result<u32, Fault>
+        ensures ok { (position : ℕ) → IfOk result (λ count. count
+            ≡ last_count (by_document (self.now ++ (doc, position) ∷ []))) }
+        ensures within { IfOk result (λ count. count < 2 ^ 32) }
+        ensures err { (position : ℕ) → IfErr result (λ fault. IsCountRefusal fault
+            (self.now ++ (doc, position) ∷ [])) }
+    {
+        if doc != self.doc {
+            return Ok(1);
+        }
+        let count = one_more(self.count)?;
+        Ok(count)
+    }
+
     /// Records an occurrence of the term in `doc`, which isn't before the last one, at `position`. A count past
-    /// 4294967295 is refused when the postings are written.
+    /// 4294967295 is refused.
     pub fn record(&mut self, doc: u32, position: u32) -> Result<(), Fault>
         ensures ok { OnOk result (self.new ≡ self.old ++ (doc, position) ∷ []) }
+        ensures within { OnOk result (last_count (by_document (self.old ++ (doc, position) ∷ [])) < 2 ^ 32) }
         ensures err { IfErr result (λ fault. IsCountRefusal fault (self.old ++ (doc, position) ∷ [])) }
     {
+        let count = self.count_with(doc)?;
         put_two(&mut self.bytes, doc.wrapping_sub(self.doc), position)?;
         self.len += 1;
         self.doc = doc;
+        self.count = count;
         Ok(())
     }
 

@@ -173,9 +173,8 @@ impl Recorder {
         }
     }
 
-    /// Records an occurrence of the term in `doc`, which isn't before the last one, at `position`.
-    /// With positions a count past 4294967295 is refused only when the postings are written: to refuse it here, each
-    /// term would also keep the count of its last document.
+    /// Records an occurrence of the term in `doc`, which isn't before the last one, at `position`. Where counts are
+    /// recorded, one past 4294967295 is refused.
     pub fn record(&mut self, doc: u32, position: u32) -> Result<(), Fault>
         ensures ok { (option : definitions.IndexRecordOption) (ps : List (ℕ × ℕ)) → self.old ≡ recorded_as option ps
             → OnOk result (self.new ≡ recorded_as option (ps ++ (doc, position) ∷ [])) }
