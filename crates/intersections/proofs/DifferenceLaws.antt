@@ -1,6 +1,7 @@
 -- Laws of differences.
 use Rattle.std.proofs.Common.{[], ◌+◌, ◌<◌, ◌∙◌, ◌∷◌, ◌≡◌, ◌≤◌, Bool, List, ap, arith, drop, false, if◌then◌else◌, le-leb, length, nat_le, refl, sym, true, ℕ}
 use Rattle.definitions.specs.Postings.{terminated}
+use Rattle.docsets.specs.Bounds.{Covers}
 use Rattle.docsets.specs.Danger.{Missed}
 use Rattle.docsets.specs.Entries.{Entry, Rising, first, from}
 use Rattle.docsets.specs.EntryLaws.{Rising-from}
@@ -73,3 +74,12 @@ has-missed d bound before after r m =
     let above = m.above in
     let next = m.before_next in
     sym (has-kept d d before (from d before) (from-from d d before (omega arith)) (omega arith)) ∙ has-low d (from d before) (Rising-from d 0 before r) (omega (arith, above, next))
+
+-- ---- bounds
+
+-- what bounds the scores of a list bounds those that stay
+pub covers_without : (set : ℕ → Bool) (target until bound : ℕ) (es : List Entry) → Covers target until bound es → Covers target until bound (without set es)
+covers_without set target until bound [] few = tt
+covers_without set target until bound (e ∷ es) few =
+    let ih = covers_without set target until bound es few.1 in
+    elim (set e.doc) as (λ b. Covers target until bound (if b then without set es else e ∷ without set es)) [ true ↦ ih | false ↦ (few.0, ih) ]

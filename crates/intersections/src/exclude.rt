@@ -7,7 +7,7 @@ ghost use Rattle.intersections.specs.Differences.{IsOutside, without};
 
 use crate::exclusion_set::ExclusionSet;
 use common::{DocId, Score, TERMINATED};
-use docsets::{DocSet, Scorer};
+use docsets::{DocSet, Scorer, Window};
 
 /// The documents of a cursor that aren't in a set, with their scores.
 #[derive(Drop)]
@@ -84,5 +84,9 @@ impl<S: Scorer, E: ExclusionSet> Scorer for Exclude<S, E> {
     #[inline]
     fn score(&mut self) -> Score {
         self.underlying.score()
+    }
+
+    fn window(&mut self, target: DocId) -> Window {
+        self.underlying.window(target)
     }
 }
