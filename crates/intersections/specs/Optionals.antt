@@ -1,5 +1,5 @@
 -- A required list with an optional one.
-use Rattle.std.specs.Prelude.{List, ◌∷◌, ℕ}
+use Rattle.std.specs.Prelude.{List, ◌∷◌, ◌≡◌, sum, ℕ}
 use Rattle.docsets.specs.Entries.{Entry}
 use Rattle.docsets.specs.ScoredEntries.{rescored_by}
 use Rattle.docsets.specs.Members.{entries_of, scores_in}
@@ -11,3 +11,7 @@ score_with combine optional e = combine (e.score ∷ scores_in (entries_of e.doc
 -- the required entries with these scores
 abbrev pub with_optional : (List ℕ → ℕ) → List Entry → List Entry → List Entry
 with_optional combine required optional = rescored_by (score_with combine optional) required
+
+-- a combiner makes sums of the scores
+abbrev pub AddsUp : (List ℕ → ℕ) → Type 0
+AddsUp combine = (scores : List ℕ) → combine scores ≡ sum scores

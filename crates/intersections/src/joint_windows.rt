@@ -31,6 +31,20 @@ pub(crate) fn joint_window<S: Scorer>(scorers: &mut Vec<S>, target: DocId) -> Wi
     }
 }
 
+/// Returns the bound of the scores of two scorers together, whose own are `left` and `right`.
+pub(crate) fn joint(left: Window, right: Window) -> Window
+    requires positive { (pos 0 ≤ℤ left.bound) × (pos 0 ≤ℤ right.bound) }
+    ensures positive { pos 0 ≤ℤ result.bound }
+    ensures until { result.until ≡ min left.until right.until }
+    ensures bound { min (natural left.bound + natural right.bound) max_score ≤ natural result.bound }
+{
+    let bound = with_bound(with_bound(0, left.bound), right.bound);
+    Window {
+        bound: bound as Score,
+        until: left.until.min(right.until),
+    }
+}
+
 /// Returns `total` with `bound` added, at most `MAX_SCORE`.
 #[inline]
 fn with_bound(total: u64, bound: Score) -> u64

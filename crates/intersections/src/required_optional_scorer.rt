@@ -1,12 +1,16 @@
 //! A required scorer, with an optional one that adds to its scores.
 
-ghost use Rattle.std.specs.Prelude.{◌+◌, ◌≡◌, ◌≤◌};
+ghost use Rattle.std.specs.Prelude.{◌+◌, ◌≡◌, ◌≤◌, sum, true};
 ghost use Rattle.definitions.specs.Scoring.{max_score};
-ghost use Rattle.intersections.specs.Optionals.{with_optional};
+ghost use Rattle.intersections.specs.OptionalLaws.{AddsUp-prop};
+ghost use Rattle.intersections.specs.Optionals.{AddsUp, with_optional};
 ghost use Rattle.docsets.specs.ScoredEntries.{greatest_score};
 
-use common::{AliveBitSet, DocId, Score};
-use docsets::{DocSet, ScoreCombiner, Scorer, SeekDangerResult, move_to, take_score};
+use crate::joint_windows::joint;
+use common::{AliveBitSet, DocId, MAX_SCORE, Score, TERMINATED};
+use docsets::{
+    DocSet, ScoreCombiner, Scorer, SeekDangerResult, SumCombiner, Window, move_to, take_score,
+};
 
 /// The documents of a required scorer, each with what a combiner makes of its score and of the optional one, where
 /// there is one.
@@ -15,8 +19,10 @@ pub struct RequiredOptionalScorer<R: Scorer, O: Scorer, C: ScoreCombiner> {
     req_scorer: R,
     opt_scorer: O,
     fresh: C,
+    sums: bool,
     ghost unused: { C.total fresh ≡ 0 },
     ghost fits: { greatest_score (R.entries req_scorer) + greatest_score (O.entries opt_scorer) ≤ max_score },
+    ghost adds: { sums ≡ true → AddsUp (C.answer fresh) } by { AddsUp-prop sums (C.answer fresh) },
 }
 
 impl<R: Scorer, O: Scorer, C: ScoreCombiner> RequiredOptionalScorer<R, O, C> {
@@ -33,6 +39,24 @@ impl<R: Scorer, O: Scorer, C: ScoreCombiner> RequiredOptionalScorer<R, O, C> {
             req_scorer,
             opt_scorer,
             fresh,
+            sums: false,
+        }
+    }
+}
+
+impl<R: Scorer, O: Scorer> RequiredOptionalScorer<R, O, SumCombiner> {
+    /// Returns the documents of `req_scorer`, with the scores of `opt_scorer` added. Where both have a bound of their
+    /// scores it has one too.
+    pub fn with_sums(req_scorer: R, opt_scorer: O) -> RequiredOptionalScorer<R, O, SumCombiner>
+        requires { greatest_score (R.entries req_scorer) + greatest_score (O.entries opt_scorer) ≤ max_score }
+        ensures { ⟦<RequiredOptionalScorer<R, O, SumCombiner> as DocSet>⟧.entries result
+            ≡ with_optional sum (R.entries req_scorer) (O.entries opt_scorer) }
+    {
+        RequiredOptionalScorer {
+            req_scorer,
+            opt_scorer,
+            fresh: SumCombiner::default(),
+            sums: true,
         }
     }
 }
@@ -93,5 +117,19 @@ impl<R: Scorer, O: Scorer, C: ScoreCombiner> Scorer for RequiredOptionalScorer<R
         move_to(&mut self.opt_scorer, doc);
         take_score(&mut self.opt_scorer, doc, &mut combiner);
         combiner.score()
+    }
+
+    fn window(&mut self, target: DocId) -> Window {
+        if !self.sums {
+            return Window {
+                bound: MAX_SCORE,
+                until: TERMINATED,
+            };
+        }
+        let own = self.req_scorer.window(target);
+        if self.opt_scorer.doc() >= own.until {
+            return own;
+        }
+        joint(own, self.opt_scorer.window(target))
     }
 }

@@ -10,7 +10,7 @@ invariant_of-self g c =
     let rest = g.R.DocSet.entries c.fill_buffer.new.self in
     let less = greatest-rest rest es ((64, c.fill_buffer.ensures.rest)) in
     let fits = c.args.self.now.fits in
-    record { unused = c.args.self.now.unused; fits = omega (arith, less, fits) }
+    record { unused = c.args.self.now.unused; adds = c.args.self.now.adds; fits = omega (arith, less, fits) }
 
 pub returns-clause-len : goal.returns-clause-len
 returns-clause-len g c = c.fill_buffer.ensures.len ∙ ap (min 64) (sym (length-rescored (score_with (g.C.ScoreCombiner.answer c.args.self.now.fresh) (g.O.DocSet.entries c.args.self.now.opt_scorer)) (g.R.DocSet.entries c.args.self.now.req_scorer)))

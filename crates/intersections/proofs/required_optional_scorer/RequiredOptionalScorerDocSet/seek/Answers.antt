@@ -11,7 +11,7 @@ invariant_of-self g c =
     let rest = g.R.DocSet.entries c.seek.new.self in
     let less = greatest-rest rest es (IsRest-along _ _ _ c.seek.ensures.rest (IsRest-from c.args.target 0 es (g.met.R.DocSet.rising c.args.self.now.req_scorer))) in
     let fits = c.args.self.now.fits in
-    record { unused = c.args.self.now.unused; fits = omega (arith, less, fits) }
+    record { unused = c.args.self.now.unused; adds = c.args.self.now.adds; fits = omega (arith, less, fits) }
 
 pub returns-clause-rest : goal.returns-clause-rest
 returns-clause-rest g c = ap (rescored_by (score_with (g.C.ScoreCombiner.answer c.args.self.now.fresh) (g.O.DocSet.entries c.args.self.now.opt_scorer))) c.seek.ensures.rest ∙ sym (from-rescored (score_with (g.C.ScoreCombiner.answer c.args.self.now.fresh) (g.O.DocSet.entries c.args.self.now.opt_scorer)) c.args.target (g.R.DocSet.entries c.args.self.now.req_scorer))

@@ -9,7 +9,7 @@ invariant_of-self g c =
     let rest = g.R.DocSet.entries c.seek_danger.new.self in
     let less = greatest-rest rest es (danger-rest c.seek_danger.result c.args.target es rest (g.met.R.DocSet.rising c.args.self.now.req_scorer) c.seek_danger.ensures) in
     let fits = c.args.self.now.fits in
-    record { unused = c.args.self.now.unused; fits = omega (arith, less, fits) }
+    record { unused = c.args.self.now.unused; adds = c.args.self.now.adds; fits = omega (arith, less, fits) }
 
 pub returns : goal.returns
 returns g c = danger-rescored (score_with (g.C.ScoreCombiner.answer c.args.self.now.fresh) (g.O.DocSet.entries c.args.self.now.opt_scorer)) c.seek_danger.result c.args.target (g.R.DocSet.entries c.args.self.now.req_scorer) (g.R.DocSet.entries c.seek_danger.new.self) c.seek_danger.ensures

@@ -65,7 +65,7 @@ invariant_of-self g c =
     let required = ap greatest_score c.update.ensures.same in
     let less = greatest-rest rest os (IsRest-along rest (from doc os) os (c.take_score.ensures.same ∙ c.move_to.ensures.rest) (IsRest-from doc 0 os (g.met.O.DocSet.rising s.opt_scorer))) in
     let fits = s.fits in
-    record { unused = s.unused; fits = omega (arith, required, less, fits) }
+    record { unused = s.unused; adds = s.adds; fits = omega (arith, required, less, fits) }
 
 pub returns-clause-same : goal.returns-clause-same
 returns-clause-same g c =
