@@ -116,14 +116,6 @@ stays_in target start before after same block =
       similarity = same.similarity ∙ block.similarity;
     }
 
-pub kept_same : (before after : TermScorer) → cursor_of after ≡ cursor_of before → similarity_of after ≡ similarity_of before → IsSameBlock before after
-kept_same before after cursor similarity = record {
-  docs = ap (λ c. docs_left (cursor_blocks c)) cursor;
-  skips = ap (λ c. skips_left (cursor_blocks c)) cursor;
-  decoded = ap cursor_blocks_decoded cursor;
-  similarity = similarity;
-}
-
 -- a move that began in the same block
 pub stands_from : (target : ℕ) (before after last : TermScorer) → IsSameBlock before after → StandsInBlock target after last → StandsInBlock target before last
 stands_from target before after last same block =

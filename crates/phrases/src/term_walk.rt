@@ -1,10 +1,10 @@
 //! The walk over one term that leaves out blocks with no document above the threshold.
 
-ghost use Rattle.std.specs.Prelude.{◌+◌, ◌/◌, ◌<◌, ◌≡◌, ◌≤◌, drop, length, min};
+ghost use Rattle.std.specs.Prelude.{[], ◌+◌, ◌/◌, ◌<◌, ◌∷◌, ◌≡◌, ◌≤◌, drop, length, min};
 ghost use Rattle.definitions.specs.Blocks.{block_len};
 ghost use Rattle.definitions.specs.Postings.{terminated};
 ghost use Rattle.definitions.specs.Sinks.{fed, later_blocks_above};
-ghost use Rattle.docsets.specs.Entries.{from};
+ghost use Rattle.docsets.specs.Entries.{first, first_score, from};
 ghost use Rattle.docsets.specs.ScoredEntries.{pairs_of};
 ghost use Rattle.phrases.specs.BlocksLeft.{StandsInBlock, blocks_decoded_by, blocks_left, docs_held, skips_found, skips_held, up_to};
 ghost use Rattle.segment_postings.specs.Reading.{below};
@@ -14,7 +14,7 @@ ghost use Rattle.term_scorer.specs.ScoredTerms.{scored_left};
 
 use crate::sink::{Sink, offer};
 use common::{DocId, Score, TERMINATED};
-use docsets::{DocSet, Scorer};
+use docsets::DocSet;
 use term_scorer::TermScorer;
 
 /// Feeds each document of `scorer` with its score to `sink`, in order, if the score is above the sink's threshold by
@@ -82,13 +82,35 @@ fn feed_block<K: Sink>(
         doc = scorer.seek(target);
     }
     while doc + 1 < until {
-        let score = scorer.score();
-        threshold = offer(sink, threshold, doc, score);
+        threshold = offer_current(scorer, doc, threshold, sink);
         doc = scorer.advance();
     }
     if doc + 1 == until {
-        let score = scorer.score();
-        return offer(sink, threshold, doc, score);
+        return offer_current(scorer, doc, threshold, sink);
     }
     threshold
+}
+
+/// Feeds `doc`, the current document of `scorer`, to `sink` if its score is above `threshold`, which is the sink's.
+/// Returns the next threshold.
+#[inline(always)]
+fn offer_current<K: Sink>(
+    scorer: &TermScorer<'_>,
+    doc: DocId,
+    threshold: Score,
+    sink: &mut K,
+) -> Score
+    requires current { doc ≡ first (scored_left scorer.now) }
+    requires small { doc < terminated }
+    requires threshold { threshold ≡ K.limit (K.state sink.old) }
+    requires room { 1 ≤ K.room sink.old }
+    ensures state { K.state sink.new ≡ fed K.limit K.taken (K.state sink.old)
+        ((doc, first_score (scored_left scorer.now)) ∷ []) }
+    ensures next { result ≡ K.limit (K.state sink.new) }
+    ensures room { K.room sink.old ≤ K.room sink.new + 1 }
+{
+    match scorer.score_above(threshold) {
+        Some(score) => offer(sink, threshold, doc, score),
+        None => threshold,
+    }
 }

@@ -1,13 +1,13 @@
 //! The similarity of a term: what its scores follow from, beside counts and lengths.
 
-ghost use Rattle.std.specs.Prelude.{◌*◌, ◌<◌, ◌^◌, ◌≡◌, ◌≤ℤ◌, ◌≤◌, IfOk, length, pos};
+ghost use Rattle.std.specs.Prelude.{◌*◌, ◌<◌, ◌^◌, ◌≡◌, ◌≤ℤ◌, ◌≤◌, IfOk, int_lt, length, pos};
 ghost use Rattle.definitions.specs.Scoring.{DontFall, max_score, natural};
 ghost use Rattle.docsets.proofs.EntryLaws.{DontFall-prop};
 ghost use Rattle.term_scorer.specs.Explaining.{explained_value};
 ghost use Rattle.term_scorer.specs.TermScores.{score_by};
 
 use crate::explanation::Explanation;
-use crate::part_of_weight::part_of_weight;
+use crate::part_of_weight::{part_is_above, part_of_weight};
 use common::Score;
 use std::alloc::{AllocError, Global};
 
@@ -55,6 +55,22 @@ impl<'a> Similarity<'a> {
     {
         let norm = self.norms[fieldnorm_id as usize];
         (self.boost * part_of_weight(self.weight, term_freq, norm)) as i64
+    }
+
+    /// Whether the score of a count of `term_freq` in a document of length id `fieldnorm_id` is above `threshold`. Where
+    /// nothing is boosted, the products are compared, and nothing is divided.
+    #[inline(always)]
+    pub(crate) fn exceeds(&self, fieldnorm_id: u8, term_freq: u32, threshold: Score) -> bool
+        ensures { result ≡ int_lt threshold (pos (score_by (similarity_data self.now) fieldnorm_id term_freq)) }
+    {
+        if threshold < 0 {
+            return true;
+        }
+        if self.boost != 1 {
+            return self.score(fieldnorm_id, term_freq) > threshold;
+        }
+        let norm = self.norms[fieldnorm_id as usize];
+        part_is_above(self.weight, term_freq, norm, threshold as u64)
     }
 
     /// Returns the boost times the weight: no score is above it.

@@ -1,6 +1,6 @@
 //! The documents of a term, with their scores.
 
-ghost use Rattle.std.specs.Prelude.{[], ◌*◌, ◌+◌, ◌/◌, ◌<◌, ◌≡◌, ◌≤ℤ◌, ◌≤◌, IfOk, drop, length, pos, slice_index};
+ghost use Rattle.std.specs.Prelude.{[], ◌*◌, ◌+◌, ◌/◌, ◌<◌, ◌≡◌, ◌≤ℤ◌, ◌≤◌, IfOk, None, Some, drop, if◌then◌else◌, int_lt, length, pos, slice_index};
 ghost use Rattle.definitions.specs.Blocks.{block_len};
 ghost use Rattle.definitions.specs.Postings.{terminated};
 ghost use Rattle.definitions.specs.Scoring.{max_score, natural};
@@ -79,6 +79,22 @@ impl<'a> TermScorer<'a> {
         ensures { result ≡ slice_index (length_ids self.now) (first (scored_left self.now)) }
     {
         self.fieldnorm_reader.fieldnorm_id(self.postings.doc())
+    }
+
+    /// Returns the score of the current document if it is above `threshold`. Where nothing is boosted, one that isn't takes
+    /// no division.
+    #[inline(always)]
+    pub fn score_above(&self, threshold: Score) -> Option<Score>
+        requires { first (scored_left self.now) < terminated }
+        ensures { result ≡ (if int_lt threshold (pos (first_score (scored_left self.now)))
+            then Some (pos (first_score (scored_left self.now))) else None) }
+    {
+        let fieldnorm_id = self.fieldnorm_id();
+        let term_freq = self.term_freq();
+        if self.similarity.exceeds(fieldnorm_id, term_freq, threshold) {
+            return Some(self.similarity.score(fieldnorm_id, term_freq));
+        }
+        None
     }
 
     /// Returns the number of blocks with documents that the postings decoded, including the first.

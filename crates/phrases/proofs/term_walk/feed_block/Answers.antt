@@ -1,16 +1,13 @@
-use Rattle.std.proofs.Common.{[], List, ap, ap₂, arith, drop, length, refl, rules, subst, sym, to_z-of_z, w64, ◌+◌, ◌<◌, ◌∙◌, ◌∷◌, ◌≡◌, ◌≤◌, ℕ}
+use Rattle.std.proofs.Common.{[], List, ap, arith, drop, length, rules, subst, sym, to_z-of_z, w64, ◌+◌, ◌<◌, ◌∙◌, ◌∷◌, ◌≡◌}
 use mir.Val.{SFits}
-use Rattle.definitions.specs.Blocks.{block_len}
 use Rattle.definitions.specs.Postings.{terminated}
-use Rattle.definitions.specs.Scoring.{natural}
 use Rattle.definitions.specs.Sinks.{fed}
 use Rattle.docsets.proofs.EntryLaws.{drop-one, first_at_most, from-first, from-from, from-step}
 use Rattle.docsets.specs.Entries.{Entry, first, first_score, from}
 use Rattle.docsets.specs.ScoredEntries.{pairs_of}
 use Rattle.phrases.proofs.EntryCuts.{fed_last, fed_next, up_to-first}
-use Rattle.phrases.proofs.ScorerBlocks.{held_behind, kept_same, moved_inside, next_inside, place_inside, stands_already, stands_sought, stays_in}
-use Rattle.phrases.specs.BlocksLeft.{StandsInBlock, docs_held, skips_held, up_to}
-use Rattle.segment_postings.specs.Reading.{below}
+use Rattle.phrases.proofs.ScorerBlocks.{held_behind, moved_inside, next_inside, place_inside, stands_already, stands_sought, stays_in}
+use Rattle.phrases.specs.BlocksLeft.{StandsInBlock, up_to}
 use Rattle.skips.specs.SkipBlocks.{last_doc}
 use Rattle.term_scorer.specs.ScoredTerms.{rising_scored, scored_left}
 use Rattle.phrases.proofs.term_walk.feed_block.Goals.{else-doc-target, then-doc-target}
@@ -63,8 +60,7 @@ loop-doc-smaller g c =
     let ends = c.requires.ends in
     let less = one_less (scored_left c.loop-doc.scorer) (omega (arith, at, early, ends)) in
     let rest = ap length c.advance-doc.ensures.rest in
-    let same = ap (λ (es : List Entry). length (drop 1 es)) c.score-score.ensures.same in
-    omega (arith, less, rest, same)
+    omega (arith, less, rest)
 
 pub loop-doc-preserved : goal.loop-doc-preserved
 loop-doc-preserved g c =
@@ -72,10 +68,9 @@ loop-doc-preserved g c =
     let taken = g.K.Sink.taken in
     let until = c.args.until in
     let here = c.loop-doc.scorer in
-    let told = c.score-score.new.self in
     let es = scored_left here in
     let s = g.K.Sink.state c.loop-doc.sink in
-    let next = g.K.Sink.state c.offer-threshold.new.sink in
+    let next = g.K.Sink.state c.offer_current-threshold.new.sink in
     let at = c.loop-doc.invariant.at in
     let early = c.loop-doc-test.true in
     let ends = c.requires.ends in
@@ -83,30 +78,24 @@ loop-doc-preserved g c =
     let before : first es < until = omega (arith, at, early) in
     let less = one_less es some in
     let rest = ap length c.advance-doc.ensures.rest in
-    let same = c.score-score.ensures.same in
-    let cut = ap (λ (xs : List Entry). length (drop 1 xs)) same in
     let left = c.loop-doc.invariant.room in
-    let room = c.offer-threshold.ensures.room in
-    let fits : SFits w64 c.offer-threshold.result = search rules in
-    let score_fits : SFits w64 c.score-score.result = search rules in
-    let score = ap natural (to_z-of_z score_fits ∙ c.score-score.ensures.value) in
-    let given : next ≡ fed limit taken s ((first es, first_score es) ∷ []) = c.offer-threshold.ensures.state ∙ ap₂ (λ d n. fed limit taken s ((d, n) ∷ [])) at score in
-    let kept = kept_same here told c.score-score.ensures.kept c.score-score.ensures.similarity in
-    let block = stays_in c.args.target c.args.scorer.now here told kept c.loop-doc.invariant.block in
-    let first_told = ap first same in
+    let room = c.offer_current-threshold.ensures.room in
+    let fits : SFits w64 c.offer_current-threshold.result = search rules in
+    let given : next ≡ fed limit taken s ((first es, first_score es) ∷ []) = c.offer_current-threshold.ensures.state ∙ ap (λ d. fed limit taken s ((d, first_score es) ∷ [])) at in
+    let block = c.loop-doc.invariant.block in
     let found = ap last_doc (block.skips ∙ sym c.requires.reached) in
-    let inside = next_inside told (omega (arith, first_told, some)) (omega (arith, first_told, at, early, ends, found)) in
-    let moved = moved_inside _ told c.advance-doc.new.self inside c.advance-doc.ensures.moved in
+    let inside = next_inside here some (omega (arith, at, early, ends, found)) in
+    let moved = moved_inside _ here c.advance-doc.new.self inside c.advance-doc.ensures.moved in
     record {
       at = c.advance-doc.ensures.at;
-      limit = to_z-of_z fits ∙ c.offer-threshold.ensures.next;
-      room = omega (arith, less, rest, cut, left, room);
-      left = ap (from until) (c.advance-doc.ensures.rest ∙ ap (drop 1) same) ∙ (from-step until es before ∙ c.loop-doc.invariant.left);
-      fed = ap (λ (xs : List Entry). fed limit taken next (pairs_of (up_to until xs))) (c.advance-doc.ensures.rest ∙ ap (drop 1) same)
+      limit = to_z-of_z fits ∙ c.offer_current-threshold.ensures.next;
+      room = omega (arith, less, rest, left, room);
+      left = ap (from until) c.advance-doc.ensures.rest ∙ (from-step until es before ∙ c.loop-doc.invariant.left);
+      fed = ap (λ (xs : List Entry). fed limit taken next (pairs_of (up_to until xs))) c.advance-doc.ensures.rest
           ∙ (ap (λ u. fed limit taken u (pairs_of (up_to until (drop 1 es)))) given
           ∙ (fed_next limit taken s until es some before
           ∙ c.loop-doc.invariant.fed));
-      block = stays_in c.args.target c.args.scorer.now told c.advance-doc.new.self moved block;
+      block = stays_in c.args.target c.args.scorer.now here c.advance-doc.new.self moved block;
     }
 
 pub returns-then-doc-until-clause-state : goal.returns-then-doc-until-clause-state
@@ -115,33 +104,27 @@ returns-then-doc-until-clause-state g c =
     let taken = g.K.Sink.taken in
     let es = scored_left c.loop-doc.scorer in
     let s = g.K.Sink.state c.loop-doc.sink in
-    let next = g.K.Sink.state c.offer.new.sink in
+    let next = g.K.Sink.state c.offer_current.new.sink in
     let at = c.loop-doc.invariant.at in
     let here = c.if-doc-until.true in
     let ends = c.requires.ends in
     let some : first es < terminated = omega (arith, at, here, ends) in
     let last : c.args.until ≡ first es + 1 = omega (arith, at, here) in
-    let score_fits : SFits w64 c.score-score-then-doc-until.result = search rules in
-    let score = ap natural (to_z-of_z score_fits ∙ c.score-score-then-doc-until.ensures.value) in
-    let given : next ≡ fed limit taken s ((first es, first_score es) ∷ []) = c.offer.ensures.state ∙ ap₂ (λ d n. fed limit taken s ((d, n) ∷ [])) at score in
+    let given : next ≡ fed limit taken s ((first es, first_score es) ∷ []) = c.offer_current.ensures.state ∙ ap (λ d. fed limit taken s ((d, first_score es) ∷ [])) at in
     given ∙ (fed_last limit taken s c.args.until 0 es some last (rising_scored c.loop-doc.scorer) ∙ c.loop-doc.invariant.fed)
 
 pub returns-then-doc-until-clause-room : goal.returns-then-doc-until-clause-room
 returns-then-doc-until-clause-room g c =
     let es = scored_left c.loop-doc.scorer in
-    let told = scored_left c.score-score-then-doc-until.new.self in
     let at = c.loop-doc.invariant.at in
     let here = c.if-doc-until.true in
     let ends = c.requires.ends in
     let less = one_less es (omega (arith, at, here, ends)) in
-    let same = c.score-score-then-doc-until.ensures.same in
-    let place = ap first same in
-    let behind : c.args.until ≡ first told + 1 = omega (arith, at, here, place) in
-    let cut = ap length (ap (λ t. from t told) behind ∙ sym (drop-one 0 told (rising_scored c.score-score-then-doc-until.new.self))) in
-    let len = ap (λ (xs : List Entry). length (drop 1 xs)) same in
+    let behind : c.args.until ≡ first es + 1 = omega (arith, at, here) in
+    let cut = ap length (ap (λ t. from t es) behind ∙ sym (drop-one 0 es (rising_scored c.loop-doc.scorer))) in
     let left = c.loop-doc.invariant.room in
-    let room = c.offer.ensures.room in
-    omega (arith, less, cut, len, left, room)
+    let room = c.offer_current.ensures.room in
+    omega (arith, less, cut, left, room)
 
 pub returns-clause-state : goal.returns-clause-state
 returns-clause-state g c =
