@@ -1,5 +1,5 @@
 -- What lists of clauses have of one document, by the lists that are made of them.
-use Rattle.std.proofs.Common.{[], Bool, List, ap, arith, false, if◌then◌else◌, length, map, max, nat_le, not, refl, sum, sym, true, ◌&&◌, ◌++◌, ◌+◌, ◌<◌, ◌==◌, ◌∙◌, ◌∷◌, ◌≡◌, ◌≤◌, ℕ}
+use Rattle.std.proofs.Common.{[], Bool, List, ap, arith, false, get_or, if◌then◌else◌, length, map, max, nat_le, not, refl, sum, sym, true, ◌&&◌, ◌++◌, ◌+◌, ◌<◌, ◌==◌, ◌∙◌, ◌∷◌, ◌≡◌, ◌≤◌, ℕ}
 use Rattle.std.proofs.lemmas.Bool.Decides.{nat_tests}
 use Rattle.std.proofs.lemmas.List.{append_assoc, length-append, length-map}
 use Rattle.any_scorer.specs.Clauses.{by_clauses, by_number, scores_at, scores_of}
@@ -128,6 +128,11 @@ nothing_added (x ∷ xs) = ap (λ ys. x ∷ ys) (nothing_added xs) ∙ ap (λ y.
 pub alone : {X : Type 0} (entries : X → List Entry) (xs ys : List X) (x : X) → xs ≡ ys ++ x ∷ [] → length xs < 2 → map entries xs ≡ entries x ∷ []
 alone entries xs [] x is few = ap (map entries) is
 alone entries xs (y ∷ ys) x is few = absurd (let all = ap length is in let both = length-append ys (x ∷ []) in omega (arith, all, both, few))
+
+pub only_one : {X : Type 0} (entries : X → List Entry) (xs : List X) (x : X) → length xs ≡ 1 → x ≡ get_or xs 0 x → map entries xs ≡ entries x ∷ []
+only_one entries [] x one is = absurd (omega (arith, one))
+only_one entries (y ∷ []) x one is = ap (λ z. entries z ∷ []) (sym is)
+only_one entries (y ∷ z ∷ ys) x one is = absurd (omega (arith, one))
 
 -- ---- whether there are any
 

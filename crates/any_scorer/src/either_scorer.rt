@@ -1,7 +1,7 @@
 //! A scorer that has one of two forms.
 
 use common::{AliveBitSet, DocId, Score};
-use docsets::{DocSet, Scorer, SeekDangerResult};
+use docsets::{DocSet, Scorer, SeekDangerResult, Window};
 
 /// A scorer of one of two forms.
 #[derive(Drop)]
@@ -93,6 +93,13 @@ impl<A: Scorer, B: Scorer> Scorer for EitherScorer<A, B> {
         match self {
             EitherScorer::Left(scorer) => scorer.score(),
             EitherScorer::Right(scorer) => scorer.score(),
+        }
+    }
+
+    fn window(&mut self, target: DocId) -> Window {
+        match self {
+            EitherScorer::Left(scorer) => scorer.window(target),
+            EitherScorer::Right(scorer) => scorer.window(target),
         }
     }
 }

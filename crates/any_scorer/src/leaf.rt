@@ -1,7 +1,7 @@
 //! Scorers of queries that hold no other query.
 
 use common::{AliveBitSet, DocId, Score};
-use docsets::{DocSet, Scorer, SeekDangerResult};
+use docsets::{DocSet, Scorer, SeekDangerResult, Window};
 
 /// A scorer of a query that holds no other, or a list of the documents of a query of another form.
 #[derive(Drop)]
@@ -141,6 +141,16 @@ impl<A: Scorer, T: Scorer, P: Scorer, X: Scorer, L: Scorer> Scorer for Leaf<A, T
             Leaf::Phrase(scorer) => scorer.score(),
             Leaf::PhrasePrefix(scorer) => scorer.score(),
             Leaf::List(scorer) => scorer.score(),
+        }
+    }
+
+    fn window(&mut self, target: DocId) -> Window {
+        match self {
+            Leaf::All(scorer) => scorer.window(target),
+            Leaf::Term(scorer) => scorer.window(target),
+            Leaf::Phrase(scorer) => scorer.window(target),
+            Leaf::PhrasePrefix(scorer) => scorer.window(target),
+            Leaf::List(scorer) => scorer.window(target),
         }
     }
 }

@@ -7,6 +7,7 @@ mod either_scorer;
 mod intersecting;
 mod leaf;
 mod listing;
+mod several;
 
 pub use clauses::boolean_scorer;
 pub use disjuncts::disjunction_max_scorer;
@@ -14,3 +15,4 @@ pub use either_scorer::EitherScorer;
 pub use intersecting::intersect_scorers;
 pub use leaf::Leaf;
 pub use listing::{for_each_scorer, listed};
+pub use several::{AllOf, AnyOf, all_of, any_of};
