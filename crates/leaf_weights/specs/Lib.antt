@@ -1,3 +1,2 @@
 -- Words of the contracts.
 pub mod Weighed
-pub mod Scored

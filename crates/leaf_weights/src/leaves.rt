@@ -23,7 +23,7 @@ use term_weight::TermWeight;
 use terms::Term;
 
 /// Returns the sum of the weights of `terms`, repeats counted.
-fn sum_of_weights<S: Statistics>(statistics: &S, terms: &[(usize, Term)]) -> u64
+pub fn sum_of_weights<S: Statistics>(statistics: &S, terms: &[(usize, Term)]) -> u64
     requires { weight_sum (S.similarity statistics.now).weight terms.now ≤ max_score }
     ensures { result ≡ weight_sum (S.similarity statistics.now).weight terms.now }
 {

@@ -13,7 +13,6 @@ use bytes::Bytes;
 use case_lines::{Arguments, Refusal, items_in, number, pair, query_by_steps};
 use common::{AliveBitSet, Score};
 use definitions::Fault;
-use leaf_weights::IndexWeights;
 use query_answers::{count, explain, for_each, for_each_no_score, for_each_pruning};
 use query_trees::AnyQuery;
 use reader_scorers::{LeafWeights, ReaderScorers};
@@ -24,6 +23,7 @@ use serde_json::Value;
 use settings::Settings;
 use std::alloc::Global;
 use tree_scorers::SegmentScorers;
+use weights::GivenWeights;
 
 /// How many blocks the caches of segments keep.
 const CACHE_NUM_BLOCKS: usize = 2;
@@ -79,7 +79,7 @@ fn over<'a>(
     requires accepted { IsAccepted (similarity_of settings.now).weight 1 (query_of query.now) }
 {
     let reader = segment.reader(Some(alive));
-    let weights = IndexWeights::new(settings);
+    let weights = GivenWeights::new(Some(settings));
     in_segment(alloc, &reader, &weights, query, operation, arguments)
 }
 
