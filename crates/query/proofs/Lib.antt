@@ -1,3 +1,4 @@
 -- Lemmas behind what is asked of queries.
 pub mod AddedCounts
 pub mod AskedLaws
+pub mod SegmentCounts

@@ -2,6 +2,7 @@
 #![tactic(auto)]
 
 mod asked_weights;
+pub mod count_laws;
 mod counts;
 mod query;
 mod query_weights;

@@ -1,7 +1,6 @@
 //! What a query that isn't refused answers in a segment: its scorer, its count, its documents with their scores.
 #![tactic(auto)]
 
-pub mod count_laws;
 mod counts;
 mod explanations;
 mod walks;

@@ -1,6 +1,6 @@
 use Rattle.std.proofs.Common.{arith, length, rules, sum_by, ◌∙◌, ◌≤◌}
 use Rattle.definitions.specs.Answers.{living_count}
-use Rattle.query_answers.proofs.SegmentCounts.{counts_add_up}
+use Rattle.query.proofs.SegmentCounts.{counts_add_up}
 use Rattle.scorer_answers.specs.Rows.{HasRows}
 use Rattle.query.proofs.AddedCounts.{counted_all, counted_next, nothing_left, zip_at, zip_length}
 use Rattle.weights.specs.AnyForms.{any_query}

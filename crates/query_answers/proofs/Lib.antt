@@ -1,2 +1,0 @@
--- Lemmas behind what queries answer.
-pub mod SegmentCounts
