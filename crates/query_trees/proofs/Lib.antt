@@ -1,2 +1,3 @@
 pub mod OffsetOrder
 pub mod Clauses
+pub mod Nodes

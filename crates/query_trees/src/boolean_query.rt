@@ -8,6 +8,7 @@ ghost use Rattle.query_trees.specs.declared.any_query.AnyQuery.TheVariants as fo
 
 use crate::any_query::AnyQuery;
 use crate::copies::copied_boolean;
+use crate::letting_go::let_go;
 use crate::occur::Occur;
 use crate::query_terms::push_clauses_terms;
 use crate::query_tree::{QueryClone, QueryTree};
@@ -19,7 +20,7 @@ use terms::Term;
 
 /// A query of clauses, with a minimum of the `Should` ones that must match.
 #[cycle(queries)]
-#[derive(Debug, Drop)]
+#[derive(Debug)]
 pub struct BooleanQuery {
     subqueries: Vec<(Occur, AnyQuery)>,
     minimum_number_should_match: usize,
@@ -84,6 +85,17 @@ impl BooleanQuery {
         ensures { self.new ≡ (self.old.0, minimum_number_should_match) }
     {
         self.minimum_number_should_match = minimum_number_should_match;
+    }
+
+    /// Returns the clauses, in order, and lets the query go.
+    pub(crate) fn into_clauses(self) -> Vec<(Occur, AnyQuery)>
+        ensures { clauses_of result.items ≡ self.0 }
+    {
+        let BooleanQuery {
+            subqueries,
+            minimum_number_should_match: _,
+        } = self;
+        subqueries
     }
 
     /// Returns the clauses, in order.
@@ -193,6 +205,12 @@ fn all_should(clauses: &[(Occur, AnyQuery)]) -> bool
         }
     }
     true
+}
+
+impl Drop for BooleanQuery {
+    fn drop(self) {
+        let_go(AnyQuery::Boolean(self));
+    }
 }
 
 impl QueryClone for BooleanQuery {

@@ -6,6 +6,7 @@ ghost use Rattle.query_trees.specs.Queries.{query_of};
 
 use crate::any_query::AnyQuery;
 use crate::copies::copied_boost;
+use crate::letting_go::let_go;
 use crate::query_terms::push_query_terms;
 use crate::query_tree::{QueryClone, QueryTree};
 use std::alloc::{AllocError, Global};
@@ -14,7 +15,7 @@ use terms::Term;
 
 /// A query whose scores are those of another, multiplied by a boost.
 #[cycle(queries)]
-#[derive(Debug, Drop)]
+#[derive(Debug)]
 pub struct BoostQuery {
     query: Box<AnyQuery>,
     boost: i64,
@@ -58,11 +59,25 @@ impl BoostQuery {
         &self.query
     }
 
+    /// Returns the query that is boosted, and lets this one go.
+    pub(crate) fn into_query(self) -> AnyQuery
+        ensures { query_of result ≡ self.0 }
+    {
+        let BoostQuery { query, boost: _ } = self;
+        Box::into_inner(query)
+    }
+
     /// Returns the factor of its scores.
     pub fn boost(&self) -> i64
         ensures { result ≡ self.now.1 }
     {
         self.boost
+    }
+}
+
+impl Drop for BoostQuery {
+    fn drop(self) {
+        let_go(AnyQuery::Boost(self));
     }
 }
 

@@ -6,6 +6,7 @@ ghost use Rattle.query_trees.specs.Queries.{query_of};
 
 use crate::any_query::AnyQuery;
 use crate::copies::copied_const_score;
+use crate::letting_go::let_go;
 use crate::query_terms::push_query_terms;
 use crate::query_tree::{QueryClone, QueryTree};
 use std::alloc::{AllocError, Global};
@@ -14,7 +15,7 @@ use terms::Term;
 
 /// A query for the documents of another, all with one score.
 #[cycle(queries)]
-#[derive(Debug, Drop)]
+#[derive(Debug)]
 pub struct ConstScoreQuery {
     query: Box<AnyQuery>,
     score: i64,
@@ -59,11 +60,25 @@ impl ConstScoreQuery {
         &self.query
     }
 
+    /// Returns the query that the documents match, and lets this one go.
+    pub(crate) fn into_query(self) -> AnyQuery
+        ensures { query_of result ≡ self.0 }
+    {
+        let ConstScoreQuery { query, score: _ } = self;
+        Box::into_inner(query)
+    }
+
     /// Returns the score of each document.
     pub fn score(&self) -> i64
         ensures { result ≡ self.now.1 }
     {
         self.score
+    }
+}
+
+impl Drop for ConstScoreQuery {
+    fn drop(self) {
+        let_go(AnyQuery::ConstScore(self));
     }
 }
 

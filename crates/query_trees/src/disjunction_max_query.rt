@@ -6,6 +6,7 @@ ghost use Rattle.query_trees.specs.Queries.{queries_of};
 
 use crate::any_query::AnyQuery;
 use crate::copies::copied_max;
+use crate::letting_go::let_go;
 use crate::query_terms::push_disjuncts_terms;
 use crate::query_tree::{QueryClone, QueryTree};
 use std::alloc::{AllocError, Global};
@@ -15,7 +16,7 @@ use terms::Term;
 /// A query for documents that match at least one of several queries; the score is the greatest of theirs, and
 /// `tie_breaker` thousandths of the others.
 #[cycle(queries)]
-#[derive(Debug, Drop)]
+#[derive(Debug)]
 pub struct DisjunctionMaxQuery {
     disjuncts: Vec<AnyQuery>,
     tie_breaker: i64,
@@ -68,11 +69,28 @@ impl DisjunctionMaxQuery {
         &self.disjuncts
     }
 
+    /// Returns the queries, in order, and lets this one go.
+    pub(crate) fn into_disjuncts(self) -> Vec<AnyQuery>
+        ensures { queries_of result.items ≡ self.0 }
+    {
+        let DisjunctionMaxQuery {
+            disjuncts,
+            tie_breaker: _,
+        } = self;
+        disjuncts
+    }
+
     /// Returns the thousandths of the other scores that count.
     pub fn tie_breaker(&self) -> i64
         ensures { result ≡ self.now.1 }
     {
         self.tie_breaker
+    }
+}
+
+impl Drop for DisjunctionMaxQuery {
+    fn drop(self) {
+        let_go(AnyQuery::DisjunctionMax(self));
     }
 }
 

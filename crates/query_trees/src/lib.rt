@@ -9,6 +9,7 @@ mod const_score_query;
 mod copies;
 mod disjunction_max_query;
 mod empty_query;
+mod letting_go;
 mod occur;
 mod phrase_prefix_query;
 mod phrase_query;
