@@ -64,12 +64,13 @@ fn nested(alloc: Global, bools: usize) -> Result<AnyQuery, AllocError> {
     Ok(query)
 }
 
-// Whether 63 bools are searched, and 64 are too deep.
+// Whether 63 bools are searched, and 64 are too deep; and so are a hundred thousand, which are let go.
 fn is_depth_limited(alloc: Global) -> Result<bool, Fault> {
     let index = index_of(alloc, &DOCS)?;
     let most = index.count(&nested(alloc, 63)?);
     let more = index.count(&nested(alloc, 64)?);
-    Ok(most == Ok(2) && more == Err(Fault::TooDeep))
+    let deep = index.count(&nested(alloc, 100_000)?);
+    Ok(most == Ok(2) && more == Err(Fault::TooDeep) && deep == Err(Fault::TooDeep))
 }
 
 // Whether a bool of one clause has its parts.

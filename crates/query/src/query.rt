@@ -93,7 +93,7 @@ pub trait Query: QueryTree {
     }
 
     /// Lists the terms that the query reads, of all nodes in order, each with whether its positions are needed. The
-    /// prefix of a phrase prefix isn't among them. Calls nest as deep as the tree.
+    /// prefix of a phrase prefix isn't among them. Calls don't nest, however deep the tree is.
     fn query_terms(&self, alloc: Global) -> Result<Vec<(&Term, bool)>, AllocError>
         ensures { IfOk result (λ terms. map needed terms.items ≡ terms_read.query_terms (Self.tree self.now)) }
     {

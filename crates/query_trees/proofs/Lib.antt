@@ -1,3 +1,5 @@
 pub mod OffsetOrder
 pub mod Clauses
 pub mod Nodes
+pub mod AllNodes
+pub mod CopiedNodes

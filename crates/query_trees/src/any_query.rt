@@ -11,15 +11,17 @@ use crate::disjunction_max_query::DisjunctionMaxQuery;
 use crate::empty_query::EmptyQuery;
 use crate::phrase_prefix_query::PhrasePrefixQuery;
 use crate::phrase_query::PhraseQuery;
-use crate::query_terms::push_query_terms;
+use crate::query_terms::query_terms;
 use crate::query_tree::{QueryClone, QueryTree};
+use crate::showing::{MAX_SHOWN, show_query};
 use crate::term_query::TermQuery;
 use std::alloc::{AllocError, Global};
+use std::fmt;
 use terms::Term;
 
 /// A query of any form.
 #[cycle(queries)]
-#[derive(Debug, Drop)]
+#[derive(Drop)]
 pub enum AnyQuery {
     /// Every document.
     All(AllQuery),
@@ -51,8 +53,13 @@ impl QueryTree for AnyQuery {
     ghost tree = { query_of };
 
     fn needed_terms(&self, alloc: Global) -> Result<Vec<(&Term, bool)>, AllocError> {
-        let mut found = Vec::new(alloc);
-        push_query_terms(&mut found, self)?;
-        Ok(found)
+        query_terms(alloc, self)
+    }
+}
+
+/// Shows no more than 64 nodes of a path, and `..` in place of what is below them.
+impl fmt::Debug for AnyQuery {
+    fn fmt<W: fmt::Write>(&self, f: &mut fmt::Formatter<W>) -> fmt::Result {
+        show_query(f, self, MAX_SHOWN)
     }
 }

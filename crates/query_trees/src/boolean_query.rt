@@ -10,17 +10,18 @@ use crate::any_query::AnyQuery;
 use crate::copies::copied_boolean;
 use crate::letting_go::let_go;
 use crate::occur::Occur;
-use crate::query_terms::push_clauses_terms;
+use crate::query_terms::clauses_terms;
 use crate::query_tree::{QueryClone, QueryTree};
+use crate::showing::{MAX_SHOWN, show_boolean};
 use crate::term_query::TermQuery;
 use options::IndexRecordOption;
 use std::alloc::{AllocError, Global};
+use std::fmt;
 use std::marker::Model;
 use terms::Term;
 
 /// A query of clauses, with a minimum of the `Should` ones that must match.
 #[cycle(queries)]
-#[derive(Debug)]
 pub struct BooleanQuery {
     subqueries: Vec<(Occur, AnyQuery)>,
     minimum_number_should_match: usize,
@@ -223,8 +224,13 @@ impl QueryTree for BooleanQuery {
     ghost tree = { λ q. definitions.boolean q.0 q.1 };
 
     fn needed_terms(&self, alloc: Global) -> Result<Vec<(&Term, bool)>, AllocError> {
-        let mut found = Vec::new(alloc);
-        push_clauses_terms(&mut found, self.clauses())?;
-        Ok(found)
+        clauses_terms(alloc, self.clauses())
+    }
+}
+
+/// Shows no more than 64 nodes of a path, and `..` in place of what is below them.
+impl fmt::Debug for BooleanQuery {
+    fn fmt<W: fmt::Write>(&self, f: &mut fmt::Formatter<W>) -> fmt::Result {
+        show_boolean(f, self, MAX_SHOWN - 1)
     }
 }

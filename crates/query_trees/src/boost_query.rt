@@ -7,15 +7,16 @@ ghost use Rattle.query_trees.specs.Queries.{query_of};
 use crate::any_query::AnyQuery;
 use crate::copies::copied_boost;
 use crate::letting_go::let_go;
-use crate::query_terms::push_query_terms;
+use crate::query_terms::query_terms;
 use crate::query_tree::{QueryClone, QueryTree};
+use crate::showing::{MAX_SHOWN, show_boost};
 use std::alloc::{AllocError, Global};
+use std::fmt;
 use std::marker::Model;
 use terms::Term;
 
 /// A query whose scores are those of another, multiplied by a boost.
 #[cycle(queries)]
-#[derive(Debug)]
 pub struct BoostQuery {
     query: Box<AnyQuery>,
     boost: i64,
@@ -91,8 +92,13 @@ impl QueryTree for BoostQuery {
     ghost tree = { λ q. definitions.boost q.1 q.0 };
 
     fn needed_terms(&self, alloc: Global) -> Result<Vec<(&Term, bool)>, AllocError> {
-        let mut found = Vec::new(alloc);
-        push_query_terms(&mut found, self.query())?;
-        Ok(found)
+        query_terms(alloc, self.query())
+    }
+}
+
+/// Shows no more than 64 nodes of a path, and `..` in place of what is below them.
+impl fmt::Debug for BoostQuery {
+    fn fmt<W: fmt::Write>(&self, f: &mut fmt::Formatter<W>) -> fmt::Result {
+        show_boost(f, self, MAX_SHOWN - 1)
     }
 }

@@ -7,15 +7,16 @@ ghost use Rattle.query_trees.specs.Queries.{query_of};
 use crate::any_query::AnyQuery;
 use crate::copies::copied_const_score;
 use crate::letting_go::let_go;
-use crate::query_terms::push_query_terms;
+use crate::query_terms::query_terms;
 use crate::query_tree::{QueryClone, QueryTree};
+use crate::showing::{MAX_SHOWN, show_const_score};
 use std::alloc::{AllocError, Global};
+use std::fmt;
 use std::marker::Model;
 use terms::Term;
 
 /// A query for the documents of another, all with one score.
 #[cycle(queries)]
-#[derive(Debug)]
 pub struct ConstScoreQuery {
     query: Box<AnyQuery>,
     score: i64,
@@ -92,8 +93,13 @@ impl QueryTree for ConstScoreQuery {
     ghost tree = { λ q. definitions.const_score q.1 q.0 };
 
     fn needed_terms(&self, alloc: Global) -> Result<Vec<(&Term, bool)>, AllocError> {
-        let mut found = Vec::new(alloc);
-        push_query_terms(&mut found, self.query())?;
-        Ok(found)
+        query_terms(alloc, self.query())
+    }
+}
+
+/// Shows no more than 64 nodes of a path, and `..` in place of what is below them.
+impl fmt::Debug for ConstScoreQuery {
+    fn fmt<W: fmt::Write>(&self, f: &mut fmt::Formatter<W>) -> fmt::Result {
+        show_const_score(f, self, MAX_SHOWN - 1)
     }
 }

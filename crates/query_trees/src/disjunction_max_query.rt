@@ -7,16 +7,17 @@ ghost use Rattle.query_trees.specs.Queries.{queries_of};
 use crate::any_query::AnyQuery;
 use crate::copies::copied_max;
 use crate::letting_go::let_go;
-use crate::query_terms::push_disjuncts_terms;
+use crate::query_terms::disjuncts_terms;
 use crate::query_tree::{QueryClone, QueryTree};
+use crate::showing::{MAX_SHOWN, show_max};
 use std::alloc::{AllocError, Global};
+use std::fmt;
 use std::marker::Model;
 use terms::Term;
 
 /// A query for documents that match at least one of several queries; the score is the greatest of theirs, and
 /// `tie_breaker` thousandths of the others.
 #[cycle(queries)]
-#[derive(Debug)]
 pub struct DisjunctionMaxQuery {
     disjuncts: Vec<AnyQuery>,
     tie_breaker: i64,
@@ -104,8 +105,13 @@ impl QueryTree for DisjunctionMaxQuery {
     ghost tree = { λ q. definitions.disjunction_max q.0 q.1 };
 
     fn needed_terms(&self, alloc: Global) -> Result<Vec<(&Term, bool)>, AllocError> {
-        let mut found = Vec::new(alloc);
-        push_disjuncts_terms(&mut found, self.disjuncts())?;
-        Ok(found)
+        disjuncts_terms(alloc, self.disjuncts())
+    }
+}
+
+/// Shows no more than 64 nodes of a path, and `..` in place of what is below them.
+impl fmt::Debug for DisjunctionMaxQuery {
+    fn fmt<W: fmt::Write>(&self, f: &mut fmt::Formatter<W>) -> fmt::Result {
+        show_max(f, self, MAX_SHOWN - 1)
     }
 }

@@ -5,7 +5,8 @@
 //! way up the last query of the list above is next; the first one of a list leads up to the list before.
 
 ghost use Rattle.std.specs.Prelude.{◌+◌, ◌<◌, IfSome};
-ghost use Rattle.query_trees.specs.Nodes.{clauses_above, clauses_nodes, nodes, nodes_above, queries_above, queries_nodes};
+ghost use Rattle.query_trees.specs.Nodes.{clauses_above, clauses_nodes, nodes, nodes_above};
+ghost use Rattle.query_trees.specs.Nodes.{queries_above, queries_nodes};
 ghost use Rattle.query_trees.specs.Queries.{clauses_of, queries_of, query_of};
 
 use crate::any_query::AnyQuery;
@@ -128,5 +129,8 @@ fn last_disjunct(disjuncts: Vec<AnyQuery>) -> Option<(AnyQuery, AnyQuery)>
         disjuncts.destroy_empty();
         return Some((AnyQuery::Empty(EmptyQuery), last));
     }
-    Some((last, AnyQuery::DisjunctionMax(DisjunctionMaxQuery::new(disjuncts))))
+    Some((
+        last,
+        AnyQuery::DisjunctionMax(DisjunctionMaxQuery::new(disjuncts)),
+    ))
 }

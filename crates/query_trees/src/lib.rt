@@ -16,7 +16,9 @@ mod phrase_query;
 mod phrase_terms;
 mod query_terms;
 mod query_tree;
+mod showing;
 mod term_query;
+mod walks;
 
 pub use all_query::AllQuery;
 pub use any_query::AnyQuery;

@@ -10,7 +10,7 @@ use terms::Term;
 
 /// Queries that can be copied.
 pub trait QueryClone: Sized {
-    /// Copies the query. Calls nest as deep as the tree.
+    /// Copies the query. Calls don't nest, however deep the tree is.
     fn try_clone(&self, alloc: Global) -> Result<Self, AllocError>
         ensures { IfOk result (λ copy. copy ≡ self.now) };
 }
@@ -21,7 +21,7 @@ pub trait QueryTree: QueryClone {
     ghost tree: { Self → definitions.Query };
 
     /// Lists the terms that the query reads, of all nodes in order, each with whether its positions are needed. The
-    /// prefix of a phrase prefix isn't among them. Calls nest as deep as the tree.
+    /// prefix of a phrase prefix isn't among them. Calls don't nest, however deep the tree is.
     fn needed_terms(&self, alloc: Global) -> Result<Vec<(&Term, bool)>, AllocError>
         ensures { IfOk result (λ terms. map needed terms.items ≡ query_terms (tree self.now)) };
 }
