@@ -1,5 +1,5 @@
 -- Lemmas behind the scorers of segments.
+pub mod ClauseAnswers
 pub mod FormScores
 pub mod SamePairs
 pub mod TermEntries
-pub mod UnionScores

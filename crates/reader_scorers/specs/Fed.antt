@@ -1,10 +1,13 @@
 -- What a sink was fed of a query in a segment.
-use Rattle.std.specs.Prelude.{◌≡◌, List, ℕ, ℤ}
+use Rattle.std.specs.Prelude.{◌+◌, ◌<◌, ◌≡◌, ◌≤◌, List, ℕ, ℤ}
+use Rattle.any_scorer.specs.Clauses.{by_clauses, scores_of}
+use Rattle.definitions.specs.Postings.{terminated}
 use Rattle.definitions.specs.Query.{Query}
 use Rattle.definitions.specs.Scoring.{Similarity}
 use Rattle.definitions.specs.Sinks as sinks
 use Rattle.docsets.specs.Entries.{Entry, Rising}
-use Rattle.docsets.specs.ScoredEntries.{pairs_of}
+use Rattle.docsets.specs.Members.{greatest_sum}
+use Rattle.docsets.specs.ScoredEntries.{greatest_score, pairs_of}
 use Rattle.node_scorers.specs.Scores.{Scores}
 use Rattle.segment_reader.specs.declared.segment_reader.SegmentReader.{SegmentReader}
 
@@ -13,4 +16,17 @@ pub record IsFedBy {S : Type 0} (limit : S → ℤ) (taken : S → ℕ × ℕ �
   pub entries : List Entry
   pub scores : Scores sim b q r entries
   pub rises : Rising 0 entries
+  pub fed : after ≡ sinks.fed limit taken before (pairs_of entries)
+
+-- a list has of each document what clauses have, by the lists of those that must match, those that may, and those that
+-- must not
+pub record HasClauses (musts shoulds must_nots : List (List Entry)) (es : List Entry) : Type 0 where
+  pub rises : Rising 0 es
+  pub scores : (d : ℕ) → d < terminated → scores_of d es ≡ by_clauses 0 musts shoulds must_nots d
+  pub bounded : greatest_score es ≤ greatest_sum musts + greatest_sum shoulds
+
+-- it was fed such a list
+pub record IsFedByClauses {S : Type 0} (limit : S → ℤ) (taken : S → ℕ × ℕ → S) (before : S) (musts shoulds must_nots : List (List Entry)) (after : S) : Type 0 where
+  pub entries : List Entry
+  pub has : HasClauses musts shoulds must_nots entries
   pub fed : after ≡ sinks.fed limit taken before (pairs_of entries)

@@ -1,5 +1,5 @@
 -- Scorers of terms.
-use Rattle.std.specs.Prelude.{[], ◌∷◌, ◌≡◌, ◌⊎◌, ⊤, List, flat_map, ℕ}
+use Rattle.std.specs.Prelude.{[], ◌∷◌, ◌≡◌, ⊤, List, flat_map, ℕ}
 use Rattle.std.specs.List.{AllByRecursion}
 use Rattle.any_scorer.specs.declared.leaf.Leaf.TheVariants as leaves
 use Rattle.docsets.specs.Entries.{Entry}
@@ -44,14 +44,6 @@ module _ {A T P X : Type 0} {a : Ghosts A} {t : Ghosts T} {p : Ghosts P} {x : Gh
   -- those of the terms among them
   abbrev pub terms_in : List (AnyScorer A T P X a t p x) → List T
   terms_in scorers = flat_map term_in scorers
-
-  -- each of them is, or has no document left
-  abbrev pub AreTermsLeft : (AnyScorer A T P X a t p x → List Entry) → List (AnyScorer A T P X a t p x) → Type 0
-  AreTermsLeft entries scorers = AllByRecursion (λ s. IsTerm s ⊎ (entries s ≡ [])) scorers
-
--- none of them has a document left
-abbrev pub HaveNone : {S : Type 0} → (S → List Entry) → List S → Type 0
-HaveNone entries scorers = AllByRecursion (λ s. entries s ≡ []) scorers
 
 -- they have the same entries of each document, and greatest scores with the same sum
 pub record HaveSame (ess fss : List (List Entry)) : Type 0 where

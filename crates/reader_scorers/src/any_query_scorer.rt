@@ -2,7 +2,7 @@
 
 use any_scorer::Leaf;
 use common::{AliveBitSet, DocId, Score};
-use docsets::{ConstScorer, DocSet, ListScorer, Scorer, SeekDangerResult};
+use docsets::{ConstScorer, DocSet, ListScorer, Scorer, SeekDangerResult, Window};
 
 /// A scorer of a query of any kind: of one that holds no other, with its scores or with one score, or a list of the
 /// documents of one that holds several.
@@ -153,6 +153,16 @@ impl<A: Scorer, T: Scorer, P: Scorer, X: Scorer> Scorer for AnyScorer<A, T, P, X
             AnyScorer::ConstTerm(scorer) => scorer.score(),
             AnyScorer::ConstPhrase(scorer) => scorer.score(),
             AnyScorer::ConstPhrasePrefix(scorer) => scorer.score(),
+        }
+    }
+
+    fn window(&mut self, target: DocId) -> Window {
+        match self {
+            AnyScorer::Leaf(scorer) => scorer.window(target),
+            AnyScorer::ConstAll(scorer) => scorer.window(target),
+            AnyScorer::ConstTerm(scorer) => scorer.window(target),
+            AnyScorer::ConstPhrase(scorer) => scorer.window(target),
+            AnyScorer::ConstPhrasePrefix(scorer) => scorer.window(target),
         }
     }
 }

@@ -4,6 +4,7 @@
 mod any_query_scorer;
 mod clause_walks;
 mod forms;
+mod joint_walks;
 mod leaf_weights;
 mod reader_scorers;
 mod scorer_walks;

@@ -1,11 +1,10 @@
 //! Scorers of terms among those of queries of any kind.
 
-ghost use Rattle.std.specs.Prelude.{[], ◌∷◌, ◌≡◌, ◌⊎◌, IfOk, IfSome, None, map, true};
-ghost use Rattle.reader_scorers.specs.Terms.{AreTerms, AreTermsLeft, HaveNone, HaveSame, IsTerm, term_in, terms_in};
+ghost use Rattle.std.specs.Prelude.{[], ◌∷◌, ◌≡◌, IfOk, IfSome, None, map, true};
+ghost use Rattle.reader_scorers.specs.Terms.{AreTerms, IsTerm, term_in, terms_in};
 
 use crate::any_query_scorer::AnyScorer;
 use any_scorer::Leaf;
-use common::TERMINATED;
 use docsets::{DocSet, Scorer};
 use std::alloc::{AllocError, Global};
 use std::collections::VecDeque;
@@ -31,47 +30,6 @@ fn is_term<A: Scorer, T: Scorer, P: Scorer, X: Scorer>(scorer: &AnyScorer<A, T, 
     matches!(scorer, AnyScorer::Leaf(Leaf::Term(_)))
 }
 
-/// Whether each of `scorers` is that of a term, with its own scores, or has no document left.
-pub(crate) fn are_terms_left<A: Scorer, T: Scorer, P: Scorer, X: Scorer>(
-    scorers: &Vec<AnyScorer<A, T, P, X>>,
-) -> bool
-    ensures { result ≡ true → AreTermsLeft ⟦<AnyScorer<A, T, P, X> as DocSet>⟧.entries scorers.now.items }
-{
-    for scorer in scorers {
-        if !is_term_left(scorer) {
-            return false;
-        }
-    }
-    true
-}
-
-/// Whether `scorer` is that of a term, with its own scores, or has no document left.
-fn is_term_left<A: Scorer, T: Scorer, P: Scorer, X: Scorer>(scorer: &AnyScorer<A, T, P, X>) -> bool
-    ensures { result ≡ true
-        → IsTerm scorer.now ⊎ (⟦<AnyScorer<A, T, P, X> as DocSet>⟧.entries scorer.now ≡ []) }
-{
-    is_term(scorer) || has_none(scorer)
-}
-
-/// Whether none of `scorers` has a document left.
-pub(crate) fn have_none<S: DocSet>(scorers: &Vec<S>) -> bool
-    ensures { result ≡ true → HaveNone S.entries scorers.now.items }
-{
-    for scorer in scorers {
-        if !has_none(scorer) {
-            return false;
-        }
-    }
-    true
-}
-
-/// Whether `scorer` has no document left.
-fn has_none<S: DocSet>(scorer: &S) -> bool
-    ensures { result ≡ true → S.entries scorer.now ≡ [] }
-{
-    scorer.doc() == TERMINATED
-}
-
 /// Returns the scorers of the terms in `scorers`, which are all of terms, in order.
 pub(crate) fn into_terms<A: Scorer + Drop, T: Scorer + Drop, P: Scorer + Drop, X: Scorer + Drop>(
     alloc: Global,
@@ -80,20 +38,6 @@ pub(crate) fn into_terms<A: Scorer + Drop, T: Scorer + Drop, P: Scorer + Drop, X
     requires { AreTerms scorers.items }
     ensures { IfOk result (λ terms. map T.entries terms.items
         ≡ map ⟦<AnyScorer<A, T, P, X> as DocSet>⟧.entries scorers.items) }
-{
-    terms_among(alloc, scorers)
-}
-
-/// Returns the scorers of the terms in `scorers`, in order, where the others have no document left.
-pub(crate) fn into_terms_left<
-    A: Scorer + Drop,
-    T: Scorer + Drop,
-    P: Scorer + Drop,
-    X: Scorer + Drop,
->(alloc: Global, scorers: Vec<AnyScorer<A, T, P, X>>) -> Result<Vec<T>, AllocError>
-    requires { AreTermsLeft ⟦<AnyScorer<A, T, P, X> as DocSet>⟧.entries scorers.items }
-    ensures { IfOk result (λ terms. HaveSame (map T.entries terms.items)
-        (map ⟦<AnyScorer<A, T, P, X> as DocSet>⟧.entries scorers.items)) }
 {
     terms_among(alloc, scorers)
 }

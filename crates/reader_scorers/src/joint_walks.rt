@@ -1,0 +1,120 @@
+//! Walks of what scorers of clauses have together, into a sink, without a list.
+
+ghost use Rattle.std.specs.Prelude.{[], ◌+◌, ◌≡◌, ◌≤◌, List, OnErr, OnOk, length, map};
+ghost use Rattle.definitions.specs.Scoring.{max_score};
+ghost use Rattle.definitions.specs.Sinks.{fed};
+ghost use Rattle.docsets.specs.Entries.{Entry};
+ghost use Rattle.docsets.specs.Members.{enough, greatest_sum};
+ghost use Rattle.docsets.specs.ScoredEntries.{pairs_of};
+ghost use Rattle.intersections.specs.Differences.{without};
+ghost use Rattle.reader_scorers.specs.Fed.{HasClauses, IsFedByClauses};
+
+use any_scorer::{all_of, any_of};
+use common::{DocId, Score};
+use docsets::{DocSet, Scorer};
+use intersections::{Exclude, ExclusionList, RequiredOptionalScorer};
+use phrases::{Sink, block_wand, block_wand_intersection, for_each_pruning_scorer};
+use std::alloc::{AllocError, Global};
+
+/// Feeds each document that all of `musts` and none of `must_nots` have, and one of `shoulds` if there are no `musts`,
+/// with the sum of its scores to `sink`, in order, if that is above the sink's threshold by then; none if out of memory.
+/// `num_docs`, the number of documents, is a hint.
+pub(crate) fn feed_together<S: Scorer + Drop, K: Sink>(
+    alloc: Global,
+    musts: Vec<S>,
+    shoulds: Vec<S>,
+    must_nots: Vec<S>,
+    num_docs: DocId,
+    threshold: Score,
+    sink: &mut K,
+) -> Result<(), AllocError>
+    requires fits { greatest_sum (map S.entries musts.items) + greatest_sum (map S.entries shoulds.items) ≤ max_score }
+    requires threshold { threshold ≡ K.limit (K.state sink.old) }
+    requires room { (es : List Entry) → HasClauses (map S.entries musts.items) (map S.entries shoulds.items)
+        (map S.entries must_nots.items) es → length es ≤ K.room sink.old }
+    ensures fed { OnOk result (IsFedByClauses K.limit K.taken (K.state sink.old) (map S.entries musts.items)
+        (map S.entries shoulds.items) (map S.entries must_nots.items) (K.state sink.new)) }
+    ensures same { OnErr result (sink.new ≡ sink.old) }
+{
+    if musts.is_empty() {
+        return feed_any_of(alloc, shoulds, must_nots, num_docs, threshold, sink);
+    }
+    if shoulds.is_empty() {
+        feed_all_of(musts, must_nots, threshold, sink);
+        return Ok(());
+    }
+    let some = any_of(alloc, shoulds, num_docs)?;
+    let scorer = RequiredOptionalScorer::with_sums(all_of(musts), some);
+    feed_without(scorer, must_nots, threshold, sink);
+    Ok(())
+}
+
+/// Like `feed_together`, of `shoulds` and `must_nots` alone.
+fn feed_any_of<S: Scorer + Drop, K: Sink>(
+    alloc: Global,
+    shoulds: Vec<S>,
+    must_nots: Vec<S>,
+    num_docs: DocId,
+    threshold: Score,
+    sink: &mut K,
+) -> Result<(), AllocError>
+    requires fits { greatest_sum (map S.entries shoulds.items) ≤ max_score }
+    requires threshold { threshold ≡ K.limit (K.state sink.old) }
+    requires room { (es : List Entry) → HasClauses [] (map S.entries shoulds.items) (map S.entries must_nots.items) es
+        → length es ≤ K.room sink.old }
+    ensures fed { OnOk result (IsFedByClauses K.limit K.taken (K.state sink.old) [] (map S.entries shoulds.items)
+        (map S.entries must_nots.items) (K.state sink.new)) }
+    ensures same { OnErr result (sink.new ≡ sink.old) }
+{
+    if must_nots.is_empty() {
+        block_wand(shoulds, threshold, sink);
+        return Ok(());
+    }
+    let some = any_of(alloc, shoulds, num_docs)?;
+    feed_without(some, must_nots, threshold, sink);
+    Ok(())
+}
+
+/// Like `feed_together`, of `musts` and `must_nots` alone.
+fn feed_all_of<S: Scorer + Drop, K: Sink>(
+    musts: Vec<S>,
+    must_nots: Vec<S>,
+    threshold: Score,
+    sink: &mut K,
+)
+    requires some { 1 ≤ length musts.items }
+    requires fits { greatest_sum (map S.entries musts.items) ≤ max_score }
+    requires threshold { threshold ≡ K.limit (K.state sink.old) }
+    requires room { (es : List Entry) → HasClauses (map S.entries musts.items) [] (map S.entries must_nots.items) es
+        → length es ≤ K.room sink.old }
+    ensures { IsFedByClauses K.limit K.taken (K.state sink.old) (map S.entries musts.items) []
+        (map S.entries must_nots.items) (K.state sink.new) }
+{
+    if must_nots.is_empty() {
+        block_wand_intersection(musts, threshold, sink);
+        return;
+    }
+    feed_without(all_of(musts), must_nots, threshold, sink);
+}
+
+/// Feeds each document of `scorer` that none of `must_nots` has with its score to `sink`, in order, if the score is above
+/// the sink's threshold by then.
+fn feed_without<D: Scorer + Drop, N: Scorer + Drop, K: Sink>(
+    scorer: D,
+    must_nots: Vec<N>,
+    threshold: Score,
+    sink: &mut K,
+)
+    requires threshold { threshold ≡ K.limit (K.state sink.old) }
+    requires room { length (without (enough 1 (map N.entries must_nots.items)) (D.entries scorer)) ≤ K.room sink.old }
+    ensures { K.state sink.new ≡ fed K.limit K.taken (K.state sink.old)
+        (pairs_of (without (enough 1 (map N.entries must_nots.items)) (D.entries scorer))) }
+{
+    if must_nots.is_empty() {
+        let mut scorer = scorer;
+        for_each_pruning_scorer(&mut scorer, threshold, sink);
+        return;
+    }
+    let mut scorer = Exclude::new(scorer, ExclusionList::new(must_nots));
+    for_each_pruning_scorer(&mut scorer, threshold, sink);
+}
