@@ -25,3 +25,4 @@ pub mod MergePlaces
 pub mod PendingPieces
 pub mod RecordsMade
 pub mod RepeatedDeletions
+pub mod Shadows

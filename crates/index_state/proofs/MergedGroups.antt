@@ -257,12 +257,10 @@ module _ {A : Type 0} {a : analyzers.Ghosts A} (analyze : A → Analyzer) (old n
 
 -- ---- the body
 
--- the body of a merge makes the members after it, and is of the segments that stay and the new one
-pub merge_body : (schema : Schema) (segments news : List code.Segment) (alive sets : List (List Bool)) (from to count : ℕ) → from < to → to ≤ length alive → length alive < 2 ^ 32 → count ≡ length alive → length news ≤ 1
-    → AllByRecursion (IsOpened schema) segments → AllByRecursion (IsOpened schema) news → AreFlagged segments alive → sets ≡ replaced from to (map all_alive news) alive
-    → Makes (IsSegment schema) (members segments alive) (replaced from to (map alive_member news) (members segments alive)) (segments_body (merged_parts count from to (map bytes_of news)) sets)
-    × (segments_body (merged_parts count from to (map bytes_of news)) sets ≡ segments_body (merged_parts (length (members segments alive)) from to (map (λ m. m.0) (map alive_member news))) (map (λ m. m.1) (replaced from to (map alive_member news) (members segments alive))))
-merge_body schema segments news alive sets from to count l m few counted one opened new flagged are =
+-- the body of a merge is of the segments that stay and the new one
+pub merge_whole : (segments news : List code.Segment) (alive sets : List (List Bool)) (from to count : ℕ) → count ≡ length alive → AreFlagged segments alive → sets ≡ replaced from to (map all_alive news) alive
+    → segments_body (merged_parts count from to (map bytes_of news)) sets ≡ segments_body (merged_parts (length (members segments alive)) from to (map (λ m. m.0) (map alive_member news))) (map (λ m. m.1) (replaced from to (map alive_member news) (members segments alive)))
+merge_whole segments news alive sets from to count counted flagged are =
     let bytes = map bytes_of segments in
     let before = members segments alive in
     let fresh = map alive_member news in
@@ -270,14 +268,24 @@ merge_body schema segments news alive sets from to count l m few counted one ope
     let long = length-map segments bytes_of in
     let inside : length alive ≤ length bytes = omega (arith, within, long) in
     let same : length before ≡ length alive = length-zip bytes alive inside in
+    let flags : map (λ (q : Member). q.1) (replaced from to fresh before) ≡ sets =
+    map_replaced (λ (q : Member). q.1) from to fresh before ∙ ap₂ (replaced from to) (alive_flags news) (zip_flags bytes alive inside) ∙ sym are in
+    sym (ap₂ segments_body (ap₂ (λ k bs. merged_parts k from to bs) (same ∙ sym counted) (alive_bytes news)) flags)
+
+-- and makes the members after it
+pub merge_body : (schema : Schema) (segments news : List code.Segment) (alive sets : List (List Bool)) (from to count : ℕ) → from < to → to ≤ length alive → length alive < 2 ^ 32 → count ≡ length alive → length news ≤ 1
+    → AllByRecursion (IsOpened schema) segments → AllByRecursion (IsOpened schema) news → AreFlagged segments alive → sets ≡ replaced from to (map all_alive news) alive
+    → Makes (IsSegment schema) (members segments alive) (replaced from to (map alive_member news) (members segments alive)) (segments_body (merged_parts count from to (map bytes_of news)) sets)
+merge_body schema segments news alive sets from to count l m few counted one opened new flagged are =
+    let before = members segments alive in
+    let fresh = map alive_member news in
+    let within = flagged_within segments alive flagged in
+    let long = length-map segments bytes_of in
+    let same : length before ≡ length alive = length-zip (map bytes_of segments) alive (omega (arith, within, long)) in
     let mapped = length-map news alive_member in
     let short = subst (AllByRecursion (λ b. length b < 2 ^ 64)) (sym (alive_bytes news)) (short_bytes schema news new) in
     let makes = merge_makes schema before fresh from to l (omega (arith, m, same)) (omega (arith, few, same)) (omega (arith, one, mapped)) (are_members schema segments alive opened flagged) (alive_members schema news new) short in
-    let flags : map (λ (q : Member). q.1) (replaced from to fresh before) ≡ sets =
-    map_replaced (λ (q : Member). q.1) from to fresh before ∙ ap₂ (replaced from to) (alive_flags news) (zip_flags bytes alive inside) ∙ sym are in
-    let body : segments_body (merged_parts (length before) from to (map (λ (q : Member). q.0) fresh)) (map (λ (q : Member). q.1) (replaced from to fresh before)) ≡ segments_body (merged_parts count from to (map bytes_of news)) sets =
-    ap₂ segments_body (ap₂ (λ k bs. merged_parts k from to bs) (same ∙ sym counted) (alive_bytes news)) flags in
-    (subst (Makes (IsSegment schema) before (replaced from to fresh before)) body makes, sym body)
+    subst (Makes (IsSegment schema) before (replaced from to fresh before)) (sym (merge_whole segments news alive sets from to count counted flagged are)) makes
 
 -- ---- groups
 

@@ -1,5 +1,5 @@
 -- What the record of a commit or a merge says: which segments stay, and of which documents the new ones are.
-use Rattle.std.specs.Prelude.{◌++◌, ◌≡◌, List, length, map, replicate, true, ℕ}
+use Rattle.std.specs.Prelude.{◌++◌, ◌≡◌, ◌≤◌, List, length, map, replicate, true, ℕ}
 use Rattle.std.specs.List.{AllZip}
 use Rattle.definitions.specs.Analyzers.{Analyzer}
 use Rattle.definitions.specs.Calls as calls
@@ -49,3 +49,30 @@ abbrev pub RecordsCall : calls.Configuration → State → calls.Call → List M
 RecordsCall c s call before after body =
     Makes (IsSegment c.schema) before after body × AllZip (IsGroup c.schema c.analyze) after (calls.after c s call).groups
     × IsBodyOfCall c s call before after body
+
+-- ---- of whatever documents the segments are
+
+-- The body of a commit: the segments before stay, each by its place, and behind them stand new ones.
+pub record KeepsAll (before after : List Member) (body : List ℕ) : Type 0 where
+  pub news : List (List ℕ)
+  pub segments : map (λ m. m.0) after ≡ map (λ m. m.0) before ++ news
+  pub whole : body ≡ segments_body (kept_from 0 (length before) ++ map fresh news) (map (λ m. m.1) after)
+
+-- The body of a merge: the segments outside the range stay as they are, each by its place, and in place of the range
+-- stands at most one new one.
+pub record KeepsOutside (from to : ℕ) (before after : List Member) (body : List ℕ) : Type 0 where
+  pub news : List Member
+  pub few : length news ≤ 1
+  pub list : after ≡ replaced from to news before
+  pub whole : body ≡ segments_body (merged_parts (length before) from to (map (λ m. m.0) news)) (map (λ m. m.1) after)
+
+-- the body that a commit or a merge writes; other calls write none
+abbrev pub IsBodyOver : calls.Call → List Member → List Member → List ℕ → Type 0
+IsBodyOver calls.commit_pending before after body = KeepsAll before after body
+IsBodyOver (calls.merge_range from to) before after body = KeepsOutside from to before after body
+IsBodyOver _ before after body = ⊥
+
+-- a body of the call makes the segments after it of those before
+abbrev pub RecordsSegments : Schema → calls.Call → List Member → List Member → List ℕ → Type 0
+RecordsSegments schema call before after body =
+    ∥ Makes (IsSegment schema) before after body ∥₁ × IsBodyOver call before after body

@@ -1,7 +1,8 @@
 -- What segments and what waits stand for.
-use Rattle.std.specs.Prelude.{◌+◌, ◌<◌, ◌^◌, ◌≡◌, ◌≤◌, ◌⊎◌, Bool, List, length, map, take, ℕ}
+use Rattle.std.specs.Prelude.{[], ◌++◌, ◌+◌, ◌<◌, ◌^◌, ◌∷◌, ◌≡◌, ◌≤◌, ◌⊎◌, Bool, List, length, map, sum_by, take, ℕ}
 use Rattle.std.specs.List.{AllByRecursion, AllZip}
 use Rattle.std.specs.declared.alloc.Global.{Global}
+use Rattle.common.specs.BitSets.{count_set}
 use Rattle.common.specs.declared.analyzer.Analyzer as analyzers
 use Rattle.definitions.specs.Alive.{live_groups}
 use Rattle.definitions.specs.Analyzers.{Analyzer}
@@ -16,12 +17,13 @@ use Rattle.segment.specs.declared.segment.Segment as code
 use Rattle.segment_definitions.specs.SegmentBodies.{Member}
 use Rattle.segment_definitions.specs.Slots.{slot}
 use Rattle.segment_definitions.specs.Waiting.{Waits}
-use Rattle.index_state.specs.Deletions.{IsSmall, numbered}
+use Rattle.index_state.specs.Deletions.{IsSmall, numbered, term_of}
 use Rattle.index_state.specs.Flags.{flagged_each, members}
 use Rattle.index_state.specs.Limits.{OneMorePasses}
-use Rattle.index_state.specs.Pending.{Holds, open_docs}
+use Rattle.index_state.specs.Pending.{Holds, HoldsLast, num_segments_in, open_docs}
 use Rattle.index_state.specs.declared.deletions.Deletion.{Deletion}
 use Rattle.index_state.specs.declared.index_state.IndexState.{IndexState}
+use Rattle.index_state.specs.declared.pending_segments.PendingSegments.{PendingSegments}
 pub use Rattle.index_state.specs.Statuses.{status_of}
 
 -- what waits: documents in full segments and in one that isn't, and deletions
@@ -56,6 +58,10 @@ pub record IsMadeAlike {A : Type 0} {a : analyzers.Ghosts A} (old new : IndexSta
   pub analyzer : new.analyzer ≡ old.analyzer
   pub schema : new.schema ≡ old.schema
   pub settings : new.settings ≡ old.settings
+
+-- how many documents of these segments are alive
+abbrev pub living_in : List Member → ℕ
+living_in segments = sum_by (λ (m : Member). count_set m.1) segments
 
 -- a document's slot is too long beside a block of these settings
 abbrev pub IsSlotTooLong : Schema → Settings → Document → Type 0
@@ -103,3 +109,49 @@ module _ {A : Type 0} {a : analyzers.Ghosts A} where
   abbrev pub AddPasses : calls.Configuration → State → IndexState A a → Document → Type 0
   AddPasses c s index doc =
       HasLongSlot index doc ⊎ OneMorePasses c.schema c.analyze c.docs_per_segment (open_docs c.docs_per_segment s.pending) doc
+
+  -- ---- of any index, whatever documents its segments are of
+
+  -- what waits: documents in segments, full or not, and deletions
+  abbrev pub waiting_of : IndexState A a → PendingSegments × List Deletion
+  waiting_of index = (index.pending, index.deletions.items)
+
+  -- all calls are taken, and nothing waits
+  pub record IsIdle (index : IndexState A a) : Type 0 where
+    pub ready : state_of index ≡ calls.ready
+    pub no_documents : num_segments_in index.pending ≡ 0
+    pub no_deletions : index.deletions.items ≡ []
+
+  -- made alike, the same segments are committed, the same waits, and the same may still be done
+  pub record IsSame (old new : IndexState A a) : Type 0 where
+    pub made : IsMadeAlike old new
+    pub members : members_of new ≡ members_of old
+    pub waiting : waiting_of new ≡ waiting_of old
+    pub status : state_of new ≡ state_of old
+
+  -- made alike, the same segments are committed, and no more may be done than in this status, in which what waits is lost
+  pub record IsStopped (status : calls.Status) (old new : IndexState A a) : Type 0 where
+    pub made : IsMadeAlike old new
+    pub members : members_of new ≡ members_of old
+    pub stopped : state_of new ≡ status
+
+  -- the document waits behind the documents that waited, in the segment that isn't full, or it fills that
+  abbrev pub WaitsMore : (A → Analyzer) → Document → IndexState A a → IndexState A a → Type 0
+  WaitsMore analyze doc old new =
+      (new.deletions.items ≡ old.deletions.items)
+      × ((full : List (List Document)) (last : List Document)
+      → Holds old.schema (analyze old.analyzer) old.settings.block_size old.pending full last
+      → HoldsLast old.schema (analyze old.analyzer) old.settings.block_size old.settings.docs_per_segment new.pending
+      full (last ++ doc ∷ []))
+
+  -- a deletion by the term waits behind what waited
+  abbrev pub DeletesMore : List ℕ → IndexState A a → IndexState A a → Type 0
+  DeletesMore term old new =
+      (d : Deletion) × (term_of d ≡ term) × (waiting_of new ≡ (old.pending, old.deletions.items ++ d ∷ []))
+
+  -- What its calls are refused by, the definitions say of any state with its status and as many groups as segments are
+  -- committed, whatever these groups are.
+  pub record IsShadow (analyze : A → Analyzer) (index : IndexState A a) (c : calls.Configuration) (x : calls.Index) : Type 0 where
+    pub made : c ≡ configuration_of index.schema (analyze index.analyzer) index.settings
+    pub status : x.status ≡ state_of index
+    pub counted : length x.state.groups ≡ length (members_of index)

@@ -78,14 +78,15 @@ pub struct IndexState<A: Analyzer> {
 
 impl<A: Analyzer + Drop> IndexState<A> {
     ghost use Rattle.index_state.specs.Commits.{AreSets, IsPrepared, frame_in, members_with, sets_in};
-    ghost use Rattle.index_state.specs.Records.{IsCommitBody};
-    ghost use Rattle.index_state.specs.Standing.{AddPasses, HasLongSlot, IsMadeAlike, Stands, alive_of, alloc_of, analyzer_of, committed_of, members_of, schema_of, settings_of, state_of};
+    ghost use Rattle.index_state.specs.Records.{IsCommitBody, RecordsSegments};
+    ghost use Rattle.index_state.specs.Standing.{AddPasses, DeletesMore, HasLongSlot, IsIdle, IsMadeAlike, IsSame, IsShadow, IsStopped, Stands, WaitsMore, alive_of, alloc_of, analyzer_of, committed_of, living_in, members_of, schema_of, settings_of, state_of};
 
     /// Returns an index without documents.
     pub fn new(alloc: Global, analyzer: A, schema: Schema, settings: Settings) -> IndexState<A>
         ensures stands { Stands A.analyze result (configuration_of schema (A.analyze analyzer) settings) fresh_index }
         ensures made { (schema_of result ≡ schema) × (settings_of result ≡ settings) × (analyzer_of result ≡ analyzer) }
         ensures none { members_of result ≡ [] }
+        ensures idle { IsIdle result }
     {
         let segments = Vec::new(alloc);
         let alive = Vec::new(alloc);
@@ -110,6 +111,7 @@ impl<A: Analyzer + Drop> IndexState<A> {
             → Stands A.analyze result (configuration_of schema (A.analyze analyzer) settings) (reopened groups) }
         ensures made { (schema_of result ≡ schema) × (settings_of result ≡ settings) × (analyzer_of result ≡ analyzer) }
         ensures members { members_of result ≡ members segments.items alive.items }
+        ensures idle { IsIdle result }
     {
         let _docs_per_segment = settings.docs_per_segment();
         let pending = PendingSegments::new(alloc);
@@ -145,6 +147,7 @@ impl<A: Analyzer + Drop> IndexState<A> {
         ensures made { IfOk result (λ index. (schema_of index ≡ schema) × (settings_of index ≡ settings)
             × (analyzer_of index ≡ analyzer)) }
         ensures members { IfOk result (λ index. members_of index ≡ map member_of members.items) }
+        ensures idle { IfOk result IsIdle }
         ensures err { IfErr result (λ handed. handed ≡ analyzer) }
     {
         match parted(alloc, members) {
@@ -186,8 +189,9 @@ impl<A: Analyzer + Drop> IndexState<A> {
 
     /// Returns what the index may still do.
     pub fn state(&self) -> Status
-        ensures { (c : calls.Configuration) (x : calls.Index) → Stands A.analyze self.now c x
+        ensures stands { (c : calls.Configuration) (x : calls.Index) → Stands A.analyze self.now c x
             → x.status ≡ status_of result }
+        ensures status { status_of result ≡ state_of self.now }
     {
         self.status
     }
@@ -237,6 +241,19 @@ impl<A: Analyzer + Drop> IndexState<A> {
             → ¬ HasLongSlot self.old doc.now → state_of self.new ≡ calls.writer_closed) }
         ensures made { IsMadeAlike self.old self.new }
         ensures members { members_of self.new ≡ members_of self.old }
+
+        // Of any index, whatever documents its segments are of.
+        ensures refused { (c : calls.Configuration) (x : calls.Index) → IsShadow A.analyze self.old c x
+            → IfErr result (λ fault. fault ≢ faults.OutOfMemory → fault ≢ faults.Limit
+            → calls.call_fault c x (calls.add_document doc.now) ≡ Some fault) }
+        ensures admitted { (c : calls.Configuration) (x : calls.Index) → IsShadow A.analyze self.old c x
+            → OnOk result (calls.call_fault c x (calls.add_document doc.now) ≡ None) }
+        ensures same { IfErr result (λ fault. fault ≢ faults.OutOfMemory → fault ≢ faults.Limit
+            → IsSame self.old self.new) }
+        ensures same_beside { HasLongSlot self.old doc.now → OnErr result (IsSame self.old self.new) }
+        ensures stopped { OnErr result (IsSame self.old self.new ⊎ IsStopped calls.writer_closed self.old self.new) }
+        ensures ready { OnOk result (state_of self.new ≡ calls.ready) }
+        ensures waits { OnOk result (WaitsMore A.analyze doc.now self.old self.new) }
     {
         self.check_writer()?;
         check_document(&self.schema, doc)?;
@@ -259,6 +276,16 @@ impl<A: Analyzer + Drop> IndexState<A> {
             → calls.call_fault c x (calls.delete_term term.now) ≡ Some fault) }
         ensures made { IsMadeAlike self.old self.new }
         ensures members { members_of self.new ≡ members_of self.old }
+
+        // Of any index, whatever documents its segments are of.
+        ensures refused { (c : calls.Configuration) (x : calls.Index) → IsShadow A.analyze self.old c x
+            → IfErr result (λ fault. fault ≢ faults.OutOfMemory
+            → calls.call_fault c x (calls.delete_term term.now) ≡ Some fault) }
+        ensures admitted { (c : calls.Configuration) (x : calls.Index) → IsShadow A.analyze self.old c x
+            → OnOk result (calls.call_fault c x (calls.delete_term term.now) ≡ None) }
+        ensures same { OnErr result (IsSame self.old self.new) }
+        ensures ready { OnOk result (state_of self.new ≡ calls.ready) }
+        ensures waits { OnOk result (DeletesMore term.now self.old self.new) }
     {
         self.check_writer()?;
         check_deletion(&self.schema, term)?;
@@ -301,6 +328,21 @@ impl<A: Analyzer + Drop> IndexState<A> {
         ensures few { IfOk result (λ prepared. length (sets_in prepared) < 2 ^ 32) }
         ensures made { IsMadeAlike self.old self.new }
         ensures members { members_of self.new ≡ members_of self.old }
+
+        // Of any index, whatever documents its segments are of.
+        ensures refused { (c : calls.Configuration) (x : calls.Index) → IsShadow A.analyze self.old c x
+            → IfErr result (λ fault. fault ≢ faults.OutOfMemory → fault ≢ faults.Limit
+            → calls.call_fault c x calls.commit_pending ≡ Some fault) }
+        ensures admitted { (c : calls.Configuration) (x : calls.Index) → IsShadow A.analyze self.old c x
+            → OnOk result (calls.call_fault c x calls.commit_pending ≡ None) }
+        ensures same { IfErr result (λ fault. fault ≢ faults.OutOfMemory → fault ≢ faults.Limit
+            → IsSame self.old self.new) }
+        ensures half_way { IfErr result (λ fault. (fault ≡ faults.OutOfMemory) ⊎ (fault ≡ faults.Limit)
+            → IsStopped calls.writer_closed self.old self.new) }
+        ensures begun { OnOk result (IsStopped calls.writer_closed self.old self.new) }
+        ensures records { IfOk result (λ prepared. (body : List ℕ) × (frame_in prepared ≡ frame_bytes body)
+            × RecordsSegments (schema_of self.old) calls.commit_pending
+            (members_of self.old) (members_with self.new prepared) body) }
     {
         self.check_writer()?;
         self.status = Status::WriterClosed;
@@ -329,6 +371,7 @@ impl<A: Analyzer + Drop> IndexState<A> {
             (record { state = calls.after c x.state calls.commit_pending; status = calls.ready }) }
         ensures made { IsMadeAlike self.old self.new }
         ensures members { members_of self.new ≡ members_with self.old prepared }
+        ensures idle { IsIdle self.new }
     {
         let Prepared { alive, .. } = prepared;
         self.alive = alive;
@@ -344,22 +387,25 @@ impl<A: Analyzer + Drop> IndexState<A> {
             → Stands A.analyze self.new c (record { state = x.state; status = status_of status }) }
         ensures made { IsMadeAlike self.old self.new }
         ensures members { members_of self.new ≡ members_of self.old }
+        ensures stopped { IsStopped (status_of status) self.old self.new }
     {
         self.status = status;
     }
 
     /// Returns the number of committed segments, those without living documents too.
     pub fn num_segments(&self) -> usize
-        ensures { (c : calls.Configuration) (x : calls.Index) → Stands A.analyze self.now c x
+        ensures stands { (c : calls.Configuration) (x : calls.Index) → Stands A.analyze self.now c x
             → result ≡ states.num_segments x.state }
+        ensures members { result ≡ length (members_of self.now) }
     {
         self.alive.len()
     }
 
     /// Returns the number of documents that are committed and alive.
     pub fn num_docs(&self) -> u64
-        ensures { (c : calls.Configuration) (x : calls.Index) → Stands A.analyze self.now c x
+        ensures stands { (c : calls.Configuration) (x : calls.Index) → Stands A.analyze self.now c x
             → result ≡ states.num_docs x.state }
+        ensures living { result ≡ living_in (members_of self.now) }
     {
         count_alive(&self.alive)
     }
@@ -399,6 +445,14 @@ impl<A: Analyzer + Drop> IndexState<A> {
             → Stands A.analyze self.new c x }
         ensures made { IsMadeAlike self.old self.new }
         ensures members { members_of self.new ≡ members_of self.old }
+
+        // Of any index, whatever documents its segments are of.
+        ensures refused { (c : calls.Configuration) (x : calls.Index) → IsShadow A.analyze self.old c x
+            → IfErr result (λ fault. fault ≢ faults.OutOfMemory → (fault ≡ faults.Damaged None)
+            ⊎ (calls.call_fault c x (calls.search_best (query_of query.now) limit) ≡ Some fault)) }
+        ensures admitted { (c : calls.Configuration) (x : calls.Index) → IsShadow A.analyze self.old c x
+            → OnOk result (calls.call_fault c x (calls.search_best (query_of query.now) limit) ≡ None) }
+        ensures same { IsSame self.old self.new }
     {
         self.check_open()?;
         search_counted(
@@ -431,6 +485,13 @@ impl<A: Analyzer + Drop> IndexState<A> {
             (similarity_of (settings_of self.now)).weight (query_of query.now) ≡ None) }
         ensures memory { IfErr result (λ fault. fault ≡ faults.OutOfMemory → refusal (schema_of self.now)
             (similarity_of (settings_of self.now)).weight (query_of query.now) ≡ None) }
+
+        // Of any index, whatever documents its segments are of.
+        ensures refused { (c : calls.Configuration) (x : calls.Index) → IsShadow A.analyze self.now c x
+            → IfErr result (λ fault. fault ≢ faults.OutOfMemory
+            → calls.call_fault c x (calls.count_all (query_of query.now)) ≡ Some fault) }
+        ensures admitted { (c : calls.Configuration) (x : calls.Index) → IsShadow A.analyze self.now c x
+            → OnOk result (calls.call_fault c x (calls.count_all (query_of query.now)) ≡ None) }
     {
         self.check_open()?;
         count(

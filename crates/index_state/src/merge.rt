@@ -1,6 +1,6 @@
 //! Merges of neighbouring committed segments.
 
-ghost use Rattle.std.specs.Prelude.{◌<◌, ◌≡◌, ◌≢◌, ◌≤◌, Err, IfErr, IfOk, List, None, OnOk, Some, ℕ};
+ghost use Rattle.std.specs.Prelude.{◌<◌, ◌≡◌, ◌≢◌, ◌≤◌, ◌⊎◌, Err, IfErr, IfOk, List, None, OnOk, Some, ℕ};
 ghost use Rattle.std.specs.Result.{result_err};
 ghost use Rattle.definitions.specs.Calls as calls;
 ghost use Rattle.definitions.specs.declared.fault.Fault.TheVariants as faults;
@@ -17,8 +17,8 @@ use definitions::Fault;
 
 impl<A: Analyzer + Drop> IndexState<A> {
     ghost use Rattle.index_state.specs.Merges.{Joins, MergePasses, Replaces, members_merged, merge_frame_in};
-    ghost use Rattle.index_state.specs.Records.{IsMergeBody};
-    ghost use Rattle.index_state.specs.Standing.{IsMadeAlike, Stands, members_of};
+    ghost use Rattle.index_state.specs.Records.{IsMergeBody, RecordsSegments};
+    ghost use Rattle.index_state.specs.Standing.{IsMadeAlike, IsShadow, Stands, members_of, schema_of, state_of, waiting_of};
 
     /// Prepares a merge of the committed segments `from..to`: makes what it writes and installs, in memory, and
     /// allocates all that it needs. `BadRange` if the range names no segment, or more than there are; `Limit` if one
@@ -43,6 +43,16 @@ impl<A: Analyzer + Drop> IndexState<A> {
             × Makes (IsSegment c.schema) (members_of self.now) (members_merged self.now prepared) body
             × IsMergeBody c.schema c.analyze from to x.state.groups
             (members_of self.now) (members_merged self.now prepared) body) }
+
+        // Of any index, whatever documents its segments are of.
+        ensures refused { (c : calls.Configuration) (x : calls.Index) → IsShadow A.analyze self.now c x
+            → IfErr result (λ fault. fault ≢ faults.OutOfMemory → fault ≢ faults.Limit → (fault ≡ faults.Damaged None)
+            ⊎ (calls.call_fault c x (calls.merge_range from to) ≡ Some fault)) }
+        ensures admitted { (c : calls.Configuration) (x : calls.Index) → IsShadow A.analyze self.now c x
+            → OnOk result (calls.call_fault c x (calls.merge_range from to) ≡ None) }
+        ensures records { IfOk result (λ prepared. (body : List ℕ) × (merge_frame_in prepared ≡ frame_bytes body)
+            × RecordsSegments (schema_of self.now) (calls.merge_range from to)
+            (members_of self.now) (members_merged self.now prepared) body) }
     {
         self.check_writer()?;
         check_range(from, to, self.alive.len())?;
@@ -57,6 +67,8 @@ impl<A: Analyzer + Drop> IndexState<A> {
             (record { state = calls.after c x.state (calls.merge_range from to); status = x.status }) }
         ensures made { IsMadeAlike self.old self.new }
         ensures members { members_of self.new ≡ members_merged self.old prepared }
+        ensures waiting { waiting_of self.new ≡ waiting_of self.old }
+        ensures status { state_of self.new ≡ state_of self.old }
     {
         let PreparedMerge {
             segment,

@@ -1,6 +1,6 @@
 //! The record of a merge, laid out in memory.
 
-ghost use Rattle.std.specs.Prelude.{[], ◌<◌, ◌≡◌, ◌≢◌, ◌≤◌, IfErr, IfOk, IfSome, List, MatchOption, drop, length, map, option_to_list, sum_by, take, ◌-◌, ℕ};
+ghost use Rattle.std.specs.Prelude.{[], ◌<◌, ◌≡◌, ◌≢◌, ◌≤◌, IfErr, IfOk, IfSome, List, MatchOption, None, drop, length, map, option_to_list, sum_by, take, ◌-◌, ℕ};
 ghost use Rattle.definitions.specs.Calls as calls;
 ghost use Rattle.definitions.specs.declared.fault.Fault.TheVariants as faults;
 ghost use Rattle.common.specs.BitSets.{count_set};
@@ -47,6 +47,8 @@ impl<A: Analyzer + Drop> IndexState<A> {
             (merged_parts (length (alive_of self.now)) from to (map bytes_of (new_in prepared)))
             (sets_merged prepared))) }
         ensures fault { IfErr result (λ fault. fault ≢ faults.Device) }
+        ensures faults { IfErr result (λ fault. fault ≢ faults.OutOfMemory → fault ≢ faults.Limit
+            → fault ≡ faults.Damaged None) }
         ensures limit { (c : calls.Configuration) (x : calls.Index) → Stands A.analyze self.now c x
             → IfErr result (λ fault. fault ≢ faults.OutOfMemory → (fault ≡ faults.Limit)
             × MergePasses A.analyze self.now from to x.state.groups) }
@@ -91,6 +93,8 @@ impl<A: Analyzer + Drop> IndexState<A> {
             (IsNew (schema_of self.now) (A.analyze (analyzer_of self.now)) put.0
             (joined_groups from to x.state.groups))) }
         ensures fault { IfErr result (λ fault. fault ≢ faults.Device) }
+        ensures faults { IfErr result (λ fault. fault ≢ faults.OutOfMemory → fault ≢ faults.Limit
+            → fault ≡ faults.Damaged None) }
         ensures limit { (c : calls.Configuration) (x : calls.Index) → Stands A.analyze self.now c x
             → IfErr result (λ fault. fault ≢ faults.OutOfMemory → (fault ≡ faults.Limit)
             × MergePasses A.analyze self.now from to x.state.groups) }

@@ -52,6 +52,7 @@ impl PendingSegments {
     pub(crate) fn new(alloc: Global) -> PendingSegments
         ensures holds { (schema : schemas.Schema) (analyze : definitions.Analyzer) (block_size : ℕ)
             → Holds schema analyze block_size result [] [] }
+        ensures none { num_segments_in result ≡ 0 }
     {
         PendingSegments {
             alloc,

@@ -1,10 +1,11 @@
-use Rattle.std.proofs.Common.{[], ap, false, inl, length, refl, subst, sym, ◌++◌, ◌+◌, ◌^◌, ◌∙◌, ◌∷◌, ◌≡◌, ◌≤◌, ◌⊎◌}
+use Rattle.std.proofs.Common.{[], Some, ap, arith, false, inl, inr, length, refl, subst, sym, ◌++◌, ◌+◌, ◌^◌, ◌∙◌, ◌∷◌, ◌≡◌, ◌≢◌, ◌≤◌, ◌⊎◌, ⊎_elim}
 use Rattle.std.proofs.Math.Logic.{∥∥₁_map}
 use Rattle.std.specs.Result.{result_err}
 use Rattle.definitions.specs.Calls as calls
 use Rattle.definitions.specs.declared.fault.Fault.TheVariants as faults
 use Rattle.index_state.proofs.LongSlots.{long_slot, slot_refused}
-use Rattle.index_state.proofs.Outcomes.{err_has, err_same, half_way, own_refuses, ready_of, status_refuses, writer_is_not_ready}
+use Rattle.index_state.proofs.Outcomes.{err_has, err_same, half_way, if_err, own_refuses, ready_of, status_refuses, writer_is_not_ready}
+use Rattle.index_state.proofs.Shadows.{not_ok, on_err}
 use Rattle.index_state.proofs.Standings.{add_passes, add_taken, add_within, added_stands, holds_some, kept_stands, ready_status, stands_stopped}
 use Rattle.index_state.specs.Standing.{AddPasses, HasLongSlot, Stands, state_of, status_of}
 use Rattle.segment_definitions.specs.Slots.{slot}
@@ -108,3 +109,138 @@ returns-clause-within g c k x s =
     let none = ap (λ status. calls.status_fault status false) s.status ∙ sym c.check_writer.ensures.value ∙ ap result_err c.in_ok-check_writer.was in
     let p = s.pending (ready_of x.status none) in
     add_within g.A.Analyzer.analyze old k x s p c.args.doc.now (c.in_ok-add.ensures.within p.full p.last p.holds).indexed
+
+-- ---- of any index
+
+pub returns-in_err-check_writer-clause-refused : goal.returns-in_err-check_writer-clause-refused
+returns-in_err-check_writer-clause-refused g c k x s =
+    let refuses = ap (λ status. calls.status_fault status false) s.status ∙ sym c.check_writer.ensures.value ∙ ap result_err c.in_err-check_writer.was in
+    err_has c.from_residual.result c.in_err-check_writer.field-0.0 (λ f. f ≢ faults.OutOfMemory → f ≢ faults.Limit → calls.call_fault k x (calls.add_document c.args.doc.now) ≡ Some f) c.from_residual.ensures.1
+    (λ memory limit. status_refuses k x (calls.add_document c.args.doc.now) c.in_err-check_writer.field-0.0 refuses)
+
+pub returns-in_err-check_writer-clause-admitted : goal.returns-in_err-check_writer-clause-admitted
+returns-in_err-check_writer-clause-admitted g c k x s =
+    not_ok c.from_residual.result c.in_err-check_writer.field-0.0 _ c.from_residual.ensures.1
+
+pub returns-in_err-check_writer-clause-same : goal.returns-in_err-check_writer-clause-same
+returns-in_err-check_writer-clause-same g c =
+    if_err c.from_residual.result _ (λ fault is memory limit. record { made = record { analyzer = refl; schema = refl; settings = refl }; members = refl; waiting = refl; status = refl })
+
+pub returns-in_err-check_writer-clause-same_beside : goal.returns-in_err-check_writer-clause-same_beside
+returns-in_err-check_writer-clause-same_beside g c long =
+    on_err c.from_residual.result _ (record { made = record { analyzer = refl; schema = refl; settings = refl }; members = refl; waiting = refl; status = refl })
+
+pub returns-in_err-check_writer-clause-stopped : goal.returns-in_err-check_writer-clause-stopped
+returns-in_err-check_writer-clause-stopped g c =
+    on_err c.from_residual.result _ (inl (record { made = record { analyzer = refl; schema = refl; settings = refl }; members = refl; waiting = refl; status = refl }))
+
+pub returns-in_err-check_writer-clause-ready : goal.returns-in_err-check_writer-clause-ready
+returns-in_err-check_writer-clause-ready g c =
+    not_ok c.from_residual.result c.in_err-check_writer.field-0.0 _ c.from_residual.ensures.1
+
+pub returns-in_err-check_writer-clause-waits : goal.returns-in_err-check_writer-clause-waits
+returns-in_err-check_writer-clause-waits g c =
+    not_ok c.from_residual.result c.in_err-check_writer.field-0.0 _ c.from_residual.ensures.1
+
+pub returns-in_err-check_document-clause-refused : goal.returns-in_err-check_document-clause-refused
+returns-in_err-check_document-clause-refused g c k x s =
+    let doc = c.args.doc.now in
+    let none = ap (λ status. calls.status_fault status false) s.status ∙ sym c.check_writer.ensures.value ∙ ap result_err c.in_ok-check_writer.was in
+    let refuses = own_refuses k x (calls.add_document doc) none ∙ ap (λ (m : calls.Configuration). result_err (calls.document_given m.schema doc)) s.made ∙ sym c.check_document.ensures.fault ∙ ap result_err c.in_err-check_document.was in
+    err_has c.from_residual-in_err-check_document.result c.in_err-check_document.field-0.0 (λ f. f ≢ faults.OutOfMemory → f ≢ faults.Limit → calls.call_fault k x (calls.add_document c.args.doc.now) ≡ Some f) c.from_residual-in_err-check_document.ensures.1 (λ memory limit. refuses)
+
+pub returns-in_err-check_document-clause-admitted : goal.returns-in_err-check_document-clause-admitted
+returns-in_err-check_document-clause-admitted g c k x s =
+    not_ok c.from_residual-in_err-check_document.result c.in_err-check_document.field-0.0 _ c.from_residual-in_err-check_document.ensures.1
+
+pub returns-in_err-check_document-clause-same : goal.returns-in_err-check_document-clause-same
+returns-in_err-check_document-clause-same g c =
+    if_err c.from_residual-in_err-check_document.result _ (λ fault is memory limit. record { made = record { analyzer = refl; schema = refl; settings = refl }; members = refl; waiting = refl; status = refl })
+
+pub returns-in_err-check_document-clause-same_beside : goal.returns-in_err-check_document-clause-same_beside
+returns-in_err-check_document-clause-same_beside g c long =
+    on_err c.from_residual-in_err-check_document.result _ (record { made = record { analyzer = refl; schema = refl; settings = refl }; members = refl; waiting = refl; status = refl })
+
+pub returns-in_err-check_document-clause-stopped : goal.returns-in_err-check_document-clause-stopped
+returns-in_err-check_document-clause-stopped g c =
+    on_err c.from_residual-in_err-check_document.result _ (inl (record { made = record { analyzer = refl; schema = refl; settings = refl }; members = refl; waiting = refl; status = refl }))
+
+pub returns-in_err-check_document-clause-ready : goal.returns-in_err-check_document-clause-ready
+returns-in_err-check_document-clause-ready g c =
+    not_ok c.from_residual-in_err-check_document.result c.in_err-check_document.field-0.0 _ c.from_residual-in_err-check_document.ensures.1
+
+pub returns-in_err-check_document-clause-waits : goal.returns-in_err-check_document-clause-waits
+returns-in_err-check_document-clause-waits g c =
+    not_ok c.from_residual-in_err-check_document.result c.in_err-check_document.field-0.0 _ c.from_residual-in_err-check_document.ensures.1
+
+pub returns-in_err-check_slot-clause-refused : goal.returns-in_err-check_slot-clause-refused
+returns-in_err-check_slot-clause-refused g c k x s =
+    err_has c.from_residual-in_err-check_slot.result c.in_err-check_slot.field-0.0 (λ f. f ≢ faults.OutOfMemory → f ≢ faults.Limit → calls.call_fault k x (calls.add_document c.args.doc.now) ≡ Some f) c.from_residual-in_err-check_slot.ensures.1
+    (λ memory limit. absurd (⊎_elim (λ m. memory m) (λ l. limit l.0) c.in_err-check_slot.ensures.err))
+
+pub returns-in_err-check_slot-clause-admitted : goal.returns-in_err-check_slot-clause-admitted
+returns-in_err-check_slot-clause-admitted g c k x s =
+    not_ok c.from_residual-in_err-check_slot.result c.in_err-check_slot.field-0.0 _ c.from_residual-in_err-check_slot.ensures.1
+
+pub returns-in_err-check_slot-clause-same : goal.returns-in_err-check_slot-clause-same
+returns-in_err-check_slot-clause-same g c =
+    if_err c.from_residual-in_err-check_slot.result _ (λ fault is memory limit. record { made = record { analyzer = refl; schema = refl; settings = refl }; members = refl; waiting = refl; status = refl })
+
+pub returns-in_err-check_slot-clause-same_beside : goal.returns-in_err-check_slot-clause-same_beside
+returns-in_err-check_slot-clause-same_beside g c long =
+    on_err c.from_residual-in_err-check_slot.result _ (record { made = record { analyzer = refl; schema = refl; settings = refl }; members = refl; waiting = refl; status = refl })
+
+pub returns-in_err-check_slot-clause-stopped : goal.returns-in_err-check_slot-clause-stopped
+returns-in_err-check_slot-clause-stopped g c =
+    on_err c.from_residual-in_err-check_slot.result _ (inl (record { made = record { analyzer = refl; schema = refl; settings = refl }; members = refl; waiting = refl; status = refl }))
+
+pub returns-in_err-check_slot-clause-ready : goal.returns-in_err-check_slot-clause-ready
+returns-in_err-check_slot-clause-ready g c =
+    not_ok c.from_residual-in_err-check_slot.result c.in_err-check_slot.field-0.0 _ c.from_residual-in_err-check_slot.ensures.1
+
+pub returns-in_err-check_slot-clause-waits : goal.returns-in_err-check_slot-clause-waits
+returns-in_err-check_slot-clause-waits g c =
+    not_ok c.from_residual-in_err-check_slot.result c.in_err-check_slot.field-0.0 _ c.from_residual-in_err-check_slot.ensures.1
+
+pub returns-in_err-add-clause-refused : goal.returns-in_err-add-clause-refused
+returns-in_err-add-clause-refused g c k x s =
+    err_has c.from_residual-in_err-add.result c.in_err-add.field-0.0 (λ f. f ≢ faults.OutOfMemory → f ≢ faults.Limit → calls.call_fault k x (calls.add_document c.args.doc.now) ≡ Some f) c.from_residual-in_err-add.ensures.1
+    (λ memory limit. absurd (⊎_elim (λ m. memory m) (λ l. limit l) c.in_err-add.ensures.err))
+
+pub returns-in_err-add-clause-admitted : goal.returns-in_err-add-clause-admitted
+returns-in_err-add-clause-admitted g c k x s =
+    not_ok c.from_residual-in_err-add.result c.in_err-add.field-0.0 _ c.from_residual-in_err-add.ensures.1
+
+pub returns-in_err-add-clause-same : goal.returns-in_err-add-clause-same
+returns-in_err-add-clause-same g c =
+    let old = c.args.self.now in
+    err_has c.from_residual-in_err-add.result c.in_err-add.field-0.0 _ c.from_residual-in_err-add.ensures.1
+    (λ memory limit. absurd (⊎_elim (λ m. memory m) (λ l. limit l) c.in_err-add.ensures.err))
+
+pub returns-in_err-add-clause-same_beside : goal.returns-in_err-add-clause-same_beside
+returns-in_err-add-clause-same_beside g c long =
+    let short = c.in_ok-check_slot.ensures.ok in
+    let size = c.block_size.ensures in
+    absurd (omega (arith, long, short, size))
+
+pub returns-in_err-add-clause-stopped : goal.returns-in_err-add-clause-stopped
+returns-in_err-add-clause-stopped g c =
+    on_err c.from_residual-in_err-add.result _ (inr (record { made = record { analyzer = refl; schema = refl; settings = refl }; members = refl; stopped = refl }))
+
+pub returns-in_err-add-clause-ready : goal.returns-in_err-add-clause-ready
+returns-in_err-add-clause-ready g c =
+    not_ok c.from_residual-in_err-add.result c.in_err-add.field-0.0 _ c.from_residual-in_err-add.ensures.1
+
+pub returns-in_err-add-clause-waits : goal.returns-in_err-add-clause-waits
+returns-in_err-add-clause-waits g c =
+    not_ok c.from_residual-in_err-add.result c.in_err-add.field-0.0 _ c.from_residual-in_err-add.ensures.1
+
+pub returns-clause-admitted : goal.returns-clause-admitted
+returns-clause-admitted g c k x s =
+    let doc = c.args.doc.now in
+    let none = ap (λ status. calls.status_fault status false) s.status ∙ sym c.check_writer.ensures.value ∙ ap result_err c.in_ok-check_writer.was in
+    own_refuses k x (calls.add_document doc) none ∙ ap (λ (m : calls.Configuration). result_err (calls.document_given m.schema doc)) s.made ∙ sym c.check_document.ensures.fault ∙ ap result_err c.in_ok-check_document.was
+
+pub returns-clause-waits : goal.returns-clause-waits
+returns-clause-waits g c =
+    (refl, c.in_ok-add.ensures.ok)

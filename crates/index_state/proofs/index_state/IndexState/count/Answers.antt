@@ -1,4 +1,5 @@
 use Rattle.std.proofs.Common.{None, Some, ap, inr, subst, sym, true, ◌∙◌, ◌≡◌, ◌≢◌}
+use Rattle.std.proofs.lemmas.Result.{IfOk-weaker}
 use Rattle.std.specs.List.{AllZip}
 use Rattle.std.specs.Result.{result_err}
 use Rattle.definitions.specs.Alive.{live}
@@ -13,6 +14,7 @@ use Rattle.segment.specs.Opened.{StandsFor}
 use Rattle.index_state.proofs.Outcomes.{closed_is_no_memory, err_has, own_refuses, status_refuses}
 use Rattle.definitions.proofs.Lists.{err_map}
 use Rattle.index_state.proofs.Searching.{live_committed, ok_both, query_refused, query_taken}
+use Rattle.index_state.proofs.Shadows.{not_ok, query_by}
 use Rattle.index_state.specs.Flags.{flagged_each}
 use Rattle.index_state.proofs.index_state.IndexState.count.Goals as goal
 
@@ -75,3 +77,30 @@ returns-clause-accepted g c = c.count.ensures.accepted
 
 pub returns-clause-memory : goal.returns-clause-memory
 returns-clause-memory g c = c.count.ensures.own
+
+-- ---- of any index
+
+pub returns-in_err-check_open-clause-refused : goal.returns-in_err-check_open-clause-refused
+returns-in_err-check_open-clause-refused g c k x s =
+    let call = calls.count_all (query_of c.args.query.now) in
+    let fault = c.in_err-check_open.field-0.0 in
+    err_has c.from_residual.result fault (λ f. f ≢ faults.OutOfMemory → calls.call_fault k x call ≡ Some f) c.from_residual.ensures.1
+    (λ other. status_refuses k x call fault (ap (λ status. calls.status_fault status true) s.status ∙ sym c.check_open.ensures.value ∙ ap result_err c.in_err-check_open.was))
+
+pub returns-in_err-check_open-clause-admitted : goal.returns-in_err-check_open-clause-admitted
+returns-in_err-check_open-clause-admitted g c k x s =
+    not_ok c.from_residual.result c.in_err-check_open.field-0.0 _ c.from_residual.ensures.1
+
+pub returns-clause-refused : goal.returns-clause-refused
+returns-clause-refused g c k x s =
+    let index = c.args.self.now in
+    let q = query_of c.args.query.now in
+    let ready = ap (λ status. calls.status_fault status true) s.status ∙ sym c.check_open.ensures.value ∙ ap result_err c.in_ok-check_open.was in
+    err_map c.count.result _ _ (λ fault told other. own_refuses k x (calls.count_all q) ready ∙ query_by g.A.Analyzer.analyze index k x s q (Some fault) (told other)) c.count.ensures.refused
+
+pub returns-clause-admitted : goal.returns-clause-admitted
+returns-clause-admitted g c k x s =
+    let index = c.args.self.now in
+    let q = query_of c.args.query.now in
+    let ready = ap (λ status. calls.status_fault status true) s.status ∙ sym c.check_open.ensures.value ∙ ap result_err c.in_ok-check_open.was in
+    IfOk-weaker c.count.result _ _ (λ count taken. own_refuses k x (calls.count_all q) ready ∙ query_by g.A.Analyzer.analyze index k x s q None taken) c.count.ensures.accepted

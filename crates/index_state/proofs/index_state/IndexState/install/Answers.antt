@@ -12,3 +12,7 @@ pub returns-clause-left : goal.returns-clause-left
 returns-clause-left g c k x p =
     let old = c.args.self.now in
     installed_stands g.A.Analyzer.analyze old _ (record { analyzer = refl; schema = refl; settings = refl }) k x c.args.prepared.alive.items p refl refl (c.new.ensures.holds old.schema (g.A.Analyzer.analyze old.analyzer) old.settings.block_size) c.new-2.ensures.items refl
+
+pub returns-clause-idle : goal.returns-clause-idle
+returns-clause-idle g c =
+    record { ready = refl; no_documents = c.new.ensures.none; no_deletions = c.new-2.ensures.items }

@@ -1,4 +1,4 @@
-use Rattle.std.proofs.Common.{ap, append_assoc, arith, drop, flat_map, length, map, sum_by, sym, take, ◌+◌, ◌++◌, ◌-◌, ◌∙◌, ◌≡◌, ◌≢◌}
+use Rattle.std.proofs.Common.{None, ap, append_assoc, arith, drop, flat_map, length, map, sum_by, sym, take, ◌+◌, ◌++◌, ◌-◌, ◌∙◌, ◌≡◌, ◌≢◌}
 use Rattle.std.proofs.lemmas.List.{length-map}
 use Rattle.std.specs.Prelude.{option_to_list}
 use Rattle.definitions.specs.declared.fault.Fault.TheVariants as faults
@@ -96,3 +96,7 @@ returns-clause-frame g c =
 pub returns-in_err-body-2-clause-limit : goal.returns-in_err-body-2-clause-limit
 returns-in_err-body-2-clause-limit g c k x s =
     err_has c.from_residual-in_err-body-2.result c.in_err-body-2.field-0.0 (λ f. f ≢ faults.OutOfMemory → (f ≡ faults.Limit) × MergePasses g.A.Analyzer.analyze c.args.self.now c.args.from c.args.to x.state.groups) c.from_residual-in_err-body-2.ensures.1 (c.in_err-body-2.ensures.limit k x s)
+
+pub returns-in_err-body-2-clause-faults : goal.returns-in_err-body-2-clause-faults
+returns-in_err-body-2-clause-faults g c =
+    err_has c.from_residual-in_err-body-2.result c.in_err-body-2.field-0.0 (λ f. f ≢ faults.OutOfMemory → f ≢ faults.Limit → f ≡ faults.Damaged None) c.from_residual-in_err-body-2.ensures.1 c.in_err-body-2.ensures.faults

@@ -17,3 +17,7 @@ returns-clause-stands g c groups h =
     let some = c.docs_per_segment-docs_per_segment.ensures.within.0 in
     let sized : 0 < c.args.settings.docs_per_segment = omega (arith, n, some) in
     first_stands g.A.Analyzer.analyze _ of.docs groups refl sized of.shown of.groups_are of.each (c.new-pending.ensures.holds c.args.schema (g.A.Analyzer.analyze c.args.analyzer) c.args.settings.block_size) c.new-deletions.ensures.items
+
+pub returns-clause-idle : goal.returns-clause-idle
+returns-clause-idle g c =
+    record { ready = refl; no_documents = c.new-pending.ensures.none; no_deletions = c.new-deletions.ensures.items }

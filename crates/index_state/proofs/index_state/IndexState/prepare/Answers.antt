@@ -1,4 +1,4 @@
-use Rattle.std.proofs.Common.{List, ap, arith, false, inl, inr, length, map, refl, subst, sym, ⊎_elim, ◌+◌, ◌++◌, ◌∙◌, ◌<◌, ◌^◌, ◌≡◌, ◌⊎◌, ℕ}
+use Rattle.std.proofs.Common.{List, Some, ap, arith, false, inl, inr, length, map, refl, subst, sym, ⊎_elim, ◌+◌, ◌++◌, ◌∙◌, ◌<◌, ◌^◌, ◌≡◌, ◌≢◌, ◌⊎◌, ℕ}
 use Rattle.std.proofs.Math.Logic.{∥∥₁_map}
 use Rattle.std.proofs.lemmas.Grind.{merely}
 use Rattle.std.proofs.lemmas.Result.{IfErr-at_err, IfErr-weaker, IfOk-at_ok}
@@ -18,8 +18,9 @@ use Rattle.index_state.proofs.BodyMade.{members_behind}
 use Rattle.index_state.proofs.CommitPrepared.{all_behind, last_passes, some_behind}
 use Rattle.index_state.proofs.Committing.{commit_body, half_left, next_rows, prepared_stands, refused_left}
 use Rattle.index_state.proofs.CutSegments.{cut_counted, cut_flagged, cut_members, cut_opened, cut_whole}
-use Rattle.index_state.proofs.Outcomes.{commit_taken, if_err, if_ok, ready_of, writer_is_not_ready}
-use Rattle.index_state.proofs.RecordsMade.{commit_says, groups_counted}
+use Rattle.index_state.proofs.Outcomes.{commit_taken, err_has, if_err, if_ok, ready_of, status_refuses, writer_is_not_ready}
+use Rattle.index_state.proofs.RecordsMade.{commit_records, commit_says, groups_counted}
+use Rattle.index_state.proofs.Shadows.{no_want, not_ok}
 use Rattle.index_state.proofs.Standings.{all_docs, all_opened_for, flagged_behind, groups_more, opened_each, sets_within, stands_stopped}
 use Rattle.index_state.specs.CommitRecords.{LastPasses, LeavesRows, SomeStandBehind, StandBehind, commit_frame_bytes}
 use Rattle.index_state.specs.Commits.{frame_in, sets_in}
@@ -271,3 +272,98 @@ returns-clause-members g c =
     let behind = c.commit_record.ensures.behind in
     let marked = cut_flagged old.segments.items cut old.alive.items c.len.result c.truncate.ensures.items counted old.flagged in
     members_behind cut behind.0 c.commit_record.new.segments.items old.alive.items behind.1 marked ∙ cut_members old.segments.items cut old.alive.items c.len.result c.truncate.ensures.items counted
+
+-- ---- of any index
+
+pub returns-in_err-check_writer-clause-refused : goal.returns-in_err-check_writer-clause-refused
+returns-in_err-check_writer-clause-refused g c k x s =
+    let fault = c.in_err-check_writer.field-0.0 in
+    let refuses = ap (λ status. calls.status_fault status false) s.status ∙ sym c.check_writer.ensures.value ∙ ap result_err c.in_err-check_writer.was in
+    err_has c.from_residual.result fault (λ f. f ≢ faults.OutOfMemory → f ≢ faults.Limit → calls.call_fault k x calls.commit_pending ≡ Some f) c.from_residual.ensures.1 (λ memory limit. status_refuses k x calls.commit_pending fault refuses)
+
+pub returns-in_err-check_writer-clause-admitted : goal.returns-in_err-check_writer-clause-admitted
+returns-in_err-check_writer-clause-admitted g c k x s =
+    not_ok c.from_residual.result c.in_err-check_writer.field-0.0 _ c.from_residual.ensures.1
+
+pub returns-in_err-check_writer-clause-same : goal.returns-in_err-check_writer-clause-same
+returns-in_err-check_writer-clause-same g c =
+    if_err c.from_residual.result _ (λ fault is memory limit. record { made = record { analyzer = refl; schema = refl; settings = refl }; members = refl; waiting = refl; status = refl })
+
+pub returns-in_err-check_writer-clause-half_way : goal.returns-in_err-check_writer-clause-half_way
+returns-in_err-check_writer-clause-half_way g c =
+    err_has c.from_residual.result c.in_err-check_writer.field-0.0 _ c.from_residual.ensures.1 (λ want. absurd (no_want c.in_err-check_writer.field-0.0 c.in_err-check_writer.ensures.fault want))
+
+pub returns-in_err-check_writer-clause-begun : goal.returns-in_err-check_writer-clause-begun
+returns-in_err-check_writer-clause-begun g c =
+    not_ok c.from_residual.result c.in_err-check_writer.field-0.0 _ c.from_residual.ensures.1
+
+pub returns-then-num_segments-len-clause-half_way : goal.returns-then-num_segments-len-clause-half_way
+returns-then-num_segments-len-clause-half_way g c want =
+    let old = c.args.self.now in
+    let cut = c.truncate.new.self.items in
+    let counted : c.len.result ≡ length old.alive.items = c.len.ensures ∙ old.alive.ok.0 in
+    record {
+      made = record { analyzer = refl; schema = refl; settings = refl };
+      members = cut_members old.segments.items cut old.alive.items c.len.result c.truncate.ensures.items counted;
+      stopped = refl;
+    }
+
+pub returns-clause-refused : goal.returns-clause-refused
+returns-clause-refused g c k x s =
+    if_err c.commit_record.result _ (λ fault is memory limit. absurd (⊎_elim (λ m. memory m) (λ l. limit l) (IfErr-at_err _ is c.commit_record.ensures.fault)))
+
+pub returns-clause-admitted : goal.returns-clause-admitted
+returns-clause-admitted g c k x s =
+    let none = ap (λ status. calls.status_fault status false) s.status ∙ sym c.check_writer.ensures.value ∙ ap result_err c.in_ok-check_writer.was in
+    if_ok c.commit_record.result _ (λ prepared is. commit_taken k x none)
+
+pub returns-clause-same : goal.returns-clause-same
+returns-clause-same g c =
+    if_err c.commit_record.result _ (λ fault is memory limit. absurd (⊎_elim (λ m. memory m) (λ l. limit l) (IfErr-at_err _ is c.commit_record.ensures.fault)))
+
+pub returns-clause-half_way : goal.returns-clause-half_way
+returns-clause-half_way g c =
+    let old = c.args.self.now in
+    let cut = c.truncate.new.self.items in
+    let counted : c.len.result ≡ length old.alive.items = c.len.ensures ∙ old.alive.ok.0 in
+    let behind = c.commit_record.ensures.behind in
+    let marked = cut_flagged old.segments.items cut old.alive.items c.len.result c.truncate.ensures.items counted old.flagged in
+    let kept = members_behind cut behind.0 c.commit_record.new.segments.items old.alive.items behind.1 marked ∙ cut_members old.segments.items cut old.alive.items c.len.result c.truncate.ensures.items counted in
+    if_err c.commit_record.result _ (λ fault is want. record { made = record { analyzer = refl; schema = refl; settings = refl }; members = kept; stopped = refl })
+
+pub returns-clause-begun : goal.returns-clause-begun
+returns-clause-begun g c =
+    let old = c.args.self.now in
+    let cut = c.truncate.new.self.items in
+    let counted : c.len.result ≡ length old.alive.items = c.len.ensures ∙ old.alive.ok.0 in
+    let behind = c.commit_record.ensures.behind in
+    let marked = cut_flagged old.segments.items cut old.alive.items c.len.result c.truncate.ensures.items counted old.flagged in
+    let kept = members_behind cut behind.0 c.commit_record.new.segments.items old.alive.items behind.1 marked ∙ cut_members old.segments.items cut old.alive.items c.len.result c.truncate.ensures.items counted in
+    if_ok c.commit_record.result _ (λ prepared is. record { made = record { analyzer = refl; schema = refl; settings = refl }; members = kept; stopped = refl })
+
+pub returns-clause-records : goal.returns-clause-records
+returns-clause-records g c =
+    let old = c.args.self.now in
+    let cut = c.truncate.new.self.items in
+    let counted : c.len.result ≡ length old.alive.items = c.len.ensures ∙ old.alive.ok.0 in
+    let segments = c.commit_record.new.segments.items in
+    let r = c.commit_record.result in
+    let alive = old.alive.items in
+    let behind = c.commit_record.ensures.behind in
+    let marked = cut_flagged old.segments.items cut alive c.len.result c.truncate.ensures.items counted old.flagged in
+    let within = flagged_within segments alive (flagged_behind cut behind.0 segments alive behind.1 marked) in
+    let kept = members_behind cut behind.0 segments alive behind.1 marked ∙ cut_members old.segments.items cut alive c.len.result c.truncate.ensures.items counted in
+    let opened = c.commit_record.ensures.opened (cut_opened old.segments.items cut alive c.len.result c.truncate.ensures.items counted old.schema old.opened) in
+    if_ok r _ (λ prepared is.
+    (let flagged = IfOk-at_ok (λ (q : Prepared). AreFlagged segments (sets_in q)) is c.commit_record.ensures.flagged in
+    let each = IfOk-at_ok (λ (q : Prepared). length (sets_in q) ≡ length segments) is c.commit_record.ensures.each in
+    let framed = IfOk-at_ok (λ (q : Prepared). frame_in q ≡ commit_frame_bytes c.deref.result.now segments (sets_in q)) is c.commit_record.ensures.frame in
+    let count = IfOk-at_ok (λ (q : Prepared). length segments ≡ length cut + num_segments_in c.replace.result) is c.commit_record.ensures.count in
+    let first = cut_counted old.segments.items cut alive c.len.result c.truncate.ensures.items counted old.flagged in
+    let most = c.if-num_segments-len.false in
+    let pending = c.num_segments.ensures in
+    let held = ap num_segments_in c.replace.ensures.value in
+    let len = c.len-2.ensures ∙ old.alive.ok.0 in
+    let room = old.few in
+    let small : length segments < 2 ^ 32 = omega (arith, count, first, most, pending, held, len, room) in
+    commit_records old.schema (frame_in prepared) segments alive (sets_in prepared) c.deref.result.now (members_of old) c.deref.ensures.value framed opened flagged within each small kept))

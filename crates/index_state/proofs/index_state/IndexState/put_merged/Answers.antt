@@ -1,4 +1,4 @@
-use Rattle.std.proofs.Common.{ap, arith, drop, length, refl, subst, sym, ◌-◌, ◌∙◌, ◌≡◌, ◌≢◌}
+use Rattle.std.proofs.Common.{None, ap, arith, drop, length, refl, subst, sym, ◌-◌, ◌∙◌, ◌≡◌, ◌≢◌}
 use Rattle.std.proofs.Math.Logic.{∥∥₁_map}
 use Rattle.definitions.specs.declared.fault.Fault.TheVariants as faults
 use Rattle.segment.specs.Limits.{DocumentsPass}
@@ -102,3 +102,6 @@ returns-in_err-frame-clause-limit g c k x s =
     subst (λ size. fault ≢ faults.OutOfMemory → (fault ≡ faults.Limit) × DocumentsPass index.schema cut size (joined_groups from to x.state.groups)) c.block_size.ensures
     (subst (λ ds. fault ≢ faults.OutOfMemory → (fault ≡ faults.Limit) × DocumentsPass index.schema cut c.block_size.result ds) r.2 (c.in_err-frame.ensures.limit cut r.0 r.1)) in
     err_has c.from_residual-in_err-frame.result fault (λ f. f ≢ faults.OutOfMemory → (f ≡ faults.Limit) × MergePasses g.A.Analyzer.analyze index from to x.state.groups) c.from_residual-in_err-frame.ensures.1 limit
+
+pub returns-in_err-frame-clause-faults : goal.returns-in_err-frame-clause-faults
+returns-in_err-frame-clause-faults g c = err_has c.from_residual-in_err-frame.result c.in_err-frame.field-0.0 (λ f. f ≢ faults.OutOfMemory → f ≢ faults.Limit → f ≡ faults.Damaged None) c.from_residual-in_err-frame.ensures.1 (λ memory limit. (c.in_err-frame.ensures.err memory limit).0)

@@ -1,4 +1,4 @@
-use Rattle.std.proofs.Common.{Bool, List, None, Some, ap, ap₂, inr, length, map, min, refl, subst, sym, true, ◌∙◌, ◌≡◌, ◌≢◌, ℕ}
+use Rattle.std.proofs.Common.{Bool, List, None, Some, ap, ap₂, inl, inr, length, map, min, refl, subst, sym, true, ◌∙◌, ◌≡◌, ◌≢◌, ◌⊎◌, ⊎_elim, ℕ}
 use Rattle.std.proofs.lemmas.Result.{IfOk-weaker}
 use Rattle.std.proofs.Math.Logic.{∥∥₁_map}
 use Rattle.std.specs.List.{AllByRecursion, AllZip, zip}
@@ -15,6 +15,7 @@ use Rattle.segment.specs.Opened.{IsOpened, StandsFor, bytes_of}
 use Rattle.index_state.proofs.Outcomes.{closed_is_no_memory, err_has, own_refuses, status_refuses}
 use Rattle.definitions.proofs.Lists.{err_map}
 use Rattle.index_state.proofs.Searching.{live_committed, members_rows, ok_both, query_refused, query_taken, segments_counted, segments_held}
+use Rattle.index_state.proofs.Shadows.{not_ok, query_by}
 use Rattle.index_state.proofs.Standings.{pending_kept, stands_with}
 use Rattle.index_state.specs.DecodedBlocks.{HasRows}
 use Rattle.index_state.specs.Flags.{AreFlagged, flagged_each}
@@ -135,3 +136,46 @@ returns-clause-memory g c = c.search_counted.ensures.own
 
 pub returns-clause-uncounted : goal.returns-clause-uncounted
 returns-clause-uncounted g c other = c.search_counted.ensures.uncounted other
+
+-- ---- of any index
+
+pub returns-in_err-check_open-clause-refused : goal.returns-in_err-check_open-clause-refused
+returns-in_err-check_open-clause-refused g c k x s =
+    let call = calls.search_best (query_of c.args.query.now) c.args.limit in
+    let fault = c.in_err-check_open.field-0.0 in
+    err_has c.from_residual.result fault (λ f. f ≢ faults.OutOfMemory → (f ≡ faults.Damaged None) ⊎ (calls.call_fault k x call ≡ Some f)) c.from_residual.ensures.1
+    (λ other. inr (status_refuses k x call fault (ap (λ status. calls.status_fault status true) s.status ∙ sym c.check_open.ensures.value ∙ ap result_err c.in_err-check_open.was)))
+
+pub returns-in_err-check_open-clause-admitted : goal.returns-in_err-check_open-clause-admitted
+returns-in_err-check_open-clause-admitted g c k x s =
+    not_ok c.from_residual.result c.in_err-check_open.field-0.0 _ c.from_residual.ensures.1
+
+pub returns-clause-refused : goal.returns-clause-refused
+returns-clause-refused g c k x s =
+    let index = c.args.self.now in
+    let q = query_of c.args.query.now in
+    let call = calls.search_best q c.args.limit in
+    let ready = ap (λ status. calls.status_fault status true) s.status ∙ sym c.check_open.ensures.value ∙ ap result_err c.in_ok-check_open.was in
+    err_map c.search_counted.result _ _
+    (λ fault told memory. ⊎_elim (λ m. absurd (memory m)) (λ other. ⊎_elim (λ damaged. inl damaged) (λ refuses. inr (own_refuses k x call ready ∙ query_by g.A.Analyzer.analyze index k x s q (Some fault) refuses)) other) told)
+    c.search_counted.ensures.faults
+
+pub returns-clause-admitted : goal.returns-clause-admitted
+returns-clause-admitted g c k x s =
+    let index = c.args.self.now in
+    let q = query_of c.args.query.now in
+    let call = calls.search_best q c.args.limit in
+    let ready = ap (λ status. calls.status_fault status true) s.status ∙ sym c.check_open.ensures.value ∙ ap result_err c.in_ok-check_open.was in
+    IfOk-weaker c.search_counted.result _ _ (λ found taken. own_refuses k x call ready ∙ query_by g.A.Analyzer.analyze index k x s q None taken) c.search_counted.ensures.accepted
+
+pub returns-clause-same : goal.returns-clause-same
+returns-clause-same g c =
+    let index = c.args.self.now in
+    let kept = c.search_counted.ensures.kept in
+    let held = segments_held index.segments c.deref_mut.result.now c.search_counted.new.segments c.deref_mut.ensures.len kept in
+    record {
+      made = record { analyzer = refl; schema = refl; settings = refl };
+      members = ap (λ bs. zip bs index.alive.items) (ap (map bytes_of) held ∙ kept.bytes ∙ ap (map bytes_of) c.deref_mut.ensures.value);
+      waiting = refl;
+      status = refl;
+    }
