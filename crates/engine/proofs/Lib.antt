@@ -6,3 +6,4 @@ pub mod Adding
 pub mod Readings
 pub mod Merges
 pub mod LeastCommit
+pub mod SegmentWrites

@@ -86,6 +86,15 @@ pub record LeavesEither {D : Type 0} (moment : D → ℕ) (left_since : D → �
   pub says_other : SayGroups schema settings analyze second one ⊎ SayGroups schema settings analyze second other
   pub images : LeavesOnly moment left_since old new (IsOneOf first second)
 
+-- a crash at any moment from the old device to the new one leaves a file of the one list of segments or of the other
+pub record LeavesEitherList {D : Type 0} (moment : D → ℕ) (left_since : D → ℕ → List ℕ → Type 0) (old new : D)
+    (schema : Schema) (settings : Settings) (one other : List Member) : Type 0 where
+  pub first : List (List ℕ)
+  pub second : List (List ℕ)
+  pub leaves_one : BodiesLeave schema settings first one
+  pub leaves_other : BodiesLeave schema settings second one ⊎ BodiesLeave schema settings second other
+  pub images : LeavesOnly moment left_since old new (IsOneOf first second)
+
 -- ---- what a crash leaves, by its lists
 
 -- files of the same bodies

@@ -17,9 +17,9 @@ use Rattle.index_file.specs.Frames.{frame_bytes}
 use Rattle.index_file.specs.Kept.{LeavesNow}
 use Rattle.index_state.specs.Limits.{TermsPass}
 use Rattle.index_state.specs.Pending.{open_docs}
-use Rattle.index_state.specs.Records.{RecordsCall}
+use Rattle.index_state.specs.Records.{RecordsCall, RecordsSegments}
 use Rattle.index_state.specs.Standing as collections
-use Rattle.engine.specs.Files.{LeavesEither, LeavesMembers, Rests}
+use Rattle.engine.specs.Files.{LeavesEither, LeavesEitherList, LeavesMembers, Rests}
 use Rattle.engine.specs.declared.index.Index.{Index}
 use Rattle.engine.specs.declared.refused.Refused.{Refused}
 use Rattle.segment_definitions.specs.SegmentBodies.{Member}
@@ -143,6 +143,58 @@ module _ {D A : Type 0} {d : devices.Ghosts D} {a : analyzers.Ghosts A} where
         → IndexStands analyze index (configuration_of (schema_of index) analyzer (settings_of index)) (reopened groups)
     pub file : IsTrue (d.honest device) → LeavesMembers (schema_of index) (settings_of index) (members_of index) (d.content device)
     pub rests : IsTrue (d.honest device) → IndexRests index
+
+  -- ---- of any index, whatever documents its segments are of
+
+  -- all calls are taken, and nothing waits
+  abbrev pub IsIdle : Index D A d a → Type 0
+  IsIdle index = collections.IsIdle index.index_state
+
+  -- made alike, the same segments are committed, the same waits, and the same may still be done
+  abbrev pub IsSame : Index D A d a → Index D A d a → Type 0
+  IsSame old new = collections.IsSame old.index_state new.index_state
+
+  -- made alike, the same segments are committed, and no more may be done than in this status, in which what waits is lost
+  abbrev pub IsStopped : calls.Status → Index D A d a → Index D A d a → Type 0
+  IsStopped status old new = collections.IsStopped status old.index_state new.index_state
+
+  -- the same waits, and the same may still be done
+  abbrev pub KeepsWaiting : Index D A d a → Index D A d a → Type 0
+  KeepsWaiting old new =
+      (collections.waiting_of new.index_state ≡ collections.waiting_of old.index_state) × (state_of new ≡ state_of old)
+
+  -- the document waits behind the documents that waited
+  abbrev pub WaitsMore : (A → Analyzer) → Document → Index D A d a → Index D A d a → Type 0
+  WaitsMore analyze doc old new = collections.WaitsMore analyze doc old.index_state new.index_state
+
+  -- a deletion by the term waits behind what waited
+  abbrev pub DeletesMore : List ℕ → Index D A d a → Index D A d a → Type 0
+  DeletesMore term old new = collections.DeletesMore term old.index_state new.index_state
+
+  -- what its calls are refused by, the definitions say of any state with its status and as many groups as segments are
+  -- committed, whatever these groups are
+  abbrev pub IsShadow : (A → Analyzer) → Index D A d a → calls.Configuration → calls.Index → Type 0
+  IsShadow analyze index c x = collections.IsShadow analyze index.index_state c x
+
+  -- the segments that are committed, or those that a body of the call makes of them
+  abbrev pub AreNext : calls.Call → Index D A d a → List Member → Type 0
+  AreNext call index after =
+      (after ≡ members_of index)
+      ⊎ ((body : List ℕ) × RecordsSegments (schema_of index) call (members_of index) after body)
+
+  -- a file with nothing after its closed gate has one record more: that of the call, which makes the segments that are
+  -- committed then
+  abbrev pub AppendsSegments : calls.Call → Index D A d a → Index D A d a → Type 0
+  AppendsSegments call old new =
+      (bodies : List (List ℕ)) → IsAtRest (d.content (device_of old)) (gate_of old) bodies
+      → (body : List ℕ) × RecordsSegments (schema_of old) call (members_of old) (members_of new) body
+      × IsAtRest (d.content (device_of new)) (gate_of new) (bodies ++ body ∷ [])
+
+  -- a crash at any moment from the old index to the new one leaves a file of the segments before or of these
+  abbrev pub CrashLeavesSegments : Index D A d a → Index D A d a → List Member → Type 0
+  CrashLeavesSegments old new after =
+      LeavesEitherList d.moment d.left_since (device_of old) (device_of new) (schema_of old) (settings_of old)
+      (members_of old) after
 
   -- ---- what a call hands back that makes or opens an index, or refuses to
 

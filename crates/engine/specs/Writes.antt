@@ -7,10 +7,11 @@ use Rattle.definitions.specs.Calls as calls
 use Rattle.definitions.specs.Moments.{LeavesOnly}
 use Rattle.definitions.specs.declared.fault.Fault.{Fault}
 use Rattle.definitions.specs.declared.fault.Fault.TheVariants as faults
-use Rattle.index_state.specs.Records.{RecordsCall}
+use Rattle.index_state.specs.Records.{RecordsCall, RecordsSegments}
 use Rattle.engine.specs.Files.{LeavesOneOf}
-use Rattle.engine.specs.Indexes.{AppendsRecord, CrashLeavesEither, ImagesLeave, IndexRests, IndexStands, analyzer_of, device_of, members_of, schema_of, settings_of}
+use Rattle.engine.specs.Indexes.{AppendsRecord, AppendsSegments, AreNext, CrashLeavesEither, CrashLeavesSegments, ImagesLeave, IndexRests, IndexStands, analyzer_of, device_of, members_of, schema_of, settings_of}
 use Rattle.engine.specs.declared.index.Index.{Index}
+use Rattle.segment_definitions.specs.SegmentBodies.{Member}
 
 module _ {D A : Type 0} {d : devices.Ghosts D} {a : analyzers.Ghosts A} where
   -- of an index that stood for x, after a call that writes a record
@@ -39,3 +40,18 @@ module _ {D A : Type 0} {d : devices.Ghosts D} {a : analyzers.Ghosts A} where
     -- and after an Ok those after it
     pub installed : IsTrue (d.honest (device_of old)) → IndexRests old → ImagesLeave analyze old x.state.groups
         → OnOk result (ImagesLeave analyze new (calls.after c x.state call).groups)
+
+  -- of any index, whatever documents its segments are of, after a call that writes a record
+  pub record WritesSegments (call : calls.Call) (old new : Index D A d a) (result : Result ⊤ Fault) : Type 0 where
+    -- the segments that are committed are those that the body of its record makes
+    pub recorded : OnOk result
+        ((body : List ℕ) × RecordsSegments (schema_of old) call (members_of old) (members_of new) body)
+    -- on an honest device its file has this record more
+    pub appended : IsTrue (d.honest (device_of old)) → OnOk result (AppendsSegments call old new)
+    -- a file that rests rests again
+    pub rests : IsTrue (d.honest (device_of old)) → ∥ IndexRests old ∥₁ → OnOk result (∥ IndexRests new ∥₁)
+    -- a crash at any moment of the call leaves a file of the segments before it, or of those that its record makes, which
+    -- after an Ok are committed
+    pub any_moment : IsTrue (d.honest (device_of old)) → ∥ IndexRests old ∥₁
+        → (after : List Member) × AreNext call old after × OnOk result (after ≡ members_of new)
+        × ∥ CrashLeavesSegments old new after ∥₁

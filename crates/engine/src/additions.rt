@@ -1,13 +1,13 @@
 //! Additions of documents to an index.
 
-ghost use Rattle.std.specs.Prelude.{[], ◌++◌, ◌<◌, ◌∷◌, ◌≡◌, ◌≢◌, IfErr, IfOk, None, Ok, OnErr, OnOk, Some};
+ghost use Rattle.std.specs.Prelude.{[], ◌++◌, ◌<◌, ◌∷◌, ◌≡◌, ◌≢◌, ◌⊎◌, IfErr, IfOk, None, Ok, OnErr, OnOk, Some};
 ghost use Rattle.definitions.specs.Calls as calls;
 ghost use Rattle.definitions.specs.Reading.{read_data, read_json};
 ghost use Rattle.definitions.specs.Values.{Document};
 ghost use Rattle.definitions.specs.declared.fault.Fault.TheVariants as faults;
 ghost use Rattle.document_indexer.specs.Indexed.{IsWithinLimits};
 ghost use Rattle.index_state.specs.Pending.{open_docs};
-ghost use Rattle.engine.specs.Indexes.{AddPasses, HasLongSlot, IndexStands, KeepsFile, KeepsMaking, state_of};
+ghost use Rattle.engine.specs.Indexes.{AddPasses, HasLongSlot, IndexStands, IsSame, IsShadow, IsStopped, KeepsFile, KeepsMaking, WaitsMore, schema_of, state_of};
 ghost use Rattle.serde_json.specs.Read.{read};
 ghost use Rattle.serde_json.specs.View.{view};
 
@@ -41,6 +41,19 @@ impl<D: Device + Drop, A: Analyzer + Drop> Index<D, A> {
             → ¬ HasLongSlot self.old doc.now → state_of self.new ≡ calls.writer_closed) }
         ensures made { KeepsMaking self.old self.new }
         ensures file { KeepsFile self.old self.new }
+
+        // Of any index, whatever documents its segments are of.
+        ensures refused { (c : calls.Configuration) (x : calls.Index) → IsShadow A.analyze self.old c x
+            → IfErr result (λ fault. fault ≢ faults.OutOfMemory → fault ≢ faults.Limit
+            → calls.call_fault c x (calls.add_document doc.now) ≡ Some fault) }
+        ensures admitted { (c : calls.Configuration) (x : calls.Index) → IsShadow A.analyze self.old c x
+            → OnOk result (calls.call_fault c x (calls.add_document doc.now) ≡ None) }
+        ensures same { IfErr result (λ fault. fault ≢ faults.OutOfMemory → fault ≢ faults.Limit
+            → IsSame self.old self.new) }
+        ensures stopped { OnErr result (IsSame self.old self.new ⊎ IsStopped calls.writer_closed self.old self.new) }
+        ensures ready { OnOk result (state_of self.new ≡ calls.ready) }
+        ensures same_beside { HasLongSlot self.old doc.now → OnErr result (IsSame self.old self.new) }
+        ensures waits { OnOk result (WaitsMore A.analyze doc.now self.old self.new) }
     {
         self.index_state.add_document(doc)
     }
@@ -73,6 +86,21 @@ impl<D: Device + Drop, A: Analyzer + Drop> Index<D, A> {
             → ¬ HasLongSlot self.old doc → state_of self.new ≡ calls.writer_closed) }
         ensures made { KeepsMaking self.old self.new }
         ensures file { KeepsFile self.old self.new }
+
+        // Of any index, whatever documents its segments are of.
+        ensures refused { (c : calls.Configuration) (x : calls.Index) → IsShadow A.analyze self.old c x
+            → IfErr result (λ fault. fault ≢ faults.OutOfMemory → fault ≢ faults.Limit
+            → calls.call_fault c x (calls.add_json text.now) ≡ Some fault) }
+        ensures admitted { (c : calls.Configuration) (x : calls.Index) → IsShadow A.analyze self.old c x
+            → OnOk result (calls.call_fault c x (calls.add_json text.now) ≡ None) }
+        ensures same { IfErr result (λ fault. fault ≢ faults.OutOfMemory → fault ≢ faults.Limit
+            → IsSame self.old self.new) }
+        ensures stopped { OnErr result (IsSame self.old self.new ⊎ IsStopped calls.writer_closed self.old self.new) }
+        ensures ready { OnOk result (state_of self.new ≡ calls.ready) }
+        ensures same_beside { (doc : Document) → read_json (schema_of self.old) text.now ≡ Ok doc → HasLongSlot self.old doc
+            → OnErr result (IsSame self.old self.new) }
+        ensures waits { (doc : Document) → read_json (schema_of self.old) text.now ≡ Ok doc
+            → OnOk result (WaitsMore A.analyze doc self.old self.new) }
     {
         self.index_state.check_writer()?;
         let json = read_json(self.alloc(), text)?;
@@ -107,6 +135,21 @@ impl<D: Device + Drop, A: Analyzer + Drop> Index<D, A> {
             → ¬ HasLongSlot self.old doc → state_of self.new ≡ calls.writer_closed) }
         ensures made { KeepsMaking self.old self.new }
         ensures file { KeepsFile self.old self.new }
+
+        // Of any index, whatever documents its segments are of.
+        ensures refused { (c : calls.Configuration) (x : calls.Index) → IsShadow A.analyze self.old c x
+            → IfErr result (λ fault. fault ≢ faults.OutOfMemory → fault ≢ faults.Limit
+            → calls.call_fault c x (calls.add_value (view value.now)) ≡ Some fault) }
+        ensures admitted { (c : calls.Configuration) (x : calls.Index) → IsShadow A.analyze self.old c x
+            → OnOk result (calls.call_fault c x (calls.add_value (view value.now)) ≡ None) }
+        ensures same { IfErr result (λ fault. fault ≢ faults.OutOfMemory → fault ≢ faults.Limit
+            → IsSame self.old self.new) }
+        ensures stopped { OnErr result (IsSame self.old self.new ⊎ IsStopped calls.writer_closed self.old self.new) }
+        ensures ready { OnOk result (state_of self.new ≡ calls.ready) }
+        ensures same_beside { (doc : Document) → read_data (schema_of self.old) (view value.now) ≡ Ok doc → HasLongSlot self.old doc
+            → OnErr result (IsSame self.old self.new) }
+        ensures waits { (doc : Document) → read_data (schema_of self.old) (view value.now) ≡ Ok doc
+            → OnOk result (WaitsMore A.analyze doc self.old self.new) }
     {
         self.index_state.check_writer()?;
         let doc = CompactDoc::from_json_object(self.alloc(), self.schema(), value)?;

@@ -1,13 +1,13 @@
 //! The commit of an index.
 
-ghost use Rattle.std.specs.Prelude.{◌<◌, ◌^◌, ◌≡◌, ◌≢◌, IfErr, IsErrOf, Ok, OnOk};
+ghost use Rattle.std.specs.Prelude.{◌<◌, ◌^◌, ◌≡◌, ◌≢◌, ◌⊎◌, IfErr, IsErrOf, None, Ok, OnOk, Some};
 ghost use Rattle.definitions.specs.Calls as calls;
 ghost use Rattle.definitions.specs.Disk.{HasCause};
 ghost use Rattle.definitions.specs.declared.fault.Fault.TheVariants as faults;
 ghost use Rattle.index_file.specs.Outcomes.{CountsNoOther};
 ghost use Rattle.index_state.specs.Standing.{status_of};
-ghost use Rattle.engine.specs.Indexes.{CommitPasses, IndexStands, KeepsFile, KeepsMaking, device_of, gate_of};
-ghost use Rattle.engine.specs.Writes.{Writes};
+ghost use Rattle.engine.specs.Indexes.{CommitPasses, IndexStands, IsIdle, IsSame, IsShadow, IsStopped, KeepsFile, KeepsMaking, device_of, gate_of};
+ghost use Rattle.engine.specs.Writes.{Writes, WritesSegments};
 
 use crate::index::Index;
 use common::{Analyzer, Device};
@@ -31,6 +31,20 @@ impl<D: Device + Drop, A: Analyzer + Drop> Index<D, A> {
             → IsErrOf result faults.Limit → CommitPasses c x.state self.old }
         ensures short { OnOk result (gate_of self.new < 2 ^ 63) }
         ensures kept { IfErr result (λ fault. fault ≢ faults.Device → KeepsFile self.old self.new) }
+
+        // Of any index, whatever documents its segments are of.
+        ensures segments { WritesSegments calls.commit_pending self.old self.new result }
+        ensures refused { (c : calls.Configuration) (x : calls.Index) → IsShadow A.analyze self.old c x
+            → IfErr result (λ fault. fault ≢ faults.OutOfMemory → fault ≢ faults.Device → fault ≢ faults.Limit
+            → calls.call_fault c x calls.commit_pending ≡ Some fault) }
+        ensures admitted { (c : calls.Configuration) (x : calls.Index) → IsShadow A.analyze self.old c x
+            → OnOk result (calls.call_fault c x calls.commit_pending ≡ None) }
+        ensures same { IfErr result (λ fault. fault ≢ faults.OutOfMemory → fault ≢ faults.Device → fault ≢ faults.Limit
+            → IsSame self.old self.new) }
+        ensures half_way { IfErr result (λ fault. (fault ≡ faults.OutOfMemory) ⊎ (fault ≡ faults.Limit)
+            → IsStopped calls.writer_closed self.old self.new) }
+        ensures failed { IfErr result (λ fault. fault ≡ faults.Device → IsStopped calls.closed self.old self.new) }
+        ensures idle { OnOk result (IsIdle self.new) }
     {
         let prepared = self.index_state.prepare()?;
         match self.file.append(prepared.frame()) {

@@ -1,9 +1,9 @@
 //! Deletions by term.
 
-ghost use Rattle.std.specs.Prelude.{◌<◌, ◌≡◌, ◌≢◌, IfErr, Some};
+ghost use Rattle.std.specs.Prelude.{◌<◌, ◌≡◌, ◌≢◌, IfErr, None, OnErr, OnOk, Some};
 ghost use Rattle.definitions.specs.Calls as calls;
 ghost use Rattle.definitions.specs.declared.fault.Fault.TheVariants as faults;
-ghost use Rattle.engine.specs.Indexes.{IndexStands, KeepsFile, KeepsMaking};
+ghost use Rattle.engine.specs.Indexes.{DeletesMore, IndexStands, IsSame, IsShadow, KeepsFile, KeepsMaking, state_of};
 
 use crate::index::Index;
 use common::{Analyzer, Device};
@@ -22,6 +22,16 @@ impl<D: Device + Drop, A: Analyzer + Drop> Index<D, A> {
             → calls.call_fault c x (calls.delete_term term.now) ≡ Some fault) }
         ensures made { KeepsMaking self.old self.new }
         ensures file { KeepsFile self.old self.new }
+
+        // Of any index, whatever documents its segments are of.
+        ensures refused { (c : calls.Configuration) (x : calls.Index) → IsShadow A.analyze self.old c x
+            → IfErr result (λ fault. fault ≢ faults.OutOfMemory
+            → calls.call_fault c x (calls.delete_term term.now) ≡ Some fault) }
+        ensures admitted { (c : calls.Configuration) (x : calls.Index) → IsShadow A.analyze self.old c x
+            → OnOk result (calls.call_fault c x (calls.delete_term term.now) ≡ None) }
+        ensures same { OnErr result (IsSame self.old self.new) }
+        ensures ready { OnOk result (state_of self.new ≡ calls.ready) }
+        ensures waits { OnOk result (DeletesMore term.now self.old self.new) }
     {
         self.index_state.delete_term(term)
     }

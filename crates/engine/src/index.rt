@@ -1,6 +1,6 @@
 //! The index: its segments, and the file that keeps each commit.
 
-ghost use Rattle.std.specs.Prelude.{[], ◌≡◌, ◌≢◌, ◌⊎◌, IfErr, IfOk, IsTrue, List, None, OnOk, Some, false, true, ℕ};
+ghost use Rattle.std.specs.Prelude.{[], ◌≡◌, ◌≢◌, ◌⊎◌, IfErr, IfOk, IsTrue, List, None, OnOk, Some, false, length, true, ℕ};
 ghost use Rattle.std.specs.Result.{result_err};
 ghost use Rattle.definitions.specs.Analyzers.{Analyzer as Cut};
 ghost use Rattle.definitions.specs.Calls as calls;
@@ -16,9 +16,9 @@ ghost use Rattle.definitions.specs.declared.fault.Fault.TheVariants as faults;
 ghost use Rattle.layouts.specs.RecordFiles.{IsFresh, IsOneOf};
 ghost use Rattle.index_file.specs.Kept.{IsKept, LeavesNow};
 ghost use Rattle.index_file.specs.Outcomes.{CountsNoOther};
-ghost use Rattle.index_state.specs.Standing.{status_of};
+ghost use Rattle.index_state.specs.Standing.{living_in, status_of};
 ghost use Rattle.engine.specs.Files.{IsCreateRefusal, IsOldOrSame, IsOpenFault, IsOpenRefusal, LeavesNone, LeavesOneOf, is_first};
-ghost use Rattle.engine.specs.Indexes.{ImagesLeave, IndexRests, IndexStands, IsOpened, IsReopened, alloc_of, analyzer_after, analyzer_of, device_after, device_of, ending_of, members_of, schema_of, settings_of};
+ghost use Rattle.engine.specs.Indexes.{ImagesLeave, IndexRests, IndexStands, IsIdle, IsOpened, IsReopened, alloc_of, analyzer_after, analyzer_of, device_after, device_of, ending_of, members_of, schema_of, settings_of, state_of};
 
 use crate::open_file::{open_file, read_file};
 use crate::refused::Refused;
@@ -53,6 +53,7 @@ impl<D: Device + Drop, A: Analyzer + Drop> Index<D, A> {
             IndexStands A.analyze index (configuration_of schema (A.analyze analyzer) settings) fresh_index) }
         ensures of { IfOk result (λ index. (schema_of index ≡ schema) × (settings_of index ≡ settings)
             × (members_of index ≡ [])) }
+        ensures idle { IfOk result IsIdle }
         ensures made { OnOk result (making_fault (A.knows_name analyzer) schema settings ≡ None) }
         ensures exact { IfErr result (λ r. (r.fault ≡ faults.OutOfMemory)
             ⊎ (making_fault (A.knows_name analyzer) schema settings ≡ Some r.fault)
@@ -114,6 +115,7 @@ impl<D: Device + Drop, A: Analyzer + Drop> Index<D, A> {
     /// `Device`, `NoIndex`, `Damaged` with the offset of a gate, `UnknownTokenizer`.
     pub fn open(alloc: Global, device: D, analyzer: A) -> Result<Index<D, A>, Refused<D, A>>
         ensures opened { IfOk result (IsOpened A.analyze (A.analyze analyzer) device) }
+        ensures idle { IfOk result IsIdle }
         ensures known { IfOk result (λ index. are_analyzed (A.knows_name analyzer) (schema_of index) ≡ true) }
         ensures refused { IsTrue (D.honest device) → IfErr result (λ r.
             (r.fault ≡ faults.Device) ⊎ (r.fault ≡ faults.OutOfMemory)
@@ -180,8 +182,9 @@ impl<D: Device + Drop, A: Analyzer + Drop> Index<D, A> {
 
     /// Returns what the index may still do.
     pub fn state(&self) -> Status
-        ensures { (c : calls.Configuration) (x : calls.Index) → IndexStands A.analyze self.now c x
+        ensures stands { (c : calls.Configuration) (x : calls.Index) → IndexStands A.analyze self.now c x
             → x.status ≡ status_of result }
+        ensures status { status_of result ≡ state_of self.now }
     {
         self.index_state.state()
     }
@@ -225,16 +228,18 @@ impl<D: Device + Drop, A: Analyzer + Drop> Index<D, A> {
 
     /// Returns the number of committed segments, those without living documents too.
     pub fn num_segments(&self) -> usize
-        ensures { (c : calls.Configuration) (x : calls.Index) → IndexStands A.analyze self.now c x
+        ensures stands { (c : calls.Configuration) (x : calls.Index) → IndexStands A.analyze self.now c x
             → result ≡ states.num_segments x.state }
+        ensures members { result ≡ length (members_of self.now) }
     {
         self.index_state.num_segments()
     }
 
     /// Returns the number of documents that are committed and alive.
     pub fn num_docs(&self) -> u64
-        ensures { (c : calls.Configuration) (x : calls.Index) → IndexStands A.analyze self.now c x
+        ensures stands { (c : calls.Configuration) (x : calls.Index) → IndexStands A.analyze self.now c x
             → result ≡ states.num_docs x.state }
+        ensures living { result ≡ living_in (members_of self.now) }
     {
         self.index_state.num_docs()
     }

@@ -1,13 +1,13 @@
 //! Merges of an index.
 
-ghost use Rattle.std.specs.Prelude.{◌<◌, ◌^◌, ◌≡◌, ◌≢◌, IfErr, IsErrOf, OnOk};
+ghost use Rattle.std.specs.Prelude.{◌<◌, ◌^◌, ◌≡◌, ◌≢◌, ◌⊎◌, IfErr, IsErrOf, None, OnOk, Some};
 ghost use Rattle.definitions.specs.Calls as calls;
 ghost use Rattle.definitions.specs.Disk.{HasCause};
 ghost use Rattle.definitions.specs.declared.fault.Fault.TheVariants as faults;
 ghost use Rattle.index_file.specs.Outcomes.{CountsNoOther};
-ghost use Rattle.engine.specs.Indexes.{IndexStands, KeepsFile, KeepsMaking, device_of, gate_of};
+ghost use Rattle.engine.specs.Indexes.{IndexStands, IsSame, IsShadow, IsStopped, KeepsFile, KeepsMaking, KeepsWaiting, device_of, gate_of};
 ghost use Rattle.engine.specs.Merges.{MergePasses};
-ghost use Rattle.engine.specs.Writes.{Writes};
+ghost use Rattle.engine.specs.Writes.{Writes, WritesSegments};
 
 use crate::index::Index;
 use common::{Analyzer, Device};
@@ -33,6 +33,18 @@ impl<D: Device + Drop, A: Analyzer + Drop> Index<D, A> {
             → MergePasses A.analyze c x.state range.start range.end self.old }
         ensures short { OnOk result (gate_of self.new < 2 ^ 63) }
         ensures kept { IfErr result (λ fault. fault ≢ faults.Device → KeepsFile self.old self.new) }
+
+        // Of any index, whatever documents its segments are of.
+        ensures segments { WritesSegments (calls.merge_range range.start range.end) self.old self.new result }
+        ensures refused { (c : calls.Configuration) (x : calls.Index) → IsShadow A.analyze self.old c x
+            → IfErr result (λ fault. fault ≢ faults.OutOfMemory → fault ≢ faults.Device → fault ≢ faults.Limit
+            → (fault ≡ faults.Damaged None)
+            ⊎ (calls.call_fault c x (calls.merge_range range.start range.end) ≡ Some fault)) }
+        ensures admitted { (c : calls.Configuration) (x : calls.Index) → IsShadow A.analyze self.old c x
+            → OnOk result (calls.call_fault c x (calls.merge_range range.start range.end) ≡ None) }
+        ensures same { IfErr result (λ fault. fault ≢ faults.Device → IsSame self.old self.new) }
+        ensures failed { IfErr result (λ fault. fault ≡ faults.Device → IsStopped calls.closed self.old self.new) }
+        ensures waits { OnOk result (KeepsWaiting self.old self.new) }
     {
         let prepared = self.index_state.prepare_merge(range.start, range.end)?;
         match self.file.append(prepared.frame()) {

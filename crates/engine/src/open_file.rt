@@ -12,7 +12,7 @@ ghost use Rattle.layouts.specs.RecordFiles.{EndsAt, IsAtRest};
 ghost use Rattle.index_file.specs.Kept.{IsKept, IsOldOrOf};
 ghost use Rattle.index_file.specs.Outcomes.{CountsNoOther};
 ghost use Rattle.engine.specs.Files.{IsOpenFault, IsOpenRefusal};
-ghost use Rattle.engine.specs.Indexes.{IndexStands, analyzer_after, device_after, device_of, ending_of, gate_of, members_of, schema_of, settings_of};
+ghost use Rattle.engine.specs.Indexes.{IndexStands, IsIdle, analyzer_after, device_after, device_of, ending_of, gate_of, members_of, schema_of, settings_of};
 ghost use Rattle.index_file.specs.Lists.{IsListed, LeavesList, member_of};
 ghost use Rattle.segment_definitions.specs.SegmentFiles.{IsGroup};
 
@@ -77,6 +77,7 @@ pub(crate) fn open_file<D: Device + Drop, A: Analyzer + Drop>(
     ensures made { IfOk result (λ index.
         (schema_of index ≡ file.schema) × (settings_of index ≡ file.settings)
         × (members_of index ≡ map member_of file.members.items)) }
+    ensures idle { IfOk result IsIdle }
     ensures refused { IfErr result (λ r. (r.fault ≡ faults.Device) ⊎ (r.fault ≡ faults.OutOfMemory)) }
 
     ensures honest { D.honest (device_after result) ≡ D.honest device }

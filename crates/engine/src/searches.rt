@@ -1,6 +1,6 @@
 //! Searches of an index.
 
-ghost use Rattle.std.specs.Prelude.{◌≡◌, ◌≢◌, ◌⊎◌, IfErr, IfOk, List, None, Some, map, ℕ};
+ghost use Rattle.std.specs.Prelude.{◌≡◌, ◌≢◌, ◌⊎◌, IfErr, IfOk, List, None, OnOk, Some, map, ℕ};
 ghost use Rattle.definitions.specs.Calls as calls;
 ghost use Rattle.definitions.specs.Query.{term};
 ghost use Rattle.definitions.specs.Refusing.{refusal};
@@ -10,7 +10,7 @@ ghost use Rattle.definitions.specs.Settings.{similarity_of};
 ghost use Rattle.definitions.specs.State.{committed};
 ghost use Rattle.definitions.specs.declared.fault.Fault.TheVariants as faults;
 ghost use Rattle.query_trees.specs.Queries.{query_of};
-ghost use Rattle.engine.specs.Indexes.{IndexStands, KeepsFile, KeepsMaking, members_of, schema_of, settings_of};
+ghost use Rattle.engine.specs.Indexes.{IndexStands, IsSame, IsShadow, KeepsFile, KeepsMaking, members_of, schema_of, settings_of};
 ghost use Rattle.index_state.specs.DecodedBlocks.{AreDecoded};
 ghost use Rattle.index_state.specs.Hits.{IsTermQuery, hit_of, scored};
 
@@ -42,6 +42,14 @@ impl<D: Device + Drop, A: Analyzer + Drop> Index<D, A> {
             → IndexStands A.analyze self.new c x }
         ensures made { KeepsMaking self.old self.new }
         ensures file { KeepsFile self.old self.new }
+
+        // Of any index, whatever documents its segments are of.
+        ensures refused { (c : calls.Configuration) (x : calls.Index) → IsShadow A.analyze self.old c x
+            → IfErr result (λ fault. fault ≢ faults.OutOfMemory → (fault ≡ faults.Damaged None)
+            ⊎ (calls.call_fault c x (calls.search_best (query_of query.now) k) ≡ Some fault)) }
+        ensures admitted { (c : calls.Configuration) (x : calls.Index) → IsShadow A.analyze self.old c x
+            → OnOk result (calls.call_fault c x (calls.search_best (query_of query.now) k) ≡ None) }
+        ensures same { IsSame self.old self.new }
     {
         let (hits, _decoded_blocks) = self.search_counted(query, k)?;
         Ok(hits)
@@ -74,6 +82,14 @@ impl<D: Device + Drop, A: Analyzer + Drop> Index<D, A> {
             → IndexStands A.analyze self.new c x }
         ensures made { KeepsMaking self.old self.new }
         ensures file { KeepsFile self.old self.new }
+
+        // Of any index, whatever documents its segments are of.
+        ensures refused { (c : calls.Configuration) (x : calls.Index) → IsShadow A.analyze self.old c x
+            → IfErr result (λ fault. fault ≢ faults.OutOfMemory → (fault ≡ faults.Damaged None)
+            ⊎ (calls.call_fault c x (calls.search_best (query_of query.now) k) ≡ Some fault)) }
+        ensures admitted { (c : calls.Configuration) (x : calls.Index) → IsShadow A.analyze self.old c x
+            → OnOk result (calls.call_fault c x (calls.search_best (query_of query.now) k) ≡ None) }
+        ensures same { IsSame self.old self.new }
     {
         self.index_state.search_counted(query, k)
     }
@@ -93,6 +109,13 @@ impl<D: Device + Drop, A: Analyzer + Drop> Index<D, A> {
         ensures own { (c : calls.Configuration) (x : calls.Index) → IndexStands A.analyze self.now c x
             → IfErr result (λ fault. fault ≡ faults.OutOfMemory
             → calls.call_fault c x (calls.count_all (query_of query.now)) ≡ None) }
+
+        // Of any index, whatever documents its segments are of.
+        ensures refused { (c : calls.Configuration) (x : calls.Index) → IsShadow A.analyze self.now c x
+            → IfErr result (λ fault. fault ≢ faults.OutOfMemory
+            → calls.call_fault c x (calls.count_all (query_of query.now)) ≡ Some fault) }
+        ensures admitted { (c : calls.Configuration) (x : calls.Index) → IsShadow A.analyze self.now c x
+            → OnOk result (calls.call_fault c x (calls.count_all (query_of query.now)) ≡ None) }
     {
         self.index_state.count(query)
     }

@@ -1,4 +1,5 @@
-use Rattle.std.proofs.Common.{[], Err, None, Ok, Some, ap, false, sym, subst, ◌++◌, ◌∙◌, ◌∷◌, ◌≡◌, ◌≢◌}
+use Rattle.std.proofs.Common.{[], Err, None, Ok, Some, ap, false, inl, refl, sym, subst, ◌++◌, ◌∙◌, ◌∷◌, ◌≡◌, ◌≢◌}
+use Rattle.std.proofs.lemmas.Result.{IfOk-weaker}
 use Rattle.std.specs.Result.{result_err}
 use Rattle.definitions.specs.Calls as calls
 use Rattle.definitions.specs.Reading.{read_data, read_json}
@@ -6,6 +7,7 @@ use Rattle.definitions.specs.Values.{Document}
 use Rattle.definitions.specs.declared.fault.Fault.TheVariants as faults
 use Rattle.index_state.proofs.Outcomes.{err_has, err_no_limit, err_same, own_refuses, status_refuses}
 use Rattle.definitions.proofs.Lists.{err_map}
+use Rattle.index_state.proofs.Shadows.{not_ok, on_err}
 use Rattle.index_state.specs.Standing.{Stands}
 use Rattle.engine.specs.Indexes.{AddPasses, HasLongSlot}
 use Rattle.engine.proofs.Adding.{adds_json, adds_value, any_refusal, as_other, early_no_limit, no_limit, no_text_is, refused_no_ok, same_refusal, text_is, unread_left}
@@ -150,3 +152,101 @@ returns-clause-closed g c k x doc s is =
     let d = view c.in_ok-json.json in
     let read : read_json k.schema c.args.text.now ≡ read_data k.schema d = ap (λ o. elim o [ None ↦ Err faults.NotAnObject | Some v ↦ read_data k.schema v ]) c.in_ok-json.ensures.ok in
     c.add_value.ensures.closed k x doc s (sym read ∙ is)
+
+-- ---- of any index
+
+pub returns-in_err-check_writer-clause-refused : goal.returns-in_err-check_writer-clause-refused
+returns-in_err-check_writer-clause-refused g c k x s =
+    let call = calls.add_json c.args.text.now in
+    let fault = c.in_err-check_writer.field-0.0 in
+    let refuses = ap (λ status. calls.status_fault status false) s.status ∙ sym c.check_writer.ensures.value ∙ ap result_err c.in_err-check_writer.was in
+    err_has c.from_residual.result fault (λ f. f ≢ faults.OutOfMemory → f ≢ faults.Limit → calls.call_fault k x call ≡ Some f) c.from_residual.ensures.1 (λ memory limit. status_refuses k x call fault refuses)
+
+pub returns-in_err-check_writer-clause-admitted : goal.returns-in_err-check_writer-clause-admitted
+returns-in_err-check_writer-clause-admitted g c k x s =
+    not_ok c.from_residual.result c.in_err-check_writer.field-0.0 _ c.from_residual.ensures.1
+
+pub returns-in_err-check_writer-clause-same : goal.returns-in_err-check_writer-clause-same
+returns-in_err-check_writer-clause-same g c =
+    err_has c.from_residual.result c.in_err-check_writer.field-0.0 _ c.from_residual.ensures.1 (λ memory limit. record { made = record { analyzer = refl; schema = refl; settings = refl }; members = refl; waiting = refl; status = refl })
+
+pub returns-in_err-check_writer-clause-stopped : goal.returns-in_err-check_writer-clause-stopped
+returns-in_err-check_writer-clause-stopped g c =
+    on_err c.from_residual.result _ (inl (record { made = record { analyzer = refl; schema = refl; settings = refl }; members = refl; waiting = refl; status = refl }))
+
+pub returns-in_err-check_writer-clause-ready : goal.returns-in_err-check_writer-clause-ready
+returns-in_err-check_writer-clause-ready g c =
+    not_ok c.from_residual.result c.in_err-check_writer.field-0.0 _ c.from_residual.ensures.1
+
+pub returns-in_err-check_writer-clause-same_beside : goal.returns-in_err-check_writer-clause-same_beside
+returns-in_err-check_writer-clause-same_beside g c doc is long =
+    on_err c.from_residual.result _ (record { made = record { analyzer = refl; schema = refl; settings = refl }; members = refl; waiting = refl; status = refl })
+
+pub returns-in_err-check_writer-clause-waits : goal.returns-in_err-check_writer-clause-waits
+returns-in_err-check_writer-clause-waits g c doc is =
+    not_ok c.from_residual.result c.in_err-check_writer.field-0.0 _ c.from_residual.ensures.1
+
+pub returns-in_err-json-clause-refused : goal.returns-in_err-json-clause-refused
+returns-in_err-json-clause-refused g c k x s =
+    let text = c.args.text.now in
+    let call = calls.add_json text in
+    let fault = c.in_err-json.field-0.0 in
+    let none = ap (λ status. calls.status_fault status false) s.status ∙ sym c.check_writer.ensures.value ∙ ap result_err c.in_ok-check_writer.was in
+    let own : fault ≢ faults.OutOfMemory → calls.own_fault k x.state call ≡ Some fault =
+    λ other. ap result_err (no_text_is k.schema text (c.in_err-json.ensures.err other).1) ∙ ap Some (sym (c.in_err-json.ensures.err other).0) in
+    err_has c.from_residual-in_err-json.result fault (λ f. f ≢ faults.OutOfMemory → f ≢ faults.Limit → calls.call_fault k x call ≡ Some f) c.from_residual-in_err-json.ensures.1 (λ memory limit. own_refuses k x call none ∙ own memory)
+
+pub returns-in_err-json-clause-admitted : goal.returns-in_err-json-clause-admitted
+returns-in_err-json-clause-admitted g c k x s =
+    not_ok c.from_residual-in_err-json.result c.in_err-json.field-0.0 _ c.from_residual-in_err-json.ensures.1
+
+pub returns-in_err-json-clause-same : goal.returns-in_err-json-clause-same
+returns-in_err-json-clause-same g c =
+    err_has c.from_residual-in_err-json.result c.in_err-json.field-0.0 _ c.from_residual-in_err-json.ensures.1 (λ memory limit. record { made = record { analyzer = refl; schema = refl; settings = refl }; members = refl; waiting = refl; status = refl })
+
+pub returns-in_err-json-clause-stopped : goal.returns-in_err-json-clause-stopped
+returns-in_err-json-clause-stopped g c =
+    on_err c.from_residual-in_err-json.result _ (inl (record { made = record { analyzer = refl; schema = refl; settings = refl }; members = refl; waiting = refl; status = refl }))
+
+pub returns-in_err-json-clause-ready : goal.returns-in_err-json-clause-ready
+returns-in_err-json-clause-ready g c =
+    not_ok c.from_residual-in_err-json.result c.in_err-json.field-0.0 _ c.from_residual-in_err-json.ensures.1
+
+pub returns-in_err-json-clause-same_beside : goal.returns-in_err-json-clause-same_beside
+returns-in_err-json-clause-same_beside g c doc is long =
+    on_err c.from_residual-in_err-json.result _ (record { made = record { analyzer = refl; schema = refl; settings = refl }; members = refl; waiting = refl; status = refl })
+
+pub returns-in_err-json-clause-waits : goal.returns-in_err-json-clause-waits
+returns-in_err-json-clause-waits g c doc is =
+    not_ok c.from_residual-in_err-json.result c.in_err-json.field-0.0 _ c.from_residual-in_err-json.ensures.1
+
+pub returns-clause-refused : goal.returns-clause-refused
+returns-clause-refused g c k x s =
+    let text = c.args.text.now in
+    let d = view c.in_ok-json.json in
+    let is = text_is k.schema text d c.in_ok-json.ensures.ok in
+    let same = same_refusal k x (calls.add_value d) (calls.add_json text) (adds_value d) (adds_json text) (ap result_err is) (ap (λ r. calls.after_document r x.state) is) in
+    err_map c.add_value.result (λ f. f ≢ faults.OutOfMemory → f ≢ faults.Limit → calls.call_fault k x (calls.add_value d) ≡ Some f) (λ f. f ≢ faults.OutOfMemory → f ≢ faults.Limit → calls.call_fault k x (calls.add_json text) ≡ Some f)
+    (λ f refused memory limit. same ∙ refused memory limit) (c.add_value.ensures.refused k x s)
+
+pub returns-clause-admitted : goal.returns-clause-admitted
+returns-clause-admitted g c k x s =
+    let text = c.args.text.now in
+    let d = view c.in_ok-json.json in
+    let is = text_is k.schema text d c.in_ok-json.ensures.ok in
+    let same = same_refusal k x (calls.add_value d) (calls.add_json text) (adds_value d) (adds_json text) (ap result_err is) (ap (λ r. calls.after_document r x.state) is) in
+    IfOk-weaker c.add_value.result _ _ (λ done taken. same ∙ taken) (c.add_value.ensures.admitted k x s)
+
+pub returns-clause-same_beside : goal.returns-clause-same_beside
+returns-clause-same_beside g c doc is long =
+    let schema = c.args.self.now.index_state.schema in
+    let d = view c.in_ok-json.json in
+    let read : read_json schema c.args.text.now ≡ read_data schema d = ap (λ o. elim o [ None ↦ Err faults.NotAnObject | Some v ↦ read_data schema v ]) c.in_ok-json.ensures.ok in
+    c.add_value.ensures.same_beside doc (sym read ∙ is) long
+
+pub returns-clause-waits : goal.returns-clause-waits
+returns-clause-waits g c doc is =
+    let schema = c.args.self.now.index_state.schema in
+    let d = view c.in_ok-json.json in
+    let read : read_json schema c.args.text.now ≡ read_data schema d = ap (λ o. elim o [ None ↦ Err faults.NotAnObject | Some v ↦ read_data schema v ]) c.in_ok-json.ensures.ok in
+    c.add_value.ensures.waits doc (sym read ∙ is)

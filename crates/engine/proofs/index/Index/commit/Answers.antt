@@ -1,4 +1,4 @@
-use Rattle.std.proofs.Common.{[], Err, List, Ok, Some, ap, false, inl, inr, length, refl, subst, sym, ◌++◌, ◌+◌, ◌<◌, ◌^◌, ◌∙◌, ◌∷◌, ◌≡◌, ◌≢◌, ℕ}
+use Rattle.std.proofs.Common.{[], Err, List, Ok, Some, ap, false, inl, inr, length, refl, subst, sym, ◌++◌, ◌+◌, ◌<◌, ◌^◌, ◌∙◌, ◌∷◌, ◌≡◌, ◌≢◌, ⊎_elim, ℕ}
 use Rattle.definitions.proofs.CallRuns.{started}
 use Rattle.definitions.specs.Calls as calls
 use Rattle.definitions.specs.declared.fault.Fault.{Fault}
@@ -6,12 +6,16 @@ use Rattle.definitions.specs.declared.fault.Fault.TheVariants as faults
 use Rattle.index_file.proofs.Faults.{status_left}
 use Rattle.index_file.proofs.CallByCall.{resting}
 use Rattle.index_state.proofs.Outcomes.{commit_taken, err_has, err_same}
-use Rattle.index_state.specs.Commits.{members_with}
+use Rattle.index_state.proofs.Shadows.{no_device, not_ok, stopped_then}
+use Rattle.index_state.proofs.Standings.{alike_then}
+use Rattle.index_state.specs.Commits.{frame_in, members_with}
+use Rattle.index_state.specs.Records.{RecordsSegments}
 use Rattle.index_state.specs.Standing.{Stands, members_of, status_of}
 use Rattle.engine.proofs.Commits.{commit_written, records_same, stands_groups}
 use Rattle.engine.proofs.FileSayings.{leave_next, leave_same, rests_say}
 use Rattle.engine.proofs.ListsLeft.{alike_twice, appends_lists, installs_lists}
 use Rattle.engine.proofs.Merges.{limit_told}
+use Rattle.engine.proofs.SegmentWrites.{crash_next, crash_same, has_body, rests_next}
 use Rattle.engine.specs.Files.{BodiesLeave, LeavesOneOf}
 use Rattle.engine.specs.Indexes.{analyzer_of, device_of, gate_of, schema_of, settings_of}
 use Rattle.engine.proofs.index.Index.commit.Goals as goal
@@ -184,3 +188,104 @@ returns-in-Err-clause-limit g c k x s limit =
     let p = c.in_ok-prepared.prepared in
     let w = commit_written g.A.Analyzer.analyze old mid p k x c.prepare.ensures.made s (c.in_ok-prepared.ensures.prepared k x s) c.in_ok-prepared.ensures.flagged (c.in_ok-prepared.ensures.body k x s) in
     inr (inr (members_with mid p, w.body, w.records, subst (λ (bytes : List ℕ). 2 ^ 63 < gate_of c.args.self.now + 1 + length bytes) (c.frame.ensures ∙ w.framed) (c.append.ensures.limit.0 (c.in-Err.is ∙ limit))))
+
+-- ---- of any index
+
+pub returns-in_err-prepared-clause-segments : goal.returns-in_err-prepared-clause-segments
+returns-in_err-prepared-clause-segments g c =
+    record {
+      recorded = not_ok c.from_residual.result c.in_err-prepared.field-0.0 _ c.from_residual.ensures.1;
+      appended = λ h. not_ok c.from_residual.result c.in_err-prepared.field-0.0 _ c.from_residual.ensures.1;
+      rests = λ h rests. not_ok c.from_residual.result c.in_err-prepared.field-0.0 _ c.from_residual.ensures.1;
+      any_moment = λ h rests. (members_of c.args.self.now.index_state, inl refl, not_ok c.from_residual.result c.in_err-prepared.field-0.0 _ c.from_residual.ensures.1, crash_same c.args.self.now (λ image left. g.met.D.Device.only_now (device_of c.args.self.now) image h left) rests);
+    }
+
+pub returns-in_err-prepared-clause-refused : goal.returns-in_err-prepared-clause-refused
+returns-in_err-prepared-clause-refused g c k x s =
+    err_has c.from_residual.result c.in_err-prepared.field-0.0 (λ f. f ≢ faults.OutOfMemory → f ≢ faults.Device → f ≢ faults.Limit → calls.call_fault k x calls.commit_pending ≡ Some f) c.from_residual.ensures.1 (λ memory device limit. c.in_err-prepared.ensures.refused k x s memory limit)
+
+pub returns-in_err-prepared-clause-admitted : goal.returns-in_err-prepared-clause-admitted
+returns-in_err-prepared-clause-admitted g c k x s =
+    not_ok c.from_residual.result c.in_err-prepared.field-0.0 _ c.from_residual.ensures.1
+
+pub returns-in_err-prepared-clause-same : goal.returns-in_err-prepared-clause-same
+returns-in_err-prepared-clause-same g c =
+    err_has c.from_residual.result c.in_err-prepared.field-0.0 _ c.from_residual.ensures.1 (λ memory device limit. c.in_err-prepared.ensures.same memory limit)
+
+pub returns-in_err-prepared-clause-half_way : goal.returns-in_err-prepared-clause-half_way
+returns-in_err-prepared-clause-half_way g c =
+    err_has c.from_residual.result c.in_err-prepared.field-0.0 _ c.from_residual.ensures.1 c.in_err-prepared.ensures.half_way
+
+pub returns-in_err-prepared-clause-failed : goal.returns-in_err-prepared-clause-failed
+returns-in_err-prepared-clause-failed g c =
+    err_has c.from_residual.result c.in_err-prepared.field-0.0 _ c.from_residual.ensures.1 (λ device. absurd (no_device c.in_err-prepared.field-0.0 c.in_err-prepared.ensures.fault device))
+
+pub returns-in_err-prepared-clause-idle : goal.returns-in_err-prepared-clause-idle
+returns-in_err-prepared-clause-idle g c =
+    not_ok c.from_residual.result c.in_err-prepared.field-0.0 _ c.from_residual.ensures.1
+
+pub returns-in-Ok-clause-segments : goal.returns-in-Ok-clause-segments
+returns-in-Ok-clause-segments g c =
+    let old = c.args.self.now in
+    let mid = c.prepare.new.self in
+    let p = c.in_ok-prepared.prepared in
+    let after = members_with mid p in
+    let w = has_body (schema_of old) calls.commit_pending (members_of old.index_state) after (frame_in p) c.in_ok-prepared.ensures.records in
+    let same : members_of c.install.new.self ≡ after = c.install.ensures.members in
+    let records = subst (λ ms. RecordsSegments (schema_of old) calls.commit_pending (members_of old.index_state) ms w.body) (sym same) (w.makes, w.over) in
+    record {
+      recorded = (w.body, records);
+      appended = λ h bodies rest. (w.body, records, c.in-Ok.ensures.appended bodies w.body h (c.frame.ensures ∙ w.framed) rest);
+      rests = λ h rests. rests_next old calls.commit_pending after (frame_in p) w (record { index_state = c.install.new.self; file = c.append.new.self }) (alike_then old.index_state mid c.install.new.self c.prepare.ensures.made c.install.ensures.made) same (c.in-Ok.ensures.unsynced h)
+          (λ bodies rest. c.in-Ok.ensures.appended bodies w.body h (c.frame.ensures ∙ w.framed) rest) rests;
+      any_moment = λ h rests. (after, inr (w.body, (w.makes, w.over)), sym same, crash_next old calls.commit_pending after (frame_in p) w c.append.new.self.device (λ bodies rest synced. c.append.ensures.any_moment bodies w.body h (c.frame.ensures ∙ w.framed) rest synced) rests);
+    }
+
+pub returns-in-Ok-clause-admitted : goal.returns-in-Ok-clause-admitted
+returns-in-Ok-clause-admitted g c k x s =
+    c.in_ok-prepared.ensures.admitted k x s
+
+pub returns-in-Ok-clause-idle : goal.returns-in-Ok-clause-idle
+returns-in-Ok-clause-idle g c =
+    c.install.ensures.idle
+
+pub returns-in-Err-clause-segments : goal.returns-in-Err-clause-segments
+returns-in-Err-clause-segments g c =
+    let old = c.args.self.now in
+    let mid = c.prepare.new.self in
+    let p = c.in_ok-prepared.prepared in
+    let after = members_with mid p in
+    let w = has_body (schema_of old) calls.commit_pending (members_of old.index_state) after (frame_in p) c.in_ok-prepared.ensures.records in
+    record {
+      recorded = tt;
+      appended = λ h. tt;
+      rests = λ h rests. tt;
+      any_moment = λ h rests. (after, inr (w.body, (w.makes, w.over)), tt, crash_next old calls.commit_pending after (frame_in p) w c.append.new.self.device (λ bodies rest synced. c.append.ensures.any_moment bodies w.body h (c.frame.ensures ∙ w.framed) rest synced) rests);
+    }
+
+pub returns-in-Err-clause-refused : goal.returns-in-Err-clause-refused
+returns-in-Err-clause-refused g c k x s memory device limit =
+    elim c.in-Err.ensures.fault [
+      | inl failed ↦ absurd (device failed)
+      | inr met ↦ absurd (limit met)
+    ]
+
+pub returns-in-Err-clause-same : goal.returns-in-Err-clause-same
+returns-in-Err-clause-same g c memory device limit =
+    elim c.in-Err.ensures.fault [
+      | inl failed ↦ absurd (device failed)
+      | inr met ↦ absurd (limit met)
+    ]
+
+pub returns-in-Err-clause-half_way : goal.returns-in-Err-clause-half_way
+returns-in-Err-clause-half_way g c want =
+    let old = c.args.self.now.index_state in
+    let left : (f : Fault) → c.in-Err.fault ≡ f → status_of c.status_after.result ≡ status_left f = λ f is. c.status_after.ensures ∙ ap status_left is in
+    let closed : status_of c.status_after.result ≡ calls.writer_closed = ⊎_elim (λ memory. left faults.OutOfMemory memory) (λ limit. left faults.Limit limit) want in
+    stopped_then calls.writer_closed (status_of c.status_after.result) calls.writer_closed old c.prepare.new.self c.stop.new.self c.in_ok-prepared.ensures.begun c.stop.ensures.stopped closed
+
+pub returns-in-Err-clause-failed : goal.returns-in-Err-clause-failed
+returns-in-Err-clause-failed g c device =
+    let old = c.args.self.now.index_state in
+    let closed : status_of c.status_after.result ≡ calls.closed = c.status_after.ensures ∙ ap status_left device in
+    stopped_then calls.writer_closed (status_of c.status_after.result) calls.closed old c.prepare.new.self c.stop.new.self c.in_ok-prepared.ensures.begun c.stop.ensures.stopped closed

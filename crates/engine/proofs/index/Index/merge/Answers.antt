@@ -1,15 +1,18 @@
-use Rattle.std.proofs.Common.{[], Err, List, Some, ap, inl, inr, length, refl, subst, sym, ◌++◌, ◌+◌, ◌<◌, ◌^◌, ◌∙◌, ◌∷◌, ◌≡◌, ◌≢◌, ℕ}
+use Rattle.std.proofs.Common.{[], Err, List, None, Some, ap, inl, inr, length, refl, subst, sym, ◌++◌, ◌+◌, ◌<◌, ◌^◌, ◌∙◌, ◌∷◌, ◌≡◌, ◌≢◌, ◌⊎◌, ℕ}
 use Rattle.definitions.proofs.CallRuns.{started}
 use Rattle.definitions.specs.Calls as calls
 use Rattle.definitions.specs.declared.fault.Fault.TheVariants as faults
 use Rattle.index_file.proofs.CallByCall.{resting}
 use Rattle.index_state.proofs.Outcomes.{err_has, err_same}
-use Rattle.index_state.specs.Merges.{members_merged}
+use Rattle.index_state.proofs.Shadows.{not_ok}
+use Rattle.index_state.specs.Merges.{members_merged, merge_frame_in}
+use Rattle.index_state.specs.Records.{RecordsSegments}
 use Rattle.index_state.specs.Standing.{members_of}
 use Rattle.engine.proofs.Commits.{records_same, stands_groups}
 use Rattle.engine.proofs.FileSayings.{leave_next, leave_same, rests_say}
 use Rattle.engine.proofs.ListsLeft.{appends_lists, installs_lists}
 use Rattle.engine.proofs.Merges.{limit_told, merge_written}
+use Rattle.engine.proofs.SegmentWrites.{crash_next, crash_same, has_body, rests_next}
 use Rattle.engine.specs.Files.{BodiesLeave, LeavesOneOf}
 use Rattle.engine.specs.Indexes.{analyzer_of, device_of, gate_of, schema_of, settings_of}
 use Rattle.engine.proofs.index.Index.merge.Goals as goal
@@ -193,4 +196,99 @@ returns g c =
           inr (members_merged old p, w.body, w.records, subst (λ (bytes : List ℕ). 2 ^ 63 < gate_of c.args.self.now + 1 + length bytes) (c.frame.ensures ∙ w.framed) (c.append.ensures.limit.0 (c.in-Err.is ∙ met))));
       short = tt;
       kept = λ other. (unchanged.0, unchanged.1, refl);
+      segments = record {
+        recorded = tt;
+        appended = λ h. tt;
+        rests = λ h rests. tt;
+        any_moment = λ h rests. (
+            let after = members_merged old p in
+            let w = has_body old.schema call (members_of old) after (merge_frame_in p) c.in_ok-prepared.ensures.records in
+            (after, inr (w.body, (w.makes, w.over)), tt, crash_next c.args.self.now call after (merge_frame_in p) w c.append.new.self.device (λ bodies rest synced. c.append.ensures.any_moment bodies w.body h (c.frame.ensures ∙ w.framed) rest synced) rests));
+      };
+      refused = λ k x s memory failed other. absurd (other limit);
+      admitted = λ k x s. tt;
+      same = λ other. record { made = record { analyzer = refl; schema = refl; settings = refl }; members = refl; waiting = refl; status = refl };
+      failed = λ device. absurd (c.in_default.not-Device device);
+      waits = tt;
     }
+
+-- ---- of any index
+
+pub returns-in_err-prepared-clause-segments : goal.returns-in_err-prepared-clause-segments
+returns-in_err-prepared-clause-segments g c =
+    record {
+      recorded = not_ok c.from_residual.result c.in_err-prepared.field-0.0 _ c.from_residual.ensures.1;
+      appended = λ h. not_ok c.from_residual.result c.in_err-prepared.field-0.0 _ c.from_residual.ensures.1;
+      rests = λ h rests. not_ok c.from_residual.result c.in_err-prepared.field-0.0 _ c.from_residual.ensures.1;
+      any_moment = λ h rests. (members_of c.args.self.now.index_state, inl refl, not_ok c.from_residual.result c.in_err-prepared.field-0.0 _ c.from_residual.ensures.1, crash_same c.args.self.now (λ image left. g.met.D.Device.only_now (device_of c.args.self.now) image h left) rests);
+    }
+
+pub returns-in_err-prepared-clause-refused : goal.returns-in_err-prepared-clause-refused
+returns-in_err-prepared-clause-refused g c k x s =
+    err_has c.from_residual.result c.in_err-prepared.field-0.0 (λ f. f ≢ faults.OutOfMemory → f ≢ faults.Device → f ≢ faults.Limit → (f ≡ faults.Damaged None) ⊎ (calls.call_fault k x (calls.merge_range c.args.range.start c.args.range.end) ≡ Some f)) c.from_residual.ensures.1 (λ memory device limit. c.in_err-prepared.ensures.refused k x s memory limit)
+
+pub returns-in_err-prepared-clause-admitted : goal.returns-in_err-prepared-clause-admitted
+returns-in_err-prepared-clause-admitted g c k x s =
+    not_ok c.from_residual.result c.in_err-prepared.field-0.0 _ c.from_residual.ensures.1
+
+pub returns-in_err-prepared-clause-same : goal.returns-in_err-prepared-clause-same
+returns-in_err-prepared-clause-same g c =
+    err_has c.from_residual.result c.in_err-prepared.field-0.0 _ c.from_residual.ensures.1 (λ device. record { made = record { analyzer = refl; schema = refl; settings = refl }; members = refl; waiting = refl; status = refl })
+
+pub returns-in_err-prepared-clause-failed : goal.returns-in_err-prepared-clause-failed
+returns-in_err-prepared-clause-failed g c =
+    err_has c.from_residual.result c.in_err-prepared.field-0.0 _ c.from_residual.ensures.1 (λ device. absurd (c.in_err-prepared.ensures.fault device))
+
+pub returns-in_err-prepared-clause-waits : goal.returns-in_err-prepared-clause-waits
+returns-in_err-prepared-clause-waits g c =
+    not_ok c.from_residual.result c.in_err-prepared.field-0.0 _ c.from_residual.ensures.1
+
+pub returns-in-Ok-clause-segments : goal.returns-in-Ok-clause-segments
+returns-in-Ok-clause-segments g c =
+    let old = c.args.self.now in
+    let call = calls.merge_range c.args.range.start c.args.range.end in
+    let p = c.in_ok-prepared.prepared in
+    let after = members_merged old.index_state p in
+    let w = has_body (schema_of old) call (members_of old.index_state) after (merge_frame_in p) c.in_ok-prepared.ensures.records in
+    let same : members_of c.install_merge.new.self ≡ after = c.install_merge.ensures.members in
+    let records = subst (λ ms. RecordsSegments (schema_of old) call (members_of old.index_state) ms w.body) (sym same) (w.makes, w.over) in
+    record {
+      recorded = (w.body, records);
+      appended = λ h bodies rest. (w.body, records, c.in-Ok.ensures.appended bodies w.body h (c.frame.ensures ∙ w.framed) rest);
+      rests = λ h rests. rests_next old call after (merge_frame_in p) w (record { index_state = c.install_merge.new.self; file = c.append.new.self }) c.install_merge.ensures.made same (c.in-Ok.ensures.unsynced h) (λ bodies rest. c.in-Ok.ensures.appended bodies w.body h (c.frame.ensures ∙ w.framed) rest) rests;
+      any_moment = λ h rests. (after, inr (w.body, (w.makes, w.over)), sym same, crash_next old call after (merge_frame_in p) w c.append.new.self.device (λ bodies rest synced. c.append.ensures.any_moment bodies w.body h (c.frame.ensures ∙ w.framed) rest synced) rests);
+    }
+
+pub returns-in-Ok-clause-admitted : goal.returns-in-Ok-clause-admitted
+returns-in-Ok-clause-admitted g c k x s =
+    c.in_ok-prepared.ensures.admitted k x s
+
+pub returns-in-Ok-clause-waits : goal.returns-in-Ok-clause-waits
+returns-in-Ok-clause-waits g c =
+    (c.install_merge.ensures.waiting, c.install_merge.ensures.status)
+
+pub returns-in-Device-clause-segments : goal.returns-in-Device-clause-segments
+returns-in-Device-clause-segments g c =
+    let old = c.args.self.now in
+    let call = calls.merge_range c.args.range.start c.args.range.end in
+    let p = c.in_ok-prepared.prepared in
+    let after = members_merged old.index_state p in
+    let w = has_body (schema_of old) call (members_of old.index_state) after (merge_frame_in p) c.in_ok-prepared.ensures.records in
+    record {
+      recorded = tt;
+      appended = λ h. tt;
+      rests = λ h rests. tt;
+      any_moment = λ h rests. (after, inr (w.body, (w.makes, w.over)), tt, crash_next old call after (merge_frame_in p) w c.append.new.self.device (λ bodies rest synced. c.append.ensures.any_moment bodies w.body h (c.frame.ensures ∙ w.framed) rest synced) rests);
+    }
+
+pub returns-in-Device-clause-refused : goal.returns-in-Device-clause-refused
+returns-in-Device-clause-refused g c k x s memory device limit =
+    absurd (device c.in-Device.is)
+
+pub returns-in-Device-clause-same : goal.returns-in-Device-clause-same
+returns-in-Device-clause-same g c device =
+    absurd (device c.in-Device.is)
+
+pub returns-in-Device-clause-failed : goal.returns-in-Device-clause-failed
+returns-in-Device-clause-failed g c device =
+    c.stop.ensures.stopped

@@ -10,6 +10,6 @@ returns-in-Standing g c a (steps.index_of fields numbers x) h =
     let index = subst (λ t. IsStage g.A.Analyzer.knows_name g.A.Analyzer.analyze a t (steps.index_of fields numbers x)) c.in-Standing.is h in
     let k = steps.configuration_of fields a.analyze numbers in
     c.takes_calls.ensures ∙ ap steps.takes_calls (sym (⊎_elim
-    (λ stands. c.state.ensures k x stands)
-    (λ closed. closed.0 ∙ sym closed.2 ∙ c.state.ensures k closed.1 closed.3)
+    (λ stands. c.state.ensures.stands k x stands)
+    (λ closed. closed.0 ∙ sym closed.2 ∙ c.state.ensures.stands k closed.1 closed.3)
     index.stands))
