@@ -1,0 +1,4 @@
+-- Lemmas behind merged replies.
+pub mod MergedLists
+pub mod MergedReplies
+pub mod RankedHits
