@@ -1,0 +1,43 @@
+//! Why a text isn't read, and what to write instead.
+
+use index::Schema;
+use query_text::{Reason, Refusal};
+use std::io;
+
+/// Tells on standard error at which byte a text isn't read, why, and what to write instead.
+pub(crate) fn explain(rt: &HostRuntime, schema: &Schema, refusal: Refusal) -> io::Result<()> {
+    eprintln!(rt; "ask: at byte {}: {}", refusal.place, cure(refusal.reason))?;
+    if matches!(refusal.reason, Reason::UnknownField) {
+        for (_field, entry) in schema.fields() {
+            eprintln!(rt; "     {}", entry.name())?;
+        }
+    }
+    Ok(())
+}
+
+/// Returns why a text isn't read, and what to write instead.
+fn cure(reason: Reason) -> &'static str {
+    match reason {
+        Reason::OutOfMemory => "out of memory",
+        Reason::UnclosedQuote => "a quotation mark isn't closed; write one behind the phrase",
+        Reason::UnclosedGroup => "a parenthesis isn't closed; write `)` behind what it groups",
+        Reason::StrayClose => "`)` closes nothing; leave it out, or write it in a phrase",
+        Reason::Nothing => "nothing is asked there; write a word",
+        Reason::NothingMarked =>
+            "nothing stands right behind a mark or a field; write a word there",
+        Reason::FieldOfGroup => "a field is named for one word or phrase; name it before each",
+        Reason::NoSpace => "write a space beside the phrase or the parenthesis",
+        Reason::BadNumber =>
+            "a number below 4294967296 stands behind `^` and `~`; else write a phrase",
+        Reason::TooDeep => "parentheses are nested deeper than 16",
+        Reason::LonePrefix => "a prefix is the last word of a phrase: write \"north sea*\"",
+        Reason::SlopOfPrefix => "a phrase that ends in a prefix takes no `~`",
+        Reason::NotUtf8 => "the text isn't UTF-8",
+        Reason::UnknownField =>
+            "no field has that name; write a text with `:` as a phrase. There are",
+        Reason::NoTextField => "no text field is indexed; name a field",
+        Reason::NoWord => "no word stands there; write letters or digits",
+        Reason::BadValue => "that is no value of the field's type",
+        Reason::UnaskedType => "fields of JSON objects and addresses aren't asked by texts",
+    }
+}

@@ -1,0 +1,66 @@
+//! Why the program finds nothing out.
+
+use definitions::Fault;
+use std::alloc::AllocError;
+use std::fmt::{self, Display, Formatter};
+use std::io;
+
+/// Why the program finds nothing out.
+#[derive(Debug, Drop)]
+pub(crate) enum Failure {
+    /// There is no such file, or it can't be read.
+    Unreadable,
+    /// The index refuses the search, or isn't opened.
+    Refused(Fault),
+    /// The text isn't read as a query, which is told.
+    NotRead,
+    /// What was found can't be written.
+    Unwritten,
+}
+
+impl Failure {
+    /// Returns the status with which the program ends: 2 where the text is at fault.
+    pub(crate) fn status(&self) -> u8 {
+        match self {
+            Failure::NotRead => 2,
+            Failure::Unreadable | Failure::Refused(_) | Failure::Unwritten => 1,
+        }
+    }
+}
+
+impl From<Fault> for Failure {
+    fn from(fault: Fault) -> Failure {
+        Failure::Refused(fault)
+    }
+}
+
+impl From<AllocError> for Failure {
+    fn from(_refused: AllocError) -> Failure {
+        Failure::Refused(Fault::OutOfMemory)
+    }
+}
+
+impl From<io::Error> for Failure {
+    fn from(_error: io::Error) -> Failure {
+        Failure::Unwritten
+    }
+}
+
+impl Display for Failure {
+    fn fmt<W: fmt::Write>(&self, f: &mut Formatter<W>) -> fmt::Result {
+        match self {
+            Failure::Unreadable => f.write_str("there is no such file, or it can't be read"),
+            Failure::Refused(Fault::Device) => {
+                f.write_str("the file can't be opened, or another program has it")
+            }
+            Failure::Refused(Fault::NoIndex) => f.write_str("the file is no index"),
+            Failure::Refused(Fault::NoPositions) => {
+                f.write_str("a field records no positions, which a phrase needs; name another")
+            }
+            Failure::Refused(Fault::NotIndexed) => f.write_str("that field isn't indexed"),
+            Failure::Refused(fault) => fault.fmt(f),
+            Failure::NotRead => f.write_str("the text isn't read"),
+            Failure::Unwritten => f.write_str("what was found can't be written"),
+        }
+    }
+}

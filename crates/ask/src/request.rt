@@ -1,0 +1,82 @@
+//! What the program is asked for.
+
+ghost use Rattle.std.specs.Prelude.{◌<◌, IfSome, length};
+
+/// How many hits are printed where nothing else is said.
+const DEFAULT_COUNT: usize = 10;
+
+/// What the program is asked for.
+#[derive(Clone, Copy, Debug)]
+pub(crate) enum Request<'a> {
+    /// What the program takes.
+    Help,
+    /// A search.
+    Search(Search<'a>),
+}
+
+/// A search, and what is printed of it.
+#[derive(Clone, Copy, Debug)]
+pub(crate) struct Search<'a> {
+    pub(crate) path: &'a str,
+    pub(crate) text: &'a str,
+    /// How many hits are printed.
+    pub(crate) count: usize,
+    /// How many hits are left out before them.
+    pub(crate) start: usize,
+    /// Whether only the number of documents that match is printed.
+    pub(crate) counts: bool,
+    /// Whether hits are printed as JSON objects.
+    pub(crate) json: bool,
+}
+
+/// Returns what the arguments ask for, the program's name before them; `None` if that is nothing.
+pub(crate) fn request_of(arguments: &[String]) -> Option<Request<'_>> {
+    match arguments {
+        [_, only] if matches!(only.as_str(), "--help" | "-h") => Some(Request::Help),
+        [_, path, text, options @ ..] => {
+            let plain = Search {
+                path: path.as_str(),
+                text: text.as_str(),
+                count: DEFAULT_COUNT,
+                start: 0,
+                counts: false,
+                json: false,
+            };
+            Some(Request::Search(with_options(plain, options)?))
+        }
+        _ => None,
+    }
+}
+
+/// Reads the options of a search; `None` if one isn't known, or its number isn't read.
+fn with_options<'a>(search: Search<'a>, options: &'a [String]) -> Option<Search<'a>> {
+    let mut search = search;
+    let mut rest = options;
+    while let Some((option, behind)) = rest.split_first() {
+        rest = behind;
+        match option.as_str() {
+            "--count" => search.counts = true,
+            "--json" => search.json = true,
+            "-k" => {
+                let (number, behind) = number_of(rest)?;
+                search.count = number;
+                rest = behind;
+            }
+            "--from" => {
+                let (number, behind) = number_of(rest)?;
+                search.start = number;
+                rest = behind;
+            }
+            _ => return None,
+        }
+    }
+    Some(search)
+}
+
+/// Reads the number of an option, which is the next argument; returns those behind it too.
+fn number_of(arguments: &[String]) -> Option<(usize, &[String])>
+    ensures { IfSome result (λ found. length found.1.now < length arguments.now) }
+{
+    let (number, rest) = arguments.split_first()?;
+    Some((number.as_str().parse::<usize>().ok()?, rest))
+}

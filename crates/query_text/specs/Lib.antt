@@ -1,0 +1,12 @@
+pub mod Refusals
+pub mod Pieces
+pub mod Heads
+pub mod Reading
+pub mod Answers
+-- Words of the contracts.
+pub mod Cutting
+pub mod Clauses
+pub mod Groups
+pub mod Findings
+-- The data of worked examples.
+pub mod GrammarExamples

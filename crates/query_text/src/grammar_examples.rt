@@ -1,0 +1,45 @@
+//! Worked examples of the grammar, which its definitions compute.
+
+ghost use Rattle.std.specs.Prelude.{◌++◌, ◌≡◌, Err, Ok, codes, pos};
+ghost use Rattle.definitions.specs.Query.{all, boolean, boost, clause, must, must_not, no_clauses, should};
+ghost use Rattle.query_text.specs.GrammarExamples.{both, itself, plain, quoted, word};
+ghost use Rattle.query_text.specs.Reading.{read};
+ghost use Rattle.query_text.specs.Refusals.{refusal_at};
+ghost use Rattle.query_text.specs.declared.refusal.Reason.TheVariants as reasons;
+
+/// Shows how marks and spaces read: each word must match, unless one is marked by `+`.
+pub fn marks_are_read()
+    ensures plain { read plain (codes "sea wind") ≡ Ok (both must (word "sea") must (word "wind")) }
+    ensures required { read plain (codes "+sea wind") ≡ Ok (both must (word "sea") should (word "wind")) }
+    ensures excluded { read plain (codes "sea -wind") ≡ Ok (both must (word "sea") must_not (word "wind")) }
+    ensures others { read plain (codes "-sea") ≡ Ok (both must all must_not (word "sea")) }
+    ensures one { read plain (codes " sea ") ≡ Ok (word "sea") }
+{}
+
+/// Shows how alternatives, groups and boosts read: `OR` binds less than a space.
+pub fn alternatives_are_read()
+    ensures alternatives { read plain (codes "sea OR old wind") ≡ Ok (boolean (clause should (word "sea")
+        (clause should (both must (word "old") must (word "wind")) no_clauses)) 1) }
+    ensures group { read plain (codes "old (sea OR wind)^3") ≡ Ok (both must (word "old") must (boost (pos 3)
+        (boolean (clause should (word "sea") (clause should (word "wind") no_clauses)) 1))) }
+    ensures excluded { read plain (codes "old -(sea wind)")
+        ≡ Ok (both must (word "old") must_not (both must (word "sea") must (word "wind"))) }
+{}
+
+/// Shows how phrases read: with a slop behind them, and with a boost.
+pub fn phrases_are_read()
+    ensures phrase { read plain (quoted "old (sea") ≡ Ok (word "old (sea") }
+    ensures slop { read plain (quoted "old sea" ++ codes "~2^3") ≡ Ok (boost (pos 3) (itself (codes "old sea") 2)) }
+    ensures excluded { read plain (codes "-title:" ++ quoted "old sea") ≡ Ok (both must all must_not (word "old sea")) }
+{}
+
+/// Shows which texts are refused, and at which byte.
+pub fn other_texts_are_refused()
+    ensures nothing { read plain (codes " ") ≡ Err (refusal_at 0 reasons.Nothing) }
+    ensures alternative { read plain (codes "sea OR OR") ≡ Err (refusal_at 7 reasons.Nothing) }
+    ensures prefix { read plain (codes "old sea*") ≡ Err (refusal_at 4 reasons.LonePrefix) }
+    ensures closed { read plain (codes "sea)") ≡ Err (refusal_at 3 reasons.StrayClose) }
+    ensures opened { read plain (codes "old (sea") ≡ Err (refusal_at 4 reasons.UnclosedGroup) }
+    ensures number { read plain (codes "sea^x") ≡ Err (refusal_at 0 reasons.BadNumber) }
+    ensures marked { read plain (codes "old - sea") ≡ Err (refusal_at 4 reasons.NothingMarked) }
+{}

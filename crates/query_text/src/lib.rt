@@ -1,0 +1,20 @@
+//! Texts that people write, read as queries.
+#![tactic(auto)]
+
+mod alternative;
+mod clauses;
+pub mod grammar_examples;
+mod heads;
+mod phrase;
+mod pieces;
+mod reading;
+mod refusal;
+mod text_terms;
+mod values;
+mod vocabulary;
+
+pub use phrase::{Phrase, Vocabulary};
+pub use pieces::{Form, Piece, pieces_of};
+pub use reading::read_text;
+pub use refusal::{Reason, Refusal};
+pub use vocabulary::SchemaVocabulary;
