@@ -33,7 +33,7 @@ pub(crate) struct Search<'a> {
 pub(crate) fn request_of(arguments: &[String]) -> Option<Request<'_>> {
     match arguments {
         [_, only] if matches!(only.as_str(), "--help" | "-h") => Some(Request::Help),
-        [_, path, text, options @ ..] => {
+        [_, path, text, ..] => {
             let plain = Search {
                 path: path.as_str(),
                 text: text.as_str(),
@@ -42,7 +42,7 @@ pub(crate) fn request_of(arguments: &[String]) -> Option<Request<'_>> {
                 counts: false,
                 json: false,
             };
-            Some(Request::Search(with_options(plain, options)?))
+            Some(Request::Search(with_options(plain, &arguments[3..])?))
         }
         _ => None,
     }

@@ -1,2 +1,4 @@
 pub mod ClauseLists
 pub mod Fields
+pub mod ReadValues
+pub mod BestQueries

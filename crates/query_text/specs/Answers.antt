@@ -81,7 +81,7 @@ field_query analyze field e phrase = elim e.kind [ text_kind ↦ text_query anal
 
 -- what it means in the field that it names
 abbrev pub named_query : Schema → Analyzer → List ℕ → Phrase → Result Query Reason
-named_query schema analyze name phrase = elim (option_and_then (λ field. option_map (λ e. (field, e)) (slice_get schema field)) (field_named schema name)) [ None ↦ Err reasons.UnknownField | Some p ↦ field_query analyze p.0 p.1 phrase ]
+named_query schema analyze name phrase = elim (field_named schema name) [ None ↦ Err reasons.UnknownField | Some field ↦ option_map_or (λ e. field_query analyze field e phrase) (slice_get schema field) (Err reasons.UnknownField) ]
 
 -- the queries of the fields so far, and why a field so far has none
 pub record Found : Type 0 where
@@ -107,9 +107,15 @@ abbrev pub in_order : List Query → Queries
 in_order [] = queries.no_queries
 in_order (q ∷ qs) = queries.query q (in_order qs)
 
+-- the best of some queries
+abbrev pub best_from : Reason → List Query → Result Query Reason
+best_from reason [] = Err reason
+best_from reason (q ∷ []) = Ok q
+best_from reason qs = Ok (queries.disjunction_max (in_order qs) (pos 0))
+
 -- the best of what was found
 abbrev pub best_of : Found → Result Query Reason
-best_of f = elim f.queries [ [] ↦ Err f.reason | q ∷ qs ↦ elim qs [ [] ↦ Ok q | _ ∷ _ ↦ Ok (queries.disjunction_max (in_order (q ∷ qs)) (pos 0)) ] ]
+best_of f = best_from f.reason f.queries
 
 -- what a phrase means that names no field: the best of all text fields
 abbrev pub any_query : Schema → Analyzer → Phrase → Result Query Reason

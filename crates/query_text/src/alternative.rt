@@ -114,7 +114,7 @@ fn unmarked_occur(alternative: &Alternative) -> Occur
 pub(crate) fn any_of(alloc: Global, queries: Vec<AnyQuery>) -> Result<AnyQuery, AllocError>
     ensures { IfOk result (λ query. query_of query ≡ definitions.any_of (map query_of queries.items)) }
 {
-    let clauses = with_occur(alloc, Occur::Should, queries)?;
+    let clauses = asked_clauses(alloc, Occur::Should, queries)?;
     Ok(query_of_clauses(clauses))
 }
 
@@ -141,19 +141,30 @@ fn push_clauses(
     ensures { OnOk result (map clause_of clauses.new.items
         ≡ map clause_of clauses.old.items ++ definitions.asking (occur_of occur) (map query_of queries.items)) }
 {
-    let mut added = with_occur(alloc, occur, queries)?;
+    let mut added = asked_clauses(alloc, occur, queries)?;
     clauses.append(&mut added)
 }
 
 /// Makes a clause of each of `queries`, all with `occur`.
-#[tactic(auto, using(crate::proofs::ClauseLists::each_asked))]
-fn with_occur(
+fn asked_clauses(
     alloc: Global,
     occur: Occur,
     queries: Vec<AnyQuery>,
 ) -> Result<Vec<(Occur, AnyQuery)>, AllocError>
     ensures { IfOk result (λ clauses. map clause_of clauses.items
         ≡ definitions.asking (occur_of occur) (map query_of queries.items)) }
+{
+    let clauses = with_occur(alloc, occur, queries)?;
+    Ok(clauses)
+}
+
+/// Pairs each of `queries` with `occur`.
+fn with_occur(
+    alloc: Global,
+    occur: Occur,
+    queries: Vec<AnyQuery>,
+) -> Result<Vec<(Occur, AnyQuery)>, AllocError>
+    ensures { IfOk result (λ clauses. clauses.items ≡ map (λ query. (occur, query)) queries.items) }
 {
     queries
         .into_iter()

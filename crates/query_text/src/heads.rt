@@ -1,6 +1,6 @@
 //! What stands beside the words of a clause: a mark, a field's name, a slop and a boost.
 
-ghost use Rattle.std.specs.Prelude.{◌≡◌, option_map};
+ghost use Rattle.std.specs.Prelude.{◌<◌, ◌==◌, ◌≡◌, IfSome, length, option_map, position};
 ghost use Rattle.query_text.specs.Clauses.{head_view};
 ghost use Rattle.query_text.specs.Heads as definitions;
 ghost use Rattle.query_text.specs.Refusals.{Gives};
@@ -54,8 +54,16 @@ fn marked(run: &[u8]) -> (Occur, &[u8])
 fn split_at(text: &[u8], byte: u8) -> Option<(&[u8], &[u8])>
     ensures { option_map (λ p. (p.0.now, p.1.now)) result ≡ definitions.split_at byte text.now }
 {
-    let at = text.iter().position(|b| *b == byte)?;
+    let at = index_of(text, byte)?;
     Some((&text[..at], &text[at + 1..]))
+}
+
+/// Returns the index of the first `byte`, if there is one.
+fn index_of(text: &[u8], byte: u8) -> Option<usize>
+    ensures first { result ≡ position (λ b. b == byte) text.now }
+    ensures within { IfSome result (λ at. at < length text.now) }
+{
+    text.iter().position(|b| *b == byte)
 }
 
 /// Splits `text` into what stands before the first `^`, and the number behind it.

@@ -166,16 +166,19 @@ fn found_more(found: Found, answer: Result<AnyQuery, Reason>) -> Result<Found, R
 }
 
 /// Returns the best of what was found.
+#[tactic(auto, using(crate::proofs::BestQueries::single, crate::proofs::BestQueries::nothing))]
 fn best_of(found: Found) -> Result<AnyQuery, Reason>
     ensures { Gives query_of result (definitions.best_of (found_of found)) }
 {
-    let Found { queries, reason } = found;
-    let mut queries = queries;
+    let Found {
+        mut queries,
+        reason,
+    } = found;
     if queries.len() > 1 {
         return Ok(AnyQuery::DisjunctionMax(DisjunctionMaxQuery::new(queries)));
     }
-    match queries.pop() {
-        Some(query) => Ok(query),
-        None => Err(reason),
+    if queries.is_empty() {
+        return Err(reason);
     }
+    Ok(queries.remove(0))
 }

@@ -10,4 +10,6 @@ use Rattle.query_text.proofs.vocabulary.any_query.Given as goal
 abbrev pub invariant-loop-field : goal.invariant-loop-field
 invariant-loop-field g l =
     let analyze = g.A.Analyzer.analyze l.analyzer in
-    found_in analyze (phrase_of l.phrase) (found_of l.found) l.field-iterator ≡ found_in analyze (phrase_of l.phrase) (record { queries = []; reason = reasons.NoTextField }) (enumerate_from 0 l.schema)
+    (goal.iterator-loop-field g).can_next l.field-iterator ×
+    (goal.iterator-loop-field g).is_finite l.field-iterator ×
+    (found_in analyze (phrase_of l.phrase) (found_of l.found) l.field-iterator ≡ found_in analyze (phrase_of l.phrase) (record { queries = []; reason = reasons.NoTextField }) (enumerate_from 0 l.schema))
