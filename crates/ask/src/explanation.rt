@@ -38,6 +38,5 @@ fn cure(reason: Reason) -> &'static str {
         Reason::NoTextField => "no text field is indexed; name a field",
         Reason::NoWord => "no word stands there; write letters or digits",
         Reason::BadValue => "that is no value of the field's type",
-        Reason::UnaskedType => "fields of JSON objects and addresses aren't asked by texts",
     }
 }

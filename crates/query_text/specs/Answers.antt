@@ -13,7 +13,7 @@ use Rattle.definitions.specs.Query as queries
 use Rattle.definitions.specs.Query.{Queries, Query, Terms}
 use Rattle.definitions.specs.Reading.{bool_text, date_value, i64_text, u64_text}
 use Rattle.definitions.specs.Refusing.{all_expansions}
-use Rattle.definitions.specs.Schema.{Entry, Kind, Schema, bool_kind, bytes_kind, date_kind, facet_kind, field_named, i64_kind, ip_addr_kind, is_indexed, is_text, json_kind, text_kind, u64_kind, with_freqs}
+use Rattle.definitions.specs.Schema.{Entry, Kind, Schema, bool_kind, bytes_kind, date_kind, facet_kind, field_named, i64_kind, is_indexed, is_text, text_kind, u64_kind, with_freqs}
 use Rattle.definitions.specs.Terms.{term_bytes, value_bytes}
 use Rattle.definitions.specs.Values.{Token, Value, bytes, facet}
 use Rattle.query_text.specs.Reading.{Phrase, Vocabulary}
@@ -77,7 +77,7 @@ value_query field kind s is_prefix = refused_if is_prefix reasons.BadValue (ok_o
 
 -- what a phrase means in one field
 abbrev pub field_query : Analyzer → ℕ → Entry → Phrase → Result Query Reason
-field_query analyze field e phrase = elim e.kind [ text_kind ↦ text_query analyze field e phrase | json_kind ↦ Err reasons.UnaskedType | ip_addr_kind ↦ Err reasons.UnaskedType | _ ↦ value_query field e.kind phrase.text phrase.is_prefix ]
+field_query analyze field e phrase = if is_text e.kind then text_query analyze field e phrase else value_query field e.kind phrase.text phrase.is_prefix
 
 -- what it means in the field that it names
 abbrev pub named_query : Schema → Analyzer → List ℕ → Phrase → Result Query Reason

@@ -40,10 +40,8 @@ pub enum Reason {
     NoTextField,
     /// The text has no word that is found by itself.
     NoWord,
-    /// The text is no value of the field's type.
+    /// The text is no value of the field's type; fields of JSON objects and of IP addresses have none.
     BadValue,
-    /// Fields of JSON objects and of IP addresses aren't asked by texts.
-    UnaskedType,
 }
 
 /// Why a text isn't read as a query, and the index of the byte where that is seen.

@@ -94,11 +94,10 @@ fn named_query<A: Analyzer>(
         return Err(Reason::UnknownField);
     };
     let entry = schema.get_field_entry(field);
-    match entry.value_type() {
-        Type::Str => text_query(alloc, analyzer, field, entry, text, phrase),
-        Type::Json | Type::IpAddr => Err(Reason::UnaskedType),
-        kind => value_query(alloc, field, kind, text, phrase.is_prefix),
+    if entry.field_type().is_str() {
+        return text_query(alloc, analyzer, field, entry, text, phrase);
     }
+    value_query(alloc, field, entry.value_type(), text, phrase.is_prefix)
 }
 
 /// Makes the query for documents with the value `text` in a field of the type `kind`.
