@@ -1,4 +1,5 @@
 pub mod ClauseLists
 pub mod Fields
+pub mod NamedFields
 pub mod ReadValues
 pub mod BestQueries
