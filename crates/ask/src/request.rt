@@ -1,7 +1,5 @@
 //! What the program is asked for.
 
-ghost use Rattle.std.specs.Prelude.{◌<◌, IfSome, length};
-
 /// How many hits are printed where nothing else is said.
 const DEFAULT_COUNT: usize = 10;
 
@@ -49,34 +47,44 @@ pub(crate) fn request_of(arguments: &[String]) -> Option<Request<'_>> {
 }
 
 /// Reads the options of a search; `None` if one isn't known, or its number isn't read.
-fn with_options<'a>(search: Search<'a>, options: &'a [String]) -> Option<Search<'a>> {
+fn with_options<'a>(search: Search<'a>, options: &[String]) -> Option<Search<'a>> {
     let mut search = search;
     let mut rest = options;
-    while let Some((option, behind)) = rest.split_first() {
-        rest = behind;
-        match option.as_str() {
-            "--count" => search.counts = true,
-            "--json" => search.json = true,
-            "-k" => {
-                let (number, behind) = number_of(rest)?;
-                search.count = number;
-                rest = behind;
-            }
-            "--from" => {
-                let (number, behind) = number_of(rest)?;
-                search.start = number;
-                rest = behind;
-            }
-            _ => return None,
-        }
+    for _ in 0..options.len() {
+        let Some((option, behind)) = rest.split_first() else {
+            break;
+        };
+        rest = with_option(&mut search, option.as_str(), behind)?;
     }
     Some(search)
 }
 
+/// Reads one option, which the arguments `behind` follow; returns those behind its number.
+fn with_option<'a>(
+    search: &mut Search<'_>,
+    option: &str,
+    behind: &'a [String],
+) -> Option<&'a [String]> {
+    match option {
+        "--count" => search.counts = true,
+        "--json" => search.json = true,
+        "-k" => {
+            let (number, rest) = number_of(behind)?;
+            search.count = number;
+            return Some(rest);
+        }
+        "--from" => {
+            let (number, rest) = number_of(behind)?;
+            search.start = number;
+            return Some(rest);
+        }
+        _ => return None,
+    }
+    Some(behind)
+}
+
 /// Reads the number of an option, which is the next argument; returns those behind it too.
-fn number_of(arguments: &[String]) -> Option<(usize, &[String])>
-    ensures { IfSome result (λ found. length found.1.now < length arguments.now) }
-{
+fn number_of(arguments: &[String]) -> Option<(usize, &[String])> {
     let (number, rest) = arguments.split_first()?;
     Some((number.as_str().parse::<usize>().ok()?, rest))
 }
