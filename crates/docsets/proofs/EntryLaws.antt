@@ -6,7 +6,7 @@ use Rattle.std.proofs.Props.{props}
 use Rattle.definitions.proofs.Lists.{by_order as by_place}
 use Rattle.definitions.specs.Postings.{terminated}
 use Rattle.definitions.specs.Scoring.{DontFall}
-use Rattle.docsets.specs.Entries.{AreSingle, Entry, IsRest, Rising, first, from, most_positions, single}
+use Rattle.docsets.specs.Entries.{AreSingle, Entry, IsRest, Rising, first, first_positions, from, most_positions, single}
 use Rattle.docsets.specs.EntryLaws.{Rising-lower}
 
 -- ---- from
@@ -115,3 +115,8 @@ most-drop (suc n) (e ∷ es) = (let ih = most-drop n es in omega (arith, ih))
 pub most-from : (t : ℕ) (es : List Entry) → most_positions (from t es) ≤ most_positions es
 most-from t [] = omega arith
 most-from t (e ∷ es) = (let ih = most-from t es in by_place t e.doc (most_positions (from t (e ∷ es)) ≤ most_positions (e ∷ es)) (λ i. (let is = ap most_positions (from-in t e es i) in omega (arith, ih, is))) (λ o. (let is = ap most_positions (from-out t e es o) in omega (arith, ih, is))))
+
+-- the first has no more
+pub most-first : (es : List Entry) → length (single (first_positions es)) ≤ most_positions es
+most-first [] = omega arith
+most-first (e ∷ es) = omega arith

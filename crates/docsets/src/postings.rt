@@ -78,6 +78,15 @@ pub trait Postings: DocSet {
     fn most_positions(&self) -> usize
         ensures { most_positions (Self.entries self.now) ≤ result };
 
+    /// Returns an upper bound of the number of positions of the current document, which aren't read for it.
+    #[inline]
+    fn positions_bound(&self) -> usize
+        requires { first (Self.entries self.now) < terminated }
+        ensures { length (single (first_positions (Self.entries self.now))) ≤ result }
+    {
+        self.most_positions()
+    }
+
     // Each entry is of one term; its positions don't fall.
     ghost of_one_term: { (s : Self) → AreSingle (Self.entries s) };
 

@@ -1,9 +1,9 @@
 //! Cursors with scores.
 
-ghost use Rattle.std.specs.Prelude.{◌<◌, ◌≡◌, ◌≤ℤ◌, ◌≤◌, pos};
+ghost use Rattle.std.specs.Prelude.{◌<◌, ◌≡◌, ◌≤ℤ◌, ◌≤◌, drop, pos};
 ghost use Rattle.definitions.specs.Postings.{terminated};
 ghost use Rattle.definitions.specs.Scoring.{natural};
-ghost use Rattle.docsets.specs.Bounds.{Covers};
+ghost use Rattle.docsets.specs.Bounds.{Covers, PassesLow};
 ghost use Rattle.docsets.specs.Entries.{first, first_score};
 
 use crate::DocSet;
@@ -40,5 +40,15 @@ pub trait Scorer: DocSet {
             bound: MAX_SCORE,
             until: TERMINATED,
         }
+    }
+
+    /// Moves behind the current document to one whose score may be above `threshold`, and returns it. No document that
+    /// is passed has such a score.
+    #[inline]
+    fn advance_above(&mut self, threshold: Score) -> DocId
+        ensures passes { PassesLow threshold (drop 1 (Self.entries self.old)) (Self.entries self.new) }
+        ensures at { result ≡ first (Self.entries self.new) }
+    {
+        self.advance()
     }
 }

@@ -1,5 +1,6 @@
 -- Lemmas on the words of the contracts.
 pub mod BoundLaws
+pub mod ThresholdLaws
 pub mod ColumnLaws
 pub mod DifferenceLaws
 pub mod ExclusionLaws

@@ -82,6 +82,18 @@ meeting-same low doc olds news p few =
     ∙ (sym (from-listed (enough n olds) (entry olds) 0 low (omega arith) (let small = p.small in omega (arith, up, small)))
     ∙ ap (λ m. from low (at_least m joining olds)) p.long)))
 
+-- lists that went on to a document before which not all have one meet as before from there on
+pub meeting-left : (doc : ℕ) (olds news : List (List Entry)) → doc ≤ terminated → length news ≡ length olds → map (from doc) news ≡ map (from doc) olds → ((d : ℕ) → d < doc → length (entries_at d news) < length news) → meeting news ≡ from doc (meeting olds)
+meeting-left doc olds news small long kept few =
+    let n : ℕ = length news in
+    let entry : List (List Entry) → ℕ → Entry = λ ess d. joining d (entries_at d ess) in
+    listed-skip (enough n news) (entry news) 0 doc (omega arith) small (λ d b h. too_few n news d (few d h))
+    ∙ (listed-same (enough n news) (enough n olds) (entry news) (entry olds) doc
+    (λ d l t. ap (λ xs. nat_le n (length xs)) (same-from doc d news olds kept l))
+    (λ d l t. ap (joining d) (same-from doc d news olds kept l))
+    ∙ (sym (from-listed (enough n olds) (entry olds) 0 doc (omega arith) small)
+    ∙ ap (λ m. from doc (at_least m joining olds)) long))
+
 -- the document that all have is the first of the meeting
 pub meeting-first : (doc : ℕ) (ess : List (List Entry)) → doc < terminated → ((d : ℕ) → d < doc → length (entries_at d ess) < length ess) → length (entries_at doc ess) ≡ length ess → doc ≡ first (meeting ess)
 meeting-first doc ess l few all =

@@ -1,15 +1,18 @@
 //! The documents that all scorers have.
 
-ghost use Rattle.std.specs.Prelude.{[], ◌<◌, ◌≡◌, ◌≤◌, length, map, slice_index_or, vec_capacity};
-ghost use Rattle.docsets.specs.Entries.{first, first_positions};
+ghost use Rattle.std.specs.Prelude.{[], ◌<◌, ◌≡◌, ◌≤ℤ◌, ◌≤◌, drop, length, map, pos, slice_index_or, vec_capacity};
+ghost use Rattle.std.specs.List.{AllByRecursion};
+ghost use Rattle.docsets.specs.Entries.{first, first_positions, from};
 ghost use Rattle.definitions.specs.Postings.{terminated};
 ghost use Rattle.definitions.specs.Scoring.{max_score};
 ghost use Rattle.intersections.specs.MeetingLaws.{IsMeeting-prop};
 ghost use Rattle.intersections.specs.Meetings.{IsMeeting, meeting};
 ghost use Rattle.docsets.specs.Members.{greatest_sum};
 
+use crate::column_threshold::ColumnThreshold;
 use crate::joint_windows::joint_window;
 use crate::leapfrog::{cheapest, next_match};
+use crate::leapfrog_above::next_above;
 use crate::positioned::Positioned;
 use common::{DocId, Score, TERMINATED};
 use docsets::{DocSet, ScoreCombiner, Scorer, SumCombiner, Window, combine_at};
@@ -61,6 +64,24 @@ impl<S: Positioned> Intersection<S> {
         ensures room { vec_capacity output.old ≤ vec_capacity output.new }
     {
         self.docsets[place].positions(output);
+    }
+
+    /// Moves behind the current document to the next that isn't known to earn a low score, and returns it.
+    pub fn advance_above<C: ColumnThreshold>(&mut self, threshold: &C) -> DocId
+        ensures rest { ⟦<Intersection<S> as DocSet>⟧.entries self.new
+            ≡ from result (drop 1 (⟦<Intersection<S> as DocSet>⟧.entries self.old)) }
+        ensures at { result ≡ first (⟦<Intersection<S> as DocSet>⟧.entries self.new) }
+        ensures up { first (⟦<Intersection<S> as DocSet>⟧.entries self.old) < terminated
+            → first (⟦<Intersection<S> as DocSet>⟧.entries self.old) < result }
+        ensures low { AllByRecursion (λ e. e.doc < result
+            → pos (C.score threshold.now e.doc e.positions) ≤ℤ C.limit threshold.now)
+            (drop 1 (⟦<Intersection<S> as DocSet>⟧.entries self.old)) }
+    {
+        if self.doc == TERMINATED {
+            return TERMINATED;
+        }
+        self.doc = next_above(&mut self.docsets, self.lead, self.doc + 1, threshold);
+        self.doc
     }
 }
 

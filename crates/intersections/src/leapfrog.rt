@@ -39,7 +39,7 @@ fn reach<D: DocSet>(docset: &mut D, candidate: DocId) -> DocId
 }
 
 /// Moves all of `docsets` to `candidate`, or returns a later document before which they don't meet.
-fn meet<D: DocSet>(docsets: &mut Vec<D>, candidate: DocId) -> DocId
+pub(crate) fn meet<D: DocSet>(docsets: &mut Vec<D>, candidate: DocId) -> DocId
     requires { candidate < terminated }
     ensures passes { Passes candidate result (map D.entries docsets.old.items) (map D.entries docsets.new.items) }
     ensures leads { result ≡ candidate → candidate ≤ least (map D.entries docsets.new.items) }

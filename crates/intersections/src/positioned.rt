@@ -22,6 +22,15 @@ pub trait Positioned: DocSet {
     fn most_positions(&self) -> usize
         ensures { most_positions (Self.entries self.now) ≤ result };
 
+    /// Returns an upper bound of the number of positions of the current document, which aren't read for it.
+    #[inline]
+    fn positions_bound(&self) -> usize
+        requires { first (Self.entries self.now) < terminated }
+        ensures { length (single (first_positions (Self.entries self.now))) ≤ result }
+    {
+        self.most_positions()
+    }
+
     // Each entry has one column, whose positions don't fall.
     ghost one_column: { (s : Self) → HaveOneColumn (Self.entries s) };
 }

@@ -17,6 +17,8 @@ pub mod WindowLaws
 pub mod MergeLaws
 pub mod OneTermLaws
 pub mod PhraseEntryLaws
+pub mod PassedEntries
+pub mod PlaceBounds
 pub mod PlaceCounts
 pub mod PlaceLaws
 pub mod PlacesLaws

@@ -27,6 +27,11 @@ pub first-placed : (o : ℕ) (es : List Entry) → first (placed o es) ≡ first
 first-placed o [] = refl
 first-placed o (e ∷ es) = refl
 
+-- the first has as many positions
+pub length-placed : (o : ℕ) (es : List Entry) → length (single (first_positions (placed o es))) ≡ length (single (first_positions es))
+length-placed o [] = refl
+length-placed o (e ∷ es) = length-map (single e.positions) (λ p. p + o)
+
 pub drop-placed : (o n : ℕ) (es : List Entry) → drop n (placed o es) ≡ placed o (drop n es)
 drop-placed o zero es = refl
 drop-placed o (suc n) [] = refl

@@ -117,7 +117,7 @@ has-distinct low next q (p ∷ ps) a =
     first-out p next q b e = grind (arith, nat_tests, e)
 
 -- without slop the list before leads to its own positions
-led-zero : (ls : List ℕ) (before : List (List ℕ)) (r : ℕ) → is_led_to (ls ∷ before) 0 r ≡ (has ls r && is_led_to before 0 r)
+pub led-zero : (ls : List ℕ) (before : List (List ℕ)) (r : ℕ) → is_led_to (ls ∷ before) 0 r ≡ (has ls r && is_led_to before 0 r)
 led-zero [] before r = refl
 led-zero (n ∷ ns) before r =
     let ih = led-zero ns before r in

@@ -11,6 +11,7 @@ mod phrase_kind;
 pub mod phrase_laws;
 mod phrase_prefix_scorer;
 mod phrase_scorer;
+mod phrase_threshold;
 mod place_finder;
 mod position_marks;
 mod postings_with_offset;

@@ -14,7 +14,8 @@ ghost use Rattle.phrases.specs.Standings.{IsStanding};
 ghost use Rattle.phrases.specs.StandingLaws.{IsStanding-prop};
 
 use crate::adjusted_terms::{adjusted, most_of};
-use crate::phrase_documents::settle;
+use crate::phrase_documents::{settle, settle_above};
+use crate::phrase_threshold::PhraseThreshold;
 use crate::place_finder::PlaceFinder;
 use crate::postings_with_offset::PostingsWithOffset;
 use crate::shared_positions::copy_all;
@@ -150,6 +151,18 @@ impl<'a, S: Positioned> Scorer for PhraseScorer<'a, S> {
             }
             None => 1,
         }
+    }
+
+    /// Leaves out documents whose terms' counts tell that the score isn't above `threshold`: the leading term is moved
+    /// alone, and no position of them is read.
+    fn advance_above(&mut self, threshold: Score) -> DocId {
+        let limit = PhraseThreshold {
+            similarity_weight_opt: self.similarity_weight_opt,
+            fieldnorm_reader: &self.fieldnorm_reader,
+            slop: self.finder.slop,
+            limit: threshold,
+        };
+        settle_above(&mut self.intersection_docset, &mut self.finder, &limit)
     }
 }
 

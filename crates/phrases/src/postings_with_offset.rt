@@ -75,5 +75,10 @@ impl<P: Postings> Positioned for PostingsWithOffset<P> {
         self.postings.most_positions()
     }
 
+    #[inline]
+    fn positions_bound(&self) -> usize {
+        self.postings.positions_bound()
+    }
+
     ghost one_column = { λ s. one_column-placed s.offset (P.entries s.postings) s.small (P.of_one_term s.postings) };
 }

@@ -99,7 +99,7 @@ fn feed_up_to<S: Scorer, K: Sink>(
     while doc < until {
         let score = scorer.score();
         threshold = offer(sink, threshold, doc, score);
-        doc = scorer.advance();
+        doc = scorer.advance_above(threshold);
     }
     threshold
 }

@@ -304,6 +304,11 @@ impl<'a> Postings for SegmentPostings<'a> {
         Ok(())
     }
 
+    #[inline]
+    fn positions_bound(&self) -> usize {
+        self.blocks.freq(self.cur) as usize
+    }
+
     /// Returns an upper bound, from each skip entry that is left and the number of positions.
     fn most_positions(&self) -> usize
         ensures most { most_positions (entries_left self.now) ≤ result }

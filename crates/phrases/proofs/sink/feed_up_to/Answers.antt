@@ -3,8 +3,11 @@ use mir.Val.{SFits}
 use Rattle.definitions.specs.Postings.{terminated}
 use Rattle.definitions.specs.Scoring.{natural}
 use Rattle.definitions.specs.Sinks.{fed}
-use Rattle.docsets.specs.Entries.{Entry, first, first_score}
+use Rattle.docsets.proofs.EntryLaws.{Rising-drop}
+use Rattle.docsets.specs.Entries.{Entry, first, first_score, from}
 use Rattle.docsets.specs.ScoredEntries.{pairs_of}
+use Rattle.phrases.proofs.EntryCuts.{length-from}
+use Rattle.phrases.proofs.PassedEntries.{passed_low}
 use Rattle.phrases.proofs.WindowWalks.{first_fed, one_passed}
 use Rattle.phrases.proofs.sink.feed_up_to.Goals as goal
 
@@ -42,8 +45,10 @@ loop-doc-smaller g c =
     let early = c.loop-doc-test.true in
     let within = c.requires.within in
     let some = one_passed (g.S.DocSet.entries c.loop-doc.scorer) (omega (arith, at, early, within)) in
-    let rest = ap length (c.advance-doc.ensures.rest ∙ ap (λ (es : List Entry). drop 1 es) c.score-score.ensures.same) in
-    omega (arith, some, rest)
+    let next = first (g.S.DocSet.entries c.advance_above-doc.new.self) in
+    let rest = ap length (c.advance_above-doc.ensures.passes.rest ∙ ap (λ (es : List Entry). from next (drop 1 es)) c.score-score.ensures.same) in
+    let fewer = length-from next (drop 1 (g.S.DocSet.entries c.loop-doc.scorer)) in
+    omega (arith, some, rest, fewer)
 
 pub loop-doc-preserved : goal.loop-doc-preserved
 loop-doc-preserved g c =
@@ -57,20 +62,26 @@ loop-doc-preserved g c =
     let within = c.requires.within in
     let on : first es < terminated = omega (arith, at, early, within) in
     let some = one_passed es on in
-    let after = c.advance-doc.ensures.rest ∙ ap (λ (xs : List Entry). drop 1 xs) c.score-score.ensures.same in
-    let len = ap length after in
+    let told = g.S.DocSet.entries c.score-score.new.self in
+    let after = g.S.DocSet.entries c.advance_above-doc.new.self in
+    let passes = c.advance_above-doc.ensures.passes in
+    let same = c.score-score.ensures.same in
+    let len = ap length (passes.rest ∙ ap (λ (xs : List Entry). from (first after) (drop 1 xs)) same) in
+    let fewer = length-from (first after) (drop 1 es) in
     let left = c.loop-doc.invariant.left in
     let room = c.offer-threshold.ensures.room in
     let fits : SFits w64 c.offer-threshold.result = search rules in
     let score_fits : SFits w64 c.score-score.result = search rules in
     let score = ap natural (to_z-of_z score_fits ∙ c.score-score.ensures.value) in
     let given : next ≡ fed limit taken s ((first es, first_score es) ∷ []) = c.offer-threshold.ensures.state ∙ ap₂ (λ d n. fed limit taken s ((d, n) ∷ [])) at score in
+    let threshold = to_z-of_z fits ∙ c.offer-threshold.ensures.next in
     record {
-      at = c.advance-doc.ensures.at;
-      limit = to_z-of_z fits ∙ c.offer-threshold.ensures.next;
-      left = omega (arith, some, len, left, room);
-      fed = ap (λ (xs : List Entry). fed limit taken next (pairs_of xs)) after
+      at = c.advance_above-doc.ensures.at;
+      limit = threshold;
+      left = omega (arith, some, len, fewer, left, room);
+      fed = passed_low limit taken next _ (drop 1 told) after threshold (Rising-drop 1 0 told (g.met.S.DocSet.rising c.score-score.new.self)) passes
+          ∙ (ap (λ (xs : List Entry). fed limit taken next (pairs_of (drop 1 xs))) same
           ∙ (ap (λ u. fed limit taken u (pairs_of (drop 1 es))) given
           ∙ (first_fed limit taken s es on
-          ∙ c.loop-doc.invariant.fed));
+          ∙ c.loop-doc.invariant.fed)));
     }

@@ -1,0 +1,19 @@
+use Rattle.std.proofs.Common.{List, ap, arith, length, ◌<◌, ◌≡◌, ◌≤◌, ℕ}
+use Rattle.docsets.specs.Entries.{Entry, first, first_positions, single}
+use Rattle.phrases.specs.PhraseEntries.{placed}
+use Rattle.phrases.proofs.PhraseEntryLaws.{first-placed, length-placed}
+use Rattle.phrases.proofs.postings_with_offset.PostingsWithOffsetPositioned.positions_bound.Goals as goal
+
+pub positions_bound-requires : goal.positions_bound-requires
+positions_bound-requires g c =
+    let s = c.args.self.now in
+    let same = first-placed s.offset (g.P.DocSet.entries s.postings) in
+    let on = c.requires in
+    omega (arith, same, on)
+
+pub returns : goal.returns
+returns g c =
+    let s = c.args.self.now in
+    let same = length-placed s.offset (g.P.DocSet.entries s.postings) in
+    let few = c.positions_bound.ensures in
+    omega (arith, same, few)
