@@ -11,3 +11,4 @@ pub mod JsonParts
 pub mod PrintedParts
 pub mod StoredParts
 pub mod LentMembers
+pub mod OwnedNodes

@@ -4,6 +4,7 @@ pub mod Docs
 pub mod Shown
 pub mod CodeHeads
 pub mod Owned
+pub mod OwnedNodes
 pub mod WrittenJson
 -- Laws that clauses and proofs of types must name.
 pub mod ValueCodesLaws

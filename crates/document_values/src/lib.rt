@@ -9,6 +9,7 @@ mod iterators;
 mod json_printer;
 mod json_put;
 mod json_text;
+mod letting_go;
 mod owned_value;
 mod pairs;
 mod stored;
