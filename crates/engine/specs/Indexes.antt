@@ -154,7 +154,8 @@ module _ {D A : Type 0} {d : devices.Ghosts D} {a : analyzers.Ghosts A} where
   abbrev pub IsSame : Index D A d a → Index D A d a → Type 0
   IsSame old new = collections.IsSame old.index_state new.index_state
 
-  -- made alike, the same segments are committed, and no more may be done than in this status, in which what waits is lost
+  -- made alike, the same segments are committed, and no more may be done than in this status, in which what waits is
+  -- lost
   abbrev pub IsStopped : calls.Status → Index D A d a → Index D A d a → Type 0
   IsStopped status old new = collections.IsStopped status old.index_state new.index_state
 

@@ -50,8 +50,8 @@ module _ {D A : Type 0} {d : devices.Ghosts D} {a : analyzers.Ghosts A} where
     pub appended : IsTrue (d.honest (device_of old)) → OnOk result (AppendsSegments call old new)
     -- a file that rests rests again
     pub rests : IsTrue (d.honest (device_of old)) → ∥ IndexRests old ∥₁ → OnOk result (∥ IndexRests new ∥₁)
-    -- a crash at any moment of the call leaves a file of the segments before it, or of those that its record makes, which
-    -- after an Ok are committed
+    -- a crash at any moment of the call leaves a file of the segments before it, or of those that its record makes,
+    -- which after an Ok are committed
     pub any_moment : IsTrue (d.honest (device_of old)) → ∥ IndexRests old ∥₁
         → (after : List Member) × AreNext call old after × OnOk result (after ≡ members_of new)
         × ∥ CrashLeavesSegments old new after ∥₁

@@ -97,8 +97,8 @@ impl<D: Device + Drop, A: Analyzer + Drop> Index<D, A> {
             → IsSame self.old self.new) }
         ensures stopped { OnErr result (IsSame self.old self.new ⊎ IsStopped calls.writer_closed self.old self.new) }
         ensures ready { OnOk result (state_of self.new ≡ calls.ready) }
-        ensures same_beside { (doc : Document) → read_json (schema_of self.old) text.now ≡ Ok doc → HasLongSlot self.old doc
-            → OnErr result (IsSame self.old self.new) }
+        ensures same_beside { (doc : Document) → read_json (schema_of self.old) text.now ≡ Ok doc
+            → HasLongSlot self.old doc → OnErr result (IsSame self.old self.new) }
         ensures waits { (doc : Document) → read_json (schema_of self.old) text.now ≡ Ok doc
             → OnOk result (WaitsMore A.analyze doc self.old self.new) }
     {
@@ -146,8 +146,8 @@ impl<D: Device + Drop, A: Analyzer + Drop> Index<D, A> {
             → IsSame self.old self.new) }
         ensures stopped { OnErr result (IsSame self.old self.new ⊎ IsStopped calls.writer_closed self.old self.new) }
         ensures ready { OnOk result (state_of self.new ≡ calls.ready) }
-        ensures same_beside { (doc : Document) → read_data (schema_of self.old) (view value.now) ≡ Ok doc → HasLongSlot self.old doc
-            → OnErr result (IsSame self.old self.new) }
+        ensures same_beside { (doc : Document) → read_data (schema_of self.old) (view value.now) ≡ Ok doc
+            → HasLongSlot self.old doc → OnErr result (IsSame self.old self.new) }
         ensures waits { (doc : Document) → read_data (schema_of self.old) (view value.now) ≡ Ok doc
             → OnOk result (WaitsMore A.analyze doc self.old self.new) }
     {

@@ -129,7 +129,8 @@ module _ {A : Type 0} {a : analyzers.Ghosts A} where
     pub waiting : waiting_of new ≡ waiting_of old
     pub status : state_of new ≡ state_of old
 
-  -- made alike, the same segments are committed, and no more may be done than in this status, in which what waits is lost
+  -- made alike, the same segments are committed, and no more may be done than in this status, in which what waits is
+  -- lost
   pub record IsStopped (status : calls.Status) (old new : IndexState A a) : Type 0 where
     pub made : IsMadeAlike old new
     pub members : members_of new ≡ members_of old
@@ -151,7 +152,8 @@ module _ {A : Type 0} {a : analyzers.Ghosts A} where
 
   -- What its calls are refused by, the definitions say of any state with its status and as many groups as segments are
   -- committed, whatever these groups are.
-  pub record IsShadow (analyze : A → Analyzer) (index : IndexState A a) (c : calls.Configuration) (x : calls.Index) : Type 0 where
+  pub record IsShadow (analyze : A → Analyzer) (index : IndexState A a) (c : calls.Configuration)
+      (x : calls.Index) : Type 0 where
     pub made : c ≡ configuration_of index.schema (analyze index.analyzer) index.settings
     pub status : x.status ≡ state_of index
     pub counted : length x.state.groups ≡ length (members_of index)
