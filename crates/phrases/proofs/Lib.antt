@@ -29,3 +29,4 @@ pub mod UnionWalks
 pub mod WindowWalks
 pub mod MeetingWalks
 pub mod MeetingOrders
+pub mod UnionOrders

@@ -54,7 +54,7 @@ pairs_walk f g s t low (suc n) ff ss =
     ap (λ b. pairs_of (if b then at_document low (s low) ∷ walk f s (low + 1) n else walk f s (low + 1) n)) (ff low)
     ∙ elim (g low) as (λ b. pairs_of (if b then at_document low (s low) ∷ walk f s (low + 1) n else walk f s (low + 1) n) ≡ pairs_of (if b then at_document low (t low) ∷ walk g t (low + 1) n else walk g t (low + 1) n)) [ true ↦ ap₂ (λ x ps. (low, x) ∷ ps) (ss low) ih | false ↦ ih ]
 
-pairs_listed : (f g : ℕ → Bool) (s t : ℕ → Entry) (low : ℕ) → ((d : ℕ) → f d ≡ g d) → ((d : ℕ) → (s d).score ≡ (t d).score) → pairs_of (listed f s low) ≡ pairs_of (listed g t low)
+pub pairs_listed : (f g : ℕ → Bool) (s t : ℕ → Entry) (low : ℕ) → ((d : ℕ) → f d ≡ g d) → ((d : ℕ) → (s d).score ≡ (t d).score) → pairs_of (listed f s low) ≡ pairs_of (listed g t low)
 unfolding listed
 pairs_listed f g s t low ff ss = pairs_walk f g s t low (terminated - low) ff ss
 

@@ -1,6 +1,6 @@
 //! The walk over a union of scorers that leaves out documents whose scores are known not to be above the threshold.
 
-ghost use Rattle.std.specs.Prelude.{IsTrue, [], ◌+◌, ◌<◌, ◌∷◌, ◌≡◌, ◌≤ℤ◌, ◌≤◌, ◌⊎◌, drop, length, map, min, pos, sum, take, ℕ};
+ghost use Rattle.std.specs.Prelude.{IsPermutation, IsTrue, [], ◌+◌, ◌<◌, ◌∷◌, ◌≡◌, ◌≤ℤ◌, ◌≤◌, ◌⊎◌, drop, length, map, min, pos, sum, take, ℕ};
 ghost use Rattle.definitions.specs.Postings.{terminated};
 ghost use Rattle.definitions.specs.Scoring.{max_score};
 ghost use Rattle.definitions.specs.Sinks.{fed};
@@ -13,6 +13,10 @@ ghost use Rattle.phrases.specs.Unions.{AreLater, moved_before, moved_from, union
 use crate::sink::{Sink, offer};
 use common::{DocId, MAX_SCORE, Score, TERMINATED};
 use docsets::{DocSet, Scorer, move_to};
+
+/// How many scorers are brought to the front at the most. A query seldom has more; of one that has thousands, the time to
+/// look at all for each place would grow faster than their number.
+const PLACED: usize = 16;
 
 /// The first of several scorers, which are left where they are as long as no document of theirs alone can be above the
 /// threshold.
@@ -88,7 +92,8 @@ struct Taken {
 
 /// Feeds each document of the union of `scorers` with the sum of its scores to `sink`, in order, if that is above the
 /// sink's threshold by then. What is known not to be above it is left out: block by block, and of the first scorers,
-/// whose bounds together aren't above it, what the others don't have.
+/// whose bounds together aren't above it, what the others don't have. The order of `scorers` doesn't matter: those with the
+/// most documents for their bounds are brought to the front.
 pub fn block_wand<S: Scorer + Drop, K: Sink>(scorers: Vec<S>, threshold: Score, sink: &mut K)
     requires fits { greatest_sum (map S.entries scorers.items) ≤ max_score }
     requires threshold { threshold ≡ K.limit (K.state sink.old) }
@@ -97,6 +102,7 @@ pub fn block_wand<S: Scorer + Drop, K: Sink>(scorers: Vec<S>, threshold: Score, 
         (pairs_of (union (map S.entries scorers.items))) }
 {
     let mut scorers = scorers;
+    place_frequent_first(&mut scorers);
     let mut threshold = threshold;
     let mut target = 0;
     while target < TERMINATED {
@@ -105,6 +111,43 @@ pub fn block_wand<S: Scorer + Drop, K: Sink>(scorers: Vec<S>, threshold: Score, 
         threshold = fed.threshold;
         target = fed.target;
     }
+}
+
+/// Brings the scorers with the most documents for their bounds to the front, in that order: left free, they leave the most
+/// out.
+fn place_frequent_first<S: Scorer>(scorers: &mut Vec<S>)
+    ensures { IsPermutation (map S.entries scorers.old.items) (map S.entries scorers.new.items) }
+{
+    for i in 0..scorers.len().min(PLACED) {
+        let place = most_frequent(scorers, i);
+        scorers.swap(i, place);
+    }
+}
+
+/// Returns the index of the scorer with the most documents for its bound, from number `first` on.
+fn most_frequent<S: Scorer>(scorers: &mut Vec<S>, first: usize) -> usize
+    requires { first < length scorers.old.items }
+    ensures same { map S.entries scorers.new.items ≡ map S.entries scorers.old.items }
+    ensures within { result < length scorers.new.items }
+{
+    let mut place = first;
+    let mut most = 0;
+    for i in first..scorers.len() {
+        let documents = documents_for_bound(&mut scorers[i]);
+        if documents > most {
+            place = i;
+            most = documents;
+        }
+    }
+    place
+}
+
+/// Returns about how many documents `scorer` has for each 2^31st of the bound of its first ones.
+fn documents_for_bound<S: Scorer>(scorer: &mut S) -> u64
+    ensures { S.entries scorer.new ≡ S.entries scorer.old }
+{
+    let bound = bound_before(scorer, 0, TERMINATED);
+    scorer.cost().saturating_mul(1 << 31) / bound.score.max(1)
 }
 
 /// Returns the document before which the scorers that aren't behind `target` know a bound.

@@ -4,22 +4,28 @@ use Rattle.definitions.specs.Sinks.{fed}
 use Rattle.docsets.proofs.MemberLaws.{from-zero}
 use Rattle.docsets.specs.Entries.{Entry, from}
 use Rattle.docsets.specs.ScoredEntries.{pairs_of}
+use Rattle.phrases.proofs.UnionOrders.{greatest_moved, length_moved, pairs_moved}
 use Rattle.phrases.proofs.UnionWalks.{left_is, none_left}
 use Rattle.phrases.specs.Unions.{union}
 use Rattle.phrases.proofs.union_walk.block_wand.Goals as goal
 
 pub loop-target-init : goal.loop-target-init
 loop-target-init g c =
-    let all = map g.S.DocSet.entries c.args.scorers.items in
+    let given = map g.S.DocSet.entries c.args.scorers.items in
+    let all = map g.S.DocSet.entries c.place_frequent_first.new.scorers.items in
+    let moved = c.place_frequent_first.ensures in
     let whole = from-zero (union all) in
     let len = ap length whole in
+    let long = length_moved given all moved in
+    let greatest = greatest_moved given all moved in
     let room = c.requires.room in
+    let fits = c.requires.fits in
     record {
-      fits = c.requires.fits;
+      fits = omega (arith, fits, greatest);
       small = omega arith;
       limit = to_z-of_z c.ranges.threshold ∙ c.requires.threshold;
-      fed = ap (λ (es : List Entry). fed g.K.Sink.limit g.K.Sink.taken (g.K.Sink.state c.args.sink.now) (pairs_of es)) whole;
-      room = omega (arith, room, len);
+      fed = ap (λ (es : List Entry). fed g.K.Sink.limit g.K.Sink.taken (g.K.Sink.state c.args.sink.now) (pairs_of es)) whole ∙ ap (fed g.K.Sink.limit g.K.Sink.taken (g.K.Sink.state c.args.sink.now)) (pairs_moved given all moved);
+      room = omega (arith, room, len, long);
     }
 
 pub returns : goal.returns
