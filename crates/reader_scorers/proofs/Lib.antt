@@ -1,5 +1,6 @@
 -- Lemmas behind the scorers of segments.
 pub mod ClauseAnswers
+pub mod ClauseDocuments
 pub mod FormScores
 pub mod SamePairs
 pub mod TermEntries

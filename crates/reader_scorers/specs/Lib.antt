@@ -1,4 +1,5 @@
 -- Words of the contracts.
+pub mod Counted
 pub mod Fed
 pub mod Scored
 pub mod Terms

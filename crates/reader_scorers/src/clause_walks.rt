@@ -108,7 +108,7 @@ fn feed_any_together<
 
 /// Whether clauses, of which so many must match, ask for more of their `Should` ones than that there is something to
 /// match.
-fn asks_for_more(musts: usize, minimum: usize) -> bool
+pub(crate) fn asks_for_more(musts: usize, minimum: usize) -> bool
     ensures few { result ≡ false → minimum ≤ 1 }
     ensures none { result ≡ false → 0 < musts → minimum ≡ 0 }
 {
@@ -116,7 +116,7 @@ fn asks_for_more(musts: usize, minimum: usize) -> bool
 }
 
 /// Leaves out those of `scorers` that have no document left.
-fn keep_some<S: DocSet + Drop>(scorers: &mut Vec<S>)
+pub(crate) fn keep_some<S: DocSet + Drop>(scorers: &mut Vec<S>)
     ensures { HaveSame (map S.entries scorers.new.items) (map S.entries scorers.old.items) }
 {
     scorers.retain(|scorer| scorer.doc() < TERMINATED);

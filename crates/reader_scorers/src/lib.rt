@@ -2,8 +2,10 @@
 #![tactic(auto)]
 
 mod any_query_scorer;
+mod clause_counts;
 mod clause_walks;
 mod forms;
+mod joint_counts;
 mod joint_walks;
 mod leaf_weights;
 mod reader_scorers;
@@ -11,6 +13,7 @@ mod scorer_walks;
 mod terms_alone;
 
 pub use any_query_scorer::AnyScorer;
+pub use clause_counts::count_clauses;
 pub use clause_walks::feed_clauses;
 pub use leaf_weights::LeafWeights;
 pub use reader_scorers::{ReaderScorers, ScorerBy};

@@ -32,7 +32,7 @@ pub type ScorerBy<'a, W> = AnyScorer<
 /// A segment, and the maker of the scorers of queries that hold no other in it.
 #[derive(Drop)]
 pub struct ReaderScorers<'r, 'a, W: LeafWeights<'a>> {
-    reader: &'r SegmentReader<'a>,
+    pub(crate) reader: &'r SegmentReader<'a>,
     weights: &'r W,
 }
 
