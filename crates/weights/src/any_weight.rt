@@ -132,6 +132,7 @@ impl<'q, 'a, W: LeafWeights<'a>> Weight<'a> for AnyWeight<'q, W> {
         match self {
             AnyWeight::All(_) => Ok(count_all(reader)),
             AnyWeight::Term(query, _) => Ok(count_term(query.term(), reader)),
+            AnyWeight::Boolean(weight) => weight.count(alloc, reader),
             _ => calls::count(alloc, self, reader),
         }
     }

@@ -10,7 +10,7 @@ use common::{DocId, Score};
 use definitions::Fault;
 use phrases::{BlockSink, Sink};
 use query_trees::{AnyQuery, Occur};
-use reader_scorers::{LeafWeights, ReaderScorers, ScorerBy, feed_clauses};
+use reader_scorers::{LeafWeights, ReaderScorers, ScorerBy, count_clauses, feed_clauses};
 use segment_reader::SegmentReader;
 use std::alloc::{AllocError, Global};
 use term_scorer::Explanation;
@@ -86,7 +86,9 @@ impl<'q, 'a, W: LeafWeights<'a>> Weight<'a> for BooleanWeight<'q, W> {
     }
 
     fn count(&self, alloc: Global, reader: &SegmentReader<'a>) -> Result<u32, AllocError> {
-        calls::count(alloc, self, reader)
+        let forms = ReaderScorers::new(reader, &self.weights);
+        let minimum = self.minimum_number_should_match;
+        count_clauses(alloc, &forms, self.clauses, minimum)
     }
 
     fn for_each(

@@ -1,7 +1,10 @@
-use Rattle.std.proofs.Common.{ap, sym, ◌∙◌}
+use Rattle.std.proofs.Common.{None, ap, subst, sym, ◌∙◌, ◌≡◌}
+use Rattle.std.proofs.lemmas.Result.{IfOk-weaker}
 use Rattle.definitions.specs.Answers.{living_count}
 use Rattle.definitions.specs.Query.{term}
-use Rattle.weights.specs.AnyForms.{any_query}
+use Rattle.definitions.specs.Refusing.{tree_fault}
+use Rattle.weights.specs.AnyForms.{AnyScoresBy, any_query}
+use Rattle.weights.specs.Weighing.{IsWeighed}
 use Rattle.weights.proofs.any_weight.AnyWeightWeight.count.Goals as goal
 
 pub returns-in-All : goal.returns-in-All
@@ -11,3 +14,11 @@ pub returns-in-Term : goal.returns-in-Term
 returns-in-Term g c schema analyze sim rows has by passes =
     let option = c.in-Term.query.now.1 in
     c.count_term.ensures schema analyze option rows has ∙ ap (λ t. living_count schema analyze (term t option) rows) c.term.ensures ∙ ap (λ w. living_count schema analyze (any_query w) rows) (sym c.in-Term.is)
+
+pub count-requires : goal.count-requires
+count-requires g c = subst (λ w. IsWeighed (AnyScoresBy g.W.LeafWeights.similarity w) 1 (any_query w)) c.in-Boolean.is c.requires
+
+pub returns-in-Boolean : goal.returns-in-Boolean
+returns-in-Boolean g c schema analyze sim rows has by passes =
+    IfOk-weaker c.count.result _ _ (λ n is. is ∙ ap (λ w. living_count schema analyze (any_query w) rows) (sym c.in-Boolean.is))
+    (c.count.ensures schema analyze sim rows has (subst (λ w. AnyScoresBy g.W.LeafWeights.similarity w sim) c.in-Boolean.is by) (subst (λ w. tree_fault schema sim.weight 1 (any_query w) ≡ None) c.in-Boolean.is passes))
