@@ -1,4 +1,4 @@
-use Rattle.std.proofs.Common.{None, ap, subst, sym, ◌∙◌, ◌≡◌}
+use Rattle.std.proofs.Common.{None, ap, rules, subst, sym, ◌∙◌, ◌≡◌}
 use Rattle.std.proofs.lemmas.Result.{IfOk-weaker}
 use Rattle.definitions.specs.Answers.{living_count}
 use Rattle.definitions.specs.Query.{term}
@@ -16,7 +16,7 @@ returns-in-Term g c schema analyze sim rows has by passes =
     c.count_term.ensures schema analyze option rows has ∙ ap (λ t. living_count schema analyze (term t option) rows) c.term.ensures ∙ ap (λ w. living_count schema analyze (any_query w) rows) (sym c.in-Term.is)
 
 pub count-requires : goal.count-requires
-count-requires g c = subst (λ w. IsWeighed (AnyScoresBy g.W.LeafWeights.similarity w) 1 (any_query w)) c.in-Boolean.is c.requires
+count-requires g c κs = (search rules, subst (λ w. IsWeighed (AnyScoresBy g.W.LeafWeights.similarity w) 1 (any_query w)) c.in-Boolean.is c.requires)
 
 pub returns-in-Boolean : goal.returns-in-Boolean
 returns-in-Boolean g c schema analyze sim rows has by passes =

@@ -1,4 +1,4 @@
-use Rattle.std.proofs.Common.{None, ap, refl, subst, sym, ◌∙◌, ◌≡◌}
+use Rattle.std.proofs.Common.{None, ap, refl, rules, subst, sym, ◌∙◌, ◌≡◌}
 use Rattle.std.proofs.lemmas.Result.{IfOk-weaker}
 use Rattle.definitions.specs.Query as definitions
 use Rattle.definitions.specs.Refusing.{tree_fault}
@@ -8,10 +8,11 @@ use Rattle.weights.proofs.TreeLaws.{weighed_accepted}
 use Rattle.weights.proofs.boolean_weight.BooleanWeightWeight.count.Goals as goal
 
 pub count_clauses-requires : goal.count_clauses-requires
-count_clauses-requires g c =
+count_clauses-requires g c κs =
     let w = c.args.self.now in
     let q = definitions.boolean (clauses_of w.clauses.now) w.minimum_number_should_match in
-    weighed_accepted (g.W.LeafWeights.similarity w.weights) (g.W.LeafWeights.similarity c.new-forms.result.weights.now) 1 1 q q (ap g.W.LeafWeights.similarity c.new-forms.ensures.weights) refl refl c.requires
+    let accepted = weighed_accepted (g.W.LeafWeights.similarity w.weights) (g.W.LeafWeights.similarity c.new-forms.result.weights.now) 1 1 q q (ap g.W.LeafWeights.similarity c.new-forms.ensures.weights) refl refl c.requires in
+    (search rules, accepted)
 
 pub returns : goal.returns
 returns g c schema analyze sim rows has by passes =
