@@ -212,16 +212,18 @@ impl<D: Device + Drop, A: Analyzer + Drop> Index<D, A> {
 
     /// Checks that searches are answered.
     pub fn check_open(&self) -> Result<(), Fault>
-        ensures { (c : calls.Configuration) (x : calls.Index) → IndexStands A.analyze self.now c x
+        ensures stands { (c : calls.Configuration) (x : calls.Index) → IndexStands A.analyze self.now c x
             → result_err result ≡ calls.status_fault x.status true }
+        ensures status { result_err result ≡ calls.status_fault (state_of self.now) true }
     {
         self.index_state.check_open()
     }
 
     /// Checks that changes are accepted.
     pub fn check_writer(&self) -> Result<(), Fault>
-        ensures { (c : calls.Configuration) (x : calls.Index) → IndexStands A.analyze self.now c x
+        ensures stands { (c : calls.Configuration) (x : calls.Index) → IndexStands A.analyze self.now c x
             → result_err result ≡ calls.status_fault x.status false }
+        ensures status { result_err result ≡ calls.status_fault (state_of self.now) false }
     {
         self.index_state.check_writer()
     }

@@ -16,8 +16,10 @@ use std::alloc::{AllocError, Global};
 
 /// Encodes the reply to a search, hit by hit. A score is not negative.
 pub fn hits_text(alloc: Global, hits: &[Hit]) -> Result<String, AllocError>
-    ensures { (hs : List scanning.Hit) → map hit_of hits.now ≡ map scored hs
+    ensures scored { (hs : List scanning.Hit) → map hit_of hits.now ≡ map scored hs
         → IfOk result (λ text. string_bytes text ≡ definitions.reply_of (definitions.hits_reply hs)) }
+    ensures told { IfOk result (λ text.
+        string_bytes text ≡ definitions.reply_of (definitions.hits_reply (map told hits.now))) }
 {
     let mut out = Writer::new(Vec::new(alloc));
     write_reply(alloc, hits, &mut out)?;

@@ -6,8 +6,14 @@ use Rattle.reply_texts.proofs.ToldHits.{told_scored}
 use Rattle.reply_texts.specs.ToldHits.{told}
 use Rattle.reply_texts.proofs.hit_texts.hits_text.Goals as goal
 
-pub returns : goal.returns
-returns c hs same =
+pub returns-clause-told : goal.returns-clause-told
+returns-clause-told c =
+    let written = c.write_reply.new.out in
+    ap (λ v. v.items) c.from_utf8_unchecked.ensures.value
+    ∙ whole_text c.into_inner.result.items written.before c.new-out.result.tokens written.tokens (hits_reply (map told c.args.hits.now)) c.into_inner.ensures.items (c.write_reply.ensures.before ∙ c.new-out.ensures.before ∙ c.new.ensures.items) c.in_ok-write_reply.ensures.ok c.new-out.ensures.tokens
+
+pub returns-clause-scored : goal.returns-clause-scored
+returns-clause-scored c hs same =
     let written = c.write_reply.new.out in
     ap (λ v. v.items) c.from_utf8_unchecked.ensures.value
     ∙ whole_text c.into_inner.result.items written.before c.new-out.result.tokens written.tokens (hits_reply (map told c.args.hits.now)) c.into_inner.ensures.items (c.write_reply.ensures.before ∙ c.new-out.ensures.before ∙ c.new.ensures.items) c.in_ok-write_reply.ensures.ok c.new-out.ensures.tokens
