@@ -88,7 +88,7 @@ damaged_no_limit : (gate : Option ℕ) → faults.Damaged gate ≢ faults.Limit
 damaged_no_limit gate is = true≢false (sym (ap stops is))
 
 -- a slot is too long, or it isn't
-slot_is : (schema : Schema) (settings : Settings) (doc : Document) → IsSlotTooLong schema settings doc ⊎ ¬ IsSlotTooLong schema settings doc
+pub slot_is : (schema : Schema) (settings : Settings) (doc : Document) → IsSlotTooLong schema settings doc ⊎ ¬ IsSlotTooLong schema settings doc
 slot_is schema settings doc = elim (leb_tells (2 ^ 32) (settings.block_size + length (slot schema doc) + 8)) [
   | inl long ↦ inl long.1
   | inr short ↦ inr (λ long. let below = short.1 in omega (arith, long, below))

@@ -12,3 +12,5 @@ pub mod Asked
 pub mod Failures
 pub mod LineCrashes
 pub mod LineLists
+pub mod Endings
+pub mod AnyLines

@@ -75,7 +75,7 @@ pub opened_step : (s : steps.Session) → steps.is_ready s.stage ≡ false → s
 opened_step s is = ap (λ (b : Bool). cond b (steps.refusing faults.AlreadyOpen s.stage) (steps.opened s.analysis.knows (steps.held_by s.stage))) is
 
 -- what is asked of an index goes to the one that stands
-asked_step : (a : steps.Analysis) (stage : steps.Stage) (r : IndexRequest) → steps.stage_step a stage (index_request_of r) ≡ steps.in_index a.analyze stage (index_request_of r)
+pub asked_step : (a : steps.Analysis) (stage : steps.Stage) (r : IndexRequest) → steps.stage_step a stage (index_request_of r) ≡ steps.in_index a.analyze stage (index_request_of r)
 asked_step a stage (Add doc) = refl
 asked_step a stage (Delete term) = refl
 asked_step a stage (Merge from to) = refl

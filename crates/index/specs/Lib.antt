@@ -3,5 +3,6 @@ pub mod AskedRequests
 pub mod Replying
 pub mod Sessions
 pub mod Asking
+pub mod Outcomes
 pub mod Replied
 pub mod Runs

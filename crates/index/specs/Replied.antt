@@ -11,6 +11,7 @@ use Rattle.definitions.specs.declared.fault.Fault.{Fault}
 use Rattle.definitions.specs.declared.fault.Fault.TheVariants as faults
 use Rattle.engine.specs.Files.{IsFileOf}
 use Rattle.index.specs.Asking.{AsksOf, LeavesOn, LeftOn}
+use Rattle.index.specs.Outcomes.{ComesTo}
 use Rattle.index.specs.Replying.{IsUnwritten}
 use Rattle.index.specs.Sessions.{KeepsDeviceOf, Replies, StandsFor, failures_of, honest_of}
 use Rattle.index.specs.declared.session.Session.{Session}
@@ -28,6 +29,9 @@ pub record IsReplied {D A : Type 0} {d : devices.Ghosts D} {a : analyzers.Ghosts
   pub kept : IsTrue (honest_of old) → IsUnwritten (steps.line_request line) result → KeepsDeviceOf old new
   -- over an honest device it asked at most one thing of what stands that may write
   pub asks : IsTrue (honest_of old) → AsksOf a.knows_name a.analyze old.stage new.stage (steps.line_request line)
+  -- and whatever documents the segments of an index are of, what was asked of what stands came to an outcome, of which
+  -- the reply tells
+  pub comes : ComesTo a.knows_name a.analyze old.stage new.stage (steps.line_request line) result
 
 -- a crash at some moment from one session to another leaves this
 abbrev pub CrashLeaves :

@@ -12,10 +12,12 @@ ghost use Rattle.definitions.specs.Step as steps;
 ghost use Rattle.definitions.specs.declared.fault.Fault.TheVariants as faults;
 ghost use Rattle.index.specs.AskedRequests.{index_request_of};
 ghost use Rattle.index.specs.Asking.{AsksIndex};
+ghost use Rattle.index.specs.Outcomes.{Ends, IndexComesTo, saying, saying_done};
 ghost use Rattle.index.specs.Replying.{Answers, GoesOn, IndexMeets, IsFailed, IsUnwritten, OnlyStops, TakesChange, change_text};
-ghost use Rattle.engine.specs.Indexes.{IndexStands, IsInFile, KeepsFile, KeepsMaking, device_of};
+ghost use Rattle.engine.specs.Indexes.{IndexStands, IsInFile, IsShadow, KeepsFile, KeepsMaking, device_of};
 ghost use Rattle.engine.specs.HandedOn.{hit_of, scored};
 ghost use Rattle.definitions.specs.Replying.{stops};
+ghost use Rattle.reply_texts.specs.ToldHits.{told};
 ghost use Rattle.serde_json.specs.View.{view};
 
 use crate::json_replies::count_text;
@@ -62,6 +64,7 @@ pub(crate) fn answer<D: Device + Drop, A: Analyzer + Drop>(
     ensures failed { (c : calls.Configuration) (x : calls.Index) → IndexStands A.analyze index.old c x
         → IsErrOf result faults.Device
         → IsFailed A.analyze index.old index.new c x (index_request_of request.entry) }
+    ensures comes { IndexComesTo A.analyze index.old index.new (index_request_of request.entry) result }
 {
     match request {
         IndexRequest::Add(doc) => answer_change(index.add_value(doc)),
@@ -89,6 +92,8 @@ fn delete<D: Device + Drop, A: Analyzer + Drop>(
         → IfErr result (λ fault. fault ≢ faults.OutOfMemory → stops fault ≡ false) }
     ensures made { KeepsMaking index.old index.new }
     ensures file { KeepsFile index.old index.new }
+    ensures ends { (c : calls.Configuration) (x : calls.Index) → IsShadow A.analyze index.old c x
+        → Ends A.analyze index.old index.new c x (requests.delete_docs (view term.now)) (saying_done result) }
 {
     index.check_writer()?;
     let term = read_term(index.alloc(), index.schema(), term)?;
@@ -110,6 +115,7 @@ fn search<D: Device + Drop, A: Analyzer + Drop>(
         → IndexStands A.analyze index.new c x }
     ensures made { KeepsMaking index.old index.new }
     ensures file { KeepsFile index.old index.new }
+    ensures comes { IndexComesTo A.analyze index.old index.new (requests.search_docs (view query.now) k) result }
 {
     match find(index, query, k) {
         Ok(hits) => Ok(CowStr::Owned(hits_text(index.alloc(), &hits)?)),
@@ -127,6 +133,7 @@ fn count<D: Device + Drop, A: Analyzer + Drop>(
     ensures err { (c : calls.Configuration) (x : calls.Index) → IndexStands A.analyze index.now c x
         → IfErr result (λ fault. fault ≡ faults.OutOfMemory) }
     ensures stops { IfErr result (λ fault. IsTrue (stops fault)) }
+    ensures comes { IndexComesTo A.analyze index.now index.now (requests.count_docs (view query.now)) result }
 {
     match find_count(index, query) {
         Ok(count) => Ok(CowStr::Owned(count_text(index.alloc(), count)?)),
@@ -154,6 +161,9 @@ fn find<D: Device + Drop, A: Analyzer + Drop>(
         → IndexStands A.analyze index.new c x }
     ensures made { KeepsMaking index.old index.new }
     ensures file { KeepsFile index.old index.new }
+    ensures ends { (c : calls.Configuration) (x : calls.Index) → IsShadow A.analyze index.old c x
+        → Ends A.analyze index.old index.new c x (requests.search_docs (view query.now) k)
+        (saying result (λ hits. hits_reply (map told hits.items))) }
 {
     index.check_open()?;
     let query = read_query(index.alloc(), index.schema(), query)?;
@@ -175,6 +185,8 @@ fn find_count<D: Device + Drop, A: Analyzer + Drop>(
         → IfErr result (λ fault. fault ≡ faults.OutOfMemory → calls.status_fault x.status true ≡ None) }
     ensures goes_on { (c : calls.Configuration) (x : calls.Index) → IndexStands A.analyze index.now c x
         → IfErr result (λ fault. fault ≢ faults.OutOfMemory → stops fault ≡ false) }
+    ensures ends { (c : calls.Configuration) (x : calls.Index) → IsShadow A.analyze index.now c x
+        → Ends A.analyze index.now index.now c x (requests.count_docs (view query.now)) (saying result count_reply) }
 {
     index.check_open()?;
     let query = read_query(index.alloc(), index.schema(), query)?;

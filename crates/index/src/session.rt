@@ -1,6 +1,6 @@
 //! A session: lines of JSON that make requests to the index of a device.
 
-ghost use Rattle.std.specs.Prelude.{IfErr, IfOk, IsErrOf, IsTrue, Some, false, is_some, option_map, true, ◌≡◌, ◌≢◌, ◌≤◌};
+ghost use Rattle.std.specs.Prelude.{IfErr, IfOk, IsErrOf, IsTrue, None, Some, false, is_some, option_map, true, ◌≡◌, ◌≢◌, ◌≤◌};
 ghost use Rattle.definitions.specs.Calls as calls;
 ghost use Rattle.definitions.specs.Disk.{HasCause};
 ghost use Rattle.definitions.specs.Requests as requests;
@@ -36,6 +36,7 @@ pub struct Session<D: Device, A: Analyzer> {
 }
 
 impl<D: Device + Drop, A: Analyzer + Drop> Session<D, A> {
+    ghost use Rattle.index.specs.Outcomes.{index_in};
     ghost use Rattle.index.specs.Sessions.{HasHeld, IsKnown, IsSpare, StandsFor, analysis_of, parts_of, session_of, session_on};
 
     /// Returns a session over `device`, in which no index is created or opened yet.
@@ -43,6 +44,7 @@ impl<D: Device + Drop, A: Analyzer + Drop> Session<D, A> {
         ensures stands { (held : steps.Held) → HasHeld D.honest D.content (A.analyze analyzer) device held
             → StandsFor result (session_on (analysis_of A.knows_name A.analyze analyzer) held) }
         ensures parts { parts_of result ≡ Some (device, analyzer) }
+        ensures index { index_in result ≡ None }
     {
         Session {
             alloc,
@@ -61,6 +63,7 @@ impl<D: Device + Drop, A: Analyzer + Drop> Session<D, A> {
             → StandsFor result (session_of (analysis_of A.knows_name A.analyze (analyzer_of index))
             (schema_of index) (settings_of index) x) }
         ensures parts { parts_of result ≡ Some (device_of index, analyzer_of index) }
+        ensures index { index_in result ≡ Some index }
     {
         Session {
             alloc: index.alloc(),
@@ -95,7 +98,8 @@ impl<D: Device + Drop, A: Analyzer + Drop> Service for Session<D, A> {
 
 impl<D: Device + Drop, A: Analyzer + Drop> Session<D, A> {
     ghost use Rattle.index.specs.Asking.{AsksOf, CreatesOf, OpensOf};
-    ghost use Rattle.index.specs.Sessions.{KeepsDeviceOf, LeavesStage, Replies, StandsFor, failures_of, honest_of};
+    ghost use Rattle.index.specs.Outcomes.{BothStand, ComesTo, IsMade, IsRead, takes_in};
+    ghost use Rattle.index.specs.Sessions.{KeepsDeviceOf, LeavesStage, Replies, StandsFor, analyzer_on, device_on, failures_of, honest_of};
 
     /// Answers the request in `line`.
     pub(crate) fn answer_line(&mut self, line: &str) -> Result<CowStr<'static>, Fault>
@@ -110,6 +114,8 @@ impl<D: Device + Drop, A: Analyzer + Drop> Session<D, A> {
         ensures asks { IsTrue (honest_of self.old)
             → AsksOf A.knows_name A.analyze self.old.stage self.new.stage
             (steps.line_request line.now) }
+        ensures comes { ComesTo A.knows_name A.analyze self.old.stage self.new.stage
+            (steps.line_request line.now) result }
     {
         match parse_line(self.alloc, line)? {
             Some(json) => self.answer_value(&json),
@@ -130,6 +136,8 @@ impl<D: Device + Drop, A: Analyzer + Drop> Session<D, A> {
         ensures asks { IsTrue (honest_of self.old)
             → AsksOf A.knows_name A.analyze self.old.stage self.new.stage
             (requests.request_in (view json.now)) }
+        ensures comes { ComesTo A.knows_name A.analyze self.old.stage self.new.stage
+            (requests.request_in (view json.now)) result }
     {
         match request_in(json) {
             Some(request) => self.answer(request),
@@ -150,6 +158,8 @@ impl<D: Device + Drop, A: Analyzer + Drop> Session<D, A> {
         ensures asks { IsTrue (honest_of self.old)
             → AsksOf A.knows_name A.analyze self.old.stage self.new.stage
             (Some (request_of request.entry)) }
+        ensures comes { ComesTo A.knows_name A.analyze self.old.stage self.new.stage
+            (Some (request_of request.entry)) result }
     {
         match request {
             Request::Create(schema, settings) => self.create(schema, settings),
@@ -173,6 +183,8 @@ impl<D: Device + Drop, A: Analyzer + Drop> Session<D, A> {
         ensures asks { IsTrue (honest_of self.old)
             → AsksOf A.knows_name A.analyze self.old.stage self.new.stage
             (Some (requests.create_index (view schema.now) (option_map (λ d. view d.now) settings.entry))) }
+        ensures comes { ComesTo A.knows_name A.analyze self.old.stage self.new.stage
+            (Some (requests.create_index (view schema.now) (option_map (λ d. view d.now) settings.entry))) result }
     {
         if self.has_ready_index() {
             return Ok(CowStr::Borrowed(Fault::AlreadyOpen.reply()));
@@ -196,6 +208,8 @@ impl<D: Device + Drop, A: Analyzer + Drop> Session<D, A> {
         ensures asks { IsTrue (honest_of self.old)
             → AsksOf A.knows_name A.analyze self.old.stage self.new.stage
             (Some requests.open_index) }
+        ensures comes { ComesTo A.knows_name A.analyze self.old.stage self.new.stage
+            (Some requests.open_index) result }
     {
         if self.has_ready_index() {
             return Ok(CowStr::Borrowed(Fault::AlreadyOpen.reply()));
@@ -216,6 +230,8 @@ impl<D: Device + Drop, A: Analyzer + Drop> Session<D, A> {
         ensures asks { IsTrue (honest_of self.old)
             → AsksOf A.knows_name A.analyze self.old.stage self.new.stage
             (Some (index_request_of request.entry)) }
+        ensures comes { ComesTo A.knows_name A.analyze self.old.stage self.new.stage
+            (Some (index_request_of request.entry)) result }
     {
         match &mut self.stage {
             Some(Stage::Standing(index)) => answer(index, request),
@@ -235,6 +251,8 @@ impl<D: Device + Drop, A: Analyzer + Drop> Session<D, A> {
         ensures kept { IsTrue (honest_of self.old)
             → IfErr result (λ fault. fault ≢ faults.Device → KeepsDeviceOf self.old self.new) }
         ensures creates { IsTrue (honest_of self.old) → CreatesOf self.old.stage self.new.stage }
+        ensures made { BothStand (λ old new. IsMade A.knows_name A.analyze (device_on old) (analyzer_on old)
+            schema settings (new, result)) self.old.stage self.new.stage }
     {
         let Some(stage) = self.stage.take() else {
             unreachable!();
@@ -256,6 +274,8 @@ impl<D: Device + Drop, A: Analyzer + Drop> Session<D, A> {
         ensures kept { IsTrue (honest_of self.old)
             → IfErr result (λ fault. fault ≢ faults.Device → KeepsDeviceOf self.old self.new) }
         ensures opens { IsTrue (honest_of self.old) → OpensOf self.old.stage self.new.stage }
+        ensures read { BothStand (λ old new. IsRead A.knows_name A.analyze (device_on old) (analyzer_on old)
+            (new, result)) self.old.stage self.new.stage }
     {
         let Some(stage) = self.stage.take() else {
             unreachable!();
@@ -267,7 +287,8 @@ impl<D: Device + Drop, A: Analyzer + Drop> Session<D, A> {
 
     /// Returns whether the session has an index that accepts every call.
     fn has_ready_index(&self) -> bool
-        ensures { (s : steps.Session) → StandsFor self.now s → result ≡ steps.is_ready s.stage }
+        ensures stands { (s : steps.Session) → StandsFor self.now s → result ≡ steps.is_ready s.stage }
+        ensures any { result ≡ takes_in self.now.stage }
     {
         match &self.stage {
             Some(stage) => stage.is_ready(),

@@ -7,6 +7,7 @@ ghost use Rattle.definitions.specs.declared.fault.Fault.TheVariants as faults;
 ghost use Rattle.index_file.specs.Kept.{IsKept};
 ghost use Rattle.engine.specs.HandedOn.{status_of};
 ghost use Rattle.index.specs.Asking.{Creates, Opens};
+ghost use Rattle.index.specs.Outcomes.{IsMade, IsRead, takes_on};
 ghost use Rattle.index.specs.Sessions.{IsSpare, IsStage, LeavesStage, analyzer_on, device_on, left_by};
 
 use common::{Analyzer, Device};
@@ -28,8 +29,9 @@ pub(crate) enum Stage<D: Device, A: Analyzer> {
 impl<D: Device + Drop, A: Analyzer + Drop> Stage<D, A> {
     /// Returns whether there is an index that accepts every call.
     pub(crate) fn is_ready(&self) -> bool
-        ensures { (a : steps.Analysis) (s : steps.Stage) → IsStage A.knows_name A.analyze a self.now s
+        ensures stands { (a : steps.Analysis) (s : steps.Stage) → IsStage A.knows_name A.analyze a self.now s
             → result ≡ steps.is_ready s }
+        ensures any { result ≡ takes_on self.now }
     {
         match self {
             Stage::Spare(_, _) => false,
@@ -54,6 +56,7 @@ impl<D: Device + Drop, A: Analyzer + Drop> Stage<D, A> {
         ensures kept { IsTrue (D.honest (device_on self)) → IfErr result.1 (λ fault. fault ≢ faults.Device
             → IsKept D.moment D.left_since D.content D.unsynced (device_on self) (device_on result.0)) }
         ensures creates { Creates self result.0 }
+        ensures made { IsMade A.knows_name A.analyze (device_on self) (analyzer_on self) schema settings result }
     {
         let (device, analyzer) = self.into_device();
         leave(Index::create(alloc, device, analyzer, schema, settings))
@@ -72,6 +75,7 @@ impl<D: Device + Drop, A: Analyzer + Drop> Stage<D, A> {
         ensures kept { IsTrue (D.honest (device_on self)) → IfErr result.1 (λ fault. fault ≢ faults.Device
             → IsKept D.moment D.left_since D.content D.unsynced (device_on self) (device_on result.0)) }
         ensures opens { Opens self result.0 }
+        ensures read { IsRead A.knows_name A.analyze (device_on self) (analyzer_on self) result }
     {
         let (device, analyzer) = self.into_device();
         leave(Index::open(alloc, device, analyzer))

@@ -15,6 +15,8 @@ use Rattle.index.proofs.Leavings.{add_closes, add_stays, after_any, after_error,
 use Rattle.serde_json.specs.View.{view}
 use Rattle.index.specs.Asking.{AsksIndex}
 use Rattle.index.proofs.Failures.{closed_no_limit, memory_no_device, no_add_failed, writes_failed}
+use Rattle.index.specs.Outcomes.{IndexComesTo, saying_done}
+use Rattle.index.proofs.Endings.{add_ends, change_tells, commit_ends, merge_ends}
 use Rattle.index.proofs.answers.answer.Goals as goal
 
 -- ---- an add
@@ -345,3 +347,67 @@ returns-in-Count-clause-closed g c k x s closed limit = memory_no_limit c.count.
 
 pub returns-in-Count-clause-failed : goal.returns-in-Count-clause-failed
 returns-in-Count-clause-failed g c k x s device = absurd (memory_no_device c.count.result (c.count.ensures.err k x s) device)
+
+-- ---- an index of whatever documents
+
+pub returns-in-Add-clause-comes : goal.returns-in-Add-clause-comes
+returns-in-Add-clause-comes g c =
+    let analyze = g.A.Analyzer.analyze in
+    let old = c.args.index.now in
+    let new = c.add_value.new.self in
+    let value = view c.in-Add.doc.now in
+    let add = c.add_value.ensures in
+    subst (λ r. IndexComesTo analyze old new (index_request_of r) c.answer_change.result) (sym c.in-Add.is)
+    (record {
+      made = add.made;
+      outcome = saying_done c.add_value.result;
+      tells = change_tells c.add_value.result c.answer_change.result c.answer_change.ensures.text c.answer_change.ensures.on c.answer_change.ensures.err c.answer_change.ensures.same;
+      ends = λ k x shadow. add_ends analyze old new k x value c.add_value.result (add.refused k x shadow) (add.admitted k x shadow) add.same add.stopped add.ready add.same_beside add.waits add.file;
+    })
+
+pub returns-in-Delete-clause-comes : goal.returns-in-Delete-clause-comes
+returns-in-Delete-clause-comes g c =
+    let analyze = g.A.Analyzer.analyze in
+    subst (λ r. IndexComesTo analyze c.args.index.now c.delete.new.index (index_request_of r) c.answer_change-in-Delete.result) (sym c.in-Delete.is)
+    (record {
+      made = c.delete.ensures.made;
+      outcome = saying_done c.delete.result;
+      tells = change_tells c.delete.result c.answer_change-in-Delete.result c.answer_change-in-Delete.ensures.text c.answer_change-in-Delete.ensures.on c.answer_change-in-Delete.ensures.err c.answer_change-in-Delete.ensures.same;
+      ends = c.delete.ensures.ends;
+    })
+
+pub returns-in-Merge-clause-comes : goal.returns-in-Merge-clause-comes
+returns-in-Merge-clause-comes g c =
+    let analyze = g.A.Analyzer.analyze in
+    let old = c.args.index.now in
+    let new = c.merge.new.self in
+    let merge = c.merge.ensures in
+    subst (λ r. IndexComesTo analyze old new (index_request_of r) c.answer_change-in-Merge.result) (sym c.in-Merge.is)
+    (record {
+      made = merge.made;
+      outcome = saying_done c.merge.result;
+      tells = change_tells c.merge.result c.answer_change-in-Merge.result c.answer_change-in-Merge.ensures.text c.answer_change-in-Merge.ensures.on c.answer_change-in-Merge.ensures.err c.answer_change-in-Merge.ensures.same;
+      ends = λ k x shadow. merge_ends analyze old new k x c.in-Merge.from c.in-Merge.to c.merge.result (merge.refused k x shadow) (merge.admitted k x shadow) merge.same merge.failed merge.waits merge.segments merge.kept;
+    })
+
+pub returns-in-Commit-clause-comes : goal.returns-in-Commit-clause-comes
+returns-in-Commit-clause-comes g c =
+    let analyze = g.A.Analyzer.analyze in
+    let old = c.args.index.now in
+    let new = c.commit.new.self in
+    let commit = c.commit.ensures in
+    subst (λ r. IndexComesTo analyze old new (index_request_of r) c.answer_change-in-Commit.result) (sym c.in-Commit.is)
+    (record {
+      made = commit.made;
+      outcome = saying_done c.commit.result;
+      tells = change_tells c.commit.result c.answer_change-in-Commit.result c.answer_change-in-Commit.ensures.text c.answer_change-in-Commit.ensures.on c.answer_change-in-Commit.ensures.err c.answer_change-in-Commit.ensures.same;
+      ends = λ k x shadow. commit_ends analyze old new k x c.commit.result (commit.refused k x shadow) (commit.admitted k x shadow) commit.same commit.half_way commit.failed commit.idle commit.segments commit.kept;
+    })
+
+pub returns-in-Search-clause-comes : goal.returns-in-Search-clause-comes
+returns-in-Search-clause-comes g c =
+    subst (λ r. IndexComesTo g.A.Analyzer.analyze c.args.index.now c.search.new.index (index_request_of r) c.search.result) (sym c.in-Search.is) c.search.ensures.comes
+
+pub returns-in-Count-clause-comes : goal.returns-in-Count-clause-comes
+returns-in-Count-clause-comes g c =
+    subst (λ r. IndexComesTo g.A.Analyzer.analyze c.args.index.now c.args.index.now (index_request_of r) c.count.result) (sym c.in-Count.is) c.count.ensures.comes

@@ -8,4 +8,5 @@ returns g c = record {
   later = c.answer_line.ensures.later;
   kept = c.answer_line.ensures.kept;
   asks = c.answer_line.ensures.asks;
+  comes = c.answer_line.ensures.comes;
 }

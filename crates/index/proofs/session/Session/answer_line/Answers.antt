@@ -7,6 +7,8 @@ use Rattle.index.proofs.SessionSteps.{line_asks, memory_reply, unasked_reply}
 use Rattle.serde_json.specs.View.{view}
 use Rattle.index.specs.Asking.{AsksOf}
 use Rattle.index.proofs.Asked.{same_asks}
+use Rattle.index.specs.Outcomes.{ComesTo}
+use Rattle.index.proofs.AnyLines.{memory_comes, none_comes}
 use Rattle.index.proofs.session.Session.answer_line.Goals as goal
 
 pub returns-in_err-json-clause-answered : goal.returns-in_err-json-clause-answered
@@ -42,3 +44,17 @@ returns-in-Some-clause-asks g c honest =
 
 pub returns-in-None-clause-asks : goal.returns-in-None-clause-asks
 returns-in-None-clause-asks g c honest = same_asks g.A.Analyzer.knows_name g.A.Analyzer.analyze c.args.self.now.stage _ honest
+
+pub returns-in_err-json-clause-comes : goal.returns-in_err-json-clause-comes
+returns-in_err-json-clause-comes g c =
+    memory_comes g.A.Analyzer.knows_name g.A.Analyzer.analyze c.args.self.now.stage (steps.line_request c.args.line.now) c.from_residual.result c.args.self.now.full c.from_residual.ensures.1
+
+pub returns-in-Some-clause-comes : goal.returns-in-Some-clause-comes
+returns-in-Some-clause-comes g c =
+    let asks = line_asks c.args.line.now (Some (view c.in-Some.json)) (ap (option_map view) (sym c.in-Some.is) ∙ c.in_ok-json.ensures) in
+    subst (λ q. ComesTo g.A.Analyzer.knows_name g.A.Analyzer.analyze c.args.self.now.stage c.answer_value.new.self.stage q c.answer_value.result) (sym asks) c.answer_value.ensures.comes
+
+pub returns-in-None-clause-comes : goal.returns-in-None-clause-comes
+returns-in-None-clause-comes g c =
+    none_comes g.A.Analyzer.knows_name g.A.Analyzer.analyze c.args.self.now.stage (steps.line_request c.args.line.now) _ c.args.self.now.full
+    (sym (line_asks c.args.line.now None (ap (option_map view) (sym c.in-None.is) ∙ c.in_ok-json.ensures))) c.reply.ensures

@@ -6,6 +6,8 @@ use Rattle.index.proofs.KeptDevices.{same_kept}
 use Rattle.index.proofs.SessionSteps.{unasked_reply}
 use Rattle.index.specs.Asking.{AsksOf}
 use Rattle.index.proofs.Asked.{same_asks}
+use Rattle.index.specs.Outcomes.{ComesTo}
+use Rattle.index.proofs.AnyLines.{none_comes}
 use Rattle.index.proofs.session.Session.answer_value.Goals as goal
 
 pub returns-in-Some-clause-answered : goal.returns-in-Some-clause-answered
@@ -28,3 +30,11 @@ returns-in-Some-clause-asks g c honest =
 
 pub returns-in-None-clause-asks : goal.returns-in-None-clause-asks
 returns-in-None-clause-asks g c honest = same_asks g.A.Analyzer.knows_name g.A.Analyzer.analyze c.args.self.now.stage _ honest
+
+pub returns-in-Some-clause-comes : goal.returns-in-Some-clause-comes
+returns-in-Some-clause-comes g c =
+    subst (λ q. ComesTo g.A.Analyzer.knows_name g.A.Analyzer.analyze c.args.self.now.stage c.answer.new.self.stage q c.answer.result) (ap (option_map request_of) (sym c.in-Some.is) ∙ c.request_in.ensures) c.answer.ensures.comes
+
+pub returns-in-None-clause-comes : goal.returns-in-None-clause-comes
+returns-in-None-clause-comes g c =
+    none_comes g.A.Analyzer.knows_name g.A.Analyzer.analyze c.args.self.now.stage _ _ c.args.self.now.full (ap (option_map request_of) (sym c.in-None.is) ∙ c.request_in.ensures) c.reply.ensures

@@ -6,6 +6,8 @@ use Rattle.index.proofs.KeptDevices.{index_kept, same_kept}
 use Rattle.index.proofs.SessionSteps.{index_reply, none_asked, refused_reply, same_stage}
 use Rattle.index.specs.Asking.{AsksOf}
 use Rattle.index.proofs.Asked.{index_asks, same_asks}
+use Rattle.index.proofs.AnyLines.{index_comes, spare_comes}
+use Rattle.index.specs.Outcomes.{ComesTo}
 use Rattle.index.proofs.session.Session.ask.Goals as goal
 
 pub returns-in-Some-Standing-clause-answered : goal.returns-in-Some-Standing-clause-answered
@@ -59,3 +61,15 @@ returns-in-Some-Spare-clause-asks g c honest =
     let analyze = g.A.Analyzer.analyze in
     let asked = Some (index_request_of c.args.request) in
     subst (λ o. AsksOf knows analyze c.args.self.now.stage o asked) c.in-Some-Spare.is (same_asks knows analyze c.args.self.now.stage asked honest)
+
+pub returns-in-Some-Standing-clause-comes : goal.returns-in-Some-Standing-clause-comes
+returns-in-Some-Standing-clause-comes g c =
+    index_comes g.A.Analyzer.knows_name g.A.Analyzer.analyze c.in-Some-Standing.index c.answer.new.index c.args.self.now.stage _ (index_request_of c.args.request) c.answer.result (c.in-Some-Standing.is ∙ ap Some c.in-Some-Standing.field-0-is) refl c.answer.ensures.comes
+
+pub returns-in-Some-Spare-clause-comes : goal.returns-in-Some-Spare-clause-comes
+returns-in-Some-Spare-clause-comes g c =
+    let knows = g.A.Analyzer.knows_name in
+    let analyze = g.A.Analyzer.analyze in
+    let asked = Some (index_request_of c.args.request) in
+    subst (λ o. ComesTo knows analyze c.args.self.now.stage o asked _) c.in-Some-Spare.is
+    (spare_comes knows analyze c.args.self.now.stage _ _ c.args.request _ (c.in-Some-Spare.is ∙ ap Some c.in-Some-Spare.field-0-is) c.reply.ensures)

@@ -8,6 +8,8 @@ use Rattle.index.specs.Sessions.{LeavesStage, device_on}
 use Rattle.index.proofs.Stages.{create_left, made_no_limit, stage_failures, stage_honest, stage_kept}
 use Rattle.index.specs.Asking.{Creates}
 use Rattle.index.proofs.Asked.{creates_of}
+use Rattle.index.specs.Outcomes.{IsMade}
+use Rattle.index.specs.Sessions.{analyzer_on}
 use Rattle.index.proofs.stage.Stage.create.Goals as goal
 
 pub returns-clause-left : goal.returns-clause-left
@@ -46,3 +48,22 @@ pub returns-clause-creates : goal.returns-clause-creates
 returns-clause-creates g c =
     subst (λ r. Creates c.args.self r.0) (sym c.leave.ensures)
     (creates_of c.args.self c.into_device-device.result.0 c.create.result c.into_device-device.ensures.device c.create.ensures.empty c.create.ensures.stays c.create.ensures.any_moment c.create.ensures.lists)
+
+pub returns-clause-made : goal.returns-clause-made
+returns-clause-made g c =
+    let knows = g.A.Analyzer.knows_name in
+    let analyze = g.A.Analyzer.analyze in
+    let make = c.create.ensures in
+    let left = c.leave.result in
+    subst (λ e. IsMade knows analyze e (analyzer_on c.args.self) c.args.schema c.args.settings left) c.into_device-device.ensures.device
+    (subst (λ f. IsMade knows analyze c.into_device-device.result.0 f c.args.schema c.args.settings left) c.into_device-device.ensures.analyzer
+    (record {
+      outcome = c.create.result;
+      leaves = c.leave.ensures;
+      fresh = make.ok;
+      possible = make.made;
+      exact = make.exact;
+      empty = make.empty;
+      not_empty = make.not_empty;
+      kept = make.analyzer;
+    }))

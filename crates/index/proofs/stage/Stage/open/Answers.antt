@@ -8,6 +8,8 @@ use Rattle.index.specs.Sessions.{LeavesStage, device_on}
 use Rattle.index.proofs.Stages.{held_honest, open_left, opened_no_limit, stage_failures, stage_honest, stage_kept}
 use Rattle.index.specs.Asking.{Opens}
 use Rattle.index.proofs.Asked.{opens_of}
+use Rattle.index.specs.Outcomes.{IsRead}
+use Rattle.index.specs.Sessions.{analyzer_on}
 use Rattle.index.proofs.stage.Stage.open.Goals as goal
 
 pub returns-clause-left : goal.returns-clause-left
@@ -49,3 +51,22 @@ pub returns-clause-opens : goal.returns-clause-opens
 returns-clause-opens g c =
     subst (λ r. Opens c.args.self r.0) (sym c.leave.ensures)
     (opens_of c.args.self c.into_device-device.result.0 c.open.result c.into_device-device.ensures.device c.open.ensures.images)
+
+pub returns-clause-read : goal.returns-clause-read
+returns-clause-read g c =
+    let knows = g.A.Analyzer.knows_name in
+    let analyze = g.A.Analyzer.analyze in
+    let open_ = c.open.ensures in
+    let left = c.leave.result in
+    subst (λ e. IsRead knows analyze e (analyzer_on c.args.self) left) c.into_device-device.ensures.device
+    (subst (λ f. IsRead knows analyze c.into_device-device.result.0 f left) c.into_device-device.ensures.analyzer
+    (record {
+      outcome = c.open.result;
+      leaves = c.leave.ensures;
+      opened = open_.opened;
+      idle = open_.idle;
+      known = open_.known;
+      exact = open_.refused;
+      any_device = open_.faults;
+      kept = open_.analyzer;
+    }))
