@@ -26,6 +26,12 @@ use Rattle.index.proofs.SessionSteps.{already_made, already_opened, asked_step, 
 use Rattle.index_file.proofs.Faults.{memory_or_other}
 use Rattle.serde_json.specs.Data as json
 
+-- what no index is asked
+module _ {D A : Type 0} (d : devices.Ghosts D) (an : analyzers.Ghosts A) (knows : A → List ℕ → Bool) (analyze : A → Analyzer) where
+  spare_asked : (a : steps.Analysis) (device : D) (analyzer : A) (s : steps.Stage) (r : IndexRequest) → IsShadowOn {d = d} {an = an} knows analyze a (Spare device analyzer) s → steps.stage_step a s (index_request_of r) ≡ steps.refusing faults.NotOpen s
+  spare_asked a device analyzer (steps.no_index held) r shadow = asked_step a (steps.no_index held) r
+  spare_asked a device analyzer (steps.index_of schema settings x) r shadow = absurd shadow
+
 module _ {D A : Type 0} {d : devices.Ghosts D} {an : analyzers.Ghosts A} (knows : A → List ℕ → Bool) (analyze : A → Analyzer) where
   -- what the definitions have is ready where what stands is
   shadow_ready : (a : steps.Analysis) (old : Stage D A d an) (s : steps.Stage) → IsShadowOn knows analyze a old s → steps.is_ready s ≡ takes_on old
@@ -33,11 +39,6 @@ module _ {D A : Type 0} {d : devices.Ghosts D} {an : analyzers.Ghosts A} (knows 
   shadow_ready a (Spare device analyzer) (steps.index_of schema settings x) shadow = absurd shadow
   shadow_ready a (Standing index) (steps.no_index held) shadow = absurd shadow
   shadow_ready a (Standing index) (steps.index_of schema settings x) shadow = ap steps.takes_calls shadow.3.status
-
-  -- what no index is asked
-  spare_asked : (a : steps.Analysis) (device : D) (analyzer : A) (s : steps.Stage) (r : IndexRequest) → IsShadowOn {d = d} {an = an} knows analyze a (Spare device analyzer) s → steps.stage_step a s (index_request_of r) ≡ steps.refusing faults.NotOpen s
-  spare_asked a device analyzer (steps.no_index held) r shadow = asked_step a (steps.no_index held) r
-  spare_asked a device analyzer (steps.index_of schema settings x) r shadow = absurd shadow
 
   module _ {Z : Type 0} where
     -- what leaves what stands as it is
@@ -57,10 +58,11 @@ module _ {D A : Type 0} {d : devices.Ghosts D} {an : analyzers.Ghosts A} (knows 
         subst (λ q. ComesTo knows analyze o o q (Ok text)) is (still_comes o None (Err faults.BadRequest) (Ok text) full (λ stage _. no_request refl) (refl, told))
 
     -- something is asked of no index
-    pub spare_comes : (o : Option (Stage D A d an)) (device : D) (analyzer : A) (r : IndexRequest) (text : CowStr Z) → o ≡ Some (Spare device analyzer) → cow_str_bytes text ≡ reply_text faults.NotOpen → ComesTo knows analyze o o (Some (index_request_of r)) (Ok text)
-    spare_comes o device analyzer r text was told =
-        subst (λ p. ComesTo knows analyze p p (Some (index_request_of r)) (Ok text)) (sym was)
-        (record { outcome = Err faults.NotOpen; tells = (refl, told); comes = unasked (index_request_of r) faults.NotOpen (λ a s shadow. spare_asked a device analyzer s r shadow) refl })
+    pub spare_comes : (o after : Option (Stage D A d an)) (device : D) (analyzer : A) (r : IndexRequest) (text : CowStr Z) → o ≡ Some (Spare device analyzer) → o ≡ after → cow_str_bytes text ≡ reply_text faults.NotOpen → ComesTo knows analyze o after (Some (index_request_of r)) (Ok text)
+    spare_comes o after device analyzer r text was same told =
+        subst (λ p. ComesTo knows analyze o p (Some (index_request_of r)) (Ok text)) same
+        (subst (λ p. ComesTo knows analyze p p (Some (index_request_of r)) (Ok text)) (sym was)
+        (record { outcome = Err faults.NotOpen; tells = (refl, told); comes = unasked (index_request_of r) faults.NotOpen (λ a s shadow. spare_asked d an knows analyze a device analyzer s r shadow) refl }))
 
     -- or of the one that stands
     pub index_comes : (old new : Index D A d an) (before after : Option (Stage D A d an)) (r : requests.Request) (result : Result (CowStr Z) Fault) → before ≡ Some (Standing old) → after ≡ Some (Standing new) → IndexComesTo analyze old new r result → ComesTo knows analyze before after (Some r) result

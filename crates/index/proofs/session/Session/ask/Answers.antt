@@ -68,8 +68,4 @@ returns-in-Some-Standing-clause-comes g c =
 
 pub returns-in-Some-Spare-clause-comes : goal.returns-in-Some-Spare-clause-comes
 returns-in-Some-Spare-clause-comes g c =
-    let knows = g.A.Analyzer.knows_name in
-    let analyze = g.A.Analyzer.analyze in
-    let asked = Some (index_request_of c.args.request) in
-    subst (λ o. ComesTo knows analyze c.args.self.now.stage o asked _) c.in-Some-Spare.is
-    (spare_comes knows analyze c.args.self.now.stage _ _ c.args.request _ (c.in-Some-Spare.is ∙ ap Some c.in-Some-Spare.field-0-is) c.reply.ensures)
+    spare_comes g.A.Analyzer.knows_name g.A.Analyzer.analyze c.args.self.now.stage _ _ _ c.args.request _ (c.in-Some-Spare.is ∙ ap Some c.in-Some-Spare.field-0-is) c.in-Some-Spare.is c.reply.ensures
