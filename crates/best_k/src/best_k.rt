@@ -9,9 +9,9 @@ ghost use Rattle.definitions.specs.ScanLaws.{NeverRises};
 
 use crate::ranked_hits::RankedHits;
 use common::{AliveBitSet, DocId, Score};
-use phrases::Sink;
 use std::alloc::{AllocError, Global};
 use std::marker::Model;
+use walks::Sink;
 
 /// The best `k` of the living documents that are collected: by score, and of equal scores what came first. Documents
 /// come from one segment after the other; `enter` says from which.

@@ -20,13 +20,12 @@ ghost use Rattle.definitions.specs.Replying.{stops};
 ghost use Rattle.reply_texts.specs.ToldHits.{told};
 ghost use Rattle.serde_json.specs.View.{view};
 
-use crate::json_replies::count_text;
 use crate::requests::IndexRequest;
 use common::{Analyzer, Device};
 use definitions::Fault;
 use engine::{Hit, Index};
 use query_checks::read_query;
-use reply_texts::hits_text;
+use reply_texts::{count_text, hits_text};
 use serde_json::Value as Json;
 use settings::read_term;
 use std::borrow::CowStr;

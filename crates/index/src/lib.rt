@@ -3,7 +3,6 @@
 
 mod answers;
 mod exit_status;
-mod json_replies;
 pub mod line_laws;
 mod requests;
 mod session;

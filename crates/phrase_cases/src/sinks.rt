@@ -6,10 +6,11 @@ use crate::phrase_rows::{phrase_of, similarity};
 use case_lines::{Arguments, Refusal, number, pair, triple};
 use common::{DocId, Score};
 use docsets::Scorer;
-use phrases::{BlockSink, Sink, for_each_docset_buffered, for_each_pruning_scorer};
+use phrases::{BlockSink, Sink};
 use segment_reader::InvertedIndexReader;
 use serde_json::Value;
 use std::alloc::Global;
+use walks::{for_each_docset_buffered, for_each_pruning_scorer};
 
 /// How many documents were taken, the last of them, and the threshold, which is the score of the last.
 #[derive(Clone, Copy)]

@@ -9,11 +9,6 @@ pub mod Rows
 pub mod Windows
 pub mod PrefixWindows
 pub mod Standings
-pub mod Blocks
-pub mod BlocksLeft
-pub mod Feeding
-pub mod Unions
-pub mod Meets
 -- Laws that clauses and proofs of types must name.
 pub mod MergeLaws
 pub mod PlaceLaws

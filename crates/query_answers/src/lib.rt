@@ -3,8 +3,8 @@
 
 mod counts;
 mod explanations;
-mod walks;
+mod query_walks;
 
 pub use counts::count;
 pub use explanations::explain;
-pub use walks::{for_each, for_each_no_score, for_each_pruning};
+pub use query_walks::{for_each, for_each_no_score, for_each_pruning};

@@ -23,8 +23,8 @@ use Rattle.intersections.specs.Optionals.{with_optional}
 use Rattle.node_scorers.proofs.Combined.{clauses_score}
 use Rattle.node_scorers.specs.Asked.{asked}
 use Rattle.node_scorers.specs.Scores.{AllScore, Scores}
-use Rattle.phrases.proofs.FedBelow.{few_within}
-use Rattle.phrases.specs.Unions.{union}
+use Rattle.walks.proofs.FedBelow.{few_within}
+use Rattle.walks.specs.Unions.{union}
 use Rattle.reader_scorers.specs.Fed.{HasClauses, IsFedBy, IsFedByClauses}
 use Rattle.reader_scorers.specs.Terms.{HaveSame}
 use Rattle.segment_reader.specs.SegmentReaders.{max_doc_of}

@@ -10,7 +10,7 @@ use Rattle.docsets.specs.Members.{at_document, at_least, enough, entries_at, gre
 use Rattle.docsets.specs.ScoredEntries.{greatest_score, rescored_by}
 use Rattle.intersections.specs.Differences.{without}
 use Rattle.intersections.specs.Optionals.{score_with, with_optional}
-use Rattle.phrases.specs.Unions.{union}
+use Rattle.walks.specs.Unions.{union}
 use Rattle.reader_scorers.proofs.ClauseAnswers.{complete, has_union, have_both, have_without, some_mapped}
 use Rattle.reader_scorers.specs.Counted.{IsCountBy}
 use Rattle.reader_scorers.specs.Fed.{HasClauses}

@@ -20,10 +20,10 @@ use crate::scorer_walks::feed_by_kind;
 use crate::terms_alone::{are_terms, into_terms};
 use common::{DocId, Score, TERMINATED};
 use docsets::{DocSet, Scorer};
-use phrases::Sink;
 use query_trees::{AnyQuery, Occur};
 use std::alloc::{AllocError, Global};
 use tree_scorers::{SegmentScorers, scorers_asked};
+use walks::Sink;
 
 /// Feeds each document of a segment that matches `clauses` with its score to `sink`, in order, if the score is above the
 /// sink's threshold by then; none if out of memory. There is no list of them, unless the clauses ask for more of the

@@ -13,8 +13,8 @@ use any_scorer::{all_of, any_of};
 use common::{DocId, Score};
 use docsets::{DocSet, Scorer};
 use intersections::{Exclude, ExclusionList, RequiredOptionalScorer};
-use phrases::{Sink, block_wand, block_wand_intersection, for_each_pruning_scorer};
 use std::alloc::{AllocError, Global};
+use walks::{Sink, block_wand, block_wand_intersection, for_each_pruning_scorer};
 
 /// Feeds each document that all of `musts` and none of `must_nots` have, and one of `shoulds` if there are no `musts`,
 /// with the sum of its scores to `sink`, in order, if that is above the sink's threshold by then; none if out of memory.

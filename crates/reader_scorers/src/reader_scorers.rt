@@ -15,11 +15,11 @@ use crate::terms_alone::{are_terms, into_terms};
 use common::{DocId, Score};
 use docsets::{AllScorer, BoostScorer, DocSet};
 use node_scorers::{all_scorer, best_scorer, clauses_scorer};
-use phrases::Sink;
 use query_trees::{PhrasePrefixQuery, PhraseQuery, TermQuery};
 use segment_reader::SegmentReader;
 use std::alloc::{AllocError, Global};
 use tree_scorers::SegmentScorers;
+use walks::Sink;
 
 /// The scorer of a query of any kind, by weights.
 pub type ScorerBy<'a, W> = AnyScorer<

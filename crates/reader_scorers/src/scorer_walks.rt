@@ -9,8 +9,8 @@ use crate::any_query_scorer::AnyScorer;
 use any_scorer::Leaf;
 use common::{DocId, Score};
 use docsets::{DocSet, ListScorer, Scorer};
-use phrases::{Sink, for_each_pruning_scorer};
 use tree_scorers::SegmentScorers;
+use walks::{Sink, for_each_pruning_scorer};
 
 /// Feeds each document of `scorer` with its score to `sink`, in order, if the score is above the sink's threshold by
 /// then. All documents are below `max_doc`.

@@ -1,8 +1,10 @@
-//! Replies with documents, encoded as JSON texts.
+//! Replies to searches and counts, encoded as JSON texts.
 #![tactic(auto)]
 
+mod count_texts;
 mod hit_texts;
 mod named_documents;
 mod owned_values;
 
+pub use count_texts::count_text;
 pub use hit_texts::hits_text;

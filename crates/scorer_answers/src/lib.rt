@@ -4,8 +4,8 @@
 pub mod answer_laws;
 mod counts;
 mod explanations;
-mod walks;
+mod scorer_walks;
 
 pub use counts::{count, count_all, count_term};
 pub use explanations::{explain, seek_match};
-pub use walks::{for_each, for_each_no_score, for_each_pruning};
+pub use scorer_walks::{for_each, for_each_no_score, for_each_pruning};

@@ -3,7 +3,6 @@
 use crate::term_answers::scorer_of;
 use case_lines::{Refusal, number, pair, triple};
 use common::{AliveBitSet, TERMINATED};
-use phrases::Sink;
 use schema::Term;
 use scorer_answers::for_each_pruning;
 use segment::BestK;
@@ -11,6 +10,7 @@ use segment_reader::SegmentReader;
 use serde_json::Value;
 use std::alloc::{AllocError, Global};
 use term_scorer::TermScorer;
+use walks::Sink;
 
 /// The best `k` hits, each its score, its segment's number and its document, and the threshold behind them.
 pub(crate) fn best(

@@ -3,13 +3,13 @@
 use crate::term_answers::WEIGHT;
 use case_lines::{Refusal, number, pair};
 use common::AliveBitSet;
-use phrases::Sink;
 use schema::{IndexRecordOption, Term};
 use segment::BestK;
 use segment_reader::SegmentReader;
 use serde_json::Value;
 use std::alloc::{AllocError, Global};
 use term_weight::TermWeight;
+use walks::Sink;
 
 /// The best `k` hits, each its score and its document, and how many blocks were decoded.
 pub(crate) fn best_counted(

@@ -1,7 +1,7 @@
 //! Sinks that keep a number.
 
 use common::{DocId, Score};
-use phrases::{BlockSink, Sink};
+use walks::{BlockSink, Sink};
 
 /// The highest score that was taken.
 #[derive(Clone, Copy)]

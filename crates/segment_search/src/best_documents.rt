@@ -32,7 +32,6 @@ use crate::counted_weight::{CountedWeight, weigh_query};
 use crate::readers::readers_of;
 use best_k::BestK;
 use common::{AliveBitSet, DocId};
-use phrases::Sink;
 use query_trees::AnyQuery;
 use reader_scorers::LeafWeights;
 use schema::Schema;
@@ -40,6 +39,7 @@ use segment::Segment;
 use segment_reader::{EnableScoring, Searcher, SegmentReader};
 use settings::Statistics;
 use std::alloc::{AllocError, Global};
+use walks::Sink;
 
 /// The documents that were found, each with its score, its segment's index and its document id, and how many blocks of
 /// postings were decoded for them, if the query is one term.

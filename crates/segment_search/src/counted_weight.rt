@@ -10,7 +10,7 @@ ghost use Rattle.definitions.specs.Scoring.{Similarity};
 ghost use Rattle.definitions.specs.Sinks.{fed};
 ghost use Rattle.definitions.specs.TermBlocks.{scored_blocks};
 ghost use Rattle.definitions.specs.Values.{Document};
-ghost use Rattle.phrases.specs.Feeding.{IsFedBelow};
+ghost use Rattle.walks.specs.Feeding.{IsFedBelow};
 ghost use Rattle.query_trees.specs.Queries.{query_of};
 ghost use Rattle.segment_reader.specs.Scorings.{statistics_asked};
 ghost use Rattle.segment_reader.specs.SegmentReaders.{StandsFor, max_doc_of};
@@ -22,7 +22,6 @@ ghost use Rattle.weights.specs.Unscored.{similarity_given};
 ghost use Rattle.weights.specs.Weighing.{IsWeighed};
 
 use common::Score;
-use phrases::Sink;
 use query::{Query, SpecializedWeight};
 use query_trees::AnyQuery;
 use reader_scorers::LeafWeights;
@@ -30,6 +29,7 @@ use segment_reader::{EnableScoring, SegmentReader};
 use settings::Statistics;
 use std::alloc::{AllocError, Global};
 use term_weight::TermWeight;
+use walks::Sink;
 use weights::{AnyWeight, GivenWeights, Weight};
 
 /// The weight of a query, which counts the blocks of postings that it decodes if the query is one term. `W` makes the

@@ -21,7 +21,7 @@ use Rattle.docsets.specs.Entries.{Entry}
 use Rattle.docsets.specs.ScoredEntries.{pairs_of}
 use Rattle.layouts.specs.SkipEntries.{SkipEntry}
 use Rattle.layouts.specs.TermPostings.{bound_in}
-use Rattle.phrases.specs.BlocksLeft.{blocks_left, blocks_of, skips_held}
+use Rattle.walks.specs.BlocksLeft.{blocks_left, blocks_of, skips_held}
 use Rattle.segment_postings.specs.Cursors.{cursor_place}
 use Rattle.segment_reader.specs.Readers.{full_bounds}
 use Rattle.term_scorer.specs.ScoredTerms.{cursor_of, scored_left, similarity_of}

@@ -15,7 +15,7 @@ ghost use Rattle.docsets.proofs.EntryLaws.{DontFall-prop};
 ghost use Rattle.docsets.specs.ScoredEntries.{greatest_score, pairs_of};
 ghost use Rattle.options.specs.RecordOption.{record_option_of};
 ghost use Rattle.layouts.specs.TermPostings.{bound_in};
-ghost use Rattle.phrases.specs.Feeding.{IsFedBelow};
+ghost use Rattle.walks.specs.Feeding.{IsFedBelow};
 ghost use Rattle.segment_postings.specs.Cursors.{cursor_blocks, cursor_blocks_decoded, cursor_place, skips_left};
 ghost use Rattle.segment_reader.specs.Readers.{full_bounds};
 ghost use Rattle.segment_reader.specs.SegmentReaders.{StandsFor, max_doc_of};
@@ -23,11 +23,11 @@ ghost use Rattle.term_scorer.specs.ScoredTerms.{cursor_of, scored_left, similari
 
 use common::{DocId, Score};
 use options::IndexRecordOption;
-use phrases::{Sink, block_wand_single_scorer};
 use segment_reader::{SegmentReader, lengths_of_field};
 use std::alloc::{AllocError, Global};
 use term_scorer::{Similarity, TermScorer};
 use terms::Term;
+use walks::{Sink, block_wand_single_scorer};
 
 /// The weight of a term and the norms of lengths, which score the documents that hold it. The term and the norms are
 /// borrowed.

@@ -13,9 +13,9 @@ ghost use Rattle.tree_scorers.specs.Accepted.{IsAccepted};
 
 use common::Score;
 use docsets::Scorer;
-use phrases::Sink;
 use query_trees::{PhrasePrefixQuery, PhraseQuery, TermQuery};
 use std::alloc::{AllocError, Global};
+use walks::Sink;
 
 /// A maker of the scorers of each kind of query in a segment, by weights of terms and norms of lengths.
 pub trait SegmentScorers {

@@ -1,7 +1,7 @@
 //! Sinks that count what they take.
 
 use common::{DocId, Score};
-use phrases::{BlockSink, Sink};
+use walks::{BlockSink, Sink};
 
 /// How many documents were taken, and the highest score, which is the next threshold.
 #[derive(Clone, Copy)]

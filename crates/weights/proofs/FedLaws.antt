@@ -8,8 +8,8 @@ use Rattle.definitions.specs.Schema.{Schema}
 use Rattle.definitions.specs.Scoring.{Similarity}
 use Rattle.definitions.specs.Sinks.{fed}
 use Rattle.definitions.specs.Values.{Document}
-use Rattle.phrases.proofs.FedBelow.{fed_below}
-use Rattle.phrases.specs.Feeding.{IsFedBelow}
+use Rattle.walks.proofs.FedBelow.{fed_below}
+use Rattle.walks.specs.Feeding.{IsFedBelow}
 use Rattle.reader_scorers.specs.Fed.{IsFedBy}
 use Rattle.segment_reader.specs.SegmentReaders.{StandsFor, max_doc_of}
 use Rattle.segment_reader.specs.declared.segment_reader.SegmentReader.{SegmentReader}

@@ -9,11 +9,11 @@ use common::{DocId, Score};
 use definitions::Fault;
 use docsets::{AllScorer, BoostScorer};
 use node_scorers::all_scorer;
-use phrases::{BlockSink, Sink};
 use scorer_answers::count_all;
 use segment_reader::SegmentReader;
 use std::alloc::{AllocError, Global};
 use term_scorer::Explanation;
+use walks::{BlockSink, Sink};
 
 /// The weight of the query that all documents match: each scores the boost.
 #[derive(Clone, Copy, Debug)]

@@ -2,10 +2,10 @@
 
 ghost use Rattle.std.specs.Prelude.{[], ◌≡◌};
 
+use crate::calls;
 use crate::all_weight::AllWeight;
 use crate::boolean_weight::BooleanWeight;
 use crate::boost_weight::BoostWeight;
-use crate::calls;
 use crate::const_score_weight::ConstScoreWeight;
 use crate::disjunction_max_weight::DisjunctionMaxWeight;
 use crate::empty_weight::EmptyWeight;
@@ -17,7 +17,6 @@ use common::{DocId, Score};
 use definitions::Fault;
 use docsets::{AllScorer, BoostScorer, DocSet, ListScorer};
 use node_scorers::all_scorer;
-use phrases::{BlockSink, Sink};
 use query_trees::{PhrasePrefixQuery, PhraseQuery, TermQuery};
 use reader_scorers::{AnyScorer, LeafWeights, ReaderScorers, ScorerBy};
 use scorer_answers::{count_all, count_term};
@@ -25,6 +24,7 @@ use segment_reader::SegmentReader;
 use std::alloc::{AllocError, Global};
 use term_scorer::Explanation;
 use tree_scorers::SegmentScorers;
+use walks::{BlockSink, Sink};
 
 /// The weight of a query of any form. The query is borrowed; `W` makes the scorers of its leaves.
 #[derive(Drop)]

@@ -10,8 +10,8 @@ ghost use Rattle.definitions.specs.Scoring.{Similarity};
 ghost use Rattle.definitions.specs.Sinks.{fed};
 ghost use Rattle.definitions.specs.Values.{Document};
 ghost use Rattle.definitions.specs.declared.fault.Fault.TheVariants as faults;
-ghost use Rattle.phrases.specs.Blocks.{IsFedInBlocks};
-ghost use Rattle.phrases.specs.Feeding.{IsFedBelow};
+ghost use Rattle.walks.specs.Blocks.{IsFedInBlocks};
+ghost use Rattle.walks.specs.Feeding.{IsFedBelow};
 ghost use Rattle.scorer_answers.specs.Earned.{score_at};
 ghost use Rattle.scorer_answers.specs.Listed.{signed_pairs};
 ghost use Rattle.scorer_answers.specs.Matching.{matching};
@@ -24,10 +24,10 @@ use crate::feeds::feed;
 use crate::weight::SegmentWeight;
 use common::{DocId, Score};
 use definitions::Fault;
-use phrases::{BlockSink, Sink};
 use segment_reader::SegmentReader;
 use std::alloc::{AllocError, Global};
 use term_scorer::Explanation;
+use walks::{BlockSink, Sink};
 
 /// Explains the score of `doc`, with `description`; `InvalidArgument` if `doc` doesn't match.
 pub(crate) fn explain<'a, W: SegmentWeight<'a>>(

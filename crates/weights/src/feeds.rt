@@ -4,12 +4,12 @@ ghost use Rattle.std.specs.Prelude.{[], ◌≡◌, ◌≤◌};
 ghost use Rattle.definitions.specs.Sinks as sinks;
 ghost use Rattle.docsets.specs.Entries.{from};
 ghost use Rattle.docsets.specs.ScoredEntries.{pairs_of};
-ghost use Rattle.phrases.specs.Feeding.{IsFedBelow};
+ghost use Rattle.walks.specs.Feeding.{IsFedBelow};
 
 use common::{DocId, Score};
 use docsets::Scorer;
-use phrases::{Sink, for_each_pruning_scorer};
 use tree_scorers::SegmentScorers;
+use walks::{Sink, for_each_pruning_scorer};
 
 /// Feeds each document of `scorer` with its score to `sink`, in order, if the score is above the sink's threshold by
 /// then. All documents are below `max_doc`.

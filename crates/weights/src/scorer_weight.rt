@@ -4,10 +4,10 @@ use crate::calls;
 use crate::weight::{SegmentWeight, Weight};
 use common::{DocId, Score};
 use definitions::Fault;
-use phrases::{BlockSink, Sink};
 use segment_reader::SegmentReader;
 use std::alloc::{AllocError, Global};
 use term_scorer::Explanation;
+use walks::{BlockSink, Sink};
 
 /// A weight that answers all that it is asked by its scorer. It is a trait of its own so that each such weight has the
 /// same five calls, written once.

@@ -12,8 +12,8 @@ ghost use Rattle.definitions.specs.Sinks.{fed};
 ghost use Rattle.definitions.specs.Values.{Document};
 ghost use Rattle.definitions.specs.declared.fault.Fault.TheVariants as faults;
 ghost use Rattle.node_scorers.specs.Scores.{Scores};
-ghost use Rattle.phrases.specs.Blocks.{IsFedInBlocks};
-ghost use Rattle.phrases.specs.Feeding.{IsFedBelow};
+ghost use Rattle.walks.specs.Blocks.{IsFedInBlocks};
+ghost use Rattle.walks.specs.Feeding.{IsFedBelow};
 ghost use Rattle.scorer_answers.specs.Earned.{score_at};
 ghost use Rattle.scorer_answers.specs.Listed.{signed_pairs};
 ghost use Rattle.scorer_answers.specs.Matching.{matching};
@@ -25,10 +25,10 @@ ghost use Rattle.weights.specs.Weighing.{IsWeighed};
 use common::{DocId, Score};
 use definitions::Fault;
 use docsets::Scorer;
-use phrases::{BlockSink, Sink};
 use segment_reader::SegmentReader;
 use std::alloc::{AllocError, Global};
 use term_scorer::Explanation;
+use walks::{BlockSink, Sink};
 
 /// A query made ready to be asked of segments: it has a scorer in each of them.
 pub trait SegmentWeight<'a> {

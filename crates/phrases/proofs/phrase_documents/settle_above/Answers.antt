@@ -8,7 +8,7 @@ use Rattle.docsets.proofs.ScoredEntryLaws.{IsRest-along}
 use Rattle.docsets.specs.Entries.{Entry, IsRest, Rising, first, first_positions, from}
 use Rattle.intersections.specs.Meetings.{meeting}
 use Rattle.phrases.specs.PhraseEntries.{longest, longest_column}
-use Rattle.phrases.proofs.PassedEntries.{all_weaker, passed_on, unplaced_first}
+use Rattle.phrases.proofs.PassedPhrases.{all_weaker, passed_on, unplaced_first}
 use Rattle.phrases.proofs.PhraseEntryLaws.{HaveColumns-rest, IsRest-on, first-columns, longest-first, longest-rest}
 use Rattle.phrases.specs.Places.{places_of}
 use Rattle.phrases.proofs.StandingLaws.{HasRoom-lower}

@@ -1,5 +1,5 @@
 use Rattle.std.proofs.Common.{arith}
-use Rattle.phrases.proofs.FedBelow.{few_within}
+use Rattle.walks.proofs.FedBelow.{few_within}
 use Rattle.reader_scorers.proofs.scorer_walks.feed_by_kind.Goals as goal
 
 pub feed-requires-clause-room : goal.feed-requires-clause-room

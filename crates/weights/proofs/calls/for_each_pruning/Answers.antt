@@ -1,6 +1,6 @@
 use Rattle.std.proofs.Common.{ap, subst, ◌∙◌}
 use Rattle.definitions.specs.Sinks as sinks
-use Rattle.phrases.specs.Feeding.{IsFedBelow}
+use Rattle.walks.specs.Feeding.{IsFedBelow}
 use Rattle.weights.proofs.WeighedLaws.{weighed_within}
 use Rattle.weights.proofs.calls.for_each_pruning.Goals as goal
 

@@ -1,5 +1,5 @@
 use Rattle.std.proofs.Common.{arith}
-use Rattle.phrases.proofs.FedBelow.{fed_below, few_within}
+use Rattle.walks.proofs.FedBelow.{fed_below, few_within}
 use Rattle.weights.proofs.feeds.feed.Goals as goal
 
 pub for_each_pruning_scorer-requires-clause-room : goal.for_each_pruning_scorer-requires-clause-room

@@ -1,5 +1,5 @@
 use Rattle.std.proofs.Common.{arith}
-use Rattle.phrases.proofs.FedBelow.{fed_below, few_within}
+use Rattle.walks.proofs.FedBelow.{fed_below, few_within}
 use Rattle.weights.proofs.feeds.feed_by_kind.Goals as goal
 
 pub feed-requires-clause-room : goal.feed-requires-clause-room

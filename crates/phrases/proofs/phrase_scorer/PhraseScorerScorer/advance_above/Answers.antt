@@ -5,7 +5,7 @@ use Rattle.docsets.proofs.EntryLaws.{IsRest-from, Rising-drop}
 use Rattle.docsets.proofs.ScoredEntryLaws.{IsRest-along}
 use Rattle.docsets.specs.Entries.{Entry, Rising, first, from}
 use Rattle.intersections.specs.Meetings.{meeting}
-use Rattle.phrases.proofs.PassedEntries.{phrased_low}
+use Rattle.phrases.proofs.PassedPhrases.{phrased_low}
 use Rattle.phrases.proofs.PhraseEntryLaws.{IsRest-on, from-phrased, phrased-stands}
 use Rattle.phrases.proofs.StandingLaws.{stands-on}
 use Rattle.phrases.specs.PhraseEntries.{phrased}

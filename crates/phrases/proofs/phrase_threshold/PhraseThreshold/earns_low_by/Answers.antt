@@ -4,7 +4,7 @@ use Rattle.std.specs.Prelude.{◌≤ℤ◌}
 use Rattle.std.proofs.Math.Nat.{mul-le-mul_left}
 use Rattle.std.proofs.lemmas.Int.{ints}
 use Rattle.definitions.proofs.BlockBounds.{part_rises}
-use Rattle.phrases.proofs.BlockWalks.{not_less}
+use Rattle.walks.proofs.BlockWalks.{not_less}
 use Rattle.term_scorer.specs.Similarities.{similarity_data}
 use Rattle.term_scorer.specs.TermScores.{score_by}
 use Rattle.phrases.proofs.phrase_threshold.PhraseThreshold.earns_low_by.Goals as goal

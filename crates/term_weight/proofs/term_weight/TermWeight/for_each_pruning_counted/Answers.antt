@@ -2,7 +2,7 @@ use Rattle.std.proofs.Common.{List, ap, arith, sym, ℕ}
 use Rattle.definitions.specs.Answers.{answers}
 use Rattle.definitions.specs.Query.{term}
 use Rattle.definitions.specs.TermBlocks.{scored_blocks}
-use Rattle.phrases.proofs.FedBelow.{fed_below, few_within}
+use Rattle.walks.proofs.FedBelow.{fed_below, few_within}
 use Rattle.segment_reader.specs.SegmentReaders.{max_doc_of}
 use Rattle.term_scorer.specs.ScoredTerms.{rising_scored, scored_left}
 use Rattle.term_weight.proofs.BlocksFound.{blocks_found, first_counted}

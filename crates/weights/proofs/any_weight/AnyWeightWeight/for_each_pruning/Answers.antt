@@ -6,7 +6,7 @@ use mir.Val.{SFits}
 use Rattle.definitions.specs.Answers.{answers}
 use Rattle.definitions.specs.Refusing.{tree_fault}
 use Rattle.definitions.specs.Sinks as sinks
-use Rattle.phrases.specs.Feeding.{IsFedBelow}
+use Rattle.walks.specs.Feeding.{IsFedBelow}
 use Rattle.weights.proofs.WeighedLaws.{weighed_within}
 use Rattle.weights.specs.AnyForms.{AnyScoresBy, any_query}
 use Rattle.weights.specs.Weighing.{IsWeighed}

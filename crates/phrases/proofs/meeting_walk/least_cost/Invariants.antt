@@ -1,6 +1,0 @@
-use Rattle.std.proofs.Common.{length, ◌<◌}
-use Rattle.phrases.proofs.meeting_walk.least_cost.Given as goal
-
--- the index is one of a scorer
-abbrev pub invariant-loop-i : goal.invariant-loop-i
-invariant-loop-i g l = l.place < length l.scorers.items

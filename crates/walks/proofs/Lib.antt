@@ -1,0 +1,12 @@
+pub mod BlockLaws
+pub mod EntryCuts
+pub mod ScorerBlocks
+pub mod BlockWalks
+pub mod FedBelow
+pub mod PassedEntries
+pub mod TailChanges
+pub mod UnionWalks
+pub mod WindowWalks
+pub mod MeetingWalks
+pub mod MeetingOrders
+pub mod UnionOrders
