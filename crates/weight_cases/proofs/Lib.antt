@@ -1,0 +1,2 @@
+-- Lemmas behind queries of two terms.
+pub mod TwoTerms
