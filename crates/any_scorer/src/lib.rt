@@ -1,17 +1,21 @@
 //! Scorers of several forms, and what several scorers make together.
 #![tactic(auto)]
 
+mod any_query_scorer;
 mod clauses;
 mod disjuncts;
 mod either_scorer;
+mod forms;
 mod intersecting;
 mod leaf;
 mod listing;
 mod several;
 
+pub use any_query_scorer::AnyScorer;
 pub use clauses::boolean_scorer;
 pub use disjuncts::disjunction_max_scorer;
 pub use either_scorer::EitherScorer;
+pub use forms::{of_all, of_list, of_none, of_phrase, of_phrase_prefix, of_term, with_score};
 pub use intersecting::intersect_scorers;
 pub use leaf::Leaf;
 pub use listing::{for_each_scorer, listed};

@@ -12,12 +12,12 @@ ghost use Rattle.reader_scorers.specs.Scored.{segment_scored, weights_of};
 ghost use Rattle.segment_reader.specs.SegmentReaders.{max_doc_of};
 ghost use Rattle.tree_scorers.specs.Accepted.{IsAccepted};
 
-use crate::any_query_scorer::AnyScorer;
 use crate::clause_walks::{asks_for_more, keep_some};
 use crate::joint_counts::count_together;
 use crate::leaf_weights::LeafWeights;
 use crate::reader_scorers::ReaderScorers;
 use crate::terms_alone::{are_terms, into_terms};
+use any_scorer::AnyScorer;
 use docsets::{DocSet, Scorer};
 use query_trees::{AnyQuery, Occur};
 use scorer_answers::count;

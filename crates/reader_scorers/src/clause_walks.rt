@@ -12,12 +12,12 @@ ghost use Rattle.reader_scorers.specs.Terms.{HaveSame};
 ghost use Rattle.segment_reader.specs.SegmentReaders.{max_doc_of};
 ghost use Rattle.tree_scorers.specs.Accepted.{IsAccepted};
 
-use crate::any_query_scorer::AnyScorer;
 use crate::joint_walks::feed_together;
 use crate::leaf_weights::LeafWeights;
 use crate::reader_scorers::ReaderScorers;
 use crate::scorer_walks::feed_by_kind;
 use crate::terms_alone::{are_terms, into_terms};
+use any_scorer::AnyScorer;
 use common::{DocId, Score, TERMINATED};
 use docsets::{DocSet, Scorer};
 use query_trees::{AnyQuery, Occur};

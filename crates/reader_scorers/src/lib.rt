@@ -1,10 +1,8 @@
 //! The scorers of any query in a segment, from what makes the scorers of queries that hold no other.
 #![tactic(auto)]
 
-mod any_query_scorer;
 mod clause_counts;
 mod clause_walks;
-mod forms;
 mod joint_counts;
 mod joint_walks;
 mod leaf_weights;
@@ -12,7 +10,7 @@ mod reader_scorers;
 mod scorer_walks;
 mod terms_alone;
 
-pub use any_query_scorer::AnyScorer;
+pub use any_scorer::AnyScorer;
 pub use clause_counts::count_clauses;
 pub use clause_walks::feed_clauses;
 pub use leaf_weights::LeafWeights;

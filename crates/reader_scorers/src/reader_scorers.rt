@@ -7,11 +7,10 @@ ghost use Rattle.docsets.specs.Members.{greatest_sum};
 ghost use Rattle.node_scorers.specs.Asked.{asked, each_query};
 ghost use Rattle.node_scorers.specs.Scores.{AllScore, Scores};
 
-use crate::any_query_scorer::AnyScorer;
-use crate::forms::{of_all, of_list, of_none, of_phrase, of_phrase_prefix, of_term, with_score};
 use crate::leaf_weights::LeafWeights;
 use crate::scorer_walks::feed_any;
 use crate::terms_alone::{are_terms, into_terms};
+use any_scorer::{AnyScorer, of_all, of_list, of_none, of_phrase, of_phrase_prefix, of_term, with_score};
 use common::{DocId, Score};
 use docsets::{AllScorer, BoostScorer, DocSet};
 use node_scorers::{all_scorer, best_scorer, clauses_scorer};

@@ -5,8 +5,7 @@ ghost use Rattle.definitions.specs.Sinks.{fed};
 ghost use Rattle.docsets.specs.Entries.{Rising, from};
 ghost use Rattle.docsets.specs.ScoredEntries.{pairs_of};
 
-use crate::any_query_scorer::AnyScorer;
-use any_scorer::Leaf;
+use any_scorer::{AnyScorer, Leaf};
 use common::{DocId, Score};
 use docsets::{DocSet, ListScorer, Scorer};
 use tree_scorers::SegmentScorers;

@@ -3,8 +3,7 @@
 ghost use Rattle.std.specs.Prelude.{[], ◌∷◌, ◌≡◌, IfOk, IfSome, None, map, true};
 ghost use Rattle.reader_scorers.specs.Terms.{AreTerms, IsTerm, term_in, terms_in};
 
-use crate::any_query_scorer::AnyScorer;
-use any_scorer::Leaf;
+use any_scorer::{AnyScorer, Leaf};
 use docsets::{DocSet, Scorer};
 use std::alloc::{AllocError, Global};
 use std::collections::VecDeque;

@@ -24,7 +24,7 @@ mod weighed_terms;
 mod weight;
 
 pub use all_weight::AllWeight;
-pub use any_scorer::intersect_scorers;
+pub use any_scorer::{AnyScorer, intersect_scorers};
 pub use any_weight::AnyWeight;
 pub use boolean_weight::BooleanWeight;
 pub use boost_weight::BoostWeight;
@@ -38,7 +38,6 @@ pub use no_scores::NoScores;
 pub use phrase_weights::{PhrasePrefixWeight, PhraseWeight, prefix_end};
 pub use query_trees::Occur;
 pub use query_weight::QueryWeight;
-pub use reader_scorers::AnyScorer;
 pub use scorer_weight::ScorerWeight;
 pub use segment_reader::{DocAddress, EnableScoring, Searcher, SegmentReader};
 pub use settings::Statistics;

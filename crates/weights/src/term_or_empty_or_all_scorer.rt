@@ -5,9 +5,8 @@ ghost use Rattle.docsets.specs.Entries.{Entry};
 ghost use Rattle.term_scorer.specs.ScoredTerms.{scored_left};
 ghost use Rattle.weights.specs.declared.term_or_empty_or_all_scorer.TermOrEmptyOrAllScorer.TheVariants as forms;
 
-use any_scorer::Leaf;
+use any_scorer::{AnyScorer, Leaf};
 use docsets::{AllScorer, BoostScorer, DocSet, ListScorer, Scorer};
-use reader_scorers::AnyScorer;
 use std::alloc::Global;
 use term_scorer::TermScorer;
 

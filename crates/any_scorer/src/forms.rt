@@ -33,7 +33,7 @@ fn constant_list<S: Scorer + Drop>(
 
 /// Returns the documents of `scorer`, each with `score`. A scorer that has one score already is walked whole into a
 /// list.
-pub(crate) fn with_score<A: Scorer + Drop, T: Scorer + Drop, P: Scorer + Drop, X: Scorer + Drop>(
+pub fn with_score<A: Scorer + Drop, T: Scorer + Drop, P: Scorer + Drop, X: Scorer + Drop>(
     alloc: Global,
     scorer: AnyScorer<A, T, P, X>,
     score: u64,
@@ -75,7 +75,7 @@ fn leaf_with_score<A: Scorer + Drop, T: Scorer + Drop, P: Scorer + Drop, X: Scor
 }
 
 /// Returns the scorer of every document.
-pub(crate) fn of_all<A: Scorer + Drop, T: Scorer + Drop, P: Scorer + Drop, X: Scorer + Drop>(
+pub fn of_all<A: Scorer + Drop, T: Scorer + Drop, P: Scorer + Drop, X: Scorer + Drop>(
     all: A,
 ) -> AnyScorer<A, T, P, X>
     ensures { ⟦<AnyScorer<A, T, P, X> as DocSet>⟧.entries result ≡ A.entries all }
@@ -84,7 +84,7 @@ pub(crate) fn of_all<A: Scorer + Drop, T: Scorer + Drop, P: Scorer + Drop, X: Sc
 }
 
 /// Returns the scorer of the documents of `list`.
-pub(crate) fn of_list<A: Scorer + Drop, T: Scorer + Drop, P: Scorer + Drop, X: Scorer + Drop>(
+pub fn of_list<A: Scorer + Drop, T: Scorer + Drop, P: Scorer + Drop, X: Scorer + Drop>(
     list: ListScorer,
 ) -> AnyScorer<A, T, P, X>
     ensures { ⟦<AnyScorer<A, T, P, X> as DocSet>⟧.entries result ≡ ⟦<ListScorer as DocSet>⟧.entries list }
@@ -93,7 +93,7 @@ pub(crate) fn of_list<A: Scorer + Drop, T: Scorer + Drop, P: Scorer + Drop, X: S
 }
 
 /// Returns the scorer of no document.
-pub(crate) fn of_none<A: Scorer + Drop, T: Scorer + Drop, P: Scorer + Drop, X: Scorer + Drop>(
+pub fn of_none<A: Scorer + Drop, T: Scorer + Drop, P: Scorer + Drop, X: Scorer + Drop>(
     alloc: Global,
 ) -> AnyScorer<A, T, P, X>
     ensures { ⟦<AnyScorer<A, T, P, X> as DocSet>⟧.entries result ≡ [] }
@@ -102,7 +102,7 @@ pub(crate) fn of_none<A: Scorer + Drop, T: Scorer + Drop, P: Scorer + Drop, X: S
 }
 
 /// Returns the scorer of a term, of no document if `found` is `None`.
-pub(crate) fn of_term<A: Scorer + Drop, T: Scorer + Drop, P: Scorer + Drop, X: Scorer + Drop>(
+pub fn of_term<A: Scorer + Drop, T: Scorer + Drop, P: Scorer + Drop, X: Scorer + Drop>(
     alloc: Global,
     found: Option<T>,
 ) -> AnyScorer<A, T, P, X>
@@ -116,7 +116,7 @@ pub(crate) fn of_term<A: Scorer + Drop, T: Scorer + Drop, P: Scorer + Drop, X: S
 }
 
 /// Returns the scorer of a phrase, of no document if `found` is `None`.
-pub(crate) fn of_phrase<A: Scorer + Drop, T: Scorer + Drop, P: Scorer + Drop, X: Scorer + Drop>(
+pub fn of_phrase<A: Scorer + Drop, T: Scorer + Drop, P: Scorer + Drop, X: Scorer + Drop>(
     alloc: Global,
     found: Option<P>,
 ) -> AnyScorer<A, T, P, X>
@@ -130,7 +130,7 @@ pub(crate) fn of_phrase<A: Scorer + Drop, T: Scorer + Drop, P: Scorer + Drop, X:
 }
 
 /// Returns the scorer of a phrase prefix, of no document if `found` is `None`.
-pub(crate) fn of_phrase_prefix<
+pub fn of_phrase_prefix<
     A: Scorer + Drop,
     T: Scorer + Drop,
     P: Scorer + Drop,

@@ -3,7 +3,7 @@ use Rattle.std.proofs.lemmas.Int.{to_z_pos}
 use mir.Syntax.{w64}
 use Rattle.definitions.specs.Scoring.{natural}
 use Rattle.docsets.specs.ScoredEntries.{rescored_by}
-use Rattle.reader_scorers.proofs.forms.constant.Goals as goal
+use Rattle.any_scorer.proofs.forms.constant.Goals as goal
 
 pub returns : goal.returns
 returns g c =
