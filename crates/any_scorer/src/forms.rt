@@ -4,7 +4,7 @@ ghost use Rattle.std.specs.Prelude.{[], ◌≡◌, ◌≤◌, IfNone, IfOk, IfSo
 ghost use Rattle.definitions.specs.Scoring.{max_score};
 ghost use Rattle.docsets.specs.ScoredEntries.{pairs_of, rescored_by};
 
-use crate::any_query_scorer::AnyScorer;
+use crate::any_scorer::AnyScorer;
 use any_scorer::{Leaf, listed};
 use common::Score;
 use docsets::{ConstScorer, DocSet, ListScorer, Scorer};

@@ -1,7 +1,7 @@
 //! Scorers of several forms, and what several scorers make together.
 #![tactic(auto)]
 
-mod any_query_scorer;
+mod any_scorer;
 mod clauses;
 mod disjuncts;
 mod either_scorer;
@@ -11,7 +11,7 @@ mod leaf;
 mod listing;
 mod several;
 
-pub use any_query_scorer::AnyScorer;
+pub use any_scorer::AnyScorer;
 pub use clauses::boolean_scorer;
 pub use disjuncts::disjunction_max_scorer;
 pub use either_scorer::EitherScorer;

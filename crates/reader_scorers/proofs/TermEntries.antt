@@ -6,8 +6,8 @@ use Rattle.docsets.specs.Members.{entries_at, entries_of}
 use Rattle.docsets.specs.ScoredEntries.{greatest_score}
 use Rattle.docsets.specs.declared.doc_set.DocSet.{Ghosts}
 use Rattle.reader_scorers.specs.Terms.{AreTerms, HaveSame, of_term, terms_in}
-use Rattle.any_scorer.specs.declared.any_query_scorer.AnyScorer.{AnyScorer}
-use Rattle.any_scorer.specs.declared.any_query_scorer.AnyScorer.TheVariants as forms
+use Rattle.any_scorer.specs.declared.any_scorer.AnyScorer.{AnyScorer}
+use Rattle.any_scorer.specs.declared.any_scorer.AnyScorer.TheVariants as forms
 
 -- behind equal lists, the same
 same_behind : (es : List Entry) (ess fss : List (List Entry)) → HaveSame ess fss → HaveSame (es ∷ ess) (es ∷ fss)

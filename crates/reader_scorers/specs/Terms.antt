@@ -5,8 +5,8 @@ use Rattle.any_scorer.specs.declared.leaf.Leaf.TheVariants as leaves
 use Rattle.docsets.specs.Entries.{Entry}
 use Rattle.docsets.specs.Members.{entries_at, greatest_sum}
 use Rattle.docsets.specs.declared.doc_set.DocSet.{Ghosts}
-use Rattle.any_scorer.specs.declared.any_query_scorer.AnyScorer.{AnyScorer}
-use Rattle.any_scorer.specs.declared.any_query_scorer.AnyScorer.TheVariants as forms
+use Rattle.any_scorer.specs.declared.any_scorer.AnyScorer.{AnyScorer}
+use Rattle.any_scorer.specs.declared.any_scorer.AnyScorer.TheVariants as forms
 
 module _ {A T P X : Type 0} {a : Ghosts A} {t : Ghosts T} {p : Ghosts P} {x : Ghosts X} where
   -- it is the scorer of a term, with the term's own scores

@@ -25,7 +25,7 @@ impl<A: Scorer, T: Scorer, P: Scorer, X: Scorer> DocSet for AnyScorer<A, T, P, X
     ghost use Rattle.any_scorer.specs.declared.leaf.Leaf.TheVariants as leaves;
     ghost use Rattle.docsets.specs.Entries.{Rising};
     ghost use Rattle.docsets.specs.ScoredEntryLaws.{Rising-constant, Rising-scores};
-    ghost use Rattle.any_scorer.specs.declared.any_query_scorer.AnyScorer.TheVariants as forms;
+    ghost use Rattle.any_scorer.specs.declared.any_scorer.AnyScorer.TheVariants as forms;
 
     ghost entries = { elim [
       | forms.Leaf x ↦ ⟦<Leaf<A, T, P, X, ListScorer> as DocSet>⟧.entries x
