@@ -18,7 +18,7 @@ use Rattle.definitions.specs.Values.{Document}
 use Rattle.docsets.specs.ScoredEntries.{greatest_score, pairs_of}
 use Rattle.node_scorers.specs.Scores.{Scores}
 use Rattle.phrase_weights.specs.PlacedAnswers.{whole_weight}
-use Rattle.reader_scorers.proofs.FormScores.{none_scores}
+use Rattle.node_scorers.proofs.FormScores.{none_scores}
 use Rattle.segment_reader.specs.SegmentReaders.{StandsFor, max_doc_of}
 use Rattle.segment_reader.specs.declared.segment_reader.SegmentReader.{SegmentReader}
 use Rattle.leaf_weights.specs.Weighed.{under}

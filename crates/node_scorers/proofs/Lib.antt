@@ -7,4 +7,5 @@ pub mod Combined
 pub mod ConstantScores
 pub mod Earned
 pub mod EarnedByClauses
+pub mod FormScores
 pub mod Results

@@ -1,6 +1,5 @@
 -- Lemmas behind the scorers of segments.
 pub mod ClauseAnswers
 pub mod ClauseDocuments
-pub mod FormScores
 pub mod SamePairs
 pub mod TermEntries

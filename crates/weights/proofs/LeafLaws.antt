@@ -20,7 +20,7 @@ use Rattle.phrase_weights.specs.PhraseWeights as phrases
 use Rattle.phrase_weights.specs.PlacedAnswers.{whole_weight}
 use Rattle.phrase_weights.specs.declared.phrase_prefix_weight.PhrasePrefixWeight.{PhrasePrefixWeight}
 use Rattle.phrase_weights.specs.declared.phrase_weight.PhraseWeight.{PhraseWeight}
-use Rattle.reader_scorers.proofs.FormScores.{from_found, moved}
+use Rattle.node_scorers.proofs.FormScores.{from_found, moved}
 use Rattle.segment_reader.specs.SegmentReaders.{StandsFor, max_doc_of}
 use Rattle.segment_reader.specs.declared.segment_reader.SegmentReader.{SegmentReader}
 use Rattle.term_weight.specs.TermWeights as terms
