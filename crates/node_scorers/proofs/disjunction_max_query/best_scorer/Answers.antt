@@ -6,7 +6,7 @@ use Rattle.any_scorer.specs.Clauses.{by_best}
 use Rattle.definitions.specs.Scoring.{natural}
 use Rattle.node_scorers.proofs.Combined.{best_scores}
 use Rattle.node_scorers.proofs.Results.{of_three}
-use Rattle.node_scorers.proofs.best.best_scorer.Goals as goal
+use Rattle.node_scorers.proofs.disjunction_max_query.best_scorer.Goals as goal
 
 -- src/best.rt:36:5
 pub returns : goal.returns

@@ -1,7 +1,7 @@
 use Rattle.std.proofs.Common.{arith, map}
 use Rattle.node_scorers.proofs.Combined.{clauses_score}
 use Rattle.node_scorers.proofs.Results.{of_three}
-use Rattle.node_scorers.proofs.clauses.clauses_scorer.Goals as goal
+use Rattle.node_scorers.proofs.boolean_query.clauses_scorer.Goals as goal
 
 -- src/clauses.rt:36:5
 pub returns : goal.returns

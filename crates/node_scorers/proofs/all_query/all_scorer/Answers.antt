@@ -5,7 +5,7 @@ use mir.Val.{SFits}
 use Rattle.definitions.specs.Scoring.{natural}
 use Rattle.docsets.specs.ScoredEntries.{all_from}
 use Rattle.node_scorers.proofs.AllDocuments.{all_fit, boosted_all}
-use Rattle.node_scorers.proofs.all_documents.all_scorer.Goals as goal
+use Rattle.node_scorers.proofs.all_query.all_scorer.Goals as goal
 
 pub new-requires-2-clause-fits : goal.new-requires-2-clause-fits
 new-requires-2-clause-fits c =

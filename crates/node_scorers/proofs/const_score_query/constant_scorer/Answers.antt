@@ -4,7 +4,7 @@ use mir.Syntax.{w64}
 use mir.Val.{SFits}
 use Rattle.definitions.specs.Scoring.{natural}
 use Rattle.node_scorers.proofs.ConstantScores.{constant_scores}
-use Rattle.node_scorers.proofs.constant.constant_scorer.Goals as goal
+use Rattle.node_scorers.proofs.const_score_query.constant_scorer.Goals as goal
 
 -- src/constant.rt:29:5
 pub returns : goal.returns
