@@ -10,7 +10,7 @@ use Rattle.definitions.specs.Schema.{Schema}
 use Rattle.definitions.specs.State.{nothing_yet}
 use Rattle.definitions.specs.declared.fault.Fault.{Fault}
 use Rattle.definitions.specs.declared.fault.Fault.TheVariants as faults
-use Rattle.tree_scorers.specs.Accepted.{IsAccepted}
+use Rattle.query_scorers.specs.Accepted.{IsAccepted}
 
 -- no part of it is refused
 pub passes : (schema : Schema) (weight : List ℕ → ℕ) (q : Query) → refusal schema weight q ≡ None → tree_fault schema weight 1 q ≡ None

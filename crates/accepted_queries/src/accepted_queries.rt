@@ -4,17 +4,17 @@ ghost use Rattle.std.specs.Prelude.{◌≡◌, ◌≢◌, IfErr, IfOk, None, OnO
 ghost use Rattle.std.specs.Result.{result_err};
 ghost use Rattle.definitions.specs.Refusing.{refusal, tree_fault};
 ghost use Rattle.definitions.specs.declared.fault.Fault.TheVariants as faults;
-ghost use Rattle.node_scorers.specs.Scores.{Scores};
+ghost use Rattle.query_scorers.specs.Scores.{Scores};
 ghost use Rattle.query_trees.specs.Queries.{query_of};
-ghost use Rattle.tree_scorers.specs.Accepted.{IsAccepted};
+ghost use Rattle.query_scorers.specs.Accepted.{IsAccepted};
 
 use definitions::Fault;
 use query_checks::check_query;
+use query_scorers::{SegmentScorers, scorer_of};
 use query_trees::AnyQuery;
 use schema::Schema;
 use settings::Statistics;
 use std::alloc::Global;
-use tree_scorers::{SegmentScorers, scorer_of};
 
 /// Checks that `query` is accepted, as `check_query` does. It takes no memory. An accepted query has a scorer in every
 /// segment.

@@ -3,10 +3,10 @@
 ghost use Rattle.std.specs.Prelude.{[], ◌≡◌, ◌≤◌, IfNone, IfOk, IfSome};
 ghost use Rattle.definitions.specs.Query.{phrase, phrase_prefix, term};
 ghost use Rattle.definitions.specs.Scoring.{max_score, weight_sum};
-ghost use Rattle.node_scorers.specs.Scores.{Scores};
+ghost use Rattle.query_scorers.specs.Scores.{Scores};
 ghost use Rattle.term_scorer.specs.ScoredTerms.{scored_left};
 ghost use Rattle.term_weight.specs.TermWeights.{ScoresBy, option_asked, term_of};
-ghost use Rattle.tree_scorers.specs.Accepted.{IsAccepted};
+ghost use Rattle.query_scorers.specs.Accepted.{IsAccepted};
 ghost use Rattle.leaf_weights.specs.Weighed.{under};
 
 use common::Score;

@@ -9,7 +9,7 @@ use Rattle.definitions.specs.Schema.{Schema}
 use Rattle.definitions.specs.Scoring.{Similarity}
 use Rattle.definitions.specs.Values.{Document}
 use Rattle.scorer_answers.specs.Earned.{score_at}
-use Rattle.tree_scorers.specs.Accepted.{IsAccepted}
+use Rattle.query_scorers.specs.Accepted.{IsAccepted}
 use Rattle.weights.proofs.UnscoredLaws.{unscored_accepted, unscored_passes}
 use Rattle.weights.specs.Unscored.{no_scores}
 use Rattle.weights.specs.Weighing.{IsWeighed}

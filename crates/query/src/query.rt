@@ -19,7 +19,7 @@ ghost use Rattle.segment_reader.specs.Searchers.{readers_in, statistics_of};
 ghost use Rattle.segment_reader.specs.SegmentReaders.{StandsFor};
 ghost use Rattle.segment_reader.specs.declared.segment_reader.SegmentReader.{SegmentReader};
 ghost use Rattle.term_scorer.specs.Explaining.{explained_value};
-ghost use Rattle.tree_scorers.specs.Accepted.{IsAccepted};
+ghost use Rattle.query_scorers.specs.Accepted.{IsAccepted};
 ghost use Rattle.weights.specs.AnyForms.{AnyScoresBy, any_query};
 ghost use Rattle.weights.specs.Given.{given_similarity};
 ghost use Rattle.weights.specs.Unscored.{similarity_given};

@@ -20,9 +20,9 @@ use Rattle.intersections.specs.Differences.{without}
 use Rattle.intersections.specs.Meetings.{meeting}
 use Rattle.intersections.specs.OptionalLaws.{Rising-optional}
 use Rattle.intersections.specs.Optionals.{with_optional}
-use Rattle.node_scorers.proofs.Combined.{clauses_score}
-use Rattle.node_scorers.specs.Asked.{asked}
-use Rattle.node_scorers.specs.Scores.{AllScore, Scores}
+use Rattle.query_scorers.proofs.Combined.{clauses_score}
+use Rattle.query_scorers.specs.Asked.{asked}
+use Rattle.query_scorers.specs.Scores.{AllScore, Scores}
 use Rattle.walks.proofs.FedBelow.{few_within}
 use Rattle.walks.specs.Unions.{union}
 use Rattle.reader_scorers.specs.Fed.{HasClauses, IsFedBy, IsFedByClauses}

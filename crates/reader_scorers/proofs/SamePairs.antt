@@ -4,8 +4,8 @@ use Rattle.docsets.specs.Entries.{Entry, from}
 use Rattle.definitions.specs.Query.{Query, const_score}
 use Rattle.definitions.specs.Scoring.{Similarity, greatest_of, natural}
 use Rattle.docsets.specs.ScoredEntries.{greatest_score, pairs_of, rescored_by}
-use Rattle.node_scorers.proofs.ConstantScores.{constant_scores}
-use Rattle.node_scorers.specs.Scores.{Scores}
+use Rattle.query_scorers.proofs.ConstantScores.{constant_scores}
+use Rattle.query_scorers.specs.Scores.{Scores}
 use Rattle.segment_reader.specs.SegmentReaders.{max_doc_of}
 use Rattle.segment_reader.specs.declared.segment_reader.SegmentReader.{SegmentReader}
 

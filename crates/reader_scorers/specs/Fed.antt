@@ -8,7 +8,7 @@ use Rattle.definitions.specs.Sinks as sinks
 use Rattle.docsets.specs.Entries.{Entry, Rising}
 use Rattle.docsets.specs.Members.{greatest_sum}
 use Rattle.docsets.specs.ScoredEntries.{greatest_score, pairs_of}
-use Rattle.node_scorers.specs.Scores.{Scores}
+use Rattle.query_scorers.specs.Scores.{Scores}
 use Rattle.segment_reader.specs.declared.segment_reader.SegmentReader.{SegmentReader}
 
 -- it was fed what the query answers in the segment under a boost

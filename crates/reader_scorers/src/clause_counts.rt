@@ -10,7 +10,7 @@ ghost use Rattle.reader_scorers.specs.Counted.{IsCountBy, IsCountIn};
 ghost use Rattle.reader_scorers.specs.Fed.{HasClauses};
 ghost use Rattle.reader_scorers.specs.Scored.{segment_scored, weights_of};
 ghost use Rattle.segment_reader.specs.SegmentReaders.{max_doc_of};
-ghost use Rattle.tree_scorers.specs.Accepted.{IsAccepted};
+ghost use Rattle.query_scorers.specs.Accepted.{IsAccepted};
 
 use crate::clause_walks::{asks_for_more, keep_some};
 use crate::joint_counts::count_together;
@@ -19,11 +19,11 @@ use crate::reader_scorers::ReaderScorers;
 use crate::terms_alone::{are_terms, into_terms};
 use any_scorer::AnyScorer;
 use docsets::{DocSet, Scorer};
+use query_scorers::{SegmentScorers, scorers_asked};
 use query_trees::{AnyQuery, Occur};
 use scorer_answers::count;
 use segment_reader::SegmentReader;
 use std::alloc::{AllocError, Global};
-use tree_scorers::{SegmentScorers, scorers_asked};
 
 /// Counts the living documents of a segment that match `clauses`. There is no list of them, unless the clauses ask for
 /// more of the `Should` ones than that there is something to match.

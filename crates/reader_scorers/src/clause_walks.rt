@@ -10,7 +10,7 @@ ghost use Rattle.reader_scorers.specs.Fed.{HasClauses, IsFedBy, IsFedByClauses};
 ghost use Rattle.reader_scorers.specs.Scored.{segment_scored, weights_of};
 ghost use Rattle.reader_scorers.specs.Terms.{HaveSame};
 ghost use Rattle.segment_reader.specs.SegmentReaders.{max_doc_of};
-ghost use Rattle.tree_scorers.specs.Accepted.{IsAccepted};
+ghost use Rattle.query_scorers.specs.Accepted.{IsAccepted};
 
 use crate::joint_walks::feed_together;
 use crate::leaf_weights::LeafWeights;
@@ -20,9 +20,9 @@ use crate::terms_alone::{are_terms, into_terms};
 use any_scorer::AnyScorer;
 use common::{DocId, Score, TERMINATED};
 use docsets::{DocSet, Scorer};
+use query_scorers::{SegmentScorers, scorers_asked};
 use query_trees::{AnyQuery, Occur};
 use std::alloc::{AllocError, Global};
-use tree_scorers::{SegmentScorers, scorers_asked};
 use walks::Sink;
 
 /// Feeds each document of a segment that matches `clauses` with its score to `sink`, in order, if the score is above the

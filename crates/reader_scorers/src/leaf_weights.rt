@@ -3,8 +3,8 @@
 ghost use Rattle.std.specs.Prelude.{[], ◌≤◌, IfNone, IfOk, IfSome};
 ghost use Rattle.definitions.specs.Query as definitions;
 ghost use Rattle.definitions.specs.Scoring.{Similarity, max_score};
-ghost use Rattle.node_scorers.specs.Scores.{Scores};
-ghost use Rattle.tree_scorers.specs.Accepted.{IsAccepted};
+ghost use Rattle.query_scorers.specs.Scores.{Scores};
+ghost use Rattle.query_scorers.specs.Accepted.{IsAccepted};
 
 use docsets::Scorer;
 use query_trees::{PhrasePrefixQuery, PhraseQuery, TermQuery};

@@ -4,8 +4,8 @@ ghost use Rattle.std.specs.Prelude.{◌+◌, ◌≡◌, ◌≤ℤ◌, ◌≤◌,
 ghost use Rattle.definitions.specs.Query as definitions;
 ghost use Rattle.definitions.specs.Scoring.{max_score};
 ghost use Rattle.docsets.specs.Members.{greatest_sum};
-ghost use Rattle.node_scorers.specs.Asked.{asked, each_query};
-ghost use Rattle.node_scorers.specs.Scores.{AllScore, Scores};
+ghost use Rattle.query_scorers.specs.Asked.{asked, each_query};
+ghost use Rattle.query_scorers.specs.Scores.{AllScore, Scores};
 
 use crate::leaf_weights::LeafWeights;
 use crate::scorer_walks::feed_any;
@@ -13,11 +13,10 @@ use crate::terms_alone::{are_terms, into_terms};
 use any_scorer::{AnyScorer, of_all, of_list, of_none, of_phrase, of_phrase_prefix, of_term, with_score};
 use common::{DocId, Score};
 use docsets::{AllScorer, BoostScorer, DocSet};
-use node_scorers::{all_scorer, best_scorer, clauses_scorer};
+use query_scorers::{SegmentScorers, all_scorer, best_scorer, clauses_scorer};
 use query_trees::{PhrasePrefixQuery, PhraseQuery, TermQuery};
 use segment_reader::SegmentReader;
 use std::alloc::{AllocError, Global};
-use tree_scorers::SegmentScorers;
 use walks::Sink;
 
 /// The scorer of a query of any kind, by weights.

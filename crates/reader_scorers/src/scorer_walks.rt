@@ -8,7 +8,7 @@ ghost use Rattle.docsets.specs.ScoredEntries.{pairs_of};
 use any_scorer::{AnyScorer, Leaf};
 use common::{DocId, Score};
 use docsets::{DocSet, ListScorer, Scorer};
-use tree_scorers::SegmentScorers;
+use query_scorers::SegmentScorers;
 use walks::{Sink, for_each_pruning_scorer};
 
 /// Feeds each document of `scorer` with its score to `sink`, in order, if the score is above the sink's threshold by

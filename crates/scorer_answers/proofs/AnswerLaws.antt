@@ -11,7 +11,7 @@ use Rattle.definitions.specs.ScoredLists.{documents_of}
 use Rattle.definitions.specs.Scoring.{Similarity, score}
 use Rattle.definitions.specs.Values.{Document}
 use Rattle.docsets.specs.ScoredEntries.{pairs_of}
-use Rattle.node_scorers.specs.Scores.{Scores}
+use Rattle.query_scorers.specs.Scores.{Scores}
 use Rattle.walks.proofs.FedBelow.{few_within}
 use Rattle.scorer_answers.specs.Matching.{Matches, matching}
 use Rattle.segment_reader.specs.SegmentReaders.{max_doc_of}

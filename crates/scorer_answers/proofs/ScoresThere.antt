@@ -10,8 +10,8 @@ use Rattle.definitions.specs.Refusing.{tree_fault}
 use Rattle.definitions.specs.Schema.{Schema}
 use Rattle.definitions.specs.Scoring.{Similarity, score}
 use Rattle.definitions.specs.Values.{Document}
-use Rattle.node_scorers.proofs.Earned.{earned, earned_nowhere, earned_there}
-use Rattle.node_scorers.specs.Scores.{Scores}
+use Rattle.query_scorers.proofs.Earned.{earned, earned_nowhere, earned_there}
+use Rattle.query_scorers.specs.Scores.{Scores}
 use Rattle.scorer_answers.specs.Earned.{score_at}
 use Rattle.segment_reader.specs.SegmentReaders.{StandsFor}
 use Rattle.segment_reader.specs.declared.segment_reader.SegmentReader.{SegmentReader}

@@ -4,7 +4,7 @@ ghost use Rattle.std.specs.Prelude.{◌≤◌, List, length, ℕ};
 ghost use Rattle.docsets.specs.Entries.{Entry, Rising};
 ghost use Rattle.definitions.specs.Query.{Query};
 ghost use Rattle.definitions.specs.Scoring as scoring;
-ghost use Rattle.node_scorers.specs.Scores.{Scores};
+ghost use Rattle.query_scorers.specs.Scores.{Scores};
 ghost use Rattle.scorer_answers.specs.Matching.{Matches};
 ghost use Rattle.segment_reader.specs.SegmentReaders.{max_doc_of};
 ghost use Rattle.segment_reader.specs.declared.segment_reader.SegmentReader.{SegmentReader};

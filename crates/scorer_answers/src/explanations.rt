@@ -10,7 +10,7 @@ ghost use Rattle.definitions.specs.Schema.{Schema};
 ghost use Rattle.definitions.specs.Scoring as scoring;
 ghost use Rattle.definitions.specs.Values.{Document};
 ghost use Rattle.definitions.specs.declared.fault.Fault.TheVariants as faults;
-ghost use Rattle.node_scorers.specs.Scores.{Scores};
+ghost use Rattle.query_scorers.specs.Scores.{Scores};
 ghost use Rattle.scorer_answers.specs.Earned.{score_at};
 ghost use Rattle.segment_reader.specs.SegmentReaders.{StandsFor};
 ghost use Rattle.segment_reader.specs.declared.segment_reader.SegmentReader.{SegmentReader};

@@ -10,7 +10,7 @@ ghost use Rattle.definitions.specs.Scoring as scoring;
 ghost use Rattle.definitions.specs.Sinks.{fed};
 ghost use Rattle.definitions.specs.Values.{Document};
 ghost use Rattle.docsets.specs.ScoredEntries.{pairs_of};
-ghost use Rattle.node_scorers.specs.Scores.{Scores};
+ghost use Rattle.query_scorers.specs.Scores.{Scores};
 ghost use Rattle.walks.specs.Blocks.{IsFedInBlocks};
 ghost use Rattle.scorer_answers.specs.Listed.{signed_pairs};
 ghost use Rattle.scorer_answers.specs.Matching.{Matches, matching};

@@ -25,7 +25,7 @@ ghost use Rattle.segment_search.specs.Counted.{IsTermQuery, blocks_decoded, grea
 ghost use Rattle.segment_search.specs.CountedWeights.{CountedScoresBy, CountsTerms, counted_query};
 ghost use Rattle.segment_search.specs.Flags.{AreFlagged, flagged_each};
 ghost use Rattle.term_weight.specs.DecodedBlocks.{decoded_for};
-ghost use Rattle.tree_scorers.specs.Accepted.{IsAccepted};
+ghost use Rattle.query_scorers.specs.Accepted.{IsAccepted};
 ghost use Rattle.weights.specs.Weighing.{IsWeighed};
 
 use crate::counted_weight::{CountedWeight, weigh_query};

@@ -11,7 +11,7 @@ ghost use Rattle.definitions.specs.Values.{Document};
 ghost use Rattle.query_trees.specs.Queries.{query_of};
 ghost use Rattle.segment.specs.Opened.{StandsFor};
 ghost use Rattle.segment_search.specs.Flags.{AreFlagged, flagged_each};
-ghost use Rattle.tree_scorers.specs.Accepted.{IsAccepted};
+ghost use Rattle.query_scorers.specs.Accepted.{IsAccepted};
 
 use crate::readers::readers_of;
 use common::AliveBitSet;

@@ -7,7 +7,7 @@ ghost use Rattle.definitions.specs.Scoring.{max_score};
 ghost use Rattle.phrase_weights.specs.PhrasePrefixWeights as prefixes;
 ghost use Rattle.phrase_weights.specs.PhraseWeights as phrases;
 ghost use Rattle.term_weight.specs.TermWeights as terms;
-ghost use Rattle.tree_scorers.specs.Accepted.{IsAccepted};
+ghost use Rattle.query_scorers.specs.Accepted.{IsAccepted};
 
 use leaf_weights::sum_of_weights;
 use query::{PhrasePrefixQuery, PhraseQuery, TermQuery};

@@ -5,7 +5,7 @@ ghost use Rattle.definitions.specs.Scoring.{max_score};
 ghost use Rattle.phrase_weights.specs.PhrasePrefixWeights.{most_in};
 ghost use Rattle.phrase_weights.specs.PhraseWeights.{weight_in};
 ghost use Rattle.query_trees.specs.Queries.{query_of};
-ghost use Rattle.tree_scorers.specs.Accepted.{IsAccepted};
+ghost use Rattle.query_scorers.specs.Accepted.{IsAccepted};
 
 use crate::leaf_forms::{phrase_prefix_weight, phrase_weight};
 use case_lines::{Arguments, Refusal, number, pair};

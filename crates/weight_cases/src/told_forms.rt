@@ -2,7 +2,7 @@
 
 ghost use Rattle.std.specs.Prelude.{◌≡◌};
 ghost use Rattle.query_trees.specs.Queries.{clauses_of, query_of};
-ghost use Rattle.tree_scorers.specs.Accepted.{IsAccepted};
+ghost use Rattle.query_scorers.specs.Accepted.{IsAccepted};
 ghost use Rattle.weights.specs.Trees.{boolean_weights, clauses_in, minimum_in};
 
 use crate::leaf_forms::{phrase_prefix_weight, phrase_weight, term_weight};

@@ -6,7 +6,7 @@ ghost use Rattle.query_trees.specs.Queries.{query_of};
 ghost use Rattle.segment.specs.Opened.{num_docs_of};
 ghost use Rattle.segment_reader.specs.Scorings.{statistics_asked};
 ghost use Rattle.segment_reader.specs.Searchers.{readers_in, statistics_of};
-ghost use Rattle.tree_scorers.specs.Accepted.{IsAccepted};
+ghost use Rattle.query_scorers.specs.Accepted.{IsAccepted};
 ghost use Rattle.weights.specs.AnyForms.{AnyScoresBy, any_query};
 ghost use Rattle.weights.specs.Unscored.{similarity_given};
 ghost use Rattle.weights.specs.Weighing.{IsWeighed};

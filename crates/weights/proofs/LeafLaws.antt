@@ -14,18 +14,18 @@ use Rattle.definitions.specs.Values.{Document}
 use Rattle.docsets.specs.Entries.{Entry, from}
 use Rattle.docsets.specs.ScoredEntries.{greatest_score, pairs_of}
 use Rattle.leaf_weights.proofs.LeafScores.{nothing_scores, some_scores}
-use Rattle.node_scorers.specs.Scores.{Scores}
+use Rattle.query_scorers.specs.Scores.{Scores}
 use Rattle.phrase_weights.specs.PhrasePrefixWeights as prefixes
 use Rattle.phrase_weights.specs.PhraseWeights as phrases
 use Rattle.phrase_weights.specs.PlacedAnswers.{whole_weight}
 use Rattle.phrase_weights.specs.declared.phrase_prefix_weight.PhrasePrefixWeight.{PhrasePrefixWeight}
 use Rattle.phrase_weights.specs.declared.phrase_weight.PhraseWeight.{PhraseWeight}
-use Rattle.node_scorers.proofs.FormScores.{from_found, moved}
+use Rattle.query_scorers.proofs.FormScores.{from_found, moved}
 use Rattle.segment_reader.specs.SegmentReaders.{StandsFor, max_doc_of}
 use Rattle.segment_reader.specs.declared.segment_reader.SegmentReader.{SegmentReader}
 use Rattle.term_weight.specs.TermWeights as terms
 use Rattle.term_weight.specs.declared.term_weight.TermWeight.{TermWeight}
-use Rattle.tree_scorers.proofs.AcceptedParts.{fits}
+use Rattle.query_scorers.proofs.AcceptedParts.{fits}
 use Rattle.weights.specs.Weighing.{IsWeighed}
 
 -- ---- what they earn is at most the greatest score

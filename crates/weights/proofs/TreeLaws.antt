@@ -9,9 +9,9 @@ use mir.Val.{SFits}
 use Rattle.definitions.specs.Query.{Query}
 use Rattle.definitions.specs.Scoring.{Similarity, max_score, natural}
 use Rattle.docsets.specs.Entries.{Entry}
-use Rattle.node_scorers.specs.Scores.{Scores}
+use Rattle.query_scorers.specs.Scores.{Scores}
 use Rattle.segment_reader.specs.declared.segment_reader.SegmentReader.{SegmentReader}
-use Rattle.tree_scorers.specs.Accepted.{IsAccepted}
+use Rattle.query_scorers.specs.Accepted.{IsAccepted}
 use Rattle.weights.specs.AnyForms.{any_query}
 use Rattle.weights.specs.Weighing.{IsWeighed}
 use Rattle.weights.specs.declared.any_weight.AnyWeight.{AnyWeight}

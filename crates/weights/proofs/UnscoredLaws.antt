@@ -15,7 +15,7 @@ use Rattle.definitions.specs.Schema.{Schema}
 use Rattle.definitions.specs.Scoring.{DontFall, IsSimilarity, max_score, natural, weight_sum}
 use Rattle.definitions.specs.declared.fault.Fault.{Fault}
 use Rattle.definitions.specs.declared.fault.Fault.TheVariants as faults
-use Rattle.tree_scorers.specs.Accepted.{IsAccepted}
+use Rattle.query_scorers.specs.Accepted.{IsAccepted}
 use Rattle.weights.specs.Unscored.{no_scores}
 
 -- no weight

@@ -5,10 +5,10 @@ use Rattle.std.proofs.Props.{props}
 use Rattle.definitions.specs.Query.{Query, boost, const_score}
 use Rattle.definitions.specs.Scoring.{Similarity, max_score, natural}
 use Rattle.docsets.specs.Entries.{Entry, from}
-use Rattle.node_scorers.specs.Scores.{Scores}
+use Rattle.query_scorers.specs.Scores.{Scores}
 use Rattle.segment_reader.specs.SegmentReaders.{max_doc_of}
 use Rattle.segment_reader.specs.declared.segment_reader.SegmentReader.{SegmentReader}
-use Rattle.tree_scorers.proofs.AcceptedParts.{boost_accepted, boost_positive, boost_within, constant_positive, constant_query_accepted, constant_within}
+use Rattle.query_scorers.proofs.AcceptedParts.{boost_accepted, boost_positive, boost_within, constant_positive, constant_query_accepted, constant_within}
 use Rattle.weights.specs.Weighing.{IsWeighed}
 
 none_left : (es : List Entry) → length es ≤ 0 → es ≡ []

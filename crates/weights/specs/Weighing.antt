@@ -2,7 +2,7 @@
 use Rattle.std.specs.Prelude.{ℕ}
 use Rattle.definitions.specs.Query.{Query}
 use Rattle.definitions.specs.Scoring.{Similarity}
-use Rattle.tree_scorers.specs.Accepted.{IsAccepted}
+use Rattle.query_scorers.specs.Accepted.{IsAccepted}
 
 -- by one of these similarities a query is not refused under a boost
 abbrev pub IsWeighed : (Similarity → Type 0) → ℕ → Query → Type 0

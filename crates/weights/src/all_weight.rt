@@ -8,7 +8,7 @@ use crate::weight::{SegmentWeight, Weight};
 use common::{DocId, Score};
 use definitions::Fault;
 use docsets::{AllScorer, BoostScorer};
-use node_scorers::all_scorer;
+use query_scorers::all_scorer;
 use scorer_answers::count_all;
 use segment_reader::SegmentReader;
 use std::alloc::{AllocError, Global};

@@ -16,14 +16,13 @@ use any_scorer::{AnyScorer, Leaf};
 use common::{DocId, Score};
 use definitions::Fault;
 use docsets::{AllScorer, BoostScorer, DocSet, ListScorer};
-use node_scorers::all_scorer;
+use query_scorers::{SegmentScorers, all_scorer};
 use query_trees::{PhrasePrefixQuery, PhraseQuery, TermQuery};
 use reader_scorers::{LeafWeights, ReaderScorers, ScorerBy};
 use scorer_answers::{count_all, count_term};
 use segment_reader::SegmentReader;
 use std::alloc::{AllocError, Global};
 use term_scorer::Explanation;
-use tree_scorers::SegmentScorers;
 use walks::{BlockSink, Sink};
 
 /// The weight of a query of any form. The query is borrowed; `W` makes the scorers of its leaves.

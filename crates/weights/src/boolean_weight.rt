@@ -8,12 +8,12 @@ use crate::calls;
 use crate::weight::{SegmentWeight, Weight};
 use common::{DocId, Score};
 use definitions::Fault;
+use query_scorers::boolean_scorer;
 use query_trees::{AnyQuery, Occur};
 use reader_scorers::{LeafWeights, ReaderScorers, ScorerBy, count_clauses, feed_clauses};
 use segment_reader::SegmentReader;
 use std::alloc::{AllocError, Global};
 use term_scorer::Explanation;
-use tree_scorers::boolean_scorer;
 use walks::{BlockSink, Sink};
 
 /// The weight of clauses, of which a minimum of the `Should` ones must match. The clauses are borrowed; `weights` makes

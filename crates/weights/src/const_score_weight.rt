@@ -7,11 +7,11 @@ ghost use Rattle.query_trees.specs.Queries.{query_of};
 use crate::scorer_weight::ScorerWeight;
 use crate::weight::SegmentWeight;
 use common::Score;
+use query_scorers::constant_scorer;
 use query_trees::AnyQuery;
 use reader_scorers::{LeafWeights, ReaderScorers, ScorerBy};
 use segment_reader::SegmentReader;
 use std::alloc::{AllocError, Global};
-use tree_scorers::constant_scorer;
 
 /// The weight of a query of any form with a constant score. The query is borrowed; `weights` makes the scorers of its
 /// leaves.

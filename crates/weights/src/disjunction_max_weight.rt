@@ -7,11 +7,11 @@ ghost use Rattle.query_trees.specs.Queries.{queries_of};
 use crate::scorer_weight::ScorerWeight;
 use crate::weight::SegmentWeight;
 use common::Score;
+use query_scorers::max_scorer;
 use query_trees::AnyQuery;
 use reader_scorers::{LeafWeights, ReaderScorers, ScorerBy};
 use segment_reader::SegmentReader;
 use std::alloc::{AllocError, Global};
-use tree_scorers::max_scorer;
 
 /// The weight of several queries: each document scores the best of them, and a part of the others. The queries are
 /// borrowed; `weights` makes the scorers of their leaves.

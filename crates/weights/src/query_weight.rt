@@ -6,11 +6,11 @@ ghost use Rattle.query_trees.specs.Queries.{query_of};
 use crate::scorer_weight::ScorerWeight;
 use crate::weight::SegmentWeight;
 use common::Score;
+use query_scorers::scorer_of;
 use query_trees::AnyQuery;
 use reader_scorers::{LeafWeights, ReaderScorers, ScorerBy};
 use segment_reader::SegmentReader;
 use std::alloc::{AllocError, Global};
-use tree_scorers::scorer_of;
 
 /// The weight of a query of any form, as it stands below another. The query is borrowed; `weights` makes the scorers of
 /// its leaves.

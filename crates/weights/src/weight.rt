@@ -11,7 +11,7 @@ ghost use Rattle.definitions.specs.Scoring.{Similarity, max_score, natural};
 ghost use Rattle.definitions.specs.Sinks.{fed};
 ghost use Rattle.definitions.specs.Values.{Document};
 ghost use Rattle.definitions.specs.declared.fault.Fault.TheVariants as faults;
-ghost use Rattle.node_scorers.specs.Scores.{Scores};
+ghost use Rattle.query_scorers.specs.Scores.{Scores};
 ghost use Rattle.walks.specs.Blocks.{IsFedInBlocks};
 ghost use Rattle.walks.specs.Feeding.{IsFedBelow};
 ghost use Rattle.scorer_answers.specs.Earned.{score_at};

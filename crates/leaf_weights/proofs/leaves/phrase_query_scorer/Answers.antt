@@ -6,7 +6,7 @@ use mir.Syntax.{w64}
 use Rattle.definitions.specs.Answers.{answers}
 use Rattle.definitions.specs.Query.{phrase}
 use Rattle.definitions.specs.Scoring.{greatest_of, max_score, natural, weight_sum}
-use Rattle.tree_scorers.proofs.AcceptedParts.{fits}
+use Rattle.query_scorers.proofs.AcceptedParts.{fits}
 use Rattle.leaf_weights.proofs.AcceptedTerms.{phrase_near}
 use Rattle.leaf_weights.proofs.LeafScores.{norms_under, ok_none_same, ok_nothing_scores, ok_some_same, ok_some_scores, phrase_answers_same, small_if_boosted, small_under, weighs_same}
 use Rattle.leaf_weights.specs.Weighed.{under}

@@ -6,7 +6,7 @@ use mir.Syntax.{w64}
 use Rattle.definitions.specs.Answers.{answers}
 use Rattle.definitions.specs.Query.{Terms, phrase_prefix}
 use Rattle.definitions.specs.Scoring.{greatest_of, max_score, natural, weight_sum}
-use Rattle.tree_scorers.proofs.AcceptedParts.{fits}
+use Rattle.query_scorers.proofs.AcceptedParts.{fits}
 use Rattle.definitions.specs.Phrases.{whole_terms}
 use Rattle.phrase_weights.specs.PhrasePrefixWeights.{most_in}
 use Rattle.phrase_weights.specs.PlacedAnswers.{whole_weight}

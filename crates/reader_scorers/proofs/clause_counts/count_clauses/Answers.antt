@@ -3,7 +3,7 @@ use Rattle.std.proofs.lemmas.Result.{IfOk-weaker}
 use Rattle.query_trees.specs.Queries.{clauses_of}
 use Rattle.reader_scorers.proofs.ClauseAnswers.{answered, none_mapped}
 use Rattle.scorer_answers.proofs.AnswerLaws.{scores_match}
-use Rattle.tree_scorers.proofs.AcceptedParts.{clauses_accepted, clauses_fit}
+use Rattle.query_scorers.proofs.AcceptedParts.{clauses_accepted, clauses_fit}
 use Rattle.reader_scorers.proofs.clause_counts.count_clauses.Goals as goal
 
 pub scorers_asked-requires-clause-accepted : goal.scorers_asked-requires-clause-accepted

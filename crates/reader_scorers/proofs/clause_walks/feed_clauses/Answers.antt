@@ -3,7 +3,7 @@ use Rattle.std.proofs.lemmas.Result.{on_ok_weaker}
 use Rattle.definitions.specs.Query as definitions
 use Rattle.query_trees.specs.Queries.{clauses_of}
 use Rattle.reader_scorers.proofs.ClauseAnswers.{fed_answered, few_answered, is_fed, none_mapped, within_same}
-use Rattle.tree_scorers.proofs.AcceptedParts.{clauses_accepted, clauses_fit}
+use Rattle.query_scorers.proofs.AcceptedParts.{clauses_accepted, clauses_fit}
 use Rattle.reader_scorers.proofs.clause_walks.feed_clauses.Goals as goal
 
 pub scorers_asked-requires-clause-accepted : goal.scorers_asked-requires-clause-accepted

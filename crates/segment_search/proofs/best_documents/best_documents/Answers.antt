@@ -1,6 +1,6 @@
 use Rattle.std.proofs.Common.{subst, sym}
 use Rattle.query_trees.specs.Queries.{query_of}
-use Rattle.tree_scorers.specs.Accepted.{IsAccepted}
+use Rattle.query_scorers.specs.Accepted.{IsAccepted}
 use Rattle.segment_search.proofs.best_documents.best_documents.Goals as goal
 
 pub best_searched-requires-clause-accepted : goal.best_searched-requires-clause-accepted

@@ -5,7 +5,7 @@ use Rattle.definitions.specs.Query.{phrase}
 use Rattle.definitions.specs.Scoring.{greatest_of, max_score, weight_sum}
 use Rattle.leaf_weights.proofs.AcceptedTerms.{phrase_near}
 use Rattle.leaf_weights.proofs.LeafScores.{small_if_boosted}
-use Rattle.tree_scorers.proofs.AcceptedParts.{fits}
+use Rattle.query_scorers.proofs.AcceptedParts.{fits}
 use Rattle.weight_cases.proofs.leaf_forms.phrase_weight.Goals as goal
 
 pub sum_of_weights-weight-requires : goal.sum_of_weights-weight-requires

@@ -5,7 +5,7 @@ use Rattle.phrase_weights.specs.PhraseWeights as phrases
 use Rattle.query.proofs.AskedLaws.{weighed_tree}
 use Rattle.query_trees.specs.Queries.{query_of}
 use Rattle.term_weight.specs.TermWeights as terms
-use Rattle.tree_scorers.specs.Accepted.{IsAccepted}
+use Rattle.query_scorers.specs.Accepted.{IsAccepted}
 use Rattle.weight_cases.proofs.told_forms.told_by_form.Goals as goal
 
 pub told-requires : goal.told-requires

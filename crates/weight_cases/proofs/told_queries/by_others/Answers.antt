@@ -1,7 +1,7 @@
 use Rattle.std.proofs.Common.{subst, sym}
 use Rattle.definitions.specs.Settings.{similarity_of}
 use Rattle.query_trees.specs.Queries.{query_of}
-use Rattle.tree_scorers.specs.Accepted.{IsAccepted}
+use Rattle.query_scorers.specs.Accepted.{IsAccepted}
 use Rattle.weights.specs.Unscored.{similarity_given}
 use Rattle.weight_cases.proofs.told_queries.by_others.Goals as goal
 

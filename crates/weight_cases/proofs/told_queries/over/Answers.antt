@@ -1,7 +1,7 @@
 use Rattle.std.proofs.Common.{subst, sym}
 use Rattle.definitions.specs.Settings.{similarity_of}
 use Rattle.query_trees.specs.Queries.{query_of}
-use Rattle.tree_scorers.specs.Accepted.{IsAccepted}
+use Rattle.query_scorers.specs.Accepted.{IsAccepted}
 use Rattle.weight_cases.proofs.told_queries.over.Goals as goal
 
 pub asked-requires-clause-accepted : goal.asked-requires-clause-accepted

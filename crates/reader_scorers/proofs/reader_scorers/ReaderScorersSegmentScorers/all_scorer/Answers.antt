@@ -3,7 +3,7 @@ use Rattle.std.proofs.lemmas.Int.{to_z_pos}
 use mir.Syntax.{w64}
 use Rattle.definitions.specs.Query as definitions
 use Rattle.definitions.specs.Scoring.{natural}
-use Rattle.node_scorers.proofs.FormScores.{moved}
+use Rattle.query_scorers.proofs.FormScores.{moved}
 use Rattle.reader_scorers.proofs.reader_scorers.ReaderScorersSegmentScorers.all_scorer.Goals as goal
 
 pub returns : goal.returns

@@ -2,7 +2,7 @@ use Rattle.std.proofs.Common.{of_z, rules, to_z, ◌≡◌}
 use Rattle.std.proofs.lemmas.Int.{to_z-of_z}
 use mir.Syntax.{w64}
 use mir.Val.{SFits}
-use Rattle.node_scorers.proofs.FormScores.{moved_best}
+use Rattle.query_scorers.proofs.FormScores.{moved_best}
 use Rattle.reader_scorers.proofs.reader_scorers.ReaderScorersSegmentScorers.best_scorer.Goals as goal
 
 pub returns : goal.returns

@@ -1,6 +1,6 @@
 use Rattle.std.proofs.Common.{refl}
 use Rattle.definitions.specs.Query as definitions
-use Rattle.node_scorers.proofs.FormScores.{moved}
+use Rattle.query_scorers.proofs.FormScores.{moved}
 use Rattle.reader_scorers.proofs.reader_scorers.ReaderScorersSegmentScorers.clauses_scorer.Goals as goal
 
 pub returns : goal.returns

@@ -1,4 +1,4 @@
-use Rattle.node_scorers.proofs.FormScores.{empty_scores}
+use Rattle.query_scorers.proofs.FormScores.{empty_scores}
 use Rattle.reader_scorers.proofs.reader_scorers.ReaderScorersSegmentScorers.empty_scorer.Goals as goal
 
 pub returns : goal.returns

@@ -1,5 +1,5 @@
 use Rattle.definitions.specs.Query as definitions
-use Rattle.node_scorers.proofs.FormScores.{from_found}
+use Rattle.query_scorers.proofs.FormScores.{from_found}
 use Rattle.reader_scorers.proofs.reader_scorers.ReaderScorersSegmentScorers.phrase_prefix_scorer.Goals as goal
 
 pub returns : goal.returns

@@ -4,7 +4,7 @@ use mir.Syntax.{w64}
 use mir.Val.{SFits}
 use Rattle.definitions.specs.Query.{all}
 use Rattle.definitions.specs.Scoring.{natural}
-use Rattle.node_scorers.proofs.FormScores.{moved}
+use Rattle.query_scorers.proofs.FormScores.{moved}
 use Rattle.weights.proofs.all_weight.AllWeightSegmentWeight.scorer.Goals as goal
 
 pub returns : goal.returns

@@ -6,7 +6,7 @@ use mir.Val.{SFits}
 use Rattle.definitions.specs.Query as definitions
 use Rattle.definitions.specs.Scoring.{max_score, natural}
 use Rattle.query_trees.specs.Queries.{clauses_of, queries_of, query_of}
-use Rattle.node_scorers.proofs.FormScores.{empty_scores, moved}
+use Rattle.query_scorers.proofs.FormScores.{empty_scores, moved}
 use Rattle.weights.proofs.TreeLaws.{by_form, factor_is, weighed_accepted}
 use Rattle.weights.specs.AnyForms.{AnyScoresBy, any_query}
 use Rattle.weights.specs.Weighing.{IsWeighed}

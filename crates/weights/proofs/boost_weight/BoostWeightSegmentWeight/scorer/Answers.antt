@@ -4,7 +4,7 @@ use Rattle.std.proofs.lemmas.Result.{IfOk-weaker}
 use mir.Syntax.{w64}
 use mir.Val.{SFits}
 use Rattle.definitions.specs.Scoring.{max_score, natural}
-use Rattle.tree_scorers.proofs.ScoredParts.{boosted_scores}
+use Rattle.query_scorers.proofs.ScoredParts.{boosted_scores}
 use Rattle.weights.proofs.WeighedLaws.{weighed_boost, weighed_boost_positive, weighed_boost_within}
 use Rattle.weights.proofs.boost_weight.BoostWeightSegmentWeight.scorer.Goals as goal
 

@@ -4,8 +4,8 @@ use mir.Syntax.{w64}
 use mir.Val.{SFits}
 use Rattle.definitions.specs.Scoring.{max_score, natural}
 use Rattle.docsets.specs.ScoredEntries.{rescored_by}
-use Rattle.node_scorers.proofs.ConstantScores.{constant_scores}
-use Rattle.node_scorers.proofs.FormScores.{moved}
+use Rattle.query_scorers.proofs.ConstantScores.{constant_scores}
+use Rattle.query_scorers.proofs.FormScores.{moved}
 use Rattle.weights.proofs.WeighedLaws.{weighed_constant, weighed_constant_positive, weighed_constant_within}
 use Rattle.weights.proofs.const_weight.ConstWeightSegmentWeight.scorer.Goals as goal
 

@@ -1,5 +1,5 @@
 use Rattle.definitions.specs.Scoring.{natural}
-use Rattle.node_scorers.proofs.FormScores.{empty_scores}
+use Rattle.query_scorers.proofs.FormScores.{empty_scores}
 use Rattle.weights.proofs.empty_weight.EmptyWeightSegmentWeight.scorer.Goals as goal
 
 pub returns : goal.returns

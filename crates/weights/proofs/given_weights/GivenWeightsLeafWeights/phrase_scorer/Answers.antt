@@ -1,6 +1,6 @@
 use Rattle.std.proofs.Common.{subst}
 use Rattle.definitions.specs.Query.{phrase}
-use Rattle.tree_scorers.specs.Accepted.{IsAccepted}
+use Rattle.query_scorers.specs.Accepted.{IsAccepted}
 use Rattle.weights.specs.Given.{lent_similarity}
 use Rattle.weights.proofs.given_weights.GivenWeightsLeafWeights.phrase_scorer.Goals as goal
 

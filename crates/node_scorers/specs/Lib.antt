@@ -1,3 +1,0 @@
--- Words of the contracts.
-pub mod Asked
-pub mod Scores

@@ -1,3 +1,0 @@
--- Lemmas behind the weights.
-pub mod AcceptedParts
-pub mod ScoredParts
