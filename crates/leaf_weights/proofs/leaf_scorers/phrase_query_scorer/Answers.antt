@@ -10,7 +10,7 @@ use Rattle.query_scorers.proofs.AcceptedParts.{fits}
 use Rattle.leaf_weights.proofs.AcceptedTerms.{phrase_near}
 use Rattle.leaf_weights.proofs.LeafScores.{norms_under, ok_none_same, ok_nothing_scores, ok_some_same, ok_some_scores, phrase_answers_same, small_if_boosted, small_under, weighs_same}
 use Rattle.leaf_weights.specs.Weighed.{under}
-use Rattle.leaf_weights.proofs.leaves.phrase_query_scorer.Goals as goal
+use Rattle.leaf_weights.proofs.leaf_scorers.phrase_query_scorer.Goals as goal
 
 pub weight_under-weight-requires : goal.weight_under-weight-requires
 weight_under-weight-requires g c some =

@@ -15,7 +15,7 @@ use Rattle.std.specs.List.{slice_index_or}
 use Rattle.leaf_weights.proofs.AcceptedTerms.{prefix_limit, prefix_near, prefix_searched, prefix_several}
 use Rattle.leaf_weights.proofs.LeafScores.{norms_under, ok_none_same, ok_nothing_scores, ok_some_same, ok_some_scores, ok_with, prefix_answers_same, whole_same, whole_small, whole_under}
 use Rattle.leaf_weights.specs.Weighed.{under}
-use Rattle.leaf_weights.proofs.leaves.prefix_query_scorer.Goals as goal
+use Rattle.leaf_weights.proofs.leaf_scorers.prefix_query_scorer.Goals as goal
 
 pub weight_under-weight-requires : goal.weight_under-weight-requires
 weight_under-weight-requires g c some =

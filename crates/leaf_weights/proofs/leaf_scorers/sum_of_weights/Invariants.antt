@@ -1,6 +1,6 @@
 use Rattle.std.proofs.Common.{drop, ◌+◌, ◌≡◌}
 use Rattle.definitions.specs.Scoring.{weight_sum}
-use Rattle.leaf_weights.proofs.leaves.sum_of_weights.Given as goal
+use Rattle.leaf_weights.proofs.leaf_scorers.sum_of_weights.Given as goal
 
 -- the sum so far and what is left make the whole
 abbrev pub invariant-loop-offset : goal.invariant-loop-offset

@@ -8,7 +8,7 @@ use Rattle.term_scorer.specs.ScoredTerms.{scored_left}
 use Rattle.term_weight.specs.TermWeights.{option_asked}
 use Rattle.query_scorers.proofs.AcceptedParts.{fits}
 use Rattle.leaf_weights.proofs.LeafScores.{none_same, nothing_scores, some_same, some_scores}
-use Rattle.leaf_weights.proofs.leaves.term_query_scorer.Goals as goal
+use Rattle.leaf_weights.proofs.leaf_scorers.term_query_scorer.Goals as goal
 
 pub term_scorer-requires-clause-fits : goal.term_scorer-requires-clause-fits
 term_scorer-requires-clause-fits g c =
