@@ -10,7 +10,7 @@ use Rattle.definitions.specs.Scoring.{greatest_of}
 use Rattle.definitions.specs.Terms.{field_of, is_text_term}
 use Rattle.definitions.specs.declared.fault.Fault.{Fault}
 use Rattle.definitions.specs.declared.fault.Fault.TheVariants as faults
-use Rattle.phrase_weights.specs.Suffixes.{IsSearched}
+use Rattle.leaf_weights.specs.Suffixes.{IsSearched}
 
 -- where no test fails, each of the first six passes, and so do those behind
 six_pass : (a b c d e f : Bool) (f1 f2 f3 f4 f5 f6 : Fault) (ts : List Test) → first_fault ((a, f1) ∷ (b, f2) ∷ (c, f3) ∷ (d, f4) ∷ (e, f5) ∷ (f, f6) ∷ ts) ≡ None → (c ≡ false) × (d ≡ false) × (e ≡ false) × (f ≡ false) × (first_fault ts ≡ None)

@@ -17,7 +17,7 @@ use Rattle.definitions.specs.Scoring.{Similarity, max_score, phrase_score, prefi
 use Rattle.definitions.specs.Values.{Document}
 use Rattle.docsets.specs.ScoredEntries.{greatest_score, pairs_of}
 use Rattle.query_scorers.specs.Scores.{Scores}
-use Rattle.phrase_weights.specs.PlacedAnswers.{whole_weight}
+use Rattle.leaf_weights.specs.PlacedAnswers.{whole_weight}
 use Rattle.query_scorers.proofs.FormScores.{none_scores}
 use Rattle.segment_reader.specs.SegmentReaders.{StandsFor, max_doc_of}
 use Rattle.segment_reader.specs.declared.segment_reader.SegmentReader.{SegmentReader}

@@ -5,13 +5,13 @@ ghost use Rattle.definitions.specs.Query.{phrase, phrase_prefix, term};
 ghost use Rattle.definitions.specs.Scoring.{max_score, weight_sum};
 ghost use Rattle.query_scorers.specs.Scores.{Scores};
 ghost use Rattle.term_scorer.specs.ScoredTerms.{scored_left};
-ghost use Rattle.term_weight.specs.TermWeights.{ScoresBy, option_asked, term_of};
+ghost use Rattle.leaf_weights.specs.TermWeights.{ScoresBy, option_asked, term_of};
 ghost use Rattle.query_scorers.specs.Accepted.{IsAccepted};
 ghost use Rattle.leaf_weights.specs.Weighed.{under};
 
+use crate::{PhrasePrefixWeight, PhraseWeight, TermWeight, WholePhrase};
 use common::Score;
 use docsets::DocSet;
-use phrase_weights::{PhrasePrefixWeight, PhraseWeight, WholePhrase};
 use phrases::{PhrasePrefixScorer, PhraseScorer, PostingsWithOffset};
 use query_trees::{PhrasePrefixQuery, PhraseQuery, TermQuery};
 use segment_postings::SegmentPostings;
@@ -19,7 +19,6 @@ use segment_reader::SegmentReader;
 use settings::Statistics;
 use std::alloc::{AllocError, Global};
 use term_scorer::TermScorer;
-use term_weight::TermWeight;
 use terms::Term;
 
 /// Returns the sum of the weights of `terms`, repeats counted.

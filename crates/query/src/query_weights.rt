@@ -3,7 +3,7 @@
 ghost use Rattle.std.specs.Prelude.{◌≡◌};
 ghost use Rattle.definitions.specs.Query.{term};
 ghost use Rattle.segment_reader.specs.Scorings.{statistics_asked};
-ghost use Rattle.term_weight.specs.TermWeights.{ScoresBy, option_asked, term_of};
+ghost use Rattle.leaf_weights.specs.TermWeights.{ScoresBy, option_asked, term_of};
 ghost use Rattle.weights.specs.Unscored.{similarity_given};
 
 use crate::asked_weights::statistics;

@@ -3,12 +3,12 @@
 use crate::term_answers::WEIGHT;
 use case_lines::{Refusal, number, pair};
 use common::AliveBitSet;
+use leaf_weights::TermWeight;
 use schema::{IndexRecordOption, Term};
 use segment::BestK;
 use segment_reader::SegmentReader;
 use serde_json::Value;
 use std::alloc::{AllocError, Global};
-use term_weight::TermWeight;
 use walks::Sink;
 
 /// The best `k` hits, each its score and its document, and how many blocks were decoded.

@@ -16,6 +16,7 @@ use crate::term_sinks::{Blocks, Highest};
 use case_lines::{Arguments, Refusal, number, pair, triple};
 use common::{AliveBitSet, Score};
 use definitions::Fault;
+use leaf_weights::TermWeight;
 use schema::{IndexRecordOption, Term};
 use scorer_answers::{
     count, count_all, count_term, explain, for_each, for_each_no_score, for_each_pruning,
@@ -25,7 +26,6 @@ use segment_reader::SegmentReader;
 use serde_json::Value;
 use std::alloc::Global;
 use term_scorer::TermScorer;
-use term_weight::TermWeight;
 
 /// The weight of every term.
 pub(crate) const WEIGHT: u64 = 60;

@@ -10,7 +10,7 @@ use Rattle.definitions.specs.Schema.{IndexRecordOption, Schema}
 use Rattle.definitions.specs.Scoring.{Similarity}
 use Rattle.definitions.specs.TermBlocks.{scored_blocks}
 use Rattle.segment_search.specs.Counted.{after_term, at_segment, blocks_decoded, greatest_count}
-use Rattle.term_weight.specs.DecodedBlocks.{decoded_for}
+use Rattle.leaf_weights.specs.DecodedBlocks.{decoded_for}
 
 -- with the blocks of one segment more, and those of the segments that are left
 pub one_more : (schema : Schema) (analyze : Analyzer) (sim : Similarity) (t : List ℕ) (option : IndexRecordOption) (b new : Best) (i : ℕ) (rows : Segment) (left more : List Segment) (decoded blocks sum all : ℕ) → left ≡ rows ∷ more → blocks ≡ decoded_for limit taken (at_segment i rows b) (answers schema analyze sim 1 (term t option) (documents_in rows)) (scored_blocks schema analyze sim 1 t option (documents_in rows)) → new ≡ after_term schema analyze sim t option i rows b → sum ≡ min greatest_count (decoded + blocks) → min greatest_count (decoded + blocks_decoded schema analyze sim t option b i left) ≡ min greatest_count all → min greatest_count (sum + blocks_decoded schema analyze sim t option new (i + 1) more) ≡ min greatest_count all

@@ -10,7 +10,7 @@ use Rattle.definitions.specs.Schema.{IndexRecordOption, Schema}
 use Rattle.definitions.specs.Scoring.{Similarity}
 use Rattle.definitions.specs.Sinks.{fed}
 use Rattle.definitions.specs.TermBlocks.{scored_blocks}
-use Rattle.term_weight.specs.DecodedBlocks.{decoded_for}
+use Rattle.leaf_weights.specs.DecodedBlocks.{decoded_for}
 
 -- a query that is one term
 abbrev pub IsTermQuery : Query → Type 0

@@ -5,7 +5,7 @@ use Rattle.definitions.specs.Scoring.{Similarity}
 use Rattle.segment_search.specs.Counted.{IsTermQuery}
 use Rattle.segment_search.specs.declared.counted_weight.CountedWeight.{CountedWeight}
 use Rattle.segment_search.specs.declared.counted_weight.CountedWeight.TheVariants.{Other, Term}
-use Rattle.term_weight.specs.TermWeights.{ScoresBy, option_asked, term_of}
+use Rattle.leaf_weights.specs.TermWeights.{ScoresBy, option_asked, term_of}
 use Rattle.weights.specs.AnyForms.{AnyScoresBy, any_query}
 
 module _ {W : Type 0} where

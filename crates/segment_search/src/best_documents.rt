@@ -24,7 +24,7 @@ ghost use Rattle.segment_search.specs.Best.{IsFound, best_places, place_at};
 ghost use Rattle.segment_search.specs.Counted.{IsTermQuery, blocks_decoded, greatest_count, nothing_kept};
 ghost use Rattle.segment_search.specs.CountedWeights.{CountedScoresBy, CountsTerms, counted_query};
 ghost use Rattle.segment_search.specs.Flags.{AreFlagged, flagged_each};
-ghost use Rattle.term_weight.specs.DecodedBlocks.{decoded_for};
+ghost use Rattle.leaf_weights.specs.DecodedBlocks.{decoded_for};
 ghost use Rattle.query_scorers.specs.Accepted.{IsAccepted};
 ghost use Rattle.weights.specs.Weighing.{IsWeighed};
 

@@ -16,19 +16,19 @@ ghost use Rattle.segment_reader.specs.Scorings.{statistics_asked};
 ghost use Rattle.segment_reader.specs.SegmentReaders.{StandsFor, max_doc_of};
 ghost use Rattle.segment_search.specs.Counted.{IsTermQuery};
 ghost use Rattle.segment_search.specs.CountedWeights.{CountedScoresBy, CountsTerms, counted_query};
-ghost use Rattle.term_weight.specs.DecodedBlocks.{decoded_for};
+ghost use Rattle.leaf_weights.specs.DecodedBlocks.{decoded_for};
 ghost use Rattle.weights.specs.Given.{given_similarity};
 ghost use Rattle.weights.specs.Unscored.{similarity_given};
 ghost use Rattle.weights.specs.Weighing.{IsWeighed};
 
 use common::Score;
+use leaf_weights::TermWeight;
 use query::{Query, SpecializedWeight};
 use query_trees::AnyQuery;
 use reader_scorers::LeafWeights;
 use segment_reader::{EnableScoring, SegmentReader};
 use settings::Statistics;
 use std::alloc::{AllocError, Global};
-use term_weight::TermWeight;
 use walks::Sink;
 use weights::{AnyWeight, GivenWeights, Weight};
 

@@ -4,9 +4,9 @@ ghost use Rattle.std.specs.Prelude.{◌≡◌, ◌≤◌};
 ghost use Rattle.definitions.specs.Phrases.{whole_terms};
 ghost use Rattle.definitions.specs.Query.{phrase, phrase_prefix, term};
 ghost use Rattle.definitions.specs.Scoring.{max_score};
-ghost use Rattle.phrase_weights.specs.PhrasePrefixWeights as prefixes;
-ghost use Rattle.phrase_weights.specs.PhraseWeights as phrases;
-ghost use Rattle.term_weight.specs.TermWeights as terms;
+ghost use Rattle.leaf_weights.specs.PhrasePrefixWeights as prefixes;
+ghost use Rattle.leaf_weights.specs.PhraseWeights as phrases;
+ghost use Rattle.leaf_weights.specs.TermWeights as terms;
 ghost use Rattle.query_scorers.specs.Accepted.{IsAccepted};
 
 use leaf_weights::sum_of_weights;

@@ -2,8 +2,8 @@
 
 ghost use Rattle.std.specs.Prelude.{◌≤◌};
 ghost use Rattle.definitions.specs.Scoring.{max_score};
-ghost use Rattle.phrase_weights.specs.PhrasePrefixWeights.{most_in};
-ghost use Rattle.phrase_weights.specs.PhraseWeights.{weight_in};
+ghost use Rattle.leaf_weights.specs.PhrasePrefixWeights.{most_in};
+ghost use Rattle.leaf_weights.specs.PhraseWeights.{weight_in};
 ghost use Rattle.query_trees.specs.Queries.{query_of};
 ghost use Rattle.query_scorers.specs.Accepted.{IsAccepted};
 

@@ -15,16 +15,16 @@ use Rattle.docsets.specs.Entries.{Entry, from}
 use Rattle.docsets.specs.ScoredEntries.{greatest_score, pairs_of}
 use Rattle.leaf_weights.proofs.LeafScores.{nothing_scores, some_scores}
 use Rattle.query_scorers.specs.Scores.{Scores}
-use Rattle.phrase_weights.specs.PhrasePrefixWeights as prefixes
-use Rattle.phrase_weights.specs.PhraseWeights as phrases
-use Rattle.phrase_weights.specs.PlacedAnswers.{whole_weight}
-use Rattle.phrase_weights.specs.declared.phrase_prefix_weight.PhrasePrefixWeight.{PhrasePrefixWeight}
-use Rattle.phrase_weights.specs.declared.phrase_weight.PhraseWeight.{PhraseWeight}
+use Rattle.leaf_weights.specs.PhrasePrefixWeights as prefixes
+use Rattle.leaf_weights.specs.PhraseWeights as phrases
+use Rattle.leaf_weights.specs.PlacedAnswers.{whole_weight}
+use Rattle.leaf_weights.specs.declared.phrase_prefix_weight.PhrasePrefixWeight.{PhrasePrefixWeight}
+use Rattle.leaf_weights.specs.declared.phrase_weight.PhraseWeight.{PhraseWeight}
 use Rattle.query_scorers.proofs.FormScores.{from_found, moved}
 use Rattle.segment_reader.specs.SegmentReaders.{StandsFor, max_doc_of}
 use Rattle.segment_reader.specs.declared.segment_reader.SegmentReader.{SegmentReader}
-use Rattle.term_weight.specs.TermWeights as terms
-use Rattle.term_weight.specs.declared.term_weight.TermWeight.{TermWeight}
+use Rattle.leaf_weights.specs.TermWeights as terms
+use Rattle.leaf_weights.specs.declared.term_weight.TermWeight.{TermWeight}
 use Rattle.query_scorers.proofs.AcceptedParts.{fits}
 use Rattle.weights.specs.Weighing.{IsWeighed}
 

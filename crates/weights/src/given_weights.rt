@@ -5,8 +5,7 @@ ghost use Rattle.weights.specs.Given.{given_similarity};
 ghost use Rattle.weights.specs.Unscored.{similarity_given};
 
 use crate::no_scores::NoScores;
-use leaf_weights::{phrase_query_scorer, prefix_query_scorer, term_query_scorer};
-use phrase_weights::WholePhrase;
+use leaf_weights::{WholePhrase, phrase_query_scorer, prefix_query_scorer, term_query_scorer};
 use phrases::{PhrasePrefixScorer, PhraseScorer, PostingsWithOffset};
 use query_trees::{PhrasePrefixQuery, PhraseQuery, TermQuery};
 use reader_scorers::LeafWeights;

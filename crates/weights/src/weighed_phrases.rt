@@ -1,14 +1,14 @@
 //! The weights of phrases and of phrase prefixes, asked in a segment.
 
 ghost use Rattle.definitions.specs.Query.{phrase, phrase_prefix};
-ghost use Rattle.phrase_weights.specs.PhrasePrefixWeights.{ScoresPrefixBy, limit_of, prefix_terms_of};
-ghost use Rattle.phrase_weights.specs.PhraseWeights.{ScoresBy, slop_of, terms_of};
+ghost use Rattle.leaf_weights.specs.PhrasePrefixWeights.{ScoresPrefixBy, limit_of, prefix_terms_of};
+ghost use Rattle.leaf_weights.specs.PhraseWeights.{ScoresBy, slop_of, terms_of};
 
 use crate::found_scorer::FoundScorer;
 use crate::scorer_weight::ScorerWeight;
 use crate::weight::SegmentWeight;
 use common::Score;
-use phrase_weights::{PhrasePrefixWeight, PhraseWeight, WholePhrase};
+use leaf_weights::{PhrasePrefixWeight, PhraseWeight, WholePhrase};
 use phrases::{PhrasePrefixScorer, PhraseScorer, PostingsWithOffset};
 use segment_postings::SegmentPostings;
 use segment_reader::SegmentReader;

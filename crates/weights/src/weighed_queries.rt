@@ -6,9 +6,9 @@ ghost use Rattle.weights.specs.Unscored.{similarity_given};
 
 use crate::no_scores::NoScores;
 use crate::weight::SegmentWeight;
+use leaf_weights::TermWeight;
 use query_trees::TermQuery;
 use settings::Statistics;
-use term_weight::TermWeight;
 
 /// Returns the weight of a term by `statistics`.
 pub fn weigh_term<'q, 'a, S: Statistics>(

@@ -1,16 +1,16 @@
 //! The weight of a term, asked in a segment.
 
 ghost use Rattle.definitions.specs.Query.{term};
-ghost use Rattle.term_weight.specs.TermWeights.{ScoresBy, option_asked, term_of};
+ghost use Rattle.leaf_weights.specs.TermWeights.{ScoresBy, option_asked, term_of};
 
 use crate::found_scorer::FoundScorer;
 use crate::scorer_weight::ScorerWeight;
 use crate::weight::SegmentWeight;
 use common::Score;
+use leaf_weights::TermWeight;
 use segment_reader::SegmentReader;
 use std::alloc::{AllocError, Global};
 use term_scorer::TermScorer;
-use term_weight::TermWeight;
 
 impl<'q, 'a> SegmentWeight<'a> for TermWeight<'q, 'a> {
     type Scorer = FoundScorer<TermScorer<'a>>;

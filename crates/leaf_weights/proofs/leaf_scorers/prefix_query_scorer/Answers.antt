@@ -8,9 +8,9 @@ use Rattle.definitions.specs.Query.{Terms, phrase_prefix}
 use Rattle.definitions.specs.Scoring.{greatest_of, max_score, natural, weight_sum}
 use Rattle.query_scorers.proofs.AcceptedParts.{fits}
 use Rattle.definitions.specs.Phrases.{whole_terms}
-use Rattle.phrase_weights.specs.PhrasePrefixWeights.{most_in}
-use Rattle.phrase_weights.specs.PlacedAnswers.{whole_weight}
-use Rattle.phrase_weights.specs.Suffixes.{IsSearched}
+use Rattle.leaf_weights.specs.PhrasePrefixWeights.{most_in}
+use Rattle.leaf_weights.specs.PlacedAnswers.{whole_weight}
+use Rattle.leaf_weights.specs.Suffixes.{IsSearched}
 use Rattle.std.specs.List.{slice_index_or}
 use Rattle.leaf_weights.proofs.AcceptedTerms.{prefix_limit, prefix_near, prefix_searched, prefix_several}
 use Rattle.leaf_weights.proofs.LeafScores.{norms_under, ok_none_same, ok_nothing_scores, ok_some_same, ok_some_scores, ok_with, prefix_answers_same, whole_same, whole_small, whole_under}

@@ -5,7 +5,7 @@ use Rattle.definitions.specs.Answers.{answers}
 use Rattle.definitions.specs.Query.{term}
 use Rattle.definitions.specs.Scoring.{max_score, natural}
 use Rattle.term_scorer.specs.ScoredTerms.{scored_left}
-use Rattle.term_weight.specs.TermWeights.{option_asked}
+use Rattle.leaf_weights.specs.TermWeights.{option_asked}
 use Rattle.query_scorers.proofs.AcceptedParts.{fits}
 use Rattle.leaf_weights.proofs.LeafScores.{none_same, nothing_scores, some_same, some_scores}
 use Rattle.leaf_weights.proofs.leaf_scorers.term_query_scorer.Goals as goal

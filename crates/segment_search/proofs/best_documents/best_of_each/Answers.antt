@@ -17,7 +17,7 @@ use Rattle.segment_search.proofs.Places.{nothing_left, zip_at, zip_length}
 use Rattle.segment_search.specs.Best.{IsFound, best_places, place_at}
 use Rattle.segment_search.specs.Counted.{at_segment, blocks_decoded, greatest_count}
 use Rattle.segment_search.specs.CountedWeights.{counted_query}
-use Rattle.term_weight.specs.DecodedBlocks.{decoded_for}
+use Rattle.leaf_weights.specs.DecodedBlocks.{decoded_for}
 use Rattle.segment_search.proofs.best_documents.best_of_each.Goals as goal
 
 pub bounds-alive-segment_ord : goal.bounds-alive-segment_ord

@@ -13,7 +13,7 @@ use Rattle.segment_definitions.specs.Found.{places_in}
 use Rattle.segment_search.proofs.BestPlaces.{all_found, segment_placed, still_wanted}
 use Rattle.segment_search.specs.Best.{IsFound, best_places, place_at}
 use Rattle.segment_search.specs.CountedWeights.{counted_query}
-use Rattle.term_weight.specs.DecodedBlocks.{decoded_for}
+use Rattle.leaf_weights.specs.DecodedBlocks.{decoded_for}
 use Rattle.segment_search.proofs.best_documents.feed_segment.Goals as goal
 
 pub returns-clause-best : goal.returns-clause-best

@@ -6,7 +6,7 @@ use Rattle.definitions.specs.Query.{phrase_prefix}
 use Rattle.definitions.specs.Scoring.{greatest_of, max_score, weight_sum}
 use Rattle.leaf_weights.proofs.AcceptedTerms.{prefix_near, prefix_several}
 use Rattle.leaf_weights.proofs.LeafScores.{whole_small}
-use Rattle.phrase_weights.specs.PlacedAnswers.{whole_weight}
+use Rattle.leaf_weights.specs.PlacedAnswers.{whole_weight}
 use Rattle.query_scorers.proofs.AcceptedParts.{fits}
 use Rattle.weight_cases.proofs.leaf_forms.phrase_prefix_weight.Goals as goal
 

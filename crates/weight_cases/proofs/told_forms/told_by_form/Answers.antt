@@ -1,10 +1,10 @@
 use Rattle.std.proofs.Common.{ap, rules, subst, sym, ⊤, ◌∙◌}
 use Rattle.definitions.specs.Query.{all, empty, phrase, phrase_prefix, term}
-use Rattle.phrase_weights.specs.PhrasePrefixWeights.{ScoresPrefixBy, limit_of, prefix_terms_of}
-use Rattle.phrase_weights.specs.PhraseWeights as phrases
+use Rattle.leaf_weights.specs.PhrasePrefixWeights.{ScoresPrefixBy, limit_of, prefix_terms_of}
+use Rattle.leaf_weights.specs.PhraseWeights as phrases
 use Rattle.query.proofs.AskedLaws.{weighed_tree}
 use Rattle.query_trees.specs.Queries.{query_of}
-use Rattle.term_weight.specs.TermWeights as terms
+use Rattle.leaf_weights.specs.TermWeights as terms
 use Rattle.query_scorers.specs.Accepted.{IsAccepted}
 use Rattle.weight_cases.proofs.told_forms.told_by_form.Goals as goal
 

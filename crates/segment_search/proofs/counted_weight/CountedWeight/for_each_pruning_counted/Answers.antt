@@ -3,7 +3,7 @@ use Rattle.std.proofs.lemmas.Int.{to_z-of_z}
 use mir.Syntax.{w64}
 use mir.Val.{SFits}
 use Rattle.segment_search.specs.CountedWeights.{CountedScoresBy, counted_query}
-use Rattle.term_weight.specs.TermWeights.{option_asked, term_of}
+use Rattle.leaf_weights.specs.TermWeights.{option_asked, term_of}
 use Rattle.weights.specs.Weighing.{IsWeighed}
 use Rattle.segment_search.proofs.counted_weight.CountedWeight.for_each_pruning_counted.Goals as goal
 

@@ -5,7 +5,7 @@ use mir.Val.{SFits}
 use Rattle.definitions.specs.Query.{phrase_prefix}
 use Rattle.definitions.specs.Scoring.{natural}
 use Rattle.leaf_weights.proofs.AcceptedTerms.{prefix_limit, prefix_searched}
-use Rattle.phrase_weights.specs.PhrasePrefixWeights.{limit_of, prefix_terms_of}
+use Rattle.leaf_weights.specs.PhrasePrefixWeights.{limit_of, prefix_terms_of}
 use Rattle.weights.proofs.LeafLaws.{found_scores, given_all, prefix_bound, prefix_fits}
 use Rattle.weights.proofs.weighed_phrases.PhrasePrefixWeightSegmentWeight.scorer.Goals as goal
 

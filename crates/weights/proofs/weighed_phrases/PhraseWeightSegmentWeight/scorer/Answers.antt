@@ -4,7 +4,7 @@ use mir.Syntax.{w64}
 use mir.Val.{SFits}
 use Rattle.definitions.specs.Query.{phrase}
 use Rattle.definitions.specs.Scoring.{natural}
-use Rattle.phrase_weights.specs.PhraseWeights.{slop_of, terms_of}
+use Rattle.leaf_weights.specs.PhraseWeights.{slop_of, terms_of}
 use Rattle.weights.proofs.LeafLaws.{found_scores, phrase_bound, phrase_fits}
 use Rattle.weights.proofs.weighed_phrases.PhraseWeightSegmentWeight.scorer.Goals as goal
 

@@ -5,7 +5,7 @@ use mir.Val.{SFits}
 use Rattle.definitions.specs.Query.{term}
 use Rattle.definitions.specs.Scoring.{natural}
 use Rattle.term_scorer.specs.ScoredTerms.{scored_left}
-use Rattle.term_weight.specs.TermWeights.{option_asked, term_of}
+use Rattle.leaf_weights.specs.TermWeights.{option_asked, term_of}
 use Rattle.weights.proofs.LeafLaws.{found_scores, term_bound, term_fits}
 use Rattle.weights.proofs.weighed_terms.TermWeightSegmentWeight.scorer.Goals as goal
 

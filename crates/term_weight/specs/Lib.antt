@@ -1,3 +1,0 @@
--- Words of the contracts.
-pub mod DecodedBlocks
-pub mod TermWeights
