@@ -3,4 +3,4 @@
 
 mod accepted_queries;
 
-pub use accepted_queries::{accept_query, accepted_scorer};
+pub use accepted_queries::accept_query;
