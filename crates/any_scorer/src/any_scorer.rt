@@ -1,6 +1,6 @@
 //! The scorer of a query of any kind.
 
-use any_scorer::Leaf;
+use crate::leaf::Leaf;
 use common::{AliveBitSet, DocId, Score};
 use docsets::{ConstScorer, DocSet, ListScorer, Scorer, SeekDangerResult, Window};
 

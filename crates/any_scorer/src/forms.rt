@@ -5,7 +5,8 @@ ghost use Rattle.definitions.specs.Scoring.{max_score};
 ghost use Rattle.docsets.specs.ScoredEntries.{pairs_of, rescored_by};
 
 use crate::any_scorer::AnyScorer;
-use any_scorer::{Leaf, listed};
+use crate::leaf::Leaf;
+use crate::listing::listed;
 use common::Score;
 use docsets::{ConstScorer, DocSet, ListScorer, Scorer};
 use std::alloc::{AllocError, Global};
@@ -130,12 +131,10 @@ pub fn of_phrase<A: Scorer + Drop, T: Scorer + Drop, P: Scorer + Drop, X: Scorer
 }
 
 /// Returns the scorer of a phrase prefix, of no document if `found` is `None`.
-pub fn of_phrase_prefix<
-    A: Scorer + Drop,
-    T: Scorer + Drop,
-    P: Scorer + Drop,
-    X: Scorer + Drop,
->(alloc: Global, found: Option<X>) -> AnyScorer<A, T, P, X>
+pub fn of_phrase_prefix<A: Scorer + Drop, T: Scorer + Drop, P: Scorer + Drop, X: Scorer + Drop>(
+    alloc: Global,
+    found: Option<X>,
+) -> AnyScorer<A, T, P, X>
     ensures some { IfSome found (λ phrase. ⟦<AnyScorer<A, T, P, X> as DocSet>⟧.entries result ≡ X.entries phrase) }
     ensures none { IfNone found (⟦<AnyScorer<A, T, P, X> as DocSet>⟧.entries result ≡ []) }
 {

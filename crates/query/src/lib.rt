@@ -1,12 +1,14 @@
 //! Queries: their trees, how they are read, which of them are refused, their weights, and which terms they read.
 #![tactic(auto)]
 
+mod accepted_queries;
 mod asked_weights;
 pub mod count_laws;
 mod counts;
 mod query;
 mod query_weights;
 
+pub use accepted_queries::accept_query;
 pub use query::Query;
 pub use query_checks::{
     AllQuery, AnyQuery, BooleanQuery, BoostQuery, ConstScoreQuery, DisjunctionMaxQuery, EmptyQuery,

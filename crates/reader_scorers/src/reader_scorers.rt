@@ -10,7 +10,9 @@ ghost use Rattle.query_scorers.specs.Scores.{AllScore, Scores};
 use crate::leaf_weights::LeafWeights;
 use crate::scorer_walks::feed_any;
 use crate::terms_alone::{are_terms, into_terms};
-use any_scorer::{AnyScorer, of_all, of_list, of_none, of_phrase, of_phrase_prefix, of_term, with_score};
+use any_scorer::{
+    AnyScorer, of_all, of_list, of_none, of_phrase, of_phrase_prefix, of_term, with_score,
+};
 use common::{DocId, Score};
 use docsets::{AllScorer, BoostScorer, DocSet};
 use query_scorers::{SegmentScorers, all_scorer, best_scorer, clauses_scorer};

@@ -13,9 +13,9 @@ ghost use Rattle.segment.specs.Opened.{StandsFor};
 ghost use Rattle.segment_search.specs.Flags.{AreFlagged, flagged_each};
 
 use crate::counted_documents::counted_documents;
-use accepted_queries::accept_query;
 use common::AliveBitSet;
 use definitions::Fault;
+use query::accept_query;
 use query_trees::AnyQuery;
 use schema::Schema;
 use segment::Segment;

@@ -18,9 +18,9 @@ ghost use Rattle.segment_search.specs.Hits.{KeepsSegments, hit_of, scored};
 
 use crate::best_documents::best_documents;
 use crate::hits::{Hit, read_hits};
-use accepted_queries::accept_query;
 use common::AliveBitSet;
 use definitions::Fault;
+use query::accept_query;
 use query_trees::AnyQuery;
 use schema::Schema;
 use segment::Segment;

@@ -2,10 +2,10 @@
 
 ghost use Rattle.std.specs.Prelude.{[], ◌≡◌};
 
-use crate::calls;
 use crate::all_weight::AllWeight;
 use crate::boolean_weight::BooleanWeight;
 use crate::boost_weight::BoostWeight;
+use crate::calls;
 use crate::const_score_weight::ConstScoreWeight;
 use crate::disjunction_max_weight::DisjunctionMaxWeight;
 use crate::empty_weight::EmptyWeight;

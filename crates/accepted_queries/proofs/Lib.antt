@@ -1,2 +1,0 @@
--- Lemmas behind what is accepted.
-pub mod Accepting
