@@ -10,8 +10,8 @@ use crate::boolean_query::BooleanQuery;
 use crate::boost_query::BoostQuery;
 use crate::const_score_query::ConstScoreQuery;
 use crate::disjunction_max_query::DisjunctionMaxQuery;
+use crate::node_walks::{all_nodes, push_clauses, push_disjuncts, push_query};
 use crate::occur::Occur;
-use crate::walks::{all_nodes, push_clauses, push_disjuncts, push_query};
 use std::alloc::{AllocError, Global};
 
 /// Copies a query.

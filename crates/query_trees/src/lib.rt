@@ -10,6 +10,7 @@ mod copies;
 mod disjunction_max_query;
 mod empty_query;
 mod letting_go;
+mod node_walks;
 mod occur;
 mod phrase_prefix_query;
 mod phrase_query;
@@ -18,7 +19,6 @@ mod query_terms;
 mod query_tree;
 mod showing;
 mod term_query;
-mod walks;
 
 pub use all_query::AllQuery;
 pub use any_query::AnyQuery;

@@ -8,8 +8,8 @@ ghost use Rattle.query_trees.specs.Queries.{clauses_of, queries_of, query_of};
 ghost use Rattle.query_trees.specs.Walks.{own_terms, seen, walk_back};
 
 use crate::any_query::AnyQuery;
+use crate::node_walks::{all_nodes, push_clauses, push_disjuncts, push_query};
 use crate::occur::Occur;
-use crate::walks::{all_nodes, push_clauses, push_disjuncts, push_query};
 use std::alloc::{AllocError, Global};
 use terms::Term;
 

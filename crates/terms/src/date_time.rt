@@ -1,8 +1,11 @@
 //! Instants.
 
 ghost use Rattle.std.specs.Prelude.{◌≡◌, ℤ};
+ghost use Rattle.definitions.specs.Terms.{whole_seconds};
 
 use std::marker::Model;
+
+const NANOS_PER_SECOND: i64 = 1_000_000_000;
 
 /// An instant: nanoseconds since 1970-01-01T00:00:00Z, negative before it. Instants are ordered by time.
 #[derive(Clone, Copy, Debug, PartialEq, Eq, PartialOrd, Ord, Hash)]
@@ -34,4 +37,11 @@ impl DateTime {
     {
         self.timestamp_nanos
     }
+}
+
+/// Returns the whole seconds of `nanos`, rounded toward zero: a term of an instant has no more.
+pub(crate) fn whole_seconds(nanos: i64) -> i64
+    ensures { result ≡ whole_seconds nanos }
+{
+    nanos / NANOS_PER_SECOND * NANOS_PER_SECOND
 }

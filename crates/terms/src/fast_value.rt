@@ -7,9 +7,9 @@ ghost use Rattle.definitions.specs.Terms.{value_bytes};
 ghost use Rattle.definitions.specs.Values.{Value, bool, date, i64, u64};
 ghost use Rattle.terms.specs.Kinds.{kind_of};
 
-use crate::date_time::DateTime;
+use crate::date_time::{DateTime, whole_seconds};
 use crate::field_type::Type;
-use crate::sortable::{signed_number, whole_seconds};
+use crate::sortable::signed_number;
 
 /// A value that is eight bytes in a term: u64, i64, bool or `DateTime`.
 pub trait FastValue: Copy {

@@ -3,7 +3,7 @@ use Rattle.std.proofs.lemmas.List.{map-append}
 use Rattle.query_trees.proofs.AllNodes.{fewer, one_listed}
 use Rattle.query_trees.specs.Queries.{query_of}
 use Rattle.query_trees.specs.Walks.{seen, walk_back}
-use Rattle.query_trees.proofs.walks.all_nodes.Goals as goal
+use Rattle.query_trees.proofs.node_walks.all_nodes.Goals as goal
 
 pub loop-node-preserved : goal.loop-node-preserved
 loop-node-preserved c =

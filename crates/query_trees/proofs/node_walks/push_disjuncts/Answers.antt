@@ -3,7 +3,7 @@ use Rattle.std.proofs.lemmas.List.{map-append}
 use Rattle.query_trees.proofs.AllNodes.{last_query, one_more}
 use Rattle.query_trees.specs.Queries.{queries_of, query_of}
 use Rattle.query_trees.specs.Walks.{queries_list, seen}
-use Rattle.query_trees.proofs.walks.push_disjuncts.Goals as goal
+use Rattle.query_trees.proofs.node_walks.push_disjuncts.Goals as goal
 
 pub loop-query-preserved : goal.loop-query-preserved
 loop-query-preserved c =

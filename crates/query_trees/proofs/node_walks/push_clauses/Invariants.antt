@@ -1,7 +1,7 @@
 use Rattle.std.proofs.Common.{map, reverse, ◌++◌, ◌≡◌}
 use Rattle.query_trees.specs.Queries.{clauses_of}
 use Rattle.query_trees.specs.Walks.{clauses_children, seen}
-use Rattle.query_trees.proofs.walks.push_clauses.Given as goal
+use Rattle.query_trees.proofs.node_walks.push_clauses.Given as goal
 
 -- those so far, then those that are left, from the last one on
 abbrev pub invariant-loop-occur : goal.invariant-loop-occur

@@ -3,7 +3,7 @@ use Rattle.std.proofs.lemmas.List.{map-append}
 use Rattle.query_trees.proofs.AllNodes.{last_child, one_more}
 use Rattle.query_trees.specs.Queries.{clauses_of, query_of}
 use Rattle.query_trees.specs.Walks.{clauses_children, seen}
-use Rattle.query_trees.proofs.walks.push_clauses.Goals as goal
+use Rattle.query_trees.proofs.node_walks.push_clauses.Goals as goal
 
 pub loop-occur-preserved : goal.loop-occur-preserved
 loop-occur-preserved c =

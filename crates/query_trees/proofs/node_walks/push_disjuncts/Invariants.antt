@@ -1,7 +1,7 @@
 use Rattle.std.proofs.Common.{map, reverse, ◌++◌, ◌≡◌}
 use Rattle.query_trees.specs.Queries.{queries_of}
 use Rattle.query_trees.specs.Walks.{queries_list, seen}
-use Rattle.query_trees.proofs.walks.push_disjuncts.Given as goal
+use Rattle.query_trees.proofs.node_walks.push_disjuncts.Given as goal
 
 -- those so far, then those that are left, from the last one on
 abbrev pub invariant-loop-query : goal.invariant-loop-query

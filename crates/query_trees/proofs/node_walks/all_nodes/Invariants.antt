@@ -1,6 +1,6 @@
 use Rattle.std.proofs.Common.{length, map, ◌++◌, ◌≡◌}
 use Rattle.query_trees.specs.Walks.{seen, walk_back}
-use Rattle.query_trees.proofs.walks.all_nodes.Given as goal
+use Rattle.query_trees.proofs.node_walks.all_nodes.Given as goal
 
 -- those so far and those that wait are all
 abbrev pub invariant-loop-node : goal.invariant-loop-node
