@@ -201,10 +201,7 @@ impl<A: Analyzer + Drop> IndexState<A> {
         ensures value { result_err result ≡ calls.status_fault (state_of self.now) true }
         ensures fault { IfErr result (λ fault. fault ≡ faults.Closed) }
     {
-        match self.status {
-            Status::Ready | Status::WriterClosed => Ok(()),
-            Status::Closed => Err(Fault::Closed),
-        }
+        self.status.check_open()
     }
 
     /// Checks that changes are accepted.
@@ -212,11 +209,7 @@ impl<A: Analyzer + Drop> IndexState<A> {
         ensures value { result_err result ≡ calls.status_fault (state_of self.now) false }
         ensures fault { IfErr result (λ fault. (fault ≡ faults.WriterClosed) ⊎ (fault ≡ faults.Closed)) }
     {
-        match self.status {
-            Status::Ready => Ok(()),
-            Status::WriterClosed => Err(Fault::WriterClosed),
-            Status::Closed => Err(Fault::Closed),
-        }
+        self.status.check_writer()
     }
 
     /// Adds `doc`, and indexes it; a search sees it after the next commit. A document of an unknown field is
