@@ -2,8 +2,8 @@
 #![tactic(auto)]
 
 mod any_scorer;
-mod boolean_scorer;
-mod disjunction_max_scorer;
+mod boolean;
+mod disjunction_max;
 mod either_scorer;
 mod forms;
 mod intersecting;
@@ -12,8 +12,8 @@ mod listing;
 mod several;
 
 pub use any_scorer::AnyScorer;
-pub use boolean_scorer::boolean_scorer;
-pub use disjunction_max_scorer::disjunction_max_scorer;
+pub use boolean::boolean_scorer;
+pub use disjunction_max::disjunction_max_scorer;
 pub use either_scorer::EitherScorer;
 pub use forms::{of_all, of_list, of_none, of_phrase, of_phrase_prefix, of_term, with_score};
 pub use intersecting::intersect_scorers;

@@ -7,7 +7,7 @@ use Rattle.any_scorer.proofs.Bounded.{bounded_best, natural_below}
 use Rattle.any_scorer.proofs.ByScores.{combined}
 use Rattle.docsets.specs.ScoredEntryLaws.{Rising-scores}
 use Rattle.definitions.specs.Scoring.{best_and_tie, natural}
-use Rattle.any_scorer.proofs.disjunction_max_scorer.disjunction_max_scorer.Goals as goal
+use Rattle.any_scorer.proofs.disjunction_max.disjunction_max_scorer.Goals as goal
 
 -- src/disjuncts.rt:18:1
 pub returns-clause-scores : goal.returns-clause-scores

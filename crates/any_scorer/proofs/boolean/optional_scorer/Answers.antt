@@ -4,7 +4,7 @@ use Rattle.any_scorer.proofs.ByClauses.{emptied, nothing_added, summed_with}
 use Rattle.any_scorer.proofs.ByScores.{with_optional_scores}
 use Rattle.any_scorer.specs.Clauses.{scores_at, scores_of}
 use Rattle.docsets.specs.ScoredEntries.{naturals, scored}
-use Rattle.any_scorer.proofs.boolean_scorer.optional_scorer.Goals as goal
+use Rattle.any_scorer.proofs.boolean.optional_scorer.Goals as goal
 
 -- src/clauses.rt:123:9
 pub returns-then-is_empty : goal.returns-then-is_empty

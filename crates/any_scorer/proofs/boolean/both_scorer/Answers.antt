@@ -2,7 +2,7 @@ use Rattle.std.proofs.Common.{[], ap, ◌∙◌, ◌∷◌}
 use Rattle.std.proofs.lemmas.Result.{IfOk-weaker}
 use Rattle.any_scorer.proofs.ByScores.{joined}
 use Rattle.intersections.specs.Meetings.{meeting}
-use Rattle.any_scorer.proofs.boolean_scorer.both_scorer.Goals as goal
+use Rattle.any_scorer.proofs.boolean.both_scorer.Goals as goal
 
 pub returns : goal.returns
 returns g c =

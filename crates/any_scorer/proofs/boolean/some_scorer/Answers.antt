@@ -4,7 +4,7 @@ use Rattle.any_scorer.specs.Clauses.{by_number}
 use Rattle.any_scorer.proofs.SameGreatest.{greatest_below}
 use Rattle.docsets.proofs.AtLeastLaws.{greatest-summed}
 use Rattle.docsets.specs.Members.{greatest_sum}
-use Rattle.any_scorer.proofs.boolean_scorer.some_scorer.Goals as goal
+use Rattle.any_scorer.proofs.boolean.some_scorer.Goals as goal
 
 -- src/clauses.rt:103:9
 pub returns-then-minimum-ge2-clause-scores : goal.returns-then-minimum-ge2-clause-scores

@@ -3,7 +3,7 @@ use Rattle.std.proofs.lemmas.Result.{IfOk-weaker}
 use Rattle.any_scorer.proofs.ByClauses.{emptied, filled, only_shoulds, with_minimum, with_shoulds}
 use Rattle.any_scorer.proofs.SamePairs.{same_scores}
 use Rattle.any_scorer.specs.Clauses.{by_clauses, scores_at}
-use Rattle.any_scorer.proofs.boolean_scorer.counted_scorer.Goals as goal
+use Rattle.any_scorer.proofs.boolean.counted_scorer.Goals as goal
 
 -- src/clauses.rt:57:9
 pub returns-then-is_empty : goal.returns-then-is_empty

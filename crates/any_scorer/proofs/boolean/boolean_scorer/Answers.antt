@@ -6,7 +6,7 @@ use Rattle.any_scorer.proofs.ByScores.{excluded}
 use Rattle.any_scorer.specs.Clauses.{by_clauses}
 use Rattle.docsets.specs.ScoredEntryLaws.{Rising-scores}
 use Rattle.docsets.specs.Members.{enough}
-use Rattle.any_scorer.proofs.boolean_scorer.boolean_scorer.Goals as goal
+use Rattle.any_scorer.proofs.boolean.boolean_scorer.Goals as goal
 
 -- src/clauses.rt:23:1
 pub returns-then-is_empty-clause-scores : goal.returns-then-is_empty-clause-scores
