@@ -7,7 +7,7 @@ use Rattle.std.proofs.lemmas.Nat.{mod-mul-add, pow-add}
 use Rattle.std.proofs.Math.Seq.{take-append_seam}
 use Rattle.std.proofs.lemmas.List.{append_assoc, drop-drop, length-append, length-drop, take-append-drop, take_rest}
 use Rattle.definitions.proofs.Lists.{base_pos as pow_pos, byte_is}
-use Rattle.postings_writer.specs.PackedKeys.{IsShort, key_of, packed, padded, unpacked, worth}
+use Rattle.postings_writer.specs.PackedKeys.{IsShort, key_of, masked, packed, padded, unmasked, unpacked, worth}
 
 -- ---- bytes of a number
 
@@ -78,7 +78,7 @@ pub key_back : (key : List ℕ) → IsShort key → key_of (padded key) ≡ key
 key_back key short =
     ap (λ n. take n (padded key)) (last_of key short) ∙ take-append_seam key (replicate (15 - length key) 0 ++ length key ∷ [])
 
-pub unpacked_packed : (key : List ℕ) → IsShort key → unpacked (packed key) ≡ key
+pub unpacked_packed : (key : List ℕ) → IsShort key → key_of (to_be_bytes w128 (packed key)) ≡ key
 unpacked_packed key short = ap key_of (packed_bytes key short) ∙ key_back key short
 
 -- ---- numbers of keys
@@ -257,3 +257,13 @@ packed_below key short = subst (λ j. packed key < 256 ^ j) (length_padded key s
 -- what fewer than four bytes are put together of
 pub few_number : (key : List ℕ) → AllByRecursion (λ b. b < 256) key → (n few : ℕ) → n ≡ few % 256 ^ length key * 256 ^ (8 - length key) → few ≡ worth 0 key → n ≡ worth 0 key * 256 ^ (8 - length key)
 few_number key all n few is is_few = is ∙ ap (λ m. m * 256 ^ (8 - length key)) (ap (λ m. m % 256 ^ length key) is_few ∙ worth_rest 0 key all)
+
+-- ---- masks
+
+-- a mask that is added and taken off leaves the number
+pub unmasked_masked : (mask n : ℕ) → mask < 2 ^ 128 → n < 2 ^ 128 → unmasked mask (masked mask n) ≡ n
+unmasked_masked mask n fits below = omega (arith, fits, below)
+
+-- the number of a short key is read back
+pub unpacked_masked : (mask : ℕ) (key : List ℕ) → mask < 2 ^ 128 → IsShort key → unpacked mask (masked mask (packed key)) ≡ key
+unpacked_masked mask key fits short = ap (λ n. key_of (to_be_bytes w128 n)) (unmasked_masked mask (packed key) fits (packed_below key short)) ∙ unpacked_packed key short

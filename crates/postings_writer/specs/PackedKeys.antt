@@ -1,5 +1,5 @@
 -- Short keys as numbers.
-use Rattle.std.specs.Prelude.{[], ◌*◌, ◌++◌, ◌+◌, ◌-◌, ◌<◌, ◌≡◌, ◌≤◌, ◌∷◌, List, length, replicate, slice_index_or as get_or, take, ℕ}
+use Rattle.std.specs.Prelude.{[], ◌%◌, ◌*◌, ◌++◌, ◌+◌, ◌-◌, ◌<◌, ◌^◌, ◌≡◌, ◌≤◌, ◌∷◌, List, length, replicate, slice_index_or as get_or, take, ℕ}
 use Rattle.std.specs.Int.{to_be_bytes, w128}
 use Rattle.std.specs.List.{AllByRecursion}
 
@@ -31,13 +31,28 @@ pub record IsPacked (n : ℕ) : Type 0 where
   pub is_short : IsShort key
   pub is : n ≡ packed key
 
+-- a number with a mask added, in 128 bits
+abbrev pub masked : ℕ → ℕ → ℕ
+masked mask n = (n + mask) % 2 ^ 128
+
+-- and one with the mask taken off
+abbrev pub unmasked : ℕ → ℕ → ℕ
+unmasked mask n = (n + (2 ^ 128 - mask)) % 2 ^ 128
+
+-- a number that is a short key, with a mask of 128 bits
+pub record IsMasked (mask n : ℕ) : Type 0 where
+  pub fits : mask < 2 ^ 128
+  pub number : ℕ
+  pub is_packed : IsPacked number
+  pub is : n ≡ masked mask number
+
 -- the key among sixteen bytes
 abbrev pub key_of : List ℕ → List ℕ
 key_of bytes = take (get_or bytes 15 0) bytes
 
--- the key that a number is
-abbrev pub unpacked : ℕ → List ℕ
-unpacked n = key_of (to_be_bytes w128 n)
+-- the key that a number with this mask is
+abbrev pub unpacked : ℕ → ℕ → List ℕ
+unpacked mask n = key_of (to_be_bytes w128 (unmasked mask n))
 
 -- sixteen bytes are those of a number that is a short key
 abbrev pub AreOfKey : List ℕ → Type 0

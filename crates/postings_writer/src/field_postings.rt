@@ -11,7 +11,7 @@ ghost use Rattle.postings_writer.specs.Fields.{AreShortTerms, HasPlaces, option_
 ghost use Rattle.postings_writer.specs.PackedKeys.{max_short};
 ghost use Rattle.postings_writer.specs.Recorders.{IsCountRefusal};
 
-use crate::packed_key::{MAX_SHORT_LEN, key_of, packed};
+use crate::packed_key::{MAX_SHORT_LEN, key_of, masked};
 use crate::recorder::Recorder;
 use definitions::Fault;
 use options::IndexRecordOption;
@@ -21,9 +21,10 @@ use std::collections::HashMap;
 use std::marker::Model;
 
 /// The terms of a field by their value bytes, each with its recorder. Value bytes of up to 15 bytes are kept as
-/// numbers, since most are that short.
+/// numbers, since most are that short, each with the mask added.
 #[derive(Drop)]
 pub(crate) struct FieldPostings {
+    mask: u128,
     short: HashMap<u128, Recorder>,
     long: HashMap<Vec<u8>, Recorder>,
 }
@@ -33,13 +34,13 @@ impl Model for FieldPostings {
     ghost use Rattle.std.specs.List.{AllByRecursion};
     ghost use Rattle.std.specs.Map.{keys_of};
     ghost use Rattle.postings_writer.specs.Fields.{Terms};
-    ghost use Rattle.postings_writer.specs.PackedKeys.{IsPacked, max_short, unpacked};
+    ghost use Rattle.postings_writer.specs.PackedKeys.{IsMasked, max_short, unpacked};
 
     ghost Value = { Terms };
 
-    ghost view = { λ f. map (λ e. (unpacked e.0, e.1)) f.short.entries ++ map (λ e. (e.0.items, e.1)) f.long.entries };
+    ghost view = { λ f. map (λ e. (unpacked f.mask e.0, e.1)) f.short.entries ++ map (λ e. (e.0.items, e.1)) f.long.entries };
 
-    ghost invariant = { λ f. AllByRecursion IsPacked (keys_of f.short.entries)
+    ghost invariant = { λ f. AllByRecursion (IsMasked f.mask) (keys_of f.short.entries)
         × AllByRecursion (λ key. max_short < length key.items) (keys_of f.long.entries) };
 }
 
@@ -58,11 +59,12 @@ fn option_of_key(entry: &FieldEntry, key: &[u8]) -> IndexRecordOption
 }
 
 impl FieldPostings {
-    /// Returns a field without terms.
-    pub(crate) fn new(alloc: Global) -> FieldPostings
+    /// Returns a field without terms, with this mask.
+    pub(crate) fn new(alloc: Global, mask: u128) -> FieldPostings
         ensures { result ≡ [] }
     {
         FieldPostings {
+            mask,
             short: HashMap::new(alloc),
             long: HashMap::new(alloc),
         }
@@ -86,7 +88,7 @@ impl FieldPostings {
         if key.len() > MAX_SHORT_LEN {
             return self.record_long(alloc, entry, key, doc, position);
         }
-        match self.short.get_mut(&packed(key)) {
+        match self.short.get_mut(&masked(key, self.mask)) {
             Some(recorder) => recorder.record(doc, position),
             None => self.begin(alloc, entry, key, doc, position),
         }
@@ -140,23 +142,25 @@ impl FieldPostings {
             ≡ update bytes_eq (λ p. lookup (bytes_eq p) self.old) key.now (Some recorder) q) }
     {
         if key.len() <= MAX_SHORT_LEN {
-            self.short.insert(packed(key), recorder)?;
+            self.short.insert(masked(key, self.mask), recorder)?;
             return Ok(());
         }
         self.long.insert(key.to_vec(alloc)?, recorder)?;
         Ok(())
     }
 
-    /// Returns the terms with short value bytes, each as the bytes of a number, with its recorder, in any order.
+    /// Returns the terms with short value bytes, each as the bytes of a number without the mask, with its recorder, in
+    /// any order.
     pub(crate) fn short_terms(
         &self,
         alloc: Global,
     ) -> Result<Vec<([u8; 16], &Recorder)>, AllocError>
         ensures { IfOk result (λ terms. AreShortTerms self.now (map (λ t. (t.0, t.1.now)) terms.items)) }
     {
+        let mask = self.mask;
         self.short
             .iter()
-            .map(|(key, recorder)| (key.to_be_bytes(), recorder))
+            .map(move |(number, recorder)| (number.wrapping_sub(mask).to_be_bytes(), recorder))
             .collect(alloc)
     }
 

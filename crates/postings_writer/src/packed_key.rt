@@ -1,8 +1,9 @@
 //! Short keys as numbers: a key of up to 15 bytes, with zeros after it, and its length in the last of sixteen bytes.
-//! Numbers are compared and hashed at once, where the bytes of a key would lie elsewhere.
+//! Numbers are compared and hashed at once, where the bytes of a key would lie elsewhere. They are hashed by a function
+//! that is known to all, so a mask is added to each: who doesn't know it can't choose keys that collide.
 
 ghost use Rattle.std.specs.Prelude.{◌%◌, ◌*◌, ◌+◌, ◌-◌, ◌<◌, ◌^◌, ◌≡◌, ◌≤◌, drop, length, take};
-ghost use Rattle.postings_writer.specs.PackedKeys.{IsPacked, key_of, packed, worth};
+ghost use Rattle.postings_writer.specs.PackedKeys.{IsMasked, IsPacked, key_of, masked, packed, worth};
 
 /// The greatest length of a short key, in bytes.
 pub(crate) const MAX_SHORT_LEN: usize = 15;
@@ -72,7 +73,7 @@ fn padded(bytes: &[u8]) -> u64
 
 /// Encodes a short key as a number.
 #[inline]
-pub(crate) fn packed(key: &[u8]) -> u128
+fn packed(key: &[u8]) -> u128
     requires { length key.now ≤ 15 }
     ensures is { result ≡ packed key.now }
     ensures packed { IsPacked result }
@@ -85,7 +86,17 @@ pub(crate) fn packed(key: &[u8]) -> u128
     (u128::from(read_u64(key, 0)) << 64) + u128::from(rest) + len as u128
 }
 
-/// Decodes the key in the bytes of its number; the last byte is the key's length.
+/// Encodes a short key as a number, and adds `mask`.
+#[inline]
+pub(crate) fn masked(key: &[u8], mask: u128) -> u128
+    requires { length key.now ≤ 15 }
+    ensures is { result ≡ masked mask (packed key.now) }
+    ensures masked { IsMasked mask result }
+{
+    packed(key).wrapping_add(mask)
+}
+
+/// Decodes the key in the bytes of its number, from which the mask is taken off; the last byte is the key's length.
 pub(crate) fn key_of(bytes: &[u8; 16]) -> &[u8]
     ensures { result.now ≡ key_of bytes.now }
 {

@@ -53,8 +53,22 @@ impl Model for PostingsWriter {
 }
 
 impl PostingsWriter {
-    /// Returns a writer for the fields of `schema`, with nothing recorded.
+    /// Returns a writer for the fields of `schema`, with nothing recorded and 0 as its hash seed.
     pub fn for_schema(alloc: Global, schema: &Schema) -> Result<PostingsWriter, AllocError>
+        ensures value { IfOk result (λ writer. writer
+            ≡ record { fields = replicate (length schema.now) []; num_docs = 0 }) }
+        ensures nothing { IfOk result (λ writer. Stands schema.now writer []) }
+    {
+        PostingsWriter::with_hash_seed(alloc, schema, 0)
+    }
+
+    /// Like `for_schema`, but with this hash seed: who doesn't know it can't choose terms of up to 15 value bytes that
+    /// collide. Nothing that is written depends on it.
+    pub fn with_hash_seed(
+        alloc: Global,
+        schema: &Schema,
+        hash_seed: u128,
+    ) -> Result<PostingsWriter, AllocError>
         ensures value { IfOk result (λ writer. writer
             ≡ record { fields = replicate (length schema.now) []; num_docs = 0 }) }
         ensures nothing { IfOk result (λ writer. Stands schema.now writer []) }
@@ -62,7 +76,7 @@ impl PostingsWriter {
         let num_fields = schema.num_fields();
         let mut fields = Vec::with_capacity(alloc, num_fields)?;
         for _ in 0..num_fields {
-            fields.push(FieldPostings::new(alloc))?;
+            fields.push(FieldPostings::new(alloc, hash_seed))?;
         }
         Ok(PostingsWriter {
             alloc,

@@ -18,7 +18,7 @@ returns-clause-terms c =
     map_from_collect _ c.collect.ensures.ran (YieldsList-from_map_by _ (λ t. (t.0.now, t.1.now)) (λ t. (key_of t.0, t.1.now)) (YieldsList-at c.map.ensures.source (YieldsList-from_slice short c.iter.ensures.rest)) c.map.ensures.closure (λ x r q k. search (rules, tests))) in
     let second : IfOk c.collect-2.result (λ v. map (λ t. (t.0.now, t.1.now)) v.items ≡ map (λ e. (e.0.items, e.1)) fs) =
     map_from_collect _ c.collect-2.ensures.ran (YieldsList-from_map_by _ (λ t. (t.0.now, t.1.now)) (λ e. (e.0.items, e.1)) (YieldsList-at c.map-2.ensures.source (YieldsList-from_rest fs c.iter-2.ensures.rest)) c.map-2.ensures.closure (λ x r q k. search (rules, tests))) in
-    let are = others_are c.self.inside.short.entries fs c.args.self.now (map (λ t. (t.0, t.1.now)) short) c.self.view_is c.self.invariant.0 c.self.invariant.1 c.requires in
+    let are = others_are c.self.inside.mask c.self.inside.short.entries fs c.args.self.now (map (λ t. (t.0, t.1.now)) short) c.self.view_is c.self.invariant.0 c.self.invariant.1 c.requires in
     let joined : c.append.new.self.items ≡ c.in_ok-terms.terms.items ++ c.in_ok-long.long.items = c.in_ok-append.ensures.items in
     ap (map (λ t. (t.0.now, t.1.now))) joined
     ∙ map_joined (λ t. (t.0.now, t.1.now)) c.in_ok-terms.terms.items c.in_ok-long.long.items
@@ -28,5 +28,5 @@ returns-clause-terms c =
 
 pub returns-clause-distinct : goal.returns-clause-distinct
 returns-clause-distinct c =
-    let are = others_are c.self.inside.short.entries c.self.inside.long.entries c.args.self.now (map (λ t. (t.0, t.1.now)) c.args.short.now) c.self.view_is c.self.invariant.0 c.self.invariant.1 c.requires in
+    let are = others_are c.self.inside.mask c.self.inside.short.entries c.self.inside.long.entries c.args.self.now (map (λ t. (t.0, t.1.now)) c.args.short.now) c.self.view_is c.self.invariant.0 c.self.invariant.1 c.requires in
     terms_apart c.args.self.now (map (λ t. (t.0, t.1.now)) c.args.short.now) c.requires (subst (λ (ts : Terms). IsDistinct bytes_eq (keys_of ts)) (sym are) (distinct_items c.self.inside.long.entries c.iter-2.ensures.unique))

@@ -1,6 +1,6 @@
 use Rattle.std.proofs.Common.{[], ◌≡◌, replicate}
 use Rattle.postings_writer.specs.Fields.{Terms}
-use Rattle.postings_writer.proofs.postings_writer.PostingsWriter.for_schema.Given as goal
+use Rattle.postings_writer.proofs.postings_writer.PostingsWriter.with_hash_seed.Given as goal
 
 -- so many fields without a term
 abbrev pub invariant-loop : goal.invariant-loop

@@ -2,7 +2,7 @@ use Rattle.std.proofs.Common.{[], List, ap, arith, length, replicate, subst, sym
 use Rattle.postings_writer.specs.Fields.{Terms}
 use Rattle.postings_writer.specs.Writers.{Stands}
 use Rattle.postings_writer.proofs.Standing.{stands_none}
-use Rattle.postings_writer.proofs.postings_writer.PostingsWriter.for_schema.Goals as goal
+use Rattle.postings_writer.proofs.postings_writer.PostingsWriter.with_hash_seed.Goals as goal
 
 pub returns-clause-nothing : goal.returns-clause-nothing
 returns-clause-nothing c =
