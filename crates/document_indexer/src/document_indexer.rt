@@ -36,11 +36,22 @@ pub struct DocumentIndexer {
 }
 
 impl DocumentIndexer {
-    /// Returns an indexer for the fields of `schema`, with no document indexed.
+    /// Returns an indexer for the fields of `schema`, with no document indexed and 0 as its hash seed.
     pub fn for_schema(alloc: Global, schema: &Schema) -> Result<DocumentIndexer, AllocError>
         ensures { (analyze : definitions.Analyzer) → IfOk result (λ indexer. HasIndexed schema.now analyze indexer []) }
     {
-        let context = IndexingContext::for_schema(alloc, schema)?;
+        DocumentIndexer::with_hash_seed(alloc, schema, 0)
+    }
+
+    /// Like `for_schema`, but terms are hashed by this seed.
+    pub fn with_hash_seed(
+        alloc: Global,
+        schema: &Schema,
+        hash_seed: u128,
+    ) -> Result<DocumentIndexer, AllocError>
+        ensures { (analyze : definitions.Analyzer) → IfOk result (λ indexer. HasIndexed schema.now analyze indexer []) }
+    {
+        let context = IndexingContext::for_schema(alloc, schema, hash_seed)?;
         let fields = length_fields(alloc, schema)?;
         let norms = FieldNormsWriter::for_fields(alloc, &fields)?;
         Ok(DocumentIndexer {

@@ -43,13 +43,17 @@ impl Model for IndexingContext {
 }
 
 impl IndexingContext {
-    /// Returns a context with nothing recorded, before the first document.
-    pub(crate) fn for_schema(alloc: Global, schema: &Schema) -> Result<IndexingContext, AllocError>
+    /// Returns a context with nothing recorded, before the first document. Terms are hashed by `hash_seed`.
+    pub(crate) fn for_schema(
+        alloc: Global,
+        schema: &Schema,
+        hash_seed: u128,
+    ) -> Result<IndexingContext, AllocError>
         ensures stands { IfOk result (λ c. Stands schema.now c.writer []) }
         ensures docs { IfOk result (λ c. c.writer.num_docs ≡ 0) }
         ensures rest { IfOk result (λ c. (c.positions ≡ []) × (c.doc ≡ 0)) }
     {
-        let postings_writer = PostingsWriter::for_schema(alloc, schema)?;
+        let postings_writer = PostingsWriter::with_hash_seed(alloc, schema, hash_seed)?;
         Ok(IndexingContext {
             alloc,
             postings_writer,

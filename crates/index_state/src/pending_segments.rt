@@ -113,7 +113,7 @@ impl PendingSegments {
             → (2 ^ 32 ≤ settings.now.block_size + length (slot schema.now doc.now) + 8)
             ⊎ OneMorePasses schema.now (A.analyze analyzer.now) settings.now.docs_per_segment last doc.now) }
     {
-        let mut writer = self.open_writer(schema, settings)?;
+        let mut writer = self.open_writer(schema, settings, analyzer.hash_seed())?;
         writer.add(schema, analyzer, doc)?;
         if writer.num_docs() < settings.docs_per_segment() {
             self.writer = Some(writer);
@@ -122,8 +122,13 @@ impl PendingSegments {
         self.push(writer, schema)
     }
 
-    /// Takes the writer of the open segment, or returns a new one.
-    fn open_writer(&mut self, schema: &Schema, settings: &Settings) -> Result<SegmentWriter, Fault>
+    /// Takes the writer of the open segment, or returns a new one with this hash seed.
+    fn open_writer(
+        &mut self,
+        schema: &Schema,
+        settings: &Settings,
+        hash_seed: u128,
+    ) -> Result<SegmentWriter, Fault>
         ensures ok { (analyze : definitions.Analyzer) (full : List (List Document)) (last : List Document)
             → Holds schema.now analyze settings.now.block_size self.old full last
             → IfOk result (λ writer. HasWritten schema.now analyze settings.now.block_size writer last) }
@@ -133,7 +138,10 @@ impl PendingSegments {
     {
         match self.writer.take() {
             Some(writer) => Ok(writer),
-            None => SegmentWriter::new(self.alloc, schema, settings.block_size() as usize),
+            None => {
+                let block_size = settings.block_size() as usize;
+                SegmentWriter::with_hash_seed(self.alloc, schema, block_size, hash_seed)
+            }
         }
     }
 

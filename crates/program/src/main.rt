@@ -1,11 +1,15 @@
 //! `index FILE`: answers lines of JSON on standard input over the index of a file, which is made where it is absent.
 #![tactic(auto)]
 
-use common::{FileDevice, RawAndDefault, RunFault};
+mod seeded;
+
+use crate::seeded::Seeded;
+use common::{FileDevice, RunFault};
 use index::{run, status_of};
 use std::env::FillError;
 use std::io::{self, BufReader, BufWriter};
 use std::process::ExitCode;
+use std::random::RandomSource;
 use std::rt::Env;
 
 /// Bytes that are read, and written, at a time.
@@ -45,6 +49,15 @@ fn has_argument(rt: &impl Env, number: usize) -> bool {
     !matches!(rt.arg(number, &mut [0]), Err(FillError::NotPresent))
 }
 
+/// Draws a number that only this run knows, or 0 where the system gives none.
+fn draw_seed(rt: &impl RandomSource) -> u128 {
+    let mut bytes = [0; 16];
+    match rt.fill_bytes(&mut bytes) {
+        Ok(()) => u128::from_le_bytes(bytes),
+        Err(_) => 0,
+    }
+}
+
 /// Answers the requests over the file that the argument names, or tells that it can't be opened, or that no memory is
 /// found.
 fn serve_file(rt: &HostRuntime) -> Option<Result<(), RunFault>> {
@@ -53,7 +66,8 @@ fn serve_file(rt: &HostRuntime) -> Option<Result<(), RunFault>> {
     let alloc = rt.alloc();
     let mut reader = BufReader::with_capacity(alloc, BUFFER_LEN, rt.reader()).ok()?;
     let mut writer = BufWriter::with_capacity(alloc, BUFFER_LEN, io::writer(rt)).ok()?;
-    let outcome = run(alloc, &mut reader, &mut writer, device, RawAndDefault);
+    let analyzer = Seeded::new(draw_seed(rt));
+    let outcome = run(alloc, &mut reader, &mut writer, device, analyzer);
     if matches!(outcome, Err(RunFault::WriteFault)) {
         // Nothing is written behind a reply that couldn't be: what is left in the buffer is dropped.
         let _ = writer.into_parts();

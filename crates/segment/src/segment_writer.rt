@@ -30,16 +30,30 @@ pub struct SegmentWriter {
 }
 
 impl SegmentWriter {
-    /// Returns a writer without documents. A block of the store is closed when its documents' bytes exceed
-    /// `block_size`.
+    /// Returns a writer without documents, with 0 as its hash seed. A block of the store is closed when its documents'
+    /// bytes exceed `block_size`.
     pub fn new(alloc: Global, schema: &Schema, block_size: usize) -> Result<SegmentWriter, Fault>
+        ensures ok { (analyze : definitions.Analyzer)
+            → IfOk result (λ writer. HasWritten schema.now analyze block_size writer []) }
+        ensures err { IfErr result (λ fault. fault ≡ faults.OutOfMemory) }
+    {
+        SegmentWriter::with_hash_seed(alloc, schema, block_size, 0)
+    }
+
+    /// Like `new`, but terms are hashed by this seed.
+    pub fn with_hash_seed(
+        alloc: Global,
+        schema: &Schema,
+        block_size: usize,
+        hash_seed: u128,
+    ) -> Result<SegmentWriter, Fault>
         ensures ok { (analyze : definitions.Analyzer)
             → IfOk result (λ writer. HasWritten schema.now analyze block_size writer []) }
         ensures err { IfErr result (λ fault. fault ≡ faults.OutOfMemory) }
     {
         Ok(SegmentWriter {
             alloc,
-            indexer: DocumentIndexer::for_schema(alloc, schema)?,
+            indexer: DocumentIndexer::with_hash_seed(alloc, schema, hash_seed)?,
             store: StoreWriter::new(alloc, block_size),
         })
     }

@@ -2,7 +2,7 @@ use Rattle.std.proofs.Common.{[], List, ap, arith, map, refl, subst, sym, ◌∙
 use Rattle.layouts.specs.Deltas.{IsAscendingFrom}
 use Rattle.document_indexer.specs.Contexts.{AreBefore, Positions}
 use Rattle.document_indexer.proofs.KeptLengths.{fields_ascend}
-use Rattle.document_indexer.proofs.document_indexer.DocumentIndexer.for_schema.Goals as goal
+use Rattle.document_indexer.proofs.document_indexer.DocumentIndexer.with_hash_seed.Goals as goal
 
 abbrev none : List ℕ
 none = []
