@@ -15,6 +15,7 @@ use Rattle.definitions.specs.declared.fault.Fault.{Fault}
 use Rattle.layouts.specs.RecordFiles.{IsAtRest}
 use Rattle.index_file.specs.Frames.{frame_bytes}
 use Rattle.index_file.specs.Kept.{LeavesNow}
+use Rattle.index_state.specs.Hits.{Hit}
 use Rattle.index_state.specs.Limits.{TermsPass}
 use Rattle.index_state.specs.Pending.{open_docs}
 use Rattle.index_state.specs.Records.{RecordsCall, RecordsSegments}
@@ -61,6 +62,10 @@ module _ {D A : Type 0} {d : devices.Ghosts D} {a : analyzers.Ghosts A} where
   -- the segments that are committed, each with a flag for each of its documents
   abbrev pub members_of : Index D A d a → List Member
   members_of index = collections.members_of index.index_state
+
+  -- hits that a search of it may answer, whatever documents its segments are of
+  abbrev pub AreHitsOf : Index D A d a → ℕ → List Hit → Type 0
+  AreHitsOf index k hits = collections.AreHitsOf index.index_state k hits
 
   -- the slot of this document is too long beside a block
   abbrev pub HasLongSlot : Index D A d a → Document → Type 0

@@ -10,7 +10,7 @@ ghost use Rattle.definitions.specs.Settings.{similarity_of};
 ghost use Rattle.definitions.specs.State.{committed};
 ghost use Rattle.definitions.specs.declared.fault.Fault.TheVariants as faults;
 ghost use Rattle.query_trees.specs.Queries.{query_of};
-ghost use Rattle.engine.specs.Indexes.{IndexStands, IsSame, IsShadow, KeepsFile, KeepsMaking, members_of, schema_of, settings_of};
+ghost use Rattle.engine.specs.Indexes.{AreHitsOf, IndexStands, IsSame, IsShadow, KeepsFile, KeepsMaking, members_of, schema_of, settings_of};
 ghost use Rattle.index_state.specs.DecodedBlocks.{AreDecoded};
 ghost use Rattle.index_state.specs.Hits.{IsTermQuery, hit_of, scored};
 
@@ -49,6 +49,7 @@ impl<D: Device + Drop, A: Analyzer + Drop> Index<D, A> {
             ⊎ (calls.call_fault c x (calls.search_best (query_of query.now) k) ≡ Some fault)) }
         ensures admitted { (c : calls.Configuration) (x : calls.Index) → IsShadow A.analyze self.old c x
             → OnOk result (calls.call_fault c x (calls.search_best (query_of query.now) k) ≡ None) }
+        ensures answered { IfOk result (λ hits. AreHitsOf self.old k hits.items) }
         ensures same { IsSame self.old self.new }
     {
         let (hits, _decoded_blocks) = self.search_counted(query, k)?;
@@ -89,6 +90,7 @@ impl<D: Device + Drop, A: Analyzer + Drop> Index<D, A> {
             ⊎ (calls.call_fault c x (calls.search_best (query_of query.now) k) ≡ Some fault)) }
         ensures admitted { (c : calls.Configuration) (x : calls.Index) → IsShadow A.analyze self.old c x
             → OnOk result (calls.call_fault c x (calls.search_best (query_of query.now) k) ≡ None) }
+        ensures answered { IfOk result (λ found. AreHitsOf self.old k found.0.items) }
         ensures same { IsSame self.old self.new }
     {
         self.index_state.search_counted(query, k)

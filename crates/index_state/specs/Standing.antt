@@ -17,6 +17,8 @@ use Rattle.segment.specs.declared.segment.Segment as code
 use Rattle.segment_definitions.specs.SegmentBodies.{Member}
 use Rattle.segment_definitions.specs.Slots.{slot}
 use Rattle.segment_definitions.specs.Waiting.{Waits}
+use Rattle.segment_search.specs.Answered.{AreHits}
+use Rattle.segment_search.specs.declared.hits.Hit.{Hit}
 use Rattle.index_state.specs.Deletions.{IsSmall, numbered, term_of}
 use Rattle.index_state.specs.Flags.{flagged_each, members}
 use Rattle.index_state.specs.Limits.{OneMorePasses}
@@ -111,6 +113,10 @@ module _ {A : Type 0} {a : analyzers.Ghosts A} where
       HasLongSlot index doc ⊎ OneMorePasses c.schema c.analyze c.docs_per_segment (open_docs c.docs_per_segment s.pending) doc
 
   -- ---- of any index, whatever documents its segments are of
+
+  -- hits that a search of the segments may answer
+  abbrev pub AreHitsOf : IndexState A a → ℕ → List Hit → Type 0
+  AreHitsOf index limit hits = AreHits index.schema index.segments.items index.alive.items limit hits
 
   -- what waits: documents in segments, full or not, and deletions
   abbrev pub waiting_of : IndexState A a → PendingSegments × List Deletion

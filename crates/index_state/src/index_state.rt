@@ -79,7 +79,7 @@ pub struct IndexState<A: Analyzer> {
 impl<A: Analyzer + Drop> IndexState<A> {
     ghost use Rattle.index_state.specs.Commits.{AreSets, IsPrepared, frame_in, members_with, sets_in};
     ghost use Rattle.index_state.specs.Records.{IsCommitBody, RecordsSegments};
-    ghost use Rattle.index_state.specs.Standing.{AddPasses, DeletesMore, HasLongSlot, IsIdle, IsMadeAlike, IsSame, IsShadow, IsStopped, Stands, WaitsMore, alive_of, alloc_of, analyzer_of, committed_of, living_in, members_of, schema_of, settings_of, state_of};
+    ghost use Rattle.index_state.specs.Standing.{AddPasses, AreHitsOf, DeletesMore, HasLongSlot, IsIdle, IsMadeAlike, IsSame, IsShadow, IsStopped, Stands, WaitsMore, alive_of, alloc_of, analyzer_of, committed_of, living_in, members_of, schema_of, settings_of, state_of};
 
     /// Returns an index without documents.
     pub fn new(alloc: Global, analyzer: A, schema: Schema, settings: Settings) -> IndexState<A>
@@ -445,6 +445,7 @@ impl<A: Analyzer + Drop> IndexState<A> {
             ⊎ (calls.call_fault c x (calls.search_best (query_of query.now) limit) ≡ Some fault)) }
         ensures admitted { (c : calls.Configuration) (x : calls.Index) → IsShadow A.analyze self.old c x
             → OnOk result (calls.call_fault c x (calls.search_best (query_of query.now) limit) ≡ None) }
+        ensures answered { IfOk result (λ found. AreHitsOf self.old limit found.0.items) }
         ensures same { IsSame self.old self.new }
     {
         self.check_open()?;

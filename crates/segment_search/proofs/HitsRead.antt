@@ -58,17 +58,18 @@ map_set f other new (z ∷ ys) (suc i) l same = ap (λ ws. f z ∷ ws) (map_set 
 pub kept_set : (old : List code.Segment) (i : ℕ) (other new : code.Segment) → i < length old
     → ((schema : Schema) (analyze : Analyzer) (docs : List Document) → StandsFor schema analyze docs (get_or old i other) → StandsFor schema analyze docs new)
     → ((schema : Schema) → IsOpened schema (get_or old i other) → IsOpened schema new)
-    → bytes_of new ≡ bytes_of (get_or old i other) → num_docs_of new ≡ num_docs_of (get_or old i other) → KeepsSegments old (set old i new)
-kept_set old i other new l stands opened bytes counts = record {
+    → bytes_of new ≡ bytes_of (get_or old i other) → num_docs_of new ≡ num_docs_of (get_or old i other) → blocks_of new ≡ blocks_of (get_or old i other) → KeepsSegments old (set old i new)
+kept_set old i other new l stands opened bytes counts blocks = record {
   stands = λ schema analyze docs h. zip_set (StandsFor schema analyze) other new docs old i h l (stands schema analyze);
   opened = λ schema h. all_set (IsOpened schema) other new old i h l (opened schema);
   bytes = map_set bytes_of other new old i l bytes;
+  blocks = map_set blocks_of other new old i l blocks;
   counts = map_set num_docs_of other new old i l counts;
 }
 
 -- all are kept where nothing is read
 pub kept_same : (segments : List code.Segment) → KeepsSegments segments segments
-kept_same segments = record { stands = λ schema analyze docs h. h; opened = λ schema h. h; bytes = refl; counts = refl }
+kept_same segments = record { stands = λ schema analyze docs h. h; opened = λ schema h. h; bytes = refl; blocks = refl; counts = refl }
 
 -- and from one reading to the next
 pub kept_then : (one two three : List code.Segment) → KeepsSegments one two → KeepsSegments two three → KeepsSegments one three
@@ -76,6 +77,7 @@ kept_then one two three first second = record {
   stands = λ schema analyze docs h. second.stands schema analyze docs (first.stands schema analyze docs h);
   opened = λ schema h. second.opened schema (first.opened schema h);
   bytes = second.bytes ∙ first.bytes;
+  blocks = second.blocks ∙ first.blocks;
   counts = second.counts ∙ first.counts;
 }
 

@@ -1,9 +1,10 @@
 -- Lemmas behind searches.
-pub mod Places
-pub mod Flagging
-pub mod RowsRead
+pub mod AnswersGiven
+pub mod BestFound
 pub mod BestPlaces
 pub mod BlocksCounted
-pub mod BestFound
-pub mod HitsRead
+pub mod Flagging
 pub mod Flags
+pub mod HitsRead
+pub mod Places
+pub mod RowsRead

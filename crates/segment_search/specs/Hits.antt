@@ -8,7 +8,7 @@ use Rattle.definitions.specs.Schema.{Schema}
 use Rattle.definitions.specs.Scoring.{max_score}
 use Rattle.definitions.specs.Stored.{Named, stored_values}
 use Rattle.definitions.specs.Values.{Document}
-use Rattle.segment.specs.Opened.{IsOpened, StandsFor, bytes_of, num_docs_of}
+use Rattle.segment.specs.Opened.{IsOpened, StandsFor, blocks_of, bytes_of, num_docs_of}
 use Rattle.segment.specs.declared.segment.Segment as code
 use Rattle.segment_search.specs.declared.hits.Hit.{Hit}
 
@@ -36,9 +36,10 @@ IsHeld segments found = (found.1 < length segments) × (found.0 ≤ max_score) �
 abbrev pub IsWithin : List (List Document) → ScoredAddress → Type 0
 IsWithin docs found = found.2 < length (slice_index_or docs found.1 [])
 
--- segments that are read: they stand for what they stood for, with the same bytes
+-- segments that are read: they stand for what they stood for, with the same bytes and blocks
 pub record KeepsSegments (old new : List code.Segment) : Type 0 where
   pub stands : (schema : Schema) (analyze : Analyzer) (docs : List (List Document)) → AllZip (StandsFor schema analyze) docs old → AllZip (StandsFor schema analyze) docs new
   pub opened : (schema : Schema) → AllByRecursion (IsOpened schema) old → AllByRecursion (IsOpened schema) new
   pub bytes : map bytes_of new ≡ map bytes_of old
+  pub blocks : map blocks_of new ≡ map blocks_of old
   pub counts : map num_docs_of new ≡ map num_docs_of old

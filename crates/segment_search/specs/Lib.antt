@@ -4,3 +4,4 @@ pub mod Best
 pub mod Counted
 pub mod CountedWeights
 pub mod Hits
+pub mod Answered

@@ -20,6 +20,7 @@ ghost use Rattle.scorer_answers.specs.Rows.{HasRows, flags_in};
 ghost use Rattle.segment.specs.Opened.{StandsFor};
 ghost use Rattle.segment_definitions.specs.Found.{places_from, places_in};
 ghost use Rattle.segment_reader.specs.Searchers.{readers_in, statistics_of};
+ghost use Rattle.segment_search.specs.Answered.{AreBest, IsBestWithMore};
 ghost use Rattle.segment_search.specs.Best.{IsFound, best_places, place_at};
 ghost use Rattle.segment_search.specs.Counted.{IsTermQuery, blocks_decoded, greatest_count, nothing_kept};
 ghost use Rattle.segment_search.specs.CountedWeights.{CountedScoresBy, CountsTerms, counted_query};
@@ -66,6 +67,7 @@ pub(crate) fn best_documents<'a, S: Statistics>(
         (places_from schema analyze (S.similarity statistics.now) (query_of query.now) 0
         (flagged_each docs alive.now))) }
     ensures found { IfOk result (λ found. AllByRecursion (IsFound alive.now) found.0.items) }
+    ensures any { IfOk result (λ found. AreBest alive.now limit found.0.items) }
     ensures counted { (schema : Fields) (analyze : Analyzer) (docs : List (List Document)) (t : List ℕ) (option : Asked)
         → AllZip (StandsFor schema analyze) docs segments.now
         → tree_fault schema (S.similarity statistics.now).weight 1 (query_of query.now) ≡ None
@@ -96,6 +98,7 @@ fn best_searched<'a, S: Statistics>(
         → IfOk result (λ found. map place_at found.0.items ≡ best_places limit
         (places_from schema analyze (S.similarity (statistics_of searcher.now)) (query_of query.now) 0 rows)) }
     ensures found { IfOk result (λ found. AllByRecursion (IsFound alive.now) found.0.items) }
+    ensures any { IfOk result (λ found. AreBest alive.now limit found.0.items) }
     ensures counted { (schema : Fields) (analyze : Analyzer) (rows : List Rows) (t : List ℕ) (option : Asked)
         → AllZip (HasRows schema analyze) rows (readers_in searcher.now)
         → tree_fault schema (S.similarity (statistics_of searcher.now)).weight 1 (query_of query.now) ≡ None
@@ -128,6 +131,7 @@ fn best_of_each<'a, W: LeafWeights<'a>>(
         → IfOk result (λ found. map place_at found.0.items ≡ best_places limit
         (places_from schema analyze sim (counted_query weight.now) 0 rows)) }
     ensures found { IfOk result (λ found. AllByRecursion (IsFound alive.now) found.0.items) }
+    ensures any { IfOk result (λ found. AreBest alive.now limit found.0.items) }
     ensures counted { (schema : Fields) (analyze : Analyzer) (sim : Similarity) (rows : List Rows)
         (t : List ℕ) (option : Asked)
         → AllZip (HasRows schema analyze) rows readers.now
@@ -176,6 +180,7 @@ fn feed_segment<'a, W: LeafWeights<'a>>(
         → slice_get sets (best_in best.old).segment ≡ Some (best_in best.old).alive
         → AllByRecursion (IsFound sets) (best_in best.old).hits
         → OnOk result (AllByRecursion (IsFound sets) (best_in best.new).hits) }
+    ensures any { OnOk result (IsBestWithMore (best_in best.old) (best_in best.new)) }
     ensures wanted { OnOk result ((best_in best.new).wanted ≡ (best_in best.old).wanted) }
     ensures counted { (schema : Fields) (analyze : Analyzer) (sim : Similarity) (rows : Rows)
         (t : List ℕ) (option : Asked)

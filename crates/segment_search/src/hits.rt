@@ -6,6 +6,7 @@ ghost use Rattle.definitions.specs.Analyzers.{Analyzer};
 ghost use Rattle.definitions.specs.Values.{Document};
 ghost use Rattle.definitions.specs.declared.fault.Fault.TheVariants as faults;
 ghost use Rattle.segment.specs.Opened.{StandsFor};
+ghost use Rattle.segment_search.specs.Answered.{Shows};
 ghost use Rattle.segment_search.specs.Hits.{IsHeld, IsWithin, KeepsSegments, hit_of, shown_of};
 
 use common::{DocId, Score};
@@ -24,8 +25,8 @@ pub struct Hit {
     pub doc: NamedDocument,
 }
 
-/// Reads the hits of the documents `best`, each with its score, its segment's index and its document id. The caches of the segments' stores keep the blocks that
-/// are read.
+/// Reads the hits of the documents `best`, each with its score, its segment's index and its document id. The caches of
+/// the segments' stores keep the blocks that are read.
 pub(crate) fn read_hits(
     alloc: Global,
     schema: &Schema,
@@ -36,6 +37,7 @@ pub(crate) fn read_hits(
     ensures hits { (analyze : Analyzer) (docs : List (List Document))
         → AllZip (StandsFor schema.now analyze) docs segments.old
         → IfOk result (λ hits. map hit_of hits.items ≡ map (shown_of schema.now docs) best.now) }
+    ensures shown { IfOk result (λ hits. AllZip (Shows schema.now segments.old) best.now hits.items) }
     ensures fault { (analyze : Analyzer) (docs : List (List Document))
         → AllZip (StandsFor schema.now analyze) docs segments.old
         → AllByRecursion (IsWithin docs) best.now
@@ -62,6 +64,7 @@ fn read_hit(
     ensures hit { (analyze : Analyzer) (docs : List (List Document))
         → AllZip (StandsFor schema.now analyze) docs segments.old
         → IfOk result (λ hit. hit_of hit ≡ shown_of schema.now docs found) }
+    ensures shown { IfOk result (Shows schema.now segments.old found) }
     ensures fault { (analyze : Analyzer) (docs : List (List Document))
         → AllZip (StandsFor schema.now analyze) docs segments.old
         → IsWithin docs found

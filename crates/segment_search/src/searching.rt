@@ -12,6 +12,7 @@ ghost use Rattle.definitions.specs.Values.{Document};
 ghost use Rattle.definitions.specs.declared.fault.Fault.TheVariants as faults;
 ghost use Rattle.query_trees.specs.Queries.{query_of};
 ghost use Rattle.segment.specs.Opened.{StandsFor};
+ghost use Rattle.segment_search.specs.Answered.{AreHits};
 ghost use Rattle.segment_search.specs.Counted.{IsTermQuery, blocks_decoded, greatest_count, nothing_kept};
 ghost use Rattle.segment_search.specs.Flags.{AreFlagged, flagged_each};
 ghost use Rattle.segment_search.specs.Hits.{KeepsSegments, hit_of, scored};
@@ -45,6 +46,7 @@ pub fn search_counted<S: Statistics>(
         → AllZip (StandsFor schema.now analyze) docs segments.old
         → IfOk result (λ found. map hit_of found.0.items ≡ map scored (scanning.scan schema.now analyze
         (S.similarity statistics.now) (live (flagged_each docs alive.now)) (query_of query.now) limit)) }
+    ensures answered { IfOk result (λ found. AreHits schema.now segments.old alive.now limit found.0.items) }
     ensures accepted { IfOk result (λ found.
         refusal schema.now (S.similarity statistics.now).weight (query_of query.now) ≡ None) }
     ensures counted { (analyze : Analyzer) (docs : List (List Document)) (t : List ℕ) (option : Asked)

@@ -11,6 +11,7 @@ use Rattle.definitions.specs.Sinks.{fed}
 use Rattle.definitions.specs.TermBlocks.{scored_blocks}
 use Rattle.scorer_answers.specs.Rows.{HasRows, flags_in}
 use Rattle.segment_definitions.specs.Found.{places_from, places_in}
+use Rattle.segment_search.proofs.AnswersGiven.{best_next, best_whole, nothing_best}
 use Rattle.segment_search.proofs.BestPlaces.{after_segment, all_segments, flags_there}
 use Rattle.segment_search.proofs.BlocksCounted.{all_counted, one_more}
 use Rattle.segment_search.proofs.Places.{nothing_left, zip_at, zip_length}
@@ -63,6 +64,11 @@ loop-segment_ord-preserved g c =
           let inside : i < length sets = omega (arith, many, long, there) in
           let at : slice_get sets i ≡ Some c.index-alive-segment_ord.result = slice_get_read sets (length sets) i c.index-alive-segment_ord.result refl inside c.index-alive-segment_ord.is in
           c.in_ok-blocks.ensures.found sets (subst (λ (b : Best). slice_get sets b.segment ≡ Some b.alive) (sym entered) at) (subst (λ (b : Best). AllByRecursion (IsFound sets) b.hits) (sym entered) l.invariant.found);
+      any =
+          let many = ap length c.requires.flags in
+          let long = length-map readers flags_in in
+          let there = c.loop-segment_ord-test.true in
+          best_next sets i k c.index-alive-segment_ord.result old (best_in c.enter.new.self) new (omega (arith, many, long, there)) c.index-alive-segment_ord.is entered l.invariant.limit c.in_ok-blocks.ensures.any l.invariant.any;
       counted = λ schema analyze sim rows t option zip by passes is.
           let found = zip_at (HasRows schema analyze) rows readers i c.index-readers-segment_ord.result zip c.loop-segment_ord-test.true c.index-readers-segment_ord.is in
           let docs = documents_in found.one in
@@ -100,3 +106,12 @@ returns-clause-counted g c schema analyze sim rows t option zip by passes is =
     let same = zip_length (HasRows schema analyze) rows c.args.readers.now zip in
     let none = ap (blocks_decoded schema analyze sim t option (best_in l.best) l.segment_ord) (nothing_left rows l.segment_ord (omega (arith, same, past))) in
     all_counted l.decoded_blocks _ _ l.invariant.few none (l.invariant.counted schema analyze sim rows t option zip by passes is)
+
+pub returns-clause-any : goal.returns-clause-any
+returns-clause-any g c =
+    let l = c.loop-segment_ord in
+    let sets = c.args.alive.now in
+    let many = ap length c.requires.flags in
+    let long = length-map c.args.readers.now flags_in in
+    let past = c.loop-segment_ord-test.false in
+    best_whole sets l.segment_ord c.args.limit (best_in l.best).hits c.into_hits.result.items (omega (arith, many, long, past)) c.into_hits.ensures l.invariant.any

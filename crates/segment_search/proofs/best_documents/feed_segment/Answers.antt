@@ -1,9 +1,10 @@
 use Rattle.std.proofs.Common.{List, Some, ap, map, slice_get, subst, sym, ◌++◌, ◌∙◌, ◌≡◌}
 use Rattle.std.proofs.lemmas.Result.{IfOk-weaker, on_ok_weaker}
 use Rattle.std.specs.List.{AllByRecursion}
+use Rattle.best_k.proofs.Feeding.{fed_best}
 use Rattle.best_k.specs.Contents.{best_in}
 use Rattle.best_k.specs.Kept as kept
-use Rattle.best_k.specs.Kept.{Best}
+use Rattle.best_k.specs.Kept.{Best, best_by, living_in, score_of}
 use Rattle.definitions.specs.Answers.{answers}
 use Rattle.definitions.specs.Merging.{documents_in}
 use Rattle.definitions.specs.Sinks.{fed}
@@ -48,3 +49,15 @@ returns-clause-counted g c schema analyze sim rows t option has by is =
     let pairs = answers schema analyze sim 1 (counted_query c.args.weight.now) (documents_in rows) in
     let blocks = scored_blocks schema analyze sim 1 t option (documents_in rows) in
     IfOk-weaker c.for_each_pruning_counted.result _ _ (λ n told. told ∙ ap (λ (b : Best). decoded_for kept.limit kept.taken b pairs blocks) c.reserve.ensures.same) (c.for_each_pruning_counted.ensures.counted schema analyze sim (documents_in rows) t option has.stands by is)
+
+pub returns-clause-any : goal.returns-clause-any
+returns-clause-any g c =
+    let room = c.reserve.new.self in
+    let same = c.reserve.ensures.same in
+    on_ok_weaker c.for_each_pruning_counted.result (λ listed. record {
+      pairs = listed.pairs;
+      ascend = listed.ascend;
+      best = ap (λ (b : Best). b.hits) listed.fed
+          ∙ fed_best (best_in room) listed.pairs (record { falls = room.falls; few = room.few })
+          ∙ ap (λ (b : Best). best_by score_of b.wanted (b.hits ++ living_in b.segment b.alive listed.pairs)) same;
+    }) c.for_each_pruning_counted.ensures.listed

@@ -1,5 +1,6 @@
-use Rattle.std.proofs.Common.{map}
+use Rattle.std.proofs.Common.{arith, map, ◌<◌, ◌≤◌}
 use Rattle.best_k.specs.Kept.{ScoredAddress}
+use Rattle.segment_search.proofs.AnswersGiven.{shows_next, shows_whole}
 use Rattle.segment_search.proofs.HitsRead.{held_kept, kept_then, one_at, read_next}
 use Rattle.segment_search.specs.Hits.{IsHeld, hit_of, shown_of}
 use Rattle.segment_search.proofs.hits.read_hits.Goals as goal
@@ -28,5 +29,12 @@ loop-found-preserved c =
       hits = λ analyze docs stands.
           let told = c.in_ok-read_hit.ensures.hit analyze docs (l.invariant.kept.stands schema analyze docs stands) in
           read_next hit_of (shown_of schema docs) l.hits.items c.push.new.self.items c.args.best.now l.found-index c.in_ok-read_hit.field-0 other (map (shown_of schema docs) c.args.best.now) c.in_ok-push.ensures.items told c.loop-found-test.true (l.invariant.hits analyze docs stands);
+      shown = shows_next schema c.args.segments.now l.segments c.args.best.now l.found-index other l.hits.items c.push.new.self.items c.in_ok-read_hit.field-0 c.loop-found-test.true c.in_ok-push.ensures.items l.invariant.kept c.in_ok-read_hit.ensures.shown l.invariant.shown;
       kept = kept_then c.args.segments.now l.segments c.read_hit.new.segments l.invariant.kept c.read_hit.ensures.kept;
     }
+
+pub returns-clause-shown : goal.returns-clause-shown
+returns-clause-shown c =
+    let l = c.loop-found in
+    let past = c.loop-found-test.false in
+    shows_whole c.args.schema.now c.args.segments.now c.args.best.now l.found-index l.hits.items (omega (arith, past)) l.invariant.shown

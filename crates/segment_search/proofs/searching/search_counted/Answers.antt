@@ -6,6 +6,7 @@ use Rattle.query_trees.specs.Queries.{query_of}
 use Rattle.segment_search.proofs.BestFound.{best_scanned, best_within}
 use Rattle.segment_search.proofs.Flagging.{flagged_kept}
 use Rattle.segment_search.proofs.HitsRead.{held_alive}
+use Rattle.segment_search.specs.Answered.{AreBest}
 use Rattle.segment_search.specs.Hits.{IsHeld}
 use Rattle.segment_search.specs.Best.{IsFound, place_at}
 use Rattle.segment_search.proofs.searching.search_counted.Goals as goal
@@ -46,3 +47,10 @@ returns-clause-flagged g c = flagged_kept c.args.segments.now c.read_hits.new.se
 
 pub returns-in_err-hits-clause-flagged : goal.returns-in_err-hits-clause-flagged
 returns-in_err-hits-clause-flagged g c = flagged_kept c.args.segments.now c.read_hits.new.segments c.args.alive.now c.read_hits.ensures.kept.counts c.requires.flagged
+
+pub returns-clause-answered : goal.returns-clause-answered
+returns-clause-answered g c = record {
+  found = c.deref.result.now;
+  best = subst (AreBest c.args.alive.now c.args.limit) (sym c.deref.ensures.value) c.in_ok-best.ensures.any;
+  shown = c.in_ok-hits.ensures.shown;
+}

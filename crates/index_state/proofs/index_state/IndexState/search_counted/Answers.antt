@@ -1,4 +1,4 @@
-use Rattle.std.proofs.Common.{Bool, List, None, Some, ap, ap₂, inl, inr, length, map, min, refl, subst, sym, true, ◌∙◌, ◌≡◌, ◌≢◌, ◌⊎◌, ⊎_elim, ℕ}
+use Rattle.std.proofs.Common.{Bool, IfOk, List, None, Some, ap, ap₂, inl, inr, length, map, min, refl, subst, sym, true, ◌∙◌, ◌≡◌, ◌≢◌, ◌⊎◌, ⊎_elim, ℕ}
 use Rattle.std.proofs.lemmas.Result.{IfOk-weaker}
 use Rattle.std.proofs.Math.Logic.{∥∥₁_map}
 use Rattle.std.specs.List.{AllByRecursion, AllZip, zip}
@@ -20,6 +20,7 @@ use Rattle.index_state.proofs.Standings.{pending_kept, stands_with}
 use Rattle.index_state.specs.DecodedBlocks.{HasRows}
 use Rattle.index_state.specs.Flags.{AreFlagged, flagged_each}
 use Rattle.index_state.specs.Standing.{members_of}
+use Rattle.segment_search.specs.Answered.{AreHits}
 use Rattle.segment_search.specs.Counted.{blocks_decoded, greatest_count, nothing_kept}
 use Rattle.segment_search.specs.Hits.{hit_of, scored}
 use Rattle.index_state.proofs.index_state.IndexState.search_counted.Goals as goal
@@ -179,3 +180,10 @@ returns-clause-same g c =
       waiting = refl;
       status = refl;
     }
+
+pub returns-clause-answered : goal.returns-clause-answered
+returns-clause-answered g c =
+    let index = c.args.self.now in
+    let segments = c.deref_mut.result.now in
+    subst (λ ss. IfOk c.search_counted.result (λ found. AreHits index.schema ss index.alive.items c.args.limit found.0.items)) c.deref_mut.ensures.value
+    (subst (λ sets. IfOk c.search_counted.result (λ found. AreHits index.schema segments sets c.args.limit found.0.items)) c.deref.ensures.value c.search_counted.ensures.answered)

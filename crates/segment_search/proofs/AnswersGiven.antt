@@ -1,0 +1,90 @@
+-- The best of the living documents of any segments, one segment after the other, and hits that show them.
+use Rattle.segment.specs.declared.segment.Segment as code
+use Rattle.std.proofs.Common.{[], Bool, List, Some, ap, ap₂, arith, get_or, length, length-append, map, refl, slice_get, subst, suc, sym, take, zero, ◌+◌, ◌++◌, ◌<◌, ◌∙◌, ◌∷◌, ◌≡◌, ◌≤◌, ℕ}
+use Rattle.std.proofs.Math.Seq.{take-suc}
+use Rattle.std.proofs.lemmas.List.{append-nil, append_assoc}
+use Rattle.std.specs.List.{AllZip}
+use Rattle.best_k.proofs.Bests.{best_with_more}
+use Rattle.best_k.specs.Kept.{Best, ScoredAddress, best_by, living_in, score_of}
+use Rattle.definitions.proofs.Lists.{all_push, take_whole}
+use Rattle.definitions.specs.Schema.{Schema}
+use Rattle.definitions.specs.ScoredLists.{AreScoredFrom, ScoredList}
+use Rattle.segment_search.proofs.Places.{zip_more}
+use Rattle.segment_search.specs.Answered.{AreBest, IsBestWithMore, Shows, living_from}
+use Rattle.segment_search.specs.Hits.{KeepsSegments}
+use Rattle.segment_search.specs.declared.hits.Hit.{Hit}
+
+-- one element more
+take_next : {X : Type 0} (xs : List X) (i : ℕ) (other : X) → i < length xs → take (i + 1) xs ≡ take i xs ++ get_or xs i other ∷ []
+take_next xs i other inside = let next : i + 1 ≡ suc i = omega arith in ap (λ n. take n xs) next ∙ take-suc xs i other inside
+
+length_taken : {X : Type 0} (xs : List X) (i : ℕ) → i ≤ length xs → length (take i xs) ≡ i
+length_taken xs zero l = refl
+length_taken [] (suc i) l = absurd (omega (arith, l))
+length_taken (x ∷ xs) (suc i) l = ap suc (length_taken xs i (omega (arith, l)))
+
+-- ---- the best
+
+-- the living documents with those of one segment more
+more_living : (ord : ℕ) (sets : List (List Bool)) (lists : List ScoredList) (flags : List Bool) (ps : ScoredList) → length lists ≡ length sets → living_from ord (sets ++ flags ∷ []) (lists ++ ps ∷ []) ≡ living_from ord sets lists ++ living_in (ord + length sets) flags ps
+more_living ord [] [] flags ps e = let same : ord ≡ ord + 0 = omega arith in append-nil (living_in ord flags ps) ∙ ap (λ n. living_in n flags ps) same
+more_living ord [] (l ∷ lists) flags ps e = absurd (omega (arith, e))
+more_living ord (s ∷ sets) [] flags ps e = absurd (omega (arith, e))
+more_living ord (s ∷ sets) (l ∷ lists) flags ps e =
+    let same : ord + 1 + length sets ≡ ord + suc (length sets) = omega arith in
+    let first = living_in ord s l in
+    let rest = living_from (ord + 1) sets lists in
+    ap (λ more. first ++ more) (more_living (ord + 1) sets lists flags ps (omega (arith, e)))
+    ∙ sym (append_assoc first rest (living_in (ord + 1 + length sets) flags ps))
+    ∙ ap (λ n. (first ++ rest) ++ living_in n flags ps) same
+
+none_best : (k : ℕ) → [] ≡ best_by score_of k (living_from 0 [] [])
+none_best zero = refl
+none_best (suc k) = refl
+
+-- before the first segment nothing is kept
+pub nothing_best : (k : ℕ) (hits : List ScoredAddress) → hits ≡ [] → AreBest [] k hits
+nothing_best k hits none = record { lists = []; counted = refl; ascend = tt; best = none ∙ none_best k }
+
+-- after one segment more
+pub best_next : (sets : List (List Bool)) (i k : ℕ) (flags : List Bool) (old entered new : Best) → i < length sets → flags ≡ get_or sets i flags → entered ≡ record old { segment = i; alive = flags } → old.wanted ≡ k → IsBestWithMore entered new → AreBest (take i sets) k old.hits → AreBest (take (i + 1) sets) k new.hits
+best_next sets i k flags old entered new inside at is wanted more so_far =
+    let here : take (i + 1) sets ≡ take i sets ++ flags ∷ [] = take_next sets i flags inside ∙ ap (λ f. take i sets ++ f ∷ []) (sym at) in
+    let long = length_taken sets i (omega (arith, inside)) in
+    let ps = more.pairs in
+    let before = living_from 0 (take i sets) so_far.lists in
+    let counted = so_far.counted in
+    let lists_long = length-append so_far.lists (ps ∷ []) in
+    let sets_long = length-append (take i sets) (flags ∷ []) in
+    subst (λ s. AreBest s k new.hits) (sym here) (record {
+      lists = so_far.lists ++ ps ∷ [];
+      counted = omega (arith, counted, lists_long, sets_long);
+      ascend = all_push (AreScoredFrom 0) so_far.lists ps so_far.ascend more.ascend;
+      best = more.best
+          ∙ ap (λ (b : Best). best_by score_of b.wanted (b.hits ++ living_in b.segment b.alive ps)) is
+          ∙ ap₂ (λ (n : ℕ) (hits : List ScoredAddress). best_by score_of n (hits ++ living_in i flags ps)) wanted so_far.best
+          ∙ best_with_more score_of k before (living_in i flags ps)
+          ∙ ap (best_by score_of k) (ap (λ n. before ++ living_in n flags ps) (sym long) ∙ sym (more_living 0 (take i sets) so_far.lists flags ps counted));
+    })
+
+-- after the last
+pub best_whole : (sets : List (List Bool)) (i k : ℕ) (hits found : List ScoredAddress) → length sets ≤ i → found ≡ hits → AreBest (take i sets) k hits → AreBest sets k found
+best_whole sets i k hits found over is best = subst (λ (s : List (List Bool)). AreBest s k found) (take_whole i sets over) (subst (AreBest (take i sets) k) (sym is) best)
+
+-- ---- hits
+
+module _ (schema : Schema) where
+  -- what is read of segments that keep their blocks is stored in these
+  shows_kept : (old new : List code.Segment) (found : ScoredAddress) (hit : Hit) → KeepsSegments old new → Shows schema new found hit → Shows schema old found hit
+  shows_kept old new found hit kept shows = record shows { there = subst (λ each. slice_get each found.1 ≡ Some shows.blocks) kept.blocks shows.there }
+
+  -- a hit more
+  pub shows_next : (old new : List code.Segment) (best : List ScoredAddress) (i : ℕ) (other : ScoredAddress) (hits more : List Hit) (hit : Hit) → i < length best → more ≡ hits ++ hit ∷ [] → KeepsSegments old new → Shows schema new (get_or best i other) hit → AllZip (Shows schema old) (take i best) hits → AllZip (Shows schema old) (take (i + 1) best) more
+  shows_next old new best i other hits more hit inside pushed kept shows so_far =
+      subst (λ found. AllZip (Shows schema old) found more) (sym (take_next best i other inside))
+      (subst (AllZip (Shows schema old) (take i best ++ get_or best i other ∷ [])) (sym pushed)
+      (zip_more (Shows schema old) (take i best) (get_or best i other ∷ []) hits (hit ∷ []) so_far (shows_kept old new (get_or best i other) hit kept shows, tt)))
+
+  -- all of them
+  pub shows_whole : (old : List code.Segment) (best : List ScoredAddress) (i : ℕ) (hits : List Hit) → length best ≤ i → AllZip (Shows schema old) (take i best) hits → AllZip (Shows schema old) best hits
+  shows_whole old best i hits over so_far = subst (λ found. AllZip (Shows schema old) found hits) (take_whole i best over) so_far
