@@ -1,9 +1,8 @@
--- Lemmas behind weights.
+-- Lemmas behind the weights of terms and phrases.
 pub mod TermAnswers
 pub mod TermsFound
 pub mod BoundsFound
 pub mod BlocksFound
--- Lemmas behind the weights of phrases.
 pub mod NoPlaces
 pub mod TermsTogether
 pub mod PhraseAnswers
@@ -22,9 +21,5 @@ pub mod PrefixWhole
 pub mod SuffixesRead
 pub mod PrefixWeighed
 pub mod PrefixEnds
--- Lemmas behind the weights.
-pub mod AcceptedTerms
-pub mod LeafScores
--- Lemmas behind the weights.
 pub mod AcceptedTerms
 pub mod LeafScores
