@@ -1,0 +1,4 @@
+pub mod Bytes
+pub mod Cuts
+pub mod Shown
+pub mod Windows

@@ -1,0 +1,5 @@
+pub mod Cutting
+pub mod Passages
+pub mod Snippets
+-- Words of the contracts.
+pub mod Views

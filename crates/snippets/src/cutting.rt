@@ -1,0 +1,54 @@
+//! Texts cut at their words.
+
+ghost use Rattle.std.specs.Prelude.{◌+◌, ◌++◌, ◌<◌, ◌≡◌, ◌≤◌, IfOk, IsCharBoundary, OnOk, length, map, slice_index, slice_range};
+ghost use Rattle.definitions.specs.Analyzers as definitions;
+ghost use Rattle.snippets.specs.Cutting.{cut, ended, going};
+
+use std::alloc::{AllocError, Global};
+
+/// Cuts `text` behind each byte that is no part of a word.
+pub(crate) fn cut<'a>(alloc: Global, text: &'a str) -> Result<Vec<&'a str>, AllocError>
+    ensures { IfOk result (λ parts. map (λ p. p.now) parts.items ≡ cut text.now) }
+{
+    let mut parts = Vec::new(alloc);
+    let mut start = 0;
+    for place in 0..text.len() {
+        start = past_byte(&mut parts, text, start, place)?;
+    }
+    if start < text.len() {
+        parts.push(&text[start..])?;
+    }
+    Ok(parts)
+}
+
+/// Appends the part from `start` on if the byte at `place` ends it; returns where the part behind that byte begins.
+#[tactic(auto, using(std::proofs::lemmas::List::Edits::between_more, std::proofs::lemmas::List::Edits::between_none))]
+fn past_byte<'a>(
+    parts: &mut Vec<&'a str>,
+    text: &'a str,
+    start: usize,
+    place: usize,
+) -> Result<usize, AllocError>
+    requires within { place < length text.now }
+    requires begun { start ≤ place }
+    requires boundary { IsCharBoundary text.now start }
+    ensures parts { OnOk result (map (λ p. p.now) parts.new.items ≡ map (λ p. p.now) parts.old.items
+        ++ ended (slice_range text.now start place) (slice_index text.now place)) }
+    ensures run { IfOk result (λ next. slice_range text.now next (place + 1)
+        ≡ going (slice_range text.now start place) (slice_index text.now place)) }
+    ensures begun { IfOk result (λ next. next ≤ place + 1) }
+    ensures boundary { IfOk result (λ next. IsCharBoundary text.now next) }
+{
+    if is_word_byte(text.as_bytes()[place]) {
+        return Ok(start);
+    }
+    parts.push(&text[start..place + 1])?;
+    Ok(place + 1)
+}
+
+/// Whether a byte is of a word: an ASCII letter or digit, or of a character past ASCII.
+fn is_word_byte(byte: u8) -> bool
+    ensures { result ≡ definitions.is_word_byte byte }
+{
+    byte.is_ascii_alphanumeric() || byte >= 128
+}

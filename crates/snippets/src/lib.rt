@@ -1,0 +1,13 @@
+//! Snippets of texts: the best passage, with the words in it that are looked for.
+#![tactic(auto)]
+
+mod context;
+mod cutting;
+pub mod laws;
+mod passages;
+mod snippet;
+mod words;
+
+pub use passages::{MAX_PASSAGE_LEN, Piece};
+pub use snippet::{Snippet, snippet_of};
+pub use words::Word;
