@@ -1,7 +1,7 @@
 //! Why the program finds nothing out.
 
 use definitions::Fault;
-use std::alloc::AllocError;
+use std::alloc::{AllocError, AllocFailed};
 use std::fmt::{self, Display, Formatter};
 use std::io;
 
@@ -36,6 +36,12 @@ impl From<Fault> for Failure {
 
 impl From<AllocError> for Failure {
     fn from(_refused: AllocError) -> Failure {
+        Failure::Refused(Fault::OutOfMemory)
+    }
+}
+
+impl<T: Drop> From<AllocFailed<T>> for Failure {
+    fn from(_refused: AllocFailed<T>) -> Failure {
         Failure::Refused(Fault::OutOfMemory)
     }
 }

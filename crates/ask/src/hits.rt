@@ -1,8 +1,11 @@
 //! Hits on lines.
 
 use crate::failure::Failure;
+use crate::passages::write_texts;
 use crate::request::Search;
-use index::Hit;
+use document_values::{OwnedValue, values_to_json};
+use index::{AnyQuery, Hit, Schema};
+use std::alloc::Global;
 use std::io::Write;
 
 /// Writes how many documents match.
@@ -11,32 +14,58 @@ pub(crate) fn print_count<W: Write>(out: &mut W, found: u64) -> Result<(), Failu
     Ok(())
 }
 
-/// Writes the hits from the first that `search` asks for on, each on a line; without JSON there is a line before them.
+/// Writes the hits of `query` from the first that `search` asks for on, each on a line; without JSON there is a line
+/// before them.
 pub(crate) fn print_hits<W: Write>(
+    alloc: Global,
     out: &mut W,
     search: &Search<'_>,
+    schema: &Schema,
+    query: &AnyQuery,
     found: u64,
     hits: &[Hit],
 ) -> Result<(), Failure> {
-    if !search.json {
-        writeln!(
-            out,
-            "{found} found, {} shown",
-            hits.len().saturating_sub(search.start)
-        )?;
+    if search.json {
+        for hit in hits.iter().skip(search.start) {
+            writeln!(out, "{{\"score\":{},\"doc\":{}}}", hit.score, hit.doc)?;
+        }
+        return Ok(());
     }
+    let shown = hits.len().saturating_sub(search.start);
+    writeln!(out, "{found} found, {shown} shown")?;
     for hit in hits.iter().skip(search.start) {
-        print_hit(out, search.json, hit)?;
+        print_hit(alloc, out, schema, query, hit)?;
     }
     Ok(())
 }
 
-/// Writes a hit with its score and its stored values.
-fn print_hit<W: Write>(out: &mut W, json: bool, hit: &Hit) -> Result<(), Failure> {
-    if json {
-        writeln!(out, "{{\"score\":{},\"doc\":{}}}", hit.score, hit.doc)?;
-    } else {
-        writeln!(out, "{:6}  {}", hit.score, hit.doc)?;
+/// Writes a hit with its score and its stored values; of a text the passage that shows most of the words of `query`.
+fn print_hit<W: Write>(
+    alloc: Global,
+    out: &mut W,
+    schema: &Schema,
+    query: &AnyQuery,
+    hit: &Hit,
+) -> Result<(), Failure> {
+    write!(out, "{:6}", hit.score)?;
+    for (name, values) in hit.doc.fields() {
+        write!(out, "  {name}:")?;
+        if !write_texts(alloc, out, schema, query, name.as_str(), values.as_slice())? {
+            write_values(alloc, out, values.as_slice())?;
+        }
+    }
+    writeln!(out)?;
+    Ok(())
+}
+
+/// Writes values as JSON, with a space before each.
+fn write_values<W: Write>(
+    alloc: Global,
+    out: &mut W,
+    values: &[OwnedValue],
+) -> Result<(), Failure> {
+    for value in &values_to_json(alloc, values)? {
+        write!(out, " {value}")?;
     }
     Ok(())
 }

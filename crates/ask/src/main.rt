@@ -4,7 +4,9 @@
 mod explanation;
 mod failure;
 mod hits;
+mod passages;
 mod request;
+mod sought;
 
 use explanation::explain;
 use failure::Failure;
@@ -29,7 +31,8 @@ TEXT      what it finds
  \"old sea\"       words beside each other         \"old sea\"~2       up to 2 places apart
  \"old sea*\"      the last word begun alone       title:sea         in one field; else in all text fields
 
-The status is 0; 1 where nothing matches, or FILE can't be searched; 2 for wrong use, and for a TEXT that isn't read.";
+Without --json a text is shown by the passage that has most of the words, each between brackets. The status is 0; 1
+where nothing matches, or FILE can't be searched; 2 for wrong use, and for a TEXT that isn't read.";
 
 /// The status where nothing matches, or the file can't be searched.
 const FAILED: u8 = 1;
@@ -90,7 +93,15 @@ fn answer(rt: &HostRuntime, search: &Search<'_>) -> Result<bool, Failure> {
         print_count(&mut out, found)?;
     } else {
         let hits = index.search(&query, search.start.saturating_add(search.count))?;
-        print_hits(&mut out, search, found, &hits)?;
+        print_hits(
+            alloc,
+            &mut out,
+            search,
+            index.schema(),
+            &query,
+            found,
+            &hits,
+        )?;
     }
     out.flush()?;
     Ok(found > 0)
