@@ -1,1 +1,3 @@
+pub mod Rarity
 pub mod Sought
+pub mod Views

@@ -5,14 +5,19 @@ mod explanation;
 mod failure;
 mod hits;
 mod passages;
+mod rarity;
 mod request;
 mod sought;
 
 use explanation::explain;
 use failure::Failure;
 use hits::{print_count, print_hits};
-use index::{FileDevice, Index, RawAndDefault};
-use query_text::{Refusal, SchemaVocabulary, read_text};
+use index::{
+    AllQuery, AnyQuery, FileDevice, Index, IndexRecordOption, RawAndDefault, Term, TermQuery,
+};
+use query_text::{Refusal, SchemaVocabulary, Vocabulary, read_text};
+use query_trees::QueryTree;
+use rarity::{Weight, Weighted, rarity};
 use request::{Request, Search, request_of};
 use std::env;
 use std::fs::File;
@@ -21,8 +26,8 @@ use std::process::ExitCode;
 
 /// What the program takes, and what it answers.
 const USAGE: &str = "\
-usage: ask FILE TEXT [-k N] [--from N] [--json]     the best N documents that match, 10 without -k
-       ask FILE TEXT --count                        how many match
+usage: ask FILE TEXT [-k N] [--from N] [--json] [--flat]     the best N documents that match, 10 without -k
+       ask FILE TEXT --count                                 how many match
 
 TEXT      what it finds
  sea wind        documents with both words       +sea wind         with sea, and better with wind too
@@ -31,8 +36,9 @@ TEXT      what it finds
  \"old sea\"       words beside each other         \"old sea\"~2       up to 2 places apart
  \"old sea*\"      the last word begun alone       title:sea         in one field; else in all text fields
 
-Without --json a text is shown by the passage that has most of the words, each between brackets. The status is 0; 1
-where nothing matches, or FILE can't be searched; 2 for wrong use, and for a TEXT that isn't read.";
+A rare word weighs more than a common one; with --flat each weighs the same. Without --json a text is shown by the
+passage that has most of the words, each between brackets. The status is 0; 1 where nothing matches, or FILE can't be
+searched; 2 for wrong use, and for a TEXT that isn't read.";
 
 /// The status where nothing matches, or the file can't be searched.
 const FAILED: u8 = 1;
@@ -79,14 +85,7 @@ fn arguments(rt: &HostRuntime) -> io::Result<Vec<String>> {
 fn answer(rt: &HostRuntime, search: &Search<'_>) -> Result<bool, Failure> {
     let alloc = rt.alloc();
     let mut index = open(rt, search.path)?;
-    let words = SchemaVocabulary {
-        schema: index.schema(),
-        analyzer: &RawAndDefault,
-    };
-    let query = match read_text(alloc, &words, search.text.as_bytes()) {
-        Ok(query) => query,
-        Err(refusal) => return Err(refused(rt, &index, refusal)),
-    };
+    let query = query_of(rt, &index, search)?;
     let found = index.count(&query)?;
     let mut out = BufWriter::new(alloc, io::writer(rt))?;
     if search.counts {
@@ -105,6 +104,74 @@ fn answer(rt: &HostRuntime, search: &Search<'_>) -> Result<bool, Failure> {
     }
     out.flush()?;
     Ok(found > 0)
+}
+
+/// Reads the text of `search` as a query.
+fn query_of(rt: &HostRuntime, index: &Texts, search: &Search<'_>) -> Result<AnyQuery, Failure> {
+    let words = SchemaVocabulary {
+        schema: index.schema(),
+        analyzer: &RawAndDefault,
+    };
+    let plain = read(rt, index, &words, search)?;
+    if search.flat {
+        return Ok(plain);
+    }
+    let weights = weights_of(rt, index, &plain)?;
+    read_weighted(rt, index, &words, &weights, search)
+}
+
+/// Reads the text of `search`, whose words mean what `words` says, each with its weight.
+fn read_weighted<V: Vocabulary>(
+    rt: &HostRuntime,
+    index: &Texts,
+    words: &V,
+    weights: &[Weight<'_>],
+    search: &Search<'_>,
+) -> Result<AnyQuery, Failure> {
+    let weighted = Weighted { words, weights };
+    read(rt, index, &weighted, search)
+}
+
+/// Reads the text of `search`, whose words mean what `words` says; else tells on standard error why it isn't read.
+fn read<V: Vocabulary>(
+    rt: &HostRuntime,
+    index: &Texts,
+    words: &V,
+    search: &Search<'_>,
+) -> Result<AnyQuery, Failure> {
+    match read_text(rt.alloc(), words, search.text.as_bytes()) {
+        Ok(query) => Ok(query),
+        Err(refusal) => Err(refused(rt, index, refusal)),
+    }
+}
+
+/// Returns what each term of `query` weighs that documents have, by how many these are.
+fn weights_of<'q>(
+    rt: &HostRuntime,
+    index: &Texts,
+    query: &'q AnyQuery,
+) -> Result<Vec<Weight<'q>>, Failure> {
+    let alloc = rt.alloc();
+    let total = index.count(&AnyQuery::All(AllQuery))?;
+    let mut weights = Vec::new(alloc);
+    for (term, _is_placed) in &query.needed_terms(alloc)? {
+        let count = index.count(&query_for(rt, *term)?)?;
+        if count > 0 {
+            let weight = rarity(total, count);
+            weights.push(Weight {
+                term: *term,
+                weight,
+            })?;
+        }
+    }
+    Ok(weights)
+}
+
+/// Makes the query for the documents that have `term`.
+fn query_for(rt: &HostRuntime, term: &Term) -> Result<AnyQuery, Failure> {
+    let mut bytes = Vec::new(rt.alloc());
+    bytes.extend_from_slice(term.serialized_term())?;
+    Ok(AnyQuery::Term(TermQuery::new(Term::wrap(bytes)?, IndexRecordOption::Basic)))
 }
 
 /// Opens the index of the file at `path`, which has to be there.

@@ -25,6 +25,8 @@ pub(crate) struct Search<'a> {
     pub(crate) counts: bool,
     /// Whether hits are printed as JSON objects.
     pub(crate) json: bool,
+    /// Whether each word weighs the same.
+    pub(crate) flat: bool,
 }
 
 /// Returns what the arguments ask for, the program's name before them; `None` if that is nothing.
@@ -39,6 +41,7 @@ pub(crate) fn request_of(arguments: &[String]) -> Option<Request<'_>> {
                 start: 0,
                 counts: false,
                 json: false,
+                flat: false,
             };
             Some(Request::Search(with_options(plain, &arguments[3..])?))
         }
@@ -68,6 +71,7 @@ fn with_option<'a>(
     match option {
         "--count" => search.counts = true,
         "--json" => search.json = true,
+        "--flat" => search.flat = true,
         "-k" => {
             let (number, rest) = number_of(behind)?;
             search.count = number;
