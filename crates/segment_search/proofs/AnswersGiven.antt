@@ -1,17 +1,22 @@
 -- The best of the living documents of any segments, one segment after the other, and hits that show them.
 use Rattle.segment.specs.declared.segment.Segment as code
-use Rattle.std.proofs.Common.{[], Bool, List, Some, ap, ap₂, arith, get_or, length, length-append, map, refl, slice_get, subst, suc, sym, take, zero, ◌+◌, ◌++◌, ◌<◌, ◌∙◌, ◌∷◌, ◌≡◌, ◌≤◌, ℕ}
+use Rattle.std.proofs.Common.{[], Bool, List, Some, ap, ap₂, arith, get_or, length, length-append, map, option_map, pos, refl, slice_get, subst, suc, sym, take, zero, ◌+◌, ◌++◌, ◌<◌, ◌∙◌, ◌∷◌, ◌≡◌, ◌≤◌, ℕ}
 use Rattle.std.proofs.Math.Seq.{take-suc}
 use Rattle.std.proofs.lemmas.List.{append-nil, append_assoc}
+use Rattle.std.proofs.lemmas.Option.{slice_get-get_or, slice_get-map}
 use Rattle.std.specs.List.{AllZip}
 use Rattle.best_k.proofs.Bests.{best_with_more}
 use Rattle.best_k.specs.Kept.{Best, ScoredAddress, best_by, living_in, score_of}
 use Rattle.definitions.proofs.Lists.{all_push, take_whole}
 use Rattle.definitions.specs.Schema.{Schema}
 use Rattle.definitions.specs.ScoredLists.{AreScoredFrom, ScoredList}
+use Rattle.definitions.specs.Stored.{stored_values}
+use Rattle.definitions.specs.Values.{Document}
+use Rattle.segment.specs.Opened.{blocks_of}
+use Rattle.segment.specs.SlotDocuments.{HoldsDocument}
 use Rattle.segment_search.proofs.Places.{zip_more}
 use Rattle.segment_search.specs.Answered.{AreBest, IsBestWithMore, Shows, living_from}
-use Rattle.segment_search.specs.Hits.{KeepsSegments}
+use Rattle.segment_search.specs.Hits.{KeepsSegments, hit_of}
 use Rattle.segment_search.specs.declared.hits.Hit.{Hit}
 
 -- one element more
@@ -51,6 +56,7 @@ pub best_next : (sets : List (List Bool)) (i k : ℕ) (flags : List Bool) (old e
 best_next sets i k flags old entered new inside at is wanted more so_far =
     let here : take (i + 1) sets ≡ take i sets ++ flags ∷ [] = take_next sets i flags inside ∙ ap (λ f. take i sets ++ f ∷ []) (sym at) in
     let long = length_taken sets i (omega (arith, inside)) in
+    let place : i ≡ 0 + length (take i sets) = omega (arith, long) in
     let ps = more.pairs in
     let before = living_from 0 (take i sets) so_far.lists in
     let counted = so_far.counted in
@@ -64,7 +70,7 @@ best_next sets i k flags old entered new inside at is wanted more so_far =
           ∙ ap (λ (b : Best). best_by score_of b.wanted (b.hits ++ living_in b.segment b.alive ps)) is
           ∙ ap₂ (λ (n : ℕ) (hits : List ScoredAddress). best_by score_of n (hits ++ living_in i flags ps)) wanted so_far.best
           ∙ best_with_more score_of k before (living_in i flags ps)
-          ∙ ap (best_by score_of k) (ap (λ n. before ++ living_in n flags ps) (sym long) ∙ sym (more_living 0 (take i sets) so_far.lists flags ps counted));
+          ∙ ap (best_by score_of k) (ap (λ n. before ++ living_in n flags ps) place ∙ sym (more_living 0 (take i sets) so_far.lists flags ps counted));
     })
 
 -- after the last
@@ -74,9 +80,25 @@ best_whole sets i k hits found over is best = subst (λ (s : List (List Bool)). 
 -- ---- hits
 
 module _ (schema : Schema) where
+  -- a hit of a segment that is there shows what was read of its slot
+  pub shows_read : (segments : List code.Segment) (found : ScoredAddress) (hit : Hit) (other : code.Segment) (read : Document) → found.1 < length segments → HoldsDocument schema (blocks_of (get_or segments found.1 other)) found.2 read → hit_of hit ≡ (pos found.0, stored_values schema read) → Shows schema segments found hit
+  shows_read segments found hit other read inside holds shown = record {
+    blocks = blocks_of (get_or segments found.1 other);
+    there = slice_get-map blocks_of segments found.1 ∙ ap (option_map blocks_of) (slice_get-get_or segments found.1 other inside);
+    read = read;
+    holds = holds;
+    shown = shown;
+  }
+
   -- what is read of segments that keep their blocks is stored in these
   shows_kept : (old new : List code.Segment) (found : ScoredAddress) (hit : Hit) → KeepsSegments old new → Shows schema new found hit → Shows schema old found hit
-  shows_kept old new found hit kept shows = record shows { there = subst (λ each. slice_get each found.1 ≡ Some shows.blocks) kept.blocks shows.there }
+  shows_kept old new found hit kept shows = record {
+    blocks = shows.blocks;
+    there = subst (λ each. slice_get each found.1 ≡ Some shows.blocks) kept.blocks shows.there;
+    read = shows.read;
+    holds = shows.holds;
+    shown = shows.shown;
+  }
 
   -- a hit more
   pub shows_next : (old new : List code.Segment) (best : List ScoredAddress) (i : ℕ) (other : ScoredAddress) (hits more : List Hit) (hit : Hit) → i < length best → more ≡ hits ++ hit ∷ [] → KeepsSegments old new → Shows schema new (get_or best i other) hit → AllZip (Shows schema old) (take i best) hits → AllZip (Shows schema old) (take (i + 1) best) more

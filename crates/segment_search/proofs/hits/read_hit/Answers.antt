@@ -1,9 +1,9 @@
-use Rattle.std.proofs.Common.{[], ap, ap₂, arith, get_or, option_map, sym, w64, ◌<◌, ◌≤◌, ◌∙◌, ◌^◌}
+use Rattle.std.proofs.Common.{[], ap₂, arith, get_or, sym, w64, ◌<◌, ◌≤◌, ◌∙◌, ◌^◌}
 use Rattle.std.proofs.lemmas.Int.{to_z_pos}
-use Rattle.std.proofs.lemmas.Option.{slice_get-get_or, slice_get-map}
 use Rattle.std.proofs.lemmas.Result.{err_from_is_err_and}
 use Rattle.definitions.specs.Stored.{Named, stored_values}
-use Rattle.segment.specs.Opened.{StandsFor, blocks_of}
+use Rattle.segment.specs.Opened.{StandsFor}
+use Rattle.segment_search.proofs.AnswersGiven.{shows_read}
 use Rattle.segment_search.proofs.HitsRead.{kept_set, not_past, slot_faults, stands_at, stored_at, told_there}
 use Rattle.segment_search.proofs.hits.read_hit.Goals as goal
 
@@ -49,14 +49,7 @@ returns-clause-kept c =
 pub returns-clause-shown : goal.returns-clause-shown
 returns-clause-shown c =
     let segments = c.args.segments.now in
-    let i = c.args.found.1 in
     let other = c.index-segments-segment_ord.result in
     let small : c.args.found.0 ≤ 1000000000000000 = c.requires.held.1 in
     let fits : c.args.found.0 < 2 ^ 63 = omega (arith, small) in
-    record {
-      blocks = blocks_of (get_or segments i other);
-      there = slice_get-map blocks_of segments i ∙ ap (option_map blocks_of) (slice_get-get_or segments i other c.requires.held.0);
-      read = c.in_ok-doc.doc.now;
-      holds = c.in_ok-doc.ensures.ok;
-      shown = ap₂ (λ z (named : Named). (z, named)) (to_z_pos w64 c.args.found.0 fits) c.in_ok-to_named_doc.ensures;
-    }
+    shows_read c.args.schema.now segments c.args.found _ other _ c.requires.held.0 c.in_ok-doc.ensures.ok (ap₂ (λ z (named : Named). (z, named)) (to_z_pos w64 c.args.found.0 fits) c.in_ok-to_named_doc.ensures)
