@@ -1,5 +1,5 @@
 -- What a request to an index comes to, whatever documents its segments are of.
-use Rattle.std.proofs.Common.{Err, IfErr, IfOk, IsTrue, None, Ok, OnOk, Option, Result, Some, ap, false, inl, inr, ok_or, option_map, refl, subst, sym, true, true≢false, ◌∙◌, ◌≡◌, ◌≢◌, ◌⊎◌, List, ℕ}
+use Rattle.std.proofs.Common.{Err, IfErr, IfOk, IsTrue, None, Ok, OnOk, Option, Result, Some, ap, false, inl, inr, map, ok_or, option_map, refl, subst, sym, true, true≢false, ◌∙◌, ◌≡◌, ◌≢◌, ◌⊎◌, List, ℕ}
 use Rattle.std.specs.Bool.{⊤}
 use Rattle.std.specs.Prelude.{IsErrAnd, OnErr}
 use Rattle.std.specs.Cow.{cow_str_bytes}
@@ -17,7 +17,6 @@ use Rattle.definitions.specs.Reading.{read_data}
 use Rattle.definitions.specs.Replies.{count_reply, hits_reply, ok_reply}
 use Rattle.definitions.specs.Replying.{stops}
 use Rattle.definitions.specs.Requests as requests
-use Rattle.definitions.specs.Scanning.{Hit}
 use Rattle.definitions.specs.Schema.{Schema}
 use Rattle.definitions.specs.Settings.{Settings}
 use Rattle.definitions.specs.Step as steps
@@ -25,9 +24,9 @@ use Rattle.definitions.specs.TermGrammar.{term_in}
 use Rattle.definitions.specs.Values.{Document}
 use Rattle.definitions.specs.declared.fault.Fault.{Fault}
 use Rattle.definitions.specs.declared.fault.Fault.TheVariants as faults
-use Rattle.engine.specs.HandedOn.{IsSlotTooLong}
+use Rattle.engine.specs.HandedOn.{Hit, IsSlotTooLong}
 use Rattle.engine.specs.Indexes as engine
-use Rattle.engine.specs.Indexes.{DeletesMore, IsIdle, IsSame, IsShadow, IsStopped, KeepsFile, KeepsWaiting, WaitsMore, schema_of, settings_of, state_of}
+use Rattle.engine.specs.Indexes.{AreHitsOf, DeletesMore, IsIdle, IsSame, IsShadow, IsStopped, KeepsFile, KeepsWaiting, WaitsMore, schema_of, settings_of, state_of}
 use Rattle.engine.specs.Writes.{WritesSegments}
 use Rattle.engine.specs.declared.index.Index.{Index}
 use Rattle.index.specs.Outcomes.{AllStays, Ends, MayCloseWriter, StaysOrStops, Tells, answered, device_failed, limit_met, memory_wanted, refused, saying, saying_done, slot_damaged}
@@ -36,6 +35,7 @@ use Rattle.index.proofs.Answering.{going_on, read_deletion, read_search, read_co
 use Rattle.index.proofs.Causes.{error_in}
 use Rattle.index.proofs.Leavings.{slot_is}
 use Rattle.index_file.proofs.Faults.{device_failed as device_is_no_memory, memory_or_other}
+use Rattle.reply_texts.specs.ToldHits.{told}
 use Rattle.serde_json.specs.Data as json
 
 -- ---- faults
@@ -239,12 +239,12 @@ module _ {D A : Type 0} {d : devices.Ghosts D} {an : analyzers.Ghosts A} (analyz
 
   -- ---- a search or a count
 
-  pub search_ends : {T : Type 0} (value : json.Data) (k : ℕ) (q : Query) (found : Result T Fault) (hits : T → List Hit) → query_in c.schema value ≡ Some q → IfErr found (λ fault. fault ≢ faults.OutOfMemory → (fault ≡ faults.Damaged None) ⊎ (calls.call_fault c x (calls.search_best q k) ≡ Some fault)) → OnOk found (calls.call_fault c x (calls.search_best q k) ≡ None)
-      → AllStays old new → Ends analyze old new c x (requests.search_docs value k) (saying found (λ t. hits_reply (hits t)))
-  search_ends value k q (Ok t) hits read told admitted stays = answered (calls.search_best q k) (hits_reply (hits t)) (read_search c value k q read) admitted (hits t, refl) stays
-  search_ends value k q (Err fault) hits read told admitted stays = elim (memory_or_other fault) [
+  pub search_ends : {T : Type 0} (value : json.Data) (k : ℕ) (q : Query) (found : Result T Fault) (hits : T → List Hit) → query_in c.schema value ≡ Some q → IfOk found (λ t. AreHitsOf old k (hits t)) → IfErr found (λ fault. fault ≢ faults.OutOfMemory → (fault ≡ faults.Damaged None) ⊎ (calls.call_fault c x (calls.search_best q k) ≡ Some fault)) → OnOk found (calls.call_fault c x (calls.search_best q k) ≡ None)
+      → AllStays old new → Ends analyze old new c x (requests.search_docs value k) (saying found (λ t. hits_reply (map told (hits t))))
+  search_ends value k q (Ok t) hits read are refuses admitted stays = answered (calls.search_best q k) (hits_reply (map told (hits t))) (read_search c value k q read) admitted (hits t, are, refl) stays
+  search_ends value k q (Err fault) hits read are refusing admitted stays = elim (memory_or_other fault) [
     | inl memory ↦ subst (λ e. Ends analyze old new c x (requests.search_docs value k) (Err e)) (sym memory) (memory_wanted (stays.1, inl stays.0))
-    | inr other ↦ elim (told other) [
+    | inr other ↦ elim (refusing other) [
       | inl damaged ↦ subst (λ e. Ends analyze old new c x (requests.search_docs value k) (Err e)) (sym damaged) (slot_damaged refl stays)
       | inr refuses ↦ read_ends (requests.search_docs value k) (calls.search_best q k) fault (read_search c value k q read) stays refuses
     ]

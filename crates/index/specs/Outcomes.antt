@@ -1,5 +1,5 @@
 -- What a line comes to whatever documents the segments of an index are of: a slot may be damaged, or postings match none.
-use Rattle.std.specs.Prelude.{[], ⊤, ◌||◌, ◌≡◌, ◌≢◌, ◌⊎◌, Bool, Err, IfErr, IfOk, IsTrue, List, None, Ok, OnOk, Option, Result, Some, false, true, ℕ}
+use Rattle.std.specs.Prelude.{[], ⊤, ◌||◌, ◌≡◌, ◌≢◌, ◌⊎◌, Bool, Err, IfErr, IfOk, IsTrue, List, None, Ok, OnOk, Option, Result, Some, false, map, true, ℕ}
 use Rattle.std.specs.Cow.{cow_str_bytes}
 use Rattle.std.specs.declared.borrow.CowStr.{CowStr}
 use Rattle.common.specs.declared.analyzer.Analyzer as analyzers
@@ -12,7 +12,6 @@ use Rattle.definitions.specs.Reading.{read_data}
 use Rattle.definitions.specs.Replies.{count_reply, hits_reply, ok_reply, reply_of}
 use Rattle.definitions.specs.Replying.{stops}
 use Rattle.definitions.specs.Requests as requests
-use Rattle.definitions.specs.Scanning.{Hit}
 use Rattle.definitions.specs.Schema.{Schema}
 use Rattle.definitions.specs.SchemaGrammar.{schema_in}
 use Rattle.definitions.specs.Settings.{Settings}
@@ -21,7 +20,8 @@ use Rattle.definitions.specs.Values.{Document}
 use Rattle.definitions.specs.declared.fault.Fault.{Fault}
 use Rattle.definitions.specs.declared.fault.Fault.TheVariants as faults
 use Rattle.engine.specs.Files.{IsCreateRefusal, IsOpenFault, IsOpenRefusal}
-use Rattle.engine.specs.Indexes.{DeletesMore, IndexStands, IsIdle, IsOpened, IsSame, IsShadow, IsStopped, KeepsFile, KeepsMaking, KeepsWaiting, WaitsMore, analyzer_after, analyzer_of, schema_of, settings_of, state_of}
+use Rattle.engine.specs.HandedOn.{Hit}
+use Rattle.engine.specs.Indexes.{AreHitsOf, DeletesMore, IndexStands, IsIdle, IsOpened, IsSame, IsShadow, IsStopped, KeepsFile, KeepsMaking, KeepsWaiting, WaitsMore, analyzer_after, analyzer_of, schema_of, settings_of, state_of}
 use Rattle.engine.specs.Writes.{WritesSegments}
 use Rattle.engine.specs.declared.index.Index.{Index}
 use Rattle.engine.specs.declared.refused.Refused.{Refused}
@@ -30,6 +30,7 @@ use Rattle.index.specs.Sessions.{analysis_of, analyzer_on, device_on, left_by}
 use Rattle.index.specs.declared.session.Session.{Session}
 use Rattle.index.specs.declared.stage.Stage.{Stage}
 use Rattle.index.specs.declared.stage.Stage.TheVariants.{Spare, Standing}
+use Rattle.reply_texts.specs.ToldHits.{told}
 use Rattle.serde_json.specs.Data as json
 
 -- ---- what is told
@@ -50,13 +51,14 @@ saying (Err fault) said = Err fault
 abbrev pub saying_done : Result ⊤ Fault → Result json.Data Fault
 saying_done change = saying change (λ done. ok_reply)
 
--- what is said of a call that was made: hits, a number, or that it was done
-abbrev pub IsAnswer : calls.Call → json.Data → Type 0
-IsAnswer (calls.search_best q k) said = (hits : List Hit) × (said ≡ hits_reply hits)
-IsAnswer (calls.count_all q) said = (count : ℕ) × (said ≡ count_reply count)
-IsAnswer call said = said ≡ ok_reply
-
 -- ---- a request to the index that stands
+
+-- what is said of a call that an index made: hits that it may answer, a number, or that it was done
+module _ {D A : Type 0} {d : devices.Ghosts D} {an : analyzers.Ghosts A} (index : Index D A d an) where
+  abbrev pub IsAnswer : calls.Call → json.Data → Type 0
+  IsAnswer (calls.search_best q k) said = (hits : List Hit) × AreHitsOf index k hits × (said ≡ hits_reply (map told hits))
+  IsAnswer (calls.count_all q) said = (count : ℕ) × (said ≡ count_reply count)
+  IsAnswer call said = said ≡ ok_reply
 
 -- whether a request may meet a limit
 abbrev pub may_meet_limit : requests.Request → Bool
@@ -107,7 +109,7 @@ module _ {D A : Type 0} {d : devices.Ghosts D} {an : analyzers.Ghosts A} (analyz
         (fault : Fault) → steps.index_step c x r ≡ steps.refusing fault x → AllStays old new → Ends c x r (Err fault)
     answered :
         (call : calls.Call) (said : json.Data) → steps.call_in c.schema r ≡ Ok call → calls.call_fault c x call ≡ None
-        → IsAnswer call said → Makes call → Ends c x r (Ok said)
+        → IsAnswer old call said → Makes call → Ends c x r (Ok said)
     -- a damaged slot is told, and all goes on
     slot_damaged : reads_slots r ≡ true → AllStays old new → Ends c x r (Err (faults.Damaged None))
     memory_wanted : StaysOrStops old new r → Ends c x r (Err faults.OutOfMemory)

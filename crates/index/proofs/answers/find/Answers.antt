@@ -111,7 +111,7 @@ returns-clause-ends g c k x shadow =
     let d = view c.args.query.now in
     let q = query_of c.in_ok-query.query in
     let read = subst (λ m. query_in m.schema d ≡ Some q) (sym shadow.made) (subst (λ fields. query_in fields d ≡ Some q) c.schema.ensures c.in_ok-query.ensures.ok) in
-    search_ends g.A.Analyzer.analyze c.args.index.now c.search.new.self k x d c.args.k (query_of c.in_ok-query.query) c.search.result (λ hits. map told hits.items) read (c.search.ensures.refused k x shadow) (c.search.ensures.admitted k x shadow) (c.search.ensures.same, c.search.ensures.file)
+    search_ends g.A.Analyzer.analyze c.args.index.now c.search.new.self k x d c.args.k (query_of c.in_ok-query.query) c.search.result (λ hits. hits.items) read c.search.ensures.answered (c.search.ensures.refused k x shadow) (c.search.ensures.admitted k x shadow) (c.search.ensures.same, c.search.ensures.file)
 
 pub returns-in_err-check_open-clause-ends : goal.returns-in_err-check_open-clause-ends
 returns-in_err-check_open-clause-ends g c k x shadow =
