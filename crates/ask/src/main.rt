@@ -35,6 +35,7 @@ TEXT      what it finds
  (sea OR wind) old       groups                  harbour^2         a word that counts twice
  \"old sea\"       words beside each other         \"old sea\"~2       up to 2 places apart
  \"old sea*\"      the last word begun alone       title:sea         in one field; else in all text fields
+ year:1952       a value, by the field's type    about.ship:sea    at a path in a field of objects
 
 A rare word weighs more than a common one; with --flat each weighs the same. Without --json a text is shown by the
 passage that has most of the words, each between brackets. The status is 0; 1 where nothing matches, or FILE can't be

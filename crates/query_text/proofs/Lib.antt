@@ -1,5 +1,6 @@
 pub mod ClauseLists
 pub mod Fields
+pub mod JsonTerms
 pub mod NamedFields
 pub mod ReadValues
 pub mod BestQueries

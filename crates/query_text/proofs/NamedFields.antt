@@ -6,7 +6,7 @@ use Rattle.definitions.specs.Analyzers.{Analyzer}
 use Rattle.definitions.specs.Query.{Query}
 use Rattle.definitions.specs.Schema.{Entry, Kind, Schema, field_named, is_text}
 use Rattle.definitions.specs.declared.fault.Fault.{Fault}
-use Rattle.query_text.specs.Answers.{field_query, named_query, text_query, value_query}
+use Rattle.query_text.specs.Answers.{field_query, named_query, path_query, text_query, value_query}
 use Rattle.query_text.specs.Reading.{Phrase}
 use Rattle.query_text.specs.declared.refusal.Reason.{Reason}
 use Rattle.query_text.specs.declared.refusal.Reason.TheVariants as reasons
@@ -39,7 +39,7 @@ answered None fault = refl
 pub of_value : (schema : Schema) (analyze : Analyzer) (name : List ℕ) (phrase : Phrase) (field : ℕ) (e : Entry) (kind : Kind) (fault : Fault) → Ok field ≡ ok_or (field_named schema name) fault → slice_get schema field ≡ Some e → is_text e.kind ≡ false → kind ≡ e.kind → named_query schema analyze name phrase ≡ value_query field kind phrase.text phrase.is_prefix
 of_value schema analyze name phrase field e kind fault found entry plain same =
     let is : field_named schema name ≡ Some field = sym (answered (field_named schema name) fault) ∙ sym (ap (λ (r : Result ℕ Fault). result_ok r) found) in
-    ap (λ (o : Option ℕ). elim o [ None ↦ Err reasons.UnknownField | Some i ↦ option_map_or (λ (d : Entry). field_query analyze i d phrase) (slice_get schema i) (Err reasons.UnknownField) ]) is
+    ap (λ (o : Option ℕ). elim o [ None ↦ path_query schema analyze name phrase | Some i ↦ option_map_or (λ (d : Entry). field_query analyze i d phrase) (slice_get schema i) (Err reasons.UnknownField) ]) is
     ∙ ap (λ (o : Option Entry). option_map_or (λ (d : Entry). field_query analyze field d phrase) o (Err reasons.UnknownField)) entry
     ∙ ap (λ (b : Bool). if b then text_query analyze field e phrase else value_query field e.kind phrase.text phrase.is_prefix) plain
     ∙ ap (λ (k : Kind). value_query field k phrase.text phrase.is_prefix) (sym same)

@@ -1,11 +1,12 @@
 -- What words and phrases mean in an index, by its schema and its analyzer.
-use Rattle.std.specs.Prelude.{[], ◌&&◌, ◌++◌, ◌∷◌, Bool, Err, List, None, Ok, Option, Result, Some, if◌then◌else◌, map, nat_lt, ok_or, option_and_then, option_map, pos, slice_get, ℕ}
-use Rattle.std.specs.List.{enumerate_from}
-use Rattle.std.specs.Option.{option_map_or}
+use Rattle.std.specs.Prelude.{[], ◌&&◌, ◌++◌, ◌==◌, ◌∷◌, Bool, Err, List, None, Ok, Option, Result, Some, false, if◌then◌else◌, length, map, nat_lt, ok_or, option_and_then, option_map, pos, slice_get, true, ℕ}
+use Rattle.std.specs.List.{after_first, before_first, enumerate_from, position_or_len}
+use Rattle.std.specs.Option.{option_map_or, option_or}
 use Rattle.std.specs.Result.{result_ok}
 use Rattle.std.specs.Str.{is_utf8}
 use Rattle.base64.specs.GeneralPurpose.{decoded_of}
 use Rattle.base64.specs.Engines.{standard}
+use Rattle.definitions.specs.Addresses.{address_in}
 use Rattle.definitions.specs.Analyzers.{Analyzer}
 use Rattle.definitions.specs.Facets.{facet_of_path}
 use Rattle.definitions.specs.Phrases.{by_offset}
@@ -13,14 +14,15 @@ use Rattle.definitions.specs.Query as queries
 use Rattle.definitions.specs.Query.{Queries, Query, Terms}
 use Rattle.definitions.specs.Reading.{bool_text, date_value, i64_text, u64_text}
 use Rattle.definitions.specs.Refusing.{all_expansions}
-use Rattle.definitions.specs.Schema.{Entry, Kind, Schema, bool_kind, bytes_kind, date_kind, facet_kind, field_named, i64_kind, is_indexed, is_text, text_kind, u64_kind, with_freqs}
-use Rattle.definitions.specs.Terms.{term_bytes, value_bytes}
-use Rattle.definitions.specs.Values.{Token, Value, bytes, facet}
+use Rattle.definitions.specs.Schema.{Entry, Kind, Schema, bool_kind, bytes_kind, date_kind, facet_kind, field_named, i64_kind, ip_addr_kind, is_indexed, is_text, json_kind, text_kind, u64_kind, with_freqs}
+use Rattle.definitions.specs.Terms.{json_term, leaf_bytes, path_of_keys, term_bytes, type_code, value_bytes}
+use Rattle.definitions.specs.Values.{Token, Value, bytes, facet, ip_addr}
 use Rattle.query_text.specs.Reading.{Phrase, Vocabulary}
 use Rattle.query_text.specs.Refusals.{refused_if, ◌>>=◌}
 use Rattle.query_text.specs.declared.refusal.Reason.{Reason}
 use Rattle.query_text.specs.declared.refusal.Reason.TheVariants as reasons
 use Rattle.query_trees.specs.PhraseTerms.{are_phrase_terms}
+use Rattle.terms.specs.JsonPaths.{keys_in}
 
 -- bytes that are a text
 abbrev pub text_in : List ℕ → Result (List ℕ) Reason
@@ -63,44 +65,33 @@ value_in bool_kind s = bool_text s
 value_in date_kind s = result_ok (date_value s)
 value_in facet_kind s = option_map facet (facet_of_path s)
 value_in bytes_kind s = option_map bytes (decoded_of standard s)
+value_in ip_addr_kind s = option_map ip_addr (address_in s)
 value_in _ s = None
 
 -- the term of that value
 abbrev pub value_term : ℕ → Kind → List ℕ → Option (List ℕ)
 value_term field kind s = option_map (term_bytes field kind) (option_and_then (value_bytes kind) (value_in kind s))
 
+-- why a text is no value in a field of a kind: in one of JSON objects a path is wanting
+abbrev pub no_value : Kind → Reason
+no_value json_kind = reasons.NoPath
+no_value _ = reasons.BadValue
+
 -- the documents with a value; it isn't cut into words
 abbrev pub value_query : ℕ → Kind → List ℕ → Bool → Result Query Reason
-value_query field kind s is_prefix = refused_if is_prefix reasons.BadValue (ok_or (option_map (λ t. queries.term t with_freqs) (value_term field kind s)) reasons.BadValue)
+value_query field kind s is_prefix = refused_if is_prefix (no_value kind) (ok_or (option_map (λ t. queries.term t with_freqs) (value_term field kind s)) (no_value kind))
 
--- ---- in any field
+-- ---- the best of several queries
 
--- what a phrase means in one field
-abbrev pub field_query : Analyzer → ℕ → Entry → Phrase → Result Query Reason
-field_query analyze field e phrase = if is_text e.kind then text_query analyze field e phrase else value_query field e.kind phrase.text phrase.is_prefix
-
--- what it means in the field that it names
-abbrev pub named_query : Schema → Analyzer → List ℕ → Phrase → Result Query Reason
-named_query schema analyze name phrase = elim (field_named schema name) [ None ↦ Err reasons.UnknownField | Some field ↦ option_map_or (λ e. field_query analyze field e phrase) (slice_get schema field) (Err reasons.UnknownField) ]
-
--- the queries of the fields so far, and why a field so far has none
+-- the queries that were found so far, and why one of them is none
 pub record Found : Type 0 where
   pub queries : List Query
   pub reason : Reason
 
--- with what a phrase means in one more field
+-- with what a phrase means once more
 abbrev pub found_more : Found → Result Query Reason → Found
 found_more f (Ok q) = record f { queries = f.queries ++ q ∷ [] }
 found_more f (Err reason) = record f { reason = reason }
-
--- the text fields that are searched where none is named
-abbrev pub is_searched : Entry → Bool
-is_searched e = is_text e.kind && is_indexed e
-
--- with what a phrase means in each text field of some
-abbrev pub found_in : Analyzer → Phrase → Found → List (ℕ × Entry) → Found
-found_in analyze phrase f [] = f
-found_in analyze phrase f (p ∷ ps) = found_in analyze phrase (if is_searched p.1 then found_more f (text_query analyze p.0 p.1 phrase) else f) ps
 
 -- queries in order
 abbrev pub in_order : List Query → Queries
@@ -117,9 +108,97 @@ best_from reason qs = Ok (queries.disjunction_max (in_order qs) (pos 0))
 abbrev pub best_of : Found → Result Query Reason
 best_of f = best_from f.reason f.queries
 
+-- nothing so far
+abbrev pub nothing_found : Reason → Found
+nothing_found reason = record { queries = []; reason = reason }
+
+-- ---- in JSON objects
+
+-- where values stand in the JSON objects of a field: at the keys of a path
+pub record JsonPlace : Type 0 where
+  pub field : ℕ
+  pub path : List ℕ
+  pub expand_dots : Bool
+
+-- the term of a leaf there
+abbrev pub leaf_term : JsonPlace → List ℕ → List ℕ
+leaf_term place leaf = json_term place.field (path_of_keys place.expand_dots (keys_in place.path)) leaf
+
+-- a bool, else a date
+abbrev pub bool_in : List ℕ → Option Value
+bool_in s = option_or (bool_text s) (result_ok (date_value s))
+
+-- a whole number, else a bool or a date
+abbrev pub signed_in : List ℕ → Option Value
+signed_in s = option_or (i64_text s) (bool_in s)
+
+-- the value that a text is: a whole number, a bool or a date
+abbrev pub leaf_in : List ℕ → Option Value
+leaf_in s = option_or (u64_text s) (signed_in s)
+
+-- the term of a value, if there is one
+abbrev pub json_value_term : JsonPlace → Option Value → Option (List ℕ)
+json_value_term place leaf = option_map (leaf_term place) (option_and_then leaf_bytes leaf)
+
+-- the documents with that value
+abbrev pub json_value_query : JsonPlace → List ℕ → Bool → Result Query Reason
+json_value_query place s is_prefix = refused_if is_prefix reasons.BadValue (ok_or (option_map (λ t. queries.term t with_freqs) (json_value_term place (leaf_in s))) reasons.BadValue)
+
+-- the terms of tokens, each at its position
+abbrev pub json_terms_at : JsonPlace → List Token → Terms
+json_terms_at place ts = map (λ t. (t.position, leaf_term place (type_code text_kind ++ t.text))) ts
+
+-- the words of a text, as the analyzer cuts them by the tokenizer of that name
+abbrev pub json_text_query : Analyzer → List ℕ → JsonPlace → Phrase → Result Query Reason
+json_text_query analyze tokenizer place phrase = words_query phrase (json_terms_at place (analyze tokenizer phrase.text))
+
+-- the best of a value and words: a text may be both
+abbrev pub json_query : Analyzer → List ℕ → JsonPlace → Phrase → Result Query Reason
+json_query analyze tokenizer place phrase = best_of (found_more (found_more (nothing_found reasons.NoWord) (json_value_query place phrase.text phrase.is_prefix)) (json_text_query analyze tokenizer place phrase))
+
+-- whether a kind is that of JSON objects
+abbrev pub is_json : Kind → Bool
+is_json json_kind = true
+is_json _ = false
+
+-- what a phrase means at a path in a field, which has to be one of JSON objects
+abbrev pub at_path : Analyzer → ℕ → Entry → List ℕ → Phrase → Result Query Reason
+at_path analyze field e path phrase = if is_json e.kind then json_query analyze e.tokenizer (record { field = field; path = path; expand_dots = e.expand_dots }) phrase else Err reasons.UnknownField
+
+-- the name of a field and a path, which the first dot parts
+abbrev pub name_parts : List ℕ → Option (List ℕ × List ℕ)
+name_parts name = if nat_lt (position_or_len (λ b. b == 46) name) (length name) then Some (before_first (λ b. b == 46) name, after_first (λ b. b == 46) name) else None
+
+-- what a phrase means in the field whose name stands before the first dot
+abbrev pub fielded_query : Schema → Analyzer → List ℕ × List ℕ → Phrase → Result Query Reason
+fielded_query schema analyze parts phrase = elim (field_named schema parts.0) [ None ↦ Err reasons.UnknownField | Some field ↦ option_map_or (λ e. at_path analyze field e parts.1 phrase) (slice_get schema field) (Err reasons.UnknownField) ]
+
+-- what a phrase means at the path that it names
+abbrev pub path_query : Schema → Analyzer → List ℕ → Phrase → Result Query Reason
+path_query schema analyze name phrase = elim (name_parts name) [ None ↦ Err reasons.UnknownField | Some parts ↦ fielded_query schema analyze parts phrase ]
+
+-- ---- in any field
+
+-- what a phrase means in one field
+abbrev pub field_query : Analyzer → ℕ → Entry → Phrase → Result Query Reason
+field_query analyze field e phrase = if is_text e.kind then text_query analyze field e phrase else value_query field e.kind phrase.text phrase.is_prefix
+
+-- what it means in the field that it names
+abbrev pub named_query : Schema → Analyzer → List ℕ → Phrase → Result Query Reason
+named_query schema analyze name phrase = elim (field_named schema name) [ None ↦ path_query schema analyze name phrase | Some field ↦ option_map_or (λ e. field_query analyze field e phrase) (slice_get schema field) (Err reasons.UnknownField) ]
+
+-- the text fields that are searched where none is named
+abbrev pub is_searched : Entry → Bool
+is_searched e = is_text e.kind && is_indexed e
+
+-- with what a phrase means in each text field of some
+abbrev pub found_in : Analyzer → Phrase → Found → List (ℕ × Entry) → Found
+found_in analyze phrase f [] = f
+found_in analyze phrase f (p ∷ ps) = found_in analyze phrase (if is_searched p.1 then found_more f (text_query analyze p.0 p.1 phrase) else f) ps
+
 -- what a phrase means that names no field: the best of all text fields
 abbrev pub any_query : Schema → Analyzer → Phrase → Result Query Reason
-any_query schema analyze phrase = best_of (found_in analyze phrase (record { queries = []; reason = reasons.NoTextField }) (enumerate_from 0 schema))
+any_query schema analyze phrase = best_of (found_in analyze phrase (nothing_found reasons.NoTextField) (enumerate_from 0 schema))
 
 -- the vocabulary of an index
 abbrev pub vocabulary : Schema → Analyzer → Vocabulary

@@ -8,5 +8,6 @@ pub mod Cutting
 pub mod Clauses
 pub mod Groups
 pub mod Findings
+pub mod JsonPlaces
 -- The data of worked examples.
 pub mod GrammarExamples

@@ -1,5 +1,5 @@
 -- How a text is cut into pieces: words, phrases and parentheses, each with what stands right beside it.
-use Rattle.std.specs.Prelude.{[], ◌+◌, ◌++◌, ◌==◌, ◌∷◌, List, false, if◌then◌else◌, nat_le, true, ℕ}
+use Rattle.std.specs.Prelude.{[], ◌+◌, ◌++◌, ◌==◌, ◌∷◌, List, if◌then◌else◌, nat_le, ℕ}
 use Rattle.query_text.specs.declared.pieces.Class.{Class}
 use Rattle.query_text.specs.declared.pieces.Class.TheVariants as classes
 use Rattle.query_text.specs.declared.pieces.Form.{Form}

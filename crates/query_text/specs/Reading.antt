@@ -1,11 +1,11 @@
 -- How pieces make a query: clauses stand side by side, `OR` stands between alternatives, and parentheses make one clause of
 -- them. A reading goes from piece to piece, and keeps the groups that are open.
-use Rattle.std.specs.Prelude.{[], ◌&&◌, ◌++◌, ◌==◌, ◌∷◌, Bool, Err, List, None, Ok, Option, Result, Some, bytes_eq, codes, false, if◌then◌else◌, is_some, length, map, nat_eq, nat_le, not, pos, true, ℕ}
+use Rattle.std.specs.Prelude.{[], ◌&&◌, ◌++◌, ◌==◌, ◌||◌, ◌∷◌, Bool, Err, List, None, Ok, Option, Result, Some, bytes_eq, codes, false, if◌then◌else◌, is_some, length, map, nat_eq, nat_le, not, pos, ℕ}
 use Rattle.std.specs.List.{list_any, starts_with}
 use Rattle.definitions.specs.Query.{Clauses, Occur, Query, all, boolean, boost, clause, default_minimum, must, must_not, no_clauses, should}
 use Rattle.query_text.specs.Heads.{Head, cut_boost, head_of, slop_in, starred}
 use Rattle.query_text.specs.Pieces.{Piece, pieces_of}
-use Rattle.query_text.specs.Refusals.{at_place, refusal_at, refused_if, ◌>>=◌}
+use Rattle.query_text.specs.Refusals.{at_place, refused_if, ◌>>=◌}
 use Rattle.query_text.specs.declared.pieces.Form.TheVariants as forms
 use Rattle.query_text.specs.declared.refusal.Reason.{Reason}
 use Rattle.query_text.specs.declared.refusal.Reason.TheVariants as reasons
@@ -37,9 +37,18 @@ phrase_clause words mark factor phrase = words phrase >>= (λ q. Ok (mark, boost
 abbrev pub word_of : Head → Phrase
 word_of head = record { field = head.field; text = head.rest; slop = 0; is_prefix = false }
 
+-- whether ranges of values begin so: by `[`, `{`, `<` or `>`
+abbrev pub begins_range : List ℕ → Bool
+begins_range [] = false
+begins_range (b ∷ bs) = b == 91 || (b == 123 || (b == 60 || b == 62))
+
+-- whether a range stands behind a field's name; there is no query for one
+abbrev pub is_range : Head → Bool
+is_range head = is_some head.field && begins_range head.rest
+
 -- the clause of a word
 abbrev pub word_clause : Vocabulary → List ℕ → Result (Occur × Query) Reason
-word_clause words run = cut_boost run >>= (λ cut. let head = head_of cut.0 in refused_if (bytes_eq head.rest []) reasons.NothingMarked (refused_if (list_any (λ b. b == 42) head.rest) reasons.LonePrefix (phrase_clause words head.mark cut.1 (word_of head))))
+word_clause words run = cut_boost run >>= (λ cut. let head = head_of cut.0 in refused_if (bytes_eq head.rest []) reasons.NothingMarked (refused_if (is_range head) reasons.Range (refused_if (list_any (λ b. b == 42) head.rest) reasons.LonePrefix (phrase_clause words head.mark cut.1 (word_of head)))))
 
 -- the phrase between quotation marks
 abbrev pub quoted_phrase : Option (List ℕ) → List ℕ → ℕ → Phrase

@@ -1,13 +1,13 @@
 //! Clauses: words and phrases with what stands beside them.
 
 ghost use Rattle.std.specs.Prelude.{◌≡◌, IfOk};
-ghost use Rattle.query_text.specs.Clauses.{clause_of, phrase_of};
+ghost use Rattle.query_text.specs.Clauses.{clause_of, head_view, phrase_of};
 ghost use Rattle.query_text.specs.Cutting.{piece_of};
 ghost use Rattle.query_text.specs.Reading as definitions;
 ghost use Rattle.query_text.specs.Refusals.{Gives};
 ghost use Rattle.query_trees.specs.Queries.{occur_of, query_of};
 
-use crate::heads::{cut_boost, head_of, slop_in, starred};
+use crate::heads::{Head, cut_boost, head_of, slop_in, starred};
 use crate::phrase::{Phrase, Vocabulary};
 use crate::pieces::Piece;
 use crate::refusal::Reason;
@@ -27,6 +27,9 @@ pub(crate) fn word_clause<V: Vocabulary>(
     if head.rest.is_empty() {
         return Err(Reason::NothingMarked);
     }
+    if is_range(&head) {
+        return Err(Reason::Range);
+    }
     if head.rest.contains(&b'*') {
         return Err(Reason::LonePrefix);
     }
@@ -37,6 +40,23 @@ pub(crate) fn word_clause<V: Vocabulary>(
         is_prefix: false,
     };
     phrase_clause(alloc, words, head.occur, boost, word)
+}
+
+/// Whether a range of values, or the beginning of one, stands behind the name of a field.
+fn is_range(head: &Head<'_>) -> bool
+    ensures { result ≡ definitions.is_range (head_view head.now) }
+{
+    head.field.is_some() && begins_range(head.rest)
+}
+
+/// Whether `text` begins as ranges of values do.
+fn begins_range(text: &[u8]) -> bool
+    ensures { result ≡ definitions.begins_range text.now }
+{
+    match text.first() {
+        Some(byte) => matches!(*byte, b'[' | b'{' | b'<' | b'>'),
+        None => false,
+    }
 }
 
 /// Reads the clause of a phrase.

@@ -5,6 +5,7 @@ mod alternative;
 mod clauses;
 pub mod grammar_examples;
 mod heads;
+mod json_terms;
 mod phrase;
 mod pieces;
 mod reading;

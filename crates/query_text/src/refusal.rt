@@ -40,8 +40,12 @@ pub enum Reason {
     NoTextField,
     /// The text has no word that is found by itself.
     NoWord,
-    /// The text is no value of the field's type; fields of JSON objects and of IP addresses have none.
+    /// The text is no value of the field's type.
     BadValue,
+    /// A field of JSON objects is named without a path of keys.
+    NoPath,
+    /// A range of values stands behind a field's name.
+    Range,
 }
 
 /// Why a text isn't read as a query, and the index of the byte where that is seen.

@@ -48,7 +48,7 @@ fn terms_at(alloc: Global, field: Field, tokens: &[Token]) -> Result<Vec<(usize,
 }
 
 /// Makes the query for `terms`, the words of `phrase`: two or more are a phrase.
-fn words_query(phrase: Phrase<'_>, terms: Vec<(usize, Term)>) -> Result<AnyQuery, Reason>
+pub(crate) fn words_query(phrase: Phrase<'_>, terms: Vec<(usize, Term)>) -> Result<AnyQuery, Reason>
     ensures { Gives query_of result (definitions.words_query (phrase_of phrase.entry) terms.items) }
 {
     if are_phrase_terms(2, &terms) {

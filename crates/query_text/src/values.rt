@@ -1,15 +1,17 @@
 //! Terms of values that texts are.
 
-ghost use Rattle.std.specs.Prelude.{◌≡◌, IfOk};
-ghost use Rattle.definitions.specs.Schema.{bool_kind, bytes_kind, date_kind, facet_kind, i64_kind, u64_kind};
+ghost use Rattle.std.specs.Int.{to_be_bytes, w128};
+ghost use Rattle.std.specs.Prelude.{◌≡◌, IfOk, Some};
+ghost use Rattle.definitions.specs.Schema.{bool_kind, bytes_kind, date_kind, facet_kind, i64_kind, ip_addr_kind, u64_kind};
+ghost use Rattle.definitions.specs.Terms.{term_bytes};
 ghost use Rattle.query_text.specs.Answers.{value_term};
 ghost use Rattle.terms.specs.Kinds.{kind_of};
 
 use definitions::Fault;
 use std::alloc::{AllocError, Global};
-use terms::{Field, Term, Type};
+use terms::{Field, Term, Type, push_term_header};
 use values_json::{
-    read_bool_text, read_bytes, read_date, read_facet, read_i64_text, read_u64_text,
+    read_address, read_bool_text, read_bytes, read_date, read_facet, read_i64_text, read_u64_text,
 };
 
 /// Makes the term of the value that `text` is in a field of the type `kind`; `None` if it is none.
@@ -28,7 +30,8 @@ pub(crate) fn value_term(
         Type::Date => date_term(alloc, field, text),
         Type::Facet => facet_term(alloc, field, text),
         Type::Bytes => bytes_term(alloc, field, text),
-        Type::Str | Type::Json | Type::IpAddr => Ok(None),
+        Type::IpAddr => address_term(alloc, field, text),
+        Type::Str | Type::Json => Ok(None),
     }
 }
 
@@ -92,4 +95,24 @@ fn bytes_term(alloc: Global, field: Field, text: &str) -> Result<Option<Term>, A
         Err(Fault::OutOfMemory) => Err(AllocError),
         Err(_) => Ok(None),
     }
+}
+
+/// Makes the term of an IPv4 or IPv6 address.
+fn address_term(alloc: Global, field: Field, text: &str) -> Result<Option<Term>, AllocError>
+    ensures { IfOk result (λ found. found ≡ value_term field ip_addr_kind text.now) }
+{
+    match read_address(text) {
+        Some(address) => term_of_bits(alloc, field, address),
+        None => Ok(None),
+    }
+}
+
+/// Makes the term of the address with these bits.
+fn term_of_bits(alloc: Global, field: Field, address: u128) -> Result<Option<Term>, AllocError>
+    ensures { IfOk result (λ found. found ≡ Some (term_bytes field ip_addr_kind (to_be_bytes w128 address))) }
+{
+    let mut bytes = Vec::new(alloc);
+    push_term_header(&mut bytes, field, Type::IpAddr)?;
+    bytes.extend_from_slice(&address.to_be_bytes())?;
+    Ok(Term::wrap(bytes).ok())
 }

@@ -1,16 +1,18 @@
 //! What words and phrases mean in an index, by its schema and its analyzer.
 
-ghost use Rattle.std.specs.Prelude.{◌≡◌, IfErr, IfOk, Result};
+ghost use Rattle.std.specs.Prelude.{◌≡◌, IfErr, IfOk, Result, option_map};
 ghost use Rattle.definitions.specs.Query.{Query};
 ghost use Rattle.query_text.specs.Answers as definitions;
 ghost use Rattle.query_text.specs.Clauses.{phrase_of};
 ghost use Rattle.query_text.specs.Findings.{found_of};
+ghost use Rattle.query_text.specs.JsonPlaces.{place_of};
 ghost use Rattle.query_text.specs.Refusals.{Gives};
 ghost use Rattle.query_text.specs.declared.refusal.Reason.{Reason};
 ghost use Rattle.query_text.specs.declared.refusal.Reason.TheVariants as reasons;
 ghost use Rattle.query_trees.specs.Queries.{query_of};
 ghost use Rattle.terms.specs.Kinds.{kind_of};
 
+use crate::json_terms::{JsonPlace, json_text_query, json_value_term};
 use crate::phrase::{Phrase, Vocabulary};
 use crate::refusal::Reason;
 use crate::text_terms::text_query;
@@ -39,7 +41,7 @@ impl<'a, A: Analyzer> Vocabulary for SchemaVocabulary<'a, A> {
     }
 }
 
-/// The queries of the fields so far, and why one of them has none.
+/// The queries that were found so far, and why one of them is none.
 #[derive(Drop)]
 struct Found {
     queries: Vec<AnyQuery>,
@@ -91,13 +93,131 @@ fn named_query<A: Analyzer>(
         (definitions.named_query schema.now (A.analyze analyzer.now) name.now (phrase_of phrase.entry)) }
 {
     let Ok(field) = schema.get_field(name) else {
-        return Err(Reason::UnknownField);
+        return path_query(alloc, schema, analyzer, name, text, phrase);
     };
     let entry = schema.get_field_entry(field);
     if entry.field_type().is_str() {
         return text_query(alloc, analyzer, field, entry, text, phrase);
     }
     value_query(alloc, field, entry.value_type(), text, phrase.is_prefix)
+}
+
+/// Makes the query of `phrase`, whose text is `text`, in the field and at the path of `name`, which a dot parts.
+fn path_query<A: Analyzer>(
+    alloc: Global,
+    schema: &Schema,
+    analyzer: &A,
+    name: &str,
+    text: &str,
+    phrase: Phrase<'_>,
+) -> Result<AnyQuery, Reason>
+    requires { text.now ≡ phrase.text.now }
+    ensures { Gives query_of result
+        (definitions.path_query schema.now (A.analyze analyzer.now) name.now (phrase_of phrase.entry)) }
+{
+    let Some((name, path)) = name_parts(name) else {
+        return Err(Reason::UnknownField);
+    };
+    let Ok(field) = schema.get_field(name) else {
+        return Err(Reason::UnknownField);
+    };
+    at_path(
+        alloc,
+        analyzer,
+        field,
+        schema.get_field_entry(field),
+        path,
+        text,
+        phrase,
+    )
+}
+
+/// Splits `name` at its first dot.
+fn name_parts(name: &str) -> Option<(&str, &str)>
+    ensures { option_map (λ p. (p.0.now, p.1.now)) result ≡ definitions.name_parts name.now }
+{
+    name.split_once('.')
+}
+
+/// Makes the query of `phrase`, whose text is `text`, at a path in `field`, which has to be one of JSON objects.
+fn at_path<A: Analyzer>(
+    alloc: Global,
+    analyzer: &A,
+    field: Field,
+    entry: &FieldEntry,
+    path: &str,
+    text: &str,
+    phrase: Phrase<'_>,
+) -> Result<AnyQuery, Reason>
+    requires { text.now ≡ phrase.text.now }
+    ensures { Gives query_of result
+        (definitions.at_path (A.analyze analyzer.now) field entry.now path.now (phrase_of phrase.entry)) }
+{
+    if !is_json(entry.value_type()) {
+        return Err(Reason::UnknownField);
+    }
+    let place = JsonPlace {
+        field,
+        path,
+        expand_dots: entry.is_expand_dots_enabled(),
+    };
+    json_query(alloc, analyzer, entry.tokenizer(), &place, text, phrase)
+}
+
+/// Whether `kind` is the type of JSON objects.
+fn is_json(kind: Type) -> bool
+    ensures { result ≡ definitions.is_json (kind_of kind) }
+{
+    matches!(kind, Type::Json)
+}
+
+/// Makes the query for documents with the value or the words that `text`, the text of `phrase`, is at `place`.
+fn json_query<A: Analyzer>(
+    alloc: Global,
+    analyzer: &A,
+    tokenizer: &str,
+    place: &JsonPlace<'_>,
+    text: &str,
+    phrase: Phrase<'_>,
+) -> Result<AnyQuery, Reason>
+    requires { text.now ≡ phrase.text.now }
+    ensures { Gives query_of result (definitions.json_query (A.analyze analyzer.now) tokenizer.now
+        (place_of place.now) (phrase_of phrase.entry)) }
+{
+    let nothing = nothing_found(alloc, Reason::NoWord);
+    let value = json_value_query(alloc, place, text, phrase.is_prefix);
+    let found = found_more(nothing, value)?;
+    let words = json_text_query(alloc, analyzer, tokenizer, place, text, phrase);
+    let all = found_more(found, words)?;
+    best_of(all)
+}
+
+/// Makes what was found before the first answer.
+fn nothing_found(alloc: Global, reason: Reason) -> Found
+    ensures { found_of result ≡ definitions.nothing_found reason }
+{
+    Found {
+        queries: Vec::new(alloc),
+        reason,
+    }
+}
+
+/// Makes the query for documents with the value that `text` is at `place`.
+fn json_value_query(
+    alloc: Global,
+    place: &JsonPlace<'_>,
+    text: &str,
+    is_prefix: bool,
+) -> Result<AnyQuery, Reason>
+    ensures { Gives query_of result (definitions.json_value_query (place_of place.now) text.now is_prefix) }
+{
+    if is_prefix {
+        return Err(Reason::BadValue);
+    }
+    match json_value_term(alloc, place, text)? {
+        Some(term) => Ok(AnyQuery::Term(TermQuery::new(term, IndexRecordOption::WithFreqs))),
+        None => Err(Reason::BadValue),
+    }
 }
 
 /// Makes the query for documents with the value `text` in a field of the type `kind`.
@@ -111,11 +231,28 @@ fn value_query(
     ensures { Gives query_of result (definitions.value_query field (kind_of kind) text.now is_prefix) }
 {
     if is_prefix {
-        return Err(Reason::BadValue);
+        return Err(no_value(kind));
     }
     match value_term(alloc, field, kind, text)? {
         Some(term) => Ok(AnyQuery::Term(TermQuery::new(term, IndexRecordOption::WithFreqs))),
-        None => Err(Reason::BadValue),
+        None => Err(no_value(kind)),
+    }
+}
+
+/// Returns why a text is no value in a field of the type `kind`.
+fn no_value(kind: Type) -> Reason
+    ensures { result ≡ definitions.no_value (kind_of kind) }
+{
+    match kind {
+        Type::Json => Reason::NoPath,
+        Type::Str
+        | Type::U64
+        | Type::I64
+        | Type::Bool
+        | Type::Date
+        | Type::Facet
+        | Type::Bytes
+        | Type::IpAddr => Reason::BadValue,
     }
 }
 
@@ -131,10 +268,7 @@ fn any_query<A: Analyzer>(
     ensures { Gives query_of result
         (definitions.any_query schema.now (A.analyze analyzer.now) (phrase_of phrase.entry)) }
 {
-    let mut found = Found {
-        queries: Vec::new(alloc),
-        reason: Reason::NoTextField,
-    };
+    let mut found = nothing_found(alloc, Reason::NoTextField);
     for (field, entry) in schema.fields() {
         if entry.field_type().is_str() && entry.is_indexed() {
             let answer = text_query(alloc, analyzer, field, entry, text, phrase);
@@ -144,7 +278,7 @@ fn any_query<A: Analyzer>(
     best_of(found)
 }
 
-/// Appends the answer of one more field.
+/// Appends one more answer.
 fn found_more(found: Found, answer: Result<AnyQuery, Reason>) -> Result<Found, Reason>
     ensures ok { (read : Result Query Reason) → Gives query_of answer read
         → IfOk result (λ longer. found_of longer ≡ definitions.found_more (found_of found) read) }

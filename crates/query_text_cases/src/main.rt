@@ -5,7 +5,9 @@ use common::RawAndDefault;
 use definitions::Fault;
 use query_text::{Refusal, SchemaVocabulary, read_text};
 use query_trees::AnyQuery;
-use schema::{FacetOptions, INDEXED, JsonObjectOptions, STORED, STRING, Schema, TEXT};
+use schema::{
+    FacetOptions, INDEXED, JsonObjectOptions, STORED, STRING, Schema, TEXT, TextFieldIndexing,
+};
 use std::alloc::{AllocError, Global};
 use std::io;
 use std::process::ExitCode;
@@ -40,7 +42,8 @@ fn made_schema(alloc: Global) -> Result<Schema, Fault> {
     builder.add_date_field("day", INDEXED)?;
     builder.add_facet_field("place", FacetOptions::default())?;
     builder.add_bytes_field("blob", INDEXED)?;
-    builder.add_json_field("more", JsonObjectOptions::default())?;
+    let objects = JsonObjectOptions::default().set_indexing_options(TextFieldIndexing::default());
+    builder.add_json_field("more", objects)?;
     builder.add_ip_addr_field("addr", INDEXED)?;
     Ok(builder.build())
 }

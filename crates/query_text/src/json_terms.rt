@@ -1,0 +1,158 @@
+//! Terms of what stands in JSON objects.
+
+ghost use Rattle.std.specs.Prelude.{[], ◌++◌, ◌≡◌, IfOk, Some, map, option_map};
+ghost use Rattle.std.specs.Result.{result_ok};
+ghost use Rattle.common.specs.Token.{token_of};
+ghost use Rattle.definitions.specs.Reading.{date_value};
+ghost use Rattle.definitions.specs.Schema.{text_kind};
+ghost use Rattle.definitions.specs.Terms.{leaf_bytes, type_code, value_bytes};
+ghost use Rattle.definitions.specs.Values.{u64};
+ghost use Rattle.query_text.specs.Answers as definitions;
+ghost use Rattle.query_text.specs.Clauses.{phrase_of};
+ghost use Rattle.query_text.specs.JsonPlaces.{place_of};
+ghost use Rattle.query_text.specs.Refusals.{Gives};
+ghost use Rattle.query_trees.specs.Queries.{query_of};
+
+use crate::phrase::Phrase;
+use crate::refusal::Reason;
+use crate::text_terms::words_query;
+use common::{Analyzer, Token};
+use query_trees::AnyQuery;
+use std::alloc::{AllocError, Global};
+use terms::{FastValue, Field, Term};
+use values_json::{read_bool_text, read_date, read_i64_text, read_u64_text};
+
+/// Where values stand in the JSON objects of a field: at the keys of a path, which dots part.
+#[derive(Drop)]
+pub(crate) struct JsonPlace<'a> {
+    pub(crate) field: Field,
+    pub(crate) path: &'a str,
+    pub(crate) expand_dots: bool,
+}
+
+/// Makes the query for the words of `text`, the text of `phrase`, at `place`.
+pub(crate) fn json_text_query<A: Analyzer>(
+    alloc: Global,
+    analyzer: &A,
+    tokenizer: &str,
+    place: &JsonPlace<'_>,
+    text: &str,
+    phrase: Phrase<'_>,
+) -> Result<AnyQuery, Reason>
+    requires { text.now ≡ phrase.text.now }
+    ensures { Gives query_of result (definitions.json_text_query (A.analyze analyzer.now) tokenizer.now
+        (place_of place.now) (phrase_of phrase.entry)) }
+{
+    let tokens = analyzer.tokens(alloc, tokenizer, text)?;
+    let terms = terms_at(alloc, place, &tokens)?;
+    words_query(phrase, terms)
+}
+
+/// Makes the term of each of `tokens`, at its position.
+fn terms_at(
+    alloc: Global,
+    place: &JsonPlace<'_>,
+    tokens: &[Token],
+) -> Result<Vec<(usize, Term)>, AllocError>
+    ensures { IfOk result (λ terms. terms.items
+        ≡ definitions.json_terms_at (place_of place.now) (map token_of tokens.now)) }
+{
+    let mut terms = Vec::with_capacity(alloc, tokens.len())?;
+    for token in tokens {
+        let term = text_term(alloc, place, token.text.as_str())?;
+        terms.push((token.position, term))?;
+    }
+    Ok(terms)
+}
+
+/// Makes the term of a token.
+#[tactic(auto, using(crate::proofs::JsonTerms::appended))]
+fn text_term(alloc: Global, place: &JsonPlace<'_>, token: &str) -> Result<Term, AllocError>
+    ensures { IfOk result (λ term. term
+        ≡ definitions.leaf_term (place_of place.now) (type_code text_kind ++ token.now)) }
+{
+    let mut term = term_start(alloc, place)?;
+    term.append_type_and_str(token)?;
+    Ok(term)
+}
+
+/// Makes the term of the value that `text` is at `place`: a whole number, a bool or a date; `None` if it is none.
+pub(crate) fn json_value_term(
+    alloc: Global,
+    place: &JsonPlace<'_>,
+    text: &str,
+) -> Result<Option<Term>, AllocError>
+    ensures { IfOk result (λ found. found
+        ≡ definitions.json_value_term (place_of place.now) (definitions.leaf_in text.now)) }
+{
+    match read_u64_text(text) {
+        Ok(value) => Ok(Some(u64_term(alloc, place, value)?)),
+        Err(_) => signed_term(alloc, place, text),
+    }
+}
+
+/// Makes the term of a whole number, else of a bool or a date.
+fn signed_term(alloc: Global, place: &JsonPlace<'_>, text: &str) -> Result<Option<Term>, AllocError>
+    ensures { IfOk result (λ found. found
+        ≡ definitions.json_value_term (place_of place.now) (definitions.signed_in text.now)) }
+{
+    match read_i64_text(text) {
+        Ok(value) => Ok(Some(fast_term(alloc, place, value)?)),
+        Err(_) => bool_term(alloc, place, text),
+    }
+}
+
+/// Makes the term of a bool, else of a date.
+fn bool_term(alloc: Global, place: &JsonPlace<'_>, text: &str) -> Result<Option<Term>, AllocError>
+    ensures { IfOk result (λ found. found
+        ≡ definitions.json_value_term (place_of place.now) (definitions.bool_in text.now)) }
+{
+    match read_bool_text(text) {
+        Ok(value) => Ok(Some(fast_term(alloc, place, value)?)),
+        Err(_) => date_term(alloc, place, text),
+    }
+}
+
+/// Makes the term of a date, cut to its second.
+fn date_term(alloc: Global, place: &JsonPlace<'_>, text: &str) -> Result<Option<Term>, AllocError>
+    ensures { IfOk result (λ found. found
+        ≡ definitions.json_value_term (place_of place.now) (result_ok (date_value text.now))) }
+{
+    match read_date(text) {
+        Ok(date) => Ok(Some(fast_term(alloc, place, date)?)),
+        Err(_) => Ok(None),
+    }
+}
+
+/// Makes the term of a number that isn't negative: an i64 where it fits.
+fn u64_term(alloc: Global, place: &JsonPlace<'_>, value: u64) -> Result<Term, AllocError>
+    ensures { IfOk result (λ term. option_map (definitions.leaf_term (place_of place.now)) (leaf_bytes (u64 value))
+        ≡ Some term) }
+{
+    match i64::try_from(value) {
+        Ok(signed) => fast_term(alloc, place, signed),
+        Err(_) => fast_term(alloc, place, value),
+    }
+}
+
+/// Makes the term of a value of eight bytes.
+fn fast_term<T: FastValue>(
+    alloc: Global,
+    place: &JsonPlace<'_>,
+    value: T,
+) -> Result<Term, AllocError>
+    ensures { IfOk result (λ term. option_map
+        (λ payload. definitions.leaf_term (place_of place.now) (type_code T.kind ++ payload))
+        (value_bytes T.kind (T.value value)) ≡ Some term) }
+{
+    let mut term = term_start(alloc, place)?;
+    term.append_type_and_fast_value(value)?;
+    Ok(term)
+}
+
+/// Makes the start of the terms at `place`.
+fn term_start(alloc: Global, place: &JsonPlace<'_>) -> Result<Term, AllocError>
+    ensures { IfOk result (λ term. term ≡ definitions.leaf_term (place_of place.now) []) }
+{
+    Term::from_field_json_path(alloc, place.field, place.path, place.expand_dots)
+}
