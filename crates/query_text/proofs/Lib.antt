@@ -3,4 +3,5 @@ pub mod Fields
 pub mod JsonTerms
 pub mod NamedFields
 pub mod ReadValues
+pub mod Written
 pub mod BestQueries

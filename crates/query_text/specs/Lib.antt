@@ -3,6 +3,7 @@ pub mod Pieces
 pub mod Heads
 pub mod Reading
 pub mod Answers
+pub mod Writing
 -- Words of the contracts.
 pub mod Cutting
 pub mod Clauses

@@ -13,6 +13,7 @@ mod refusal;
 mod text_terms;
 mod values;
 mod vocabulary;
+pub mod writing_laws;
 
 pub use phrase::{Phrase, Vocabulary};
 pub use pieces::{Form, Piece, pieces_of};
