@@ -1,14 +1,13 @@
 //! `merge_hits REQUESTS REPLIES..`: merges what several indexes replied to the same requests, line by line.
 #![tactic(auto)]
 
-ghost use Rattle.std.specs.Prelude.{◌<◌, IsTrue, length};
-
 mod failure;
 mod lines;
+mod merged;
 
 use failure::Failure;
 use lines::{Lines, have_more, next_replies};
-use shards::{MergeError, merge_replies, wanted_hits};
+use merged::merged_line;
 use std::env;
 use std::io::{self, BufWriter, Write};
 use std::process::ExitCode;
@@ -72,9 +71,8 @@ fn merge_files(rt: &HostRuntime, requests: &str, replies: &[String]) -> Result<(
         let Some(replies) = next_replies(alloc, files.as_mut_slice())? else {
             return Err(Failure::NoReply(number));
         };
-        match merge_replies(alloc, wanted_hits(alloc, &request)?, &replies) {
-            Ok(reply) => writeln!(out, "{reply}")?,
-            Err(MergeError::Unlike) if are_same(&replies) => writeln!(out, "{}", replies[0])?,
+        match merged_line(alloc, &request, &replies) {
+            Ok(line) => writeln!(out, "{line}")?,
             Err(error) => return Err(Failure::Unmerged(number, error)),
         }
     }
@@ -92,14 +90,4 @@ fn open_all(rt: &HostRuntime, paths: &[String]) -> Result<Vec<Lines>, Failure> {
         files.push(Lines::open(rt, path.as_str())?)?;
     }
     Ok(files)
-}
-
-/// Whether there are replies, and they are one and the same.
-fn are_same(replies: &[String]) -> bool
-    ensures { IsTrue result → 0 < length replies.now }
-{
-    match replies {
-        [] => false,
-        [first, rest @ ..] => rest.iter().all(|reply| reply.as_str() == first.as_str()),
-    }
 }
