@@ -1,0 +1,7 @@
+-- The field that is named is one of the schema's.
+use Rattle.std.proofs.Common.{refl}
+use Rattle.query_text.proofs.Fields.{named_within}
+use Rattle.ask.proofs.passages.write_texts.Goals as goal
+
+pub get_field_entry-entry-requires : goal.get_field_entry-entry-requires
+get_field_entry-entry-requires g c = named_within c.args.schema.now c.in-Ok.field c.args.name.now ((c.in-Ok.ensures.exact c.in-Ok.field).0 refl)
