@@ -2,16 +2,10 @@
 //! operation and its arguments, and the line of standard output with the same number is its answer.
 #![tactic(auto)]
 
-mod boxed_scorers;
 mod held;
-mod leaf_forms;
 mod operations;
-mod phrase_counts;
 mod sinks;
-mod told_forms;
 mod told_queries;
-mod told_weights;
-mod two_terms;
 mod written_segments;
 
 use case_lines::answers;

@@ -4,10 +4,10 @@ use crate::held::Held;
 use crate::told_queries::answer;
 use crate::written_segments::written;
 use case_lines::{Arguments, Operations, Refusal, flag, hex, number, settings_in};
+use leaf_weights::prefix_end;
 use schema::Schema;
 use serde_json::Value;
 use std::alloc::Global;
-use weights::prefix_end;
 
 impl Operations for Held {
     fn answer(&mut self, operation: &str, arguments: &Arguments) -> Result<Value, Refusal> {

@@ -1,2 +1,0 @@
--- Lemmas behind queries of two terms.
-pub mod TwoTerms
