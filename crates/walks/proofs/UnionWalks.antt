@@ -1,9 +1,9 @@
 -- A walk over the union of several lists: the scores that it adds up, and what it leaves out.
-use Rattle.std.proofs.Common.{[], Bool, List, ap, ap₂, arith, drop, false, get_or, if◌then◌else◌, length, map, min, nat_abs, nat_le, negsuc, pos, refl, subst, suc, sum, sym, take, true, zero, ◌++◌, ◌+◌, ◌<◌, ◌∙◌, ◌∷◌, ◌≡◌, ◌≢◌, ◌≤◌, ◌≤ℤ◌, ℕ, ℤ}
+use Rattle.std.proofs.Common.{[], Bool, List, ap, ap₂, arith, drop, false, get_or, if◌then◌else◌, length, map, min, nat_abs, nat_le, negsuc, pos, refl, set, subst, suc, sum, sym, take, true, zero, ◌++◌, ◌+◌, ◌<◌, ◌∙◌, ◌∷◌, ◌≡◌, ◌≢◌, ◌≤◌, ◌≤ℤ◌, ℕ, ℤ}
 use Rattle.std.specs.Prelude.{int_lt}
 use Rattle.std.proofs.lemmas.Bool.Decides.{nat_tests}
 use Rattle.std.proofs.lemmas.Int.{ints}
-use Rattle.std.proofs.lemmas.List.{drop-map, length-append, take-map}
+use Rattle.std.proofs.lemmas.List.{drop-map, get_or-map, length-append, take-map}
 use Rattle.definitions.proofs.Lists.{by_order}
 use Rattle.definitions.specs.Postings.{terminated}
 use Rattle.definitions.specs.Scoring.{max_score, natural}
@@ -152,6 +152,27 @@ later_from (suc n) t (es ∷ ess) =
     let fewer = rest.greatest in
     record { same = ap (λ xs. from t es ∷ xs) rest.same; greatest = omega (arith, fewer) }
 
+-- one of them is moved
+pub later_set : (i t : ℕ) (ess : List (List Entry)) (es : List Entry) → i < length ess → es ≡ from t (get_or ess i []) → AreLater t ess (set ess i es)
+later_set i t [] es within is = absurd (omega (arith, within))
+later_set zero t (x ∷ ess) es within is =
+    let few = greatest_from t x in
+    let same = ap greatest_score is in
+    record { same = ap (λ y. y ∷ map (from t) ess) (ap (from t) is ∙ from-from t t x (omega arith)); greatest = omega (arith, few, same) }
+later_set (suc i) t (x ∷ ess) es within is =
+    let rest = later_set i t ess es (omega (arith, within)) is in
+    let fewer = rest.greatest in
+    record { same = ap (λ xs. from t x ∷ xs) rest.same; greatest = omega (arith, fewer) }
+
+-- what one of them has of a document from which on they agree
+pub same_one : (d i : ℕ) (ess fss : List (List Entry)) → map (from d) ess ≡ map (from d) fss → i < length ess → i < length fss → entries_of d (get_or ess i []) ≡ entries_of d (get_or fss i [])
+same_one d i ess fss same within inside =
+    let one = get_or-map (from d) ess i [] [] within in
+    let other = get_or-map (from d) fss i [] [] inside in
+    sym (entries-kept d d (get_or ess i []) (omega arith))
+    ∙ (ap (entries_of d) (sym one ∙ (ap (λ xs. get_or xs i []) same ∙ other))
+    ∙ entries-kept d d (get_or fss i []) (omega arith))
+
 -- the first of them, and the others
 pub same_taken : (n t : ℕ) (ess fss : List (List Entry)) → map (from t) ess ≡ map (from t) fss → map (from t) (take n ess) ≡ map (from t) (take n fss)
 same_taken n t ess fss same = sym (take-map (from t) n ess) ∙ (ap (take n) same ∙ take-map (from t) n fss)
@@ -266,9 +287,17 @@ some_here entries rising ess d n xs at small same =
 same_head : (n t : ℕ) (ess moved : List (List Entry)) → moved ≡ moved_from n t ess → n ≤ length ess → take n moved ≡ take n ess
 same_head n t ess moved is few = ap (take n) is ∙ take-tail n ess (map (from t) (drop n ess)) few
 
--- the score by the free ones is that at the start
-pub first_scores : (n d t : ℕ) (start ess moved : List (List Entry)) → moved ≡ moved_from n t ess → n ≤ length ess → map (from d) ess ≡ map (from d) start → score_at (take n moved) d ≡ score_at (take n start) d
-first_scores n d t start ess moved is few same = ap (λ xs. score_at xs d) (same_head n t ess moved is few) ∙ ap (λ xs. sum (scores_in xs)) (same-from d d (take n ess) (take n start) (same_taken n d ess start same) (omega arith))
+take_fewer : {X : Type 0} (m n : ℕ) (xs : List X) → m ≤ n → take m (take n xs) ≡ take m xs
+take_fewer zero n xs few = refl
+take_fewer (suc m) zero xs few = absurd (omega (arith, few))
+take_fewer (suc m) (suc n) [] few = refl
+take_fewer (suc m) (suc n) (x ∷ xs) few = ap (λ ys. x ∷ ys) (take_fewer m n xs (omega (arith, few)))
+
+-- the score by the first of the free ones is that at the start
+pub first_scores : (m n d t : ℕ) (start ess moved : List (List Entry)) → moved ≡ moved_from n t ess → n ≤ length ess → map (from d) ess ≡ map (from d) start → m ≤ n → score_at (take m moved) d ≡ score_at (take m start) d
+first_scores m n d t start ess moved is few same early =
+    ap (λ xs. score_at xs d) (sym (take_fewer m n moved early) ∙ (ap (take m) (same_head n t ess moved is few) ∙ take_fewer m n ess early))
+    ∙ ap (λ xs. sum (scores_in xs)) (same-from d d (take m ess) (take m start) (same_taken m d ess start same) (omega arith))
 
 -- and all scores are those at the start
 pub all_scores : (n d t score : ℕ) (start ess moved : List (List Entry)) → score ≡ score_at (drop n ess) d → moved ≡ moved_from n t ess → n ≤ length ess → map (from d) ess ≡ map (from d) start → score + score_at (take n moved) d ≡ score_at start d

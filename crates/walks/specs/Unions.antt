@@ -1,5 +1,5 @@
 -- Lists of entries of which some were moved on.
-use Rattle.std.specs.Prelude.{◌++◌, ◌≡◌, ◌≤◌, List, drop, length, map, take, ℕ}
+use Rattle.std.specs.Prelude.{◌++◌, ◌≡◌, ◌≤◌, List, drop, length, map, min, slice_index, take, ℕ}
 use Rattle.docsets.specs.Entries.{Entry, from}
 use Rattle.docsets.specs.Members.{at_least, greatest_sum, joining}
 
@@ -19,3 +19,7 @@ union ess = at_least 1 joining ess
 pub record AreLater (t : ℕ) (before after : List (List Entry)) : Type 0 where
   pub same : map (from t) after ≡ map (from t) before
   pub greatest : greatest_sum after ≤ greatest_sum before
+
+-- what sixteen bounds say of number n and those before it; the last one is of all further numbers too
+abbrev pub bound_of : List ℕ → ℕ → ℕ
+bound_of bounds n = slice_index bounds (min n 15)

@@ -1,6 +1,6 @@
 //! The walk over a union of scorers that leaves out documents whose scores are known not to be above the threshold.
 
-ghost use Rattle.std.specs.Prelude.{IsPermutation, IsTrue, [], ◌+◌, ◌<◌, ◌∷◌, ◌≡◌, ◌≤ℤ◌, ◌≤◌, ◌⊎◌, drop, length, map, min, pos, sum, take, ℕ};
+ghost use Rattle.std.specs.Prelude.{IfNone, IfSome, IsPermutation, IsTrue, [], ◌+◌, ◌<◌, ◌∷◌, ◌≡◌, ◌≤ℤ◌, ◌≤◌, ◌⊎◌, drop, false, int_lt, length, map, min, pos, sum, take, ℕ};
 ghost use Rattle.definitions.specs.Postings.{terminated};
 ghost use Rattle.definitions.specs.Scoring.{max_score};
 ghost use Rattle.definitions.specs.Sinks.{fed};
@@ -8,7 +8,7 @@ ghost use Rattle.docsets.specs.Bounds.{Covers};
 ghost use Rattle.docsets.specs.Entries.{first, from};
 ghost use Rattle.docsets.specs.Members.{entries_at, entries_of, greatest_sum, least, scores_in};
 ghost use Rattle.docsets.specs.ScoredEntries.{pairs_of};
-ghost use Rattle.walks.specs.Unions.{AreLater, moved_before, moved_from, union};
+ghost use Rattle.walks.specs.Unions.{AreLater, bound_of, moved_from, union};
 
 use crate::sink::{Sink, offer};
 use common::{DocId, MAX_SCORE, Score, TERMINATED};
@@ -18,6 +18,9 @@ use docsets::{DocSet, Scorer, move_to};
 /// look at all for each place would grow faster than their number.
 const PLACED: usize = 16;
 
+/// How many bounds are kept of the first scorers, one of the first, one of the first two, and so on.
+const BOUNDS: usize = 16;
+
 /// The first of several scorers, which are left where they are as long as no document of theirs alone can be above the
 /// threshold.
 #[derive(Clone, Copy)]
@@ -26,6 +29,8 @@ struct Free {
     count: usize,
     /// No document has a greater score by them.
     bound: u64,
+    /// No document has a greater score by the first one, by the first two, and so on; the last is true of more too.
+    bounds: [u64; BOUNDS],
     /// The first document for which that isn't said.
     until: DocId,
 }
@@ -40,38 +45,45 @@ pub(crate) struct Bound {
 impl Free {
     /// Whether no document of the free ones alone can be above `threshold`.
     #[inline]
-    fn is_low(self, threshold: Score) -> bool
-        requires { self.bound ≤ max_score }
-        ensures { IsTrue result → 0 < self.count → pos self.bound ≤ℤ threshold }
+    fn is_low(&self, threshold: Score) -> bool
+        requires { self.now.bound ≤ max_score }
+        ensures { IsTrue result → 0 < self.now.count → pos self.now.bound ≤ℤ threshold }
     {
-        self.count == 0 || self.bound as Score <= threshold
+        self.count == 0 || is_at_most(self.bound, threshold)
     }
 
-    /// Returns the free ones after number `i`, which has this bound: it is free if all before it are, and if they have a
-    /// bound together that isn't above `threshold`.
+    /// Takes in one more scorer, beside which the free ones have this bound.
     #[inline]
-    fn beside(self, i: usize, bound: Bound, threshold: Score) -> Free
-        requires few { (self.bound ≤ max_score) × (bound.score ≤ max_score) }
-        requires small { i < 18446744073709551615 }
-        ensures until { result.until ≡ bound.until }
-        ensures free { ((result.count ≡ self.count) × (result.bound ≡ self.bound))
-            ⊎ ((self.count ≡ i) × (result.count ≡ i + 1)
-            × (result.bound ≡ min (self.bound + bound.score) max_score) × (pos result.bound ≤ℤ threshold)) }
+    fn add(&mut self, bound: u64)
+        requires small { self.old.count < 18446744073709551615 }
+        ensures count { self.new.count ≡ self.old.count + 1 }
+        ensures bound { self.new.bound ≡ bound }
+        ensures own { bound_of self.new.bounds self.old.count ≡ bound }
+        ensures others { (n : ℕ) → (bound_of self.new.bounds n ≡ bound_of self.old.bounds n)
+            ⊎ (bound_of self.new.bounds n ≡ bound) }
+        ensures until { self.new.until ≡ self.old.until }
     {
-        let together = (self.bound + bound.score).min(MAX_SCORE as u64);
-        if self.count == i && together as Score <= threshold {
-            return Free {
-                count: i + 1,
-                bound: together,
-                until: bound.until,
-            };
-        }
-        Free {
-            count: self.count,
-            bound: self.bound,
-            until: bound.until,
-        }
+        self.bounds[self.count.min(BOUNDS - 1)] = bound;
+        self.count += 1;
+        self.bound = bound;
     }
+
+    /// Returns the bound of scorer number `i` and those before it.
+    #[inline]
+    fn bound_at(&self, i: usize) -> u64
+        ensures { result ≡ bound_of self.now.bounds i }
+    {
+        self.bounds[i.min(BOUNDS - 1)]
+    }
+}
+
+/// Whether `score` isn't above `threshold`.
+#[inline]
+fn is_at_most(score: u64, threshold: Score) -> bool
+    requires { score < 9223372036854775808 }
+    ensures { IsTrue result → pos score ≤ℤ threshold }
+{
+    score as Score <= threshold
 }
 
 /// How far a walk came.
@@ -107,7 +119,7 @@ pub fn block_wand<S: Scorer + Drop, K: Sink>(scorers: Vec<S>, threshold: Score, 
     let mut target = 0;
     while target < TERMINATED {
         let free = free_from(&mut scorers, target, threshold);
-        let fed = feed_window(&mut scorers, target, free, threshold, sink);
+        let fed = feed_window(&mut scorers, target, &free, threshold, sink);
         threshold = fed.threshold;
         target = fed.target;
     }
@@ -150,36 +162,8 @@ fn documents_for_bound<S: Scorer>(scorer: &mut S) -> u64
     scorer.cost().saturating_mul(1 << 31) / bound.score.max(1)
 }
 
-/// Returns the document before which the scorers that aren't behind `target` know a bound.
-fn window_end<S: Scorer>(scorers: &mut Vec<S>, target: DocId) -> DocId
-    requires { target < terminated }
-    ensures same { map S.entries scorers.new.items ≡ map S.entries scorers.old.items }
-    ensures ahead { target < result }
-    ensures within { result ≤ terminated }
-{
-    let mut until = TERMINATED;
-    for i in 0..scorers.len() {
-        until = end_within(&mut scorers[i], target, until);
-    }
-    until
-}
-
-/// Returns `until`, or where the window of `scorer` from `target` on ends before it; a scorer behind `target` has none.
-fn end_within<S: Scorer>(scorer: &mut S, target: DocId, until: DocId) -> DocId
-    requires small { target < until }
-    requires within { until ≤ terminated }
-    ensures same { S.entries scorer.new ≡ S.entries scorer.old }
-    ensures ahead { target < result }
-    ensures until { result ≤ until }
-{
-    if scorer.doc() > target {
-        return until;
-    }
-    until.min(scorer.window(target).until)
-}
-
 /// Returns as many of the first scorers as have a bound together, from `target` on, that isn't above `threshold`. One
-/// whose current document is behind the window has none in it.
+/// whose current document is behind the window has none in it. Scorers behind the first that isn't free aren't asked.
 fn free_from<S: Scorer>(scorers: &mut Vec<S>, target: DocId, threshold: Score) -> Free
     requires small { target < terminated }
     requires fits { greatest_sum (map S.entries scorers.old.items) ≤ max_score }
@@ -188,18 +172,27 @@ fn free_from<S: Scorer>(scorers: &mut Vec<S>, target: DocId, threshold: Score) -
     ensures within { result.until ≤ terminated }
     ensures count { result.count ≤ length scorers.old.items }
     ensures few { result.bound ≤ max_score }
+    ensures most { (n : ℕ) → n < result.count → bound_of result.bounds n ≤ result.bound }
     ensures bound { (d : ℕ) → target ≤ d → d < result.until
         → sum (scores_in (entries_at d (take result.count (map S.entries scorers.old.items)))) ≤ result.bound }
+    ensures bounds { (n d : ℕ) → n < result.count → target ≤ d → d < result.until
+        → sum (scores_in (entries_at d (take (n + 1) (map S.entries scorers.old.items)))) ≤ bound_of result.bounds n }
     ensures low { 0 < result.count → pos result.bound ≤ℤ threshold }
 {
     let mut free = Free {
         count: 0,
         bound: 0,
-        until: window_end(scorers, target),
+        bounds: [0; BOUNDS],
+        until: TERMINATED,
     };
     for i in 0..scorers.len() {
-        let bound = bound_before(&mut scorers[i], target, free.until);
-        free = free.beside(i, bound, threshold);
+        let next = bound_before(&mut scorers[i], target, free.until);
+        let bound = (free.bound + next.score).min(MAX_SCORE as u64);
+        free.until = next.until;
+        if !is_at_most(bound, threshold) {
+            return free;
+        }
+        free.add(bound);
     }
     free
 }
@@ -229,17 +222,20 @@ pub(crate) fn bound_before<S: Scorer>(scorer: &mut S, target: DocId, until: DocI
 fn feed_window<S: Scorer, K: Sink>(
     scorers: &mut Vec<S>,
     target: DocId,
-    free: Free,
+    free: &Free,
     threshold: Score,
     sink: &mut K,
 ) -> Fed
-    requires count { free.count ≤ length scorers.old.items }
-    requires few { free.bound ≤ max_score }
-    requires ahead { target < free.until }
-    requires within { free.until ≤ terminated }
-    requires bound { (d : ℕ) → target ≤ d → d < free.until
-        → sum (scores_in (entries_at d (take free.count (map S.entries scorers.old.items)))) ≤ free.bound }
-    requires low { 0 < free.count → pos free.bound ≤ℤ threshold }
+    requires count { free.now.count ≤ length scorers.old.items }
+    requires few { free.now.bound ≤ max_score }
+    requires ahead { target < free.now.until }
+    requires within { free.now.until ≤ terminated }
+    requires bound { (d : ℕ) → target ≤ d → d < free.now.until
+        → sum (scores_in (entries_at d (take free.now.count (map S.entries scorers.old.items)))) ≤ free.now.bound }
+    requires most { (n : ℕ) → n < free.now.count → bound_of free.now.bounds n ≤ free.now.bound }
+    requires bounds { (n d : ℕ) → n < free.now.count → target ≤ d → d < free.now.until
+        → sum (scores_in (entries_at d (take (n + 1) (map S.entries scorers.old.items)))) ≤ bound_of free.now.bounds n }
+    requires low { 0 < free.now.count → pos free.now.bound ≤ℤ threshold }
     requires fits { greatest_sum (map S.entries scorers.old.items) ≤ max_score }
     requires threshold { threshold ≡ K.limit (K.state sink.old) }
     requires room { length (from target (union (map S.entries scorers.old.items))) ≤ K.room sink.old }
@@ -332,53 +328,72 @@ fn take_one<S: Scorer>(scorer: &mut S, doc: DocId, taken: Taken) -> Taken
 }
 
 /// Feeds `doc`, whose score by the scorers that aren't free is `score`, to `sink` if the sum of its scores is above
-/// `threshold`, which is the sink's. Returns the next threshold. The free scorers are asked only if their bound leaves it
-/// open.
+/// `threshold`, which is the sink's. Returns the next threshold. The free scorers are asked only as long as their bounds
+/// leave it open.
 fn offer_with<S: Scorer, K: Sink>(
     scorers: &mut Vec<S>,
-    free: Free,
+    free: &Free,
     doc: DocId,
     score: u64,
     threshold: Score,
     sink: &mut K,
 ) -> Score
     requires small { doc < terminated }
-    requires count { free.count ≤ length scorers.old.items }
-    requires few { free.bound ≤ max_score }
-    requires fits { score + sum (scores_in (entries_at doc (take free.count (map S.entries scorers.old.items))))
+    requires count { free.now.count ≤ length scorers.old.items }
+    requires few { (n : ℕ) → n < free.now.count → bound_of free.now.bounds n ≤ max_score }
+    requires fits { score + sum (scores_in (entries_at doc (take free.now.count (map S.entries scorers.old.items))))
         ≤ max_score }
-    requires bound { sum (scores_in (entries_at doc (take free.count (map S.entries scorers.old.items))))
-        ≤ free.bound }
+    requires bounds { (n : ℕ) → n < free.now.count
+        → sum (scores_in (entries_at doc (take (n + 1) (map S.entries scorers.old.items)))) ≤ bound_of free.now.bounds n }
     requires threshold { threshold ≡ K.limit (K.state sink.old) }
     requires room { 1 ≤ K.room sink.old }
     ensures later { AreLater doc (map S.entries scorers.old.items) (map S.entries scorers.new.items) }
-    ensures rest { drop free.count (map S.entries scorers.new.items)
-        ≡ drop free.count (map S.entries scorers.old.items) }
+    ensures rest { drop free.now.count (map S.entries scorers.new.items)
+        ≡ drop free.now.count (map S.entries scorers.old.items) }
     ensures state { K.state sink.new ≡ fed K.limit K.taken (K.state sink.old)
-        ((doc, score + sum (scores_in (entries_at doc (take free.count (map S.entries scorers.old.items))))) ∷ []) }
+        ((doc, score + sum (scores_in (entries_at doc (take free.now.count (map S.entries scorers.old.items))))) ∷ []) }
     ensures next { result ≡ K.limit (K.state sink.new) }
     ensures room { K.room sink.old ≤ K.room sink.new + 1 }
 {
-    if free.count > 0 && (score + free.bound) as Score <= threshold {
-        return threshold;
+    match sum_above(scorers, free, doc, score, threshold) {
+        Some(total) => offer(sink, threshold, doc, total as Score),
+        None => threshold,
     }
-    let rest = sum_before(scorers, free.count, doc);
-    offer(sink, threshold, doc, (score + rest) as Score)
 }
 
-/// Adds up the scores of `doc` by the first `count` scorers, each of which is moved there.
-fn sum_before<S: Scorer>(scorers: &mut Vec<S>, count: usize, doc: DocId) -> u64
+/// Returns `score` with the scores of `doc` by the free scorers added, or none if that isn't above `threshold`. Each is
+/// moved there, from the last of them on, unless the bound of those that are left shows before that the sum isn't above.
+fn sum_above<S: Scorer>(
+    scorers: &mut Vec<S>,
+    free: &Free,
+    doc: DocId,
+    score: u64,
+    threshold: Score,
+) -> Option<u64>
     requires small { doc < terminated }
-    requires within { count ≤ length scorers.old.items }
-    requires fits { sum (scores_in (entries_at doc (take count (map S.entries scorers.old.items)))) ≤ max_score }
-    ensures moved { map S.entries scorers.new.items ≡ moved_before count doc (map S.entries scorers.old.items) }
-    ensures sum { result ≡ sum (scores_in (entries_at doc (take count (map S.entries scorers.old.items)))) }
+    requires count { free.now.count ≤ length scorers.old.items }
+    requires few { (n : ℕ) → n < free.now.count → bound_of free.now.bounds n ≤ max_score }
+    requires fits { score + sum (scores_in (entries_at doc (take free.now.count (map S.entries scorers.old.items))))
+        ≤ max_score }
+    requires bounds { (n : ℕ) → n < free.now.count
+        → sum (scores_in (entries_at doc (take (n + 1) (map S.entries scorers.old.items)))) ≤ bound_of free.now.bounds n }
+    ensures later { AreLater doc (map S.entries scorers.old.items) (map S.entries scorers.new.items) }
+    ensures rest { drop free.now.count (map S.entries scorers.new.items)
+        ≡ drop free.now.count (map S.entries scorers.old.items) }
+    ensures sum { IfSome result (λ total. total
+        ≡ score + sum (scores_in (entries_at doc (take free.now.count (map S.entries scorers.old.items))))) }
+    ensures low { IfNone result (int_lt threshold (pos (score
+        + sum (scores_in (entries_at doc (take free.now.count (map S.entries scorers.old.items)))))) ≡ false) }
 {
-    let mut total = 0;
-    for i in 0..count {
-        total = add_score(&mut scorers[i], doc, total);
+    let mut total = score;
+    for i in 0..free.count {
+        let last = free.count - i - 1;
+        if is_at_most(total + free.bound_at(last), threshold) {
+            return None;
+        }
+        total = add_score(&mut scorers[last], doc, total);
     }
-    total
+    Some(total)
 }
 
 /// Adds the score of `doc` by `scorer`, which is moved there, to `total`.

@@ -19,9 +19,9 @@ start g c = map g.S.DocSet.entries c.args.scorers.now.items
 
 -- the lists agree from the current document on
 agree : (g : Over) (c : After-take_from-taken g) → AreLater c.loop-doc.doc (map g.S.DocSet.entries c.args.scorers.now.items) (map g.S.DocSet.entries c.loop-doc.scorers.items)
-agree g c = (let early = c.loop-doc-test.true in subst (λ t. AreLater t (map g.S.DocSet.entries c.args.scorers.now.items) (map g.S.DocSet.entries c.loop-doc.scorers.items)) (let here : min c.loop-doc.doc c.args.free.until ≡ c.loop-doc.doc = omega (arith, early) in here) c.loop-doc.invariant.later)
+agree g c = (let early = c.loop-doc-test.true in subst (λ t. AreLater t (map g.S.DocSet.entries c.args.scorers.now.items) (map g.S.DocSet.entries c.loop-doc.scorers.items)) (let here : min c.loop-doc.doc c.args.free.now.until ≡ c.loop-doc.doc = omega (arith, early) in here) c.loop-doc.invariant.later)
 
-as_many : (g : Over) (c : After-take_from-taken g) → c.args.free.count ≤ length (map g.S.DocSet.entries c.loop-doc.scorers.items)
+as_many : (g : Over) (c : After-take_from-taken g) → c.args.free.now.count ≤ length (map g.S.DocSet.entries c.loop-doc.scorers.items)
 as_many g c =
     let same = ap length (agree g c).same in
     let count = c.requires.count in
@@ -34,7 +34,7 @@ inside : (g : Over) (c : After-take_from-taken g) → c.loop-doc.doc < terminate
 inside g c = (let early = c.loop-doc-test.true in let within = c.requires.within in omega (arith, early, within))
 
 some : (g : Over) (c : After-take_from-taken g) → 0 < length (entries_at c.loop-doc.doc (map g.S.DocSet.entries c.args.scorers.now.items))
-some g c = some_here g.S.DocSet.entries g.met.S.DocSet.rising (map g.S.DocSet.entries c.args.scorers.now.items) c.loop-doc.doc c.args.free.count c.loop-doc.scorers.items c.loop-doc.invariant.at (inside g c) (agree g c).same
+some g c = some_here g.S.DocSet.entries g.met.S.DocSet.rising (map g.S.DocSet.entries c.args.scorers.now.items) c.loop-doc.doc c.args.free.now.count c.loop-doc.scorers.items c.loop-doc.invariant.at (inside g c) (agree g c).same
 
 pub loop-doc-init : goal.loop-doc-init
 loop-doc-init g c =
@@ -45,8 +45,8 @@ loop-doc-init g c =
     let all = map entries c.args.scorers.now.items in
     let moved = map entries c.move_from-doc.new.scorers.items in
     let target = c.args.target in
-    let until = c.args.free.until in
-    let n = c.args.free.count in
+    let until = c.args.free.now.until in
+    let n = c.args.free.now.count in
     let doc = c.move_from-doc.result in
     let s = g.K.Sink.state c.args.sink.now in
     let is = c.move_from-doc.ensures.moved in
@@ -60,9 +60,9 @@ loop-doc-init g c =
     let small : min doc until ≤ terminated = omega (arith, within) in
     let same = to_z-of_z c.ranges.threshold in
     let threshold : _ ≡ limit s = same ∙ c.requires.threshold in
-    let low : 0 < n → pos c.args.free.bound ≤ℤ _ = λ some. subst (λ t. pos c.args.free.bound ≤ℤ t) (sym same) (c.requires.low some) in
+    let low : 0 < n → pos c.args.free.now.bound ≤ℤ _ = λ some. subst (λ t. pos c.args.free.now.bound ≤ℤ t) (sym same) (c.requires.low some) in
     let gap = gap_fed limit taken s all (min doc until - target) target (min doc until) (omega (arith, far, ahead)) small
-    (λ d late early have. free_low limit s all d n c.args.free.bound _ threshold (between_none entries rising target d n doc c.args.scorers.now.items all moved is at refl late (omega (arith, early))) (c.requires.bound d late (omega (arith, early))) low have) in
+    (λ d late early have. free_low limit s all d n c.args.free.now.bound _ threshold (between_none entries rising target d n doc c.args.scorers.now.items all moved is at refl late (omega (arith, early))) (c.requires.bound d late (omega (arith, early))) low have) in
     let room = c.requires.room in
     let whole = ap length (left_is target all (omega (arith, ahead, within))) in
     let fewer = fewer_left all target (min doc until) (omega (arith, far, ahead)) small in
@@ -80,7 +80,7 @@ loop-doc-init g c =
 pub take_from-taken-requires-clause-fits : goal.take_from-taken-requires-clause-fits
 take_from-taken-requires-clause-fits g c =
     let entries = g.S.DocSet.entries in
-    let parts = sum_parts c.loop-doc.doc c.args.free.count (map entries c.loop-doc.scorers.items) in
+    let parts = sum_parts c.loop-doc.doc c.args.free.now.count (map entries c.loop-doc.scorers.items) in
     let most = sum-greatest entries g.met.S.DocSet.rising c.loop-doc.doc c.loop-doc.scorers.items in
     let less = c.loop-doc.invariant.later.greatest in
     let fits = c.requires.fits in
@@ -91,17 +91,20 @@ offer_with-threshold-requires-clause-fits g c =
     let it = (goal.at.offer_with-threshold-requires-clause-fits g c).After-take_from-taken in
     let entries = g.S.DocSet.entries in
     let all = map entries c.args.scorers.now.items in
-    let whole = all_scores c.args.free.count c.loop-doc.doc (c.loop-doc.doc + 1) c.take_from-taken.result.score all (map entries c.loop-doc.scorers.items) (map entries c.take_from-taken.new.scorers.items) c.take_from-taken.ensures.score c.take_from-taken.ensures.moved (as_many g it) (agree g it).same in
+    let whole = all_scores c.args.free.now.count c.loop-doc.doc (c.loop-doc.doc + 1) c.take_from-taken.result.score all (map entries c.loop-doc.scorers.items) (map entries c.take_from-taken.new.scorers.items) c.take_from-taken.ensures.score c.take_from-taken.ensures.moved (as_many g it) (agree g it).same in
     let most = sum-greatest entries g.met.S.DocSet.rising c.loop-doc.doc c.args.scorers.now.items in
     let fits = c.requires.fits in
     omega (arith, whole, most, fits)
 
-pub offer_with-threshold-requires-clause-bound : goal.offer_with-threshold-requires-clause-bound
-offer_with-threshold-requires-clause-bound g c =
-    let it = (goal.at.offer_with-threshold-requires-clause-bound g c).After-take_from-taken in
+pub offer_with-threshold-requires-clause-few : goal.offer_with-threshold-requires-clause-few
+offer_with-threshold-requires-clause-few g c = λ n early. (let most = c.requires.most n early in let few = c.requires.few in omega (arith, most, few))
+
+pub offer_with-threshold-requires-clause-bounds : goal.offer_with-threshold-requires-clause-bounds
+offer_with-threshold-requires-clause-bounds g c = λ n early.
+    let it = (goal.at.offer_with-threshold-requires-clause-bounds g c).After-take_from-taken in
     let entries = g.S.DocSet.entries in
-    let first = first_scores c.args.free.count c.loop-doc.doc (c.loop-doc.doc + 1) (map entries c.args.scorers.now.items) (map entries c.loop-doc.scorers.items) (map entries c.take_from-taken.new.scorers.items) c.take_from-taken.ensures.moved (as_many g it) (agree g it).same in
-    let bound = c.requires.bound c.loop-doc.doc c.loop-doc.invariant.far c.loop-doc-test.true in
+    let first = first_scores (n + 1) c.args.free.now.count c.loop-doc.doc (c.loop-doc.doc + 1) (map entries c.args.scorers.now.items) (map entries c.loop-doc.scorers.items) (map entries c.take_from-taken.new.scorers.items) c.take_from-taken.ensures.moved (as_many g it) (agree g it).same (omega (arith, early)) in
+    let bound = c.requires.bounds n c.loop-doc.doc early c.loop-doc.invariant.far c.loop-doc-test.true in
     omega (arith, first, bound)
 
 pub offer_with-threshold-requires-clause-room : goal.offer_with-threshold-requires-clause-room
@@ -110,7 +113,7 @@ offer_with-threshold-requires-clause-room g c =
     let all = map g.S.DocSet.entries c.args.scorers.now.items in
     let early = c.loop-doc-test.true in
     let room = c.loop-doc.invariant.room in
-    let here = ap (λ t. length (left all t)) (let same : min c.loop-doc.doc c.args.free.until ≡ c.loop-doc.doc = omega (arith, early) in same) in
+    let here = ap (λ t. length (left all t)) (let same : min c.loop-doc.doc c.args.free.now.until ≡ c.loop-doc.doc = omega (arith, early) in same) in
     let one = one_less all c.loop-doc.doc (inside g it) (some g it) in
     omega (arith, room, here, one)
 
@@ -119,7 +122,7 @@ offer_with-threshold-requires-clause-room g c =
 later : (g : Over) (c : After-is_low g) → AreLater (c.loop-doc.doc + 1) (map g.S.DocSet.entries c.args.scorers.now.items) (map g.S.DocSet.entries c.offer_with-threshold.new.scorers.items)
 later g c =
     let entries = g.S.DocSet.entries in
-    step_later c.loop-doc.doc c.args.free.count (map entries c.args.scorers.now.items) (map entries c.loop-doc.scorers.items) (map entries c.take_from-taken.new.scorers.items) (map entries c.offer_with-threshold.new.scorers.items) (agree g c.before.before.before.before) c.take_from-taken.ensures.moved c.offer_with-threshold.ensures.later
+    step_later c.loop-doc.doc c.args.free.now.count (map entries c.args.scorers.now.items) (map entries c.loop-doc.scorers.items) (map entries c.take_from-taken.new.scorers.items) (map entries c.offer_with-threshold.new.scorers.items) (agree g c.before.before.before.before) c.take_from-taken.ensures.moved c.offer_with-threshold.ensures.later
 
 -- what is left behind it makes with the sink what was to make
 fed_on : (g : Over) (c : After-is_low g) → fed g.K.Sink.limit g.K.Sink.taken (g.K.Sink.state c.offer_with-threshold.new.sink) (pairs_of (left (map g.S.DocSet.entries c.args.scorers.now.items) (c.loop-doc.doc + 1))) ≡ fed g.K.Sink.limit g.K.Sink.taken (g.K.Sink.state c.args.sink.now) (pairs_of (left (map g.S.DocSet.entries c.args.scorers.now.items) c.args.target))
@@ -132,9 +135,9 @@ fed_on g c =
     let s = g.K.Sink.state c.loop-doc.sink in
     let early = c.loop-doc-test.true in
     let it = c.before.before.before.before in
-    let whole = all_scores c.args.free.count doc (doc + 1) c.take_from-taken.result.score all (map entries c.loop-doc.scorers.items) (map entries c.take_from-taken.new.scorers.items) c.take_from-taken.ensures.score c.take_from-taken.ensures.moved (as_many g it) (agree g it).same in
+    let whole = all_scores c.args.free.now.count doc (doc + 1) c.take_from-taken.result.score all (map entries c.loop-doc.scorers.items) (map entries c.take_from-taken.new.scorers.items) c.take_from-taken.ensures.score c.take_from-taken.ensures.moved (as_many g it) (agree g it).same in
     let state = c.offer_with-threshold.ensures.state ∙ ap (λ n. fed limit taken s ((doc, n) ∷ [])) whole in
-    let here : doc ≡ min doc c.args.free.until = omega (arith, early) in
+    let here : doc ≡ min doc c.args.free.now.until = omega (arith, early) in
     ap (λ u. fed limit taken u (pairs_of (left all (doc + 1)))) state
     ∙ (take_fed limit taken s all doc (inside g it) (some g it)
     ∙ (ap (λ t. fed limit taken s (pairs_of (left all t))) here
@@ -145,7 +148,7 @@ room_on g c =
     let all = map g.S.DocSet.entries c.args.scorers.now.items in
     let early = c.loop-doc-test.true in
     let room = c.loop-doc.invariant.room in
-    let here = ap (λ t. length (left all t)) (let same : min c.loop-doc.doc c.args.free.until ≡ c.loop-doc.doc = omega (arith, early) in same) in
+    let here = ap (λ t. length (left all t)) (let same : min c.loop-doc.doc c.args.free.now.until ≡ c.loop-doc.doc = omega (arith, early) in same) in
     let one = one_less all c.loop-doc.doc (inside g c.before.before.before.before) (some g c.before.before.before.before) in
     let taken = c.offer_with-threshold.ensures.room in
     omega (arith, room, here, one, taken)
@@ -181,7 +184,7 @@ returns-then-not-is_low-clause-room g c =
     omega (arith, same, room)
 
 beyond : (g : Over) (c : After-is_low g) → c.loop-doc.doc < c.take_from-taken.result.next
-beyond g c = step_far c.loop-doc.doc c.args.free.count c.take_from-taken.result.next (map g.S.DocSet.entries c.loop-doc.scorers.items) (map g.S.DocSet.entries c.take_from-taken.new.scorers.items) (inside g c.before.before.before.before) c.take_from-taken.ensures.moved c.take_from-taken.ensures.next
+beyond g c = step_far c.loop-doc.doc c.args.free.now.count c.take_from-taken.result.next (map g.S.DocSet.entries c.loop-doc.scorers.items) (map g.S.DocSet.entries c.take_from-taken.new.scorers.items) (inside g c.before.before.before.before) c.take_from-taken.ensures.moved c.take_from-taken.ensures.next
 
 pub loop-doc-smaller : goal.loop-doc-smaller
 loop-doc-smaller g c =
@@ -201,8 +204,8 @@ loop-doc-preserved g c =
     let ess = map entries c.loop-doc.scorers.items in
     let moved = map entries c.take_from-taken.new.scorers.items in
     let after = map entries c.offer_with-threshold.new.scorers.items in
-    let until = c.args.free.until in
-    let n = c.args.free.count in
+    let until = c.args.free.now.until in
+    let n = c.args.free.now.count in
     let doc = c.loop-doc.doc in
     let next = c.take_from-taken.result.next in
     let s = g.K.Sink.state c.offer_with-threshold.new.sink in
@@ -217,7 +220,7 @@ loop-doc-preserved g c =
     let low = c.is_low.ensures c.if-not-is_low.false in
     let same = (later_on doc (doc + 1) all ess (omega arith) (agree g it.before.before.before.before)).same in
     let gap = gap_fed limit taken s all (min next until - (doc + 1)) (doc + 1) (min next until) (omega (arith, far, early_doc)) small
-    (λ d late early have. free_low limit s all d n c.args.free.bound _ threshold (between_none entries rising (doc + 1) d n next c.args.scorers.now.items ess moved c.take_from-taken.ensures.moved at same late (omega (arith, early))) (c.requires.bound d (omega (arith, late, so_far)) (omega (arith, early))) low have) in
+    (λ d late early have. free_low limit s all d n c.args.free.now.bound _ threshold (between_none entries rising (doc + 1) d n next c.args.scorers.now.items ess moved c.take_from-taken.ensures.moved at same late (omega (arith, early))) (c.requires.bound d (omega (arith, late, so_far)) (omega (arith, early))) low have) in
     let room = room_on g it in
     let fewer = fewer_left all (doc + 1) (min next until) (omega (arith, far, early_doc)) small in
     let lowest = ap least (ap (drop n) c.take_from-taken.ensures.moved ∙ drop-tail (from (doc + 1)) n ess) in
@@ -240,7 +243,7 @@ returns-clause-fed g c =
     let taken = g.K.Sink.taken in
     let all = map entries c.args.scorers.now.items in
     let ess = map entries c.loop-doc.scorers.items in
-    let until = c.args.free.until in
+    let until = c.args.free.now.until in
     let s = g.K.Sink.state c.loop-doc.sink in
     let late = c.loop-doc-test.false in
     let ahead = c.requires.ahead in
@@ -257,7 +260,7 @@ returns-clause-room g c =
     let entries = g.S.DocSet.entries in
     let all = map entries c.args.scorers.now.items in
     let ess = map entries c.loop-doc.scorers.items in
-    let until = c.args.free.until in
+    let until = c.args.free.now.until in
     let late = c.loop-doc-test.false in
     let within = c.requires.within in
     let here : min c.loop-doc.doc until ≡ until = omega (arith, late) in
