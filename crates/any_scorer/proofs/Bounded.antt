@@ -1,5 +1,5 @@
 -- Lists whose scores of each document are bounded.
-use Rattle.std.proofs.Common.{[], Bool, List, ap, arith, false, if◌then◌else◌, length, map, max, negsuc, not, pos, sum, true, ◌&&◌, ◌++◌, ◌+◌, ◌<◌, ◌==◌, ◌∷◌, ◌≡◌, ◌≤ℤ◌, ◌≤◌, ℕ, ℤ}
+use Rattle.std.proofs.Common.{[], Bool, List, ap, arith, false, if◌then◌else◌, length, map, max, negsuc, not, pos, subst, sum, sym, true, ◌&&◌, ◌++◌, ◌+◌, ◌<◌, ◌==◌, ◌∷◌, ◌≡◌, ◌≤ℤ◌, ◌≤◌, ℕ, ℤ}
 use Rattle.std.proofs.Math.Facts.{leb_yes}
 use Rattle.std.proofs.lemmas.Bool.Decides.{nat_tests}
 use Rattle.any_scorer.proofs.ByClauses.{sum_both}
@@ -7,11 +7,13 @@ use Rattle.any_scorer.specs.Clauses.{by_best, by_clauses, scores_at, scores_of}
 use Rattle.docsets.specs.Entries.{Entry, Rising}
 use Rattle.definitions.proofs.Bounds.{tie_below}
 use Rattle.definitions.specs.Postings.{terminated}
-use Rattle.definitions.specs.Scoring.{best_and_tie, natural}
+use Rattle.definitions.specs.Scoring.{best_and_tie, max_score, natural}
 use Rattle.docsets.specs.CombiningLaws.{sum-cons}
 use Rattle.docsets.specs.ScoredEntries.{greatest_score}
-use Rattle.docsets.proofs.MemberLaws.{sum-greatest}
-use Rattle.docsets.specs.Members.{enough, entries_of, greatest_sum, scores_in}
+use Rattle.docsets.proofs.MemberLaws.{Rising-listed, sum-greatest}
+use Rattle.docsets.specs.Members.{at_least, combining, enough, entries_at, entries_of, greatest_sum, scores_in}
+use Rattle.intersections.proofs.MeetingLaws.{Rising-meeting}
+use Rattle.intersections.specs.Meetings.{meeting}
 
 pub first_here : (e : Entry) (es : List Entry) → scores_of e.doc (e ∷ es) ≡ e.score ∷ scores_of e.doc es
 first_here e es = ap (λ b. scores_in (if b then e ∷ entries_of e.doc es else entries_of e.doc es)) (let n : ℕ = e.doc in let same : (n == n) ≡ true = grind (arith, nat_tests) in same)
@@ -53,6 +55,25 @@ bounded_best entries rising tie small xs list r are =
     let best = tie_below tie (scores_at d (map entries xs)) small in
     let most = sum_if (enough 1 (map entries xs) d) (best_and_tie tie (scores_at d (map entries xs))) in
     omega (arith, same, total, best, most)))
+
+-- the best scores fit where the sums do
+pub best_rises : {X : Type 0} (entries : X → List Entry) → ((x : X) → Rising 0 (entries x)) → (f : List ℕ → ℕ) (tie : ℕ) → tie ≤ 1000 → ((ys : List ℕ) → f ys ≡ best_and_tie tie ys) → (xs : List X) → greatest_sum (map entries xs) ≤ max_score → (es : List Entry) → es ≡ at_least 1 (combining f) (map entries xs) → Rising 0 es
+best_rises entries rising f tie small agree xs fits es is =
+    let ess : List (List Entry) = map entries xs in
+    subst (Rising 0) (sym is) (Rising-listed (enough 1 ess) (λ d. combining f d (entries_at d ess)) 0 (λ d l t has.
+    (let made = agree (scores_at d ess) in
+    let most = sum-greatest entries rising d xs in
+    let best = tie_below tie (scores_at d ess) small in
+    omega (arith, made, most, best, fits))))
+
+-- what both of two lists have ascends
+pub both_rise : (es fs : List Entry) → Rising 0 es → Rising 0 fs → greatest_score es + greatest_score fs ≤ max_score → Rising 0 (meeting (es ∷ fs ∷ []))
+both_rise es fs left right fits =
+    let entries : ((xs : List Entry) × Rising 0 xs) → List Entry = λ p. p.0 in
+    let rising : (p : (xs : List Entry) × Rising 0 xs) → Rising 0 (entries p) = λ p. p.1 in
+    let first : (xs : List Entry) × Rising 0 xs = (es, left) in
+    let second : (xs : List Entry) × Rising 0 xs = (fs, right) in
+    Rising-meeting entries rising (first ∷ second ∷ []) (omega (arith, fits))
 
 pub natural_below : (z : ℤ) (n : ℕ) → z ≤ℤ pos n → natural z ≤ n
 natural_below (pos m) n l = leb_yes l.le

@@ -9,14 +9,16 @@ mod forms;
 mod intersecting;
 mod leaf;
 mod listing;
+mod minimum_scorer;
 mod several;
 
 pub use any_scorer::AnyScorer;
 pub use boolean::boolean_scorer;
-pub use disjunction_max::disjunction_max_scorer;
+pub use disjunction_max::{BestOf, best_of, disjunction_max_scorer};
 pub use either_scorer::EitherScorer;
 pub use forms::{of_all, of_list, of_none, of_phrase, of_phrase_prefix, of_term, with_score};
 pub use intersecting::intersect_scorers;
 pub use leaf::Leaf;
 pub use listing::{for_each_scorer, listed};
+pub use minimum_scorer::{AtLeast, WithMinimum, at_least, with_minimum};
 pub use several::{AllOf, AnyOf, all_of, any_of};

@@ -13,4 +13,5 @@ pub use disjunction_max_query::best_scorer;
 pub use segment_scorers::SegmentScorers;
 pub use trees::{
     boolean_scorer, boosted_scorer, constant_scorer, max_scorer, scorer_of, scorers_asked,
+    scorers_of,
 };

@@ -133,7 +133,7 @@ pub fn max_scorer<F: SegmentScorers>(
 
 /// Returns the scorers of `queries`, in order.
 #[cycle(scorer_of)]
-fn scorers_of<F: SegmentScorers>(
+pub fn scorers_of<F: SegmentScorers>(
     alloc: Global,
     forms: &F,
     queries: &[AnyQuery],

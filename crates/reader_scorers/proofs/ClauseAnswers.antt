@@ -8,11 +8,11 @@ use Rattle.any_scorer.proofs.ByScores.{joined, with_optional_scores}
 use Rattle.any_scorer.proofs.OneDocument.{scores_without}
 use Rattle.any_scorer.specs.Clauses.{by_clauses, by_number, scores_at, scores_of}
 use Rattle.definitions.specs.Postings.{terminated}
-use Rattle.definitions.specs.Query.{Clauses, Query, boolean, must, must_not, should}
+use Rattle.definitions.specs.Query.{Clauses, boolean, must, must_not, should}
 use Rattle.definitions.specs.Scoring.{Similarity, max_score}
 use Rattle.definitions.specs.Sinks as sinks
 use Rattle.docsets.proofs.MemberLaws.{Rising-listed, sum-greatest}
-use Rattle.docsets.specs.Entries.{Entry, Rising, from}
+use Rattle.docsets.specs.Entries.{Entry, Rising}
 use Rattle.docsets.specs.Members.{at_least, enough, entries_at, entries_of, greatest_sum, joining, scores_in}
 use Rattle.docsets.specs.ScoredEntries.{greatest_score, pairs_of}
 use Rattle.intersections.specs.DifferenceLaws.{Rising-without}
@@ -25,14 +25,10 @@ use Rattle.query_scorers.specs.Asked.{asked}
 use Rattle.query_scorers.specs.Scores.{AllScore, Scores}
 use Rattle.walks.proofs.FedBelow.{few_within}
 use Rattle.walks.specs.Unions.{union}
-use Rattle.reader_scorers.specs.Fed.{HasClauses, IsFedBy, IsFedByClauses}
+use Rattle.reader_scorers.specs.Fed.{HasClauses, IsFedBy, IsFedSuch}
 use Rattle.reader_scorers.specs.Terms.{HaveSame}
 use Rattle.segment_reader.specs.SegmentReaders.{max_doc_of}
 use Rattle.segment_reader.specs.declared.segment_reader.SegmentReader.{SegmentReader}
-
--- no document is behind the last
-pub within_same : (n m : ℕ) (es : List Entry) → n ≡ m → from m es ≡ [] → from n es ≡ []
-within_same n m es same within = ap (λ k. from k es) same ∙ within
 
 -- as many lists as scorers
 pub some_mapped : {X : Type 0} (entries : X → List Entry) (xs : List X) → 1 ≤ length xs → 1 ≤ length (map entries xs)
@@ -59,23 +55,23 @@ without_none (e ∷ es) = ap (λ xs. e ∷ xs) (without_none es)
 -- ---- lists of what clauses have
 
 -- they ascend, and have these scores
-abbrev Have : List (List Entry) → List (List Entry) → List (List Entry) → List Entry → Type 0
-Have musts shoulds must_nots es = Rising 0 es × ((d : ℕ) → d < terminated → scores_of d es ≡ by_clauses 0 musts shoulds must_nots d)
+abbrev Have : ℕ → List (List Entry) → List (List Entry) → List (List Entry) → List Entry → Type 0
+Have minimum musts shoulds must_nots es = Rising 0 es × ((d : ℕ) → d < terminated → scores_of d es ≡ by_clauses minimum musts shoulds must_nots d)
 
 -- without what must not match
-pub have_without : (musts shoulds must_nots : List (List Entry)) (es : List Entry) → Have musts shoulds [] es → Have musts shoulds must_nots (without (enough 1 must_nots) es)
-have_without musts shoulds must_nots es have = (Rising-without (enough 1 must_nots) 0 es have.0, λ d l. scores_without (enough 1 must_nots) d es ∙ (ap (λ xs. if enough 1 must_nots d then [] else xs) (have.1 d l) ∙ left_out 0 d musts shoulds must_nots))
+pub have_without : (minimum : ℕ) (musts shoulds must_nots : List (List Entry)) (es : List Entry) → Have minimum musts shoulds [] es → Have minimum musts shoulds must_nots (without (enough 1 must_nots) es)
+have_without minimum musts shoulds must_nots es have = (Rising-without (enough 1 must_nots) 0 es have.0, λ d l. scores_without (enough 1 must_nots) d es ∙ (ap (λ xs. if enough 1 must_nots d then [] else xs) (have.1 d l) ∙ left_out minimum d musts shoulds must_nots))
 
 -- of what should match alone, the union
-pub have_any : (shoulds : List (List Entry)) (es : List Entry) → Rising 0 es → ((d : ℕ) → d < terminated → scores_of d es ≡ by_number 1 shoulds d) → Have [] shoulds [] es
+pub have_any : (shoulds : List (List Entry)) (es : List Entry) → Rising 0 es → ((d : ℕ) → d < terminated → scores_of d es ≡ by_number 1 shoulds d) → Have 0 [] shoulds [] es
 have_any shoulds es rises scores = (rises, λ d l. scores d l ∙ only_shoulds 0 d shoulds)
 
 -- of what must match alone, what all have
-pub have_all : (musts : List (List Entry)) (es : List Entry) → 1 ≤ length musts → Rising 0 es → ((d : ℕ) → d < terminated → scores_of d es ≡ by_number (length musts) musts d) → Have musts [] [] es
+pub have_all : (musts : List (List Entry)) (es : List Entry) → 1 ≤ length musts → Rising 0 es → ((d : ℕ) → d < terminated → scores_of d es ≡ by_number (length musts) musts d) → Have 0 musts [] [] es
 have_all musts es some rises scores = (rises, λ d l. scores d l ∙ (nothing_added (by_number (length musts) musts d) ∙ with_shoulds d musts [] some))
 
 -- of both, what all have with what any adds
-pub have_both : (musts shoulds : List (List Entry)) (es os : List Entry) → 1 ≤ length musts → Rising 0 es → Rising 0 os → greatest_score es + greatest_score os ≤ max_score → ((d : ℕ) → d < terminated → scores_of d es ≡ by_number (length musts) musts d) → ((d : ℕ) → d < terminated → scores_of d os ≡ by_number 1 shoulds d) → Have musts shoulds [] (with_optional sum es os)
+pub have_both : (musts shoulds : List (List Entry)) (es os : List Entry) → 1 ≤ length musts → Rising 0 es → Rising 0 os → greatest_score es + greatest_score os ≤ max_score → ((d : ℕ) → d < terminated → scores_of d es ≡ by_number (length musts) musts d) → ((d : ℕ) → d < terminated → scores_of d os ≡ by_number 1 shoulds d) → Have 0 musts shoulds [] (with_optional sum es os)
 have_both musts shoulds es os some r ro fits scores more = (
   Rising-optional {C = ℕ} (λ c xs. sum xs) (λ c. 0) (λ c xs l. omega (arith, l)) 0 es os r ro refl fits,
   λ d l. with_optional_scores sum (with_optional sum es os) (with_optional sum es os) es os d refl refl
@@ -85,18 +81,18 @@ have_both musts shoulds es os some r ro fits scores more = (
 
 module _ {X : Type 0} (entries : X → List Entry) (rising : (x : X) → Rising 0 (entries x)) where
   -- no score is above the sum of the greatest of each
-  pub complete : (xs ys : List X) (must_nots : List (List Entry)) (es : List Entry) → Have (map entries xs) (map entries ys) must_nots es → HasClauses (map entries xs) (map entries ys) must_nots es
-  complete xs ys must_nots es have = record { rises = have.0; scores = have.1; bounded = bounded_clauses entries rising 0 xs ys must_nots es have.0 have.1 }
+  pub complete : (minimum : ℕ) (xs ys : List X) (must_nots : List (List Entry)) (es : List Entry) → Have minimum (map entries xs) (map entries ys) must_nots es → HasClauses minimum (map entries xs) (map entries ys) must_nots es
+  complete minimum xs ys must_nots es have = record { rises = have.0; scores = have.1; bounded = bounded_clauses entries rising minimum xs ys must_nots es have.0 have.1 }
 
   -- the documents that enough lists have ascend, if the scores fit together
   joined_rises : (n : ℕ) (xs : List X) → greatest_sum (map entries xs) ≤ max_score → Rising 0 (at_least n joining (map entries xs))
   joined_rises n xs fits = Rising-listed (enough n (map entries xs)) (λ d. joining d (entries_at d (map entries xs))) 0 (λ d l t is. (let most = sum-greatest entries rising d xs in omega (arith, most, fits)))
 
-  pub has_union : (xs : List X) → greatest_sum (map entries xs) ≤ max_score → HasClauses [] (map entries xs) [] (union (map entries xs))
-  has_union xs fits = complete [] xs [] (union (map entries xs)) (have_any (map entries xs) (union (map entries xs)) (joined_rises 1 xs fits) (λ d l. joined 1 (union (map entries xs)) (union (map entries xs)) (map entries xs) refl refl d l))
+  pub has_union : (xs : List X) → greatest_sum (map entries xs) ≤ max_score → HasClauses 0 [] (map entries xs) [] (union (map entries xs))
+  has_union xs fits = complete 0 [] xs [] (union (map entries xs)) (have_any (map entries xs) (union (map entries xs)) (joined_rises 1 xs fits) (λ d l. joined 1 (union (map entries xs)) (union (map entries xs)) (map entries xs) refl refl d l))
 
-  pub has_meeting : (xs : List X) → 1 ≤ length xs → greatest_sum (map entries xs) ≤ max_score → HasClauses (map entries xs) [] [] (meeting (map entries xs))
-  has_meeting xs some fits = complete xs [] [] (meeting (map entries xs)) (have_all (map entries xs) (meeting (map entries xs)) (some_mapped entries xs some) (joined_rises (length (map entries xs)) xs fits) (λ d l. joined (length (map entries xs)) (meeting (map entries xs)) (meeting (map entries xs)) (map entries xs) refl refl d l))
+  pub has_meeting : (xs : List X) → 1 ≤ length xs → greatest_sum (map entries xs) ≤ max_score → HasClauses 0 (map entries xs) [] [] (meeting (map entries xs))
+  has_meeting xs some fits = complete 0 xs [] [] (meeting (map entries xs)) (have_all (map entries xs) (meeting (map entries xs)) (some_mapped entries xs some) (joined_rises (length (map entries xs)) xs fits) (λ d l. joined (length (map entries xs)) (meeting (map entries xs)) (meeting (map entries xs)) (map entries xs) refl refl d l))
 
 -- ---- what clauses answer
 
@@ -121,33 +117,35 @@ least_minimum : (m d : ℕ) (musts shoulds must_nots : List (List Entry)) → m 
 least_minimum m d [] shoulds must_nots few none = ap (λ b. if b then sum (scores_at d shoulds) ∷ [] else []) (tests m (length (entries_at d shoulds)) (not (enough 1 must_nots d)) few)
 least_minimum m d (es ∷ musts) shoulds must_nots few none = ap (λ k. by_clauses k (es ∷ musts) shoulds must_nots d) (sym (none (omega arith)))
 
-module _ (sim : Similarity) (b : ℕ) (r : SegmentReader) (cs : Clauses) (minimum : ℕ) (musts all_shoulds all_nots : List (List Entry)) (musts_score : AllScore sim b r (asked must cs) musts) (shoulds_score : AllScore sim b r (asked should cs) all_shoulds) (nots_score : AllScore sim b r (asked must_not cs) all_nots) (few : max_doc_of r ≤ terminated) (at_most : minimum ≤ 1) (none : 0 < length musts → minimum ≡ 0) (shoulds must_nots : List (List Entry)) (same : HaveSame shoulds all_shoulds) (same_nots : HaveSame must_nots all_nots) where
+-- what clauses have without a minimum they have with one that asks for no more
+pub at_minimum : (m : ℕ) (musts shoulds must_nots : List (List Entry)) → m ≤ 1 → (0 < length musts → m ≡ 0) → (es : List Entry) → HasClauses 0 musts shoulds must_nots es → HasClauses m musts shoulds must_nots es
+at_minimum m musts shoulds must_nots few none es has = record { rises = has.rises; scores = λ d l. has.scores d l ∙ least_minimum m d musts shoulds must_nots few none; bounded = has.bounded }
+
+module _ (sim : Similarity) (b : ℕ) (r : SegmentReader) (cs : Clauses) (minimum : ℕ) (musts all_shoulds all_nots : List (List Entry)) (musts_score : AllScore sim b r (asked must cs) musts) (shoulds_score : AllScore sim b r (asked should cs) all_shoulds) (nots_score : AllScore sim b r (asked must_not cs) all_nots) (few : max_doc_of r ≤ terminated) (shoulds must_nots : List (List Entry)) (same : HaveSame shoulds all_shoulds) (same_nots : HaveSame must_nots all_nots) where
   -- a list of what the clauses have is what they answer
-  pub answered : (es : List Entry) → HasClauses musts shoulds must_nots es → Scores sim b (boolean cs minimum) r es
+  pub answered : (es : List Entry) → HasClauses minimum musts shoulds must_nots es → Scores sim b (boolean cs minimum) r es
   answered es has =
-      let are : (d : ℕ) → d < terminated → scores_of d es ≡ by_clauses minimum musts all_shoulds all_nots d = λ d l. has.scores d l
-      ∙ (same_lists 0 d musts shoulds all_shoulds must_nots all_nots (same.entries d) (same_nots.entries d)
-      ∙ least_minimum minimum d musts all_shoulds all_nots at_most none) in
+      let are : (d : ℕ) → d < terminated → scores_of d es ≡ by_clauses minimum musts all_shoulds all_nots d = λ d l. has.scores d l ∙ same_lists minimum d musts shoulds all_shoulds must_nots all_nots (same.entries d) (same_nots.entries d) in
       let bounded = has.bounded in
       let greatest = same.greatest in
       clauses_score sim b r few cs minimum musts all_shoulds all_nots es musts_score shoulds_score nots_score are (omega (arith, bounded, greatest)) has.rises
 
   -- and has no more documents than the segment
-  pub few_answered : (es : List Entry) → HasClauses musts shoulds must_nots es → length es ≤ max_doc_of r
+  pub few_answered : (es : List Entry) → HasClauses minimum musts shoulds must_nots es → length es ≤ max_doc_of r
   few_answered es has = (let many = few_within 0 (max_doc_of r) es has.rises (answered es has).within in omega (arith, many))
 
   -- a sink that was fed such a list was fed what they answer
-  pub fed_answered : {S : Type 0} (limit : S → ℤ) (taken : S → ℕ × ℕ → S) (before after : S) → IsFedByClauses limit taken before musts shoulds must_nots after → IsFedBy limit taken before sim b (boolean cs minimum) r after
+  pub fed_answered : {S : Type 0} (limit : S → ℤ) (taken : S → ℕ × ℕ → S) (before after : S) → IsFedSuch limit taken before (HasClauses minimum musts shoulds must_nots) after → IsFedBy limit taken before sim b (boolean cs minimum) r after
   fed_answered limit taken before after is = record { entries = is.entries; scores = answered is.entries is.has; rises = is.has.rises; fed = is.fed }
 
--- a sink that was fed entries that a query answers
-pub is_fed : {S : Type 0} (limit : S → ℤ) (taken : S → ℕ × ℕ → S) (before : S) (sim : Similarity) (b : ℕ) (q : Query) (r : SegmentReader) (after : S) (es : List Entry) → Rising 0 es → Scores sim b q r es → after ≡ sinks.fed limit taken before (pairs_of es) → IsFedBy limit taken before sim b q r after
-is_fed limit taken before sim b q r after es rises scores is = record { entries = es; scores = scores; rises = rises; fed = is }
+-- a sink that was fed entries of which something is said
+pub is_fed_such : {S : Type 0} (limit : S → ℤ) (taken : S → ℕ × ℕ → S) (before : S) (Has : List Entry → Type 0) (after : S) (es : List Entry) → Has es → after ≡ sinks.fed limit taken before (pairs_of es) → IsFedSuch limit taken before Has after
+is_fed_such limit taken before Has after es has is = record { entries = es; has = has; fed = is }
 
--- a sink that was fed entries that clauses have
-pub is_fed_by : {S : Type 0} (limit : S → ℤ) (taken : S → ℕ × ℕ → S) (before : S) (musts shoulds must_nots : List (List Entry)) (after : S) (es : List Entry) → HasClauses musts shoulds must_nots es → after ≡ sinks.fed limit taken before (pairs_of es) → IsFedByClauses limit taken before musts shoulds must_nots after
-is_fed_by limit taken before musts shoulds must_nots after es has is = record { entries = es; has = has; fed = is }
+-- of which less is said then too
+pub fed_such_weaker : {S : Type 0} (limit : S → ℤ) (taken : S → ℕ × ℕ → S) (before : S) (P Q : List Entry → Type 0) (after : S) → ((es : List Entry) → P es → Q es) → IsFedSuch limit taken before P after → IsFedSuch limit taken before Q after
+fed_such_weaker limit taken before P Q after weaker is = record { entries = is.entries; has = weaker is.entries is.has; fed = is.fed }
 
 -- the same of equal lists
-pub same_has : (ms ns ss ts xs ys : List (List Entry)) (es : List Entry) → ms ≡ ns → ss ≡ ts → xs ≡ ys → HasClauses ms ss xs es → HasClauses ns ts ys es
-same_has ms ns ss ts xs ys es musts shoulds must_nots has = subst (λ ks. HasClauses ks ts ys es) musts (subst (λ ks. HasClauses ms ks ys es) shoulds (subst (λ ks. HasClauses ms ss ks es) must_nots has))
+pub same_has : (minimum : ℕ) (ms ns ss ts xs ys : List (List Entry)) (es : List Entry) → ms ≡ ns → ss ≡ ts → xs ≡ ys → HasClauses minimum ms ss xs es → HasClauses minimum ns ts ys es
+same_has minimum ms ns ss ts xs ys es musts shoulds must_nots has = subst (λ ks. HasClauses minimum ks ts ys es) musts (subst (λ ks. HasClauses minimum ms ks ys es) shoulds (subst (λ ks. HasClauses minimum ms ss ks es) must_nots has))

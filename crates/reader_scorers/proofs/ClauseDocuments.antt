@@ -73,7 +73,7 @@ same_without : (f : ℕ → Bool) (es fs : List Entry) → documents es ≡ docu
 same_without f es fs same = documents_without f es ∙ (ap (filter (λ d. not (f d))) same ∙ sym (documents_without f fs))
 
 -- they match the same queries
-same_matches : (weight : List ℕ → ℕ) (b : ℕ) (q : Query) (r : SegmentReader) (es fs : List Entry) → documents es ≡ documents fs → Matches weight b q r fs → Matches weight b q r es
+pub same_matches : (weight : List ℕ → ℕ) (b : ℕ) (q : Query) (r : SegmentReader) (es fs : List Entry) → documents es ≡ documents fs → Matches weight b q r fs → Matches weight b q r es
 same_matches weight b q r es fs same are = record { documents_are = λ schema analyze docs stands passes. same ∙ are.documents_are schema analyze docs stands passes }
 
 -- ---- lists with the documents of clauses
@@ -81,7 +81,7 @@ same_matches weight b q r es fs same are = record { documents_are = λ schema an
 -- some list that clauses have has the same documents
 pub record HasDocuments (musts shoulds must_nots : List (List Entry)) (es : List Entry) : Type 0 where
   pub entries : List Entry
-  pub has : HasClauses musts shoulds must_nots entries
+  pub has : HasClauses 0 musts shoulds must_nots entries
   pub same : documents es ≡ documents entries
 
 module _ {X : Type 0} (entries : X → List Entry) (rising : (x : X) → Rising 0 (entries x)) where
@@ -92,7 +92,7 @@ module _ {X : Type 0} (entries : X → List Entry) (rising : (x : X) → Rising 
       let has = has_union entries rising shoulds fits in
       record {
         entries = without (enough 1 must_nots) (union ess);
-        has = complete entries rising [] shoulds must_nots _ (have_without [] ess must_nots (union ess) (has.rises, has.scores));
+        has = complete entries rising 0 [] shoulds must_nots _ (have_without 0 [] ess must_nots (union ess) (has.rises, has.scores));
         same = same_without (enough 1 must_nots) _ _ (documents_listed (enough 1 ess) _ _);
       }
 
@@ -109,14 +109,14 @@ module _ {X : Type 0} (entries : X → List Entry) (rising : (x : X) → Rising 
       let both = have_both (map entries musts) ess es (union ess) some rises any.rises (omega (arith, bounded, most, fits)) scores (λ d l. joined 1 (union ess) (union ess) ess refl refl d l) in
       record {
         entries = without (enough 1 must_nots) (with_optional sum es (union ess));
-        has = complete entries rising musts shoulds must_nots _ (have_without (map entries musts) ess must_nots _ both);
+        has = complete entries rising 0 musts shoulds must_nots _ (have_without 0 (map entries musts) ess must_nots _ both);
         same = same_without (enough 1 must_nots) _ _ (sym (documents_rescored (score_with sum (union ess)) es));
       }
 
 -- what is counted of such a list is what clauses have
-pub counts_clauses : (r : SegmentReader) (musts shoulds must_nots : List (List Entry)) (es : List Entry) (n : ℕ) → HasDocuments musts shoulds must_nots es → IsCountBy r (λ xs. xs ≡ es) n → IsCountBy r (HasClauses musts shoulds must_nots) n
+pub counts_clauses : (r : SegmentReader) (musts shoulds must_nots : List (List Entry)) (es : List Entry) (n : ℕ) → HasDocuments musts shoulds must_nots es → IsCountBy r (λ xs. xs ≡ es) n → IsCountBy r (HasClauses 0 musts shoulds must_nots) n
 counts_clauses r musts shoulds must_nots es n has is weight b q are = is weight b q (λ xs same. subst (Matches weight b q r) (sym same) (same_matches weight b q r es has.entries has.same (are has.entries has.has)))
 
 -- and its documents are within the segment
-pub within_clauses : (n : ℕ) (musts shoulds must_nots : List (List Entry)) (es : List Entry) → HasDocuments musts shoulds must_nots es → ((xs : List Entry) → HasClauses musts shoulds must_nots xs → from n xs ≡ []) → from n es ≡ []
+pub within_clauses : (n : ℕ) (musts shoulds must_nots : List (List Entry)) (es : List Entry) → HasDocuments musts shoulds must_nots es → ((xs : List Entry) → HasClauses 0 musts shoulds must_nots xs → from n xs ≡ []) → from n es ≡ []
 within_clauses n musts shoulds must_nots es has within = none_from n es has.entries has.same (within has.entries has.has)

@@ -1,4 +1,5 @@
 -- Lemmas behind the scorers of segments.
+pub mod BestAnswers
 pub mod ClauseAnswers
 pub mod ClauseDocuments
 pub mod SamePairs

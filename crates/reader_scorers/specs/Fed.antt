@@ -1,6 +1,6 @@
 -- What a sink was fed of a query in a segment.
 use Rattle.std.specs.Prelude.{◌+◌, ◌<◌, ◌≡◌, ◌≤◌, List, ℕ, ℤ}
-use Rattle.any_scorer.specs.Clauses.{by_clauses, scores_of}
+use Rattle.any_scorer.specs.Clauses.{by_best, by_clauses, scores_of}
 use Rattle.definitions.specs.Postings.{terminated}
 use Rattle.definitions.specs.Query.{Query}
 use Rattle.definitions.specs.Scoring.{Similarity}
@@ -18,15 +18,21 @@ pub record IsFedBy {S : Type 0} (limit : S → ℤ) (taken : S → ℕ × ℕ �
   pub rises : Rising 0 entries
   pub fed : after ≡ sinks.fed limit taken before (pairs_of entries)
 
--- a list has of each document what clauses have, by the lists of those that must match, those that may, and those that
--- must not
-pub record HasClauses (musts shoulds must_nots : List (List Entry)) (es : List Entry) : Type 0 where
+-- a list has of each document what clauses have that ask for a minimum of what should match, by the lists of those that
+-- must match, those that should, and those that must not
+pub record HasClauses (minimum : ℕ) (musts shoulds must_nots : List (List Entry)) (es : List Entry) : Type 0 where
   pub rises : Rising 0 es
-  pub scores : (d : ℕ) → d < terminated → scores_of d es ≡ by_clauses 0 musts shoulds must_nots d
+  pub scores : (d : ℕ) → d < terminated → scores_of d es ≡ by_clauses minimum musts shoulds must_nots d
   pub bounded : greatest_score es ≤ greatest_sum musts + greatest_sum shoulds
 
--- it was fed such a list
-pub record IsFedByClauses {S : Type 0} (limit : S → ℤ) (taken : S → ℕ × ℕ → S) (before : S) (musts shoulds must_nots : List (List Entry)) (after : S) : Type 0 where
+-- a list has of each document its best score in several lists, with a share of the others
+pub record HasBest (tie : ℕ) (disjuncts : List (List Entry)) (es : List Entry) : Type 0 where
+  pub rises : Rising 0 es
+  pub scores : (d : ℕ) → d < terminated → scores_of d es ≡ by_best tie disjuncts d
+  pub bounded : greatest_score es ≤ greatest_sum disjuncts
+
+-- it was fed a list of which this is said
+pub record IsFedSuch {S : Type 0} (limit : S → ℤ) (taken : S → ℕ × ℕ → S) (before : S) (Has : List Entry → Type 0) (after : S) : Type 0 where
   pub entries : List Entry
-  pub has : HasClauses musts shoulds must_nots entries
+  pub has : Has entries
   pub fed : after ≡ sinks.fed limit taken before (pairs_of entries)

@@ -12,21 +12,19 @@ ghost use Rattle.reader_scorers.specs.Scored.{segment_scored, weights_of};
 ghost use Rattle.segment_reader.specs.SegmentReaders.{max_doc_of};
 ghost use Rattle.query_scorers.specs.Accepted.{IsAccepted};
 
-use crate::clause_walks::{asks_for_more, keep_some};
-use crate::joint_counts::count_together;
+use crate::clause_walks::keep_some;
+use crate::joint_counts::count_matching;
 use crate::leaf_weights::LeafWeights;
 use crate::reader_scorers::ReaderScorers;
 use crate::terms_alone::{are_terms, into_terms};
 use any_scorer::AnyScorer;
 use docsets::{DocSet, Scorer};
-use query_scorers::{SegmentScorers, scorers_asked};
+use query_scorers::scorers_asked;
 use query_trees::{AnyQuery, Occur};
-use scorer_answers::count;
 use segment_reader::SegmentReader;
 use std::alloc::{AllocError, Global};
 
-/// Counts the living documents of a segment that match `clauses`. There is no list of them, unless the clauses ask for
-/// more of the `Should` ones than that there is something to match.
+/// Counts the living documents of a segment that match `clauses`. There is no list of them.
 pub fn count_clauses<'a, W: LeafWeights<'a>>(
     alloc: Global,
     forms: &ReaderScorers<'_, 'a, W>,
@@ -42,39 +40,36 @@ pub fn count_clauses<'a, W: LeafWeights<'a>>(
     let musts = scorers_asked(alloc, forms, clauses, Occur::Must, 1)?;
     let mut shoulds = scorers_asked(alloc, forms, clauses, Occur::Should, 1)?;
     let mut must_nots = scorers_asked(alloc, forms, clauses, Occur::MustNot, 1)?;
-    if asks_for_more(musts.len(), minimum) {
-        let mut scorer = forms.clauses_scorer(alloc, musts, shoulds, must_nots, minimum)?;
-        return Ok(count(&mut scorer, forms.reader));
-    }
     keep_some(&mut shoulds);
     keep_some(&mut must_nots);
-    count_any_together(alloc, musts, shoulds, must_nots, forms.reader)
+    count_any_together(alloc, musts, shoulds, must_nots, minimum, forms.reader)
 }
 
-/// Counts the living documents that all of `musts` and none of `must_nots` have, and one of `shoulds` if there are no
-/// `musts`. The kind of scorers is looked at once if all are of terms, and not for each document.
+/// Like `count_matching`, but the kind of scorers is looked at once if all are of terms, and not for each document.
 fn count_any_together<A: Scorer + Drop, T: Scorer + Drop, P: Scorer + Drop, X: Scorer + Drop>(
     alloc: Global,
     musts: Vec<AnyScorer<A, T, P, X>>,
     shoulds: Vec<AnyScorer<A, T, P, X>>,
     must_nots: Vec<AnyScorer<A, T, P, X>>,
+    minimum: usize,
     reader: &SegmentReader<'_>,
 ) -> Result<u32, AllocError>
     requires fits { greatest_sum (map ⟦<AnyScorer<A, T, P, X> as DocSet>⟧.entries musts.items)
         + greatest_sum (map ⟦<AnyScorer<A, T, P, X> as DocSet>⟧.entries shoulds.items) ≤ max_score }
-    requires within { (es : List Entry) → HasClauses (map ⟦<AnyScorer<A, T, P, X> as DocSet>⟧.entries musts.items)
+    requires within { (es : List Entry) → HasClauses minimum
+        (map ⟦<AnyScorer<A, T, P, X> as DocSet>⟧.entries musts.items)
         (map ⟦<AnyScorer<A, T, P, X> as DocSet>⟧.entries shoulds.items)
         (map ⟦<AnyScorer<A, T, P, X> as DocSet>⟧.entries must_nots.items) es → from (max_doc_of reader.now) es ≡ [] }
-    ensures { IfOk result (IsCountBy reader.now (HasClauses
+    ensures { IfOk result (IsCountBy reader.now (HasClauses minimum
         (map ⟦<AnyScorer<A, T, P, X> as DocSet>⟧.entries musts.items)
         (map ⟦<AnyScorer<A, T, P, X> as DocSet>⟧.entries shoulds.items)
         (map ⟦<AnyScorer<A, T, P, X> as DocSet>⟧.entries must_nots.items))) }
 {
     if !are_terms(&musts) || !are_terms(&shoulds) || !are_terms(&must_nots) {
-        return count_together(alloc, musts, shoulds, must_nots, reader);
+        return count_matching(alloc, musts, shoulds, must_nots, minimum, reader);
     }
     let musts = into_terms(alloc, musts)?;
     let shoulds = into_terms(alloc, shoulds)?;
     let must_nots = into_terms(alloc, must_nots)?;
-    count_together(alloc, musts, shoulds, must_nots, reader)
+    count_matching(alloc, musts, shoulds, must_nots, minimum, reader)
 }

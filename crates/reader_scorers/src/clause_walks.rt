@@ -6,28 +6,26 @@ ghost use Rattle.definitions.specs.Scoring.{max_score};
 ghost use Rattle.docsets.specs.Entries.{Entry};
 ghost use Rattle.docsets.specs.Members.{greatest_sum};
 ghost use Rattle.query_trees.specs.Queries.{clauses_of};
-ghost use Rattle.reader_scorers.specs.Fed.{HasClauses, IsFedBy, IsFedByClauses};
+ghost use Rattle.reader_scorers.specs.Fed.{HasClauses, IsFedBy, IsFedSuch};
 ghost use Rattle.reader_scorers.specs.Scored.{segment_scored, weights_of};
 ghost use Rattle.reader_scorers.specs.Terms.{HaveSame};
 ghost use Rattle.segment_reader.specs.SegmentReaders.{max_doc_of};
 ghost use Rattle.query_scorers.specs.Accepted.{IsAccepted};
 
-use crate::joint_walks::feed_together;
+use crate::joint_walks::feed_matching;
 use crate::leaf_weights::LeafWeights;
 use crate::reader_scorers::ReaderScorers;
-use crate::scorer_walks::feed_by_kind;
 use crate::terms_alone::{are_terms, into_terms};
 use any_scorer::AnyScorer;
 use common::{DocId, Score, TERMINATED};
 use docsets::{DocSet, Scorer};
-use query_scorers::{SegmentScorers, scorers_asked};
+use query_scorers::scorers_asked;
 use query_trees::{AnyQuery, Occur};
 use std::alloc::{AllocError, Global};
 use walks::Sink;
 
 /// Feeds each document of a segment that matches `clauses` with its score to `sink`, in order, if the score is above the
-/// sink's threshold by then; none if out of memory. There is no list of them, unless the clauses ask for more of the
-/// `Should` ones than that there is something to match.
+/// sink's threshold by then; none if out of memory. There is no list of them.
 pub fn feed_clauses<'a, W: LeafWeights<'a>, K: Sink>(
     alloc: Global,
     forms: &ReaderScorers<'_, 'a, W>,
@@ -45,15 +43,9 @@ pub fn feed_clauses<'a, W: LeafWeights<'a>, K: Sink>(
         (K.state sink.new)) }
     ensures same { OnErr result (sink.new ≡ sink.old) }
 {
-    let minimum = minimum_number_should_match;
     let musts = scorers_asked(alloc, forms, clauses, Occur::Must, 1)?;
     let mut shoulds = scorers_asked(alloc, forms, clauses, Occur::Should, 1)?;
     let mut must_nots = scorers_asked(alloc, forms, clauses, Occur::MustNot, 1)?;
-    if asks_for_more(musts.len(), minimum) {
-        let scorer = forms.clauses_scorer(alloc, musts, shoulds, must_nots, minimum)?;
-        feed_by_kind::<ReaderScorers<'_, 'a, W>, K>(scorer, forms.max_doc(), threshold, sink);
-        return Ok(());
-    }
     keep_some(&mut shoulds);
     keep_some(&mut must_nots);
     feed_any_together(
@@ -61,15 +53,14 @@ pub fn feed_clauses<'a, W: LeafWeights<'a>, K: Sink>(
         musts,
         shoulds,
         must_nots,
+        minimum_number_should_match,
         forms.max_doc(),
         threshold,
         sink,
     )
 }
 
-/// Feeds each document that all of `musts` and none of `must_nots` have, and one of `shoulds` if there are no `musts`,
-/// with the sum of its scores to `sink`, in order, if that is above the sink's threshold by then; none if out of memory.
-/// The kind of scorers is looked at once if all are of terms, and not for each document.
+/// Like `feed_matching`, but the kind of scorers is looked at once if all are of terms, and not for each document.
 fn feed_any_together<
     A: Scorer + Drop,
     T: Scorer + Drop,
@@ -81,6 +72,7 @@ fn feed_any_together<
     musts: Vec<AnyScorer<A, T, P, X>>,
     shoulds: Vec<AnyScorer<A, T, P, X>>,
     must_nots: Vec<AnyScorer<A, T, P, X>>,
+    minimum: usize,
     num_docs: DocId,
     threshold: Score,
     sink: &mut K,
@@ -88,31 +80,27 @@ fn feed_any_together<
     requires fits { greatest_sum (map ⟦<AnyScorer<A, T, P, X> as DocSet>⟧.entries musts.items)
         + greatest_sum (map ⟦<AnyScorer<A, T, P, X> as DocSet>⟧.entries shoulds.items) ≤ max_score }
     requires threshold { threshold ≡ K.limit (K.state sink.old) }
-    requires room { (es : List Entry) → HasClauses (map ⟦<AnyScorer<A, T, P, X> as DocSet>⟧.entries musts.items)
-        (map ⟦<AnyScorer<A, T, P, X> as DocSet>⟧.entries shoulds.items)
-        (map ⟦<AnyScorer<A, T, P, X> as DocSet>⟧.entries must_nots.items) es → length es ≤ K.room sink.old }
-    ensures fed { OnOk result (IsFedByClauses K.limit K.taken (K.state sink.old)
+    requires room { (es : List Entry) → HasClauses minimum
         (map ⟦<AnyScorer<A, T, P, X> as DocSet>⟧.entries musts.items)
         (map ⟦<AnyScorer<A, T, P, X> as DocSet>⟧.entries shoulds.items)
-        (map ⟦<AnyScorer<A, T, P, X> as DocSet>⟧.entries must_nots.items) (K.state sink.new)) }
+        (map ⟦<AnyScorer<A, T, P, X> as DocSet>⟧.entries must_nots.items) es → length es ≤ K.room sink.old }
+    ensures fed { OnOk result (IsFedSuch K.limit K.taken (K.state sink.old) (HasClauses minimum
+        (map ⟦<AnyScorer<A, T, P, X> as DocSet>⟧.entries musts.items)
+        (map ⟦<AnyScorer<A, T, P, X> as DocSet>⟧.entries shoulds.items)
+        (map ⟦<AnyScorer<A, T, P, X> as DocSet>⟧.entries must_nots.items)) (K.state sink.new)) }
     ensures same { OnErr result (sink.new ≡ sink.old) }
 {
     if !are_terms(&musts) || !are_terms(&shoulds) || !are_terms(&must_nots) {
-        return feed_together(alloc, musts, shoulds, must_nots, num_docs, threshold, sink);
+        return feed_matching(
+            alloc, musts, shoulds, must_nots, minimum, num_docs, threshold, sink,
+        );
     }
     let musts = into_terms(alloc, musts)?;
     let shoulds = into_terms(alloc, shoulds)?;
     let must_nots = into_terms(alloc, must_nots)?;
-    feed_together(alloc, musts, shoulds, must_nots, num_docs, threshold, sink)
-}
-
-/// Whether clauses, of which so many must match, ask for more of their `Should` ones than that there is something to
-/// match.
-pub(crate) fn asks_for_more(musts: usize, minimum: usize) -> bool
-    ensures few { result ≡ false → minimum ≤ 1 }
-    ensures none { result ≡ false → 0 < musts → minimum ≡ 0 }
-{
-    minimum > 1 || minimum == 1 && musts > 0
+    feed_matching(
+        alloc, musts, shoulds, must_nots, minimum, num_docs, threshold, sink,
+    )
 }
 
 /// Leaves out those of `scorers` that have no document left.

@@ -1,4 +1,4 @@
-//! Counts of what scorers of clauses have together, without a list, and without a score.
+//! Counts of what scorers of clauses have together, without a list.
 
 ghost use Rattle.std.specs.Prelude.{[], ◌+◌, ◌≡◌, ◌≤◌, IfOk, List, length, map};
 ghost use Rattle.definitions.specs.Scoring.{max_score};
@@ -9,7 +9,8 @@ ghost use Rattle.reader_scorers.specs.Counted.{IsCountBy};
 ghost use Rattle.reader_scorers.specs.Fed.{HasClauses};
 ghost use Rattle.segment_reader.specs.SegmentReaders.{max_doc_of};
 
-use any_scorer::all_of;
+use crate::joint_walks::asks_for_more;
+use any_scorer::{all_of, with_minimum};
 use docsets::{DoNothingCombiner, DocSet, Scorer};
 use intersections::{Exclude, ExclusionList};
 use scorer_answers::count;
@@ -17,9 +18,31 @@ use scorers::BufferedUnionScorer;
 use segment_reader::SegmentReader;
 use std::alloc::{AllocError, Global};
 
-/// Counts the living documents that all of `musts` and none of `must_nots` have, and one of `shoulds` if there are no
-/// `musts`.
-pub(crate) fn count_together<S: Scorer + Drop>(
+/// Counts the living documents that all of `musts`, at least `minimum` of `shoulds` and none of `must_nots` have, and
+/// one of `shoulds` if there are no `musts`.
+pub(crate) fn count_matching<S: Scorer + Drop>(
+    alloc: Global,
+    musts: Vec<S>,
+    shoulds: Vec<S>,
+    must_nots: Vec<S>,
+    minimum: usize,
+    reader: &SegmentReader<'_>,
+) -> Result<u32, AllocError>
+    requires fits { greatest_sum (map S.entries musts.items) + greatest_sum (map S.entries shoulds.items) ≤ max_score }
+    requires within { (es : List Entry) → HasClauses minimum (map S.entries musts.items) (map S.entries shoulds.items)
+        (map S.entries must_nots.items) es → from (max_doc_of reader.now) es ≡ [] }
+    ensures { IfOk result (IsCountBy reader.now (HasClauses minimum (map S.entries musts.items)
+        (map S.entries shoulds.items) (map S.entries must_nots.items))) }
+{
+    if !asks_for_more(musts.len(), minimum) {
+        return count_together(alloc, musts, shoulds, must_nots, reader);
+    }
+    let scorer = with_minimum(alloc, musts, shoulds, minimum, reader.max_doc())?;
+    Ok(count_without(scorer, must_nots, reader))
+}
+
+/// Like `count_matching`, without a minimum.
+fn count_together<S: Scorer + Drop>(
     alloc: Global,
     musts: Vec<S>,
     shoulds: Vec<S>,
@@ -27,9 +50,9 @@ pub(crate) fn count_together<S: Scorer + Drop>(
     reader: &SegmentReader<'_>,
 ) -> Result<u32, AllocError>
     requires fits { greatest_sum (map S.entries musts.items) + greatest_sum (map S.entries shoulds.items) ≤ max_score }
-    requires within { (es : List Entry) → HasClauses (map S.entries musts.items) (map S.entries shoulds.items)
+    requires within { (es : List Entry) → HasClauses 0 (map S.entries musts.items) (map S.entries shoulds.items)
         (map S.entries must_nots.items) es → from (max_doc_of reader.now) es ≡ [] }
-    ensures { IfOk result (IsCountBy reader.now (HasClauses (map S.entries musts.items) (map S.entries shoulds.items)
+    ensures { IfOk result (IsCountBy reader.now (HasClauses 0 (map S.entries musts.items) (map S.entries shoulds.items)
         (map S.entries must_nots.items))) }
 {
     if musts.is_empty() {
@@ -46,9 +69,9 @@ fn count_any_of<S: Scorer + Drop>(
     reader: &SegmentReader<'_>,
 ) -> Result<u32, AllocError>
     requires fits { greatest_sum (map S.entries shoulds.items) ≤ max_score }
-    requires within { (es : List Entry) → HasClauses [] (map S.entries shoulds.items) (map S.entries must_nots.items) es
+    requires within { (es : List Entry) → HasClauses 0 [] (map S.entries shoulds.items) (map S.entries must_nots.items) es
         → from (max_doc_of reader.now) es ≡ [] }
-    ensures { IfOk result (IsCountBy reader.now (HasClauses [] (map S.entries shoulds.items)
+    ensures { IfOk result (IsCountBy reader.now (HasClauses 0 [] (map S.entries shoulds.items)
         (map S.entries must_nots.items))) }
 {
     let combiner = DoNothingCombiner::default();

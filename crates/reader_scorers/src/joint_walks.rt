@@ -1,25 +1,63 @@
 //! Walks of what scorers of clauses have together, into a sink, without a list.
 
-ghost use Rattle.std.specs.Prelude.{[], ◌+◌, ◌≡◌, ◌≤◌, List, OnErr, OnOk, length, map};
+ghost use Rattle.std.specs.Prelude.{[], ◌+◌, ◌<◌, ◌≡◌, ◌≤◌, List, OnErr, OnOk, false, length, map, true};
 ghost use Rattle.definitions.specs.Scoring.{max_score};
 ghost use Rattle.definitions.specs.Sinks.{fed};
 ghost use Rattle.docsets.specs.Entries.{Entry};
 ghost use Rattle.docsets.specs.Members.{enough, greatest_sum};
 ghost use Rattle.docsets.specs.ScoredEntries.{pairs_of};
 ghost use Rattle.intersections.specs.Differences.{without};
-ghost use Rattle.reader_scorers.specs.Fed.{HasClauses, IsFedByClauses};
+ghost use Rattle.reader_scorers.specs.Fed.{HasClauses, IsFedSuch};
 
-use any_scorer::{all_of, any_of};
+use any_scorer::{all_of, any_of, with_minimum};
 use common::{DocId, Score};
 use docsets::{DocSet, Scorer};
 use intersections::{Exclude, ExclusionList, RequiredOptionalScorer};
 use std::alloc::{AllocError, Global};
 use walks::{Sink, block_wand, block_wand_intersection, for_each_pruning_scorer};
 
-/// Feeds each document that all of `musts` and none of `must_nots` have, and one of `shoulds` if there are no `musts`,
-/// with the sum of its scores to `sink`, in order, if that is above the sink's threshold by then; none if out of memory.
-/// `num_docs`, the number of documents, is a hint.
-pub(crate) fn feed_together<S: Scorer + Drop, K: Sink>(
+/// Feeds each document that all of `musts`, at least `minimum` of `shoulds` and none of `must_nots` have, and one of
+/// `shoulds` if there are no `musts`, with the sum of its scores to `sink`, in order, if that is above the sink's
+/// threshold by then; none if out of memory. `num_docs`, the number of documents, is a hint.
+pub(crate) fn feed_matching<S: Scorer + Drop, K: Sink>(
+    alloc: Global,
+    musts: Vec<S>,
+    shoulds: Vec<S>,
+    must_nots: Vec<S>,
+    minimum: usize,
+    num_docs: DocId,
+    threshold: Score,
+    sink: &mut K,
+) -> Result<(), AllocError>
+    requires fits { greatest_sum (map S.entries musts.items) + greatest_sum (map S.entries shoulds.items) ≤ max_score }
+    requires threshold { threshold ≡ K.limit (K.state sink.old) }
+    requires room { (es : List Entry) → HasClauses minimum (map S.entries musts.items) (map S.entries shoulds.items)
+        (map S.entries must_nots.items) es → length es ≤ K.room sink.old }
+    ensures fed { OnOk result (IsFedSuch K.limit K.taken (K.state sink.old) (HasClauses minimum
+        (map S.entries musts.items) (map S.entries shoulds.items) (map S.entries must_nots.items))
+        (K.state sink.new)) }
+    ensures same { OnErr result (sink.new ≡ sink.old) }
+{
+    if !asks_for_more(musts.len(), minimum) {
+        return feed_together(alloc, musts, shoulds, must_nots, num_docs, threshold, sink);
+    }
+    let scorer = with_minimum(alloc, musts, shoulds, minimum, num_docs)?;
+    feed_without(scorer, must_nots, threshold, sink);
+    Ok(())
+}
+
+/// Whether clauses, of which so many must match, ask for more of their `Should` ones than that there is something to
+/// match.
+pub(crate) fn asks_for_more(musts: usize, minimum: usize) -> bool
+    ensures some { result ≡ true → 1 ≤ minimum }
+    ensures few { result ≡ false → minimum ≤ 1 }
+    ensures none { result ≡ false → 0 < musts → minimum ≡ 0 }
+{
+    minimum > 1 || minimum == 1 && musts > 0
+}
+
+/// Like `feed_matching`, without a minimum.
+fn feed_together<S: Scorer + Drop, K: Sink>(
     alloc: Global,
     musts: Vec<S>,
     shoulds: Vec<S>,
@@ -30,10 +68,10 @@ pub(crate) fn feed_together<S: Scorer + Drop, K: Sink>(
 ) -> Result<(), AllocError>
     requires fits { greatest_sum (map S.entries musts.items) + greatest_sum (map S.entries shoulds.items) ≤ max_score }
     requires threshold { threshold ≡ K.limit (K.state sink.old) }
-    requires room { (es : List Entry) → HasClauses (map S.entries musts.items) (map S.entries shoulds.items)
+    requires room { (es : List Entry) → HasClauses 0 (map S.entries musts.items) (map S.entries shoulds.items)
         (map S.entries must_nots.items) es → length es ≤ K.room sink.old }
-    ensures fed { OnOk result (IsFedByClauses K.limit K.taken (K.state sink.old) (map S.entries musts.items)
-        (map S.entries shoulds.items) (map S.entries must_nots.items) (K.state sink.new)) }
+    ensures fed { OnOk result (IsFedSuch K.limit K.taken (K.state sink.old) (HasClauses 0 (map S.entries musts.items)
+        (map S.entries shoulds.items) (map S.entries must_nots.items)) (K.state sink.new)) }
     ensures same { OnErr result (sink.new ≡ sink.old) }
 {
     if musts.is_empty() {
@@ -60,10 +98,10 @@ fn feed_any_of<S: Scorer + Drop, K: Sink>(
 ) -> Result<(), AllocError>
     requires fits { greatest_sum (map S.entries shoulds.items) ≤ max_score }
     requires threshold { threshold ≡ K.limit (K.state sink.old) }
-    requires room { (es : List Entry) → HasClauses [] (map S.entries shoulds.items) (map S.entries must_nots.items) es
+    requires room { (es : List Entry) → HasClauses 0 [] (map S.entries shoulds.items) (map S.entries must_nots.items) es
         → length es ≤ K.room sink.old }
-    ensures fed { OnOk result (IsFedByClauses K.limit K.taken (K.state sink.old) [] (map S.entries shoulds.items)
-        (map S.entries must_nots.items) (K.state sink.new)) }
+    ensures fed { OnOk result (IsFedSuch K.limit K.taken (K.state sink.old) (HasClauses 0 []
+        (map S.entries shoulds.items) (map S.entries must_nots.items)) (K.state sink.new)) }
     ensures same { OnErr result (sink.new ≡ sink.old) }
 {
     if must_nots.is_empty() {
@@ -85,10 +123,10 @@ fn feed_all_of<S: Scorer + Drop, K: Sink>(
     requires some { 1 ≤ length musts.items }
     requires fits { greatest_sum (map S.entries musts.items) ≤ max_score }
     requires threshold { threshold ≡ K.limit (K.state sink.old) }
-    requires room { (es : List Entry) → HasClauses (map S.entries musts.items) [] (map S.entries must_nots.items) es
+    requires room { (es : List Entry) → HasClauses 0 (map S.entries musts.items) [] (map S.entries must_nots.items) es
         → length es ≤ K.room sink.old }
-    ensures { IsFedByClauses K.limit K.taken (K.state sink.old) (map S.entries musts.items) []
-        (map S.entries must_nots.items) (K.state sink.new) }
+    ensures { IsFedSuch K.limit K.taken (K.state sink.old) (HasClauses 0 (map S.entries musts.items) []
+        (map S.entries must_nots.items)) (K.state sink.new) }
 {
     if must_nots.is_empty() {
         block_wand_intersection(musts, threshold, sink);

@@ -3,6 +3,8 @@
 
 mod clause_counts;
 mod clause_walks;
+mod disjunct_counts;
+mod disjunct_walks;
 mod joint_counts;
 mod joint_walks;
 mod leaf_weights;
@@ -13,5 +15,7 @@ mod terms_alone;
 pub use any_scorer::AnyScorer;
 pub use clause_counts::count_clauses;
 pub use clause_walks::feed_clauses;
+pub use disjunct_counts::count_disjuncts;
+pub use disjunct_walks::feed_disjuncts;
 pub use leaf_weights::LeafWeights;
 pub use reader_scorers::{ReaderScorers, ScorerBy};

@@ -1,32 +1,13 @@
 //! Walks of scorers of any kind, each kind by a walk of its own.
 
-ghost use Rattle.std.specs.Prelude.{[], ◌≡◌, ◌≤◌, length};
+ghost use Rattle.std.specs.Prelude.{◌≡◌, ◌≤◌, length};
 ghost use Rattle.definitions.specs.Sinks.{fed};
-ghost use Rattle.docsets.specs.Entries.{Rising, from};
 ghost use Rattle.docsets.specs.ScoredEntries.{pairs_of};
 
 use any_scorer::{AnyScorer, Leaf};
-use common::{DocId, Score};
+use common::Score;
 use docsets::{DocSet, ListScorer, Scorer};
-use query_scorers::SegmentScorers;
 use walks::{Sink, for_each_pruning_scorer};
-
-/// Feeds each document of `scorer` with its score to `sink`, in order, if the score is above the sink's threshold by
-/// then. All documents are below `max_doc`.
-pub(crate) fn feed_by_kind<F: SegmentScorers, K: Sink>(
-    scorer: F::Scorer,
-    max_doc: DocId,
-    threshold: Score,
-    sink: &mut K,
-)
-    requires within { from max_doc (F.Scorer.entries scorer) ≡ [] }
-    requires threshold { threshold ≡ K.limit (K.state sink.old) }
-    requires room { max_doc ≤ K.room sink.old }
-    ensures rises { Rising 0 (F.Scorer.entries scorer) }
-    ensures fed { K.state sink.new ≡ fed K.limit K.taken (K.state sink.old) (pairs_of (F.Scorer.entries scorer)) }
-{
-    F::feed(scorer, threshold, sink);
-}
 
 /// Feeds each document of `scorer` with its score to `sink`, in order, if the score is above the sink's threshold by
 /// then. Each kind of scorer has a walk of its own, so that the kind is looked at once and not for each document.

@@ -132,6 +132,7 @@ impl<'q, 'a, W: LeafWeights<'a>> Weight<'a> for AnyWeight<'q, W> {
             AnyWeight::All(_) => Ok(count_all(reader)),
             AnyWeight::Term(query, _) => Ok(count_term(query.term(), reader)),
             AnyWeight::Boolean(weight) => weight.count(alloc, reader),
+            AnyWeight::DisjunctionMax(weight) => weight.count(alloc, reader),
             _ => calls::count(alloc, self, reader),
         }
     }
@@ -161,6 +162,9 @@ impl<'q, 'a, W: LeafWeights<'a>> Weight<'a> for AnyWeight<'q, W> {
         sink: &mut K,
     ) -> Result<(), AllocError> {
         if let AnyWeight::Boolean(weight) = self {
+            return weight.for_each_pruning(alloc, threshold, reader, sink);
+        }
+        if let AnyWeight::DisjunctionMax(weight) = self {
             return weight.for_each_pruning(alloc, threshold, reader, sink);
         }
         let scorer = self.scorer(alloc, reader, 1)?;

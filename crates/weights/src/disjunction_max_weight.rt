@@ -4,14 +4,17 @@ ghost use Rattle.std.specs.Prelude.{◌≡◌};
 ghost use Rattle.definitions.specs.Query as definitions;
 ghost use Rattle.query_trees.specs.Queries.{queries_of};
 
-use crate::scorer_weight::ScorerWeight;
-use crate::weight::SegmentWeight;
-use common::Score;
+use crate::calls;
+use crate::weight::{SegmentWeight, Weight};
+use common::{DocId, Score};
+use definitions::Fault;
 use query_scorers::max_scorer;
 use query_trees::AnyQuery;
-use reader_scorers::{LeafWeights, ReaderScorers, ScorerBy};
+use reader_scorers::{LeafWeights, ReaderScorers, ScorerBy, count_disjuncts, feed_disjuncts};
 use segment_reader::SegmentReader;
 use std::alloc::{AllocError, Global};
+use term_scorer::Explanation;
+use walks::{BlockSink, Sink};
 
 /// The weight of several queries: each document scores the best of them, and a part of the others. The queries are
 /// borrowed; `weights` makes the scorers of their leaves.
@@ -62,8 +65,53 @@ impl<'q, 'a, W: LeafWeights<'a>> SegmentWeight<'a> for DisjunctionMaxWeight<'q, 
     }
 }
 
-impl<'q, 'a, W: LeafWeights<'a>> ScorerWeight<'a> for DisjunctionMaxWeight<'q, W> {
-    fn description(&self) -> &'static str {
-        "the best of several queries"
+impl<'q, 'a, W: LeafWeights<'a>> Weight<'a> for DisjunctionMaxWeight<'q, W> {
+    fn explain(
+        &self,
+        alloc: Global,
+        reader: &SegmentReader<'a>,
+        doc: DocId,
+    ) -> Result<Explanation, Fault> {
+        calls::explain(alloc, self, reader, doc, "the best of several queries")
+    }
+
+    fn count(&self, alloc: Global, reader: &SegmentReader<'a>) -> Result<u32, AllocError> {
+        let forms = ReaderScorers::new(reader, &self.weights);
+        count_disjuncts(alloc, &forms, self.disjuncts)
+    }
+
+    fn for_each(
+        &self,
+        alloc: Global,
+        reader: &SegmentReader<'a>,
+    ) -> Result<Vec<(DocId, Score)>, AllocError> {
+        calls::for_each(alloc, self, reader)
+    }
+
+    fn for_each_no_score<K: BlockSink>(
+        &self,
+        alloc: Global,
+        reader: &SegmentReader<'a>,
+        sink: &mut K,
+    ) -> Result<(), AllocError> {
+        calls::for_each_no_score(alloc, self, reader, sink)
+    }
+
+    fn for_each_pruning<K: Sink>(
+        &self,
+        alloc: Global,
+        threshold: Score,
+        reader: &SegmentReader<'a>,
+        sink: &mut K,
+    ) -> Result<(), AllocError> {
+        let forms = ReaderScorers::new(reader, &self.weights);
+        feed_disjuncts(
+            alloc,
+            &forms,
+            self.disjuncts,
+            self.tie_breaker,
+            threshold,
+            sink,
+        )
     }
 }

@@ -4,17 +4,18 @@ use Rattle.std.proofs.lemmas.Result.{IfOk-weaker}
 use mir.Syntax.{w64}
 use mir.Val.{SFits}
 use Rattle.any_scorer.proofs.Bounded.{bounded_best, natural_below}
-use Rattle.any_scorer.proofs.ByScores.{combined}
+use Rattle.any_scorer.proofs.SamePairs.{same_scores}
+use Rattle.any_scorer.specs.Clauses.{by_best}
 use Rattle.docsets.specs.ScoredEntryLaws.{Rising-scores}
-use Rattle.definitions.specs.Scoring.{best_and_tie, natural}
+use Rattle.definitions.specs.Scoring.{natural}
 use Rattle.any_scorer.proofs.disjunction_max.disjunction_max_scorer.Goals as goal
 
--- src/disjuncts.rt:18:1
 pub returns-clause-scores : goal.returns-clause-scores
 returns-clause-scores g c =
     let fits : SFits w64 c.args.tie_breaker = search rules in
     let tie : natural (to_z w64 (of_z w64 c.args.tie_breaker)) ≡ natural c.args.tie_breaker = ap natural (to_z-of_z w64 c.args.tie_breaker fits) in
-    IfOk-weaker c.into_list.result _ _ (λ list same. combined _ (best_and_tie (natural c.args.tie_breaker)) 1 _ _ (map g.S.DocSet.entries c.args.disjuncts.items) same c.in_ok-union.ensures (λ xs. c.with_tie_breaker-combiner.ensures.anew xs ∙ ap (λ n. best_and_tie n xs) tie)) c.into_list.ensures
+    let ess = map g.S.DocSet.entries c.args.disjuncts.items in
+    IfOk-weaker c.into_list.result _ _ (λ list same d l. same_scores d _ _ same ∙ (c.in_ok-best.ensures.scores d l ∙ ap (λ n. by_best n ess d) tie)) c.into_list.ensures
 
 pub returns-clause-bounded : goal.returns-clause-bounded
 returns-clause-bounded g c =

@@ -1,8 +1,7 @@
-use Rattle.std.proofs.Common.{arith, length, refl, ◌≡◌}
+use Rattle.std.proofs.Common.{arith}
 use Rattle.std.proofs.lemmas.Result.{on_ok_weaker}
-use Rattle.definitions.specs.Query as definitions
 use Rattle.query_trees.specs.Queries.{clauses_of}
-use Rattle.reader_scorers.proofs.ClauseAnswers.{fed_answered, few_answered, is_fed, none_mapped, within_same}
+use Rattle.reader_scorers.proofs.ClauseAnswers.{fed_answered, few_answered}
 use Rattle.query_scorers.proofs.AcceptedParts.{clauses_accepted, clauses_fit}
 use Rattle.reader_scorers.proofs.clause_walks.feed_clauses.Goals as goal
 
@@ -14,24 +13,6 @@ scorers_asked-requires-2-clause-accepted g c = clauses_accepted (g.W.LeafWeights
 
 pub scorers_asked-requires-3-clause-accepted : goal.scorers_asked-requires-3-clause-accepted
 scorers_asked-requires-3-clause-accepted g c = clauses_accepted (g.W.LeafWeights.similarity c.args.forms.now.weights.now).weight 1 _ _ c.requires.accepted
-
-pub clauses_scorer-requires : goal.clauses_scorer-requires
-clauses_scorer-requires g c κs =
-    let sim = g.W.LeafWeights.similarity c.args.forms.now.weights.now in
-    let r = c.args.forms.now.reader.now in
-    ((refl, (refl, tt)), clauses_fit sim 1 r (clauses_of c.args.clauses.now) c.args.minimum_number_should_match _ _ c.requires.accepted c.in_ok-musts.ensures c.in_ok-shoulds.ensures)
-
-pub feed_by_kind-requires-clause-within : goal.feed_by_kind-requires-clause-within
-feed_by_kind-requires-clause-within g c =
-    let scores = c.in_ok-scorer.ensures 1 (clauses_of c.args.clauses.now) c.in_ok-musts.ensures c.in_ok-shoulds.ensures c.in_ok-must_nots.ensures in
-    within_same _ _ _ c.max_doc.ensures.value scores.within
-
-pub returns-then-asks_for_more-clause-fed : goal.returns-then-asks_for_more-clause-fed
-returns-then-asks_for_more-clause-fed g c =
-    let sim = g.W.LeafWeights.similarity c.args.forms.now.weights.now in
-    let r = c.args.forms.now.reader.now in
-    let scores = c.in_ok-scorer.ensures 1 (clauses_of c.args.clauses.now) c.in_ok-musts.ensures c.in_ok-shoulds.ensures c.in_ok-must_nots.ensures in
-    is_fed g.K.Sink.limit g.K.Sink.taken _ sim 1 _ r _ _ c.feed_by_kind.ensures.rises scores c.feed_by_kind.ensures.fed
 
 pub feed_any_together-requires-clause-fits : goal.feed_any_together-requires-clause-fits
 feed_any_together-requires-clause-fits g c =
@@ -45,20 +26,12 @@ pub feed_any_together-requires-clause-room : goal.feed_any_together-requires-cla
 feed_any_together-requires-clause-room g c =
     let sim = g.W.LeafWeights.similarity c.args.forms.now.weights.now in
     let r = c.args.forms.now.reader.now in
-    let asks = c.asks_for_more.ensures in
-    let no = c.if-asks_for_more.false in
-    let len = c.len.ensures in
-    let many_musts : c.len.result ≡ length c.in_ok-musts.musts.items = omega (arith, len) in
     let room = c.requires.room in
-    λ es has. (let many = few_answered sim 1 r (clauses_of c.args.clauses.now) c.args.minimum_number_should_match _ _ _ c.in_ok-musts.ensures c.in_ok-shoulds.ensures c.in_ok-must_nots.ensures r.few (asks.few no) (none_mapped _ _ _ _ many_musts (asks.none no)) _ _ c.keep_some.ensures c.keep_some-2.ensures es has in
+    λ es has. (let many = few_answered sim 1 r (clauses_of c.args.clauses.now) c.args.minimum_number_should_match _ _ _ c.in_ok-musts.ensures c.in_ok-shoulds.ensures c.in_ok-must_nots.ensures r.few _ _ c.keep_some.ensures c.keep_some-2.ensures es has in
     omega (arith, many, room))
 
 pub returns-clause-fed : goal.returns-clause-fed
 returns-clause-fed g c =
     let sim = g.W.LeafWeights.similarity c.args.forms.now.weights.now in
     let r = c.args.forms.now.reader.now in
-    let asks = c.asks_for_more.ensures in
-    let no = c.if-asks_for_more.false in
-    let len = c.len.ensures in
-    let many_musts : c.len.result ≡ length c.in_ok-musts.musts.items = omega (arith, len) in
-    on_ok_weaker c.feed_any_together.result (fed_answered sim 1 r (clauses_of c.args.clauses.now) c.args.minimum_number_should_match _ _ _ c.in_ok-musts.ensures c.in_ok-shoulds.ensures c.in_ok-must_nots.ensures r.few (asks.few no) (none_mapped _ _ _ _ many_musts (asks.none no)) _ _ c.keep_some.ensures c.keep_some-2.ensures g.K.Sink.limit g.K.Sink.taken _ _) c.feed_any_together.ensures.fed
+    on_ok_weaker c.feed_any_together.result (fed_answered sim 1 r (clauses_of c.args.clauses.now) c.args.minimum_number_should_match _ _ _ c.in_ok-musts.ensures c.in_ok-shoulds.ensures c.in_ok-must_nots.ensures r.few _ _ c.keep_some.ensures c.keep_some-2.ensures g.K.Sink.limit g.K.Sink.taken _ _) c.feed_any_together.ensures.fed

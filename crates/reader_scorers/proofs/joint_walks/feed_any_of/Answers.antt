@@ -1,27 +1,27 @@
 use Rattle.std.proofs.Common.{[], ap, map, refl, sym}
 use Rattle.any_scorer.proofs.ByClauses.{emptied}
 use Rattle.walks.specs.Unions.{union}
-use Rattle.reader_scorers.proofs.ClauseAnswers.{complete, has_union, have_any, have_without, is_fed_by, same_has}
+use Rattle.reader_scorers.proofs.ClauseAnswers.{complete, has_union, have_any, have_without, is_fed_such, same_has}
 use Rattle.reader_scorers.proofs.joint_walks.feed_any_of.Goals as goal
 
 pub block_wand-requires-clause-room : goal.block_wand-requires-clause-room
 block_wand-requires-clause-room g c =
     let entries = g.S.DocSet.entries in
     let none = emptied c.args.must_nots.items _ _ (sym c.args.must_nots.ok.0) c.is_empty.ensures c.if-is_empty.true in
-    c.requires.room _ (same_has _ _ _ _ _ _ _ refl refl (sym (ap (map entries) none)) (has_union entries g.met.S.DocSet.rising c.args.shoulds.items c.requires.fits))
+    c.requires.room _ (same_has 0 _ _ _ _ _ _ _ refl refl (sym (ap (map entries) none)) (has_union entries g.met.S.DocSet.rising c.args.shoulds.items c.requires.fits))
 
 pub returns-then-is_empty-clause-fed : goal.returns-then-is_empty-clause-fed
 returns-then-is_empty-clause-fed g c =
     let entries = g.S.DocSet.entries in
     let none = emptied c.args.must_nots.items _ _ (sym c.args.must_nots.ok.0) c.is_empty.ensures c.if-is_empty.true in
-    is_fed_by g.K.Sink.limit g.K.Sink.taken _ _ _ _ _ (union (map entries c.args.shoulds.items)) (same_has _ _ _ _ _ _ _ refl refl (sym (ap (map entries) none)) (has_union entries g.met.S.DocSet.rising c.args.shoulds.items c.requires.fits)) c.block_wand.ensures
+    is_fed_such g.K.Sink.limit g.K.Sink.taken _ _ _ (union (map entries c.args.shoulds.items)) (same_has 0 _ _ _ _ _ _ _ refl refl (sym (ap (map entries) none)) (has_union entries g.met.S.DocSet.rising c.args.shoulds.items c.requires.fits)) c.block_wand.ensures
 
 pub feed_without-requires-clause-room : goal.feed_without-requires-clause-room
 feed_without-requires-clause-room g c =
     let some = c.in_ok-some.ensures in
-    c.requires.room _ (complete g.S.DocSet.entries g.met.S.DocSet.rising [] c.args.shoulds.items _ _ (have_without [] (map g.S.DocSet.entries c.args.shoulds.items) (map g.S.DocSet.entries c.args.must_nots.items) _ (have_any (map g.S.DocSet.entries c.args.shoulds.items) _ some.rises some.scores)))
+    c.requires.room _ (complete g.S.DocSet.entries g.met.S.DocSet.rising 0 [] c.args.shoulds.items _ _ (have_without 0 [] (map g.S.DocSet.entries c.args.shoulds.items) (map g.S.DocSet.entries c.args.must_nots.items) _ (have_any (map g.S.DocSet.entries c.args.shoulds.items) _ some.rises some.scores)))
 
 pub returns-clause-fed : goal.returns-clause-fed
 returns-clause-fed g c =
     let some = c.in_ok-some.ensures in
-    is_fed_by g.K.Sink.limit g.K.Sink.taken _ _ _ _ _ _ (complete g.S.DocSet.entries g.met.S.DocSet.rising [] c.args.shoulds.items _ _ (have_without [] (map g.S.DocSet.entries c.args.shoulds.items) (map g.S.DocSet.entries c.args.must_nots.items) _ (have_any (map g.S.DocSet.entries c.args.shoulds.items) _ some.rises some.scores))) c.feed_without.ensures
+    is_fed_such g.K.Sink.limit g.K.Sink.taken _ _ _ _ (complete g.S.DocSet.entries g.met.S.DocSet.rising 0 [] c.args.shoulds.items _ _ (have_without 0 [] (map g.S.DocSet.entries c.args.shoulds.items) (map g.S.DocSet.entries c.args.must_nots.items) _ (have_any (map g.S.DocSet.entries c.args.shoulds.items) _ some.rises some.scores))) c.feed_without.ensures

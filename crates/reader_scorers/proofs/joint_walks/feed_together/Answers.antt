@@ -3,7 +3,7 @@ use Rattle.any_scorer.proofs.ByClauses.{filled}
 use Rattle.docsets.specs.Entries.{Entry}
 use Rattle.docsets.specs.Members.{enough}
 use Rattle.intersections.specs.Differences.{without}
-use Rattle.reader_scorers.proofs.ClauseAnswers.{complete, have_both, have_without, is_fed_by}
+use Rattle.reader_scorers.proofs.ClauseAnswers.{complete, have_both, have_without, is_fed_such}
 use Rattle.reader_scorers.specs.Fed.{HasClauses}
 use Rattle.reader_scorers.proofs.joint_walks.feed_together.Goals as goal
 
@@ -19,7 +19,7 @@ feed_without-requires-clause-room g c =
     let left = all.bounded in
     let right = any.bounded in
     let fits = c.requires.fits in
-    c.requires.room _ (subst (λ (es : List Entry). HasClauses musts shoulds nots (without (enough 1 nots) es)) (sym c.with_sums-scorer.ensures) (complete entries g.met.S.DocSet.rising c.args.musts.items c.args.shoulds.items nots _ (have_without musts shoulds nots _ (have_both musts shoulds _ _ some all.rises any.rises (omega (arith, left, right, fits)) all.scores any.scores))))
+    c.requires.room _ (subst (λ (es : List Entry). HasClauses 0 musts shoulds nots (without (enough 1 nots) es)) (sym c.with_sums-scorer.ensures) (complete entries g.met.S.DocSet.rising 0 c.args.musts.items c.args.shoulds.items nots _ (have_without 0 musts shoulds nots _ (have_both musts shoulds _ _ some all.rises any.rises (omega (arith, left, right, fits)) all.scores any.scores))))
 
 pub returns-clause-fed : goal.returns-clause-fed
 returns-clause-fed g c =
@@ -33,4 +33,4 @@ returns-clause-fed g c =
     let left = all.bounded in
     let right = any.bounded in
     let fits = c.requires.fits in
-    is_fed_by g.K.Sink.limit g.K.Sink.taken _ _ _ _ _ _ (subst (λ (es : List Entry). HasClauses musts shoulds nots (without (enough 1 nots) es)) (sym c.with_sums-scorer.ensures) (complete entries g.met.S.DocSet.rising c.args.musts.items c.args.shoulds.items nots _ (have_without musts shoulds nots _ (have_both musts shoulds _ _ some all.rises any.rises (omega (arith, left, right, fits)) all.scores any.scores)))) c.feed_without.ensures
+    is_fed_such g.K.Sink.limit g.K.Sink.taken _ _ _ _ (subst (λ (es : List Entry). HasClauses 0 musts shoulds nots (without (enough 1 nots) es)) (sym c.with_sums-scorer.ensures) (complete entries g.met.S.DocSet.rising 0 c.args.musts.items c.args.shoulds.items nots _ (have_without 0 musts shoulds nots _ (have_both musts shoulds _ _ some all.rises any.rises (omega (arith, left, right, fits)) all.scores any.scores)))) c.feed_without.ensures

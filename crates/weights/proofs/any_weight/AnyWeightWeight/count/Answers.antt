@@ -22,3 +22,11 @@ pub returns-in-Boolean : goal.returns-in-Boolean
 returns-in-Boolean g c schema analyze sim rows has by passes =
     IfOk-weaker c.count.result _ _ (λ n is. is ∙ ap (λ w. living_count schema analyze (any_query w) rows) (sym c.in-Boolean.is))
     (c.count.ensures schema analyze sim rows has (subst (λ w. AnyScoresBy g.W.LeafWeights.similarity w sim) c.in-Boolean.is by) (subst (λ w. tree_fault schema sim.weight 1 (any_query w) ≡ None) c.in-Boolean.is passes))
+
+pub count-requires-in-DisjunctionMax : goal.count-requires-in-DisjunctionMax
+count-requires-in-DisjunctionMax g c κs = (search rules, subst (λ w. IsWeighed (AnyScoresBy g.W.LeafWeights.similarity w) 1 (any_query w)) c.in-DisjunctionMax.is c.requires)
+
+pub returns-in-DisjunctionMax : goal.returns-in-DisjunctionMax
+returns-in-DisjunctionMax g c schema analyze sim rows has by passes =
+    IfOk-weaker c.count-in-DisjunctionMax.result _ _ (λ n is. is ∙ ap (λ w. living_count schema analyze (any_query w) rows) (sym c.in-DisjunctionMax.is))
+    (c.count-in-DisjunctionMax.ensures schema analyze sim rows has (subst (λ w. AnyScoresBy g.W.LeafWeights.similarity w sim) c.in-DisjunctionMax.is by) (subst (λ w. tree_fault schema sim.weight 1 (any_query w) ≡ None) c.in-DisjunctionMax.is passes))

@@ -22,6 +22,16 @@ returns-in-Boolean-clause-fed g c schema analyze sim docs stands by passes =
     on_ok_weaker c.for_each_pruning.result (λ is. is ∙ ap (λ w. sinks.fed g.K.Sink.limit g.K.Sink.taken (g.K.Sink.state c.args.sink.now) (answers schema analyze sim 1 (any_query w) docs)) (sym c.in-Boolean.is))
     (c.for_each_pruning.ensures.fed schema analyze sim docs stands (subst (λ w. AnyScoresBy g.W.LeafWeights.similarity w sim) c.in-Boolean.is by) (subst (λ w. tree_fault schema sim.weight 1 (any_query w) ≡ None) c.in-Boolean.is passes))
 
+pub for_each_pruning-requires-in-DisjunctionMax : goal.for_each_pruning-requires-in-DisjunctionMax
+for_each_pruning-requires-in-DisjunctionMax g c κs =
+    let fits : SFits w64 c.args.threshold = search rules in
+    (search rules, (subst (λ w. IsWeighed (AnyScoresBy g.W.LeafWeights.similarity w) 1 (any_query w)) c.in-DisjunctionMax.is c.requires.accepted, (to_z-of_z w64 c.args.threshold fits ∙ c.requires.threshold, c.requires.room)))
+
+pub returns-in-DisjunctionMax-clause-fed : goal.returns-in-DisjunctionMax-clause-fed
+returns-in-DisjunctionMax-clause-fed g c schema analyze sim docs stands by passes =
+    on_ok_weaker c.for_each_pruning-in-DisjunctionMax.result (λ is. is ∙ ap (λ w. sinks.fed g.K.Sink.limit g.K.Sink.taken (g.K.Sink.state c.args.sink.now) (answers schema analyze sim 1 (any_query w) docs)) (sym c.in-DisjunctionMax.is))
+    (c.for_each_pruning-in-DisjunctionMax.ensures.fed schema analyze sim docs stands (subst (λ w. AnyScoresBy g.W.LeafWeights.similarity w sim) c.in-DisjunctionMax.is by) (subst (λ w. tree_fault schema sim.weight 1 (any_query w) ≡ None) c.in-DisjunctionMax.is passes))
+
 pub feed_by_kind-requires-clause-within : goal.feed_by_kind-requires-clause-within
 feed_by_kind-requires-clause-within g c = weighed_within (AnyScoresBy g.W.LeafWeights.similarity c.args.self.now) 1 (any_query c.args.self.now) c.args.reader.now _ c.max_doc.result c.max_doc.ensures.value c.requires.accepted c.in_ok-scorer.ensures
 
