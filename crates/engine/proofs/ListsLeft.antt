@@ -16,7 +16,7 @@ use Rattle.engine.proofs.FileSayings.{last_groups, last_more, made_more, of_its_
 use Rattle.engine.specs.Files.{BodiesLeave, HasSameBodies, IsFileOf, IsOldOrSame, LeavesNone, LeavesOneOf}
 use Rattle.engine.specs.Indexes.{ImagesLeave, IndexRests, IndexStands, IsOpened, IsReopened, analyzer_after, analyzer_of, device_of, gate_of, members_of, schema_of, settings_of}
 use Rattle.engine.specs.declared.index.Index.{Index}
-use Rattle.engine.specs.declared.refused.Refused.{Refused}
+use Rattle.engine.specs.declared.refused_opening.Refused.{Refused}
 use Rattle.index_file.proofs.Images.{rest_images}
 use Rattle.index_file.specs.Kept.{IsOldOrFirst, LeavesNow}
 use Rattle.index_state.specs.Standing.{IsMadeAlike}

@@ -22,7 +22,7 @@ use Rattle.index_state.specs.Records.{RecordsCall, RecordsSegments}
 use Rattle.index_state.specs.Standing as collections
 use Rattle.engine.specs.Files.{LeavesEither, LeavesEitherList, LeavesMembers, Rests}
 use Rattle.engine.specs.declared.index.Index.{Index}
-use Rattle.engine.specs.declared.refused.Refused.{Refused}
+use Rattle.engine.specs.declared.refused_opening.Refused.{Refused}
 use Rattle.segment_definitions.specs.SegmentBodies.{Member}
 use Rattle.segment_definitions.specs.SegmentFiles.{IsGroup, LeavesGroups}
 

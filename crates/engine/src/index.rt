@@ -21,7 +21,7 @@ ghost use Rattle.engine.specs.Files.{IsCreateRefusal, IsOldOrSame, IsOpenFault, 
 ghost use Rattle.engine.specs.Indexes.{ImagesLeave, IndexRests, IndexStands, IsIdle, IsOpened, IsReopened, alloc_of, analyzer_after, analyzer_of, device_after, device_of, ending_of, members_of, schema_of, settings_of, state_of};
 
 use crate::open_file::{open_file, read_file};
-use crate::refused::Refused;
+use crate::refused_opening::Refused;
 use common::{Analyzer, Device};
 use definitions::Fault;
 use index_file::{RecordFile, first_frame};

@@ -9,9 +9,9 @@ pub mod file_laws;
 mod index;
 mod merge;
 mod open_file;
-mod refused;
+mod refused_opening;
 mod searches;
 
 pub use index::Index;
 pub use index_state::{Hit, Status};
-pub use refused::Refused;
+pub use refused_opening::Refused;

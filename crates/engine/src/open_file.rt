@@ -17,7 +17,7 @@ ghost use Rattle.index_file.specs.Lists.{IsListed, LeavesList, member_of};
 ghost use Rattle.segment_definitions.specs.SegmentFiles.{IsGroup};
 
 use crate::index::Index;
-use crate::refused::Refused;
+use crate::refused_opening::Refused;
 use bytes::Bytes;
 use common::{Analyzer, Device};
 use definitions::Fault;

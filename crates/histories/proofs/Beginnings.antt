@@ -13,7 +13,7 @@ use Rattle.engine.specs.Files.{IsFileOf}
 use Rattle.histories.specs.Lists.{HasLists, ImagesHaveLists}
 use Rattle.engine.specs.Indexes.{ImagesLeave, IndexRests, IndexStands, IsOpened, IsReopened, device_after, device_of, members_of, schema_of, settings_of}
 use Rattle.engine.specs.declared.index.Index.{Index}
-use Rattle.engine.specs.declared.refused.Refused.{Refused}
+use Rattle.engine.specs.declared.refused_opening.Refused.{Refused}
 use Rattle.histories.specs.Leading.{Begins}
 use Rattle.index_file.specs.Kept.{LeavesNow}
 

@@ -30,7 +30,7 @@ use Rattle.engine.specs.declared.index.Index.{Index}
 use Rattle.histories.proofs.Devices.{other_kept}
 use Rattle.histories.specs.Events.{Event, MayLead, Outcome, Standing, called, cut_off, opened, other_after, other_within, standing_of}
 use Rattle.histories.specs.Leading.{CutsOff, IsRestarted, LeadsTo, Recovers, Reopens}
-use Rattle.engine.specs.declared.refused.Refused.{Refused}
+use Rattle.engine.specs.declared.refused_opening.Refused.{Refused}
 use Rattle.index_file.proofs.Images.{rest_images}
 use Rattle.index_file.specs.Kept.{LeavesNow}
 use Rattle.index_state.proofs.Outcomes.{status_refuses}

@@ -15,7 +15,7 @@ use Rattle.index_state.specs.Hits.{scored}
 use Rattle.engine.specs.Files.{IsOldOrSame}
 use Rattle.engine.specs.Indexes.{CrashLeavesEither, IndexRests, IndexStands, IsOpened, KeepsFile, KeepsMaking, analyzer_of, device_after, device_of, schema_of, settings_of}
 use Rattle.engine.specs.declared.index.Index.{Index}
-use Rattle.engine.specs.declared.refused.Refused.{Refused}
+use Rattle.engine.specs.declared.refused_opening.Refused.{Refused}
 use Rattle.histories.specs.Lists.{HasLists, ImagesHaveLists}
 
 -- ---- what a call answers

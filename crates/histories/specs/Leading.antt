@@ -10,7 +10,7 @@ use Rattle.definitions.specs.Values.{Document}
 use Rattle.histories.specs.Calls.{IsCalled, IsOpening}
 use Rattle.engine.specs.Indexes.{IndexRests, IndexStands, analyzer_of, device_after, device_of}
 use Rattle.engine.specs.declared.index.Index.{Index}
-use Rattle.engine.specs.declared.refused.Refused.{Refused}
+use Rattle.engine.specs.declared.refused_opening.Refused.{Refused}
 use Rattle.histories.specs.Events.{Event, Outcome, called, cut_off, opened}
 
 module _ {D A : Type 0} (d : devices.Ghosts D) (a : analyzers.Ghosts A) where

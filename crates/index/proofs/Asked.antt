@@ -8,7 +8,7 @@ use Rattle.definitions.specs.Requests as requests
 use Rattle.engine.specs.Files.{IsOldOrSame, LeavesNone, is_first}
 use Rattle.engine.specs.Indexes.{device_after}
 use Rattle.engine.specs.declared.index.Index.{Index}
-use Rattle.engine.specs.declared.refused.Refused.{Refused}
+use Rattle.engine.specs.declared.refused_opening.Refused.{Refused}
 use Rattle.index_file.specs.Kept.{IsKept, LeavesNow}
 use Rattle.index.specs.Asking.{AsksIndex, AsksOf, Creates, CreatesOf, IsUnready, Opens, OpensOf, nothing, of_index, to_create, to_open}
 use Rattle.index.specs.Sessions.{device_on, honest_on, stage_after}

@@ -28,7 +28,7 @@ use Rattle.engine.specs.Indexes.{IndexRests, IndexStands, IsOpened, analyzer_aft
 use Rattle.index.specs.Replying.{change_text}
 use Rattle.index.specs.Sessions.{HasHeld, HasStage, IsIndex, IsSpare, IsStage, LeavesStage, StandsAs, analysis_of, analyzer_on, device_on, left_by, parts_on, stage_after}
 use Rattle.engine.specs.declared.index.Index.{Index}
-use Rattle.engine.specs.declared.refused.Refused.{Refused}
+use Rattle.engine.specs.declared.refused_opening.Refused.{Refused}
 use Rattle.index.specs.declared.stage.Stage.{Stage}
 use Rattle.index.specs.declared.stage.Stage.TheVariants.{Spare, Standing}
 use Rattle.index.proofs.Answering.{going_on}

@@ -24,7 +24,7 @@ use Rattle.engine.specs.HandedOn.{Hit}
 use Rattle.engine.specs.Indexes.{AreHitsOf, DeletesMore, IndexStands, IsIdle, IsOpened, IsSame, IsShadow, IsStopped, KeepsFile, KeepsMaking, KeepsWaiting, WaitsMore, analyzer_after, analyzer_of, schema_of, settings_of, state_of}
 use Rattle.engine.specs.Writes.{WritesSegments}
 use Rattle.engine.specs.declared.index.Index.{Index}
-use Rattle.engine.specs.declared.refused.Refused.{Refused}
+use Rattle.engine.specs.declared.refused_opening.Refused.{Refused}
 use Rattle.index.specs.Replying.{HasLongSlot}
 use Rattle.index.specs.Sessions.{analysis_of, analyzer_on, device_on, left_by}
 use Rattle.index.specs.declared.session.Session.{Session}

@@ -22,7 +22,7 @@ use Rattle.index_file.specs.Kept.{IsKept}
 use Rattle.index_file.specs.Outcomes.{IsRefusal}
 use Rattle.index.specs.Replying.{GoesOn, IndexMeets, MayClose, MayStay, change_text, closed_index, closed_writer}
 use Rattle.engine.specs.declared.index.Index.{Index}
-use Rattle.engine.specs.declared.refused.Refused.{Refused}
+use Rattle.engine.specs.declared.refused_opening.Refused.{Refused}
 use Rattle.index.specs.declared.session.Session.{Session}
 use Rattle.index.specs.declared.stage.Stage.{Stage}
 use Rattle.index.specs.declared.stage.Stage.TheVariants.{Spare, Standing}

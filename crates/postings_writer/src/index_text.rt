@@ -5,45 +5,15 @@ ghost use Rattle.common.specs.Buffers.{token_of_ref};
 ghost use Rattle.definitions.specs.Analyzers.{kept};
 ghost use Rattle.definitions.specs.Places.{ends, greatest_from, next_start};
 ghost use Rattle.definitions.specs.Postings.{terminated};
-ghost use Rattle.definitions.specs.declared.fault.Fault.TheVariants as faults;
 ghost use Rattle.postings_writer.specs.Occurrences.{Occurrence};
-ghost use Rattle.postings_writer.specs.Texts.{AreWithin, EndsPast, IsTextRefusal, end_of, text_occurrences};
+ghost use Rattle.postings_writer.specs.Texts.{AreWithin, EndsPast, IsTextRefusal, text_occurrences};
 ghost use Rattle.postings_writer.specs.Writers.{HasFields, IsIndexedTerm, Stands};
 
 use crate::postings_writer::PostingsWriter;
+use crate::value_gaps::{place_of, start_after};
 use common::{MAX_TOKEN_LEN, TokenRef, TokenStream};
 use definitions::Fault;
 use schema::Schema;
-
-/// The exclusive upper bound of each position, with its length and the gap after it.
-const MAX_POSITION: u32 = 2147483648;
-
-/// Returns the position of `token` in a value that begins at `start`, and its end, which `gap` follows.
-fn place_of(start: u32, gap: u32, token: TokenRef<'_>) -> Result<(u32, u32), Fault>
-    ensures ok { IfOk result (λ p. (p.0 ≡ start + token.entry.position)
-        × (p.1 ≡ start + token.entry.position + token.entry.position_length) × (p.1 + gap < 2 ^ 31)) }
-    ensures err { IfErr result (λ fault. (fault ≡ faults.Limit)
-        × (2 ^ 31 ≤ end_of gap start (token_of_ref token.entry))) }
-{
-    let position = below_limit(token.position)?;
-    let length = below_limit(token.position_length)?;
-    let end = u64::from(start) + u64::from(position) + u64::from(length);
-    if end + u64::from(gap) >= u64::from(MAX_POSITION) {
-        return Err(Fault::Limit);
-    }
-    Ok((start + position, end as u32))
-}
-
-/// Returns `n`, if it is below 2147483648.
-fn below_limit(n: usize) -> Result<u32, Fault>
-    ensures ok { IfOk result (λ m. (m ≡ n) × (n < 2 ^ 31)) }
-    ensures err { IfErr result (λ fault. (fault ≡ faults.Limit) × (2 ^ 31 ≤ n)) }
-{
-    if n >= MAX_POSITION as usize {
-        return Err(Fault::Limit);
-    }
-    Ok(n as u32)
-}
 
 /// How a text was recorded.
 #[derive(Clone, Copy, Debug)]
@@ -91,7 +61,7 @@ impl PostingsWriter {
         let (end, num_tokens) = self.index_tokens(schema, doc, term_buffer, stream, start, gap)?;
         Ok(IndexedText {
             num_tokens,
-            next_start: (end.min(MAX_POSITION) + gap).min(MAX_POSITION),
+            next_start: start_after(end, gap),
         })
     }
 

@@ -16,6 +16,7 @@ mod serialize_field;
 mod serialize_term;
 mod term_dictionary_builder;
 mod unfilled_block;
+mod value_gaps;
 
 pub use field_serializer::FieldSerializer;
 pub use index_text::IndexedText;

@@ -2,7 +2,7 @@
 
 ghost use Rattle.definitions.specs.Query as definitions;
 
-use crate::query_tree::{QueryClone, QueryTree};
+use crate::query_traits::{QueryClone, QueryTree};
 use std::alloc::{AllocError, Global};
 use terms::Term;
 

@@ -12,7 +12,7 @@ use crate::empty_query::EmptyQuery;
 use crate::phrase_prefix_query::PhrasePrefixQuery;
 use crate::phrase_query::PhraseQuery;
 use crate::query_terms::query_terms;
-use crate::query_tree::{QueryClone, QueryTree};
+use crate::query_traits::{QueryClone, QueryTree};
 use crate::showing::{MAX_SHOWN, show_query};
 use crate::term_query::TermQuery;
 use std::alloc::{AllocError, Global};

@@ -11,7 +11,7 @@ use crate::copies::copied_boolean;
 use crate::letting_go::let_go;
 use crate::occur::Occur;
 use crate::query_terms::clauses_terms;
-use crate::query_tree::{QueryClone, QueryTree};
+use crate::query_traits::{QueryClone, QueryTree};
 use crate::showing::{MAX_SHOWN, show_boolean};
 use crate::term_query::TermQuery;
 use options::IndexRecordOption;

@@ -8,7 +8,7 @@ use crate::any_query::AnyQuery;
 use crate::copies::copied_boost;
 use crate::letting_go::let_go;
 use crate::query_terms::query_terms;
-use crate::query_tree::{QueryClone, QueryTree};
+use crate::query_traits::{QueryClone, QueryTree};
 use crate::showing::{MAX_SHOWN, show_boost};
 use std::alloc::{AllocError, Global};
 use std::fmt;

@@ -16,7 +16,7 @@ mod phrase_prefix_query;
 mod phrase_query;
 mod phrase_terms;
 mod query_terms;
-mod query_tree;
+mod query_traits;
 mod showing;
 mod term_query;
 
@@ -31,5 +31,5 @@ pub use occur::Occur;
 pub use phrase_prefix_query::PhrasePrefixQuery;
 pub use phrase_query::PhraseQuery;
 pub use phrase_terms::are_phrase_terms;
-pub use query_tree::{QueryClone, QueryTree};
+pub use query_traits::{QueryClone, QueryTree};
 pub use term_query::TermQuery;

@@ -9,7 +9,7 @@ ghost use Rattle.query_trees.specs.PhraseTerms.{ArePhraseTerms, are_phrase_terms
 
 use crate::phrase_terms::{copied_places, copied_terms, in_a_row, show_terms, sort_by_offset};
 use crate::query_terms::push_with_positions;
-use crate::query_tree::{QueryClone, QueryTree};
+use crate::query_traits::{QueryClone, QueryTree};
 use std::alloc::{AllocError, Global};
 use std::fmt;
 use std::marker::Model;

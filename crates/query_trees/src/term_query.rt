@@ -6,7 +6,7 @@ ghost use Rattle.options.specs.RecordOption.{record_option_of};
 
 use crate::phrase_terms::copied;
 use crate::query_terms::push_term;
-use crate::query_tree::{QueryClone, QueryTree};
+use crate::query_traits::{QueryClone, QueryTree};
 use options::IndexRecordOption;
 use std::alloc::{AllocError, Global};
 use std::fmt;

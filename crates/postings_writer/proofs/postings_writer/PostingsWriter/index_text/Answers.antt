@@ -1,4 +1,3 @@
-use Rattle.std.proofs.Common.{arith}
 use Rattle.std.proofs.lemmas.Result.{err_from_is_err_and}
 use Rattle.definitions.specs.Analyzers.{kept}
 use Rattle.postings_writer.proofs.TextRuns.{cut_next, cut_refused, cut_stands, cut_within}
@@ -13,7 +12,7 @@ pub returns-clause-ok : goal.returns-clause-ok
 returns-clause-ok g c os real stands is = cut_stands c.args.schema.now c.index_tokens.new.self os c.args.doc c.args.term_buffer.now.items c.args.gap c.args.start real (kept (g.T.TokenStream.rest c.args.stream.now)) is c.in_ok-end.ensures.within (c.in_ok-end.ensures.ok os stands)
 
 pub returns-clause-next : goal.returns-clause-next
-returns-clause-next g c real is = cut_next c.args.gap c.args.start real c.in_ok-end.end c.min-2.result (kept (g.T.TokenStream.rest c.args.stream.now)) is c.in_ok-end.ensures.within c.in_ok-end.ensures.end (let a = c.min.ensures in let b = c.min-2.ensures in omega arith)
+returns-clause-next g c real is = cut_next c.args.gap c.args.start real c.in_ok-end.end c.start_after.result (kept (g.T.TokenStream.rest c.args.stream.now)) is c.in_ok-end.ensures.within c.in_ok-end.ensures.end c.start_after.ensures
 
 pub returns-clause-within : goal.returns-clause-within
 returns-clause-within g c real is = cut_within c.args.gap c.args.start real (kept (g.T.TokenStream.rest c.args.stream.now)) is c.in_ok-end.ensures.within
